@@ -1,0 +1,140 @@
+-- What a line does to the answer to a book.
+use Rattle.std.proofs.Common.{◌≡◌, ℕ, ◌+◌, ◌<◌, ◌≤◌, Bool, true, false, cond, not, eqb, ltb, ◌||◌, List, [], ◌∷◌, ◌++◌, length, map, get_or, None, Some, Ok, Err, Option, Result, refl, ap, sym, ◌∙◌, subst, is_some, arith, ◌⊎◌, inl, inr}
+use Rattle.std.specs.List.{AllByRecursion}
+use Rattle.std.proofs.lemmas.List.{append_assoc, append-nil, length_push, get_or_default}
+use Rattle.std.proofs.lemmas.Bool.{le-ltb, lt-ltb, ne_eqb, eq-eqb}
+use Rattle.std.proofs.lemmas.List.Folds.{list_any_at, list_any_none}
+use Rattle.memchr.specs.Find.{IsFirstByte, is_byte}
+use Rattle.abc_fields.specs.Bytes.{line_feed, carriage_return}
+use Rattle.abc_fields.specs.Lines.{Piece, Span, pieces_of, lines_of, spans_from, spans_of, onto_content, onto_ending, begins_with_feed, ends_line, is_plain_line}
+use Rattle.abc_fields.specs.Tunes.{is_key_line, tune_run, tune_runs, joined, has_key, IsTuneLine, IsOpenText}
+use Rattle.abc_fields.specs.Books.{Texts, before_texts, runs_answer, book_answer, book_of_runs, has_return, is_plain}
+use Rattle.abc_fields.specs.OpenBooks.{open_answer}
+use Rattle.abc_fields.specs.declared.book.TheConstants.{LONGEST_BOOK}
+use Rattle.abc_fields.specs.declared.book.BookFault.{BookFault}
+use Rattle.abc_fields.specs.declared.book.BookFault.TheVariants.{BadTune, NoTune, OutOfMemory}
+use Rattle.abc_fields.specs.declared.book.TuneFault.TheVariants.{NoKey, TooLong}
+
+-- LINES
+-- the lines of spans
+abbrev pub contents : List Span → List (List ℕ)
+contents spans = map (λ s. s.bytes) spans
+
+pub contents-spans_from : (n : ℕ) (ps : List Piece) → contents (spans_from n ps) ≡ map (λ p. p.content) ps
+contents-spans_from n [] = refl
+contents-spans_from n (p ∷ ps) = ap (λ ls. p.content ∷ ls) (contents-spans_from (n + length p.content + length p.ending) ps)
+
+-- each of these lines is plain
+abbrev pub AllPlain : List (List ℕ) → Type 0
+AllPlain lines = AllByRecursion (λ line. is_plain_line line ≡ true) lines
+
+abbrev PlainPieces : List Piece → Type 0
+PlainPieces ps = AllPlain (map (λ p. p.content) ps)
+
+onto_content_plain : (b : ℕ) (ps : List Piece) → ends_line b ≡ false → PlainPieces ps → PlainPieces (onto_content b ps)
+onto_content_plain b [] e h = (rw e refl, tt)
+onto_content_plain b (p ∷ ps) e h = (rw e h.0, h.1)
+
+onto_ending_plain : (b : ℕ) (ps : List Piece) → PlainPieces ps → PlainPieces (onto_ending b ps)
+onto_ending_plain b [] h = (refl, tt)
+onto_ending_plain b (p ∷ ps) h = h
+
+choose_plain : (t u v : Bool) (x y z w : List Piece) → (u || v ≡ false → PlainPieces w) → PlainPieces x → PlainPieces y → PlainPieces z → PlainPieces (cond u x (cond v (cond t y z) w))
+choose_plain t true v x y z w h hx hy hz = hx
+choose_plain true false true x y z w h hx hy hz = hy
+choose_plain false false true x y z w h hx hy hz = hz
+choose_plain t false false x y z w h hx hy hz = h refl
+
+pieces_plain : (text : List ℕ) → PlainPieces (pieces_of text)
+pieces_plain [] = tt
+pieces_plain (b ∷ text) =
+    let later = pieces_plain text in
+    choose_plain (begins_with_feed text) (eqb b line_feed) (eqb b carriage_return) _ _ _ _ (λ e. onto_content_plain b (pieces_of text) e later) (refl, later) (onto_ending_plain carriage_return _ later) (refl, later)
+
+-- each line of a text is plain
+pub lines_plain : (text : List ℕ) → AllPlain (contents (spans_from 0 (pieces_of text)))
+lines_plain text = let P : List (List ℕ) → Type 0 = λ ls. AllPlain ls in subst P (sym (contents-spans_from 0 (pieces_of text))) (pieces_plain text)
+
+-- BYTES
+-- a search for a byte tells whether it is there
+pub return_found : (text : List ℕ) (r : Option ℕ) → IsFirstByte (is_byte carriage_return) text r → is_some r ≡ has_return text
+return_found text None h = sym (list_any_none (λ b. eqb b carriage_return) text (λ k d l. ne_eqb (get_or text k d) carriage_return (λ e. h k (omega arith) l (eq-eqb (get_or text k 0) carriage_return (get_or_default text k 0 d l ∙ e)))))
+return_found text (Some k) h = sym (list_any_at (λ b. eqb b carriage_return) text k 0 h.0.high h.1)
+
+-- TEXTS
+joined-push : (lines : List (List ℕ)) (line : List ℕ) → joined (lines ++ line ∷ []) ≡ joined lines ++ (line ++ line_feed ∷ [])
+joined-push [] line = append-nil (line ++ line_feed ∷ [])
+joined-push (x ∷ lines) line = ap (λ r. (x ++ line_feed ∷ []) ++ r) (joined-push lines line) ∙ sym (append_assoc (x ++ line_feed ∷ []) (joined lines) (line ++ line_feed ∷ []))
+
+or_assoc : (a b c : Bool) → (a || (b || c)) ≡ ((a || b) || c)
+or_assoc true b c = refl
+or_assoc false b c = refl
+
+or_false : (a : Bool) → (a || false) ≡ a
+or_false true = refl
+or_false false = refl
+
+has_key-push : (lines : List (List ℕ)) (line : List ℕ) → has_key (lines ++ line ∷ []) ≡ (has_key lines || is_key_line line)
+has_key-push [] line = or_false (is_key_line line)
+has_key-push (x ∷ lines) line = ap (λ r. is_key_line x || r) (has_key-push lines line) ∙ or_assoc (is_key_line x) (has_key lines) (is_key_line line)
+
+each-push : (lines : List (List ℕ)) (line : List ℕ) → AllByRecursion IsTuneLine lines → IsTuneLine line → AllByRecursion IsTuneLine (lines ++ line ∷ [])
+each-push [] line h k = (k, tt)
+each-push (x ∷ lines) line h k = (h.0, each-push lines line h.1 k)
+
+-- a text goes on with a line
+pub open_more : (text : List ℕ) (keyed : Bool) (line : List ℕ) → IsOpenText text keyed → IsTuneLine line → IsOpenText (text ++ (line ++ line_feed ∷ [])) (keyed || is_key_line line)
+open_more text keyed line h k = record {
+  lines = h.lines ++ line ∷ [];
+  whole = joined-push h.lines line ∙ ap (λ t. t ++ (line ++ line_feed ∷ [])) h.whole;
+  each = each-push h.lines line h.each k;
+  key = has_key-push h.lines line ∙ ap (λ b. b || is_key_line line) h.key;
+}
+
+-- THE WHOLE BOOK
+-- a plain book of a good length is answered by its tunes
+pub book_read : (longest : ℕ) (book : List ℕ) → length book ≤ LONGEST_BOOK → is_plain book ≡ true → book_answer longest book ≡ book_of_runs longest (tune_runs (lines_of book))
+book_read longest book l h = rw (le-ltb LONGEST_BOOK (length book) l, h) refl
+
+pub runs_ok : (longest : ℕ) (runs : List (List (List ℕ))) (texts : List (List ℕ)) → runs_answer longest 1 runs ≡ Ok texts → (length texts ≡ 0 → ⊥) → book_of_runs longest runs ≡ Ok texts
+runs_ok longest [] texts e h = absurd (h (let same : [] ≡ texts = cc in sym (ap length same)))
+runs_ok longest (run ∷ runs) texts e h = e
+
+pub runs_err : (longest : ℕ) (runs : List (List (List ℕ))) (fault : BookFault) → runs_answer longest 1 runs ≡ Err fault → book_of_runs longest runs ≡ Err fault
+runs_err longest [] fault e = cc
+runs_err longest (run ∷ runs) fault e = e
+
+some_before : (text : List ℕ) (later : Texts) → before_texts (text ∷ []) later ≡ Ok [] → ⊥
+some_before text (Ok ys) e = cc
+some_before text (Err f) e = cc
+
+some_tune : (long keyless : Bool) (text : List ℕ) (e f : BookFault) (later : Texts) → cond keyless (Err e) (cond long (Err f) (before_texts (text ∷ []) later)) ≡ Ok [] → ⊥
+some_tune long true text e f later h = cc
+some_tune true false text e f later h = cc
+some_tune false false text e f later h = some_before text later h
+
+-- where no text comes out there is no tune
+pub runs_none : (longest : ℕ) (runs : List (List (List ℕ))) → runs_answer longest 1 runs ≡ Ok [] → book_of_runs longest runs ≡ Err NoTune
+runs_none longest [] e = refl
+runs_none longest (run ∷ runs) e = absurd (some_tune (ltb longest (length (joined run))) (not (has_key run)) (joined run) (BadTune 1 NoKey) (BadTune 1 TooLong) (runs_answer longest (1 + 1) runs) e)
+
+before_none : (texts : Texts) → before_texts [] texts ≡ texts
+before_none (Ok texts) = refl
+before_none (Err fault) = refl
+
+-- before the first line the answer in mid-book is that of all tunes
+pub answer_at_start : (longest : ℕ) (book : List ℕ) → open_answer longest [] None (contents (spans_of book)) ≡ runs_answer longest 1 (tune_runs (lines_of book))
+answer_at_start longest book =
+    before_none _ ∙ ap (λ lines. runs_answer longest 1 (tune_runs lines)) (contents-spans_from 0 (pieces_of book))
+
+-- REFUSALS
+-- the refusal of a part, for this rest, is the refusal of the whole
+pub refused_at : (fault : BookFault) (old : List (List ℕ) → Texts) (IsRest : List (List ℕ) → Type 0) (rest : List (List ℕ)) (whole : Texts) → whole ≡ old rest → IsRest rest
+    → (fault ≡ OutOfMemory) ⊎ ((rest : List (List ℕ)) → IsRest rest → old rest ≡ Err fault) → (fault ≡ OutOfMemory) ⊎ (whole ≡ Err fault)
+refused_at fault old IsRest rest whole same is (inl memory) = inl memory
+refused_at fault old IsRest rest whole same is (inr h) = inr (same ∙ h rest is)
+
+-- the refusal of the tunes is that of the book
+pub refused_book : (longest : ℕ) (book : List ℕ) (fault : BookFault) → length book ≤ LONGEST_BOOK → is_plain book ≡ true → (fault ≡ OutOfMemory) ⊎ (runs_answer longest 1 (tune_runs (lines_of book)) ≡ Err fault) → (fault ≡ OutOfMemory) ⊎ (book_answer longest book ≡ Err fault)
+refused_book longest book fault l h (inl memory) = inl memory
+refused_book longest book fault l h (inr r) = inr (book_read longest book l h ∙ runs_err longest (tune_runs (lines_of book)) fault r)

@@ -1,0 +1,83 @@
+// Bytes that a value owns, and the texts of tunes among them.
+ghost use Rattle.std.specs.Prelude.{◌≡◌, ℕ, List, IfOk};
+ghost use Rattle.abc_fields.specs.Tunes.{IsTuneText};
+
+use std::alloc::{AllocError, Global};
+use std::marker::Model;
+
+/// A text of any bytes, which it owns. A clause sees the list of its bytes.
+#[derive(Debug, Drop)]
+pub struct ByteText {
+    bytes: Vec<u8>,
+}
+
+impl Model for ByteText {
+    ghost Value = { List ℕ };
+
+    ghost view = { λ t. t.bytes.items };
+}
+
+impl ByteText {
+    /// A copy of the bytes. The error is want of memory.
+    pub fn copy_of(alloc: Global, bytes: &[u8]) -> Result<ByteText, AllocError>
+        ensures { IfOk result (λ text. text ≡ bytes.now) }
+    {
+        let bytes = Vec::from_slice(alloc, bytes)?;
+        Ok(ByteText { bytes })
+    }
+
+    /// The bytes as a text. It takes no memory.
+    pub fn from_vec(bytes: Vec<u8>) -> ByteText
+        ensures { result ≡ bytes.items }
+    {
+        ByteText { bytes }
+    }
+
+    /// The bytes.
+    pub fn as_slice(&self) -> &[u8]
+        ensures { result.now ≡ self.now }
+    {
+        self.bytes.as_slice()
+    }
+}
+
+/// The text of one tune: one or more lines, each ended by a line feed, with no carriage return, no empty line and
+/// no `X:` line among them, and a `K:` line (ABC 2.1, 2.2.1; this archive's profile). A clause sees the list of its bytes.
+#[derive(Debug, Drop)]
+pub struct TuneText {
+    bytes: Vec<u8>,
+}
+
+impl Model for TuneText {
+    ghost Value = { List ℕ };
+
+    ghost view = { λ t. t.bytes.items };
+
+    ghost invariant = { λ t. IsTuneText t.bytes.items };
+}
+
+impl TuneText {
+    // The bytes as a tune text. It takes no memory.
+    pub(crate) fn from_vec(bytes: Vec<u8>) -> TuneText
+        requires { IsTuneText bytes.items }
+        ensures { result ≡ bytes.items }
+    {
+        TuneText { bytes }
+    }
+
+    /// The bytes of the text.
+    pub fn bytes(&self) -> &[u8]
+        ensures value { result.now ≡ self.now }
+        ensures tune_text { IsTuneText self.now }
+    {
+        self.bytes.as_slice()
+    }
+
+    /// A copy of the text. The error is want of memory.
+    pub fn copy(&self, alloc: Global) -> Result<TuneText, AllocError>
+        ensures { IfOk result (λ text. text ≡ self.now) }
+    {
+        let bytes = Vec::from_slice(alloc, self.bytes.as_slice())?;
+        Ok(TuneText { bytes })
+    }
+}
