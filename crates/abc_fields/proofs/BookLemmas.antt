@@ -1,13 +1,14 @@
 -- What a line does to the answer to a book.
 use Rattle.std.proofs.Common.{◌≡◌, ℕ, ◌+◌, ◌<◌, ◌≤◌, Bool, true, false, cond, not, eqb, ltb, ◌||◌, List, [], ◌∷◌, ◌++◌, length, map, get_or, None, Some, Ok, Err, Option, Result, refl, ap, sym, ◌∙◌, subst, is_some, arith, ◌⊎◌, inl, inr}
+use Rattle.std.specs.Prelude.{IfOk}
 use Rattle.std.specs.List.{AllByRecursion}
 use Rattle.std.proofs.lemmas.List.{append_assoc, append-nil, length_push, get_or_default}
-use Rattle.std.proofs.lemmas.Bool.{le-ltb, lt-ltb, ne_eqb, eq-eqb}
+use Rattle.std.proofs.lemmas.Bool.{le-ltb, ltb-false, ne_eqb, eq-eqb}
 use Rattle.std.proofs.lemmas.List.Folds.{list_any_at, list_any_none}
 use Rattle.memchr.specs.Find.{IsFirstByte, is_byte}
 use Rattle.abc_fields.specs.Bytes.{line_feed, carriage_return}
 use Rattle.abc_fields.specs.Lines.{Piece, Span, pieces_of, lines_of, spans_from, spans_of, onto_content, onto_ending, begins_with_feed, ends_line, is_plain_line}
-use Rattle.abc_fields.specs.Tunes.{is_key_line, tune_run, tune_runs, joined, has_key, IsTuneLine, IsOpenText}
+use Rattle.abc_fields.specs.Tunes.{is_key_line, is_tune_start, ends_tune, tune_run, tune_runs, joined, has_key, IsTuneLine, IsOpenText, IsTextWithin}
 use Rattle.abc_fields.specs.Books.{Texts, before_texts, runs_answer, book_answer, book_of_runs, has_return, is_plain}
 use Rattle.abc_fields.specs.OpenBooks.{open_answer}
 use Rattle.abc_fields.specs.declared.book.TheConstants.{LONGEST_BOOK}
@@ -90,6 +91,54 @@ open_more text keyed line h k = record {
   each = each-push h.lines line h.each k;
   key = has_key-push h.lines line ∙ ap (λ b. b || is_key_line line) h.key;
 }
+
+-- TEXTS WITHIN A LENGTH
+run_step : (line : List ℕ) (lines : List (List ℕ)) (ends : Bool) → ends_tune line ≡ ends → is_plain_line line ≡ true → AllByRecursion IsTuneLine (tune_run lines) → AllByRecursion IsTuneLine (cond ends [] (line ∷ tune_run lines))
+run_step line lines true e plain later = tt
+run_step line lines false e plain later = (record { plain = plain; inside = e }, later)
+
+run_lines : (lines : List (List ℕ)) → AllPlain lines → AllByRecursion IsTuneLine (tune_run lines)
+run_lines [] plain = tt
+run_lines (line ∷ lines) plain = run_step line lines (ends_tune line) refl plain.0 (run_lines lines plain.1)
+
+-- each line of each of these tunes may stand in a tune
+abbrev pub TuneLines : List (List (List ℕ)) → Type 0
+TuneLines runs = AllByRecursion (λ run. AllByRecursion IsTuneLine run) runs
+
+runs_step : (lines : List (List ℕ)) (starts : Bool) → AllByRecursion IsTuneLine (tune_run lines) → TuneLines (tune_runs lines) → TuneLines (cond starts (tune_run lines ∷ tune_runs lines) (tune_runs lines))
+runs_step lines true run later = (run, later)
+runs_step lines false run later = later
+
+runs_lines : (lines : List (List ℕ)) → AllPlain lines → TuneLines (tune_runs lines)
+runs_lines [] plain = tt
+runs_lines (line ∷ lines) plain = runs_step lines (is_tune_start line) (run_lines lines plain.1) (runs_lines lines plain.1)
+
+-- where the answer is texts, they are within the length
+abbrev pub TextsWithin : ℕ → Texts → Type 0
+TextsWithin longest answer = IfOk answer (λ texts. AllByRecursion (IsTextWithin longest) texts)
+
+before_within : (longest : ℕ) (text : List ℕ) (later : Texts) → IsTextWithin longest text → TextsWithin longest later → TextsWithin longest (before_texts (text ∷ []) later)
+before_within longest text (Ok texts) first h = (first, h)
+before_within longest text (Err fault) first h = tt
+
+tune_within : (longest place : ℕ) (run : List (List ℕ)) (keyed long : Bool) (later : Texts) → has_key run ≡ keyed → ltb longest (length (joined run)) ≡ long → AllByRecursion IsTuneLine run → TextsWithin longest later
+    → TextsWithin longest (cond (not keyed) (Err (BadTune place NoKey)) (cond long (Err (BadTune place TooLong)) (before_texts (joined run ∷ []) later)))
+tune_within longest place run false long later k l lines h = tt
+tune_within longest place run true true later k l lines h = tt
+tune_within longest place run true false later k l lines h =
+    before_within longest (joined run) later record { tune_text = record { lines = run; whole = refl; each = lines; key = k }; fits = ltb-false longest (length (joined run)) l } h
+
+runs_within : (longest place : ℕ) (runs : List (List (List ℕ))) → TuneLines runs → TextsWithin longest (runs_answer longest place runs)
+runs_within longest place [] h = tt
+runs_within longest place (run ∷ runs) h =
+    tune_within longest place run (has_key run) (ltb longest (length (joined run))) (runs_answer longest (place + 1) runs) refl refl h.0 (runs_within longest (place + 1) runs h.1)
+
+-- the texts of a book are tune texts within the length
+pub texts_within : (longest : ℕ) (book : List ℕ) (texts : List (List ℕ)) → runs_answer longest 1 (tune_runs (lines_of book)) ≡ Ok texts → AllByRecursion (IsTextWithin longest) texts
+texts_within longest book texts e =
+    let P : Texts → Type 0 = λ answer. TextsWithin longest answer in
+    let plain = let Q : List (List ℕ) → Type 0 = λ lines. AllPlain lines in subst Q (contents-spans_from 0 (pieces_of book)) (lines_plain book) in
+    subst P e (runs_within longest 1 (tune_runs (lines_of book)) (runs_lines (lines_of book) plain))
 
 -- THE WHOLE BOOK
 -- a plain book of a good length is answered by its tunes

@@ -1,8 +1,9 @@
 // The tunes of a book.
 ghost use Rattle.std.specs.Prelude.{◌≡◌, ℕ, ◌<◌, ◌≤◌, ◌⊎◌, ◌||◌, [], ◌∷◌, ◌++◌, List, Bool, true, false, length, None, Ok, Err, ⊤, IfOk, IfErr, MatchResult};
+ghost use Rattle.std.specs.List.{AllByRecursion};
 ghost use Rattle.abc_fields.specs.Bytes.{line_feed, byte_order_mark, begins_with};
 ghost use Rattle.abc_fields.specs.Lines.{is_plain_line, lines_of};
-ghost use Rattle.abc_fields.specs.Tunes.{is_empty_line, is_tune_start, is_key_line, tune_run, tune_runs, IsTuneLine, IsOpenText};
+ghost use Rattle.abc_fields.specs.Tunes.{is_empty_line, is_tune_start, is_key_line, tune_run, tune_runs, IsTuneLine, IsOpenText, IsTextWithin};
 ghost use Rattle.abc_fields.specs.Books.{has_return, begins_with_tune, is_plain, runs_answer, book_answer};
 ghost use Rattle.abc_fields.specs.OpenBooks.{open_answer, KeepsAnswer};
 
@@ -76,6 +77,7 @@ impl<T: Drop> From<AllocFailed<T>> for BookFault {
 /// a text that is too long. `OutOfMemory` comes in place of any but the first two.
 pub fn split_book(alloc: Global, book: &[u8], longest: usize) -> Result<Vec<TuneText>, BookFault>
     ensures texts { IfOk result (λ tunes. book_answer longest book.now ≡ Ok tunes.items) }
+    ensures within { IfOk result (λ tunes. AllByRecursion (IsTextWithin longest) tunes.items) }
     ensures refusal { IfErr result (λ fault. (fault ≡ BookFault.OutOfMemory) ⊎ (book_answer longest book.now ≡ Err fault)) }
     ensures too_long { LONGEST_BOOK < length book.now → result ≡ Err BookFault.BookTooLong }
     ensures not_plain { length book.now ≤ LONGEST_BOOK → is_plain book.now ≡ false → result ≡ Err BookFault.NotPlain }

@@ -5,7 +5,7 @@ use Rattle.std.proofs.lemmas.List.{nil_from_length}
 use Rattle.abc_fields.specs.Lines.{lines_of}
 use Rattle.abc_fields.specs.Tunes.{tune_runs}
 use Rattle.abc_fields.specs.Books.{is_plain}
-use Rattle.abc_fields.proofs.BookLemmas.{book_read, runs_ok, runs_none, refused_book}
+use Rattle.abc_fields.proofs.BookLemmas.{book_read, runs_ok, runs_none, refused_book, texts_within}
 use Rattle.abc_fields.proofs.book.split_book.Goals as goal
 
 pub returns-in_err-tunes-clause-refusal : goal.returns-in_err-tunes-clause-refusal
@@ -24,3 +24,6 @@ pub returns-clause-texts : goal.returns-clause-texts
 returns-clause-texts c =
     let plain : is_plain c.args.book.now ≡ true = search rules in
     book_read c.args.longest c.args.book.now (omega arith) plain ∙ runs_ok c.args.longest (tune_runs (lines_of c.args.book.now)) c.in_ok-tunes.tunes.items c.in_ok-tunes.ensures (λ e. eqb-false (vec_len c.in_ok-tunes.tunes) 0 (sym c.is_empty.ensures ∙ c.if-is_empty.false) (omega (arith, c.in_ok-tunes.tunes.ok.0)))
+
+pub returns-clause-within : goal.returns-clause-within
+returns-clause-within c = texts_within c.args.longest c.args.book.now c.in_ok-tunes.tunes.items c.in_ok-tunes.ensures

@@ -1,0 +1,12 @@
+//! An archive of tunes: the commands, their answers, and the stores that carry them out.
+#![tactic(auto)]
+
+mod command;
+mod list;
+mod store;
+mod tune;
+
+pub use command::{Command, Refusal, Reply};
+pub use list::ListArchive;
+pub use store::TuneStore;
+pub use tune::{GREATEST_NUMBER, LONGEST_TEXT, MOST_TUNES, Tune};

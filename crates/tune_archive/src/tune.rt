@@ -1,0 +1,35 @@
+// A tune of an archive, and the limits of archives.
+ghost use Rattle.std.specs.Prelude.{◌≡◌, IfOk};
+
+use abc_fields::TuneText;
+use std::alloc::{AllocError, Global};
+
+/// How many bytes the text of a tune has at most.
+pub const LONGEST_TEXT: usize = 16_000;
+
+/// How many tunes an archive has at most.
+pub const MOST_TUNES: usize = 20_000;
+
+/// The greatest number that a tune may have. The least is 1.
+pub const GREATEST_NUMBER: u32 = 999_999;
+
+/// A tune of an archive: its number, its revision, which is 1 for a tune that was imported, and its text.
+#[derive(Debug, Drop)]
+pub struct Tune {
+    pub number: u32,
+    pub revision: u16,
+    pub text: TuneText,
+}
+
+impl Tune {
+    /// A copy of the tune. The error is want of memory.
+    pub fn copy(&self, alloc: Global) -> Result<Tune, AllocError>
+        ensures { IfOk result (λ tune. tune ≡ self.now) }
+    {
+        Ok(Tune {
+            number: self.number,
+            revision: self.revision,
+            text: self.text.copy(alloc)?,
+        })
+    }
+}
