@@ -7,7 +7,9 @@ use Rattle.std.proofs.lemmas.Bool.{le-ltb, ltb-false, ne_eqb, eq-eqb}
 use Rattle.std.proofs.lemmas.List.Folds.{list_any_at, list_any_none}
 use Rattle.memchr.specs.Find.{IsFirstByte, is_byte}
 use Rattle.abc_fields.specs.Bytes.{line_feed, carriage_return}
-use Rattle.abc_fields.specs.Lines.{Piece, Span, pieces_of, lines_of, spans_from, spans_of, onto_content, onto_ending, begins_with_feed, ends_line, is_plain_line}
+use Rattle.abc_fields.specs.Lines.{Piece, Span, pieces_of, lines_of, spans_of, is_plain_line, ArePieces}
+use Rattle.abc_fields.proofs.LineLaw.{pieces_divide}
+use Rattle.abc_fields.proofs.LinePlaces.{spans_have_lines}
 use Rattle.abc_fields.specs.Tunes.{is_key_line, is_tune_start, ends_tune, tune_run, tune_runs, joined, has_key, IsTuneLine, IsOpenText, IsTextWithin}
 use Rattle.abc_fields.specs.Books.{Texts, before_texts, runs_answer, book_answer, book_of_runs, has_return, is_plain}
 use Rattle.abc_fields.specs.OpenBooks.{open_answer}
@@ -21,40 +23,20 @@ use Rattle.abc_fields.specs.declared.book.TuneFault.TheVariants.{NoKey, TooLong}
 abbrev pub contents : List Span → List (List ℕ)
 contents spans = map (λ s. s.bytes) spans
 
-pub contents-spans_from : (n : ℕ) (ps : List Piece) → contents (spans_from n ps) ≡ map (λ p. p.content) ps
-contents-spans_from n [] = refl
-contents-spans_from n (p ∷ ps) = ap (λ ls. p.content ∷ ls) (contents-spans_from (n + length p.content + length p.ending) ps)
-
 -- each of these lines is plain
 abbrev pub AllPlain : List (List ℕ) → Type 0
 AllPlain lines = AllByRecursion (λ line. is_plain_line line ≡ true) lines
 
-abbrev PlainPieces : List Piece → Type 0
-PlainPieces ps = AllPlain (map (λ p. p.content) ps)
+contents_plain : (ps : List Piece) → ArePieces ps → AllPlain (map (λ p. p.content) ps)
+contents_plain [] are = tt
+contents_plain (p ∷ ps) are = (are.0.content, contents_plain ps are.1)
 
-onto_content_plain : (b : ℕ) (ps : List Piece) → ends_line b ≡ false → PlainPieces ps → PlainPieces (onto_content b ps)
-onto_content_plain b [] e h = (rw e refl, tt)
-onto_content_plain b (p ∷ ps) e h = (rw e h.0, h.1)
+lines_plain : (text : List ℕ) → AllPlain (lines_of text)
+lines_plain text = contents_plain (pieces_of text) (pieces_divide text).pieces
 
-onto_ending_plain : (b : ℕ) (ps : List Piece) → PlainPieces ps → PlainPieces (onto_ending b ps)
-onto_ending_plain b [] h = (refl, tt)
-onto_ending_plain b (p ∷ ps) h = h
-
-choose_plain : (t u v : Bool) (x y z w : List Piece) → (u || v ≡ false → PlainPieces w) → PlainPieces x → PlainPieces y → PlainPieces z → PlainPieces (cond u x (cond v (cond t y z) w))
-choose_plain t true v x y z w h hx hy hz = hx
-choose_plain true false true x y z w h hx hy hz = hy
-choose_plain false false true x y z w h hx hy hz = hz
-choose_plain t false false x y z w h hx hy hz = h refl
-
-pieces_plain : (text : List ℕ) → PlainPieces (pieces_of text)
-pieces_plain [] = tt
-pieces_plain (b ∷ text) =
-    let later = pieces_plain text in
-    choose_plain (begins_with_feed text) (eqb b line_feed) (eqb b carriage_return) _ _ _ _ (λ e. onto_content_plain b (pieces_of text) e later) (refl, later) (onto_ending_plain carriage_return _ later) (refl, later)
-
--- each line of a text is plain
-pub lines_plain : (text : List ℕ) → AllPlain (contents (spans_from 0 (pieces_of text)))
-lines_plain text = let P : List (List ℕ) → Type 0 = λ ls. AllPlain ls in subst P (sym (contents-spans_from 0 (pieces_of text))) (pieces_plain text)
+-- each line of the spans of a text is plain
+pub spans_plain : (text : List ℕ) → AllPlain (contents (spans_of text))
+spans_plain text = let P : List (List ℕ) → Type 0 = λ lines. AllPlain lines in subst P (sym (spans_have_lines text)) (lines_plain text)
 
 -- BYTES
 -- a search for a byte tells whether it is there
@@ -137,8 +119,7 @@ runs_within longest place (run ∷ runs) h =
 pub texts_within : (longest : ℕ) (book : List ℕ) (texts : List (List ℕ)) → runs_answer longest 1 (tune_runs (lines_of book)) ≡ Ok texts → AllByRecursion (IsTextWithin longest) texts
 texts_within longest book texts e =
     let P : Texts → Type 0 = λ answer. TextsWithin longest answer in
-    let plain = let Q : List (List ℕ) → Type 0 = λ lines. AllPlain lines in subst Q (contents-spans_from 0 (pieces_of book)) (lines_plain book) in
-    subst P e (runs_within longest 1 (tune_runs (lines_of book)) (runs_lines (lines_of book) plain))
+    subst P e (runs_within longest 1 (tune_runs (lines_of book)) (runs_lines (lines_of book) (lines_plain book)))
 
 -- THE WHOLE BOOK
 -- a plain book of a good length is answered by its tunes
@@ -174,7 +155,7 @@ before_none (Err fault) = refl
 -- before the first line the answer in mid-book is that of all tunes
 pub answer_at_start : (longest : ℕ) (book : List ℕ) → open_answer longest [] None (contents (spans_of book)) ≡ runs_answer longest 1 (tune_runs (lines_of book))
 answer_at_start longest book =
-    before_none _ ∙ ap (λ lines. runs_answer longest 1 (tune_runs lines)) (contents-spans_from 0 (pieces_of book))
+    before_none _ ∙ ap (λ lines. runs_answer longest 1 (tune_runs lines)) (spans_have_lines book)
 
 -- REFUSALS
 -- the refusal of a part, for this rest, is the refusal of the whole

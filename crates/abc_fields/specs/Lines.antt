@@ -1,5 +1,5 @@
 -- What the lines of a text are (ABC 2.1, 2.2): a text is a row of pieces, each a content and the ending after it, and the contents are the lines.
-use Rattle.std.specs.Prelude.{◌≡◌, ℕ, ◌+◌, ◌<◌, ◌≤◌, List, [], ◌∷◌, ◌++◌, length, map, codes, slice_range, Bool, true, false, not, ◌==◌, ◌||◌, ◌⊎◌, if◌then◌else◌, ⊤}
+use Rattle.std.specs.Prelude.{◌≡◌, ℕ, ◌+◌, ◌<◌, ◌≤◌, List, [], ◌∷◌, ◌++◌, length, map, codes, slice_range, slice_get, Some, Bool, true, false, not, ◌==◌, ◌||◌, ◌⊎◌, if◌then◌else◌, ⊤}
 use Rattle.std.specs.List.{list_all}
 use Rattle.abc_fields.specs.Bytes.{line_feed, carriage_return}
 
@@ -107,3 +107,8 @@ pub record IsSpan (text : List ℕ) (low : ℕ) (s : Span) : Type 0 where
 abbrev pub SpansRise : List ℕ → ℕ → List Span → Type 0
 SpansRise text low [] = ⊤
 SpansRise text low (s ∷ ss) = IsSpan text low s × SpansRise text (s.to + 1) ss
+
+-- where these are the pieces of the text, each line begins after the bytes of the pieces before it
+abbrev pub SpansFollow : List ℕ → List Piece → Type 0
+SpansFollow text ps = (before after : List Piece) (p : Piece) → before ++ (p ∷ after) ≡ ps
+    → slice_get (spans_of text) (length before) ≡ Some (record { from = length (text_of before); to = length (text_of before) + length p.content; bytes = p.content })

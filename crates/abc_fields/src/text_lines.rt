@@ -1,7 +1,7 @@
 // The lines of a text.
-ghost use Rattle.std.specs.Prelude.{◌≡◌, ℕ, ◌+◌, ◌^◌, ◌<◌, ◌≤◌, List, ◌∷◌, take, drop, length};
+ghost use Rattle.std.specs.Prelude.{◌≡◌, ℕ, ◌+◌, ◌^◌, ◌<◌, ◌≤◌, List, ◌∷◌, map, take, drop, length};
 ghost use Rattle.std.specs.Iterator.{YieldsFirstBy, item_count};
-ghost use Rattle.abc_fields.specs.Lines.{Span, pieces_of, spans_from, spans_of};
+ghost use Rattle.abc_fields.specs.Lines.{Piece, Span, Divides, SpansRise, SpansFollow, pieces_of, spans_from, spans_of};
 ghost use Rattle.abc_fields.specs.LineView.{line_span};
 ghost use Rattle.abc_fields.specs.LineEndings.{ending_length};
 
@@ -34,8 +34,17 @@ impl<'a> Model for Lines<'a> {
 
 impl<'a> Lines<'a> {
     /// The lines of `text`. A byte order mark at its front is a part of the first line.
+    ///
+    /// The law of lines stands beside it: a text is its pieces, one after another, each a content and an ending; no other pieces divide it so;
+    /// the lines are their contents, each the part of the text between its places, which rise.
     pub fn new(text: &'a [u8]) -> Lines<'a>
-        ensures { result ≡ spans_of text.now }
+        ensures lines { result ≡ spans_of text.now }
+
+        ensures pieces { Divides (pieces_of text.now) text.now }
+        ensures no_other_pieces { (ps : List Piece) → Divides ps text.now → ps ≡ pieces_of text.now }
+        ensures contents { map (λ s. s.bytes) (spans_of text.now) ≡ map (λ p. p.content) (pieces_of text.now) }
+        ensures places { SpansRise text.now 0 (spans_of text.now) }
+        ensures after_pieces { SpansFollow text.now (pieces_of text.now) }
     {
         Lines { rest: text, at: 0 }
     }

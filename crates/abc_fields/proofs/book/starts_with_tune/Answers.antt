@@ -1,13 +1,13 @@
 use Rattle.std.proofs.Common.{◌≡◌, ap, sym, ◌∙◌, rules, true, false, refl}
-use Rattle.abc_fields.specs.Lines.{Span, pieces_of}
 use Rattle.abc_fields.specs.Tunes.{is_empty_line}
 use Rattle.abc_fields.specs.Books.{begins_with_tune}
-use Rattle.abc_fields.proofs.BookLemmas.{contents, contents-spans_from}
+use Rattle.abc_fields.proofs.LinePlaces.{spans_have_lines}
+use Rattle.abc_fields.proofs.BookLemmas.{contents}
 use Rattle.abc_fields.proofs.book.starts_with_tune.Goals as goal
 
 pub loop-line-init : goal.loop-line-init
 loop-line-init c =
-    rw (c.into_iter-line-iterator.ensures.into_iter_gives, c.new-line-items.ensures) (ap begins_with_tune (contents-spans_from 0 (pieces_of c.args.book.now)))
+    rw (c.into_iter-line-iterator.ensures.into_iter_gives, c.new-line-items.ensures.lines) (ap begins_with_tune (spans_have_lines c.args.book.now))
 
 pub returns-then-not-is_empty : goal.returns-then-not-is_empty
 returns-then-not-is_empty c =

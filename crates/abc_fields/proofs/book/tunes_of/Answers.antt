@@ -6,13 +6,13 @@ use Rattle.abc_fields.specs.LineView.{line_span}
 use Rattle.abc_fields.specs.Lines.{Span}
 use Rattle.abc_fields.specs.Tunes.{tune_run}
 use Rattle.abc_fields.specs.OpenBooks.{open_answer}
-use Rattle.abc_fields.proofs.BookLemmas.{contents, AllPlain, answer_at_start, lines_plain, refused_at}
+use Rattle.abc_fields.proofs.BookLemmas.{contents, AllPlain, answer_at_start, spans_plain, refused_at}
 use Rattle.abc_fields.proofs.book.tunes_of.Goals as goal
 
 pub loop-line-init : goal.loop-line-init
 loop-line-init c =
-    rw (c.into_iter-line-iterator.ensures.into_iter_gives, c.new-line-items.ensures, c.new-tunes.ensures.items) record {
-      plain = lines_plain c.args.book.now;
+    rw (c.into_iter-line-iterator.ensures.into_iter_gives, c.new-line-items.ensures.lines, c.new-tunes.ensures.items) record {
+      plain = spans_plain c.args.book.now;
       answer = answer_at_start c.args.longest c.args.book.now;
     }
 
