@@ -1,0 +1,87 @@
+#!/usr/bin/env bash
+# Usage: bench/thin-path.sh [EXECUTABLE]
+# Times `tunes list` on large scripts, and compares every byte of its replies with what is wanted. Each script comes at
+# half and at full size, so that the seconds show whether they grow in proportion.
+set -u
+root=$(CDPATH='' cd -- "$(dirname -- "$0")/.." && pwd) || exit 1
+program=${1:-$root/crates/tunes/out/tunes}
+work=$root/bench/work
+[ -x "$program" ] || { echo "no program at $program: build it by ./tunes list < /dev/null" >&2; exit 1; }
+mkdir -p "$work" || exit 1
+export LC_ALL=C
+
+# Prints one of the texts below, for this many tunes, lines or blocks of 50 bytes.
+make() {
+    awk -v what="$1" -v count="$2" '
+        function body(n) { return sprintf("T:Tune %05d\nM:4/4\nR:reel\nK:G\nGABc dedB|c2ec B2dB|\n", n) }
+        function imports(    n) { for (n = 1; n <= count; n++) printf "import %d\nX:1\n%s", 4 + length(body(n)), body(n) }
+        function imported(    n) { for (n = 1; n <= count; n++) print "ok import " n " " n }
+        function shown(    n) {
+            for (n = 1; n <= count; n++)
+                printf "ok show %d 1 %d\nX:%d\n%s", n, 3 + length(n "") + length(body(n)), n, body(n)
+        }
+        BEGIN {
+            if (what == "imports") imports()
+            if (what == "imports-wanted") imported()
+            if (what == "shows") { imports(); for (n = 1; n <= count; n++) print "show " n }
+            if (what == "shows-wanted") { imported(); shown() }
+            if (what == "book") {
+                print "import " 50 * count
+                for (n = 1; n <= count; n++) printf "X:1\nT:Tune %05d\nM:4/4\nK:G\nGABc dedB|c2ec B2dB|]\n\n", n
+            }
+            if (what == "book-wanted") print "refused 3 NotOne " count
+            if (what == "long") {
+                printf "import %d\nX:1\nT:%-39s\nK:G\n", 50 * count, "A tune without end"
+                for (n = 2; n <= count; n++) print "GABc dedB|c2ec B2dB|GABc dedB|c2ec B2dB|A2A2 A4||"
+            }
+            if (what == "long-wanted") print "refused 2 BadTune 1 TooLong"
+            if (what == "lines") for (n = 1; n <= count; n++) print "show 1"
+            if (what == "lines-wanted") for (n = 1; n <= count; n++) print "refused 4 Unknown 1"
+        }'
+}
+
+# Runs the program on a script, leaves its seconds in `seconds`, and ends with its status.
+run() {
+    local TIMEFORMAT=%3R status
+    { time "$program" list < "$work/script" > "$work/replies" 2> "$work/errors"; } 2> "$work/seconds"
+    status=$?
+    seconds=$(cat "$work/seconds")
+    return "$status"
+}
+
+# Times one text of this size, whose run is to end with this status: the best of three runs.
+measure() {
+    local name=$1 what=$2 count=$3 wanted_status=$4 best=999999 status
+    make "$what" "$count" > "$work/script"
+    make "$what-wanted" "$count" > "$work/wanted"
+    for _ in 1 2 3; do
+        run
+        status=$?
+        if [ "$status" -ne "$wanted_status" ] || ! cmp "$work/replies" "$work/wanted" >&2; then
+            echo "$name: the replies differ, or the status is $status and not $wanted_status" >&2
+            exit 1
+        fi
+        best=$(printf '%s\n' "$best" "$seconds" | sort -n | head -n 1)
+    done
+    printf '%-42s %10d %8.3f\n' "$name" "$(wc -c < "$work/script")" "$best"
+}
+
+printf '%-42s %10s %8s\n' "script" "bytes" "seconds"
+measure "10,000 imports" imports 10000 0
+measure "20,000 imports" imports 20000 0
+measure "10,000 imports, 10,000 shows" shows 10000 0
+measure "20,000 imports, 20,000 shows" shows 20000 0
+measure "a book of 2,000,000 bytes, 40,000 tunes" book 40000 0
+measure "a book of 4,000,000 bytes, 80,000 tunes" book 80000 0
+measure "a book of 2,000,000 bytes, one tune" long 40000 0
+measure "a book of 4,000,000 bytes, one tune" long 80000 0
+measure "500,000 lines of show 1" lines 500000 0
+# A script of a million lines ends at the bound on lines, so with status 1.
+measure "1,000,000 lines of show 1" lines 1000000 1
+
+command -v strace > /dev/null || exit 0
+make shows 20000 > "$work/script"
+strace -c -f -o "$work/calls" "$program" list < "$work/script" > "$work/replies" || exit 1
+echo
+echo "calls on 20,000 imports, 20,000 shows (40,000 replies, $(wc -c < "$work/script") bytes read):"
+awk '$NF == "read" || $NF == "write" { print "  " $NF ": " $4 }' "$work/calls"

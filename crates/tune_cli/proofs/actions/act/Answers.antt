@@ -1,0 +1,28 @@
+use Rattle.std.proofs.Common.{List, Option, ℕ, subst}
+use Rattle.std.specs.Prelude.{⊤}
+use Rattle.tune_archive.specs.State.{State}
+use Rattle.tune_archive.specs.Answers.{open_at}
+use Rattle.tune_cli.specs.declared.runs.TheConstants.{MOST_LINES}
+use Rattle.tune_cli.specs.declared.command_line.Action.{Action}
+use Rattle.tune_cli.specs.declared.command_line.Action.TheVariants as action
+use Rattle.tune_cli.specs.Acts.{Acts, ListsScript}
+use Rattle.tune_cli.specs.Scripts.{Told, TellsScript}
+use Rattle.tune_cli.proofs.ScriptLemmas.{told_by, tells_output}
+use Rattle.tune_cli.proofs.actions.act.Goals as goal
+
+-- each action is to run a script
+acts_list : (action : Action) (input was now : Option (List ℕ)) (status : ℕ) → ListsScript input was now status → Acts action input was now status
+acts_list action.List input was now status lists = lists
+
+pub returns : goal.returns
+returns g c =
+    let input = g.R.Read.remaining c.args.reader.now in
+    let was = g.W.Write.contents c.args.writer.now in
+    let now = g.W.Write.contents c.run-end.new.writer in
+    let P : State → Type 0 = λ start. Told c.run-end.result (TellsScript MOST_LINES input was now (open_at start) c.run-end.result (open_at c.run-end.new.store) (λ _. ⊤)) in
+    acts_list c.args.action.now input was now c.status.result record {
+      end = c.run-end.result;
+      state = c.run-end.new.store;
+      ends = c.status.ensures;
+      output = subst P c.new-archive.ensures (told_by c.run-end.result _ _ (tells_output MOST_LINES input was now _ c.run-end.result _ _) c.run-end.ensures);
+    }

@@ -1,0 +1,29 @@
+-- What the program does for an action, and its status.
+use Rattle.std.specs.Prelude.{◌≡◌, ℕ, List, [], Option, ⊤}
+use Rattle.tune_archive.specs.State.{State}
+use Rattle.tune_archive.specs.Answers.{open_at}
+use Rattle.tune_cli.specs.declared.runs.TheConstants.{MOST_LINES}
+use Rattle.tune_cli.specs.declared.runs.RunEnd.{RunEnd}
+use Rattle.tune_cli.specs.declared.runs.RunEnd.TheVariants.{Ended}
+use Rattle.tune_cli.specs.declared.command_line.Action.{Action}
+use Rattle.tune_cli.specs.declared.command_line.Action.TheVariants as action
+use Rattle.tune_cli.specs.Scripts.{Told, TellsScript}
+
+-- an archive without a tune
+abbrev pub empty_archive : State
+empty_archive = record { tunes = [] }
+
+-- 0 where the script was run to its end
+abbrev pub status_of : RunEnd → ℕ
+status_of Ended = 0
+status_of _ = 1
+
+-- The output is that of the script from an empty archive, which stays open, and the status tells how the run ended.
+pub record ListsScript (input was now : Option (List ℕ)) (status : ℕ) : Type 0 where
+  pub end : RunEnd
+  pub state : State
+  pub ends : status ≡ status_of end
+  pub output : Told end (TellsScript MOST_LINES input was now (open_at empty_archive) end (open_at state) (λ _. ⊤))
+
+abbrev pub Acts : Action → Option (List ℕ) → Option (List ℕ) → Option (List ℕ) → ℕ → Type 0
+Acts action.List input was now status = ListsScript input was now status

@@ -1,0 +1,72 @@
+// What the words of the program ask for, and the answer to it.
+ghost use Rattle.std.specs.Prelude.{◌≡◌, [], Some, IfOk, IfErr, map, string_bytes};
+ghost use Rattle.tune_cli.specs.CommandLine.{tunes_app, subcommand_in, name_of, faults_in, FaultFits};
+ghost use Rattle.clap.specs.Words.{app_of};
+ghost use Rattle.tune_cli.specs.Acts.{Acts, status_of};
+
+use crate::command_line::{Action, WordsFault};
+use crate::runs::{RunEnd, run};
+use clap::Command;
+use std::alloc::{AllocError, Global};
+use std::io::{Read, Write};
+use tune_archive::ListArchive;
+
+/// What the words of the program ask for, its name being the first of them.
+///
+/// The error is `Clap` where the words do not parse, where help is asked for, and for want of memory; it is `Missing`
+/// where they parse and have no subcommand.
+pub fn action<'a>(alloc: Global, words: &'a [String]) -> Result<Action, WordsFault>
+    ensures subcommand { IfOk result (λ action. subcommand_in (map string_bytes words.entry.now) ≡ Some (name_of action)) }
+    ensures parsed { IfOk result (λ _. faults_in (map string_bytes words.entry.now) ≡ []) }
+    ensures fault { IfErr result (FaultFits (map string_bytes words.entry.now)) }
+{
+    let matches = match command_line(alloc)?.try_get_matches_from(words) {
+        Ok(matches) => matches,
+        Err(error) => return Err(WordsFault::Clap(error)),
+    };
+    match matches.subcommand() {
+        None => Err(WordsFault::Missing),
+        Some(_) => Ok(Action::List),
+    }
+}
+
+// The program's command line.
+fn command_line<'a>(alloc: Global) -> Result<Command<'a>, AllocError>
+    ensures { IfOk result (λ command. app_of command ≡ tunes_app) }
+{
+    let list = Command::new(alloc, "list").about(
+        "Runs the script of standard input on an empty archive in memory",
+    );
+    Command::new(alloc, "tunes")
+        .about("An archive of tunes in ABC notation")
+        .disable_help_subcommand(true)
+        .subcommand(list)
+}
+
+/// Does what is asked, and gives the status: 0 where the script was run to its end, and else 1.
+pub fn act<R: Read, W: Write, T: AllocGlobal>(
+    rt: &T,
+    action: &Action,
+    reader: &mut R,
+    writer: &mut W,
+) -> u8
+    ensures { Acts action.now (R.remaining reader.old) (W.contents writer.old) (W.contents writer.new) result }
+{
+    match action {
+        Action::List => {
+            let mut archive = ListArchive::new(rt.alloc());
+            let end = run(rt.alloc(), reader, writer, &mut archive);
+            status(end)
+        }
+    }
+}
+
+// The status that tells how a run ended.
+fn status(end: RunEnd) -> u8
+    ensures { result ≡ status_of end }
+{
+    match end {
+        RunEnd::Ended => 0,
+        _ => 1,
+    }
+}

@@ -1,0 +1,29 @@
+// What the words of the program may ask for.
+use clap::Error;
+use std::alloc::AllocError;
+
+/// What the program is asked to do.
+#[derive(Clone, Copy, Debug, PartialEq, Eq)]
+pub enum Action {
+    /// Run a script on an empty archive in memory.
+    List,
+}
+
+/// Why words ask for nothing.
+#[derive(Drop)]
+pub enum WordsFault {
+    /// The words do not parse, help was asked for, or memory was refused: the error tells which, and has a text to print.
+    Clap(Error),
+    /// They parse, and have no subcommand.
+    Missing,
+}
+
+impl From<AllocError> for WordsFault {
+    ghost use Rattle.tune_cli.specs.CommandLine.{IsWantOfMemory};
+
+    ghost from_gives = { λ _ fault. IsWantOfMemory fault };
+
+    fn from(e: AllocError) -> WordsFault {
+        WordsFault::Clap(Error::from(e))
+    }
+}

@@ -1,0 +1,73 @@
+//! The program `tunes`, which keeps tunes in ABC notation: `tunes list` runs the script of standard input on an empty archive in memory.
+#![tactic(auto)]
+
+use clap::error::ErrorKind;
+use std::io::{BufReader, BufWriter, Write};
+use std::process::ExitCode;
+use std::rt::Runtime;
+use std::{env, io};
+use tune_cli::{Action, WordsFault, act, action};
+
+/// How many bytes are read at once, and how many of a reply are written at once.
+const BUFFER: usize = 65_536;
+
+const DONE: u8 = 0;
+
+const FAILED: u8 = 1;
+
+const BAD_WORDS: u8 = 2;
+
+fn main(rt: HostRuntime) -> io::Result<ExitCode> {
+    let status = match start(&rt) {
+        Ok(status) => status,
+        Err(error) => match error.kind() {
+            io::ErrorKind::OutOfMemory => {
+                println!(&rt; "refused 21 OutOfMemory")?;
+                FAILED
+            }
+            io::ErrorKind::InvalidData => {
+                eprintln!(&rt; "tunes: a word of the command is not UTF-8")?;
+                BAD_WORDS
+            }
+            _ => return Err(error),
+        },
+    };
+    Ok(ExitCode::from(status))
+}
+
+// Reads the words of the command, does what they ask for, and gives the status.
+fn start<R: Runtime + AllocGlobal>(rt: &R) -> io::Result<u8> {
+    let words: Vec<String> = env::args(rt)?.collect(rt.alloc())?;
+    match action(rt.alloc(), words.as_slice()) {
+        Ok(action) => perform(rt, &action),
+        Err(fault) => tell(rt, &fault),
+    }
+}
+
+// Does what is asked, over standard input and output.
+fn perform<R: Runtime + AllocGlobal>(rt: &R, action: &Action) -> io::Result<u8> {
+    let mut reader = BufReader::with_capacity(rt.alloc(), BUFFER, rt.reader())?;
+    let mut writer = BufWriter::with_capacity(rt.alloc(), BUFFER, io::writer(rt))?;
+    Ok(act(rt, action, &mut reader, &mut writer))
+}
+
+// Says why the words ask for nothing.
+fn tell<R: Runtime + AllocGlobal>(rt: &R, fault: &WordsFault) -> io::Result<u8> {
+    match fault {
+        WordsFault::Missing => {
+            eprintln!(rt; "tunes: no command is given; `tunes --help` lists them")?;
+            Ok(BAD_WORDS)
+        }
+        WordsFault::Clap(error) => match error.kind() {
+            ErrorKind::OutOfMemory => Err(io::Error::from(io::ErrorKind::OutOfMemory)),
+            ErrorKind::DisplayHelp => {
+                error.print(rt)?;
+                Ok(DONE)
+            }
+            _ => {
+                error.print(rt)?;
+                Ok(BAD_WORDS)
+            }
+        },
+    }
+}
