@@ -22,8 +22,7 @@ impl ByteText {
     pub fn copy_of(alloc: Global, bytes: &[u8]) -> Result<ByteText, AllocError>
         ensures { IfOk result (λ text. text ≡ bytes.now) }
     {
-        let bytes = Vec::from_slice(alloc, bytes)?;
-        Ok(ByteText { bytes })
+        Ok(ByteText::from_vec(Vec::from_slice(alloc, bytes)?))
     }
 
     /// The bytes as a text. It takes no memory.
@@ -45,24 +44,24 @@ impl ByteText {
 /// no `X:` line among them, and a `K:` line (ABC 2.1, 2.2.1; this archive's profile). A clause sees the list of its bytes.
 #[derive(Debug, Drop)]
 pub struct TuneText {
-    bytes: Vec<u8>,
+    text: Vec<u8>,
 }
 
 impl Model for TuneText {
     ghost Value = { List ℕ };
 
-    ghost view = { λ t. t.bytes.items };
+    ghost view = { λ t. t.text.items };
 
-    ghost invariant = { λ t. IsTuneText t.bytes.items };
+    ghost invariant = { λ t. IsTuneText t.text.items };
 }
 
 impl TuneText {
     // The bytes as a tune text. It takes no memory.
-    pub(crate) fn from_vec(bytes: Vec<u8>) -> TuneText
-        requires { IsTuneText bytes.items }
-        ensures { result ≡ bytes.items }
+    pub(crate) fn from_vec(text: Vec<u8>) -> TuneText
+        requires { IsTuneText text.items }
+        ensures { result ≡ text.items }
     {
-        TuneText { bytes }
+        TuneText { text }
     }
 
     /// The bytes of the text.
@@ -70,14 +69,13 @@ impl TuneText {
         ensures value { result.now ≡ self.now }
         ensures tune_text { IsTuneText self.now }
     {
-        self.bytes.as_slice()
+        self.text.as_slice()
     }
 
     /// A copy of the text. The error is want of memory.
     pub fn copy(&self, alloc: Global) -> Result<TuneText, AllocError>
         ensures { IfOk result (λ text. text ≡ self.now) }
     {
-        let bytes = Vec::from_slice(alloc, self.bytes.as_slice())?;
-        Ok(TuneText { bytes })
+        Ok(TuneText::from_vec(Vec::from_slice(alloc, self.bytes())?))
     }
 }
