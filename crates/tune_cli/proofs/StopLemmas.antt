@@ -29,7 +29,7 @@ stands_among P x (y ∷ a) file (inr h) p = inr (stands_among P x a file h p)
 module _ {S : Type 0} (honest sound : S → Type 0) (standing : S → Standing) (moment : S → ℕ) (left_since : S → ℕ → List ℕ → Type 0) (stands_for : List ℕ → State → Type 0) where
   -- no call passes no state
   pub passes_none : (s : S) → Passes honest sound standing moment left_since stands_for s s []
-  passes_none s = record { reaches = inl refl; was_honest = λ h. h; stays_sound = λ h. h; later = omega arith; leaves = λ h k since file q left. inl left }
+  passes_none s = record { reaches = inl refl; was_honest = λ h. h; stays_sound = λ h. h; later = omega arith; keeps = λ h since file left. left; leaves = λ h k since file q left. inl left }
 
   -- the state in between is one of those before, so a file that stands for it, or for a later one, stands for one of all
   stands_for_all : (old mid : S) (a b : List State) (file : List ℕ) → Among (standing mid).state ((standing old).state ∷ a) → StandsForOne stands_for ((standing mid).state ∷ b) file → StandsForOne stands_for ((standing old).state ∷ (a ++ b)) file
@@ -52,6 +52,7 @@ module _ {S : Type 0} (honest sound : S → Type 0) (standing : S → Standing) 
     was_honest = λ honest_now. h.was_honest (k.was_honest honest_now);
     stays_sound = λ s. k.stays_sound (h.stays_sound s);
     later = let x = h.later in let y = k.later in omega arith;
+    keeps = λ honest_now since file left. k.keeps honest_now since file (h.keeps (k.was_honest honest_now) since file left);
     leaves = λ s honest_now since file q left.
         let x = h.later in
         left_before_or_all old mid a b since file h.reaches (k.leaves (h.stays_sound s) honest_now since file (omega arith) left) (λ m. h.leaves s (k.was_honest honest_now) since file q m);

@@ -21,6 +21,7 @@ returns-in-Import-clause-stops c = record {
   was_honest = λ honest. honest;
   stays_sound = λ sound. sound;
   later = omega arith;
+  keeps = λ honest since file left. left;
   leaves = λ sound honest since file q left. absurd left;
 }
 
