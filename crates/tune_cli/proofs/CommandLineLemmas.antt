@@ -1,9 +1,9 @@
 -- The program's command line.
-use Rattle.std.proofs.Common.{◌≡◌, ap, ◌∙◌, refl, false, true, Result, Ok, Err, codes, List, ℕ}
+use Rattle.std.proofs.Common.{◌≡◌, ap, ◌∙◌, false, true, Result, Ok, Err, codes}
 use Rattle.std.specs.Prelude.{IfOk}
 use Rattle.clap.specs.declared.builder.command.Command.{Command}
 use Rattle.clap.specs.declared.builder.command.Command.TheViews.{out-Command}
-use Rattle.clap.specs.Simple.{App, app_of, app_of_fields, shape_of, new_app, on_top, with_subcommand}
+use Rattle.clap.specs.Simple.{App, app_of, shape_of, new_app, on_top, with_subcommand}
 use Rattle.clap.specs.Built.{AddsSubcommand}
 use Rattle.tune_cli.specs.CommandLine.{tunes_app}
 

@@ -1,9 +1,9 @@
 -- What reads take, one after another.
-use Rattle.std.proofs.Common.{◌≡◌, ℕ, ◌+◌, ◌<◌, Bool, true, false, not, eqb, List, [], ◌∷◌, ◌++◌, length, Option, None, Some, refl, ap, sym, ◌∙◌, arith}
+use Rattle.std.proofs.Common.{◌≡◌, ℕ, ◌+◌, ◌<◌, Bool, true, false, not, eqb, List, [], ◌∷◌, ◌++◌, length, drop, Option, None, Some, refl, ap, sym, ◌∙◌, arith}
 use Rattle.std.specs.Prelude.{IfSome}
 use Rattle.std.specs.List.{list_all}
 use Rattle.std.specs.Io.KnownBytes.{Consumes, IsAtEnd}
-use Rattle.std.proofs.lemmas.List.{append_assoc, append-nil, length-append}
+use Rattle.std.proofs.lemmas.List.{append_assoc, append-nil, length-append, drop_at}
 use Rattle.std.proofs.lemmas.Bool.{and_parts, not-true}
 use Rattle.abc_fields.specs.Bytes.{line_feed}
 use Rattle.tune_cli.specs.declared.script_line.TheConstants.{LONGEST_LINE}
@@ -74,14 +74,20 @@ line_last (Some xs) (Some ys) (Some zs) line l h a e b =
       },
     )
 
--- a line that is too long
-pub line_long : (old mid new : Option (List ℕ)) (line : List ℕ) (b : ℕ) → length line ≡ LONGEST_LINE → eqb b line_feed ≡ false → list_all is_inside line ≡ true → Consumes old mid line → Consumes mid new (b ∷ []) → IfSome old (λ xs. LONGEST_LINE < length (before_feed xs))
+-- without a line of the most bytes and the byte after it, an input is what follows
+drop_past : (line : List ℕ) (b : ℕ) (rest : List ℕ) → length line ≡ LONGEST_LINE → drop (LONGEST_LINE + 1) (line ++ b ∷ rest) ≡ rest
+drop_past line b rest n =
+    ap (drop (LONGEST_LINE + 1)) (sym (append_assoc line (b ∷ []) rest)) ∙ drop_at (line ++ b ∷ []) rest (LONGEST_LINE + 1) (omega (arith, length-append line (b ∷ [])))
+
+-- a line that is too long, of which one byte more than a line may have was read
+pub line_long : (old mid new : Option (List ℕ)) (line : List ℕ) (b : ℕ) → length line ≡ LONGEST_LINE → eqb b line_feed ≡ false → list_all is_inside line ≡ true → Consumes old mid line → Consumes mid new (b ∷ []) → IfSome old (λ xs. (LONGEST_LINE < length (before_feed xs)) × (new ≡ Some (drop (LONGEST_LINE + 1) xs)))
 line_long None mid new line b l n h c d = tt
 line_long (Some xs) None new line b l n h c d = absurd c
 line_long (Some xs) (Some ys) None line b l n h c d = absurd d
 line_long (Some xs) (Some ys) (Some zs) line b l n h c d =
     let e : xs ≡ line ++ b ∷ zs = c ∙ ap (λ r. line ++ r) d in
-    rw (e, before_inside line (b ∷ zs) h, n) (omega (arith, length-append line (b ∷ before_feed zs)))
+    let long : LONGEST_LINE < length (before_feed xs) = rw (e, before_inside line (b ∷ zs) h, n) (omega (arith, length-append line (b ∷ before_feed zs))) in
+    (long, ap Some (sym (ap (drop (LONGEST_LINE + 1)) e ∙ drop_past line b zs l)))
 
 pub inside_more : (line : List ℕ) (b : ℕ) → list_all is_inside line ≡ true → eqb b line_feed ≡ false → list_all is_inside (line ++ b ∷ []) ≡ true
 inside_more [] b h n = rw n refl

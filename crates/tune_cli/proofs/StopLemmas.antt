@@ -1,5 +1,5 @@
 -- What stops may have left of a store, over one call after another.
-use Rattle.std.proofs.Common.{◌≡◌, ℕ, ◌≤◌, List, [], ◌∷◌, ◌++◌, refl, sym, subst, ◌⊎◌, inl, inr, arith}
+use Rattle.std.proofs.Common.{ℕ, List, [], ◌∷◌, ◌++◌, refl, sym, subst, ◌⊎◌, inl, inr, arith}
 use Rattle.tune_archive.specs.State.{State, Standing}
 use Rattle.tune_archive.specs.Stops.{Among, StandsForOne, Passes}
 

@@ -18,12 +18,13 @@ abbrev pub status_of : RunEnd → ℕ
 status_of Ended = 0
 status_of _ = 1
 
--- The output is that of the script from an empty archive, which stays open, and the status tells how the run ended.
-pub record ListsScript (input was now : Option (List ℕ)) (status : ℕ) : Type 0 where
+-- The output is that of the script from an empty archive, which stays open, what the script leaves of the input is unread, and the status tells how the run ended.
+pub record ListsScript (input left was now : Option (List ℕ)) (status : ℕ) : Type 0 where
   pub end : RunEnd
   pub state : State
   pub ends : status ≡ status_of end
-  pub output : Told end (TellsScript MOST_LINES input was now (open_at empty_archive) end (open_at state) (λ _. ⊤))
+  pub output : Told end (TellsScript MOST_LINES input left was now (open_at empty_archive) end (open_at state) (λ _. ⊤))
 
-abbrev pub Acts : Action → Option (List ℕ) → Option (List ℕ) → Option (List ℕ) → ℕ → Type 0
-Acts action.List input was now status = ListsScript input was now status
+-- what an action does with the input and the output, and the status that it gives
+abbrev pub Acts : Action → Option (List ℕ) → Option (List ℕ) → Option (List ℕ) → Option (List ℕ) → ℕ → Type 0
+Acts action.List input left was now status = ListsScript input left was now status

@@ -1,5 +1,5 @@
 -- What a read of a line or a text takes of the known bytes of a reader.
-use Rattle.std.specs.Prelude.{◌≡◌, ℕ, ◌<◌, ◌≤◌, List, [], ◌∷◌, Bool, true, false, ◌==◌, if◌then◌else◌, length, take, Option, IfSome, ⊤, Some}
+use Rattle.std.specs.Prelude.{◌≡◌, ℕ, ◌+◌, ◌<◌, ◌≤◌, List, [], ◌∷◌, Bool, true, false, ◌==◌, if◌then◌else◌, length, take, drop, Option, IfSome, ⊤, Some}
 use Rattle.std.specs.Io.KnownBytes.{Consumes, IsAtEnd}
 use Rattle.abc_fields.specs.Bytes.{line_feed}
 use Rattle.tune_cli.specs.declared.script_line.TheConstants.{LONGEST_LINE}
@@ -41,15 +41,16 @@ pub record IsLineRead (input line rest : List ℕ) (fed : Bool) : Type 0 where
 abbrev pub TakesLine : Option (List ℕ) → Option (List ℕ) → List ℕ → Bool → Type 0
 TakesLine old new line fed = IfSome old (λ input. (rest : List ℕ) × (new ≡ Some rest) × IsLineRead input line rest fed)
 
+-- a line was read, or it has too many bytes, of which one more than it may have was read, or there is none and nothing was read
 abbrev pub ReadsLine : Option (List ℕ) → Option (List ℕ) → List ℕ → LineRead → Type 0
 ReadsLine old new got (line.Line n fed) = (n ≤ length got) × TakesLine old new (take n got) fed
-ReadsLine old new got line.Long = IfSome old (λ input. LONGEST_LINE < length (before_feed input))
-ReadsLine old new got line.End = IsAtEnd old
+ReadsLine old new got line.Long = IfSome old (λ input. (LONGEST_LINE < length (before_feed input)) × (new ≡ Some (drop (LONGEST_LINE + 1) input)))
+ReadsLine old new got line.End = IsAtEnd old × Consumes old new []
 ReadsLine old new got line.Fault = ⊤
 
--- a text of this length was read and kept, or read and dropped, or the input ends within it
+-- a text of this length was read and kept, or read and dropped, or the input ends within it and was read to its end
 abbrev pub ReadsText : Option (List ℕ) → Option (List ℕ) → ℕ → Bool → TextRead → Type 0
 ReadsText old new len wanted (text.Whole bytes) = (wanted ≡ true) × (length bytes ≡ len) × Consumes old new bytes
 ReadsText old new len wanted text.Dropped = (bytes : List ℕ) × (length bytes ≡ len) × Consumes old new bytes
-ReadsText old new len wanted text.Cut = IfSome old (λ input. length input < len)
+ReadsText old new len wanted text.Cut = IfSome old (λ input. (length input < len) × (new ≡ Some []))
 ReadsText old new len wanted text.Fault = ⊤

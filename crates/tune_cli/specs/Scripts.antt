@@ -1,5 +1,5 @@
--- What a script means: its commands one by one, the bytes of their replies, and how the run ends.
-use Rattle.std.specs.Prelude.{◌≡◌, ℕ, suc, List, [], ◌∷◌, ◌++◌, length, take, drop, Bool, nat_lt, if◌then◌else◌, Option, IfSome, Result, true, false, ⊤}
+-- What a script means: its commands one by one, the bytes of their replies, how the run ends, and what it leaves of the input.
+use Rattle.std.specs.Prelude.{◌≡◌, ℕ, suc, ◌+◌, List, [], ◌∷◌, ◌++◌, length, take, drop, Bool, nat_lt, if◌then◌else◌, Option, Some, IfSome, Result, true, false, ⊤}
 use Rattle.std.specs.Io.KnownBytes.{Appends}
 use Rattle.std.specs.Io.BufRead.{strip_last}
 use Rattle.abc_fields.specs.Bytes.{carriage_return}
@@ -67,35 +67,36 @@ reading_of [] = at_end
 reading_of (b ∷ input) = reading_of_line (before_feed (b ∷ input)) (has_feed (b ∷ input)) (after_feed (b ∷ input))
 
 -- WHOLE SCRIPTS
--- With at most so many lines, from what a store stands for, an input writes these bytes, passes these states one after another, ends so, and leaves the store standing for this.
-pub data Script : ℕ → Standing → List ℕ → List ℕ → List State → RunEnd → Standing → Type 0 where
+-- With at most so many lines, from what a store stands for, an input writes these bytes, passes these states one after another, ends so, leaves the store standing for this, and has this last part that is not read.
+pub data Script : ℕ → Standing → List ℕ → List ℕ → List State → RunEnd → Standing → List ℕ → Type 0 where
   -- THE ENDS
-  -- no more lines are read, whether there are more or not
-  line_bound : (s : Standing) (input : List ℕ) → Script 0 s input [] [] LineBound s
-  ended : (n : ℕ) (s : Standing) (input : List ℕ) → reading_of input ≡ at_end → Script (suc n) s input [] [] Ended s
-  at_long_line : (n : ℕ) (s : Standing) (input : List ℕ) → reading_of input ≡ long_line → Script (suc n) s input bad_line_bytes [] LongLine s
-  at_cut_text : (n : ℕ) (s : Standing) (input : List ℕ) → reading_of input ≡ cut_text → Script (suc n) s input bad_line_bytes [] Ended s
+  -- no more lines are read, whether there are more or not: all of the input is left
+  line_bound : (s : Standing) (input : List ℕ) → Script 0 s input [] [] LineBound s input
+  ended : (n : ℕ) (s : Standing) (input : List ℕ) → reading_of input ≡ at_end → Script (suc n) s input [] [] Ended s []
+  -- no more of the line is read than shows that it is too long
+  at_long_line : (n : ℕ) (s : Standing) (input : List ℕ) → reading_of input ≡ long_line → Script (suc n) s input bad_line_bytes [] LongLine s (drop (LONGEST_LINE + 1) input)
+  at_cut_text : (n : ℕ) (s : Standing) (input : List ℕ) → reading_of input ≡ cut_text → Script (suc n) s input bad_line_bytes [] Ended s []
   -- the device failed, in this command or before
   device_fault : (n : ℕ) (s mid : Standing) (input rest : List ℕ) (c : Command) (answer : Result Reply Refusal) → reading_of input ≡ whole_command c rest
       → Answers s c answer mid → stays_open answer ≡ false
-      → Script (suc n) s input (answer_bytes answer) (passed s.state c answer) DeviceFault mid
+      → Script (suc n) s input (answer_bytes answer) (passed s.state c answer) DeviceFault mid rest
   -- ONE LINE, AND THEN THE REST
-  after_blank_line : (n : ℕ) (s t : Standing) (input rest out : List ℕ) (states : List State) (end : RunEnd) → reading_of input ≡ blank_line rest
-      → Script n s rest out states end t
-      → Script (suc n) s input out states end t
-  after_bad_line : (n : ℕ) (s t : Standing) (input rest out : List ℕ) (states : List State) (end : RunEnd) → reading_of input ≡ bad_line rest
-      → Script n s rest out states end t
-      → Script (suc n) s input (bad_line_bytes ++ out) states end t
-  after_long_text : (n : ℕ) (s t : Standing) (input rest out : List ℕ) (states : List State) (end : RunEnd) → reading_of input ≡ long_text rest
-      → Script n s rest out states end t
-      → Script (suc n) s input (refusal_bytes BookTooLong ++ out) states end t
+  after_blank_line : (n : ℕ) (s t : Standing) (input rest out unread : List ℕ) (states : List State) (end : RunEnd) → reading_of input ≡ blank_line rest
+      → Script n s rest out states end t unread
+      → Script (suc n) s input out states end t unread
+  after_bad_line : (n : ℕ) (s t : Standing) (input rest out unread : List ℕ) (states : List State) (end : RunEnd) → reading_of input ≡ bad_line rest
+      → Script n s rest out states end t unread
+      → Script (suc n) s input (bad_line_bytes ++ out) states end t unread
+  after_long_text : (n : ℕ) (s t : Standing) (input rest out unread : List ℕ) (states : List State) (end : RunEnd) → reading_of input ≡ long_text rest
+      → Script n s rest out states end t unread
+      → Script (suc n) s input (refusal_bytes BookTooLong ++ out) states end t unread
   -- memory for the text of the command was refused: the command does not take place
-  after_no_room : (n : ℕ) (s t : Standing) (input rest out : List ℕ) (states : List State) (end : RunEnd) (c : Command) → reading_of input ≡ whole_command c rest
-      → Script n s rest out states end t
-      → Script (suc n) s input (refusal_bytes OutOfMemory ++ out) states end t
-  after_answer : (n : ℕ) (s mid t : Standing) (input rest out : List ℕ) (states : List State) (end : RunEnd) (c : Command) (answer : Result Reply Refusal) → reading_of input ≡ whole_command c rest
-      → Answers s c answer mid → stays_open answer ≡ true → Script n mid rest out states end t
-      → Script (suc n) s input (answer_bytes answer ++ out) (passed s.state c answer ++ states) end t
+  after_no_room : (n : ℕ) (s t : Standing) (input rest out unread : List ℕ) (states : List State) (end : RunEnd) (c : Command) → reading_of input ≡ whole_command c rest
+      → Script n s rest out states end t unread
+      → Script (suc n) s input (refusal_bytes OutOfMemory ++ out) states end t unread
+  after_answer : (n : ℕ) (s mid t : Standing) (input rest out unread : List ℕ) (states : List State) (end : RunEnd) (c : Command) (answer : Result Reply Refusal) → reading_of input ≡ whole_command c rest
+      → Answers s c answer mid → stays_open answer ≡ true → Script n mid rest out states end t unread
+      → Script (suc n) s input (answer_bytes answer ++ out) (passed s.state c answer ++ states) end t unread
 
 -- RUNS
 -- a claim that is made at the ends at which the output is told
@@ -108,14 +109,16 @@ Told ReaderFault P = ⊤
 Told WriterFault P = ⊤
 Told run.OutOfMemory P = ⊤
 
--- A run of an input wrote what the script writes, and this holds of the states that it passed.
-pub record RunsScript (lines : ℕ) (input : List ℕ) (was now : Option (List ℕ)) (s : Standing) (end : RunEnd) (t : Standing) (Stops : List State → Type 0) : Type 0 where
+-- A run of an input wrote what the script writes, and left unread what the script leaves, and this holds of the states that it passed.
+pub record RunsScript (lines : ℕ) (input : List ℕ) (left was now : Option (List ℕ)) (s : Standing) (end : RunEnd) (t : Standing) (Stops : List State → Type 0) : Type 0 where
+  pub unread : List ℕ
   pub out : List ℕ
   pub states : List State
+  pub leaves : left ≡ Some unread
   pub written : Appends was now out
   pub stops : Stops states
-  pub script : Script lines s input out states end t
+  pub script : Script lines s input out states end t unread
 
 -- the same of a reader that tells its bytes
-abbrev pub TellsScript : ℕ → Option (List ℕ) → Option (List ℕ) → Option (List ℕ) → Standing → RunEnd → Standing → (List State → Type 0) → Type 0
-TellsScript lines input was now s end t Stops = IfSome input (λ bytes. RunsScript lines bytes was now s end t Stops)
+abbrev pub TellsScript : ℕ → Option (List ℕ) → Option (List ℕ) → Option (List ℕ) → Option (List ℕ) → Standing → RunEnd → Standing → (List State → Type 0) → Type 0
+TellsScript lines input left was now s end t Stops = IfSome input (λ bytes. RunsScript lines bytes left was now s end t Stops)

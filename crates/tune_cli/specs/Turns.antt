@@ -1,5 +1,5 @@
 -- One line of a script, with its text: a turn of the run.
-use Rattle.std.specs.Prelude.{◌≡◌, ℕ, suc, List, [], ◌++◌, ◌⊎◌, Option, None, Some, IfSome, Result, if◌then◌else◌}
+use Rattle.std.specs.Prelude.{◌≡◌, ℕ, suc, List, ◌++◌, ◌⊎◌, Option, None, Some, IfSome, Result, if◌then◌else◌}
 use Rattle.std.specs.Io.KnownBytes.{Appends}
 use Rattle.tune_archive.specs.State.{State, Standing}
 use Rattle.tune_archive.specs.Answers.{Answers, passed, stays_open}
@@ -14,9 +14,9 @@ use Rattle.tune_cli.specs.Scripts.{reading_of, reading_of_text, Script, Told}
 -- whatever the rest of the input comes to, the whole comes to this turn and then that; or the run ends here
 abbrev pub TurnOf : List ℕ → Option (List ℕ) → Option (List ℕ) → Option (List ℕ) → Standing → Standing → (List State → Type 0) → Option RunEnd → Type 0
 TurnOf input left was now s mid Stops None = (rest : List ℕ) × (left ≡ Some rest) × (out : List ℕ) × (states : List State) × Appends was now out × Stops states
-    × ((n : ℕ) (more : List ℕ) (later : List State) (end : RunEnd) (t : Standing) → Script n mid rest more later end t → Script (suc n) s input (out ++ more) (states ++ later) end t)
+    × ((n : ℕ) (more : List ℕ) (later : List State) (end : RunEnd) (t : Standing) (unread : List ℕ) → Script n mid rest more later end t unread → Script (suc n) s input (out ++ more) (states ++ later) end t unread)
 TurnOf input left was now s mid Stops (Some end) =
-    Told end ((out : List ℕ) × (states : List State) × Appends was now out × Stops states × ((n : ℕ) → Script (suc n) s input out states end mid))
+    Told end ((unread : List ℕ) × (left ≡ Some unread) × (out : List ℕ) × (states : List State) × Appends was now out × Stops states × ((n : ℕ) → Script (suc n) s input out states end mid unread))
 
 -- the same of a reader that tells its bytes
 abbrev pub Turns : Option (List ℕ) → Option (List ℕ) → Option (List ℕ) → Option (List ℕ) → Standing → Standing → (List State → Type 0) → Option RunEnd → Type 0

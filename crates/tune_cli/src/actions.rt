@@ -50,7 +50,7 @@ pub fn act<R: Read, W: Write, T: AllocGlobal>(
     reader: &mut R,
     writer: &mut W,
 ) -> u8
-    ensures { Acts action.now (R.remaining reader.old) (W.contents writer.old) (W.contents writer.new) result }
+    ensures { Acts action.now (R.remaining reader.old) (R.remaining reader.new) (W.contents writer.old) (W.contents writer.new) result }
 {
     match action {
         Action::List => {

@@ -46,7 +46,7 @@ pub fn run<R: Read, W: Write, S: TuneStore>(
     writer: &mut W,
     store: &mut S,
 ) -> RunEnd
-    ensures { Told result (TellsScript MOST_LINES (R.remaining reader.old) (W.contents writer.old) (W.contents writer.new) (S.standing store.old) result (S.standing store.new)
+    ensures { Told result (TellsScript MOST_LINES (R.remaining reader.old) (R.remaining reader.new) (W.contents writer.old) (W.contents writer.new) (S.standing store.old) result (S.standing store.new)
         (Passes S.honest S.sound S.standing S.moment S.left_since S.stands_for store.old store.new)) }
 {
     let mut line = [0u8; LONGEST_LINE];

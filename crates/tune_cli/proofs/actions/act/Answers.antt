@@ -11,18 +11,19 @@ use Rattle.tune_cli.proofs.ScriptLemmas.{told_by, tells_output}
 use Rattle.tune_cli.proofs.actions.act.Goals as goal
 
 -- each action is to run a script
-acts_list : (action : Action) (input was now : Option (List ℕ)) (status : ℕ) → ListsScript input was now status → Acts action input was now status
-acts_list action.List input was now status lists = lists
+acts_list : (action : Action) (input left was now : Option (List ℕ)) (status : ℕ) → ListsScript input left was now status → Acts action input left was now status
+acts_list action.List input left was now status lists = lists
 
 pub returns : goal.returns
 returns g c =
     let input = g.R.Read.remaining c.args.reader.now in
+    let left = g.R.Read.remaining c.run-end.new.reader in
     let was = g.W.Write.contents c.args.writer.now in
     let now = g.W.Write.contents c.run-end.new.writer in
-    let P : State → Type 0 = λ start. Told c.run-end.result (TellsScript MOST_LINES input was now (open_at start) c.run-end.result (open_at c.run-end.new.store) (λ _. ⊤)) in
-    acts_list c.args.action.now input was now c.status.result record {
+    let P : State → Type 0 = λ start. Told c.run-end.result (TellsScript MOST_LINES input left was now (open_at start) c.run-end.result (open_at c.run-end.new.store) (λ _. ⊤)) in
+    acts_list c.args.action.now input left was now c.status.result record {
       end = c.run-end.result;
       state = c.run-end.new.store;
       ends = c.status.ensures;
-      output = subst P c.new-archive.ensures (told_by c.run-end.result _ _ (tells_output MOST_LINES input was now _ c.run-end.result _ _) c.run-end.ensures);
+      output = subst P c.new-archive.ensures (told_by c.run-end.result _ _ (tells_output MOST_LINES input left was now _ c.run-end.result _ _) c.run-end.ensures);
     }

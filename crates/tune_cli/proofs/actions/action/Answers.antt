@@ -1,6 +1,6 @@
-use Rattle.std.proofs.Common.{◌≡◌, refl, true, map, codes, sym, subst, None, Some, List, ℕ}
+use Rattle.std.proofs.Common.{◌≡◌, refl, true, map, subst}
 use Rattle.std.specs.Prelude.{string_bytes}
-use Rattle.clap.specs.Words.{App, HasKind, fault_of, is_simple_and_free, app_of}
+use Rattle.clap.specs.Words.{App, HasKind, fault_of, is_simple_and_free}
 use Rattle.tune_cli.specs.CommandLine.{tunes_app}
 use Rattle.tune_cli.proofs.actions.action.Goals as goal
 

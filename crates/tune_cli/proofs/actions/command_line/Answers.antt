@@ -1,4 +1,4 @@
-use Rattle.std.proofs.Common.{◌≡◌, ap, ◌∙◌, rules, refl, codes, true, false}
+use Rattle.std.proofs.Common.{◌≡◌, ap, ◌∙◌, codes, true, false}
 use Rattle.clap.specs.Simple.{app_of, app_of_fields, new_app, on_top}
 use Rattle.clap.specs.declared.builder.command.Command.TheViews.{out-Command}
 use Rattle.tune_cli.proofs.CommandLineLemmas.{app_of_tunes}

@@ -11,7 +11,7 @@ use Rattle.tune_cli.proofs.StopLemmas.{passes_none}
 use Rattle.tune_cli.proofs.runs.turn.Goals as goal
 
 pub returns-in-End : goal.returns-in-End
-returns-in-End g c = from_end (g.R.Read.remaining c.args.reader.now) (g.R.Read.remaining c.read_line.new.reader) (g.W.Write.contents c.args.writer.now) (g.S.TuneStore.standing c.args.store.now) (Passes g.S.TuneStore.honest g.S.TuneStore.sound g.S.TuneStore.standing g.S.TuneStore.moment g.S.TuneStore.left_since g.S.TuneStore.stands_for c.args.store.now c.args.store.now) c.in-End.ensures (passes_none g.S.TuneStore.honest g.S.TuneStore.sound g.S.TuneStore.standing g.S.TuneStore.moment g.S.TuneStore.left_since g.S.TuneStore.stands_for c.args.store.now)
+returns-in-End g c = from_end (g.R.Read.remaining c.args.reader.now) (g.R.Read.remaining c.read_line.new.reader) (g.W.Write.contents c.args.writer.now) (g.S.TuneStore.standing c.args.store.now) (Passes g.S.TuneStore.honest g.S.TuneStore.sound g.S.TuneStore.standing g.S.TuneStore.moment g.S.TuneStore.left_since g.S.TuneStore.stands_for c.args.store.now c.args.store.now) c.in-End.ensures.0 c.in-End.ensures.1 (passes_none g.S.TuneStore.honest g.S.TuneStore.sound g.S.TuneStore.standing g.S.TuneStore.moment g.S.TuneStore.left_since g.S.TuneStore.stands_for c.args.store.now)
 
 pub returns-in-Long : goal.returns-in-Long
 returns-in-Long g c = from_long (g.R.Read.remaining c.args.reader.now) (g.R.Read.remaining c.read_line.new.reader) (g.W.Write.contents c.args.writer.now) (g.W.Write.contents c.bad_line.new.writer) (g.S.TuneStore.standing c.args.store.now) (Passes g.S.TuneStore.honest g.S.TuneStore.sound g.S.TuneStore.standing g.S.TuneStore.moment g.S.TuneStore.left_since g.S.TuneStore.stands_for c.args.store.now c.args.store.now) c.bad_line.result c.in-Long.ensures (passes_none g.S.TuneStore.honest g.S.TuneStore.sound g.S.TuneStore.standing g.S.TuneStore.moment g.S.TuneStore.left_since g.S.TuneStore.stands_for c.args.store.now) c.bad_line.ensures
