@@ -5,39 +5,59 @@ use Rattle.abc_fields.specs.Books.{Texts, book_answer}
 use Rattle.abc_fields.specs.declared.book.BookFault.{BookFault}
 use Rattle.abc_fields.specs.declared.book.BookFault.TheVariants as fault
 use Rattle.tune_archive.specs.State.{State, Standing, greatest}
-use Rattle.tune_archive.specs.Step.{Outcome, refusal_of, step, import_book, show_tune, tune_at}
+use Rattle.tune_archive.specs.Step.{Outcome, refusal_of, step, import_book, replace_book, replace_texts, replace_tune, delete_tune, show_tune, tune_at}
 use Rattle.tune_archive.specs.Answers.{Answers, open_at, closed_at, stepped, no_memory, failed_before, failed_after, is_closed, passed}
 use Rattle.tune_archive.specs.Stops.{Among}
 use Rattle.tune_archive.specs.declared.tune.Tune.{Tune}
-use Rattle.tune_archive.specs.declared.tune.TheConstants.{LONGEST_TEXT, MOST_TUNES, GREATEST_NUMBER}
+use Rattle.tune_archive.specs.declared.tune.TheConstants.{LONGEST_TEXT, MOST_TUNES, GREATEST_NUMBER, GREATEST_REVISION}
 use Rattle.tune_archive.specs.declared.command.Command.{Command}
-use Rattle.tune_archive.specs.declared.command.Command.TheVariants.{Import, Show}
+use Rattle.tune_archive.specs.declared.command.Command.TheVariants.{Import, Replace, Delete, Show}
 use Rattle.tune_archive.specs.declared.command.Reply.{Reply}
 use Rattle.tune_archive.specs.declared.command.Refusal.{Refusal}
-use Rattle.tune_archive.specs.declared.command.Refusal.TheVariants.{NotOne, ArchiveFull, NumbersSpent, OutOfMemory, Device, Closed}
+use Rattle.tune_archive.specs.declared.command.Refusal.TheVariants.{OutOfMemory, Device, Closed}
 
 -- A REFUSED COMMAND CHANGES NOTHING
 -- where the answer is a refusal, the state is this one
 abbrev pub KeepsOnErr : State → Outcome → Type 0
 KeepsOnErr old outcome = (refusal : Refusal) → outcome.1 ≡ Err refusal → outcome.0 ≡ old
 
-import_keeps : (old new : State) (a b c : Bool) (x y z : Refusal) (reply : Reply) → KeepsOnErr old (cond a (old, Err x) (cond b (old, Err y) (cond c (old, Err z) (new, Ok reply))))
-import_keeps old new true b c x y z reply refusal h = refl
-import_keeps old new false true c x y z reply refusal h = refl
-import_keeps old new false false true x y z reply refusal h = refl
-import_keeps old new false false false x y z reply refusal h = cc
+-- an outcome by two tests, of which each refuses
+two_tests_keep : (old new : State) (a b : Bool) (x y : Refusal) (reply : Reply) → KeepsOnErr old (cond a (old, Err x) (cond b (old, Err y) (new, Ok reply)))
+two_tests_keep old new true b x y reply refusal h = refl
+two_tests_keep old new false true x y reply refusal h = refl
+two_tests_keep old new false false x y reply refusal h = cc
 
-import_book_keeps : (old : State) (texts : Texts) → KeepsOnErr old (import_book old texts)
-import_book_keeps old (Err fault) refusal h = refl
-import_book_keeps old (Ok texts) refusal h =
-    import_keeps old _ (not (eqb (length texts) 1)) (ltb MOST_TUNES (length old.tunes + length texts)) (ltb GREATEST_NUMBER (greatest old.tunes + length texts)) _ _ _ _ refusal h
+import_keeps : (old : State) (texts : Texts) → KeepsOnErr old (import_book old texts)
+import_keeps old (Err fault) refusal h = refl
+import_keeps old (Ok texts) refusal h =
+    two_tests_keep old _ (ltb MOST_TUNES (length old.tunes + length texts)) (ltb GREATEST_NUMBER (greatest old.tunes + length texts)) _ _ _ refusal h
+
+replace_tune_keeps : (old : State) (number revision : ℕ) (text : List ℕ) (found : Option Tune) → KeepsOnErr old (replace_tune old number revision text found)
+replace_tune_keeps old number revision text None refusal h = refl
+replace_tune_keeps old number revision text (Some tune) refusal h =
+    two_tests_keep old _ (not (eqb tune.revision revision)) (not (ltb tune.revision GREATEST_REVISION)) _ _ _ refusal h
+
+replace_texts_keep : (old : State) (number revision : ℕ) (texts : List (List ℕ)) → KeepsOnErr old (replace_texts old number revision texts)
+replace_texts_keep old number revision [] refusal h = refl
+replace_texts_keep old number revision (text ∷ []) refusal h = replace_tune_keeps old number revision text (tune_at number old.tunes) refusal h
+replace_texts_keep old number revision (text ∷ next ∷ texts) refusal h = refl
+
+replace_keeps : (old : State) (number revision : ℕ) (texts : Texts) → KeepsOnErr old (replace_book old number revision texts)
+replace_keeps old number revision (Err fault) refusal h = refl
+replace_keeps old number revision (Ok texts) refusal h = replace_texts_keep old number revision texts refusal h
+
+delete_keeps : (old : State) (number : ℕ) (found : Option Tune) → KeepsOnErr old (delete_tune old number found)
+delete_keeps old number None refusal h = refl
+delete_keeps old number (Some tune) refusal h = cc
 
 show_keeps : (old : State) (number : ℕ) (found : Option Tune) → KeepsOnErr old (show_tune old number found)
 show_keeps old number None refusal h = refl
 show_keeps old number (Some tune) refusal h = cc
 
 pub refused_keeps : (old : State) (command : Command) → KeepsOnErr old (step old command)
-refused_keeps old (Import book) = import_book_keeps old (book_answer LONGEST_TEXT book)
+refused_keeps old (Import book) = import_keeps old (book_answer LONGEST_TEXT book)
+refused_keeps old (Replace number revision book) = replace_keeps old number revision (book_answer LONGEST_TEXT book)
+refused_keeps old (Delete number) = delete_keeps old number (tune_at number old.tunes)
 refused_keeps old (Show number) = show_keeps old number (tune_at number old.tunes)
 
 -- NO COMMAND ANSWERS FOR THE DEVICE
@@ -56,16 +76,36 @@ book_fault_not_of_device fault.OutOfMemory h = elim h [ inl e ↦ cc | inr e ↦
 abbrev NotOfDevice : Outcome → Type 0
 NotOfDevice outcome = (refusal : Refusal) → outcome.1 ≡ Err refusal → IsOfDevice refusal → ⊥
 
-texts_not_of_device : (old new : State) (a b c : Bool) (count : ℕ) (reply : Reply) → NotOfDevice (cond a (old, Err (NotOne count)) (cond b (old, Err ArchiveFull) (cond c (old, Err NumbersSpent) (new, Ok reply))))
-texts_not_of_device old new true b c count reply refusal h of = elim of [ inl e ↦ cc | inr e ↦ cc ]
-texts_not_of_device old new false true c count reply refusal h of = elim of [ inl e ↦ cc | inr e ↦ cc ]
-texts_not_of_device old new false false true count reply refusal h of = elim of [ inl e ↦ cc | inr e ↦ cc ]
-texts_not_of_device old new false false false count reply refusal h of = cc
+-- an outcome by two tests, of which each refuses for no device
+two_tests_not_of_device : (old new : State) (a b : Bool) (x y : Refusal) (reply : Reply) → (IsOfDevice x → ⊥) → (IsOfDevice y → ⊥) → NotOfDevice (cond a (old, Err x) (cond b (old, Err y) (new, Ok reply)))
+two_tests_not_of_device old new true b x y reply not_x not_y refusal h of = let same : x ≡ refusal = cc in not_x (rw same of)
+two_tests_not_of_device old new false true x y reply not_x not_y refusal h of = let same : y ≡ refusal = cc in not_y (rw same of)
+two_tests_not_of_device old new false false x y reply not_x not_y refusal h of = cc
 
 import_not_of_device : (old : State) (texts : Texts) → NotOfDevice (import_book old texts)
 import_not_of_device old (Err fault) refusal h of = let same : refusal_of fault ≡ refusal = cc in book_fault_not_of_device fault (rw same of)
 import_not_of_device old (Ok texts) refusal h of =
-    texts_not_of_device old _ (not (eqb (length texts) 1)) (ltb MOST_TUNES (length old.tunes + length texts)) (ltb GREATEST_NUMBER (greatest old.tunes + length texts)) _ _ refusal h of
+    two_tests_not_of_device old _ (ltb MOST_TUNES (length old.tunes + length texts)) (ltb GREATEST_NUMBER (greatest old.tunes + length texts)) _ _ _
+    (λ x. elim x [ inl e ↦ cc | inr e ↦ cc ]) (λ y. elim y [ inl e ↦ cc | inr e ↦ cc ]) refusal h of
+
+replace_tune_not_of_device : (old : State) (number revision : ℕ) (text : List ℕ) (found : Option Tune) → NotOfDevice (replace_tune old number revision text found)
+replace_tune_not_of_device old number revision text None refusal h of = elim of [ inl e ↦ cc | inr e ↦ cc ]
+replace_tune_not_of_device old number revision text (Some tune) refusal h of =
+    two_tests_not_of_device old _ (not (eqb tune.revision revision)) (not (ltb tune.revision GREATEST_REVISION)) _ _ _
+    (λ x. elim x [ inl e ↦ cc | inr e ↦ cc ]) (λ y. elim y [ inl e ↦ cc | inr e ↦ cc ]) refusal h of
+
+replace_texts_not_of_device : (old : State) (number revision : ℕ) (texts : List (List ℕ)) → NotOfDevice (replace_texts old number revision texts)
+replace_texts_not_of_device old number revision [] refusal h of = elim of [ inl e ↦ cc | inr e ↦ cc ]
+replace_texts_not_of_device old number revision (text ∷ []) refusal h of = replace_tune_not_of_device old number revision text (tune_at number old.tunes) refusal h of
+replace_texts_not_of_device old number revision (text ∷ next ∷ texts) refusal h of = elim of [ inl e ↦ cc | inr e ↦ cc ]
+
+replace_not_of_device : (old : State) (number revision : ℕ) (texts : Texts) → NotOfDevice (replace_book old number revision texts)
+replace_not_of_device old number revision (Err fault) refusal h of = let same : refusal_of fault ≡ refusal = cc in book_fault_not_of_device fault (rw same of)
+replace_not_of_device old number revision (Ok texts) refusal h of = replace_texts_not_of_device old number revision texts refusal h of
+
+delete_not_of_device : (old : State) (number : ℕ) (found : Option Tune) → NotOfDevice (delete_tune old number found)
+delete_not_of_device old number None refusal h of = elim of [ inl e ↦ cc | inr e ↦ cc ]
+delete_not_of_device old number (Some tune) refusal h of = cc
 
 show_not_of_device : (old : State) (number : ℕ) (found : Option Tune) → NotOfDevice (show_tune old number found)
 show_not_of_device old number None refusal h of = elim of [ inl e ↦ cc | inr e ↦ cc ]
@@ -73,6 +113,8 @@ show_not_of_device old number (Some tune) refusal h of = cc
 
 step_not_of_device : (old : State) (command : Command) → NotOfDevice (step old command)
 step_not_of_device old (Import book) = import_not_of_device old (book_answer LONGEST_TEXT book)
+step_not_of_device old (Replace number revision book) = replace_not_of_device old number revision (book_answer LONGEST_TEXT book)
+step_not_of_device old (Delete number) = delete_not_of_device old number (tune_at number old.tunes)
 step_not_of_device old (Show number) = show_not_of_device old number (tune_at number old.tunes)
 
 -- WHAT AN ANSWER SAYS OF THE STORE

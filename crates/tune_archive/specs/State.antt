@@ -3,7 +3,7 @@ use Rattle.std.specs.Prelude.{ℕ, ◌<◌, ◌≤◌, List, [], ◌∷◌, Bool
 use Rattle.std.specs.List.{AllByRecursion}
 use Rattle.abc_fields.specs.Tunes.{IsTuneText}
 use Rattle.tune_archive.specs.declared.tune.Tune.{Tune}
-use Rattle.tune_archive.specs.declared.tune.TheConstants.{LONGEST_TEXT, MOST_TUNES, GREATEST_NUMBER}
+use Rattle.tune_archive.specs.declared.tune.TheConstants.{LONGEST_TEXT, MOST_TUNES, GREATEST_NUMBER, GREATEST_REVISION}
 
 -- tunes by rising number
 pub record State : Type 0 where
@@ -26,7 +26,8 @@ RisesFrom low (tune ∷ tunes) = (low < tune.number) × RisesFrom tune.number tu
 
 -- a tune within the limits
 pub record IsTune (tune : Tune) : Type 0 where
-  pub revision : 0 < tune.revision
+  pub revised : 0 < tune.revision
+  pub revision : tune.revision ≤ GREATEST_REVISION
   pub text : IsTuneText tune.text
   pub fits : length tune.text ≤ LONGEST_TEXT
 

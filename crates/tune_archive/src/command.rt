@@ -7,8 +7,16 @@ use thiserror::Error;
 /// One change of an archive, or one question.
 #[derive(Debug, Drop)]
 pub enum Command {
-    /// Adds the one tune of this book, under the number after the greatest, or 1 in an empty archive.
+    /// Adds the tunes of this book, in order, from the number after the greatest on, or from 1 in an empty archive: all of them or none.
     Import(ByteText),
+    /// Puts the one tune of this book in the place of the tune of this number, where this is its revision.
+    Replace {
+        number: u32,
+        revision: u32,
+        book: ByteText,
+    },
+    /// Takes out the tune of this number.
+    Delete(u32),
     /// Asks for the tune of this number.
     Show(u32),
 }
@@ -18,6 +26,10 @@ pub enum Command {
 pub enum Reply {
     /// The tunes of a book were added, with these numbers.
     Imported { first: u32, last: u32 },
+    /// The tune of a number was replaced, and has this revision now.
+    Replaced { number: u32, revision: u16 },
+    /// The tune of a number was taken out.
+    Deleted { number: u32 },
     /// A tune.
     Shown(Tune),
 }
@@ -31,12 +43,18 @@ pub enum Refusal {
     /// The first bad tune of the book, by its place, counted from 1.
     #[error("tune {place}: {fault}")]
     BadTune { place: usize, fault: TuneFault },
-    /// The book has more tunes than one.
+    /// The book for one tune has more.
     #[error("the book has {count} tunes")]
     NotOne { count: usize },
     /// No tune has the number.
     #[error("no tune has the number {number}")]
     Unknown { number: u32 },
+    /// The tune has another revision, which is this.
+    #[error("the tune has revision {revision}")]
+    Stale { revision: u16 },
+    /// The tune has the greatest revision.
+    #[error("the tune cannot be replaced again")]
+    Worn,
     /// More tunes than `MOST_TUNES` would stand.
     #[error("the archive is full")]
     ArchiveFull,

@@ -9,4 +9,4 @@ mod tune;
 pub use command::{Command, Refusal, Reply};
 pub use list::ListArchive;
 pub use store::TuneStore;
-pub use tune::{GREATEST_NUMBER, LONGEST_TEXT, MOST_TUNES, Tune};
+pub use tune::{GREATEST_NUMBER, GREATEST_REVISION, LONGEST_TEXT, MOST_TUNES, Tune};

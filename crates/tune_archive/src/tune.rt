@@ -13,7 +13,10 @@ pub const MOST_TUNES: usize = 20_000;
 /// The greatest number that a tune may have. The least is 1.
 pub const GREATEST_NUMBER: u32 = 999_999;
 
-/// A tune of an archive: its number, its revision, which is 1 for a tune that was imported, and its text.
+/// The greatest revision that a tune may have. The least is 1.
+pub const GREATEST_REVISION: u16 = 9_999;
+
+/// A tune of an archive: its number; its revision, which is 1 where it was imported and one more with each replacement; and its text.
 #[derive(Debug, Drop)]
 pub struct Tune {
     pub number: u32,
