@@ -1,7 +1,7 @@
 // The tunes of a book.
 ghost use Rattle.std.specs.Prelude.{◌≡◌, ℕ, ◌<◌, ◌≤◌, ◌⊎◌, ◌||◌, [], ◌∷◌, ◌++◌, List, Bool, true, false, length, None, Ok, Err, ⊤, IfOk, IfErr, MatchResult};
 ghost use Rattle.std.specs.List.{AllByRecursion};
-ghost use Rattle.abc_fields.specs.Bytes.{line_feed, byte_order_mark, begins_with};
+ghost use Rattle.abc_fields.specs.Bytes.{line_feed};
 ghost use Rattle.abc_fields.specs.Lines.{is_plain_line, lines_of};
 ghost use Rattle.abc_fields.specs.Tunes.{is_empty_line, is_tune_start, is_key_line, tune_run, tune_runs, IsTuneLine, IsOpenText, IsTextWithin};
 ghost use Rattle.abc_fields.specs.Books.{has_return, begins_with_tune, is_plain, runs_answer, book_answer};
@@ -95,22 +95,17 @@ pub fn split_book(alloc: Global, book: &[u8], longest: usize) -> Result<Vec<Tune
     Ok(tunes)
 }
 
+// A byte order mark needs no look of its own: the first line does not begin with `X:` then.
 fn is_plain_book(book: &[u8]) -> bool
     ensures { result ≡ is_plain book.now }
 {
-    !contains_return(book) && !has_mark(book) && starts_with_tune(book)
+    !contains_return(book) && starts_with_tune(book)
 }
 
 fn contains_return(book: &[u8]) -> bool
     ensures { result ≡ has_return book.now }
 {
     memchr(b'\r', book).is_some()
-}
-
-fn has_mark(book: &[u8]) -> bool
-    ensures { result ≡ begins_with book.now byte_order_mark }
-{
-    book.starts_with(b"\xEF\xBB\xBF")
 }
 
 // Whether the first line that is not empty, if there is one, begins with `X:`.
