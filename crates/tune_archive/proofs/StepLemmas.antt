@@ -11,7 +11,7 @@ use Rattle.tune_archive.specs.Stops.{Among}
 use Rattle.tune_archive.specs.declared.tune.Tune.{Tune}
 use Rattle.tune_archive.specs.declared.tune.TheConstants.{LONGEST_TEXT, MOST_TUNES, GREATEST_NUMBER, GREATEST_REVISION}
 use Rattle.tune_archive.specs.declared.command.Command.{Command}
-use Rattle.tune_archive.specs.declared.command.Command.TheVariants.{Import, Replace, Delete, Show}
+use Rattle.tune_archive.specs.declared.command.Command.TheVariants.{Import, Replace, Delete, Show, ExportAll}
 use Rattle.tune_archive.specs.declared.command.Reply.{Reply}
 use Rattle.tune_archive.specs.declared.command.Refusal.{Refusal}
 use Rattle.tune_archive.specs.declared.command.Refusal.TheVariants.{OutOfMemory, Device, Closed}
@@ -58,6 +58,7 @@ pub refused_keeps : (old : State) (command : Command) → KeepsOnErr old (step o
 refused_keeps old (Import book) = import_keeps old (book_answer LONGEST_TEXT book)
 refused_keeps old (Replace number revision book) = replace_keeps old number revision (book_answer LONGEST_TEXT book)
 refused_keeps old (Delete number) = delete_keeps old number (tune_at number old.tunes)
+refused_keeps old ExportAll = λ refusal h. cc
 refused_keeps old (Show number) = show_keeps old number (tune_at number old.tunes)
 
 -- NO COMMAND ANSWERS FOR THE DEVICE
@@ -115,6 +116,7 @@ step_not_of_device : (old : State) (command : Command) → NotOfDevice (step old
 step_not_of_device old (Import book) = import_not_of_device old (book_answer LONGEST_TEXT book)
 step_not_of_device old (Replace number revision book) = replace_not_of_device old number revision (book_answer LONGEST_TEXT book)
 step_not_of_device old (Delete number) = delete_not_of_device old number (tune_at number old.tunes)
+step_not_of_device old ExportAll = λ refusal h of. cc
 step_not_of_device old (Show number) = show_not_of_device old number (tune_at number old.tunes)
 
 -- WHAT AN ANSWER SAYS OF THE STORE

@@ -1,15 +1,16 @@
 -- What a command does to the plain list, and what it is answered.
-use Rattle.std.specs.Prelude.{ℕ, ◌+◌, List, [], ◌∷◌, ◌++◌, length, not, ◌==◌, nat_lt, if◌then◌else◌, Option, None, Some, Result, Ok, Err}
+use Rattle.std.specs.Prelude.{ℕ, ◌+◌, List, [], ◌∷◌, ◌++◌, length, map, not, ◌==◌, nat_lt, if◌then◌else◌, Option, None, Some, Result, Ok, Err}
 use Rattle.abc_fields.specs.Books.{Texts, book_answer}
 use Rattle.abc_fields.specs.declared.book.BookFault.{BookFault}
 use Rattle.abc_fields.specs.declared.book.BookFault.TheVariants as fault
+use Rattle.tune_books.specs.WrittenBooks.{written_book}
 use Rattle.tune_archive.specs.declared.tune.Tune.{Tune}
 use Rattle.tune_archive.specs.declared.tune.TheConstants.{LONGEST_TEXT, MOST_TUNES, GREATEST_NUMBER, GREATEST_REVISION}
 use Rattle.tune_archive.specs.State.{State, greatest}
 use Rattle.tune_archive.specs.declared.command.Command.{Command}
-use Rattle.tune_archive.specs.declared.command.Command.TheVariants.{Import, Replace, Delete, Show}
+use Rattle.tune_archive.specs.declared.command.Command.TheVariants.{Import, Replace, Delete, Show, ExportAll}
 use Rattle.tune_archive.specs.declared.command.Reply.{Reply}
-use Rattle.tune_archive.specs.declared.command.Reply.TheVariants.{Imported, Replaced, Deleted, Shown}
+use Rattle.tune_archive.specs.declared.command.Reply.TheVariants.{Imported, Replaced, Deleted, Shown, Exported}
 use Rattle.tune_archive.specs.declared.command.Refusal.{Refusal}
 use Rattle.tune_archive.specs.declared.command.Refusal.TheVariants.{BookTooLong, NotPlain, NoTune, BadTune, NotOne, Unknown, Stale, Worn, ArchiveFull, NumbersSpent, OutOfMemory}
 
@@ -94,9 +95,15 @@ abbrev pub show_tune : State → ℕ → Option Tune → Outcome
 show_tune state number None = (state, Err (Unknown number))
 show_tune state number (Some tune) = (state, Ok (Shown tune))
 
+-- EXPORT
+-- the written book of tunes
+abbrev pub exported : List Tune → List ℕ
+exported tunes = written_book (map (λ tune. tune.number) tunes) (map (λ tune. tune.text) tunes)
+
 -- EACH COMMAND
 abbrev pub step : State → Command → Outcome
 step state (Import book) = import_book state (book_answer LONGEST_TEXT book)
 step state (Replace number revision book) = replace_book state number revision (book_answer LONGEST_TEXT book)
 step state (Delete number) = delete_tune state number (tune_at number state.tunes)
 step state (Show number) = show_tune state number (tune_at number state.tunes)
+step state ExportAll = (state, Ok (Exported (exported state.tunes)))

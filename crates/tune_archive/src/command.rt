@@ -19,6 +19,8 @@ pub enum Command {
     Delete(u32),
     /// Asks for the tune of this number.
     Show(u32),
+    /// Asks for the written book of all tunes.
+    ExportAll,
 }
 
 /// The answer to a command that is accepted.
@@ -32,6 +34,8 @@ pub enum Reply {
     Deleted { number: u32 },
     /// A tune.
     Shown(Tune),
+    /// The written book of all tunes, by number.
+    Exported(ByteText),
 }
 
 /// Why a command is refused. After each refusal but `Device` the archive is as it was.

@@ -1,11 +1,11 @@
 // An archive in memory.
-ghost use Rattle.std.specs.Prelude.{◌≡◌, ◌≢◌, ℕ, ◌+◌, ◌^◌, ◌<◌, ◌≤◌, ◌⊎◌, List, [], ◌∷◌, ◌++◌, length, false, None, Some, Err, IfOk, IfErr, IfNone, IfSome, vec_len, slice_index_or};
+ghost use Rattle.std.specs.Prelude.{◌≡◌, ◌≢◌, ℕ, ◌+◌, ◌^◌, ◌<◌, ◌≤◌, ◌⊎◌, List, [], ◌∷◌, ◌++◌, length, false, None, Some, Ok, Err, IfOk, IfErr, IfNone, IfSome, vec_len, slice_index_or};
 ghost use Rattle.std.specs.List.{AllByRecursion};
 ghost use Rattle.std.specs.Vec.{vec_capacity};
 ghost use Rattle.abc_fields.specs.Books.{book_answer};
 ghost use Rattle.tune_archive.specs.declared.tune.Tune.{Tune};
 ghost use Rattle.tune_archive.specs.State.{State, IsState, IsTune, RisesFrom, greatest};
-ghost use Rattle.tune_archive.specs.Step.{numbered, tune_at, import_book, replace_book, replace_tune, delete_tune, show_tune};
+ghost use Rattle.tune_archive.specs.Step.{numbered, tune_at, import_book, replace_book, replace_tune, delete_tune, show_tune, exported};
 
 use crate::command::{Command, Refusal, Reply};
 use crate::store::TuneStore;
@@ -13,6 +13,7 @@ use crate::tune::{GREATEST_NUMBER, GREATEST_REVISION, LONGEST_TEXT, MOST_TUNES, 
 use abc_fields::{TuneText, split_book};
 use std::alloc::Global;
 use std::marker::Model;
+use tune_books::BookWriter;
 
 /// A list of tunes in memory. A clause sees the list.
 #[derive(Drop)]
@@ -64,6 +65,7 @@ impl TuneStore for ListArchive {
             ),
             Command::Delete(number) => delete(&mut self.tunes, *number),
             Command::Show(number) => show(self.alloc, self.tunes.as_slice(), *number),
+            Command::ExportAll => export(self.alloc, self.tunes.as_slice()),
         }
     }
 }
@@ -203,6 +205,17 @@ fn show(alloc: Global, tunes: &[Tune], number: u32) -> Result<Reply, Refusal>
         return Err(Refusal::Unknown { number });
     };
     Ok(Reply::Shown(tunes[place].copy(alloc)?))
+}
+
+// The written book of all tunes.
+fn export(alloc: Global, tunes: &[Tune]) -> Result<Reply, Refusal>
+    ensures { (result ≡ Err Refusal.OutOfMemory) ⊎ (result ≡ Ok (Reply.Exported (exported tunes.now))) }
+{
+    let mut book = BookWriter::new(alloc)?;
+    for tune in tunes {
+        book = book.with_tune(tune.number, &tune.text)?;
+    }
+    Ok(Reply::Exported(book.into_text()))
 }
 
 // The place of the tune of a number.

@@ -1,7 +1,20 @@
+use Rattle.std.proofs.Common.{◌≡◌, ◌∷◌, ◌++◌, take, drop, suc, arith, ap, sym, ◌∙◌, rules, add-one, Some, refl}
+use Rattle.tune_archive.specs.declared.tune.Tune.{Tune}
+use Rattle.tune_archive.specs.Step.{without, tune_at}
+use Rattle.tune_archive.proofs.StateLemmas.{state_after_delete, without-place}
 use Rattle.tune_archive.proofs.list.delete.Goals as goal
 
+removed : (c : goal.After-drop-remove) → c.remove.new.self.items ≡ without c.args.number c.args.tunes.now.items
+removed c =
+    let tunes = c.args.tunes.now.items in
+    let found = rw c.deref.ensures.value at (c.in-Some.ensures.found c.remove.result) in
+    let within = rw c.deref.ensures.value at c.in-Some.ensures.within in
+    c.remove.ensures.by_index.2 ∙ (rw add-one (sym (without-place 0 c.args.number tunes c.in-Some.place c.remove.result c.requires.rises within found.1)))
+
 pub returns-clause-state : goal.returns-clause-state
-returns-clause-state c = let h = c in ?
+returns-clause-state c = rw (removed c) (state_after_delete c.args.number c.args.tunes.now.items c.requires)
 
 pub returns-clause-answer : goal.returns-clause-answer
-returns-clause-answer c = let h = c in ?
+returns-clause-answer c =
+    let found = rw c.deref.ensures.value at (c.in-Some.ensures.found c.remove.result) in
+    rw (removed c, found.0) refl
