@@ -7,7 +7,7 @@ use Rattle.std.proofs.lemmas.Bool.{le-ltb, ltb-false, ne_eqb, eq-eqb}
 use Rattle.std.proofs.lemmas.List.Folds.{list_any_at, list_any_none}
 use Rattle.memchr.specs.Find.{IsFirstByte, is_byte}
 use Rattle.abc_fields.specs.Bytes.{line_feed, carriage_return}
-use Rattle.abc_fields.specs.Lines.{Piece, Span, pieces_of, lines_of, spans_of, is_plain_line, ArePieces}
+use Rattle.abc_fields.specs.Lines.{Piece, Span, pieces_of, lines_of, spans_of, has_no_ending, ArePieces}
 use Rattle.abc_fields.proofs.LineLaw.{pieces_divide}
 use Rattle.abc_fields.proofs.LinePlaces.{spans_have_lines}
 use Rattle.abc_fields.specs.Tunes.{is_key_line, is_tune_start, ends_tune, tune_run, tune_runs, joined, has_key, IsTuneLine, IsOpenText, IsTextWithin}
@@ -25,7 +25,7 @@ contents spans = map (λ s. s.bytes) spans
 
 -- each of these lines is plain
 abbrev pub AllPlain : List (List ℕ) → Type 0
-AllPlain lines = AllByRecursion (λ line. is_plain_line line ≡ true) lines
+AllPlain lines = AllByRecursion (λ line. has_no_ending line ≡ true) lines
 
 contents_plain : (ps : List Piece) → ArePieces ps → AllPlain (map (λ p. p.content) ps)
 contents_plain [] are = tt
@@ -75,7 +75,7 @@ open_more text keyed line h k = record {
 }
 
 -- TEXTS WITHIN A LENGTH
-run_step : (line : List ℕ) (lines : List (List ℕ)) (ends : Bool) → ends_tune line ≡ ends → is_plain_line line ≡ true → AllByRecursion IsTuneLine (tune_run lines) → AllByRecursion IsTuneLine (cond ends [] (line ∷ tune_run lines))
+run_step : (line : List ℕ) (lines : List (List ℕ)) (ends : Bool) → ends_tune line ≡ ends → has_no_ending line ≡ true → AllByRecursion IsTuneLine (tune_run lines) → AllByRecursion IsTuneLine (cond ends [] (line ∷ tune_run lines))
 run_step line lines true e plain later = tt
 run_step line lines false e plain later = (record { plain = plain; inside = e }, later)
 

@@ -5,7 +5,7 @@ use Rattle.std.proofs.lemmas.List.{append_assoc, append-nil, length-append}
 use Rattle.std.proofs.lemmas.Bool.{eqb-true, cases_Bool, cond_both, and_parts, not-true, or_from, or_parts}
 use Rattle.std.specs.Prelude.{slice_range}
 use Rattle.abc_fields.specs.Bytes.{line_feed, carriage_return}
-use Rattle.abc_fields.specs.Lines.{Piece, pieces_of, onto_content, onto_ending, ended_by, begins_with_feed, ends_line, text_of, is_plain_line, IsEnding, IsUnended, ArePieces, Divides, spans_from, spans_of, IsSpan, SpansRise}
+use Rattle.abc_fields.specs.Lines.{Piece, pieces_of, onto_content, onto_ending, ended_by, begins_with_feed, ends_line, text_of, has_no_ending, IsEnding, IsUnended, ArePieces, Divides, spans_from, spans_of, IsSpan, SpansRise}
 
 -- THE PIECES DIVIDE THE TEXT
 -- a byte at the front of the first content is a byte at the front of the text
@@ -101,12 +101,12 @@ pieces_of_ending ending rest (inr (inl return_feed)) = rw return_feed refl
 pieces_of_ending ending rest (inr (inr return)) = rw return.0 (pieces_of_return rest return.1)
 
 -- a plain line has a plain first byte, and a plain rest
-plain_parts : (byte : ℕ) (line : List ℕ) → is_plain_line (byte ∷ line) ≡ true → (ends_line byte ≡ false) × (is_plain_line line ≡ true)
+plain_parts : (byte : ℕ) (line : List ℕ) → has_no_ending (byte ∷ line) ≡ true → (ends_line byte ≡ false) × (has_no_ending line ≡ true)
 plain_parts byte line plain =
-    let both = and_parts (not (ends_line byte)) (is_plain_line line) plain in (not-true (ends_line byte) both.0, both.1)
+    let both = and_parts (not (ends_line byte)) (has_no_ending line) plain in (not-true (ends_line byte) both.0, both.1)
 
 -- a plain line and its ending are the first piece
-pub pieces_of_line : (content ending rest : List ℕ) → is_plain_line content ≡ true → IsEnding ending rest
+pub pieces_of_line : (content ending rest : List ℕ) → has_no_ending content ≡ true → IsEnding ending rest
     → pieces_of (content ++ (ending ++ rest)) ≡ record { content = content; ending = ending } ∷ pieces_of rest
 pieces_of_line [] ending rest plain ends = pieces_of_ending ending rest ends
 pieces_of_line (byte ∷ content) ending rest plain ends =
@@ -114,7 +114,7 @@ pieces_of_line (byte ∷ content) ending rest plain ends =
     pieces_of_plain byte (content ++ (ending ++ rest)) parts.0 ∙ ap (onto_content byte) (pieces_of_line content ending rest parts.1 ends)
 
 -- a plain line with no ending is the only piece
-pub pieces_of_last : (content : List ℕ) → is_plain_line content ≡ true → 0 < length content → pieces_of content ≡ record { content = content; ending = [] } ∷ []
+pub pieces_of_last : (content : List ℕ) → has_no_ending content ≡ true → 0 < length content → pieces_of content ≡ record { content = content; ending = [] } ∷ []
 pieces_of_last [] plain some = absurd (omega arith)
 pieces_of_last (byte ∷ []) plain some = pieces_of_plain byte [] (plain_parts byte [] plain).0
 pieces_of_last (byte ∷ next ∷ rest) plain some =
@@ -122,7 +122,7 @@ pieces_of_last (byte ∷ next ∷ rest) plain some =
     pieces_of_plain byte (next ∷ rest) parts.0 ∙ ap (onto_content byte) (pieces_of_last (next ∷ rest) parts.1 (omega arith))
 
 -- a piece is the first piece of what it begins
-first_piece : (content ending : List ℕ) (ps : List Piece) → is_plain_line content ≡ true
+first_piece : (content ending : List ℕ) (ps : List Piece) → has_no_ending content ≡ true
     → IsEnding ending (text_of ps) ⊎ IsUnended (record { content = content; ending = ending }) ps → ps ≡ pieces_of (text_of ps)
     → record { content = content; ending = ending } ∷ ps ≡ pieces_of (content ++ (ending ++ text_of ps))
 first_piece content ending ps plain (inl ends) later =

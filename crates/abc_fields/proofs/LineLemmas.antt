@@ -3,7 +3,7 @@ use Rattle.std.proofs.Common.{◌≡◌, ℕ, zero, suc, ◌+◌, ◌<◌, true,
 use Rattle.std.proofs.lemmas.List.{drop-drop, length-drop, get_or-drop, take_all, take-append-drop}
 use Rattle.std.proofs.lemmas.Bool.{eqb-true, ne_eqb, eq-eqb, both_ways, or_cases, cases_Bool, false_from_ne_true}
 use Rattle.abc_fields.specs.Bytes.{line_feed, carriage_return}
-use Rattle.abc_fields.specs.Lines.{pieces_of, ends_line, is_plain_line, IsEnding}
+use Rattle.abc_fields.specs.Lines.{pieces_of, ends_line, has_no_ending, IsEnding}
 use Rattle.abc_fields.specs.LineEndings.{ending_length}
 use Rattle.abc_fields.proofs.LineLaw.{pieces_of_line, pieces_of_last}
 
@@ -12,7 +12,7 @@ abbrev pub NoEndBelow : List ℕ → ℕ → Type 0
 NoEndBelow text n = (j : ℕ) → j < n → ends_line (get_or text j 0) ≡ true → ⊥
 
 -- the bytes below that place are a plain line
-plain_front : (text : List ℕ) (n : ℕ) → NoEndBelow text n → is_plain_line (take n text) ≡ true
+plain_front : (text : List ℕ) (n : ℕ) → NoEndBelow text n → has_no_ending (take n text) ≡ true
 plain_front text zero none = refl
 plain_front [] (suc n) none = refl
 plain_front (byte ∷ text) (suc n) none =

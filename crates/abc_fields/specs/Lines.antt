@@ -51,8 +51,8 @@ text_of [] = []
 text_of (p ∷ ps) = p.content ++ (p.ending ++ text_of ps)
 
 -- no byte of the line is a line feed or a carriage return
-abbrev pub is_plain_line : List ℕ → Bool
-is_plain_line line = list_all (λ byte. not (ends_line byte)) line
+abbrev pub has_no_ending : List ℕ → Bool
+has_no_ending line = list_all (λ byte. not (ends_line byte)) line
 
 -- an ending before the rest of its text: a line feed, a carriage return and a line feed, or a carriage return that no line feed follows
 abbrev pub IsEnding : List ℕ → List ℕ → Type 0
@@ -67,7 +67,7 @@ pub record IsUnended (p : Piece) (later : List Piece) : Type 0 where
 
 -- a piece, before the pieces that follow it
 pub record IsPiece (p : Piece) (later : List Piece) : Type 0 where
-  pub content : is_plain_line p.content ≡ true
+  pub content : has_no_ending p.content ≡ true
   pub ending : IsEnding p.ending (text_of later) ⊎ IsUnended p later
 
 abbrev pub ArePieces : List Piece → Type 0

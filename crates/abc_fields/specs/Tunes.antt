@@ -2,7 +2,7 @@
 use Rattle.std.specs.Prelude.{◌≡◌, ℕ, ◌≤◌, List, length, [], ◌∷◌, ◌++◌, codes, Bool, true, false, ◌||◌, if◌then◌else◌}
 use Rattle.std.specs.List.{AllByRecursion}
 use Rattle.abc_fields.specs.Bytes.{line_feed, is_all_blank, begins_with}
-use Rattle.abc_fields.specs.Lines.{is_plain_line}
+use Rattle.abc_fields.specs.Lines.{has_no_ending}
 
 -- an empty line
 abbrev pub is_empty_line : List ℕ → Bool
@@ -43,7 +43,7 @@ has_key (line ∷ lines) = is_key_line line || has_key lines
 -- TUNE TEXTS
 -- a line that may stand in the text of a tune
 pub record IsTuneLine (line : List ℕ) : Type 0 where
-  pub plain : is_plain_line line ≡ true
+  pub plain : has_no_ending line ≡ true
   pub inside : ends_tune line ≡ false
 
 -- lines of a tune, each ended by a line feed, and whether one of them gives the key

@@ -2,7 +2,7 @@
 ghost use Rattle.std.specs.Prelude.{◌≡◌, ℕ, ◌<◌, ◌≤◌, ◌⊎◌, ◌||◌, [], ◌∷◌, ◌++◌, List, Bool, true, false, length, None, Ok, Err, ⊤, IfOk, IfErr, MatchResult};
 ghost use Rattle.std.specs.List.{AllByRecursion};
 ghost use Rattle.abc_fields.specs.Bytes.{line_feed};
-ghost use Rattle.abc_fields.specs.Lines.{is_plain_line, lines_of};
+ghost use Rattle.abc_fields.specs.Lines.{has_no_ending, lines_of};
 ghost use Rattle.abc_fields.specs.Tunes.{is_empty_line, is_tune_start, is_key_line, tune_run, tune_runs, IsTuneLine, IsOpenText, IsTextWithin};
 ghost use Rattle.abc_fields.specs.Books.{has_return, begins_with_tune, is_plain, runs_answer, book_answer};
 ghost use Rattle.abc_fields.specs.OpenBooks.{open_answer, KeepsAnswer};
@@ -14,7 +14,7 @@ use std::alloc::{AllocError, AllocFailed, Global};
 use std::marker::Model;
 use thiserror::Error;
 
-/// How many bytes a book has at most.
+/// How many bytes a book has at most (this archive's profile).
 pub const LONGEST_BOOK: usize = 4_000_000;
 
 /// Why a tune is refused.
@@ -34,7 +34,7 @@ pub enum BookFault {
     /// It has more than `LONGEST_BOOK` bytes.
     #[error("the book is too long")]
     BookTooLong,
-    /// It has a carriage return, begins with a byte order mark, or has something before its first tune.
+    /// It has a carriage return, begins with a byte order mark, or its first line that is not empty does not begin with `X:`.
     #[error("the book is not plain")]
     NotPlain,
     /// No line begins with `X:`.
@@ -55,7 +55,7 @@ impl From<AllocError> for BookFault {
     ghost from_gives = { λ _ e. e ≡ OutOfMemory };
 
     fn from(_e: AllocError) -> BookFault {
-        BookFault::OutOfMemory
+        Self::OutOfMemory
     }
 }
 
@@ -65,8 +65,8 @@ impl<T: Drop> From<AllocFailed<T>> for BookFault {
 
     ghost from_gives = { λ _ e. e ≡ OutOfMemory };
 
-    fn from(_e: AllocFailed<T>) -> BookFault {
-        BookFault::OutOfMemory
+    fn from(e: AllocFailed<T>) -> BookFault {
+        BookFault::from(AllocError::from(e))
     }
 }
 
@@ -199,7 +199,7 @@ fn take_line(
     line: &[u8],
     longest: usize,
 ) -> Result<Option<OpenTune>, BookFault>
-    requires { is_plain_line line.now ≡ true }
+    requires { has_no_ending line.now ≡ true }
     ensures { KeepsAnswer result (λ rest. open_answer longest tunes.old.items started (line.now ∷ rest)) (λ now. open_answer longest tunes.new.items now) (λ _. ⊤) }
 {
     if starts_tune(line) {

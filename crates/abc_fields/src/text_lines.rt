@@ -8,16 +8,19 @@ ghost use Rattle.abc_fields.specs.LineEndings.{ending_length};
 use memchr::memchr2;
 use std::marker::Model;
 
-/// A line of a text, without what ends it. `from` and `to` are its places in the text, in bytes from 0, the second past its end.
-#[derive(Clone, Copy)]
+/// A line of a text, without what ends it.
+#[derive(Clone, Copy, Debug)]
 pub struct Line<'a> {
+    /// The index of its first byte in the text.
     pub from: usize,
+    /// The index past its last byte.
     pub to: usize,
+    /// Its bytes.
     pub text: &'a [u8],
 }
 
-/// The lines of a text, in order, as parts of it (ABC 2.1, 2.2): a line ends at a line feed, at a carriage return, or at both in
-/// this order, and the last line also at the text's end, where it has a byte. A clause sees the list of the lines that are left.
+/// The lines of a text, in order, as parts of it (ABC 2.1, 2.2): a line ends at a line feed, at a carriage return and a line feed, or at a
+/// carriage return alone, and the last line also at the text's end, where it has a byte. A clause sees the list of the lines that are left.
 #[derive(Drop)]
 pub struct Lines<'a> {
     rest: &'a [u8],

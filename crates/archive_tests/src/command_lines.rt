@@ -1,8 +1,11 @@
 // What the words of the program ask for.
 use clap::error::ErrorKind;
 use std::alloc::Global;
+use std::cell::RefCell;
+use std::fmt::Display;
+use std::io;
 use std::test::Fail;
-use tune_cli::{Action, WordsFault, action};
+use tune_cli::{Action, WordsFault, action, tell};
 
 fn words(alloc: Global, words: &[&str]) -> Result<Vec<String>, Fail> {
     let mut list = Vec::new(alloc);
@@ -42,6 +45,97 @@ fn reads_the_words_of_the_program(rt: HostRuntime) -> Result<(), Fail> {
     assert_eq!(&rt;
         fault(rt.alloc(), &["tunes", "list", "-h"])?,
         Some(ErrorKind::DisplayHelp)
+    );
+    Ok(())
+}
+
+// What was printed, and on which of the two streams.
+#[derive(Drop)]
+struct Screen {
+    alloc: Global,
+    output: RefCell<String>,
+    errors: RefCell<String>,
+}
+
+impl Screen {
+    fn new(alloc: Global) -> Screen {
+        Screen {
+            alloc,
+            output: RefCell::new(String::new(alloc)),
+            errors: RefCell::new(String::new(alloc)),
+        }
+    }
+}
+
+fn add<D: Display + Drop>(
+    alloc: Global,
+    stream: &RefCell<String>,
+    value: D,
+    end: &str,
+) -> io::Result<()> {
+    let text = format!(in alloc; "{value}{end}")?;
+    match stream.try_borrow_mut() {
+        Ok(mut stream) => Ok(stream.push_str(text.as_str())?),
+        Err(_) => Err(io::Error::from(io::ErrorKind::Other)),
+    }
+}
+
+impl Print for Screen {
+    fn print<D: Display + Drop>(&self, value: D) -> io::Result<()> {
+        add(self.alloc, &self.output, value, "")
+    }
+
+    fn println<D: Display + Drop>(&self, value: D) -> io::Result<()> {
+        add(self.alloc, &self.output, value, "\n")
+    }
+
+    fn write_all(&self, _bytes: &[u8]) -> io::Result<()> {
+        Err(io::Error::from(io::ErrorKind::Other))
+    }
+}
+
+impl Eprint for Screen {
+    fn eprint<D: Display + Drop>(&self, value: D) -> io::Result<()> {
+        add(self.alloc, &self.errors, value, "")
+    }
+
+    fn eprintln<D: Display + Drop>(&self, value: D) -> io::Result<()> {
+        add(self.alloc, &self.errors, value, "\n")
+    }
+}
+
+// The status that is told for these words, and whether something was printed on either stream.
+fn told(alloc: Global, given: &[&str]) -> Result<(u8, bool, bool), Fail> {
+    let words = words(alloc, given)?;
+    let screen = Screen::new(alloc);
+    match action(alloc, words.as_slice()) {
+        Ok(_) => Err(Fail::from("an action")),
+        Err(fault) => {
+            let status = tell(&screen, &fault)?;
+            let Screen {
+                alloc: _,
+                output,
+                errors,
+            } = screen;
+            let output = output.into_inner();
+            let errors = errors.into_inner();
+            Ok((status, output.contains("list"), errors.contains("tunes")))
+        }
+    }
+}
+
+#[test]
+fn tells_why_words_ask_for_nothing(rt: HostRuntime) -> Result<(), Fail> {
+    assert_eq!(&rt; told(rt.alloc(), &["tunes", "--help"])?, (0, true, false));
+    assert_eq!(&rt;
+        told(rt.alloc(), &["tunes", "list", "--help"])?,
+        (0, true, false)
+    );
+    assert_eq!(&rt; told(rt.alloc(), &["tunes"])?, (2, false, true));
+    assert_eq!(&rt; told(rt.alloc(), &["tunes", "lists"])?, (2, false, true));
+    assert_eq!(&rt;
+        told(rt.alloc(), &["tunes", "list", "more"])?,
+        (2, false, true)
     );
     Ok(())
 }

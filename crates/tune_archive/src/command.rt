@@ -77,7 +77,7 @@ pub enum Refusal {
     /// The device failed in an earlier call.
     #[error("the archive is closed")]
     Closed,
-    /// The book has a carriage return, begins with a byte order mark, or has something before its first tune.
+    /// The book has a carriage return, begins with a byte order mark, or its first line that is not empty does not begin with `X:`.
     #[error("the book is not plain")]
     NotPlain,
 }
@@ -106,7 +106,7 @@ impl From<AllocError> for Refusal {
     ghost from_gives = { λ _ refusal. refusal ≡ OutOfMemory };
 
     fn from(_e: AllocError) -> Refusal {
-        Refusal::OutOfMemory
+        Self::OutOfMemory
     }
 }
 
@@ -116,7 +116,7 @@ impl<T: Drop> From<AllocFailed<T>> for Refusal {
 
     ghost from_gives = { λ _ refusal. refusal ≡ OutOfMemory };
 
-    fn from(_e: AllocFailed<T>) -> Refusal {
-        Refusal::OutOfMemory
+    fn from(e: AllocFailed<T>) -> Refusal {
+        Refusal::from(AllocError::from(e))
     }
 }

@@ -29,7 +29,8 @@ pub trait TuneStore {
     /// Whether a file stands for a state.
     ghost stands_for: { List ℕ → State → Type 0 } = { λ _ _. ⊥ };
 
-    /// Carries out a command, or refuses it.
+    /// Carries out a command, or refuses it. The refusals are those of the command, `OutOfMemory`, `Device` where the device failed, and
+    /// `Closed` where it failed before. After each but `Device` the store is as it was.
     fn apply(&mut self, command: &Command) -> Result<Reply, Refusal>
         ensures answer { Answers (standing self.old) command.now result (standing self.new) }
         ensures refused { IfErr result (λ refusal. refusal ≢ Refusal.Device → standing self.new ≡ standing self.old) }

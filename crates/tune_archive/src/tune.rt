@@ -4,23 +4,26 @@ ghost use Rattle.std.specs.Prelude.{◌≡◌, IfOk};
 use abc_fields::TuneText;
 use std::alloc::{AllocError, Global};
 
-/// How many bytes the text of a tune has at most.
+/// How many bytes the text of a tune has at most (this archive's profile).
 pub const LONGEST_TEXT: usize = 16_000;
 
-/// How many tunes an archive has at most.
+/// How many tunes an archive has at most (this archive's profile).
 pub const MOST_TUNES: usize = 20_000;
 
-/// The greatest number that a tune may have. The least is 1.
+/// The greatest number that a tune may have (this archive's profile). The least is 1.
 pub const GREATEST_NUMBER: u32 = 999_999;
 
-/// The greatest revision that a tune may have. The least is 1.
+/// The greatest revision that a tune may have (this archive's profile). The least is 1.
 pub const GREATEST_REVISION: u16 = 9_999;
 
-/// A tune of an archive: its number; its revision, which is 1 where it was imported and one more with each replacement; and its text.
+/// A tune of an archive.
 #[derive(Debug, Drop)]
 pub struct Tune {
+    /// Its number, from 1 on: no other tune has it.
     pub number: u32,
+    /// Its revision: 1 where it was imported, and one more with each replacement.
     pub revision: u16,
+    /// Its text.
     pub text: TuneText,
 }
 

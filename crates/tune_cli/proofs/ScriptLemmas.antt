@@ -51,11 +51,11 @@ turn_answered input rest left was now s mid P c result r l (inr h) =
     turn_goes input rest left was now s mid P c result h.0 (stays_open h.0) r l refl h.1 h.2 h.3 h.4
 
 -- after a text for which there is no memory
-pub turn_no_room : (input : List ℕ) (rest : List ℕ) (left was now : Option (List ℕ)) (s : Standing) (P : List State → Type 0) (c : Command) (result : Option RunEnd) → reading_of input ≡ whole_command c rest → left ≡ Some rest → P []
+pub turn_no_room : (input : List ℕ) (rest : List ℕ) (left was now : Option (List ℕ)) (s : Standing) (P : List State → Type 0) (book : List ℕ) (result : Option RunEnd) → reading_of input ≡ whole_command (of.Import book) rest → left ≡ Some rest → P []
     → Writes was now (refusal_bytes OutOfMemory) None result → TurnOf input left was now s s P result
-turn_no_room input rest left was now s P c result r l p (inl fault) = rw fault tt
-turn_no_room input rest left was now s P c result r l p (inr h) =
-    rw h.0 (rest, l, refusal_bytes OutOfMemory, [], h.1, p, λ n more later end t unread k. after_no_room n s t input rest more unread later end c r k)
+turn_no_room input rest left was now s P book result r l p (inl fault) = rw fault tt
+turn_no_room input rest left was now s P book result r l p (inr h) =
+    rw h.0 (rest, l, refusal_bytes OutOfMemory, [], h.1, p, λ n more later end t unread k. after_no_room n s t input rest more unread later end book r k)
 
 -- after a text that is too long
 pub turn_over : (input : List ℕ) (rest : List ℕ) (left was now : Option (List ℕ)) (s : Standing) (P : List State → Type 0) (result : Option RunEnd) → reading_of input ≡ long_text rest → left ≡ Some rest → P []
@@ -115,7 +115,7 @@ pub import_no_room : (len : ℕ) (after left was now : Option (List ℕ)) (s : S
 import_no_room len None left was now s P result got e h c p w = tt
 import_no_room len (Some xs) None was now s P result got e h c p w = absurd c
 import_no_room len (Some xs) (Some ys) was now s P result got e h c p w =
-    λ input r. turn_no_room input ys (Some ys) was now s P (of.Import got) result (r ∙ ap (reading_of_text len) c ∙ text_whole len got ys e h) refl p w
+    λ input r. turn_no_room input ys (Some ys) was now s P got result (r ∙ ap (reading_of_text len) c ∙ text_whole len got ys e h) refl p w
 
 -- a book that was read and imported
 pub import_whole : (len : ℕ) (after left was now : Option (List ℕ)) (s mid : Standing) (P : List State → Type 0) (result : Option RunEnd) (got : List ℕ) → length got ≡ len → len ≤ LONGEST_BOOK → Consumes after left got

@@ -2,7 +2,8 @@
 use Rattle.std.specs.Prelude.{◌≡◌, ℕ, List, [], codes, Option, None, option_map, true}
 use Rattle.clap.specs.Words.{App, new_app, subcommand_of, with_subcommand, fault_of, Kinds, HasKind, kind_of}
 use Rattle.clap.specs.Simple.{on_top}
-use Rattle.clap.specs.declared.error.kind.ErrorKind.TheVariants.{OutOfMemory}
+use Rattle.clap.specs.declared.error.kind.ErrorKind.{ErrorKind}
+use Rattle.clap.specs.declared.error.kind.ErrorKind.TheVariants.{DisplayHelp, OutOfMemory}
 use Rattle.tune_cli.specs.declared.command_line.Action.{Action}
 use Rattle.tune_cli.specs.declared.command_line.Action.TheVariants as action
 use Rattle.tune_cli.specs.declared.command_line.WordsFault.{WordsFault}
@@ -32,3 +33,13 @@ IsWantOfMemory Missing = ⊥
 abbrev pub FaultFits : List (List ℕ) → WordsFault → Type 0
 FaultFits words (Clap error) = HasKind (faults_in words) error
 FaultFits words Missing = (subcommand_in words ≡ None) × (faults_in words ≡ [])
+
+-- the status that goes with a kind of error
+abbrev pub status_of_kind : ErrorKind → ℕ
+status_of_kind DisplayHelp = 0
+status_of_kind OutOfMemory = 1
+status_of_kind _ = 2
+
+abbrev pub status_of_fault : WordsFault → ℕ
+status_of_fault (Clap error) = status_of_kind (kind_of error)
+status_of_fault Missing = 2

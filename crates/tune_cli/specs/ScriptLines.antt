@@ -1,8 +1,9 @@
 -- What the words of a script line ask for.
-use Rattle.std.specs.Prelude.{ℕ, List, [], ◌∷◌, length, codes, ◌&&◌, nat_lt, ◌+◌, ◌-◌, ◌*◌, if◌then◌else◌, Option, None, Some, slice_index}
+use Rattle.std.specs.Prelude.{ℕ, List, [], ◌∷◌, length, codes, ◌&&◌, nat_lt, nat_le, ◌+◌, ◌-◌, ◌*◌, if◌then◌else◌, Option, None, Some, slice_index}
 use Rattle.std.specs.List.{list_all}
 use Rattle.std.specs.Char.{is_ascii_digit}
 use Rattle.std.specs.Str.{bytes_eq}
+use Rattle.tune_cli.specs.declared.script_line.TheConstants.{MOST_DIGITS}
 use Rattle.tune_cli.specs.declared.script_line.ScriptLine.{ScriptLine}
 use Rattle.tune_cli.specs.declared.script_line.ScriptLine.TheVariants.{Blank, Bad, Import, Show}
 
@@ -15,9 +16,9 @@ abbrev pub value_from : ℕ → List ℕ → ℕ
 value_from value [] = value
 value_from value (digit ∷ digits) = value_from (value * 10 + (digit - zero_digit)) digits
 
--- a number: 1 to 9 decimal digits, of which the first may be zeros
+-- a number: decimal digits, of which the first may be zeros
 abbrev pub number_of : List ℕ → Option ℕ
-number_of word = if nat_lt 0 (length word) && nat_lt (length word) 10 && list_all is_ascii_digit word then Some (value_from 0 word) else None
+number_of word = if nat_lt 0 (length word) && nat_le (length word) MOST_DIGITS && list_all is_ascii_digit word then Some (value_from 0 word) else None
 
 abbrev pub import_of : Option ℕ → ScriptLine
 import_of None = Bad

@@ -91,7 +91,7 @@ pub data Script : ℕ → Standing → List ℕ → List ℕ → List State → 
       → Script n s rest out states end t unread
       → Script (suc n) s input (refusal_bytes BookTooLong ++ out) states end t unread
   -- memory for the text of the command was refused: the command does not take place
-  after_no_room : (n : ℕ) (s t : Standing) (input rest out unread : List ℕ) (states : List State) (end : RunEnd) (c : Command) → reading_of input ≡ whole_command c rest
+  after_no_room : (n : ℕ) (s t : Standing) (input rest out unread : List ℕ) (states : List State) (end : RunEnd) (book : List ℕ) → reading_of input ≡ whole_command (of.Import book) rest
       → Script n s rest out states end t unread
       → Script (suc n) s input (refusal_bytes OutOfMemory ++ out) states end t unread
   after_answer : (n : ℕ) (s mid t : Standing) (input rest out unread : List ℕ) (states : List State) (end : RunEnd) (c : Command) (answer : Result Reply Refusal) → reading_of input ≡ whole_command c rest

@@ -1,13 +1,15 @@
 // What the words of the program ask for, and the answer to it.
 ghost use Rattle.std.specs.Prelude.{◌≡◌, [], Some, IfOk, IfErr, map, string_bytes};
-ghost use Rattle.tune_cli.specs.CommandLine.{tunes_app, subcommand_in, name_of, faults_in, FaultFits};
+ghost use Rattle.tune_cli.specs.CommandLine.{tunes_app, subcommand_in, name_of, faults_in, FaultFits, status_of_fault};
 ghost use Rattle.clap.specs.Words.{app_of};
 ghost use Rattle.tune_cli.specs.Acts.{Acts, status_of};
 
 use crate::command_line::{Action, WordsFault};
 use crate::runs::{RunEnd, run};
 use clap::Command;
+use clap::error::ErrorKind;
 use std::alloc::{AllocError, Global};
+use std::io;
 use std::io::{Read, Write};
 use tune_archive::ListArchive;
 
@@ -15,7 +17,7 @@ use tune_archive::ListArchive;
 ///
 /// The error is `Clap` where the words do not parse, where help is asked for, and for want of memory; it is `Missing`
 /// where they parse and have no subcommand.
-pub fn action<'a>(alloc: Global, words: &'a [String]) -> Result<Action, WordsFault>
+pub fn action(alloc: Global, words: &[String]) -> Result<Action, WordsFault>
     ensures subcommand { IfOk result (λ action. subcommand_in (map string_bytes words.entry.now) ≡ Some (name_of action)) }
     ensures parsed { IfOk result (λ _. faults_in (map string_bytes words.entry.now) ≡ []) }
     ensures fault { IfErr result (FaultFits (map string_bytes words.entry.now)) }
@@ -41,6 +43,31 @@ fn command_line<'a>(alloc: Global) -> Result<Command<'a>, AllocError>
         .about("An archive of tunes in ABC notation")
         .disable_help_subcommand(true)
         .subcommand(list)
+}
+
+/// Says why words ask for nothing, and gives the status: help, on standard output, with 0; want of memory, there too, with 1; anything else on
+/// standard error, with 2. The error is that of the stream.
+pub fn tell<T: Print + Eprint>(rt: &T, fault: &WordsFault) -> io::Result<u8>
+    ensures { IfOk result (λ status. status ≡ status_of_fault fault.now) }
+{
+    let WordsFault::Clap(error) = fault else {
+        eprintln!(rt; "tunes: no command is given; `tunes --help` lists them")?;
+        return Ok(2);
+    };
+    match error.kind() {
+        ErrorKind::OutOfMemory => {
+            println!(rt; "refused 21 OutOfMemory")?;
+            Ok(1)
+        }
+        ErrorKind::DisplayHelp => {
+            error.print(rt)?;
+            Ok(0)
+        }
+        _ => {
+            error.print(rt)?;
+            Ok(2)
+        }
+    }
 }
 
 /// Does what is asked, and gives the status: 0 where the script was run to its end, and else 1.

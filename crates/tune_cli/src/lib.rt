@@ -8,7 +8,7 @@ mod reply;
 mod runs;
 mod script_line;
 
-pub use actions::{act, action};
+pub use actions::{act, action, tell};
 pub use command_line::{Action, WordsFault};
 pub use runs::{MOST_LINES, RunEnd, run};
 pub use script_line::LONGEST_LINE;

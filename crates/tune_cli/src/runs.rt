@@ -28,11 +28,11 @@ pub enum RunEnd {
     WriterFault,
     /// A command was answered that the device failed, in it or before.
     DeviceFault,
-    /// Memory was refused before the first line. A run needs none at present, and never ends so.
+    /// Memory was refused before the first line, so that nothing was read.
     OutOfMemory,
 }
 
-/// How many lines of a script are read at most.
+/// How many lines of a script are read at most (this archive's script language).
 pub const MOST_LINES: u32 = 1_000_000;
 
 /// Carries out the commands of a script, and writes and flushes the reply to each before the next line is looked at.

@@ -7,12 +7,12 @@ ghost use Rattle.tune_cli.specs.ScriptLines.{meaning_of, number_of};
 
 use bstr::ByteSlice;
 
-/// How many bytes a line of a script has at most before its line feed.
+/// How many bytes a line of a script has at most before its line feed, or the input's end (this archive's script language).
 pub const LONGEST_LINE: usize = 4_096;
 
 /// What a script line asks for.
 #[derive(Clone, Copy, Debug, PartialEq, Eq)]
-pub enum ScriptLine {
+pub(crate) enum ScriptLine {
     /// It has no word.
     Blank,
     /// It is no command.
@@ -67,11 +67,13 @@ fn two_words(name: &[u8], word: &[u8]) -> ScriptLine
     }
 }
 
-// A number of 1 to 9 digits.
+const MOST_DIGITS: usize = 9;
+
+// A number of at most `MOST_DIGITS` digits.
 fn number(word: &[u8]) -> Option<u32>
     ensures { result ≡ number_of word.now }
 {
-    if word.is_empty() || word.len() > 9 {
+    if word.is_empty() || word.len() > MOST_DIGITS {
         return None;
     }
     let mut value = 0;

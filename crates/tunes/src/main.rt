@@ -1,17 +1,14 @@
 //! The program `tunes`, which keeps tunes in ABC notation: `tunes list` runs the script of standard input on an empty archive in memory.
 #![tactic(auto)]
 
-use clap::error::ErrorKind;
-use std::io::{BufReader, BufWriter, Write};
+use std::io::{BufReader, BufWriter};
 use std::process::ExitCode;
 use std::rt::Runtime;
 use std::{env, io};
-use tune_cli::{Action, WordsFault, act, action};
+use tune_cli::{Action, act, action, tell};
 
 /// How many bytes are read at once, and how many of a reply are written at once.
 const BUFFER: usize = 65_536;
-
-const DONE: u8 = 0;
 
 const FAILED: u8 = 1;
 
@@ -49,25 +46,4 @@ fn perform<R: Runtime + AllocGlobal>(rt: &R, action: &Action) -> io::Result<u8> 
     let mut reader = BufReader::with_capacity(rt.alloc(), BUFFER, rt.reader())?;
     let mut writer = BufWriter::with_capacity(rt.alloc(), BUFFER, io::writer(rt))?;
     Ok(act(rt, action, &mut reader, &mut writer))
-}
-
-// Says why the words ask for nothing.
-fn tell<R: Runtime + AllocGlobal>(rt: &R, fault: &WordsFault) -> io::Result<u8> {
-    match fault {
-        WordsFault::Missing => {
-            eprintln!(rt; "tunes: no command is given; `tunes --help` lists them")?;
-            Ok(BAD_WORDS)
-        }
-        WordsFault::Clap(error) => match error.kind() {
-            ErrorKind::OutOfMemory => Err(io::Error::from(io::ErrorKind::OutOfMemory)),
-            ErrorKind::DisplayHelp => {
-                error.print(rt)?;
-                Ok(DONE)
-            }
-            _ => {
-                error.print(rt)?;
-                Ok(BAD_WORDS)
-            }
-        },
-    }
 }
