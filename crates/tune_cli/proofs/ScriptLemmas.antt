@@ -7,7 +7,6 @@ use Rattle.std.proofs.lemmas.Bool.{le-ltb, lt-ltb}
 use Rattle.tune_archive.specs.State.{State, Standing}
 use Rattle.tune_archive.specs.Answers.{Answers, passed, stays_open}
 use Rattle.tune_archive.specs.declared.command.Command.{Command}
-use Rattle.tune_archive.specs.declared.command.Command.TheVariants as of
 use Rattle.tune_archive.specs.declared.command.Reply.{Reply}
 use Rattle.tune_archive.specs.declared.command.Refusal.{Refusal}
 use Rattle.tune_archive.specs.declared.command.Refusal.TheVariants.{BookTooLong, OutOfMemory}
@@ -18,7 +17,8 @@ use Rattle.tune_cli.specs.declared.script_line.ScriptLine.{ScriptLine}
 use Rattle.tune_cli.specs.declared.runs.RunEnd.{RunEnd}
 use Rattle.tune_cli.specs.declared.runs.RunEnd.TheVariants.{Ended, LineBound, LongLine, ReaderFault, WriterFault, DeviceFault}
 use Rattle.tune_cli.specs.declared.runs.RunEnd.TheVariants as run
-use Rattle.tune_cli.specs.ScriptLines.{meaning_of}
+use Rattle.tune_cli.specs.declared.script_line.BookUse.{BookUse}
+use Rattle.tune_cli.specs.ScriptLines.{meaning_of, command_of}
 use Rattle.tune_cli.specs.Reads.{before_feed, after_feed, has_feed, IsLineRead, TakesLine}
 use Rattle.tune_cli.specs.Replies.{answer_bytes, refusal_bytes, bad_line_bytes}
 use Rattle.tune_cli.specs.Scripts.{reading_of, reading_of_text, reading_of_meaning, reading_of_line, line_text, long_line, blank_line, bad_line, cut_text, long_text, whole_command, Script, line_bound, ended, device_fault, at_long_line, at_cut_text, after_blank_line, after_bad_line, after_long_text, after_no_room, after_answer, Told, RunsScript, TellsScript}
@@ -51,11 +51,11 @@ turn_answered input rest left was now s mid P c result r l (inr h) =
     turn_goes input rest left was now s mid P c result h.0 (stays_open h.0) r l refl h.1 h.2 h.3 h.4
 
 -- after a text for which there is no memory
-pub turn_no_room : (input : List ℕ) (rest : List ℕ) (left was now : Option (List ℕ)) (s : Standing) (P : List State → Type 0) (book : List ℕ) (result : Option RunEnd) → reading_of input ≡ whole_command (of.Import book) rest → left ≡ Some rest → P []
+pub turn_no_room : (input : List ℕ) (rest : List ℕ) (left was now : Option (List ℕ)) (s : Standing) (P : List State → Type 0) (book_use : BookUse) (book : List ℕ) (result : Option RunEnd) → reading_of input ≡ whole_command (command_of book_use book) rest → left ≡ Some rest → P []
     → Writes was now (refusal_bytes OutOfMemory) None result → TurnOf input left was now s s P result
-turn_no_room input rest left was now s P book result r l p (inl fault) = rw fault tt
-turn_no_room input rest left was now s P book result r l p (inr h) =
-    rw h.0 (rest, l, refusal_bytes OutOfMemory, [], h.1, p, λ n more later end t unread k. after_no_room n s t input rest more unread later end book r k)
+turn_no_room input rest left was now s P book_use book result r l p (inl fault) = rw fault tt
+turn_no_room input rest left was now s P book_use book result r l p (inr h) =
+    rw h.0 (rest, l, refusal_bytes OutOfMemory, [], h.1, p, λ n more later end t unread k. after_no_room n s t input rest more unread later end book_use book r k)
 
 -- after a text that is too long
 pub turn_over : (input : List ℕ) (rest : List ℕ) (left was now : Option (List ℕ)) (s : Standing) (P : List State → Type 0) (result : Option RunEnd) → reading_of input ≡ long_text rest → left ≡ Some rest → P []
@@ -84,46 +84,46 @@ turn_long input left was now s P result r l p (inl fault) = rw fault tt
 turn_long input left was now s P result r l p (inr h) = rw h.0 (drop (LONGEST_LINE + 1) input, l, bad_line_bytes, [], h.1, p, λ n. at_long_line n s input r)
 
 -- TEXTS
-text_cut : (len : ℕ) (rest : List ℕ) → length rest < len → reading_of_text len rest ≡ cut_text
-text_cut len rest h = rw (lt-ltb (length rest) len h) refl
+text_cut : (book_use : BookUse) (len : ℕ) (rest : List ℕ) → length rest < len → reading_of_text book_use len rest ≡ cut_text
+text_cut book_use len rest h = rw (lt-ltb (length rest) len h) refl
 
-text_over : (len : ℕ) (got left : List ℕ) → length got ≡ len → LONGEST_BOOK < len → reading_of_text len (got ++ left) ≡ long_text left
-text_over len got left e h =
+text_over : (book_use : BookUse) (len : ℕ) (got left : List ℕ) → length got ≡ len → LONGEST_BOOK < len → reading_of_text book_use len (got ++ left) ≡ long_text left
+text_over book_use len got left e h =
     rw (le-ltb (length (got ++ left)) len (omega (arith, length-append got left)), lt-ltb LONGEST_BOOK len h, drop_at got left len e) refl
 
-text_whole : (len : ℕ) (got left : List ℕ) → length got ≡ len → len ≤ LONGEST_BOOK → reading_of_text len (got ++ left) ≡ whole_command (of.Import got) left
-text_whole len got left e h =
+text_whole : (book_use : BookUse) (len : ℕ) (got left : List ℕ) → length got ≡ len → len ≤ LONGEST_BOOK → reading_of_text book_use len (got ++ left) ≡ whole_command (command_of book_use got) left
+text_whole book_use len got left e h =
     rw (le-ltb (length (got ++ left)) len (omega (arith, length-append got left)), le-ltb LONGEST_BOOK len h, drop_at got left len e, take_at got left len e) refl
 
 -- a book that the input's end cuts
-pub import_cut : (len : ℕ) (after left was now : Option (List ℕ)) (s : Standing) (P : List State → Type 0) (result : Option RunEnd) → IfSome after (λ xs. (length xs < len) × (left ≡ Some [])) → P []
-    → Writes was now bad_line_bytes (Some Ended) result → TurnsText len after left was now s s P result
-import_cut len None left was now s P result c p w = tt
-import_cut len (Some xs) left was now s P result c p w = λ input r. turn_cut input left was now s P result (r ∙ text_cut len xs c.0) c.1 p w
+pub book_cut : (book_use : BookUse) (len : ℕ) (after left was now : Option (List ℕ)) (s : Standing) (P : List State → Type 0) (result : Option RunEnd) → IfSome after (λ xs. (length xs < len) × (left ≡ Some [])) → P []
+    → Writes was now bad_line_bytes (Some Ended) result → TurnsText book_use len after left was now s s P result
+book_cut book_use len None left was now s P result c p w = tt
+book_cut book_use len (Some xs) left was now s P result c p w = λ input r. turn_cut input left was now s P result (r ∙ text_cut book_use len xs c.0) c.1 p w
 
 -- a book that is too long
-pub import_over : (len : ℕ) (after left was now : Option (List ℕ)) (s : Standing) (P : List State → Type 0) (result : Option RunEnd) (got : List ℕ) → length got ≡ len → LONGEST_BOOK < len → Consumes after left got → P []
-    → Writes was now (refusal_bytes BookTooLong) None result → TurnsText len after left was now s s P result
-import_over len None left was now s P result got e h c p w = tt
-import_over len (Some xs) None was now s P result got e h c p w = absurd c
-import_over len (Some xs) (Some ys) was now s P result got e h c p w =
-    λ input r. turn_over input ys (Some ys) was now s P result (r ∙ ap (reading_of_text len) c ∙ text_over len got ys e h) refl p w
+pub book_over : (book_use : BookUse) (len : ℕ) (after left was now : Option (List ℕ)) (s : Standing) (P : List State → Type 0) (result : Option RunEnd) (got : List ℕ) → length got ≡ len → LONGEST_BOOK < len → Consumes after left got → P []
+    → Writes was now (refusal_bytes BookTooLong) None result → TurnsText book_use len after left was now s s P result
+book_over book_use len None left was now s P result got e h c p w = tt
+book_over book_use len (Some xs) None was now s P result got e h c p w = absurd c
+book_over book_use len (Some xs) (Some ys) was now s P result got e h c p w =
+    λ input r. turn_over input ys (Some ys) was now s P result (r ∙ ap (reading_of_text book_use len) c ∙ text_over book_use len got ys e h) refl p w
 
 -- a book for which there is no memory
-pub import_no_room : (len : ℕ) (after left was now : Option (List ℕ)) (s : Standing) (P : List State → Type 0) (result : Option RunEnd) (got : List ℕ) → length got ≡ len → len ≤ LONGEST_BOOK → Consumes after left got → P []
-    → Writes was now (refusal_bytes OutOfMemory) None result → TurnsText len after left was now s s P result
-import_no_room len None left was now s P result got e h c p w = tt
-import_no_room len (Some xs) None was now s P result got e h c p w = absurd c
-import_no_room len (Some xs) (Some ys) was now s P result got e h c p w =
-    λ input r. turn_no_room input ys (Some ys) was now s P got result (r ∙ ap (reading_of_text len) c ∙ text_whole len got ys e h) refl p w
+pub book_no_room : (book_use : BookUse) (len : ℕ) (after left was now : Option (List ℕ)) (s : Standing) (P : List State → Type 0) (result : Option RunEnd) (got : List ℕ) → length got ≡ len → len ≤ LONGEST_BOOK → Consumes after left got → P []
+    → Writes was now (refusal_bytes OutOfMemory) None result → TurnsText book_use len after left was now s s P result
+book_no_room book_use len None left was now s P result got e h c p w = tt
+book_no_room book_use len (Some xs) None was now s P result got e h c p w = absurd c
+book_no_room book_use len (Some xs) (Some ys) was now s P result got e h c p w =
+    λ input r. turn_no_room input ys (Some ys) was now s P book_use got result (r ∙ ap (reading_of_text book_use len) c ∙ text_whole book_use len got ys e h) refl p w
 
 -- a book that was read and imported
-pub import_whole : (len : ℕ) (after left was now : Option (List ℕ)) (s mid : Standing) (P : List State → Type 0) (result : Option RunEnd) (got : List ℕ) → length got ≡ len → len ≤ LONGEST_BOOK → Consumes after left got
-    → CarriesOut was now s mid P (of.Import got) result → TurnsText len after left was now s mid P result
-import_whole len None left was now s mid P result got e h c w = tt
-import_whole len (Some xs) None was now s mid P result got e h c w = absurd c
-import_whole len (Some xs) (Some ys) was now s mid P result got e h c w =
-    λ input r. turn_answered input ys (Some ys) was now s mid P (of.Import got) result (r ∙ ap (reading_of_text len) c ∙ text_whole len got ys e h) refl w
+pub book_whole : (book_use : BookUse) (len : ℕ) (after left was now : Option (List ℕ)) (s mid : Standing) (P : List State → Type 0) (result : Option RunEnd) (got : List ℕ) → length got ≡ len → len ≤ LONGEST_BOOK → Consumes after left got
+    → CarriesOut was now s mid P (command_of book_use got) result → TurnsText book_use len after left was now s mid P result
+book_whole book_use len None left was now s mid P result got e h c w = tt
+book_whole book_use len (Some xs) None was now s mid P result got e h c w = absurd c
+book_whole book_use len (Some xs) (Some ys) was now s mid P result got e h c w =
+    λ input r. turn_answered input ys (Some ys) was now s mid P (command_of book_use got) result (r ∙ ap (reading_of_text book_use len) c ∙ text_whole book_use len got ys e h) refl w
 
 -- LINES
 parts_short : (line rest : List ℕ) (fed : Bool) → length line ≤ LONGEST_LINE → reading_of_line line fed rest ≡ reading_of_meaning (meaning_of (words_of (line_text fed line))) rest
@@ -171,9 +171,9 @@ from_end (Some xs) None was s P h k p = absurd k
 from_end (Some xs) (Some ys) was s P h k p = ([], ap Some (sym k ∙ h), [], [], appends_none was, p, λ n. ended n s xs (ap reading_of h))
 
 -- a line that asks for a book was read, and then the book
-pub from_text : (len : ℕ) (rest input : List ℕ) (mid left was now : Option (List ℕ)) (s t : Standing) (P : List State → Type 0) (result : Option RunEnd) → TurnsText len mid left was now s t P result → mid ≡ Some rest → reading_of input ≡ reading_of_text len rest → TurnOf input left was now s t P result
-from_text len rest input mid left was now s t P result h e r =
-    let Q : Option (List ℕ) → Type 0 = λ m. TurnsText len m left was now s t P result in subst Q e h input r
+pub from_text : (book_use : BookUse) (len : ℕ) (rest input : List ℕ) (mid left was now : Option (List ℕ)) (s t : Standing) (P : List State → Type 0) (result : Option RunEnd) → TurnsText book_use len mid left was now s t P result → mid ≡ Some rest → reading_of input ≡ reading_of_text book_use len rest → TurnOf input left was now s t P result
+from_text book_use len rest input mid left was now s t P result h e r =
+    let Q : Option (List ℕ) → Type 0 = λ m. TurnsText book_use len m left was now s t P result in subst Q e h input r
 
 -- WHOLE RUNS
 -- What the turns so far have written, the states that they passed, and what is left of the lines. `P` tells what stops since the start may have left.

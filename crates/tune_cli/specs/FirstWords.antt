@@ -2,9 +2,15 @@
 use Rattle.std.specs.Prelude.{◌≡◌, List, [], ◌∷◌, Option, None, MatchOption}
 use Rattle.std.specs.Borrow.{Bor}
 
--- these are the first three, with none after the last of fewer
-abbrev pub AreFirstThree : {A : Type 0} → List A → Option (Bor A) × Option (Bor A) × Option (Bor A) → Type 0
-AreFirstThree {A = A} words taken = MatchOption taken.0 ((words ≡ []) × (taken.1 ≡ None) × (taken.2 ≡ None))
-    (λ first. MatchOption taken.1 ((words ≡ first.now ∷ []) × (taken.2 ≡ None))
+-- a word that may be there, as it is taken
+abbrev pub Taken : Type 0 → Type 0
+Taken A = Option (Bor A)
+
+-- these are the first five, with none after the last of fewer
+abbrev pub AreFirstFive : {A : Type 0} → List A → Taken A × Taken A × Taken A × Taken A × Taken A → Type 0
+AreFirstFive {A = A} words taken = MatchOption taken.0 (words ≡ [])
+    (λ first. MatchOption taken.1 (words ≡ first.now ∷ [])
     (λ second. MatchOption taken.2 (words ≡ first.now ∷ second.now ∷ [])
-    (λ third. (rest : List A) × (words ≡ first.now ∷ second.now ∷ third.now ∷ rest))))
+    (λ third. MatchOption taken.3 (words ≡ first.now ∷ second.now ∷ third.now ∷ [])
+    (λ fourth. MatchOption taken.4 (words ≡ first.now ∷ second.now ∷ third.now ∷ fourth.now ∷ [])
+    (λ fifth. (rest : List A) × (words ≡ first.now ∷ second.now ∷ third.now ∷ fourth.now ∷ fifth.now ∷ rest))))))

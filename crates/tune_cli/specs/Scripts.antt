@@ -8,17 +8,17 @@ use Rattle.abc_fields.specs.declared.book.TheConstants.{LONGEST_BOOK}
 use Rattle.tune_archive.specs.State.{State, Standing}
 use Rattle.tune_archive.specs.Answers.{Answers, passed, stays_open}
 use Rattle.tune_archive.specs.declared.command.Command.{Command}
-use Rattle.tune_archive.specs.declared.command.Command.TheVariants as of
 use Rattle.tune_archive.specs.declared.command.Reply.{Reply}
 use Rattle.tune_archive.specs.declared.command.Refusal.{Refusal}
 use Rattle.tune_archive.specs.declared.command.Refusal.TheVariants.{BookTooLong, OutOfMemory}
 use Rattle.tune_cli.specs.declared.script_line.TheConstants.{LONGEST_LINE}
 use Rattle.tune_cli.specs.declared.script_line.ScriptLine.{ScriptLine}
-use Rattle.tune_cli.specs.declared.script_line.ScriptLine.TheVariants.{Blank, Bad, Import, Show}
+use Rattle.tune_cli.specs.declared.script_line.ScriptLine.TheVariants.{Blank, Bad, Whole, Book}
+use Rattle.tune_cli.specs.declared.script_line.BookUse.{BookUse}
 use Rattle.tune_cli.specs.declared.runs.RunEnd.{RunEnd}
 use Rattle.tune_cli.specs.declared.runs.RunEnd.TheVariants.{Ended, LineBound, LongLine, ReaderFault, WriterFault, DeviceFault}
 use Rattle.tune_cli.specs.declared.runs.RunEnd.TheVariants as run
-use Rattle.tune_cli.specs.ScriptLines.{meaning_of}
+use Rattle.tune_cli.specs.ScriptLines.{meaning_of, command_of}
 use Rattle.tune_cli.specs.Reads.{before_feed, after_feed, has_feed}
 use Rattle.tune_cli.specs.Replies.{answer_bytes, refusal_bytes, bad_line_bytes}
 
@@ -43,18 +43,18 @@ pub data Reading : Type 0 where
   -- a command, with its text
   whole_command : Command → List ℕ → Reading
 
--- a book of this length, at the front of these bytes
-abbrev pub reading_of_text : ℕ → List ℕ → Reading
-reading_of_text len rest =
+-- a book of this length and use, at the front of these bytes
+abbrev pub reading_of_text : BookUse → ℕ → List ℕ → Reading
+reading_of_text book_use len rest =
     if nat_lt (length rest) len then cut_text
     else if nat_lt LONGEST_BOOK len then long_text (drop len rest)
-    else whole_command (of.Import (take len rest)) (drop len rest)
+    else whole_command (command_of book_use (take len rest)) (drop len rest)
 
 abbrev pub reading_of_meaning : ScriptLine → List ℕ → Reading
 reading_of_meaning Blank rest = blank_line rest
 reading_of_meaning Bad rest = bad_line rest
-reading_of_meaning (Import len) rest = reading_of_text len rest
-reading_of_meaning (Show number) rest = whole_command (of.Show number) rest
+reading_of_meaning (Whole command) rest = whole_command command rest
+reading_of_meaning (Book book_use len) rest = reading_of_text book_use len rest
 
 -- a line, whether its line feed came, and what follows
 abbrev pub reading_of_line : List ℕ → Bool → List ℕ → Reading
@@ -91,7 +91,7 @@ pub data Script : ℕ → Standing → List ℕ → List ℕ → List State → 
       → Script n s rest out states end t unread
       → Script (suc n) s input (refusal_bytes BookTooLong ++ out) states end t unread
   -- memory for the text of the command was refused: the command does not take place
-  after_no_room : (n : ℕ) (s t : Standing) (input rest out unread : List ℕ) (states : List State) (end : RunEnd) (book : List ℕ) → reading_of input ≡ whole_command (of.Import book) rest
+  after_no_room : (n : ℕ) (s t : Standing) (input rest out unread : List ℕ) (states : List State) (end : RunEnd) (book_use : BookUse) (book : List ℕ) → reading_of input ≡ whole_command (command_of book_use book) rest
       → Script n s rest out states end t unread
       → Script (suc n) s input (refusal_bytes OutOfMemory ++ out) states end t unread
   after_answer : (n : ℕ) (s mid t : Standing) (input rest out unread : List ℕ) (states : List State) (end : RunEnd) (c : Command) (answer : Result Reply Refusal) → reading_of input ≡ whole_command c rest

@@ -6,6 +6,7 @@ use Rattle.tune_archive.specs.Answers.{Answers, passed, stays_open}
 use Rattle.tune_archive.specs.declared.command.Command.{Command}
 use Rattle.tune_archive.specs.declared.command.Reply.{Reply}
 use Rattle.tune_archive.specs.declared.command.Refusal.{Refusal}
+use Rattle.tune_cli.specs.declared.script_line.BookUse.{BookUse}
 use Rattle.tune_cli.specs.declared.runs.RunEnd.{RunEnd}
 use Rattle.tune_cli.specs.declared.runs.RunEnd.TheVariants.{WriterFault, DeviceFault}
 use Rattle.tune_cli.specs.Replies.{answer_bytes}
@@ -22,10 +23,10 @@ TurnOf input left was now s mid Stops (Some end) =
 abbrev pub Turns : Option (List ℕ) → Option (List ℕ) → Option (List ℕ) → Option (List ℕ) → Standing → Standing → (List State → Type 0) → Option RunEnd → Type 0
 Turns input left was now s mid Stops result = IfSome input (λ bytes. TurnOf bytes left was now s mid Stops result)
 
--- the same after a line that asks for a book of this length
-abbrev pub TurnsText : ℕ → Option (List ℕ) → Option (List ℕ) → Option (List ℕ) → Option (List ℕ) → Standing → Standing → (List State → Type 0) → Option RunEnd → Type 0
-TurnsText len after left was now s mid Stops result =
-    IfSome after (λ rest. (input : List ℕ) → reading_of input ≡ reading_of_text len rest → TurnOf input left was now s mid Stops result)
+-- the same after a line that asks for a book of this use and length
+abbrev pub TurnsText : BookUse → ℕ → Option (List ℕ) → Option (List ℕ) → Option (List ℕ) → Option (List ℕ) → Standing → Standing → (List State → Type 0) → Option RunEnd → Type 0
+TurnsText book_use len after left was now s mid Stops result =
+    IfSome after (λ rest. (input : List ℕ) → reading_of input ≡ reading_of_text book_use len rest → TurnOf input left was now s mid Stops result)
 
 -- the writer failed, or these bytes were written and the run goes on so
 abbrev pub Writes : Option (List ℕ) → Option (List ℕ) → List ℕ → Option RunEnd → Option RunEnd → Type 0

@@ -2,7 +2,7 @@
 ghost use Rattle.std.specs.Prelude.{◌≡◌, ◌≤◌, OnOk, length};
 ghost use Rattle.std.specs.Fmt.{decimal};
 ghost use Rattle.std.specs.Io.KnownBytes.{Appends};
-ghost use Rattle.tune_cli.specs.Replies.{reply_bytes, shown_bytes, refusal_bytes, answer_bytes, bad_line_bytes};
+ghost use Rattle.tune_cli.specs.Replies.{reply_bytes, shown_bytes, exported_bytes, refusal_bytes, answer_bytes, bad_line_bytes};
 
 use abc_fields::TuneFault;
 use std::io;
@@ -36,7 +36,12 @@ fn write_reply<W: Write>(writer: &mut W, reply: &Reply) -> io::Result<()>
 {
     match reply {
         Reply::Imported { first, last } => write!(writer, "ok import {first} {last}\n"),
+        Reply::Replaced { number, revision } => {
+            write!(writer, "ok replace {number} {revision}\n")
+        }
+        Reply::Deleted { number } => write!(writer, "ok delete {number}\n"),
         Reply::Shown(tune) => write_shown(writer, tune),
+        Reply::Exported(book) => write_exported(writer, book.as_slice()),
     }
 }
 
@@ -49,6 +54,14 @@ fn write_shown<W: Write>(writer: &mut W, tune: &Tune) -> io::Result<()>
     let len = text.len() as u64 + digits_of(number) + "X:\n".len() as u64;
     write!(writer, "ok show {number} {revision} {len}\nX:{number}\n")?;
     writer.write_all(text)
+}
+
+fn write_exported<W: Write>(writer: &mut W, book: &[u8]) -> io::Result<()>
+    ensures { OnOk result (Appends (W.contents writer.old) (W.contents writer.new) (exported_bytes book.now)) }
+{
+    let len = book.len();
+    write!(writer, "ok export {len}\n")?;
+    writer.write_all(book)
 }
 
 // How many digits a number has.
@@ -73,6 +86,8 @@ fn write_refusal<W: Write>(writer: &mut W, refusal: Refusal) -> io::Result<()>
         Refusal::BadTune { place, fault } => write_bad_tune(writer, place, fault),
         Refusal::NotOne { count } => write!(writer, "refused 3 NotOne {count}\n"),
         Refusal::Unknown { number } => write!(writer, "refused 4 Unknown {number}\n"),
+        Refusal::Stale { revision } => write!(writer, "refused 5 Stale {revision}\n"),
+        Refusal::Worn => writer.write_all(b"refused 6 Worn\n"),
         Refusal::ArchiveFull => writer.write_all(b"refused 9 ArchiveFull\n"),
         Refusal::NumbersSpent => writer.write_all(b"refused 10 NumbersSpent\n"),
         Refusal::BookTooLong => writer.write_all(b"refused 19 BookTooLong\n"),

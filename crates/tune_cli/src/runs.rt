@@ -7,7 +7,7 @@ ghost use Rattle.tune_cli.specs.Turns.{Turns, TurnsText, Writes, CarriesOut, nex
 
 use crate::reading::{LineRead, TextRead, read_line, read_text};
 use crate::reply::{write_answer, write_bad_line};
-use crate::script_line::{LONGEST_LINE, ScriptLine, meaning};
+use crate::script_line::{BookUse, LONGEST_LINE, ScriptLine, meaning};
 use abc_fields::LONGEST_BOOK;
 use std::alloc::Global;
 use std::io::{Read, Write};
@@ -79,8 +79,10 @@ fn turn<R: Read, W: Write, S: TuneStore>(
             match meaning(line) {
                 ScriptLine::Blank => None,
                 ScriptLine::Bad => bad_line(writer, None),
-                ScriptLine::Show(number) => carry_out(writer, store, &Command::Show(number)),
-                ScriptLine::Import(len) => import(alloc, reader, writer, store, len),
+                ScriptLine::Whole(command) => carry_out(writer, store, &command),
+                ScriptLine::Book(book_use, len) => {
+                    with_book(alloc, reader, writer, store, book_use, len)
+                }
             }
         }
     }
@@ -96,15 +98,16 @@ fn without_return(line: &[u8], fed: bool) -> &[u8]
     }
 }
 
-// Reads the book of an import, and imports it.
-fn import<R: Read, W: Write, S: TuneStore>(
+// Reads a book, and carries out the command over it.
+fn with_book<R: Read, W: Write, S: TuneStore>(
     alloc: Global,
     reader: &mut R,
     writer: &mut W,
     store: &mut S,
+    book_use: BookUse,
     len: u32,
 ) -> Option<RunEnd>
-    ensures { TurnsText len (R.remaining reader.old) (R.remaining reader.new) (W.contents writer.old) (W.contents writer.new) (S.standing store.old) (S.standing store.new)
+    ensures { TurnsText book_use len (R.remaining reader.old) (R.remaining reader.new) (W.contents writer.old) (W.contents writer.new) (S.standing store.old) (S.standing store.new)
         (Passes S.honest S.sound S.standing S.moment S.left_since S.stands_for store.old store.new) result }
 {
     let len = len as usize;
@@ -114,7 +117,7 @@ fn import<R: Read, W: Write, S: TuneStore>(
         TextRead::Cut => bad_line(writer, Some(RunEnd::Ended)),
         TextRead::Dropped if is_wanted => refuse(writer, Refusal::OutOfMemory),
         TextRead::Dropped => refuse(writer, Refusal::BookTooLong),
-        TextRead::Whole(book) => carry_out(writer, store, &Command::Import(book)),
+        TextRead::Whole(book) => carry_out(writer, store, &book_use.command(book)),
     }
 }
 

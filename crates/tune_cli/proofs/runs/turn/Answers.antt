@@ -2,8 +2,7 @@ use Rattle.std.proofs.Common.{arith, take, length, sym, ◌∙◌, ap, ◌≤◌
 use Rattle.std.proofs.lemmas.List.{length-take}
 use Rattle.tune_archive.specs.Stops.{Passes}
 use Rattle.tune_cli.specs.declared.script_line.TheConstants.{LONGEST_LINE}
-use Rattle.tune_archive.specs.declared.command.Command.TheVariants as of
-use Rattle.tune_cli.specs.declared.script_line.ScriptLine.TheVariants.{Blank, Bad, Import, Show}
+use Rattle.tune_cli.specs.declared.script_line.ScriptLine.TheVariants.{Blank, Bad, Whole, Book}
 use Rattle.tune_cli.specs.ScriptLines.{meaning_of}
 use Rattle.abc_fields.specs.Words.{words_of}
 use Rattle.tune_cli.proofs.ScriptLemmas.{from_end, from_long, from_line, from_text, turn_blank, turn_bad, turn_answered}
@@ -34,20 +33,20 @@ returns-in-Bad g c =
     (ap (λ t. meaning_of (words_of t)) (sym c.without_return-line.ensures) ∙ sym c.in-Bad.ensures)
     (λ input rest r e. turn_bad input rest (g.R.Read.remaining c.read_line.new.reader) (g.W.Write.contents c.args.writer.now) (g.W.Write.contents c.bad_line-in-Bad.new.writer) (g.S.TuneStore.standing c.args.store.now) (Passes g.S.TuneStore.honest g.S.TuneStore.sound g.S.TuneStore.standing g.S.TuneStore.moment g.S.TuneStore.left_since g.S.TuneStore.stands_for c.args.store.now c.args.store.now) c.bad_line-in-Bad.result r e (passes_none g.S.TuneStore.honest g.S.TuneStore.sound g.S.TuneStore.standing g.S.TuneStore.moment g.S.TuneStore.left_since g.S.TuneStore.stands_for c.args.store.now) c.bad_line-in-Bad.ensures)
 
-pub returns-in-Show : goal.returns-in-Show
-returns-in-Show g c =
+pub returns-in-Whole : goal.returns-in-Whole
+returns-in-Whole g c =
     let line = take c.in-Line.len c.read_line.new.line in
     let size = length-take c.in-Line.len c.read_line.new.line in
     let short : length line ≤ LONGEST_LINE = omega (arith, c.in-Line.ensures.0) in
-    from_line (g.R.Read.remaining c.args.reader.now) (g.R.Read.remaining c.read_line.new.reader) (g.R.Read.remaining c.read_line.new.reader) (g.W.Write.contents c.args.writer.now) (g.W.Write.contents c.carry_out.new.writer) (g.S.TuneStore.standing c.args.store.now) (g.S.TuneStore.standing c.carry_out.new.store) (Passes g.S.TuneStore.honest g.S.TuneStore.sound g.S.TuneStore.standing g.S.TuneStore.moment g.S.TuneStore.left_since g.S.TuneStore.stands_for c.args.store.now c.carry_out.new.store) c.carry_out.result line c.in-Line.fed (Show c.in-Show.number) c.in-Line.ensures.1 short
-    (ap (λ t. meaning_of (words_of t)) (sym c.without_return-line.ensures) ∙ sym c.in-Show.ensures)
-    (λ input rest r e. turn_answered input rest (g.R.Read.remaining c.read_line.new.reader) (g.W.Write.contents c.args.writer.now) (g.W.Write.contents c.carry_out.new.writer) (g.S.TuneStore.standing c.args.store.now) (g.S.TuneStore.standing c.carry_out.new.store) (Passes g.S.TuneStore.honest g.S.TuneStore.sound g.S.TuneStore.standing g.S.TuneStore.moment g.S.TuneStore.left_since g.S.TuneStore.stands_for c.args.store.now c.carry_out.new.store) (of.Show c.in-Show.number) c.carry_out.result r e c.carry_out.ensures)
+    from_line (g.R.Read.remaining c.args.reader.now) (g.R.Read.remaining c.read_line.new.reader) (g.R.Read.remaining c.read_line.new.reader) (g.W.Write.contents c.args.writer.now) (g.W.Write.contents c.carry_out.new.writer) (g.S.TuneStore.standing c.args.store.now) (g.S.TuneStore.standing c.carry_out.new.store) (Passes g.S.TuneStore.honest g.S.TuneStore.sound g.S.TuneStore.standing g.S.TuneStore.moment g.S.TuneStore.left_since g.S.TuneStore.stands_for c.args.store.now c.carry_out.new.store) c.carry_out.result line c.in-Line.fed (Whole c.in-Whole.command) c.in-Line.ensures.1 short
+    (ap (λ t. meaning_of (words_of t)) (sym c.without_return-line.ensures) ∙ sym c.in-Whole.ensures)
+    (λ input rest r e. turn_answered input rest (g.R.Read.remaining c.read_line.new.reader) (g.W.Write.contents c.args.writer.now) (g.W.Write.contents c.carry_out.new.writer) (g.S.TuneStore.standing c.args.store.now) (g.S.TuneStore.standing c.carry_out.new.store) (Passes g.S.TuneStore.honest g.S.TuneStore.sound g.S.TuneStore.standing g.S.TuneStore.moment g.S.TuneStore.left_since g.S.TuneStore.stands_for c.args.store.now c.carry_out.new.store) c.in-Whole.command c.carry_out.result r e c.carry_out.ensures)
 
-pub returns-in-Import : goal.returns-in-Import
-returns-in-Import g c =
+pub returns-in-Book : goal.returns-in-Book
+returns-in-Book g c =
     let line = take c.in-Line.len c.read_line.new.line in
     let size = length-take c.in-Line.len c.read_line.new.line in
     let short : length line ≤ LONGEST_LINE = omega (arith, c.in-Line.ensures.0) in
-    from_line (g.R.Read.remaining c.args.reader.now) (g.R.Read.remaining c.read_line.new.reader) (g.R.Read.remaining c.import.new.reader) (g.W.Write.contents c.args.writer.now) (g.W.Write.contents c.import.new.writer) (g.S.TuneStore.standing c.args.store.now) (g.S.TuneStore.standing c.import.new.store) (Passes g.S.TuneStore.honest g.S.TuneStore.sound g.S.TuneStore.standing g.S.TuneStore.moment g.S.TuneStore.left_since g.S.TuneStore.stands_for c.args.store.now c.import.new.store) c.import.result line c.in-Line.fed (Import c.in-Import.len) c.in-Line.ensures.1 short
-    (ap (λ t. meaning_of (words_of t)) (sym c.without_return-line.ensures) ∙ sym c.in-Import.ensures)
-    (λ input rest r e. from_text c.in-Import.len rest input (g.R.Read.remaining c.read_line.new.reader) (g.R.Read.remaining c.import.new.reader) (g.W.Write.contents c.args.writer.now) (g.W.Write.contents c.import.new.writer) (g.S.TuneStore.standing c.args.store.now) (g.S.TuneStore.standing c.import.new.store) (Passes g.S.TuneStore.honest g.S.TuneStore.sound g.S.TuneStore.standing g.S.TuneStore.moment g.S.TuneStore.left_since g.S.TuneStore.stands_for c.args.store.now c.import.new.store) c.import.result c.import.ensures e r)
+    from_line (g.R.Read.remaining c.args.reader.now) (g.R.Read.remaining c.read_line.new.reader) (g.R.Read.remaining c.with_book.new.reader) (g.W.Write.contents c.args.writer.now) (g.W.Write.contents c.with_book.new.writer) (g.S.TuneStore.standing c.args.store.now) (g.S.TuneStore.standing c.with_book.new.store) (Passes g.S.TuneStore.honest g.S.TuneStore.sound g.S.TuneStore.standing g.S.TuneStore.moment g.S.TuneStore.left_since g.S.TuneStore.stands_for c.args.store.now c.with_book.new.store) c.with_book.result line c.in-Line.fed (Book c.in-Book.book_use c.in-Book.len) c.in-Line.ensures.1 short
+    (ap (λ t. meaning_of (words_of t)) (sym c.without_return-line.ensures) ∙ sym c.in-Book.ensures)
+    (λ input rest r e. from_text c.in-Book.book_use c.in-Book.len rest input (g.R.Read.remaining c.read_line.new.reader) (g.R.Read.remaining c.with_book.new.reader) (g.W.Write.contents c.args.writer.now) (g.W.Write.contents c.with_book.new.writer) (g.S.TuneStore.standing c.args.store.now) (g.S.TuneStore.standing c.with_book.new.store) (Passes g.S.TuneStore.honest g.S.TuneStore.sound g.S.TuneStore.standing g.S.TuneStore.moment g.S.TuneStore.left_since g.S.TuneStore.stands_for c.args.store.now c.with_book.new.store) c.with_book.result c.with_book.ensures e r)
