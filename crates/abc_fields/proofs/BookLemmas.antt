@@ -1,8 +1,8 @@
 -- What a line does to the answer to a book.
-use Rattle.std.proofs.Common.{◌≡◌, ℕ, ◌+◌, ◌<◌, ◌≤◌, Bool, true, false, cond, not, eqb, ltb, ◌||◌, List, [], ◌∷◌, ◌++◌, length, map, get_or, None, Some, Ok, Err, Option, Result, refl, ap, sym, ◌∙◌, subst, is_some, arith, ◌⊎◌, inl, inr}
+use Rattle.std.proofs.Common.{◌≡◌, ℕ, ◌+◌, ◌≤◌, Bool, true, false, cond, not, eqb, ltb, ◌||◌, List, [], ◌∷◌, ◌++◌, length, map, get_or, None, Some, Ok, Err, Option, refl, ap, sym, ◌∙◌, subst, is_some, arith, ◌⊎◌, inl, inr}
 use Rattle.std.specs.Prelude.{IfOk}
 use Rattle.std.specs.List.{AllByRecursion}
-use Rattle.std.proofs.lemmas.List.{append_assoc, append-nil, length_push, get_or_default}
+use Rattle.std.proofs.lemmas.List.{append_assoc, append-nil, get_or_default}
 use Rattle.std.proofs.lemmas.Bool.{le-ltb, ltb-false, ne_eqb, eq-eqb}
 use Rattle.std.proofs.lemmas.List.Folds.{list_any_at, list_any_none}
 use Rattle.memchr.specs.Find.{IsFirstByte, is_byte}

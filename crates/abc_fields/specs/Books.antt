@@ -1,5 +1,5 @@
 -- What a book is read as: the texts of its tunes, or why it is refused.
-use Rattle.std.specs.Prelude.{◌≡◌, ◌≢◌, ℕ, ◌+◌, List, [], ◌∷◌, ◌++◌, length, Bool, true, not, ◌&&◌, ◌==◌, nat_lt, if◌then◌else◌, Result, Ok, Err}
+use Rattle.std.specs.Prelude.{ℕ, ◌+◌, List, [], ◌∷◌, ◌++◌, length, Bool, true, not, ◌&&◌, ◌==◌, nat_lt, if◌then◌else◌, Result, Ok, Err}
 use Rattle.std.specs.List.{list_any}
 use Rattle.abc_fields.specs.Bytes.{carriage_return, byte_order_mark, begins_with}
 use Rattle.abc_fields.specs.Lines.{lines_of}

@@ -2,7 +2,6 @@ use Rattle.std.proofs.Common.{◌≡◌, [], ◌∷◌, ap, sym, ◌∙◌, refl
 use Rattle.std.proofs.lemmas.Result.{err_from_is_err_and}
 use Rattle.std.proofs.lemmas.List.{append-nil}
 use Rattle.std.specs.Prelude.{⊤}
-use Rattle.abc_fields.specs.LineView.{line_span}
 use Rattle.abc_fields.specs.Lines.{Span}
 use Rattle.abc_fields.specs.Tunes.{tune_run}
 use Rattle.abc_fields.specs.OpenBooks.{open_answer}
