@@ -1,5 +1,5 @@
 -- Lists of tunes by rising number.
-use Rattle.std.proofs.Common.{◌≡◌, ℕ, zero, suc, ◌+◌, ◌<◌, ◌≤◌, max, Bool, true, false, not, cond, eqb, ltb, List, [], ◌∷◌, ◌++◌, length, take, drop, get_or, Option, Some, None, Result, Ok, Err, refl, ap, sym, subst, ◌∙◌, arith, add-zero, inl, inr, length-append}
+use Rattle.std.proofs.Common.{◌≡◌, ℕ, zero, suc, ◌+◌, ◌<◌, ◌≤◌, max, Bool, true, false, not, cond, eqb, ltb, List, [], ◌∷◌, ◌++◌, length, take, drop, get_or, Option, Some, None, Ok, Err, refl, ap, sym, subst, ◌∙◌, arith, add-zero, inl, inr, length-append}
 use Rattle.std.proofs.Math.ListN.{set}
 use Rattle.std.specs.List.{AllByRecursion, AllWithin}
 use Rattle.std.specs.Cmp.{ranked}
@@ -8,13 +8,11 @@ use Rattle.std.specs.declared.cmp.Ordering.TheVariants.{Less, Greater}
 use Rattle.std.proofs.lemmas.Bool.Decides.{nat_tests}
 use Rattle.std.proofs.lemmas.Bool.{ne_eqb, eq-eqb, eqb-true, ltb-true, cases_lt, cases_Bool}
 use Rattle.abc_fields.specs.Tunes.{IsTextWithin}
-use Rattle.tune_archive.specs.State.{State, RisesFrom, greatest, IsTune, IsState}
+use Rattle.tune_archive.specs.State.{RisesFrom, greatest, IsTune, IsState}
 use Rattle.tune_archive.specs.Step.{Outcome, tune_at, numbered, with_tune, without, revised, replace_tune}
 use Rattle.tune_archive.specs.declared.tune.Tune.{Tune}
 use Rattle.tune_archive.specs.declared.tune.TheConstants.{LONGEST_TEXT, MOST_TUNES, GREATEST_NUMBER, GREATEST_REVISION}
-use Rattle.tune_archive.specs.declared.command.Reply.{Reply}
 use Rattle.tune_archive.specs.declared.command.Reply.TheVariants.{Replaced}
-use Rattle.tune_archive.specs.declared.command.Refusal.{Refusal}
 use Rattle.tune_archive.specs.declared.command.Refusal.TheVariants.{Stale, Worn}
 
 -- the last number is the greatest

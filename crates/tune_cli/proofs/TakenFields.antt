@@ -1,5 +1,5 @@
 -- What five calls of `next` on bstr's fields take, and that each may be made.
-use Rattle.std.proofs.Common.{◌≡◌, ℕ, List, [], Option, Some, None, refl, sym, subst}
+use Rattle.std.proofs.Common.{◌≡◌, ℕ, List, [], Option, Some, None, sym, subst}
 use Rattle.std.specs.Prelude.{IfSome, MatchOption}
 use Rattle.std.specs.Borrow.{Bor}
 use Rattle.bstr.specs.Fields.{SpanChain}

@@ -1,5 +1,5 @@
 -- The first words of a line, where they are taken one by one.
-use Rattle.std.specs.Prelude.{◌≡◌, List, [], ◌∷◌, Option, None, MatchOption}
+use Rattle.std.specs.Prelude.{◌≡◌, List, [], ◌∷◌, Option, MatchOption}
 use Rattle.std.specs.Borrow.{Bor}
 
 -- a word that may be there, as it is taken

@@ -1,6 +1,5 @@
-use Rattle.std.proofs.Common.{◌≡◌, ◌∷◌, ◌++◌, take, drop, suc, arith, ap, sym, ◌∙◌, rules, add-one, Some, refl}
-use Rattle.tune_archive.specs.declared.tune.Tune.{Tune}
-use Rattle.tune_archive.specs.Step.{without, tune_at}
+use Rattle.std.proofs.Common.{◌≡◌, sym, ◌∙◌, add-one, refl}
+use Rattle.tune_archive.specs.Step.{without}
 use Rattle.tune_archive.proofs.StateLemmas.{state_after_delete, without-place}
 use Rattle.tune_archive.proofs.list.delete.Goals as goal
 

@@ -1,4 +1,4 @@
-use Rattle.std.proofs.Common.{◌≡◌, rules, sym, ℕ}
+use Rattle.std.proofs.Common.{rules, sym, ℕ}
 use Rattle.std.specs.Cmp.{ranked}
 use Rattle.std.proofs.lemmas.Fn.{always_returns_same}
 use Rattle.tune_archive.specs.declared.tune.Tune.{Tune}

@@ -1,6 +1,5 @@
-use Rattle.std.proofs.Common.{◌≡◌, ap, sym, ◌∙◌, subst}
+use Rattle.std.proofs.Common.{subst}
 use Rattle.tune_archive.specs.Step.{Outcome, tune_at}
-use Rattle.tune_archive.specs.State.{State, IsState}
 use Rattle.tune_archive.proofs.StateLemmas.{state_after_text, KeepsLimits, only_within}
 use Rattle.tune_archive.proofs.list.replace.Goals as goal
 

@@ -1,8 +1,8 @@
-use Rattle.std.proofs.Common.{◌≡◌, ◌+◌, ◌<◌, ◌≤◌, true, false, eqb, ltb, get_or, length, arith, ap, sym, ◌∙◌, refl, rules, Some, ℕ}
+use Rattle.std.proofs.Common.{◌≡◌, ◌<◌, true, eqb, ltb, get_or, length, ap, sym, ◌∙◌, refl, rules, Some}
 use Rattle.std.proofs.lemmas.Bool.{eq-eqb, lt-ltb}
 use Rattle.tune_archive.specs.declared.tune.Tune.{Tune}
 use Rattle.tune_archive.specs.declared.tune.TheConstants.{GREATEST_REVISION}
-use Rattle.tune_archive.specs.Step.{with_tune, revised, tune_at}
+use Rattle.tune_archive.specs.Step.{revised, tune_at}
 use Rattle.tune_archive.proofs.StateLemmas.{with_tune-place}
 use Rattle.tune_archive.proofs.list.replace_text.Goals as goal
 
