@@ -1,7 +1,7 @@
 -- A record of what a device has held: a file of one number in each entry.
 use Rattle.std.specs.Prelude.{◌≡◌, ℕ, ◌-◌, ◌<◌, ◌≤◌, List, [], ◌∷◌, length, slice_index}
 use Rattle.std.proofs.Common.{ap, ◌∙◌, arith}
-use Rattle.tune_archive.specs.State.{State, greatest}
+use Rattle.tune_archive.specs.State.{State}
 
 -- the place of the last entry
 abbrev pub last_place : List ℕ → ℕ
@@ -14,16 +14,16 @@ pub record LeftSince (entries : List ℕ) (since : ℕ) (file : List ℕ) : Type
   pub within : place < length entries
   pub entry : file ≡ slice_index entries place ∷ []
 
--- the file is the greatest number of the state
-abbrev pub IsOfGreatest : List ℕ → State → Type 0
-IsOfGreatest file state = file ≡ greatest state.tunes ∷ []
+-- the file is how many tunes the state has
+abbrev pub IsOfCount : List ℕ → State → Type 0
+IsOfCount file state = file ≡ length state.tunes ∷ []
 
--- the last entry is the greatest number of the state
+-- the last entry is how many tunes the state has
 abbrev pub EndsAt : List ℕ → State → Type 0
-EndsAt entries state = slice_index entries (last_place entries) ≡ greatest state.tunes
+EndsAt entries state = slice_index entries (last_place entries) ≡ length state.tunes
 
 -- a file of the last entry stands for the state
-pub settles : (entries : List ℕ) (state : State) (file : List ℕ) → EndsAt entries state → LeftSince entries (last_place entries) file → IsOfGreatest file state
+pub settles : (entries : List ℕ) (state : State) (file : List ℕ) → EndsAt entries state → LeftSince entries (last_place entries) file → IsOfCount file state
 settles entries state file ends left =
     let from = left.from in
     let within = left.within in

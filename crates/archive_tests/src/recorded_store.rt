@@ -1,17 +1,17 @@
 // A store whose stops leave something.
 ghost use Rattle.std.specs.Prelude.{◌≡◌, ◌+◌, ◌<◌, ◌≤◌, [], ◌∷◌, ◌++◌, false, IfOk, vec_len};
 ghost use Rattle.std.specs.Vec.{vec_capacity};
-ghost use Rattle.archive_tests.specs.Record.{LeftSince, IsOfGreatest, EndsAt, last_place, settles};
+ghost use Rattle.archive_tests.specs.Record.{LeftSince, IsOfCount, EndsAt, last_place, settles};
 
 use std::alloc::{AllocError, Global};
 use tune_archive::{Command, ListArchive, Refusal, Reply, TuneStore};
 
-/// A fake store: an archive in memory, and the record of a device that holds one number, the greatest of the tunes.
-/// Each entry is a file that a stop may have left: the last now, the others earlier.
+/// A fake store: an archive in memory, and the record of a device that holds one number, how many tunes there are.
+/// Each accepted command writes it, and each entry is a file that a stop may have left: the last now, the others earlier.
 #[derive(Drop)]
 pub struct RecordedStore {
     archive: ListArchive,
-    entries: Vec<u32>,
+    entries: Vec<usize>,
 }
 
 impl RecordedStore {
@@ -30,7 +30,7 @@ impl RecordedStore {
     }
 
     /// What the device has held, in order.
-    pub fn entries(&self) -> &[u32]
+    pub fn entries(&self) -> &[usize]
         ensures { result.now ≡ self.now.entries.items }
     {
         self.entries.as_slice()
@@ -46,22 +46,20 @@ impl TuneStore for RecordedStore {
 
     ghost left_since = { λ store. LeftSince store.entries.items };
 
-    ghost stands_for = { IsOfGreatest };
+    ghost stands_for = { IsOfCount };
 
     ghost settled = { λ store file sound honest is_open left. settles store.entries.items store.archive file sound left };
 
     fn apply(&mut self, command: &Command) -> Result<Reply, Refusal> {
         self.entries.reserve(1)?;
         let reply = self.archive.apply(command)?;
-        if let Reply::Imported { last, .. } = &reply {
-            add_entry(&mut self.entries, *last);
-        }
+        add_entry(&mut self.entries, self.archive.len());
         Ok(reply)
     }
 }
 
 // Adds an entry, for which there is room.
-fn add_entry(entries: &mut Vec<u32>, entry: u32)
+fn add_entry(entries: &mut Vec<usize>, entry: usize)
     requires { vec_len entries.old < vec_capacity entries.old }
     ensures entries { entries.new.items ≡ entries.old.items ++ entry ∷ [] }
     ensures len { vec_len entries.new ≡ vec_len entries.old + 1 }

@@ -42,6 +42,13 @@ impl ListArchive {
             tunes: Vec::new(alloc),
         }
     }
+
+    /// How many tunes it holds.
+    pub fn len(&self) -> usize
+        ensures { result ≡ length self.now.tunes }
+    {
+        self.tunes.len()
+    }
 }
 
 impl TuneStore for ListArchive {
