@@ -1,2 +1,3 @@
 pub mod StateLemmas
 pub mod StepLemmas
+pub mod RevisionLemmas

@@ -2,3 +2,4 @@ pub mod State
 pub mod Step
 pub mod Answers
 pub mod Stops
+pub mod Revisions

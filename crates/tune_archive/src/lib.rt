@@ -2,11 +2,13 @@
 #![tactic(auto)]
 
 mod command;
+mod laws;
 mod list;
 mod store;
 mod tune;
 
 pub use command::{Command, Refusal, Reply};
+pub use laws::law_of_revisions;
 pub use list::ListArchive;
 pub use store::TuneStore;
 pub use tune::{GREATEST_NUMBER, GREATEST_REVISION, LONGEST_TEXT, MOST_TUNES, Tune};
