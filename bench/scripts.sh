@@ -1,5 +1,5 @@
 #!/usr/bin/env bash
-# Usage: bench/thin-path.sh [EXECUTABLE]
+# Usage: bench/scripts.sh [EXECUTABLE]
 # Times `tunes list` on large scripts, and compares every byte of its replies with what is wanted. Each script comes at
 # half and at full size, so that the seconds show whether they grow in proportion.
 set -u
@@ -10,11 +10,26 @@ work=$root/bench/work
 mkdir -p "$work" || exit 1
 export LC_ALL=C
 
-# Prints one of the texts below, for this many tunes, lines or blocks of 50 bytes.
+# Prints one of the texts below, for this many tunes, replaces, lines or blocks of 50 bytes.
 make() {
     awk -v what="$1" -v count="$2" '
         function body(n) { return sprintf("T:Tune %05d\nM:4/4\nR:reel\nK:G\nGABc dedB|c2ec B2dB|\n", n) }
         function imports(    n) { for (n = 1; n <= count; n++) printf "import %d\nX:1\n%s", 4 + length(body(n)), body(n) }
+        function long_body(n,    i, s) {
+            s = sprintf("T:Tune %05d\nC:Traditional\nO:Ireland\nR:reel\nM:4/4\nL:1/8\nK:G\n", n)
+            for (i = 0; i < 6; i++) s = s "GABc dedB|c2ec B2dB|\n"
+            return s
+        }
+        function one_import(    n) {
+            print "import " count * (5 + length(long_body(1)))
+            for (n = 1; n <= count; n++) printf "X:1\n%s\n", long_body(n)
+        }
+        function exported(    n, size) {
+            size = 9
+            for (n = 1; n <= count; n++) size += 4 + length(n "") + length(long_body(n))
+            printf "ok export %d\n%%abc-2.1\n", size
+            for (n = 1; n <= count; n++) printf "\nX:%d\n%s", n, long_body(n)
+        }
         function imported(    n) { for (n = 1; n <= count; n++) print "ok import " n " " n }
         function shown(    n) {
             for (n = 1; n <= count; n++)
@@ -25,11 +40,19 @@ make() {
             if (what == "imports-wanted") imported()
             if (what == "shows") { imports(); for (n = 1; n <= count; n++) print "show " n }
             if (what == "shows-wanted") { imported(); shown() }
+            if (what == "one-import") one_import()
+            if (what == "one-import-wanted") print "ok import 1 " count
+            if (what == "export") { one_import(); print "export" }
+            if (what == "export-wanted") { print "ok import 1 " count; exported() }
+            if (what == "replaces") {
+                for (n = 1; n <= count; n++) printf "replace 10000 %d %d\nX:1\n%s", n, 4 + length(body(n)), body(n)
+            }
+            if (what == "replaces-wanted") for (n = 1; n <= count; n++) print "ok replace 10000 " n + 1
             if (what == "book") {
                 print "import " 50 * count
                 for (n = 1; n <= count; n++) printf "X:1\nT:Tune %05d\nM:4/4\nK:G\nGABc dedB|c2ec B2dB|]\n\n", n
             }
-            if (what == "book-wanted") print "refused 3 NotOne " count
+            if (what == "book-wanted") print "refused 9 ArchiveFull"
             if (what == "long") {
                 printf "import %d\nX:1\nT:%-39s\nK:G\n", 50 * count, "A tune without end"
                 for (n = 2; n <= count; n++) print "GABc dedB|c2ec B2dB|GABc dedB|c2ec B2dB|A2A2 A4||"
@@ -49,11 +72,18 @@ run() {
     return "$status"
 }
 
-# Times one text of this size, whose run is to end with this status: the best of three runs.
+# Times one text of this size, whose run is to end with this status: the best of three runs. It may come after an
+# import of this many tunes.
 measure() {
-    local name=$1 what=$2 count=$3 wanted_status=$4 best=999999 status
-    make "$what" "$count" > "$work/script"
-    make "$what-wanted" "$count" > "$work/wanted"
+    local name=$1 what=$2 count=$3 wanted_status=$4 before=${5:-0} best=999999 status
+    : > "$work/script"
+    : > "$work/wanted"
+    if [ "$before" -gt 0 ]; then
+        make one-import "$before" > "$work/script"
+        make one-import-wanted "$before" > "$work/wanted"
+    fi
+    make "$what" "$count" >> "$work/script"
+    make "$what-wanted" "$count" >> "$work/wanted"
     for _ in 1 2 3; do
         run
         status=$?
@@ -71,6 +101,12 @@ measure "10,000 imports" imports 10000 0
 measure "20,000 imports" imports 20000 0
 measure "10,000 imports, 10,000 shows" shows 10000 0
 measure "20,000 imports, 20,000 shows" shows 20000 0
+measure "10,000 tunes in one import" one-import 10000 0
+measure "20,000 tunes in one import" one-import 20000 0
+measure "10,000 tunes in one import, and an export" export 10000 0
+measure "20,000 tunes in one import, and an export" export 20000 0
+measure "20,000 tunes, and 4,999 replaces of one" replaces 4999 0 20000
+measure "20,000 tunes, and 9,998 replaces of one" replaces 9998 0 20000
 measure "a book of 2,000,000 bytes, 40,000 tunes" book 40000 0
 measure "a book of 4,000,000 bytes, 80,000 tunes" book 80000 0
 measure "a book of 2,000,000 bytes, one tune" long 40000 0
