@@ -129,7 +129,7 @@ fn holds_as_many_tunes_as_it_may(rt: HostRuntime) -> Result<(), Fail> {
                 );
                 assert_eq!(&rt; tune.copy(rt.alloc())?.text.bytes(), b"K:C\n".as_slice());
             }
-            Reply::Imported { .. } => return Err(Fail::from("no tune is shown")),
+            _ => return Err(Fail::from("no tune is shown")),
         }
     }
     Ok(())

@@ -11,6 +11,10 @@ pub use recorded_store::RecordedStore;
 #[cfg(test)]
 mod books;
 #[cfg(test)]
+mod cases;
+#[cfg(test)]
+mod changes;
+#[cfg(test)]
 mod command_lines;
 #[cfg(test)]
 mod pipes;

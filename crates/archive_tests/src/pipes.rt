@@ -2,8 +2,9 @@
 use std::cell::Cell;
 use std::io;
 use std::io::{Read, Write};
+use std::process::Abort;
 use std::test::Fail;
-use tune_archive::{Command, ListArchive, TuneStore};
+use tune_archive::{Command, ListArchive, Refusal, Reply, TuneStore};
 use tune_cli::{Action, RunEnd, act, run};
 
 // Gives its text byte by byte, and no byte of a line before as many replies were flushed as there are lines before it.
@@ -99,31 +100,85 @@ const SCRIPT: &[u8] = b"import 8\nX:1\nK:C\nshwo\nshow 1\n";
 
 const REPLIES: &[u8] = b"ok import 1 1\nrefused 30 BadLine\nok show 1 1 8\nX:1\nK:C\n";
 
-#[test]
-fn ends_where_the_reader_fails(rt: HostRuntime) -> Result<(), Fail> {
-    // How much of the replies is written, where the reader fails after so many bytes.
-    for (read, written) in [
-        (0, 0),
-        (8, 0),
-        (16, 0),
-        (17, 14),
-        (21, 14),
-        (22, 33),
-        (28, 33),
-        (29, 55),
-    ] {
+// How much of the replies is written, where the reader fails after so many bytes of the script.
+fn check_reader_faults<R: AllocGlobal + Abort>(
+    rt: &R,
+    script: &[u8],
+    replies: &[u8],
+    faults: &[(usize, usize)],
+) {
+    for (read, written) in faults {
         let mut reader = FailingReader {
-            text: SCRIPT.get(..read).unwrap_or(SCRIPT),
+            text: script.get(..*read).unwrap_or(script),
         };
         let mut writer = Vec::new(rt.alloc());
         let mut archive = ListArchive::new(rt.alloc());
         let end = run(rt.alloc(), &mut reader, &mut writer, &mut archive);
-        assert_eq!(&rt; end, RunEnd::ReaderFault, "at {read}");
-        assert_eq!(&rt;
+        assert_eq!(rt; end, RunEnd::ReaderFault, "at {read}");
+        assert_eq!(rt;
             Some(writer.as_slice()),
-            REPLIES.get(..written),
+            replies.get(..*written),
             "at {read}"
         );
+    }
+}
+
+#[test]
+fn ends_where_the_reader_fails(rt: HostRuntime) {
+    check_reader_faults(
+        &rt,
+        SCRIPT,
+        REPLIES,
+        &[
+            (0, 0),
+            (8, 0),
+            (16, 0),
+            (17, 14),
+            (21, 14),
+            (22, 33),
+            (28, 33),
+            (29, 55),
+        ],
+    );
+}
+
+const CHANGES: &[u8] = b"import 8\nX:1\nK:C\nreplace 1 1 8\nX:1\nK:D\nexport\ndelete 1\n";
+
+const CHANGES_REPLIES: &[u8] =
+    b"ok import 1 1\nok replace 1 2\nok export 18\n%abc-2.1\n\nX:1\nK:D\nok delete 1\n";
+
+#[test]
+fn ends_where_the_reader_of_changes_fails(rt: HostRuntime) {
+    check_reader_faults(
+        &rt,
+        CHANGES,
+        CHANGES_REPLIES,
+        &[
+            (17, 14),
+            (30, 14),
+            (31, 14),
+            (38, 14),
+            (39, 29),
+            (45, 29),
+            (46, 60),
+            (54, 60),
+            (55, 72),
+        ],
+    );
+}
+
+#[test]
+fn keeps_a_tune_where_the_reader_fails_in_its_replacement(rt: HostRuntime) -> Result<(), Fail> {
+    let mut reader = FailingReader {
+        text: CHANGES.get(..38).unwrap_or(CHANGES),
+    };
+    let mut writer = Vec::new(rt.alloc());
+    let mut archive = ListArchive::new(rt.alloc());
+    let end = run(rt.alloc(), &mut reader, &mut writer, &mut archive);
+    assert_eq!(&rt; end, RunEnd::ReaderFault);
+    match archive.apply(&Command::Show(1))? {
+        Reply::Shown(tune) => assert_eq!(&rt; tune.revision, 1),
+        _ => return Err(Fail::from("no tune is shown")),
     }
     Ok(())
 }
@@ -186,6 +241,23 @@ fn ends_where_the_writer_fails(rt: HostRuntime) {
         // The command whose reply was not written took place.
         assert!(&rt; archive.apply(&Command::Show(1)).is_ok(), "at {calls}");
     }
+}
+
+#[test]
+fn keeps_a_change_whose_reply_is_not_written(rt: HostRuntime) {
+    let mut archive = ListArchive::new(rt.alloc());
+    let mut writer = Vec::new(rt.alloc());
+    let mut reader = CHANGES.get(..17).unwrap_or(CHANGES);
+    let end = run(rt.alloc(), &mut reader, &mut writer, &mut archive);
+    assert_eq!(&rt; end, RunEnd::Ended);
+    let mut reader = b"delete 1\n".as_slice();
+    let mut writer = FailingWriter::new(0);
+    let end = run(rt.alloc(), &mut reader, &mut writer, &mut archive);
+    assert_eq!(&rt; end, RunEnd::WriterFault);
+    assert_eq!(&rt;
+        archive.apply(&Command::Show(1)).err(),
+        Some(Refusal::Unknown { number: 1 })
+    );
 }
 
 #[test]

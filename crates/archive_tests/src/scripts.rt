@@ -1,50 +1,9 @@
 // Scripts, and the replies to them, byte for byte.
+use crate::cases::{add_book, book_of_letters, check, check_all, ended, letters_of, replies};
 use std::alloc::Global;
-use std::process::Abort;
 use std::test::Fail;
 use tune_archive::ListArchive;
 use tune_cli::{LONGEST_LINE, MOST_LINES, RunEnd, run};
-
-// The end of a run of a script on an empty archive, and what it wrote.
-fn replies(alloc: Global, script: &[u8]) -> (RunEnd, Vec<u8>) {
-    let mut reader = script;
-    let mut writer = Vec::new(alloc);
-    let mut archive = ListArchive::new(alloc);
-    let end = run(alloc, &mut reader, &mut writer, &mut archive);
-    (end, writer)
-}
-
-// A script, its end, and its replies.
-#[derive(Drop)]
-struct Case {
-    name: &'static str,
-    script: &'static [u8],
-    end: RunEnd,
-    replies: &'static [u8],
-}
-
-fn check<R: AllocGlobal + Abort>(rt: &R, case: &Case) -> Result<(), Fail> {
-    let (end, written) = replies(rt.alloc(), case.script);
-    assert_eq!(rt; end, case.end, "{}", case.name);
-    assert_eq!(rt; written.as_slice(), case.replies, "{}", case.name);
-    Ok(())
-}
-
-fn check_all<R: AllocGlobal + Abort>(rt: &R, cases: &[Case]) -> Result<(), Fail> {
-    for case in cases {
-        check(rt, case)?;
-    }
-    Ok(())
-}
-
-const fn ended(name: &'static str, script: &'static [u8], replies: &'static [u8]) -> Case {
-    Case {
-        name,
-        script,
-        end: RunEnd::Ended,
-        replies,
-    }
-}
 
 #[test]
 fn imports_and_shows(rt: HostRuntime) -> Result<(), Fail> {
@@ -96,6 +55,30 @@ fn refuses_books(rt: HostRuntime) -> Result<(), Fail> {
                 b"refused 1 NoTune\nrefused 4 Unknown 1\n",
             ),
             ended(
+                "names the first tune without a key",
+                b"import 26\nX:1\nK:C\n\nX:2\nT:x\n\nX:3\nK:D\nshow 1\n",
+                b"refused 2 BadTune 2 NoKey\nrefused 4 Unknown 1\n",
+            ),
+            ended(
+                "looks for the key in the tune's block alone",
+                b"import 9\nX:1\n\nK:C\n",
+                b"refused 2 BadTune 1 NoKey\n",
+            ),
+            ended(
+                "takes a small k for no key",
+                b"import 8\nX:1\nk:C\n",
+                b"refused 2 BadTune 1 NoKey\n",
+            ),
+        ],
+    )
+}
+
+#[test]
+fn refuses_books_that_are_not_plain(rt: HostRuntime) -> Result<(), Fail> {
+    check_all(
+        &rt,
+        &[
+            ended(
                 "refuses a book with a byte order mark and carriage returns",
                 b"import 153\n\xef\xbb\xbf%abc-2.1\r\nR:reel\r\nM:4/4\r\nI:abc-charset utf-8\r\n%%scale 0.75\r\n\r\nA line of free text\r\n\r\n% from the red book\r\nX:7\r\nT:Cooley's\r\nM:C|\r\nK:Edor\r\nEBBA B2 EB|\r\nshow 1\n",
                 b"refused 24 NotPlain\nrefused 4 Unknown 1\n",
@@ -120,26 +103,6 @@ fn refuses_books(rt: HostRuntime) -> Result<(), Fail> {
                 b"import 8\nx:1\nK:C\n",
                 b"refused 24 NotPlain\n",
             ),
-            ended(
-                "refuses two tunes",
-                b"import 16\nX:1\nK:C\nX:2\nK:D\n",
-                b"refused 3 NotOne 2\n",
-            ),
-            ended(
-                "names the first tune without a key",
-                b"import 26\nX:1\nK:C\n\nX:2\nT:x\n\nX:3\nK:D\nshow 1\n",
-                b"refused 2 BadTune 2 NoKey\nrefused 4 Unknown 1\n",
-            ),
-            ended(
-                "looks for the key in the tune's block alone",
-                b"import 9\nX:1\n\nK:C\n",
-                b"refused 2 BadTune 1 NoKey\n",
-            ),
-            ended(
-                "takes a small k for no key",
-                b"import 8\nX:1\nk:C\n",
-                b"refused 2 BadTune 1 NoKey\n",
-            ),
         ],
     )
 }
@@ -156,8 +119,8 @@ fn answers_lines_that_are_no_command(rt: HostRuntime) -> Result<(), Fail> {
             ),
             ended(
                 "answers commands that are not there yet",
-                b"export\ntitles\ndelete 1\nsets\nfind key C\nrenumber 1 2\nset-new a\nreplace 1 1 0\nupgrade\n",
-                b"refused 30 BadLine\nrefused 30 BadLine\nrefused 30 BadLine\nrefused 30 BadLine\nrefused 30 BadLine\nrefused 30 BadLine\nrefused 30 BadLine\nrefused 30 BadLine\nrefused 30 BadLine\n",
+                b"titles\nsets\nfind key C\nrenumber 1 2\nset-new a\nupgrade\n",
+                b"refused 30 BadLine\nrefused 30 BadLine\nrefused 30 BadLine\nrefused 30 BadLine\nrefused 30 BadLine\nrefused 30 BadLine\n",
             ),
             ended(
                 "reads the text of a line that is no command as lines",
@@ -216,53 +179,53 @@ fn reads_a_book_that_is_too_long(rt: HostRuntime) -> Result<(), Fail> {
     script.extend_from_slice(b"import 4000001\n")?;
     script.resize(15 + 4_000_001, b'a')?;
     script.extend_from_slice(b"show 1\n")?;
-    let (end, written) = replies(rt.alloc(), script.as_slice());
-    assert_eq!(&rt; end, RunEnd::Ended);
-    assert_eq!(&rt;
-        written.as_slice(),
-        b"refused 19 BookTooLong\nrefused 4 Unknown 1\n".as_slice()
-    );
-
+    check(
+        &rt,
+        &ended(
+            "drops the book and reads on",
+            script.as_slice(),
+            b"refused 19 BookTooLong\nrefused 4 Unknown 1\n",
+        ),
+    )?;
     let cut = script.get(..1_000_000).ok_or("a short script")?;
-    let (end, written) = replies(rt.alloc(), cut);
-    assert_eq!(&rt; end, RunEnd::Ended);
-    assert_eq!(&rt; written.as_slice(), b"refused 30 BadLine\n".as_slice());
-    Ok(())
+    check(
+        &rt,
+        &ended("a book that is cut", cut, b"refused 30 BadLine\n"),
+    )
 }
 
 // A script that imports a tune of a `K:C` line and a line of this many letters, and shows it.
 fn tune_of_letters(alloc: Global, letters: usize) -> Result<Vec<u8>, Fail> {
-    let book = letters.saturating_add(b"X:1\nK:C\n\n".len());
     let mut script = Vec::new(alloc);
-    script.extend_from_slice(format!(in alloc; "import {book}\nX:1\nK:C\n")?.as_bytes())?;
-    script.extend_from_slice(letters_of(alloc, letters)?.as_slice())?;
-    script.extend_from_slice(b"\nshow 1\n")?;
+    add_book(
+        &mut script,
+        "import",
+        book_of_letters(alloc, letters)?.as_slice(),
+    )?;
+    script.extend_from_slice(b"show 1\n")?;
     Ok(script)
-}
-
-fn letters_of(alloc: Global, letters: usize) -> Result<Vec<u8>, Fail> {
-    Ok(vec![in alloc; b'A'; letters]?)
 }
 
 #[test]
 fn takes_texts_of_sixteen_thousand_bytes(rt: HostRuntime) -> Result<(), Fail> {
     let script = tune_of_letters(rt.alloc(), 15_995)?;
-    let (end, written) = replies(rt.alloc(), script.as_slice());
     let mut wanted = Vec::new(rt.alloc());
     wanted.extend_from_slice(b"ok import 1 1\nok show 1 1 16004\nX:1\nK:C\n")?;
     wanted.extend_from_slice(letters_of(rt.alloc(), 15_995)?.as_slice())?;
     wanted.push(b'\n')?;
-    assert_eq!(&rt; end, RunEnd::Ended);
-    assert_eq!(&rt; written.as_slice(), wanted.as_slice());
-
+    check(
+        &rt,
+        &ended("a text that fits", script.as_slice(), wanted.as_slice()),
+    )?;
     let script = tune_of_letters(rt.alloc(), 15_996)?;
-    let (end, written) = replies(rt.alloc(), script.as_slice());
-    assert_eq!(&rt; end, RunEnd::Ended);
-    assert_eq!(&rt;
-        written.as_slice(),
-        b"refused 2 BadTune 1 TooLong\nrefused 4 Unknown 1\n".as_slice()
-    );
-    Ok(())
+    check(
+        &rt,
+        &ended(
+            "a text that is too long",
+            script.as_slice(),
+            b"refused 2 BadTune 1 TooLong\nrefused 4 Unknown 1\n",
+        ),
+    )
 }
 
 // `show 1` and blanks, of this length, and then these bytes.
