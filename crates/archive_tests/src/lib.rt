@@ -1,12 +1,5 @@
-//! Tests that cross crates: whole scripts and their replies, books, failing readers and writers, the words of the program, and a
-//! store that is not in memory alone.
+//! Tests that cross crates: whole scripts and their replies, books, failing readers and writers, and the words of the program.
 #![tactic(auto)]
-
-mod any_store;
-mod recorded_store;
-
-pub use any_store::carry_out;
-pub use recorded_store::RecordedStore;
 
 #[cfg(test)]
 mod books;
@@ -20,5 +13,3 @@ mod command_lines;
 mod pipes;
 #[cfg(test)]
 mod scripts;
-#[cfg(test)]
-mod stores;

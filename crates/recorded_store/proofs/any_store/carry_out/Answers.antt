@@ -1,5 +1,5 @@
 use Rattle.std.proofs.Common.{◌≤◌, inl, inr, arith}
-use Rattle.archive_tests.proofs.any_store.carry_out.Goals as goal
+use Rattle.recorded_store.proofs.any_store.carry_out.Goals as goal
 
 pub returns-clause-left : goal.returns-clause-left
 returns-clause-left g c = λ honest file left.

@@ -1,20 +1,10 @@
 -- Records with one more entry.
-use Rattle.std.proofs.Common.{◌≡◌, ℕ, ◌+◌, ◌≤◌, max, Bool, true, false, not, cond, eqb, ltb, List, [], ◌∷◌, ◌++◌, length, Option, Some, None, Result, Ok, Err, refl, sym, subst, ap, ◌∙◌, arith, inl, inr, ◌⊎◌, length-append}
+use Rattle.std.proofs.Common.{◌≡◌, ℕ, ◌≤◌, List, [], ◌∷◌, ◌++◌, length, sym, subst, ap, ◌∙◌, arith, inl, inr, ◌⊎◌, length-append}
 use Rattle.std.proofs.lemmas.Bool.{cases_lt}
 use Rattle.std.proofs.lemmas.List.{get_or_append_left, get_or_push}
-use Rattle.abc_fields.specs.Books.{Texts, book_answer}
-use Rattle.tune_archive.specs.State.{State, Standing, greatest}
-use Rattle.tune_archive.specs.Step.{Outcome, step, import_book, import_texts, show_tune, tune_at, numbered}
-use Rattle.tune_archive.specs.Answers.{Answers, stepped, no_memory, failed_before, failed_after, is_closed}
+use Rattle.tune_archive.specs.State.{State}
 use Rattle.tune_archive.specs.Stops.{Among, StandsForOne}
-use Rattle.tune_archive.specs.declared.tune.Tune.{Tune}
-use Rattle.tune_archive.specs.declared.tune.TheConstants.{LONGEST_TEXT, MOST_TUNES, GREATEST_NUMBER}
-use Rattle.tune_archive.specs.declared.command.Command.{Command}
-use Rattle.tune_archive.specs.declared.command.Command.TheVariants.{Import, Show}
-use Rattle.tune_archive.specs.declared.command.Reply.{Reply}
-use Rattle.tune_archive.specs.declared.command.Reply.TheVariants.{Imported, Shown}
-use Rattle.tune_archive.specs.declared.command.Refusal.{Refusal}
-use Rattle.archive_tests.specs.Record.{LeftSince, IsOfCount, EndsAt, last_place}
+use Rattle.recorded_store.specs.Record.{LeftSince, IsOfCount, EndsAt, last_place}
 
 -- RECORDS
 -- a record ends at a state after an entry of how many tunes it has

@@ -1,7 +1,7 @@
 // A store whose stops leave something.
 ghost use Rattle.std.specs.Prelude.{◌≡◌, ◌+◌, ◌<◌, ◌≤◌, [], ◌∷◌, ◌++◌, false, IfOk, vec_len};
 ghost use Rattle.std.specs.Vec.{vec_capacity};
-ghost use Rattle.archive_tests.specs.Record.{LeftSince, IsOfCount, EndsAt, last_place, settles};
+ghost use Rattle.recorded_store.specs.Record.{LeftSince, IsOfCount, EndsAt, last_place, settles};
 
 use std::alloc::{AllocError, Global};
 use tune_archive::{Command, ListArchive, Refusal, Reply, TuneStore};

@@ -1,8 +1,8 @@
-use Rattle.std.proofs.Common.{ℕ, List, [], ◌∷◌, ◌++◌, length, Ok, refl, ap, sym, ◌∙◌}
+use Rattle.std.proofs.Common.{ℕ, List, [], ◌∷◌, ◌++◌, Ok, ap, sym, ◌∙◌}
 use Rattle.std.proofs.lemmas.Result.{err_from_is_err_and}
 use Rattle.tune_archive.specs.Answers.{passed, no_memory}
-use Rattle.archive_tests.proofs.RecordLemmas.{Goes, pushes}
-use Rattle.archive_tests.proofs.recorded_store.RecordedStoreTuneStore.apply.Goals as goal
+use Rattle.recorded_store.proofs.RecordLemmas.{pushes}
+use Rattle.recorded_store.proofs.store.RecordedStoreTuneStore.apply.Goals as goal
 
 pub returns-in_err-reserve-clause-answer : goal.returns-in_err-reserve-clause-answer
 returns-in_err-reserve-clause-answer c =
