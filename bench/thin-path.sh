@@ -1,5 +1,5 @@
 #!/usr/bin/env bash
-# Usage: bench/scripts.sh [EXECUTABLE]
+# Usage: bench/thin-path.sh [EXECUTABLE]
 # Times `tunes list` on large scripts, and compares every byte of its replies with what is wanted. Each script comes at
 # half and at full size, so that the seconds show whether they grow in proportion.
 set -u
