@@ -29,3 +29,7 @@ trimmed_front test (byte ∷ text) = if test byte then trimmed_front test text e
 abbrev pub trimmed_back : (ℕ → Bool) → List ℕ → List ℕ
 trimmed_back test [] = []
 trimmed_back test (byte ∷ text) = if list_all test (byte ∷ text) then [] else byte ∷ trimmed_back test text
+
+-- the text without spaces and tabs at its ends
+abbrev pub trimmed : List ℕ → List ℕ
+trimmed text = trimmed_back is_blank (trimmed_front is_blank text)

@@ -7,7 +7,9 @@
 mod book;
 mod text;
 mod text_lines;
+mod values;
 
 pub use book::{BookFault, LONGEST_BOOK, TuneFault, split_book};
 pub use text::{ByteText, TuneText};
 pub use text_lines::{Line, Lines};
+pub use values::trim_blanks;
