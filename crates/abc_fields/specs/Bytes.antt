@@ -14,6 +14,15 @@ carriage_return = 13
 abbrev pub space : ℕ
 space = 32
 
+abbrev pub percent : ℕ
+percent = 37
+
+abbrev pub colon : ℕ
+colon = 58
+
+abbrev pub backslash : ℕ
+backslash = 92
+
 -- EF BB BF, the byte order mark of UTF-8
 abbrev pub byte_order_mark : List ℕ
 byte_order_mark = 0xEF ∷ 0xBB ∷ 0xBF ∷ []

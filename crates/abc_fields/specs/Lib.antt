@@ -5,4 +5,7 @@ pub mod Tunes
 pub mod Books
 pub mod OpenBooks
 pub mod LineEndings
+pub mod LineKinds
 pub mod Words
+pub mod Values
+pub mod Fields

@@ -132,7 +132,7 @@ fn starts_tune(line: &[u8]) -> bool
     line.starts_with(b"X:")
 }
 
-fn gives_key(line: &[u8]) -> bool
+pub(crate) fn gives_key(line: &[u8]) -> bool
     ensures { result ≡ is_key_line line.now }
 {
     line.starts_with(b"K:")

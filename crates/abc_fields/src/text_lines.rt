@@ -51,6 +51,16 @@ impl<'a> Lines<'a> {
     {
         Lines { rest: text, at: 0 }
     }
+
+    /// A second reader of the lines that are left.
+    pub fn again(&self) -> Lines<'a>
+        ensures { result ≡ self.now }
+    {
+        Lines {
+            rest: self.rest,
+            at: self.at,
+        }
+    }
 }
 
 impl<'a> Iterator for Lines<'a> {

@@ -1,9 +1,48 @@
 // The values of fields.
-ghost use Rattle.std.specs.Prelude.{◌≡◌};
-ghost use Rattle.abc_fields.specs.Bytes.{is_blank};
+ghost use Rattle.std.specs.Prelude.{◌≡◌, ℕ, ◌-◌, ◌<◌, List, ◌++◌, length, true, ◌==◌, ◌&&◌, slice_index, nat_lt};
+ghost use Rattle.abc_fields.specs.Bytes.{backslash, is_blank, is_all_blank};
+ghost use Rattle.abc_fields.specs.Values.{uncommented, field_value, IsUncommented, IsTrimmed};
 ghost use Rattle.abc_fields.specs.Words.{trimmed};
 
 use bstr::ByteSlice;
+use memchr::memchr;
+
+/// The value of a field line: what follows the colon, without a comment, and without the spaces and tabs at its ends
+/// (ABC 2.1, 2.2.3 and 3.1; this archive's profile). The field's name and the colon are the first two bytes, whatever they are;
+/// the value of a shorter line is empty.
+pub fn field_value(line: &[u8]) -> &[u8]
+    ensures { result.now ≡ field_value line.now }
+{
+    if line.len() < 2 {
+        return b"";
+    }
+    trim_blanks(without_comment(&line[2..]))
+}
+
+/// The line up to its comment, if it has one: the first percent sign that no backslash stands directly before begins it
+/// (ABC 2.1, 2.2.3; this archive's profile). The backslashes stay.
+pub fn without_comment(line: &[u8]) -> &[u8]
+    ensures value { result.now ≡ uncommented line.now }
+    ensures law { IsUncommented line.now result.now }
+{
+    let mut from = 0;
+    while let Some(offset) = memchr(b'%', &line[from..]) {
+        let at = from + offset;
+        if !is_escaped(line, at) {
+            return &line[..at];
+        }
+        from = at + 1;
+    }
+    line
+}
+
+// Whether a backslash stands directly before this place.
+fn is_escaped(line: &[u8], at: usize) -> bool
+    requires { at < length line.now }
+    ensures { result ≡ (nat_lt 0 at && slice_index line.now (at - 1) == backslash) }
+{
+    at > 0 && line[at - 1] == b'\\'
+}
 
 // Whether a character is a space or a tab.
 fn is_blank(c: char) -> bool
@@ -13,8 +52,12 @@ fn is_blank(c: char) -> bool
 }
 
 /// The text without the spaces and tabs at its ends.
+///
+/// Its law stands beside it, and that blanks put round a text change nothing.
 pub fn trim_blanks(text: &[u8]) -> &[u8]
-    ensures { result.now ≡ trimmed text.now }
+    ensures value { result.now ≡ trimmed text.now }
+    ensures law { IsTrimmed text.now result.now }
+    ensures blanks_at_ends { (front back : List ℕ) → is_all_blank front ≡ true → is_all_blank back ≡ true → trimmed (front ++ (text.now ++ back)) ≡ trimmed text.now }
 {
     text.trim_with(is_blank)
 }

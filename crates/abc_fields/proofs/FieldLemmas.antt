@@ -1,0 +1,100 @@
+-- How a line adds to what a header says.
+use Rattle.std.proofs.Common.{◌≡◌, ℕ, zero, suc, ◌≤◌, true, false, eqb, List, [], ◌∷◌, ◌++◌, length, map, take, Option, None, Some, refl, ap, sym, ◌∙◌, arith}
+use Rattle.std.specs.Prelude.{slice_get, codes}
+use Rattle.std.specs.List.{filter}
+use Rattle.std.specs.Option.{option_or}
+use Rattle.std.proofs.lemmas.Bool.{eqb-true, and_parts}
+use Rattle.std.proofs.lemmas.List.{append-nil, append_assoc, take_all, take-append-le, map-append}
+use Rattle.std.proofs.lemmas.List.Elements.{filter-append}
+use Rattle.abc_fields.specs.Bytes.{begins_with}
+use Rattle.abc_fields.specs.Tunes.{is_key_line}
+use Rattle.abc_fields.specs.Values.{field_value}
+use Rattle.abc_fields.specs.Fields.{header_of, values_of, has_bytes, filled}
+
+-- the first titles of enough are those
+pub enough_titles : (n : ℕ) (titles more : List (List ℕ)) → length titles ≡ n → titles ≡ take n (titles ++ more)
+enough_titles n titles more full = sym (take-append-le n titles more (omega arith) ∙ take_all n titles (omega arith))
+
+-- the first titles of few are all
+pub few_titles : (n : ℕ) (titles : List (List ℕ)) → length titles ≤ n → titles ≡ take n (titles ++ [])
+few_titles n titles few = sym (ap (take n) (append-nil titles) ∙ take_all n titles few)
+
+-- an empty value is no title
+pub few_titles-empty : (n : ℕ) (titles : List (List ℕ)) (value : List ℕ) → length titles ≤ n → length value ≡ 0 → titles ≡ take n (titles ++ filled (value ∷ []))
+few_titles-empty n titles [] few empty = few_titles n titles few
+few_titles-empty n titles (byte ∷ value) few empty = absurd (omega arith)
+
+-- no more are taken than that
+pub few_taken : (n : ℕ) (titles : List (List ℕ)) → length (take n titles) ≤ n
+few_taken zero titles = omega arith
+few_taken (suc n) [] = omega arith
+few_taken (suc n) (x ∷ titles) = let later = few_taken n titles in omega (arith, later)
+
+take_taken : (n : ℕ) (xs ys : List (List ℕ)) → take n (take n xs ++ ys) ≡ take n (xs ++ ys)
+take_taken zero xs ys = refl
+take_taken (suc n) [] ys = refl
+take_taken (suc n) (x ∷ xs) ys = ap (λ l. x ∷ l) (take_taken n xs ys)
+
+-- the values of lines are those of the first lines and then those of the others
+filled_values-append : (name : List ℕ) (lines more : List (List ℕ)) → filled (values_of name (lines ++ more)) ≡ filled (values_of name lines) ++ filled (values_of name more)
+filled_values-append name lines more =
+    ap (λ l. filled (map field_value l)) (filter-append (λ line. begins_with line name) lines more)
+    ∙ ap filled (map-append field_value (filter (λ line. begins_with line name) lines) (filter (λ line. begins_with line name) more))
+    ∙ filter-append has_bytes (values_of name lines) (values_of name more)
+
+-- the first titles go on with a line
+pub titles_step : (n : ℕ) (titles : List (List ℕ)) (name line : List ℕ) (lines : List (List ℕ))
+    → take n (take n (titles ++ filled (values_of name (line ∷ []))) ++ filled (values_of name lines)) ≡ take n (titles ++ filled (values_of name (line ∷ lines)))
+titles_step n titles name line lines =
+    take_taken n (titles ++ filled (values_of name (line ∷ []))) (filled (values_of name lines))
+    ∙ ap (take n) (append_assoc titles (filled (values_of name (line ∷ []))) (filled (values_of name lines)) ∙ ap (λ l. titles ++ l) (sym (filled_values-append name (line ∷ []) lines)))
+
+first-append : (xs ys : List (List ℕ)) → slice_get (xs ++ ys) 0 ≡ option_or (slice_get xs 0) (slice_get ys 0)
+first-append [] ys = refl
+first-append (x ∷ xs) ys = refl
+
+or_assoc : (a b c : Option (List ℕ)) → option_or (option_or a b) c ≡ option_or a (option_or b c)
+or_assoc None b c = refl
+or_assoc (Some x) b c = refl
+
+-- where nothing more comes, the value so far stays
+pub or_none : (a : Option (List ℕ)) → option_or a None ≡ a
+or_none None = refl
+or_none (Some x) = refl
+
+-- the first value goes on with a line
+pub first_step : (so_far : Option (List ℕ)) (name line : List ℕ) (lines : List (List ℕ))
+    → option_or (option_or so_far (slice_get (filled (values_of name (line ∷ []))) 0)) (slice_get (filled (values_of name lines)) 0) ≡ option_or so_far (slice_get (filled (values_of name (line ∷ lines))) 0)
+first_step so_far name line lines =
+    or_assoc so_far (slice_get (filled (values_of name (line ∷ []))) 0) (slice_get (filled (values_of name lines)) 0)
+    ∙ ap (option_or so_far) (sym (ap (λ l. slice_get l 0) (filled_values-append name (line ∷ []) lines) ∙ first-append (filled (values_of name (line ∷ []))) (filled (values_of name lines))))
+
+-- a line of one name is none of another
+other_name : (a b : ℕ) (line : List ℕ) → eqb b a ≡ false → begins_with line (a ∷ 58 ∷ []) ≡ true → begins_with line (b ∷ 58 ∷ []) ≡ false
+other_name a b [] apart is = cc
+other_name a b (byte ∷ line) apart is =
+    let same : a ≡ byte = eqb-true a byte (and_parts (eqb a byte) _ is).0 in
+    let other : eqb b byte ≡ false = rw (← same) apart in
+    rw other refl
+
+-- a line that gives the key is neither a title nor a rhythm
+pub key_is_no_title : (line : List ℕ) → is_key_line line ≡ true → begins_with line (codes "T:") ≡ false
+key_is_no_title line is = other_name 75 84 line refl is
+
+pub key_is_no_rhythm : (line : List ℕ) → is_key_line line ≡ true → begins_with line (codes "R:") ≡ false
+key_is_no_rhythm line is = other_name 75 82 line refl is
+
+-- where the line is of this name, or is not
+pub one_value : (name line : List ℕ) → begins_with line name ≡ true → values_of name (line ∷ []) ≡ field_value line ∷ []
+one_value name line is = rw is refl
+
+pub no_value : (name line : List ℕ) → begins_with line name ≡ false → values_of name (line ∷ []) ≡ []
+no_value name line is = rw is refl
+
+-- a line that does not give the key stands in the header, before the header of the later lines
+pub header_more : (line : List ℕ) (lines : List (List ℕ)) → is_key_line line ≡ false → header_of (line ∷ lines) ≡ line ∷ header_of lines
+header_more line lines other = rw other refl
+
+-- such a line has no value of a key
+pub key_later : (line : List ℕ) (lines : List (List ℕ)) → is_key_line line ≡ false → values_of (codes "K:") (line ∷ lines) ≡ values_of (codes "K:") lines
+key_later line lines other = rw other refl

@@ -1,0 +1,26 @@
+use Rattle.std.proofs.Common.{◌≡◌, ◌∙◌, ◌++◌, [], take, ap, sym, false}
+use Rattle.std.specs.Prelude.{codes, slice_get, option_copied, unwrap_or}
+use Rattle.std.specs.Option.{option_or}
+use Rattle.abc_fields.specs.Tunes.{is_key_line}
+use Rattle.abc_fields.specs.Fields.{header_of, values_of, filled}
+use Rattle.abc_fields.specs.declared.header_fields.TheConstants.{MOST_TITLES}
+use Rattle.abc_fields.proofs.BookLemmas.{contents}
+use Rattle.abc_fields.proofs.FieldLemmas.{few_taken, titles_step, first_step, header_more, key_later}
+use Rattle.abc_fields.proofs.header.fields.Goals as goal
+
+pub loop-line-preserved : goal.loop-line-preserved
+loop-line-preserved c =
+    let line = c.in-Some.line.text.now in
+    let old = c.loop-line.found in
+    let rest = contents c.next.new.self in
+    let other : is_key_line line ≡ false = sym c.gives_key.ensures ∙ c.if-gives_key.false in
+    let header = ap (λ spans. header_of (contents spans)) c.in-Some.ensures.steps ∙ header_more line rest other in
+    record {
+      within = rw c.take_line.ensures.titles (few_taken MOST_TITLES _);
+      titles = rw c.take_line.ensures.titles (titles_step MOST_TITLES old.titles (codes "T:") line (header_of rest))
+          ∙ ap (λ lines. take MOST_TITLES (old.titles ++ filled (values_of (codes "T:") lines))) (sym header) ∙ c.loop-line.invariant.titles;
+      rhythm = rw c.take_line.ensures.rhythm (first_step (option_copied old.rhythm) (codes "R:") line (header_of rest))
+          ∙ ap (λ lines. option_or (option_copied old.rhythm) (slice_get (filled (values_of (codes "R:") lines)) 0)) (sym header) ∙ c.loop-line.invariant.rhythm;
+      no_key = rw c.take_line.ensures.key c.loop-line.invariant.no_key;
+      key = ap (λ values. unwrap_or (slice_get values 0) []) (sym (ap (λ spans. values_of (codes "K:") (contents spans)) c.in-Some.ensures.steps ∙ key_later line rest other)) ∙ c.loop-line.invariant.key;
+    }

@@ -1,0 +1,42 @@
+-- What the header of a tune says (ABC 2.1, 3.1; own profile where the standard is silent).
+use Rattle.std.specs.Prelude.{ℕ, List, [], ◌∷◌, take, map, codes, slice_get, unwrap_or, Option, Bool, true, false, if◌then◌else◌}
+use Rattle.std.specs.List.{filter}
+use Rattle.abc_fields.specs.Bytes.{begins_with}
+use Rattle.abc_fields.specs.Lines.{lines_of}
+use Rattle.abc_fields.specs.Tunes.{is_key_line}
+use Rattle.abc_fields.specs.Values.{field_value}
+use Rattle.abc_fields.specs.declared.header_fields.TheConstants.{MOST_TITLES}
+
+-- the lines up to the first that gives the key, that one included (ABC 2.1, 3.1.14)
+abbrev pub header_of : List (List ℕ) → List (List ℕ)
+header_of [] = []
+header_of (line ∷ lines) = if is_key_line line then line ∷ [] else line ∷ header_of lines
+
+-- the values of the lines that begin with this name and its colon, in order
+abbrev pub values_of : List ℕ → List (List ℕ) → List (List ℕ)
+values_of name lines = map field_value (filter (λ line. begins_with line name) lines)
+
+-- whether a value has a byte
+abbrev pub has_bytes : List ℕ → Bool
+has_bytes [] = false
+has_bytes (byte ∷ value) = true
+
+-- those of the values that are not empty
+abbrev pub filled : List (List ℕ) → List (List ℕ)
+filled values = filter has_bytes values
+
+-- the values that are not empty, of the header's lines that begin with this name and its colon
+abbrev pub header_values : List ℕ → List ℕ → List (List ℕ)
+header_values name text = filled (values_of name (header_of (lines_of text)))
+
+-- the titles, of which the first eight count (ABC 2.1, 3.1.2; own profile)
+abbrev pub titles_of : List ℕ → List (List ℕ)
+titles_of text = take MOST_TITLES (header_values (codes "T:") text)
+
+-- the rhythm, if there is one (ABC 2.1, 3.1; own profile)
+abbrev pub rhythm_of : List ℕ → Option (List ℕ)
+rhythm_of text = slice_get (header_values (codes "R:") text) 0
+
+-- the value of the first line that gives the key (ABC 2.1, 3.1.14), which a tune text has
+abbrev pub key_text_of : List ℕ → List ℕ
+key_text_of text = unwrap_or (slice_get (values_of (codes "K:") (lines_of text)) 0) []

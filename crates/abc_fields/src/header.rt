@@ -1,0 +1,27 @@
+// The header of a tune.
+ghost use Rattle.std.specs.Prelude.{◌≡◌, option_copied};
+ghost use Rattle.abc_fields.specs.Fields.{titles_of, rhythm_of, key_text_of};
+
+use crate::book::gives_key;
+use crate::header_fields::Fields;
+use crate::text::TuneText;
+use crate::text_lines::Lines;
+use crate::values::field_value;
+
+/// What the header of a tune says (ABC 2.1, 3.1; this archive's profile). The header is the lines up to the first that begins with `K:`, that
+/// one included. Case matters, and a line inside a `%%begin` part counts as any other. It takes no memory.
+pub fn fields(text: &TuneText) -> Fields<'_>
+    ensures titles { result.titles ≡ titles_of text.now }
+    ensures rhythm { option_copied result.rhythm ≡ rhythm_of text.now }
+    ensures key { result.key.now ≡ key_text_of text.now }
+{
+    let mut found = Fields::new();
+    for line in Lines::new(text.bytes()) {
+        if gives_key(line.text) {
+            found.key = field_value(line.text);
+            return found;
+        }
+        found.take_line(line.text);
+    }
+    found
+}

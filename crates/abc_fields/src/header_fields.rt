@@ -1,0 +1,117 @@
+// What a tune's header says, as parts of its text.
+ghost use Rattle.std.specs.Prelude.{◌≡◌, ℕ, ◌≤◌, ◌↔◌, List, [], ◌∷◌, ◌++◌, length, take, map, codes, slice_get, option_copied, IsTrue};
+ghost use Rattle.std.specs.Option.{option_or, option_to_list};
+ghost use Rattle.abc_fields.specs.Fields.{filled, values_of};
+
+use crate::values::field_value;
+use arrayvec::ArrayVec;
+use std::marker::Model;
+
+/// How many titles of a tune count (this archive's profile).
+pub const MOST_TITLES: usize = 8;
+
+/// The titles of a tune, in the order of its header, as parts of its text. A clause sees the list of the bytes of each.
+#[derive(Debug, Drop)]
+pub struct Titles<'a> {
+    list: ArrayVec<&'a [u8], MOST_TITLES>,
+}
+
+impl<'a> Model for Titles<'a> {
+    ghost Value = { List (List ℕ) };
+
+    ghost view = { λ titles. map (λ title. title.now) titles.list.items };
+}
+
+impl<'a> Titles<'a> {
+    fn new() -> Titles<'a>
+        ensures { result ≡ [] }
+    {
+        Titles {
+            list: ArrayVec::new(),
+        }
+    }
+
+    /// The titles, from the first on.
+    pub fn as_slice(&self) -> &[&'a [u8]]
+        ensures { map (λ title. title.now) result.now ≡ self.now }
+    {
+        self.list.as_slice()
+    }
+
+    /// How many titles there are.
+    pub fn len(&self) -> usize
+        ensures value { result ≡ length self.now }
+        ensures fits { result ≤ MOST_TITLES }
+    {
+        self.list.len()
+    }
+
+    /// Whether there is none.
+    pub fn is_empty(&self) -> bool
+        ensures { IsTrue result ↔ self.now ≡ [] }
+    {
+        self.list.is_empty()
+    }
+
+    /// The first title, if there is one.
+    pub fn first(&self) -> Option<&'a [u8]>
+        ensures { option_copied result ≡ slice_get self.now 0 }
+    {
+        self.as_slice().first().copied()
+    }
+
+    // Takes the value of the next title line: it counts unless it is empty or there are enough.
+    fn take_value(&mut self, value: &'a [u8])
+        ensures { self.new ≡ take MOST_TITLES (self.old ++ filled (value.now ∷ [])) }
+    {
+        if !self.list.is_full() && !value.is_empty() {
+            self.list.push(value);
+        }
+    }
+}
+
+/// What the header of a tune says (ABC 2.1, 3.1), as parts of the tune's text.
+#[derive(Debug, Drop)]
+pub struct Fields<'a> {
+    /// The first values of `T:` fields that are not empty, eight at most (ABC 2.1, 3.1.2; this archive's profile).
+    pub titles: Titles<'a>,
+    /// The first value of an `R:` field that is not empty.
+    pub rhythm: Option<&'a [u8]>,
+    /// The value of the first `K:` field, which ends the header (ABC 2.1, 3.1.14). It may be empty.
+    pub key: &'a [u8],
+}
+
+impl<'a> Fields<'a> {
+    pub(crate) fn new() -> Fields<'a>
+        ensures titles { result.titles ≡ [] }
+        ensures rhythm { option_copied result.rhythm ≡ None }
+        ensures key { result.key.now ≡ [] }
+    {
+        Fields {
+            titles: Titles::new(),
+            rhythm: None,
+            key: b"",
+        }
+    }
+
+    // Takes the next line of the header, which does not give the key.
+    pub(crate) fn take_line(&mut self, line: &'a [u8])
+        requires { length self.old.titles ≤ MOST_TITLES }
+        ensures titles { self.new.titles ≡ take MOST_TITLES (self.old.titles ++ filled (values_of (codes "T:") (line.now ∷ []))) }
+        ensures rhythm { option_copied self.new.rhythm ≡ option_or (option_copied self.old.rhythm) (slice_get (filled (values_of (codes "R:") (line.now ∷ []))) 0) }
+        ensures key { self.new.key ≡ self.old.key }
+    {
+        if line.starts_with(b"T:") {
+            self.titles.take_value(field_value(line));
+        } else if line.starts_with(b"R:") && self.rhythm.is_none() {
+            self.rhythm = unless_empty(field_value(line));
+        }
+    }
+}
+
+// The value, unless it is empty.
+fn unless_empty(value: &[u8]) -> Option<&[u8]>
+    ensures { option_copied result ≡ slice_get (filled (value.now ∷ [])) 0 }
+{
+    if value.is_empty() { None } else { Some(value) }
+}

@@ -1,0 +1,68 @@
+// The letters of notes, and the accidentals that change them.
+ghost use Rattle.std.specs.Prelude.{◌≡◌, ◌≤ℤ◌, pos, negsuc};
+ghost use Rattle.abc_keys.specs.Letters.{capital_letter, letter_of, semitones_of};
+
+/// The letter of a note or of a tonic (ABC 2.1, 4.1).
+#[derive(Clone, Copy, Debug, PartialEq, Eq)]
+pub enum Letter {
+    C,
+    D,
+    E,
+    F,
+    G,
+    A,
+    B,
+}
+
+/// What is done to a letter: from two semitones down to two up (ABC 2.1, 4.2).
+#[derive(Clone, Copy, Debug, PartialEq, Eq)]
+pub enum Accidental {
+    DoubleFlat,
+    Flat,
+    Natural,
+    Sharp,
+    DoubleSharp,
+}
+
+impl Accidental {
+    /// The semitones that it adds, from -2 to 2.
+    pub fn semitones(self) -> i32
+        ensures value { result ≡ semitones_of self }
+        ensures low { negsuc 1 ≤ℤ result }
+        ensures high { result ≤ℤ pos 2 }
+    {
+        match self {
+            Accidental::DoubleFlat => -2,
+            Accidental::Flat => -1,
+            Accidental::Natural => 0,
+            Accidental::Sharp => 1,
+            Accidental::DoubleSharp => 2,
+        }
+    }
+}
+
+/// The letter that a byte names, if it is one of `A` to `G` or `a` to `g`.
+pub fn letter_of(byte: u8) -> Option<Letter>
+    ensures { result ≡ letter_of byte }
+{
+    match byte {
+        b'A' | b'a' => Some(Letter::A),
+        b'B' | b'b' => Some(Letter::B),
+        b'C' | b'c' => Some(Letter::C),
+        b'D' | b'd' => Some(Letter::D),
+        b'E' | b'e' => Some(Letter::E),
+        b'F' | b'f' => Some(Letter::F),
+        b'G' | b'g' => Some(Letter::G),
+        _ => None,
+    }
+}
+
+// The letter that a capital names.
+pub(crate) fn capital_letter(byte: u8) -> Option<Letter>
+    ensures { result ≡ capital_letter byte }
+{
+    match byte {
+        b'A'..=b'G' => letter_of(byte),
+        _ => None,
+    }
+}
