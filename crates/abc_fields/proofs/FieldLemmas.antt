@@ -1,15 +1,17 @@
 -- How a line adds to what a header says.
-use Rattle.std.proofs.Common.{◌≡◌, ℕ, zero, suc, ◌≤◌, true, false, eqb, List, [], ◌∷◌, ◌++◌, length, map, take, Option, None, Some, refl, ap, sym, ◌∙◌, arith}
-use Rattle.std.specs.Prelude.{slice_get, codes}
-use Rattle.std.specs.List.{filter}
+use Rattle.std.proofs.Common.{◌≡◌, ℕ, zero, suc, ◌≤◌, true, false, eqb, List, [], ◌∷◌, ◌++◌, length, map, take, Option, None, Some, refl, ap, sym, ◌∙◌, arith, inl, ⊎_elim}
+use Rattle.std.specs.Prelude.{slice_get, codes, unwrap_or}
+use Rattle.std.specs.List.{filter, AllByRecursion}
 use Rattle.std.specs.Option.{option_or}
-use Rattle.std.proofs.lemmas.Bool.{eqb-true, and_parts}
+use Rattle.std.proofs.lemmas.Bool.{eqb-true, and_parts, cases_Bool}
 use Rattle.std.proofs.lemmas.List.{append-nil, append_assoc, take_all, take-append-le, map-append}
 use Rattle.std.proofs.lemmas.List.Elements.{filter-append}
-use Rattle.abc_fields.specs.Bytes.{begins_with}
-use Rattle.abc_fields.specs.Tunes.{is_key_line}
+use Rattle.abc_fields.specs.Bytes.{line_feed, begins_with}
+use Rattle.abc_fields.specs.Tunes.{is_key_line, has_key, joined, IsTuneLine, IsTuneText}
+use Rattle.abc_fields.specs.Lines.{lines_of}
+use Rattle.abc_fields.proofs.LineLaw.{pieces_of_line}
 use Rattle.abc_fields.specs.Values.{field_value}
-use Rattle.abc_fields.specs.Fields.{header_of, values_of, has_bytes, filled}
+use Rattle.abc_fields.specs.Fields.{header_of, values_of, has_bytes, filled, key_text_of, HeaderEndsWithKey}
 
 -- the first titles of enough are those
 pub enough_titles : (n : ℕ) (titles more : List (List ℕ)) → length titles ≡ n → titles ≡ take n (titles ++ more)
@@ -98,3 +100,36 @@ header_more line lines other = rw other refl
 -- such a line has no value of a key
 pub key_later : (line : List ℕ) (lines : List (List ℕ)) → is_key_line line ≡ false → values_of (codes "K:") (line ∷ lines) ≡ values_of (codes "K:") lines
 key_later line lines other = rw other refl
+
+-- the value of a line that gives the key comes first
+pub key_here : (line : List ℕ) (lines : List (List ℕ)) → is_key_line line ≡ true → unwrap_or (slice_get (values_of (codes "K:") (line ∷ lines)) 0) [] ≡ field_value line
+key_here line lines is = rw is refl
+
+-- where a line gives the key, the header ends with the first such line
+pub header_ends : (lines : List (List ℕ)) → has_key lines ≡ true → HeaderEndsWithKey lines (unwrap_or (slice_get (values_of (codes "K:") lines) 0) [])
+header_ends [] keyed = cc
+header_ends (line ∷ lines) keyed = ⊎_elim
+    (λ is. record { before = []; line = line; header = rw is refl; none_before = refl; gives_key = is; value = sym (key_here line lines is) })
+    (λ other.
+    let later = header_ends lines (rw other at keyed) in
+    record {
+      before = line ∷ later.before;
+      line = later.line;
+      header = ap (λ ls. line ∷ ls) later.header ∙ sym (header_more line lines other);
+      none_before = rw other later.none_before;
+      gives_key = later.gives_key;
+      value = later.value ∙ ap (λ values. unwrap_or (slice_get values 0) []) (sym (key_later line lines other));
+    })
+    (cases_Bool (is_key_line line))
+
+-- the lines that a tune text is made of are its lines
+lines_of-joined : (lines : List (List ℕ)) → AllByRecursion IsTuneLine lines → lines_of (joined lines) ≡ lines
+lines_of-joined [] each = refl
+lines_of-joined (line ∷ lines) each =
+    ap lines_of (append_assoc line (line_feed ∷ []) (joined lines))
+    ∙ ap (map (λ p. p.content)) (pieces_of_line line (line_feed ∷ []) (joined lines) each.0.plain (inl refl))
+    ∙ ap (λ ls. line ∷ ls) (lines_of-joined lines each.1)
+
+-- the header of a tune text ends with a line that gives the key
+pub tune_key : (text : List ℕ) → IsTuneText text → HeaderEndsWithKey (lines_of text) (key_text_of text)
+tune_key text is = header_ends (lines_of text) (ap has_key (sym (ap lines_of is.whole) ∙ lines_of-joined is.lines is.each) ∙ is.key)

@@ -157,7 +157,7 @@ first_span text front content rest at low whole place above = record {
 }
 
 -- an ending has a byte
-ending_has_byte : (ending rest : List ℕ) → IsEnding ending rest → 0 < length ending
+pub ending_has_byte : (ending rest : List ℕ) → IsEnding ending rest → 0 < length ending
 ending_has_byte ending rest (inl feed) = rw feed (omega arith)
 ending_has_byte ending rest (inr (inl return_feed)) = rw return_feed (omega arith)
 ending_has_byte ending rest (inr (inr return)) = rw return.0 (omega arith)

@@ -1,9 +1,9 @@
 -- What the header of a tune says (ABC 2.1, 3.1; own profile where the standard is silent).
-use Rattle.std.specs.Prelude.{ℕ, List, [], ◌∷◌, take, map, codes, slice_get, unwrap_or, Option, Bool, true, false, if◌then◌else◌}
+use Rattle.std.specs.Prelude.{◌≡◌, ℕ, List, [], ◌∷◌, ◌++◌, take, map, codes, slice_get, unwrap_or, Option, Bool, true, false, if◌then◌else◌}
 use Rattle.std.specs.List.{filter}
 use Rattle.abc_fields.specs.Bytes.{begins_with}
 use Rattle.abc_fields.specs.Lines.{lines_of}
-use Rattle.abc_fields.specs.Tunes.{is_key_line}
+use Rattle.abc_fields.specs.Tunes.{is_key_line, has_key}
 use Rattle.abc_fields.specs.Values.{field_value}
 use Rattle.abc_fields.specs.declared.header_fields.TheConstants.{MOST_TITLES}
 
@@ -40,3 +40,12 @@ rhythm_of text = slice_get (header_values (codes "R:") text) 0
 -- the value of the first line that gives the key (ABC 2.1, 3.1.14), which a tune text has
 abbrev pub key_text_of : List ℕ → List ℕ
 key_text_of text = unwrap_or (slice_get (values_of (codes "K:") (lines_of text)) 0) []
+
+-- the header of these lines ends with the first line that gives the key, and this is its value
+pub record HeaderEndsWithKey (lines : List (List ℕ)) (key : List ℕ) : Type 0 where
+  pub before : List (List ℕ)
+  pub line : List ℕ
+  pub header : before ++ line ∷ [] ≡ header_of lines
+  pub none_before : has_key before ≡ false
+  pub gives_key : is_key_line line ≡ true
+  pub value : field_value line ≡ key

@@ -1,4 +1,4 @@
--- What the value of a field is (ABC 2.1, 2.2.3 and 3.1; own profile where the standard is silent).
+-- What the value of a field is (ABC 2.1, 2.2 and 3.1; own profile where the standard is silent).
 use Rattle.std.specs.Prelude.{◌≡◌, ℕ, List, [], ◌∷◌, ◌++◌, Bool, true, false, not, ◌==◌, ◌&&◌, ◌⊎◌, drop, if◌then◌else◌}
 use Rattle.abc_fields.specs.Bytes.{percent, backslash, is_blank, is_all_blank}
 use Rattle.abc_fields.specs.Words.{trimmed}

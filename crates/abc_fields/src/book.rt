@@ -7,6 +7,7 @@ ghost use Rattle.abc_fields.specs.Tunes.{is_empty_line, is_tune_start, is_key_li
 ghost use Rattle.abc_fields.specs.Books.{has_return, begins_with_tune, is_plain, runs_answer, book_answer};
 ghost use Rattle.abc_fields.specs.OpenBooks.{open_answer, KeepsAnswer};
 
+use crate::line_kinds::is_key_line;
 use crate::text::TuneText;
 use crate::text_lines::Lines;
 use memchr::memchr;
@@ -132,12 +133,6 @@ fn starts_tune(line: &[u8]) -> bool
     line.starts_with(b"X:")
 }
 
-pub(crate) fn gives_key(line: &[u8]) -> bool
-    ensures { result ≡ is_key_line line.now }
-{
-    line.starts_with(b"K:")
-}
-
 // A tune whose end has not come: its text so far, and whether that has a `K:` line.
 #[derive(Drop)]
 struct OpenTune {
@@ -172,22 +167,25 @@ impl OpenTune {
         text.push(b'\n')?;
         Ok(OpenTune {
             text,
-            has_key: has_key || gives_key(line),
+            has_key: has_key || is_key_line(line),
         })
     }
 }
 
 // The tunes of the lines of a book.
 fn tunes_of(alloc: Global, book: &[u8], longest: usize) -> Result<Vec<TuneText>, BookFault>
+    requires { length book.now ≤ LONGEST_BOOK }
     ensures { MatchResult result (λ tunes. runs_answer longest 1 (tune_runs (lines_of book.now)) ≡ Ok tunes.items)
         (λ e. (e ≡ BookFault.OutOfMemory) ⊎ (runs_answer longest 1 (tune_runs (lines_of book.now)) ≡ Err e)) }
 {
+    // No text is longer than its book, so the lesser of these limits refuses the same texts.
+    let limit = longest.min(LONGEST_BOOK);
     let mut tunes = Vec::new(alloc);
     let mut started = None;
     for line in Lines::new(book) {
-        started = take_line(alloc, &mut tunes, started, line.text, longest)?;
+        started = take_line(alloc, &mut tunes, started, line.text, limit)?;
     }
-    close_tune(&mut tunes, started, longest)?;
+    close_tune(&mut tunes, started, limit)?;
     Ok(tunes)
 }
 
@@ -199,7 +197,8 @@ fn take_line(
     line: &[u8],
     longest: usize,
 ) -> Result<Option<OpenTune>, BookFault>
-    requires { has_no_ending line.now ≡ true }
+    requires plain { has_no_ending line.now ≡ true }
+    requires short { longest ≤ LONGEST_BOOK }
     ensures { KeepsAnswer result (λ rest. open_answer longest tunes.old.items started (line.now ∷ rest)) (λ now. open_answer longest tunes.new.items now) (λ _. ⊤) }
 {
     if starts_tune(line) {
@@ -222,6 +221,7 @@ fn close_tune(
     started: Option<OpenTune>,
     longest: usize,
 ) -> Result<(), BookFault>
+    requires { longest ≤ LONGEST_BOOK }
     ensures { KeepsAnswer result (open_answer longest tunes.old.items started) (λ _. open_answer longest tunes.new.items None) (λ rest. tune_run rest ≡ []) }
 {
     if let Some(tune) = started {

@@ -1,9 +1,10 @@
 // The header of a tune.
 ghost use Rattle.std.specs.Prelude.{◌≡◌, option_copied};
-ghost use Rattle.abc_fields.specs.Fields.{titles_of, rhythm_of, key_text_of};
+ghost use Rattle.abc_fields.specs.Fields.{titles_of, rhythm_of, key_text_of, HeaderEndsWithKey};
+ghost use Rattle.abc_fields.specs.Lines.{lines_of};
 
-use crate::book::gives_key;
 use crate::header_fields::Fields;
+use crate::line_kinds::is_key_line;
 use crate::text::TuneText;
 use crate::text_lines::Lines;
 use crate::values::field_value;
@@ -14,10 +15,11 @@ pub fn fields(text: &TuneText) -> Fields<'_>
     ensures titles { result.titles ≡ titles_of text.now }
     ensures rhythm { option_copied result.rhythm ≡ rhythm_of text.now }
     ensures key { result.key.now ≡ key_text_of text.now }
+    ensures key_line { HeaderEndsWithKey (lines_of text.now) result.key.now }
 {
     let mut found = Fields::new();
     for line in Lines::new(text.bytes()) {
-        if gives_key(line.text) {
+        if is_key_line(line.text) {
             found.key = field_value(line.text);
             return found;
         }

@@ -1,6 +1,6 @@
 // What a tune's header says, as parts of its text.
 ghost use Rattle.std.specs.Prelude.{◌≡◌, ℕ, ◌≤◌, ◌↔◌, List, [], ◌∷◌, ◌++◌, length, take, map, codes, slice_get, option_copied, IsTrue};
-ghost use Rattle.std.specs.Option.{option_or, option_to_list};
+ghost use Rattle.std.specs.Option.{option_or};
 ghost use Rattle.abc_fields.specs.Fields.{filled, values_of};
 
 use crate::values::field_value;

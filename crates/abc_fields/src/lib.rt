@@ -15,7 +15,7 @@ mod values;
 pub use book::{BookFault, LONGEST_BOOK, TuneFault, split_book};
 pub use header::fields;
 pub use header_fields::{Fields, MOST_TITLES, Titles};
-pub use line_kinds::{in_part_after, is_comment, is_continuation, is_field_line};
+pub use line_kinds::{in_part_after, is_comment, is_continuation, is_field_line, is_key_line};
 pub use text::{ByteText, TuneText};
 pub use text_lines::{Line, Lines};
 pub use values::{field_value, trim_blanks, without_comment};

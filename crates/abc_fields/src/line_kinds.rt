@@ -1,5 +1,6 @@
 // The kinds of lines.
 ghost use Rattle.std.specs.Prelude.{◌≡◌};
+ghost use Rattle.abc_fields.specs.Tunes.{is_key_line};
 ghost use Rattle.abc_fields.specs.LineKinds.{is_field_line, is_continuation, is_comment, in_part_after};
 
 /// Whether a line is a field: a letter directly before a colon (ABC 2.1, 3.1).
@@ -10,6 +11,13 @@ pub fn is_field_line(line: &[u8]) -> bool
         [letter, b':', ..] => letter.is_ascii_alphabetic(),
         _ => false,
     }
+}
+
+/// Whether a line gives the key: it begins with `K:`. The first one ends the header of its tune (ABC 2.1, 3.1.14).
+pub fn is_key_line(line: &[u8]) -> bool
+    ensures { result ≡ is_key_line line.now }
+{
+    line.starts_with(b"K:")
 }
 
 /// Whether a line goes on with the field above it: it begins with `+:` (ABC 2.1, 3.3).

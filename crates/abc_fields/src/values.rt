@@ -8,7 +8,7 @@ use bstr::ByteSlice;
 use memchr::memchr;
 
 /// The value of a field line: what follows the colon, without a comment, and without the spaces and tabs at its ends
-/// (ABC 2.1, 2.2.3 and 3.1; this archive's profile). The field's name and the colon are the first two bytes, whatever they are;
+/// (ABC 2.1, 2.2 and 3.1; this archive's profile). The field's name and the colon are the first two bytes, whatever they are;
 /// the value of a shorter line is empty.
 pub fn field_value(line: &[u8]) -> &[u8]
     ensures { result.now ≡ field_value line.now }
@@ -20,7 +20,10 @@ pub fn field_value(line: &[u8]) -> &[u8]
 }
 
 /// The line up to its comment, if it has one: the first percent sign that no backslash stands directly before begins it
-/// (ABC 2.1, 2.2.3; this archive's profile). The backslashes stay.
+/// (ABC 2.1, 2.2; this archive's profile). The backslashes stay.
+///
+/// The law of comments stands beside it: it is the front of the line, the rest is nothing or begins with a percent sign that no backslash
+/// stands directly before, and a backslash stands directly before each percent sign that stays.
 pub fn without_comment(line: &[u8]) -> &[u8]
     ensures value { result.now ≡ uncommented line.now }
     ensures law { IsUncommented line.now result.now }
@@ -53,7 +56,8 @@ fn is_blank(c: char) -> bool
 
 /// The text without the spaces and tabs at its ends.
 ///
-/// Its law stands beside it, and that blanks put round a text change nothing.
+/// Its law stands beside it: the text is this, with spaces and tabs before and after it, and this neither begins nor ends with one.
+/// So spaces and tabs that are put round a text change nothing.
 pub fn trim_blanks(text: &[u8]) -> &[u8]
     ensures value { result.now ≡ trimmed text.now }
     ensures law { IsTrimmed text.now result.now }

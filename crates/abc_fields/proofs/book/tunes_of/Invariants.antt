@@ -9,5 +9,5 @@ use Rattle.abc_fields.proofs.book.tunes_of.Given as goal
 abbrev pub invariant-loop-line : goal.invariant-loop-line
 invariant-loop-line l = record {
   plain : AllPlain (contents l.line-iterator);
-  answer : open_answer l.longest l.tunes.items l.started (contents l.line-iterator) ≡ runs_answer l.longest 1 (tune_runs (lines_of l.book));
+  answer : open_answer l.limit l.tunes.items l.started (contents l.line-iterator) ≡ runs_answer l.longest 1 (tune_runs (lines_of l.book));
 }

@@ -1,11 +1,11 @@
-use Rattle.std.proofs.Common.{◌≡◌, ◌∙◌, ◌++◌, [], take, ap, sym, false}
+use Rattle.std.proofs.Common.{true, ◌≡◌, ◌∙◌, ◌++◌, [], take, ap, sym, false}
 use Rattle.std.specs.Prelude.{codes, slice_get, option_copied, unwrap_or}
 use Rattle.std.specs.Option.{option_or}
 use Rattle.abc_fields.specs.Tunes.{is_key_line}
-use Rattle.abc_fields.specs.Fields.{header_of, values_of, filled}
+use Rattle.abc_fields.specs.Fields.{header_of, values_of, filled, key_text_of}
 use Rattle.abc_fields.specs.declared.header_fields.TheConstants.{MOST_TITLES}
 use Rattle.abc_fields.proofs.BookLemmas.{contents}
-use Rattle.abc_fields.proofs.FieldLemmas.{few_taken, titles_step, first_step, header_more, key_later}
+use Rattle.abc_fields.proofs.FieldLemmas.{few_taken, titles_step, first_step, header_more, key_here, key_later, tune_key}
 use Rattle.abc_fields.proofs.header.fields.Goals as goal
 
 pub loop-line-preserved : goal.loop-line-preserved
@@ -13,7 +13,7 @@ loop-line-preserved c =
     let line = c.in-Some.line.text.now in
     let old = c.loop-line.found in
     let rest = contents c.next.new.self in
-    let other : is_key_line line ≡ false = sym c.gives_key.ensures ∙ c.if-gives_key.false in
+    let other : is_key_line line ≡ false = sym c.is_key_line.ensures ∙ c.if-is_key_line.false in
     let header = ap (λ spans. header_of (contents spans)) c.in-Some.ensures.steps ∙ header_more line rest other in
     record {
       within = rw c.take_line.ensures.titles (few_taken MOST_TITLES _);
@@ -24,3 +24,17 @@ loop-line-preserved c =
       no_key = rw c.take_line.ensures.key c.loop-line.invariant.no_key;
       key = ap (λ values. unwrap_or (slice_get values 0) []) (sym (ap (λ spans. values_of (codes "K:") (contents spans)) c.in-Some.ensures.steps ∙ key_later line rest other)) ∙ c.loop-line.invariant.key;
     }
+
+pub returns-then-is_key_line-clause-key_line : goal.returns-then-is_key_line-clause-key_line
+returns-then-is_key_line-clause-key_line c =
+    let line = c.in-Some.line.text.now in
+    let is : is_key_line line ≡ true = sym c.is_key_line.ensures ∙ c.if-is_key_line.true in
+    let first = ap (λ spans. unwrap_or (slice_get (values_of (codes "K:") (contents spans)) 0) []) c.in-Some.ensures.steps ∙ key_here line (contents c.next.new.self) is in
+    let value : c.field_value-found.result.now ≡ key_text_of c.args.text.now = c.field_value-found.ensures ∙ sym first ∙ c.loop-line.invariant.key in
+    rw value (tune_key c.args.text.now c.bytes.ensures.tune_text)
+
+pub returns-clause-key_line : goal.returns-clause-key_line
+returns-clause-key_line c =
+    let none = ap (λ spans. unwrap_or (slice_get (values_of (codes "K:") (contents spans)) 0) []) c.in-None.ensures.steps.0 in
+    let value : c.loop-line.found.key.now ≡ key_text_of c.args.text.now = c.loop-line.invariant.no_key ∙ sym none ∙ c.loop-line.invariant.key in
+    rw value (tune_key c.args.text.now c.bytes.ensures.tune_text)

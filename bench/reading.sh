@@ -1,0 +1,37 @@
+#!/usr/bin/env bash
+# Usage: bench/reading.sh [EXECUTABLE]
+# Times the reading of 20,000 tunes (3.8 MB), layer by layer, by the program `reading_bench`. A line is a layer, the milliseconds of one pass over all tunes
+# (those of 21 passes less those of 1 pass, by 20), and what a pass came to.
+set -u
+root=$(CDPATH='' cd -- "$(dirname -- "$0")/.." && pwd) || exit 1
+program=${1:-$root/crates/reading_bench/out/reading_bench}
+work=$root/bench/work
+[ -x "$program" ] || { echo "no program at $program: build it by 'rt run' in crates/reading_bench" >&2; exit 1; }
+mkdir -p "$work" || exit 1
+export LC_ALL=C
+
+awk 'BEGIN {
+    split("G D Em Ador Bb F#m C Edor AMix Dmin", keys, " ")
+    for (n = 1; n <= 20000; n++) {
+        printf "X:%d\nT:Tune %05d\nC:Traditional\nO:Ireland\nR:reel\nM:4/4\nL:1/8\nK:%s\n", n, n, keys[n % 10 + 1]
+        for (i = 0; i < 6; i++) printf "GABc dedB|c2ec B2dB|\n"
+        print ""
+    }
+}' > "$work/tunes.abc" || exit 1
+
+# Prints the milliseconds that so many passes take, and keeps what they came to.
+passes() {
+    local start end
+    start=$(date +%s%N)
+    total=$("$program" "$1" "$2" < "$work/tunes.abc") || exit 1
+    end=$(date +%s%N)
+    nanoseconds=$((end - start))
+}
+
+for layer in split fields keys; do
+    passes "$layer" 1
+    one=$nanoseconds
+    passes "$layer" 21
+    awk -v layer="$layer" -v total="$total" -v spent=$((nanoseconds - one)) \
+        'BEGIN { printf "%-8s %8.2f ms  %s\n", layer, spent / 20 / 1000000, total }'
+done

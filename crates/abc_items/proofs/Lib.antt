@@ -1,0 +1,9 @@
+pub mod Runs
+pub mod ClosingMarks
+pub mod RowLengths
+pub mod ClosedRows
+pub mod TupletRow
+pub mod NoteRow
+pub mod FirstItem
+pub mod ItemLaw
+pub mod Places

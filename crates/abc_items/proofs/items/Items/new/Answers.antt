@@ -1,0 +1,19 @@
+use Rattle.abc_items.proofs.ItemLaw.{items_are, items_unique}
+use Rattle.abc_items.proofs.Places.{spans_fill, spans_have_items, spans_fit}
+use Rattle.abc_items.specs.Rows.{items_of}
+use Rattle.abc_items.proofs.items.Items.new.Goals as goal
+
+pub returns-clause-are_items : goal.returns-clause-are_items
+returns-clause-are_items c = items_are c.args.text.now
+
+pub returns-clause-no_other_items : goal.returns-clause-no_other_items
+returns-clause-no_other_items c = items_unique c.args.text.now
+
+pub returns-clause-texts : goal.returns-clause-texts
+returns-clause-texts c = spans_have_items 0 (items_of c.args.text.now)
+
+pub returns-clause-places : goal.returns-clause-places
+returns-clause-places c = spans_fill c.args.text.now
+
+pub returns-clause-rows : goal.returns-clause-rows
+returns-clause-rows c = spans_fit c.args.text.now

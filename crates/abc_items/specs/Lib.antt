@@ -1,0 +1,6 @@
+pub mod Marks
+pub mod Grammar
+pub mod Rows
+pub mod Spans
+pub mod Misses
+pub mod ItemView

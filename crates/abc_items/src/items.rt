@@ -1,0 +1,104 @@
+// The items of a text.
+ghost use Rattle.std.specs.Prelude.{◌≡◌, ℕ, ◌+◌, ◌^◌, ◌<◌, ◌≤◌, List, map, length};
+ghost use Rattle.std.specs.Iterator.{YieldsFirstBy, item_count};
+ghost use Rattle.std.specs.List.{All};
+ghost use Rattle.abc_items.specs.Grammar.{Token, AreItems};
+ghost use Rattle.abc_items.specs.Rows.{items_of};
+ghost use Rattle.abc_items.specs.Spans.{Span, spans_from, spans_of, token_of, SpansFill, FitsItsRow};
+ghost use Rattle.abc_items.specs.Misses.{AreMissing};
+ghost use Rattle.abc_items.specs.ItemView.{item_span};
+
+use crate::kinds::Kind;
+use crate::rows::{Misses, first_item};
+use std::marker::Model;
+
+/// An item of a music line.
+#[derive(Clone, Copy, Debug)]
+pub struct Item<'a> {
+    /// Which row of the table of items it is of.
+    pub kind: Kind,
+    /// The index of its first byte in the text that the items were read from.
+    pub from: usize,
+    /// The index past its last byte.
+    pub to: usize,
+    /// Its bytes, of which there is at least one.
+    pub text: &'a [u8],
+}
+
+/// The items of a text, in order, as parts of it (ABC 2.1, 3.2 and 4.1 to 4.19). A clause sees the list of the items that are left.
+#[derive(Drop)]
+pub struct Items<'a> {
+    rest: &'a [u8],
+    at: usize,
+    misses: Misses,
+}
+
+impl<'a> Model for Items<'a> {
+    ghost Value = { List Span };
+
+    ghost view = { λ items. spans_from items.at (items_of items.rest.now) };
+
+    ghost invariant = { λ items. (items.at + length items.rest.now < 2 ^ 64) × AreMissing items.misses items.rest.now };
+}
+
+impl<'a> Items<'a> {
+    /// The items of `text`: a music line, or what is inside a chord.
+    ///
+    /// The law of items stands beside it: they are items by the table, and no others are; their texts are the whole text, one after another, from its
+    /// front to its end.
+    pub fn new(text: &'a [u8]) -> Items<'a>
+        ensures items { result ≡ spans_of text.now }
+
+        ensures are_items { AreItems (items_of text.now) text.now }
+        ensures no_other_items { (items : List Token) → AreItems items text.now → items ≡ items_of text.now }
+        ensures texts { map token_of (spans_of text.now) ≡ items_of text.now }
+        ensures places { SpansFill text.now 0 (spans_of text.now) }
+        ensures rows { All (FitsItsRow text.now) (spans_of text.now) }
+    {
+        Items {
+            rest: text,
+            at: 0,
+            misses: Misses {
+                brace: false,
+                bracket: false,
+            },
+        }
+    }
+
+    /// A second reader of the items that are left.
+    pub fn again(&self) -> Items<'a>
+        ensures { result ≡ self.now }
+    {
+        Items {
+            rest: self.rest,
+            at: self.at,
+            misses: self.misses,
+        }
+    }
+}
+
+impl<'a> Iterator for Items<'a> {
+    type Item = Item<'a>;
+
+    ghost next_gives = { YieldsFirstBy item_span (λ items. items) };
+
+    ghost remaining = { item_count (λ items. items) };
+
+    fn next(&mut self) -> Option<Item<'a>> {
+        if self.rest.is_empty() {
+            return None;
+        }
+        let front = first_item(self.rest, &mut self.misses);
+        let (text, rest) = self.rest.split_at(front.length);
+        let from = self.at;
+        let to = from + front.length;
+        self.rest = rest;
+        self.at = to;
+        Some(Item {
+            kind: front.kind,
+            from,
+            to,
+            text,
+        })
+    }
+}

@@ -1,0 +1,291 @@
+// The item at the front of a text: one function for each row of the table of items.
+ghost use Rattle.std.specs.Prelude.{◌≡◌, ℕ, ◌<◌, ◌≤◌, ◌+◌, List, length, IfSome, Some, None, drop, IsTrue};
+ghost use Rattle.std.specs.List.{prefix_len};
+ghost use Rattle.std.specs.Char.{is_ascii_digit};
+ghost use Rattle.abc_keys.specs.Keys.{begins};
+ghost use Rattle.abc_items.specs.Marks.{closing_brace, closing_bracket, is_closing_bracket, is_octave_mark, is_chord_byte, has_no};
+ghost use Rattle.abc_items.specs.Grammar.{spelling_of, IsNote};
+ghost use Rattle.abc_items.specs.Rows.{up_to, enclosed, inline_field, chord, colon_part, colon_parts, tuplet, own_accidental, note, first_item};
+ghost use Rattle.abc_items.specs.Misses.{AreMissing};
+
+use crate::kinds::{Front, Kind};
+use abc_keys::{Accidental, accidental_of, doubled, letter_of};
+use memchr::{memchr, memchr3};
+
+// Closing marks that were sought and not found, so that no later search for one begins: a text of many opening marks and no closing one is read in
+// time linear in its length. The quotation mark and the marks of decorations need no such memory. Each closes itself, so where a search for one
+// fails, the text has no further one that would begin another search.
+#[derive(Clone, Copy)]
+pub(crate) struct Misses {
+    // No `}` is left.
+    pub(crate) brace: bool,
+    // No `]` is left.
+    pub(crate) bracket: bool,
+}
+
+// How many bytes there are up to the first closing mark, that one too.
+fn up_to(bytes: &[u8], closing: u8) -> Option<usize>
+    ensures value { result ≡ up_to closing bytes.now }
+    ensures within { IfSome result (λ n. (0 < n) × (n ≤ length bytes.now)) }
+{
+    memchr(closing, bytes).map(|before| before + 1)
+}
+
+// The same, with no search where the mark is known to be missing. Remembers that it is.
+fn up_to_or_miss(bytes: &[u8], closing: u8, missing: &mut bool) -> Option<usize>
+    requires { IsTrue missing.old → IsTrue (has_no closing bytes.now) }
+    ensures value { result ≡ up_to closing bytes.now }
+    ensures within { IfSome result (λ n. (0 < n) × (n ≤ length bytes.now)) }
+    ensures missing { IsTrue missing.new → IsTrue (has_no closing bytes.now) }
+{
+    if *missing {
+        return None;
+    }
+    let found = up_to(bytes, closing);
+    *missing = found.is_none();
+    found
+}
+
+// A text between two marks that are the same.
+#[tactic(auto, unfolding(crate::specs::Rows::enclosed))]
+fn enclosed(bytes: &[u8], mark: u8) -> Option<usize>
+    ensures value { result ≡ enclosed mark mark bytes.now }
+    ensures within { IfSome result (λ n. (0 < n) × (n ≤ length bytes.now)) }
+{
+    match bytes {
+        [first, rest @ ..] if *first == mark => up_to(rest, mark).map(|n| n + 1),
+        _ => None,
+    }
+}
+
+#[tactic(auto, unfolding(crate::specs::Rows::enclosed))]
+fn grace(bytes: &[u8], missing: &mut bool) -> Option<usize>
+    requires { IsTrue missing.old → IsTrue (has_no closing_brace bytes.now) }
+    ensures value { result ≡ enclosed 123 125 bytes.now }
+    ensures within { IfSome result (λ n. (0 < n) × (n ≤ length bytes.now)) }
+    ensures missing { IsTrue missing.new → IsTrue (has_no closing_brace bytes.now) }
+{
+    match bytes {
+        [b'{', rest @ ..] => up_to_or_miss(rest, b'}', missing).map(|n| n + 1),
+        _ => None,
+    }
+}
+
+#[tactic(auto, unfolding(crate::specs::Rows::inline_field))]
+fn inline_field(bytes: &[u8], missing: &mut bool) -> Option<usize>
+    requires { IsTrue missing.old → IsTrue (has_no closing_bracket bytes.now) }
+    ensures value { result ≡ inline_field bytes.now }
+    ensures within { IfSome result (λ n. (0 < n) × (n ≤ length bytes.now)) }
+    ensures missing { IsTrue missing.new → IsTrue (has_no closing_bracket bytes.now) }
+{
+    match bytes {
+        [b'[', name, b':', rest @ ..] if name.is_ascii_alphabetic() => {
+            up_to_or_miss(rest, b']', missing).map(|n| n + 3)
+        }
+        _ => None,
+    }
+}
+
+// How many bytes at the front may stand in a chord. The search stops at the next `[` at the latest, and so no two such searches pass over one byte.
+fn chord_bytes(bytes: &[u8]) -> usize
+    ensures value { result ≡ prefix_len is_chord_byte bytes.now }
+    ensures within { result ≤ length bytes.now }
+{
+    memchr3(b'[', b']', b'|', bytes).unwrap_or(bytes.len())
+}
+
+fn begins_with_digit(bytes: &[u8]) -> bool
+    ensures { result ≡ begins is_ascii_digit bytes.now }
+{
+    match bytes {
+        [byte, ..] => byte.is_ascii_digit(),
+        [] => false,
+    }
+}
+
+fn begins_with_closing_bracket(bytes: &[u8]) -> bool
+    ensures value { result ≡ begins is_closing_bracket bytes.now }
+    ensures some { IsTrue result → 0 < length bytes.now }
+{
+    matches!(bytes, [b']', ..])
+}
+
+#[tactic(auto, unfolding(crate::specs::Rows::chord))]
+fn chord(bytes: &[u8]) -> Option<usize>
+    ensures value { result ≡ chord bytes.now }
+    ensures within { IfSome result (λ n. (0 < n) × (n ≤ length bytes.now)) }
+{
+    match bytes {
+        [b'[', rest @ ..] if !begins_with_digit(rest) => {
+            let inside = chord_bytes(rest);
+            if 0 < inside && begins_with_closing_bracket(&rest[inside..]) {
+                Some(inside + 2)
+            } else {
+                None
+            }
+        }
+        _ => None,
+    }
+}
+
+fn digits(bytes: &[u8]) -> usize
+    ensures value { result ≡ prefix_len is_ascii_digit bytes.now }
+    ensures within { result ≤ length bytes.now }
+{
+    bytes
+        .iter()
+        .take_while(|byte| byte.is_ascii_digit())
+        .count()
+}
+
+fn colon_part(bytes: &[u8]) -> usize
+    ensures value { result ≡ colon_part bytes.now }
+    ensures within { result ≤ length bytes.now }
+{
+    match bytes {
+        [b':', rest @ ..] => 1 + digits(rest),
+        _ => 0,
+    }
+}
+
+fn two_colon_parts(bytes: &[u8]) -> usize
+    ensures value { result ≡ colon_parts 2 bytes.now }
+    ensures within { result ≤ length bytes.now }
+{
+    let first = colon_part(bytes);
+    first + colon_part(&bytes[first..])
+}
+
+#[tactic(auto, unfolding(crate::specs::Rows::tuplet))]
+fn tuplet(bytes: &[u8]) -> Option<usize>
+    ensures value { result ≡ tuplet bytes.now }
+    ensures within { IfSome result (λ n. (0 < n) × (n ≤ length bytes.now)) }
+{
+    match bytes {
+        [b'(', rest @ ..] => {
+            let digits = digits(rest);
+            if digits == 0 {
+                return None;
+            }
+            Some(1 + digits + two_colon_parts(&rest[digits..]))
+        }
+        _ => None,
+    }
+}
+
+/// The accidental that a text begins with, as it is written: one of two bytes before one of one byte (ABC 2.1, 4.2). At the text of a note it is the
+/// note's own.
+pub fn own_accidental(text: &[u8]) -> Option<Accidental>
+    ensures value { result ≡ own_accidental text.now }
+    ensures own { (rest : List ℕ) (note : IsNote text.now rest) → result ≡ note.own }
+{
+    match text {
+        [] => None,
+        [first] => accidental_of(*first),
+        [first, second, ..] => match accidental_of(*first) {
+            Some(accidental) => Some(doubled(accidental, *second).unwrap_or(accidental)),
+            None => None,
+        },
+    }
+}
+
+/// How many bytes an accidental has as it is written: 0 where there is none.
+pub fn spelling_length(own: Option<Accidental>) -> usize
+    ensures value { result ≡ length (spelling_of own) }
+    ensures few { result ≤ 2 }
+{
+    match own {
+        None => 0,
+        Some(Accidental::DoubleFlat | Accidental::DoubleSharp) => 2,
+        Some(Accidental::Flat | Accidental::Natural | Accidental::Sharp) => 1,
+    }
+}
+
+fn octave_marks(bytes: &[u8]) -> usize
+    ensures value { result ≡ prefix_len is_octave_mark bytes.now }
+    ensures within { result ≤ length bytes.now }
+{
+    bytes
+        .iter()
+        .take_while(|byte| matches!(**byte, b',' | b'\''))
+        .count()
+}
+
+#[tactic(auto, unfolding(crate::specs::Rows::note))]
+fn note(bytes: &[u8]) -> Option<usize>
+    ensures value { result ≡ note bytes.now }
+    ensures within { IfSome result (λ n. (0 < n) × (n ≤ length bytes.now)) }
+{
+    let before = spelling_length(own_accidental(bytes));
+    match bytes.get(before) {
+        Some(name) if letter_of(*name).is_some() => {
+            Some(before + 1 + octave_marks(&bytes[before + 1..]))
+        }
+        _ => None,
+    }
+}
+
+// The item at the front of a text: the first row that fits.
+#[tactic(auto, unfolding(crate::specs::Rows::first_item))]
+pub(crate) fn first_item(bytes: &[u8], misses: &mut Misses) -> Front
+    requires some { 0 < length bytes.now }
+    requires misses { AreMissing misses.old bytes.now }
+    ensures value { result ≡ first_item bytes.now }
+    ensures some { 0 < result.length }
+    ensures within { result.length ≤ length bytes.now }
+    ensures misses { AreMissing misses.new bytes.now }
+{
+    if let Some(length) = enclosed(bytes, b'"') {
+        return Front {
+            kind: Kind::Quoted,
+            length,
+        };
+    }
+    if let Some(length) = enclosed(bytes, b'!') {
+        return Front {
+            kind: Kind::Decoration,
+            length,
+        };
+    }
+    if let Some(length) = enclosed(bytes, b'+') {
+        return Front {
+            kind: Kind::Decoration,
+            length,
+        };
+    }
+    if let Some(length) = grace(bytes, &mut misses.brace) {
+        return Front {
+            kind: Kind::Grace,
+            length,
+        };
+    }
+    if let Some(length) = inline_field(bytes, &mut misses.bracket) {
+        return Front {
+            kind: Kind::InlineField,
+            length,
+        };
+    }
+    if let Some(length) = chord(bytes) {
+        return Front {
+            kind: Kind::Chord,
+            length,
+        };
+    }
+    if let Some(length) = tuplet(bytes) {
+        return Front {
+            kind: Kind::Tuplet,
+            length,
+        };
+    }
+    if let Some(length) = note(bytes) {
+        return Front {
+            kind: Kind::Note,
+            length,
+        };
+    }
+    let kind = match bytes {
+        [b'|' | b':', ..] => Kind::Bar,
+        _ => Kind::Other,
+    };
+    Front { kind, length: 1 }
+}

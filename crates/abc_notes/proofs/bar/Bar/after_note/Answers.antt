@@ -1,0 +1,38 @@
+use Rattle.std.proofs.Common.{rules, sym, ◌∙◌, arith}
+use Rattle.std.proofs.lemmas.Bool.{true≢false}
+use Rattle.abc_notes.specs.EventView.{written_note}
+use Rattle.abc_notes.specs.Pitches.{in_force}
+use Rattle.abc_notes.specs.Tables.{IsNear}
+use Rattle.abc_notes.proofs.PastLemmas.{holds_set, borne_none, borne_far, borne_near}
+use Rattle.abc_notes.proofs.bar.Bar.after_note.Goals as goal
+
+pub returns-then-is_near-clause-after : goal.returns-then-is_near-clause-after
+unfolding in_force
+returns-then-is_near-clause-after c =
+    let near : IsNear c.args.written.octave = search rules in
+    λ past kept. record {
+      count = omega (arith, kept.count);
+      current = kept.current;
+      near = holds_set (written_note c.args.written) c.in-Some.accidental past c.args.self.entries c.set_entry.new.entries c.in-Some.is c.set_entry.ensures kept.near;
+      far = λ none l o far. sym (borne_near (written_note c.args.written) past l o near far) ∙ kept.far none l o far;
+    }
+
+pub returns-else-is_near-clause-after : goal.returns-else-is_near-clause-after
+unfolding in_force
+returns-else-is_near-clause-after c =
+    let far : IsNear c.args.written.octave → ⊥ = search rules in
+    λ past kept. record {
+      count = omega (arith, kept.count);
+      current = kept.current;
+      near = λ l o near. kept.near l o near ∙ borne_far (written_note c.args.written) past l o far near;
+      far = λ none l o apart. absurd (true≢false none);
+    }
+
+pub returns-in_default-clause-after : goal.returns-in_default-clause-after
+unfolding in_force
+returns-in_default-clause-after c = λ past kept. record {
+  count = omega (arith, kept.count);
+  current = kept.current;
+  near = λ l o near. kept.near l o near ∙ borne_none (written_note c.args.written) past l o c.in_default.is;
+  far = λ none l o far. sym (borne_none (written_note c.args.written) past l o c.in_default.is) ∙ kept.far none l o far;
+}

@@ -1,0 +1,19 @@
+-- A note and an event of the code as those that definitions speak of.
+use Rattle.std.specs.Prelude.{List, [], ◌∷◌, Option, Some, None}
+use Rattle.abc_notes.specs.declared.written.WrittenNote.{WrittenNote as CodeNote}
+use Rattle.abc_notes.specs.declared.written.Event.{Event as CodeEvent}
+use Rattle.abc_notes.specs.declared.written.Event.TheVariants.{Note, Bar, Change}
+use Rattle.abc_notes.specs.Events.{WrittenNote, Event, note, bar, change}
+
+abbrev pub written_note : CodeNote → WrittenNote
+written_note n = record { from = n.from; to = n.to; bytes = n.text.now; letter = n.letter; octave = n.octave; own = n.own; counts = n.counts }
+
+abbrev pub event_of : CodeEvent → Event
+event_of (Note n) = note (written_note n)
+event_of Bar = bar
+event_of (Change s) = change s
+
+-- an event, if there is one, as a list
+abbrev pub events_of : Option CodeEvent → List Event
+events_of None = []
+events_of (Some event) = event_of event ∷ []

@@ -1,0 +1,128 @@
+// The accidentals of a bar, by letter, for sixteen octaves.
+ghost use Rattle.std.specs.Prelude.{◌≡◌, ◌+◌, ◌^◌, ◌<◌, ℕ, ℤ, List, [], ◌∷◌, Some, None, slice_index_or, length, IsTrue, if◌then◌else◌};
+ghost use Rattle.abc_keys.specs.declared.letters.Letter.{Letter as AnyLetter};
+ghost use Rattle.abc_keys.specs.ScaleTable.{letter_number};
+ghost use Rattle.abc_notes.specs.Events.{Event as AnyEvent, note, change};
+ghost use Rattle.abc_notes.specs.EventView.{written_note};
+ghost use Rattle.abc_notes.specs.Tables.{IsNear, IsBarAfter, held_in, index_of, same_place};
+
+use crate::written::WrittenNote;
+use abc_keys::{Accidental, Letter, Signature};
+
+const LETTERS: usize = 7;
+
+const LOWEST_OCTAVE: i32 = -8;
+
+const OCTAVES: i32 = 16;
+
+const ENTRIES: usize = 112;
+
+// What is kept of a bar so far: the signature where it began and the one in force now, how many events came since, the accidentals that its notes
+// bore, and whether one of them was borne outside the sixteen octaves.
+#[derive(Clone, Copy)]
+pub(crate) struct Bar {
+    pub start: Signature,
+    pub signature: Signature,
+    pub since: usize,
+    pub entries: [Option<Accidental>; ENTRIES],
+    pub has_far: bool,
+}
+
+impl Bar {
+    // A bar that begins.
+    pub fn new(signature: Signature) -> Bar
+        ensures after { IsBarAfter [] result }
+        ensures start { result.start ≡ signature }
+    {
+        Bar {
+            start: signature,
+            signature,
+            since: 0,
+            entries: [None; ENTRIES],
+            has_far: false,
+        }
+    }
+
+    // The bar after a change of key.
+    pub fn after_change(self, signature: Signature) -> Bar
+        requires { self.since + 1 < 2 ^ 64 }
+        ensures after { (past : List AnyEvent) → IsBarAfter past self → IsBarAfter (change signature ∷ past) result }
+        ensures start { result.start ≡ self.start }
+    {
+        Bar {
+            signature,
+            since: self.since + 1,
+            ..self
+        }
+    }
+
+    // The bar after a note.
+    pub fn after_note(self, written: WrittenNote) -> Bar
+        requires { self.since + 1 < 2 ^ 64 }
+        ensures after { (past : List AnyEvent) → IsBarAfter past self → IsBarAfter (note (written_note written.entry) ∷ past) result }
+        ensures start { result.start ≡ self.start }
+    {
+        let mut after = self;
+        after.since += 1;
+        if let Some(accidental) = written.own {
+            if is_near(written) {
+                set_entry(&mut after.entries, written, accidental);
+            } else {
+                after.has_far = true;
+            }
+        }
+        after
+    }
+}
+
+// Whether a note's octave is one of the sixteen.
+pub(crate) fn is_near(place: WrittenNote) -> bool
+    ensures yes { IsTrue result → IsNear place.entry.octave }
+    ensures no { IsNear place.entry.octave → IsTrue result }
+{
+    LOWEST_OCTAVE <= place.octave && place.octave < LOWEST_OCTAVE + OCTAVES
+}
+
+// What the entry of a note's letter and octave holds.
+pub(crate) fn entry(
+    entries: &[Option<Accidental>; ENTRIES],
+    place: WrittenNote,
+) -> Option<Accidental>
+    requires { IsNear place.octave }
+    ensures { result ≡ held_in entries.now place.entry.letter place.entry.octave }
+{
+    entries[index_of(place)]
+}
+
+fn set_entry(
+    entries: &mut [Option<Accidental>; ENTRIES],
+    place: WrittenNote,
+    accidental: Accidental,
+)
+    requires { IsNear place.octave }
+    ensures { (l : AnyLetter) (o : ℤ) → IsNear o → held_in entries.new l o ≡ (if same_place place.entry.letter place.entry.octave l o then Some accidental else held_in entries.old l o) }
+{
+    entries[index_of(place)] = Some(accidental);
+}
+
+fn index_of(place: WrittenNote) -> usize
+    requires { IsNear place.octave }
+    ensures value { result ≡ index_of place.entry.letter place.entry.octave }
+    ensures within { result < 112 }
+{
+    LETTERS * (place.octave - LOWEST_OCTAVE) as usize + letter_number(place.letter)
+}
+
+pub(crate) fn letter_number(letter: Letter) -> usize
+    ensures { result ≡ letter_number letter }
+{
+    match letter {
+        Letter::C => 0,
+        Letter::D => 1,
+        Letter::E => 2,
+        Letter::F => 3,
+        Letter::G => 4,
+        Letter::A => 5,
+        Letter::B => 6,
+    }
+}

@@ -1,0 +1,18 @@
+//! Reads the notes of tunes: which bytes of a tune are notes, and how high each sounds.
+//!
+//! The rules are those of the abc music standard 2.1, section 4, with this archive's profile where the standard is silent. The bytes of a text
+//! need not be UTF-8, and no call takes memory or refuses.
+#![tactic(auto)]
+
+mod bar;
+mod chord;
+mod line;
+mod note_items;
+mod notes;
+mod pitches;
+mod recall;
+mod tune;
+mod written;
+
+pub use abc_keys::{Accidental, Key, Letter, Mode, Scale, Sign, Signature, key_of, signature};
+pub use notes::{NoteToken, Notes};

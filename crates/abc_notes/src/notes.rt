@@ -1,0 +1,137 @@
+// The notes of tunes and of music lines, with their pitches.
+ghost use Rattle.std.specs.Prelude.{◌≡◌, ◌+◌, ◌≤◌, ◌∷◌, [], ℕ, List, take, drop, reverse, length};
+ghost use Rattle.std.specs.Iterator.{YieldsFirstBy, item_count};
+ghost use Rattle.abc_fields.specs.Values.{uncommented};
+ghost use Rattle.abc_items.specs.Grammar.{Token, AreItems};
+ghost use Rattle.abc_items.specs.Spans.{Span, spans_from, spans_of};
+ghost use Rattle.abc_keys.specs.Keys.{signature_of};
+ghost use Rattle.abc_keys.specs.declared.signatures.Signature.{Signature as AnySignature};
+ghost use Rattle.abc_notes.specs.Events.{Event as AnyEvent, WrittenNote as AnyNote};
+ghost use Rattle.abc_notes.specs.EventView.{event_of, written_note};
+ghost use Rattle.abc_notes.specs.Music.{line_events, music_events, tune_events, tune_signature};
+ghost use Rattle.abc_notes.specs.Pitches.{SoundedNote, sounded, sounded_notes, FollowsTheRule};
+ghost use Rattle.abc_notes.specs.Kept.{past_of, IsKept};
+ghost use Rattle.abc_notes.specs.Tokens.{token_note};
+
+use crate::bar::Bar;
+use crate::pitches::pitch_of;
+use crate::recall::accidental_of;
+use crate::tune::TuneEvents;
+use crate::written::{Event, WrittenNote};
+use abc_fields::{TuneText, without_comment};
+use abc_keys::{Accidental, Key, Signature, signature};
+use std::marker::Model;
+
+/// A note of a text, as it sounds.
+#[derive(Clone, Copy, Debug)]
+pub struct NoteToken<'a> {
+    /// The index of its first byte in the text.
+    pub from: usize,
+    /// The index past its last byte.
+    pub to: usize,
+    /// Its bytes: its accidental, if it has one, its letter and its octave marks.
+    pub text: &'a [u8],
+    /// Semitones from the `C` of octave 0: `c` is 12, `C,` is -12.
+    pub pitch: i32,
+    /// Whether it counts as a note of its tune's melody: of a chord the first note alone does.
+    pub counts: bool,
+}
+
+/// The notes of a tune or of a music line, in order, with their pitches (ABC 2.1, 4.1, 4.2 and 4.17; this archive's profile). A clause sees the list of
+/// the notes that are left.
+///
+/// It takes no memory. Accidentals of sixteen octaves are kept in a table; beyond these the bar is read again.
+#[derive(Drop)]
+pub struct Notes<'a> {
+    events: TuneEvents<'a>,
+    // The events from where the bar began.
+    bar_events: TuneEvents<'a>,
+    bar: Bar,
+}
+
+impl<'a> Model for Notes<'a> {
+    ghost Value = { List SoundedNote };
+
+    ghost view = { λ notes. sounded_notes notes.bar.start (past_of notes.bar.since notes.bar_events) notes.events };
+
+    ghost invariant = { λ notes. IsKept notes.bar notes.bar_events notes.events };
+}
+
+impl<'a> Notes<'a> {
+    /// The notes of a tune's body: of its music lines, up to the comment of each, those within `%%begin..` parts aside. `K:` lines and `[K:..]` fields change
+    /// the signature.
+    pub fn of_tune(text: &'a TuneText) -> Notes<'a>
+        ensures notes { result ≡ sounded_notes (tune_signature text.now) [] (tune_events text.now) }
+        ensures accidentals { (first : AnySignature) (past : List AnyEvent) (note : AnyNote) → FollowsTheRule first past note }
+    {
+        let (start, events) = TuneEvents::of_tune(text);
+        Notes::new(start, events)
+    }
+
+    /// The notes of one music line, up to its comment, in a key. The line has at most 4,000,000 bytes.
+    pub fn of_line(line: &'a [u8], key: &Key) -> Notes<'a>
+        requires { length line.now ≤ 4000000 }
+        ensures notes { result ≡ sounded_notes (signature_of key.now) [] (music_events 0 line.now) }
+    {
+        Notes::new(signature(key), TuneEvents::of_line(without_comment(line)))
+    }
+
+    fn new(start: Signature, events: TuneEvents<'a>) -> Notes<'a>
+        requires { length events ≤ 4000000 }
+        ensures { result ≡ sounded_notes start [] events.entry }
+    {
+        Notes {
+            bar_events: events.again(),
+            events,
+            bar: Bar::new(start),
+        }
+    }
+
+    // Takes the first note that is left.
+    fn first_note(&mut self) -> Option<NoteToken<'a>>
+        ensures { YieldsFirstBy token_note (λ notes. notes) self.old result self.new }
+    {
+        'events: loop {
+            let Some(event) = self.events.next() else {
+                return None;
+            };
+            match event {
+                Event::Note(note) => {
+                    let accidental = accidental_of(&self.bar, &self.bar_events, note);
+                    self.bar = self.bar.after_note(note);
+                    return Some(token(note, accidental));
+                }
+                Event::Bar => {
+                    self.bar_events = self.events.again();
+                    self.bar = Bar::new(self.bar.signature);
+                }
+                Event::Change(signature) => self.bar = self.bar.after_change(signature),
+            }
+        }
+    }
+}
+
+impl<'a> Iterator for Notes<'a> {
+    type Item = NoteToken<'a>;
+
+    ghost next_gives = { YieldsFirstBy token_note (λ notes. notes) };
+
+    ghost remaining = { item_count (λ notes. notes) };
+
+    fn next(&mut self) -> Option<NoteToken<'a>> {
+        self.first_note()
+    }
+}
+
+// A note with its pitch.
+fn token<'a>(note: WrittenNote<'a>, accidental: Accidental) -> NoteToken<'a>
+    ensures { token_note result ≡ sounded (written_note note.entry) accidental }
+{
+    NoteToken {
+        from: note.from,
+        to: note.to,
+        text: note.text,
+        pitch: pitch_of(&note, accidental),
+        counts: note.counts,
+    }
+}
