@@ -4,9 +4,9 @@ use Rattle.std.specs.Prelude.{⊤}
 use Rattle.std.specs.Option.{is_some, unwrap_or}
 use Rattle.memchr.specs.Find.{IsFirstByte, is_byte, is_byte3}
 use Rattle.std.proofs.lemmas.List.Sums.{prefix_len_is}
-use Rattle.std.specs.List.{list_all, prefix_len}
+use Rattle.std.specs.List.{prefix_len}
 use Rattle.std.proofs.lemmas.Bool.{eqb-true, eq-eqb, and_parts, and_from, not-true, not_from_false, false_from_ne_true, cases_Bool}
-use Rattle.abc_items.specs.Marks.{closing_brace, closing_bracket, has_no, is_chord_byte}
+use Rattle.abc_items.specs.Marks.{closing_brace, closing_bracket, has_no, is_chord_byte, bar_mark, opening_bracket}
 use Rattle.abc_items.specs.Rows.{up_to, longer}
 use Rattle.abc_items.specs.declared.rows.Misses.{Misses}
 use Rattle.abc_items.specs.Misses.{AreMissing}
@@ -34,18 +34,25 @@ up_to_nowhere mark (byte ∷ text) none =
 other_byte : (mark byte : ℕ) (text : List ℕ) → has_no mark (byte ∷ text) ≡ true → (eqb byte mark ≡ false) × (has_no mark text ≡ true)
 other_byte mark byte text none = let parts = and_parts (not (eqb byte mark)) (has_no mark text) none in (not-true (eqb byte mark) parts.0, parts.1)
 
+-- a mark that is missing is not found
 pub missing_not_found : (mark : ℕ) (text : List ℕ) → has_no mark text ≡ true → up_to mark text ≡ None
 missing_not_found mark [] none = refl
 missing_not_found mark (byte ∷ text) none = let parts = other_byte mark byte text none in rw (parts.0) (ap (longer 1) (missing_not_found mark text parts.1))
 
+-- a length is not none
+some_not_none : (n : ℕ) → Some n ≡ None → ⊥
+some_not_none n same = absurd (cc)
+
+-- no length comes of none
 longer_none : (more : ℕ) (found : Option ℕ) → longer more found ≡ None → found ≡ None
 longer_none more None is = refl
-longer_none more (Some n) is = absurd (cc)
+longer_none more (Some n) is = absurd (some_not_none (n + more) is)
 
+-- a mark that is not found is missing
 pub not_found_missing : (mark : ℕ) (text : List ℕ) → up_to mark text ≡ None → has_no mark text ≡ true
 not_found_missing mark [] none = refl
 not_found_missing mark (byte ∷ text) none = elim (cases_Bool (eqb byte mark)) [
-  | inl same ↦ let found : Some 1 ≡ None = rw same at none in absurd (cc)
+  | inl same ↦ absurd (some_not_none 1 (rw same at none))
   | inr other ↦
       let later : longer 1 (up_to mark text) ≡ None = rw other at none in
       rw other (not_found_missing mark text (longer_none 1 (up_to mark text) later))
@@ -71,10 +78,12 @@ pub record IsClosed (mark : ℕ) (text : List ℕ) (n : ℕ) : Type 0 where
   pub plain : has_no mark inside ≡ true
   pub whole : take n text ≡ inside ++ mark ∷ []
 
+-- the answer of a search, if there is one, is such a length
 abbrev pub FindsMark : ℕ → List ℕ → Option ℕ → Type 0
 FindsMark mark text None = ⊤
 FindsMark mark text (Some n) = IsClosed mark text n
 
+-- one byte before a text that was searched
 finds_more : (mark byte : ℕ) (text : List ℕ) (c : Bool) (found : Option ℕ) → eqb byte mark ≡ c → FindsMark mark text found → FindsMark mark (byte ∷ text) (cond c (Some 1) (longer 1 found))
 finds_more mark byte text true found same finds = record { inside = []; plain = refl; whole = ap (λ b. b ∷ []) (eqb-true byte mark same) }
 finds_more mark byte text false None same finds = tt
@@ -85,6 +94,7 @@ finds_more mark byte text false (Some n) same finds =
       whole = ap (λ k. take k (byte ∷ text)) one ∙ ap (λ t. byte ∷ t) finds.whole;
     }
 
+-- what a search finds is bytes other than the mark, and the mark
 pub search_finds : (mark : ℕ) (text : List ℕ) → FindsMark mark text (up_to mark text)
 search_finds mark [] = tt
 search_finds mark (byte ∷ text) = finds_more mark byte text (eqb byte mark) (up_to mark text) refl (search_finds mark text)
@@ -107,16 +117,17 @@ chord_test false true z = refl
 chord_test false false true = refl
 chord_test false false false = refl
 
-chord_byte_is : (byte : ℕ) → is_chord_byte byte ≡ not (is_byte3 91 93 124 byte)
-chord_byte_is byte = chord_test (eqb byte 91) (eqb byte 93) (eqb byte 124)
+-- the bytes of a chord are those that the search for its end passes over
+chord_byte_is : (byte : ℕ) → is_chord_byte byte ≡ not (is_byte3 opening_bracket closing_bracket bar_mark byte)
+chord_byte_is byte = chord_test (eqb byte opening_bracket) (eqb byte closing_bracket) (eqb byte bar_mark)
 
 -- the inside of a chord is searched to the first such byte
-pub chord_search_is : (text : List ℕ) (found : Option ℕ) → IsFirstByte (is_byte3 91 93 124) text found → prefix_len is_chord_byte text ≡ unwrap_or found (length text)
+pub chord_search_is : (text : List ℕ) (found : Option ℕ) → IsFirstByte (is_byte3 opening_bracket closing_bracket bar_mark) text found → prefix_len is_chord_byte text ≡ unwrap_or found (length text)
 chord_search_is text None none = prefix_len_is is_chord_byte text (length text) 0 (omega arith)
-    (λ k low. chord_byte_is (get_or text k 0) ∙ ap not (false_from_ne_true (is_byte3 91 93 124 (get_or text k 0)) (none k (omega arith) low)))
+    (λ k low. chord_byte_is (get_or text k 0) ∙ ap not (false_from_ne_true (is_byte3 opening_bracket closing_bracket bar_mark (get_or text k 0)) (none k (omega arith) low)))
     (λ past. absurd (omega arith))
 chord_search_is text (Some n) here = prefix_len_is is_chord_byte text n 0 (omega (arith, here.0.high))
-    (λ k low. chord_byte_is (get_or text k 0) ∙ ap not (false_from_ne_true (is_byte3 91 93 124 (get_or text k 0)) (here.0.before k (omega arith) low)))
+    (λ k low. chord_byte_is (get_or text k 0) ∙ ap not (false_from_ne_true (is_byte3 opening_bracket closing_bracket bar_mark (get_or text k 0)) (here.0.before k (omega arith) low)))
     (λ _. chord_byte_is (get_or text n 0) ∙ ap not here.1)
 
 -- what is remembered of a text holds of its rest

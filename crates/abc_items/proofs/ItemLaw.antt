@@ -1,7 +1,6 @@
 -- The items of a text are items by the table, one after another, and no others are.
-use Rattle.std.proofs.Common.{◌≡◌, ℕ, zero, suc, ◌+◌, ◌-◌, ◌<◌, ◌≤◌, List, [], ◌∷◌, ◌++◌, length, take, drop, refl, ap, sym, ◌∙◌, arith, subst}
-use Rattle.std.proofs.lemmas.List.{append_cancel_left, append_assoc, length-append, take-append-drop, length-take-le}
-use Rattle.abc_items.specs.declared.kinds.Kind.{Kind}
+use Rattle.std.proofs.Common.{◌≡◌, ℕ, zero, suc, ◌+◌, ◌-◌, ◌<◌, List, [], ◌∷◌, ◌++◌, length, take, drop, refl, ap, sym, ◌∙◌, arith, subst}
+use Rattle.std.proofs.lemmas.List.{append_cancel_left, length-append, take-append-drop}
 use Rattle.abc_items.specs.Grammar.{Token, text_of, IsItem, EachIsItem, AreItems}
 use Rattle.abc_items.specs.Rows.{first_item, items_after, items_of}
 use Rattle.abc_items.proofs.FirstItem.{first_item_is, item_has_byte, one_item}
@@ -13,10 +12,12 @@ more_items item rest items is are =
     let P : List ℕ → Type 0 = λ r. IsItem item.kind item.text r in
     record { whole = ap (λ r. item.text ++ r) are.whole; each = (subst P (sym are.whole) is, are.each) }
 
+-- past an item is past its first byte and the others
 drop_past : (n : ℕ) (byte : ℕ) (text : List ℕ) → 0 < n → drop (n - 1) text ≡ drop n (byte ∷ text)
 drop_past zero byte text some = absurd (omega arith)
 drop_past (suc n) byte text some = let less : suc n - 1 ≡ n = omega arith in ap (λ k. drop k text) less
 
+-- a front with a byte has a length
 taken_some : (n : ℕ) (text : List ℕ) → 0 < length (take n text) → 0 < n
 taken_some zero text some = some
 taken_some (suc n) text some = omega arith
@@ -39,25 +40,30 @@ first_and_more byte text are =
     (more_items (record { kind = item.kind; text = take item.length (byte ∷ text) }) (drop item.length (byte ∷ text)) (items_after (item.length - 1) text)
     (first_item_is byte text) (subst P past are))
 
+-- what follows the skipped bytes are items, one after another
 items_after_are : (skip : ℕ) (text : List ℕ) → AreItems (items_after skip text) (drop skip text)
 items_after_are zero [] = record { whole = refl; each = tt }
 items_after_are (suc skip) [] = record { whole = refl; each = tt }
 items_after_are zero (byte ∷ text) = first_and_more byte text (items_after_are ((first_item (byte ∷ text)).length - 1) text)
 items_after_are (suc skip) (byte ∷ text) = items_after_are skip text
 
+-- the items of a text are items by the table, one after another
 pub items_are : (text : List ℕ) → AreItems (items_of text) text
 items_are text = items_after_are 0 text
 
 -- NO OTHER ITEMS
+-- items have bytes
 no_items : (item : Token) (items : List Token) → EachIsItem (item ∷ items) → [] ≡ text_of (item ∷ items) → ⊥
 no_items item items are same =
     let some = item_has_byte item.kind item.text (text_of items) are.0.fits in
     let long : 0 ≡ length item.text + length (text_of items) = ap length same ∙ length-append item.text (text_of items) in
     omega arith
 
+-- items of one kind and one text are the same
 same_tokens : (item also : Token) → item.kind ≡ also.kind → item.text ≡ also.text → item ≡ also
 same_tokens item also kinds texts = λ i. record { kind = kinds i; text = texts i }
 
+-- items of one text are the same, one after another
 same_items : (items others : List Token) → EachIsItem items → EachIsItem others → text_of items ≡ text_of others → items ≡ others
 same_items [] [] are those same = refl
 same_items [] (also ∷ others) are those same = absurd (no_items also others those same)
@@ -67,6 +73,7 @@ same_items (item ∷ items) (also ∷ others) are those same =
     let rest : text_of items ≡ text_of others = append_cancel_left also.text (text_of items) (text_of others) (ap (λ t. t ++ text_of items) (sym one.texts) ∙ same) in
     λ i. same_tokens item also one.kinds one.texts i ∷ same_items items others are.1 those.1 rest i
 
+-- a text has no other items
 pub items_unique : (text : List ℕ) (items : List Token) → AreItems items text → items ≡ items_of text
 items_unique text items are = let those = items_are text in same_items items (items_of text) are.each those.each (are.whole ∙ sym those.whole)
 

@@ -5,5 +5,6 @@ pub mod ClosedRows
 pub mod TupletRow
 pub mod NoteRow
 pub mod FirstItem
+pub mod PlainItems
 pub mod ItemLaw
 pub mod Places

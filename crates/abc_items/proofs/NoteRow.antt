@@ -1,7 +1,6 @@
 -- The row of notes.
-use Rattle.std.proofs.Common.{◌≡◌, ℕ, zero, suc, ◌+◌, ◌<◌, Bool, true, false, ◌||◌, cond, eqb, List, [], ◌∷◌, ◌++◌, length, take, drop, Option, Some, None, refl, ap, sym, ◌∙◌, arith, inl, inr, subst}
+use Rattle.std.proofs.Common.{◌≡◌, ℕ, suc, ◌+◌, Bool, true, false, cond, eqb, List, [], ◌∷◌, ◌++◌, length, take, drop, Option, Some, None, refl, ap, sym, ◌∙◌, arith, inl, inr, subst}
 use Rattle.std.specs.List.{prefix_len}
-use Rattle.std.specs.Prelude.{codes}
 use Rattle.std.specs.Option.{option_map, unwrap_or, is_some}
 use Rattle.std.proofs.lemmas.Bool.{eqb-true, cases_Bool}
 use Rattle.std.proofs.lemmas.List.{append_assoc, length-append, take-append-drop, drop-drop}
@@ -9,9 +8,9 @@ use Rattle.std.proofs.Math.Seq.{take-append-add, drop-append-add, drop-append_se
 use Rattle.abc_keys.specs.declared.letters.Accidental.{Accidental}
 use Rattle.abc_keys.specs.declared.letters.Accidental.TheVariants.{DoubleFlat, Flat, Natural, Sharp, DoubleSharp}
 use Rattle.abc_keys.specs.declared.letters.Letter.{Letter}
-use Rattle.abc_keys.specs.Letters.{is_one_of, accidental_of, doubled, letter_of, spelling}
+use Rattle.abc_keys.specs.Letters.{is_one_of, accidental_of, doubled, letter_of}
 use Rattle.abc_keys.specs.Keys.{begins}
-use Rattle.abc_items.specs.Marks.{is_octave_mark}
+use Rattle.abc_items.specs.Marks.{is_octave_mark, flat_sign, natural_sign, sharp_sign}
 use Rattle.abc_items.specs.Grammar.{IsRun, IsNote, spelling_of}
 use Rattle.abc_items.specs.Rows.{own_accidental, is_note_name, note}
 use Rattle.abc_items.proofs.Runs.{front_is_run, run_is_longest}
@@ -25,12 +24,14 @@ other_byte byte sign letter none named = elim (cases_Bool (eqb byte sign)) [
   | inr other ↦ rw other refl
 ]
 
+-- a byte that names a letter is no accidental
 no_sign : (byte : ℕ) (letter : Letter) → letter_of byte ≡ Some letter → accidental_of byte ≡ None
-no_sign byte letter named = rw (other_byte byte 94 letter refl named, other_byte byte 95 letter refl named, other_byte byte 61 letter refl named) refl
+no_sign byte letter named = rw (other_byte byte sharp_sign letter refl named, other_byte byte flat_sign letter refl named, other_byte byte natural_sign letter refl named) refl
 
+-- a byte that names a letter doubles no accidental
 no_double : (byte : ℕ) (letter : Letter) (accidental : Accidental) → letter_of byte ≡ Some letter → doubled accidental byte ≡ None
-no_double byte letter Sharp named = rw (other_byte byte 94 letter refl named) refl
-no_double byte letter Flat named = rw (other_byte byte 95 letter refl named) refl
+no_double byte letter Sharp named = rw (other_byte byte sharp_sign letter refl named) refl
+no_double byte letter Flat named = rw (other_byte byte flat_sign letter refl named) refl
 no_double byte letter DoubleFlat named = refl
 no_double byte letter Natural named = refl
 no_double byte letter DoubleSharp named = refl
@@ -46,6 +47,7 @@ accidental_before (Some Flat) name letter tail named = ap (λ o. Some (unwrap_or
 accidental_before (Some Sharp) name letter tail named = ap (λ o. Some (unwrap_or o Sharp)) (no_double name letter Sharp named)
 
 -- EACH NOTE HAS ITS LENGTH
+-- where the test of the row passes, it gives a length
 note_tests : (x : Bool) (n m : ℕ) → x ≡ true → n ≡ m → cond x (Some n) None ≡ Some m
 note_tests true n m p same = ap Some same
 note_tests false n m p same = absurd (cc)
@@ -65,6 +67,7 @@ note_after own name letter tail is named =
     (length (spelling_of own) + 1 + prefix_len is_octave_mark tail) begin
     (ap (λ k. k + 1 + prefix_len is_octave_mark (drop (k + 1) line)) before ∙ ap (λ t. length (spelling_of own) + 1 + prefix_len is_octave_mark t) past)
 
+-- each note has the length that the row gives
 pub note_gives : GivesEach IsNote note
 note_gives text rest is =
     let front = spelling_of is.own in
@@ -80,36 +83,41 @@ note_gives text rest is =
 abbrev BeginsAsSpelled : List ℕ → Type 0
 BeginsAsSpelled text = take (length (spelling_of (own_accidental text))) text ≡ spelling_of (own_accidental text)
 
-sharp_spelled : (text : List ℕ) → BeginsAsSpelled (94 ∷ text)
+-- by the first byte, and by the byte after it
+sharp_spelled : (text : List ℕ) → BeginsAsSpelled (sharp_sign ∷ text)
 sharp_spelled [] = refl
-sharp_spelled (byte ∷ text) = elim (cases_Bool (eqb byte 94)) [
-  | inl same ↦ let P : ℕ → Type 0 = λ b. BeginsAsSpelled (94 ∷ b ∷ text) in subst P (sym (eqb-true byte 94 same)) refl
+sharp_spelled (byte ∷ text) = elim (cases_Bool (eqb byte sharp_sign)) [
+  | inl same ↦ let P : ℕ → Type 0 = λ b. BeginsAsSpelled (sharp_sign ∷ b ∷ text) in subst P (sym (eqb-true byte sharp_sign same)) refl
   | inr other ↦ rw other refl
 ]
 
-flat_spelled : (text : List ℕ) → BeginsAsSpelled (95 ∷ text)
+-- the same of a flat
+flat_spelled : (text : List ℕ) → BeginsAsSpelled (flat_sign ∷ text)
 flat_spelled [] = refl
-flat_spelled (byte ∷ text) = elim (cases_Bool (eqb byte 95)) [
-  | inl same ↦ let P : ℕ → Type 0 = λ b. BeginsAsSpelled (95 ∷ b ∷ text) in subst P (sym (eqb-true byte 95 same)) refl
+flat_spelled (byte ∷ text) = elim (cases_Bool (eqb byte flat_sign)) [
+  | inl same ↦ let P : ℕ → Type 0 = λ b. BeginsAsSpelled (flat_sign ∷ b ∷ text) in subst P (sym (eqb-true byte flat_sign same)) refl
   | inr other ↦ rw other refl
 ]
 
-natural_spelled : (text : List ℕ) → BeginsAsSpelled (61 ∷ text)
+-- the same of a natural
+natural_spelled : (text : List ℕ) → BeginsAsSpelled (natural_sign ∷ text)
 natural_spelled [] = refl
 natural_spelled (byte ∷ text) = refl
 
-other_spelled : (byte : ℕ) (text : List ℕ) → eqb byte 94 ≡ false → eqb byte 95 ≡ false → eqb byte 61 ≡ false → BeginsAsSpelled (byte ∷ text)
+-- the same of a byte that is no accidental
+other_spelled : (byte : ℕ) (text : List ℕ) → eqb byte sharp_sign ≡ false → eqb byte flat_sign ≡ false → eqb byte natural_sign ≡ false → BeginsAsSpelled (byte ∷ text)
 other_spelled byte [] p q r = rw (p, q, r) refl
 other_spelled byte (second ∷ text) p q r = rw (p, q, r) refl
 
+-- each text begins as its accidental is spelled
 begins_as_spelled : (text : List ℕ) → BeginsAsSpelled text
 begins_as_spelled [] = refl
-begins_as_spelled (byte ∷ text) = let P : ℕ → Type 0 = λ b. BeginsAsSpelled (b ∷ text) in elim (cases_Bool (eqb byte 94)) [
-  | inl sharp ↦ subst P (sym (eqb-true byte 94 sharp)) (sharp_spelled text)
-  | inr no_sharp ↦ elim (cases_Bool (eqb byte 95)) [
-    | inl flat ↦ subst P (sym (eqb-true byte 95 flat)) (flat_spelled text)
-    | inr no_flat ↦ elim (cases_Bool (eqb byte 61)) [
-      | inl natural ↦ subst P (sym (eqb-true byte 61 natural)) (natural_spelled text)
+begins_as_spelled (byte ∷ text) = let P : ℕ → Type 0 = λ b. BeginsAsSpelled (b ∷ text) in elim (cases_Bool (eqb byte sharp_sign)) [
+  | inl sharp ↦ subst P (sym (eqb-true byte sharp_sign sharp)) (sharp_spelled text)
+  | inr no_sharp ↦ elim (cases_Bool (eqb byte flat_sign)) [
+    | inl flat ↦ subst P (sym (eqb-true byte flat_sign flat)) (flat_spelled text)
+    | inr no_flat ↦ elim (cases_Bool (eqb byte natural_sign)) [
+      | inl natural ↦ subst P (sym (eqb-true byte natural_sign natural)) (natural_spelled text)
       | inr none ↦ other_spelled byte text no_sharp no_flat none
     ]
   ]
@@ -123,10 +131,12 @@ pub record Named (text : List ℕ) : Type 0 where
   pub named : letter_of name ≡ Some letter
   pub whole : text ≡ name ∷ tail
 
+-- a byte that names a letter
 named_by : (byte : ℕ) (tail : List ℕ) (found : Option Letter) → letter_of byte ≡ found → is_some found ≡ true → Named (byte ∷ tail)
 named_by byte tail None is some = absurd (cc)
 named_by byte tail (Some letter) is some = record { name = byte; letter = letter; tail = tail; named = is; whole = refl }
 
+-- a text that begins with such a byte
 named_at : (text : List ℕ) → begins is_note_name text ≡ true → Named text
 named_at [] begin = absurd (cc)
 named_at (byte ∷ tail) begin = named_by byte tail (letter_of byte) refl begin
@@ -143,6 +153,7 @@ note_of_parts own name letter tail n m named marks sum =
     let Q : List ℕ → Type 0 = λ r. IsNote (take n line) r in
     subst Q (sym rest) (record { own = own; name = name; letter = letter; marks = take m tail; named = named; run = run; whole = front })
 
+-- where the test of the row passes, the length is that of a note
 note_found : (line : List ℕ) → begins is_note_name (drop (length (spelling_of (own_accidental line))) line) ≡ true
     → IsOfRow IsNote line (Some (length (spelling_of (own_accidental line)) + 1 + prefix_len is_octave_mark (drop (length (spelling_of (own_accidental line)) + 1) line)))
 note_found line begin =
@@ -150,7 +161,7 @@ note_found line begin =
     let before = length (spelling_of own) in
     let found = named_at (drop before line) begin in
     let whole : line ≡ spelling_of own ++ (found.name ∷ found.tail) =
-        sym (take-append-drop before line) ∙ (λ i. begins_as_spelled line i ++ found.whole i) in
+    sym (take-append-drop before line) ∙ (λ i. begins_as_spelled line i ++ found.whole i) in
     let past : drop (before + 1) line ≡ found.tail = sym (drop-drop 1 before line) ∙ ap (drop 1) found.whole in
     let m = prefix_len is_octave_mark (drop (before + 1) line) in
     let n = before + 1 + m in
@@ -159,11 +170,13 @@ note_found line begin =
     let P : List ℕ → Type 0 = λ l. IsNote (take n l) (drop n l) in
     subst P (sym whole) (note_of_parts own found.name found.letter found.tail n m found.named marks sum)
 
+-- by the test of the row
 note_cases : (line : List ℕ) (x : Bool) → begins is_note_name (drop (length (spelling_of (own_accidental line))) line) ≡ x
     → IsOfRow IsNote line (cond x (Some (length (spelling_of (own_accidental line)) + 1 + prefix_len is_octave_mark (drop (length (spelling_of (own_accidental line)) + 1) line))) None)
 note_cases line true begin = note_found line begin
 note_cases line false begin = tt
 
+-- each length that the row gives is that of a note
 pub note_is : (line : List ℕ) → IsOfRow IsNote line (note line)
 unfolding note
 note_is line = note_cases line (begins is_note_name (drop (length (spelling_of (own_accidental line))) line)) refl

@@ -4,7 +4,7 @@ use Rattle.std.specs.Prelude.{map, slice_range}
 use Rattle.std.specs.List.{All}
 use Rattle.std.proofs.lemmas.List.{append_assoc, length-append, length-take-le}
 use Rattle.std.proofs.Math.Seq.{take-append_seam, drop-append_seam, drop-append-add}
-use Rattle.abc_items.specs.Grammar.{Token, text_of, IsItem, EachIsItem, AreItems}
+use Rattle.abc_items.specs.Grammar.{Token, text_of, IsItem, EachIsItem}
 use Rattle.abc_items.specs.Rows.{first_item, items_of}
 use Rattle.abc_items.specs.declared.kinds.Front.{Front}
 use Rattle.abc_items.specs.Spans.{Span, spans_from, spans_of, token_of, IsPlaced, SpansFill, FitsItsRow}
@@ -17,6 +17,7 @@ part_between front part rest =
     let width : length front + length part - length front ≡ length part = omega arith in
     rw (width, drop-append_seam front (part ++ rest)) (take-append_seam part rest)
 
+-- what stands after a part
 rest_after : (front part rest : List ℕ) → drop (length front + length part) (front ++ (part ++ rest)) ≡ rest
 rest_after front part rest = drop-append-add front (part ++ rest) (length part) ∙ drop-append_seam part rest
 
@@ -37,15 +38,17 @@ placed text front item rest whole is =
       item = subst P (sym past) is;
     }
 
+-- the spans of items follow each other from where these bytes end
 fill_from : (text front : List ℕ) (at : ℕ) (items : List Token) → EachIsItem items → front ++ text_of items ≡ text → length front ≡ at → SpansFill text at (spans_from at items)
 fill_from text front at [] are whole place = sym place ∙ sym (length-append front [] ∙ omega arith) ∙ ap length whole
 fill_from text front at (item ∷ items) are whole place =
     let P : ℕ → Type 0 = λ n. IsPlaced text n (record { kind = item.kind; from = n; to = n + length item.text; bytes = item.text }) in (
       subst P place (placed text front item (text_of items) whole are.0),
       fill_from text (front ++ item.text) (at + length item.text) items are.1 (append_assoc front item.text (text_of items) ∙ whole)
-      (length-append front item.text ∙ ap (λ n. n + length item.text) place),
+          (length-append front item.text ∙ ap (λ n. n + length item.text) place),
     )
 
+-- the spans of a text follow each other from its front to its end
 pub spans_fill : (text : List ℕ) → SpansFill text 0 (spans_of text)
 spans_fill text = let are = items_are text in fill_from text [] 0 (items_of text) are.each are.whole refl
 
@@ -60,6 +63,7 @@ each_fits text at [] fill k d low = absurd (omega arith)
 each_fits text at (span ∷ spans) fill zero d low = fill.0.item.fits
 each_fits text at (span ∷ spans) fill (suc k) d low = each_fits text span.to spans fill.1 k d (omega arith)
 
+-- each span of a text is of its row
 pub spans_fit : (text : List ℕ) → All (FitsItsRow text) (spans_of text)
 spans_fit text = each_fits text 0 (spans_of text) (spans_fill text)
 

@@ -1,7 +1,7 @@
 -- What it is for a length to be that of a row of the table.
 use Rattle.std.proofs.Common.{◌≡◌, ℕ, ◌+◌, List, [], ◌∷◌, ◌++◌, length, take, drop, Option, Some, None, refl, ap, sym, ◌∙◌, arith}
 use Rattle.std.specs.Prelude.{⊤}
-use Rattle.std.proofs.lemmas.List.{append_assoc, length-append, append_cancel_left}
+use Rattle.std.proofs.lemmas.List.{append_assoc, length-append}
 use Rattle.std.proofs.Math.Seq.{take-append_seam}
 
 -- a text of a row, before a rest
@@ -22,11 +22,13 @@ abbrev pub Tells : Texts → List ℕ → Option ℕ → Type 0
 Tells fits line None = (text rest : List ℕ) → text ++ rest ≡ line → fits text rest → ⊥
 Tells fits line (Some n) = fits (take n line) (drop n line)
 
+-- by whether the row gives a length
 tells_at : (fits : Texts) (row : List ℕ → Option ℕ) (line : List ℕ) (found : Option ℕ) → row line ≡ found → GivesEach fits row → IsOfRow fits line found → Tells fits line found
 tells_at fits row line (Some n) is gives sound = sound
 tells_at fits row line None is gives sound = λ text rest whole f.
     let some : row line ≡ Some (length text) = ap row (sym whole) ∙ gives text rest f in absurd (cc)
 
+-- a row that gives each of its texts the length that it has, and no other length, tells its texts
 pub row_tells : (fits : Texts) (row : List ℕ → Option ℕ) → GivesEach fits row → ((line : List ℕ) → IsOfRow fits line (row line)) → (line : List ℕ) → Tells fits line (row line)
 row_tells fits row gives sound line = tells_at fits row line (row line) refl gives (sound line)
 
@@ -49,5 +51,6 @@ one_text_of fits row gives text rest other later f g same =
 pub closed_line : (opening closing : ℕ) (text inside rest : List ℕ) → text ≡ opening ∷ (inside ++ closing ∷ []) → text ++ rest ≡ opening ∷ (inside ++ (closing ∷ rest))
 closed_line opening closing text inside rest is = ap (λ t. t ++ rest) is ∙ ap (λ t. opening ∷ t) (append_assoc inside (closing ∷ []) rest)
 
+-- the length of a text in marks
 pub closed_length : (opening closing : ℕ) (text inside : List ℕ) → text ≡ opening ∷ (inside ++ closing ∷ []) → length text ≡ length inside + 2
 closed_length opening closing text inside is = ap length is ∙ simp length-append (omega arith)

@@ -2,5 +2,6 @@
 use Rattle.abc_items.specs.Spans.{Span}
 use Rattle.abc_items.specs.declared.items.Item.{Item}
 
+-- its kind, its places and its bytes
 abbrev pub item_span : Item → Span
 item_span item = record { kind = item.kind; from = item.from; to = item.to; bytes = item.text.now }

@@ -1,10 +1,10 @@
 -- The item at the front of a line, row by row as a length, and the items of a line.
-use Rattle.std.specs.Prelude.{ℕ, zero, suc, ◌+◌, ◌-◌, ◌==◌, ◌&&◌, not, nat_lt, if◌then◌else◌, Bool, List, [], ◌∷◌, Option, Some, None, take, drop, length}
+use Rattle.std.specs.Prelude.{ℕ, zero, suc, ◌+◌, ◌-◌, ◌==◌, ◌&&◌, not, nat_lt, codes, if◌then◌else◌, Bool, List, [], ◌∷◌, Option, Some, None, take, drop, length}
 use Rattle.std.specs.List.{prefix_len}
-use Rattle.std.specs.Option.{option_map, option_map_or, is_some, unwrap_or}
+use Rattle.std.specs.Option.{option_map, is_some, unwrap_or}
 use Rattle.std.specs.Char.{is_ascii_alphabetic, is_ascii_digit}
 use Rattle.abc_keys.specs.declared.letters.Accidental.{Accidental}
-use Rattle.abc_keys.specs.Letters.{accidental_of, doubled, letter_of}
+use Rattle.abc_keys.specs.Letters.{is_one_of, accidental_of, doubled, letter_of}
 use Rattle.abc_keys.specs.Keys.{begins}
 use Rattle.abc_items.specs.declared.kinds.Kind.{Kind}
 use Rattle.abc_items.specs.declared.kinds.Kind.TheVariants.{Quoted, Decoration, Grace, InlineField, Chord, Tuplet, Note, Bar, Other}
@@ -22,15 +22,18 @@ abbrev pub up_to : ℕ → List ℕ → Option ℕ
 up_to closing [] = None
 up_to closing (byte ∷ text) = if byte == closing then Some 1 else longer 1 (up_to closing text)
 
+-- a text in two marks
 unfoldable pub enclosed : ℕ → ℕ → List ℕ → Option ℕ
 enclosed opening closing [] = None
 enclosed opening closing (byte ∷ text) = if byte == opening then longer 1 (up_to closing text) else None
 
+-- an inline field
 unfoldable pub inline_field : List ℕ → Option ℕ
 inline_field (first ∷ name ∷ third ∷ text) =
     if first == opening_bracket && is_ascii_alphabetic name && third == colon then longer 3 (up_to closing_bracket text) else None
 inline_field _ = None
 
+-- a chord: the longest run of bytes that may stand in one, if the closing bracket follows it
 unfoldable pub chord : List ℕ → Option ℕ
 chord [] = None
 chord (byte ∷ text) =
@@ -48,6 +51,7 @@ abbrev pub colon_parts : ℕ → List ℕ → ℕ
 colon_parts zero text = 0
 colon_parts (suc most) text = let first = colon_part text in first + colon_parts most (drop first text)
 
+-- a tuplet
 unfoldable pub tuplet : List ℕ → Option ℕ
 tuplet [] = None
 tuplet (byte ∷ text) =
@@ -64,6 +68,7 @@ own_accidental (first ∷ second ∷ text) = option_map (λ accidental. unwrap_o
 abbrev pub is_note_name : ℕ → Bool
 is_note_name byte = is_some (letter_of byte)
 
+-- a note
 unfoldable pub note : List ℕ → Option ℕ
 note text =
     let before = length (spelling_of (own_accidental text)) in
@@ -91,6 +96,16 @@ first_item text =
     (or_else Note (note text)
     (front (if begins is_bar text then Bar else Other) 1))))))))
 
+-- the bytes that begin the rows of more than a letter with its octave marks, or one byte
+abbrev pub begins_longer_row : ℕ → Bool
+begins_longer_row byte = is_one_of (codes "\"!+{[(^=_") byte
+
+-- what any other byte begins
+abbrev pub plain_front : ℕ → List ℕ → Front
+plain_front byte text =
+    if is_note_name byte then front Note (1 + prefix_len is_octave_mark text)
+    else front (if is_bar byte then Bar else Other) 1
+
 -- THE ITEMS OF A TEXT
 -- byte by byte, of which so many are still bytes of the item before
 abbrev pub items_after : ℕ → List ℕ → List Token
@@ -100,5 +115,6 @@ items_after zero (byte ∷ text) =
     record { kind = item.kind; text = take item.length (byte ∷ text) } ∷ items_after (item.length - 1) text
 items_after (suc skip) (byte ∷ text) = items_after skip text
 
+-- the items of a text
 abbrev pub items_of : List ℕ → List Token
 items_of text = items_after 0 text

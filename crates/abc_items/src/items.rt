@@ -42,10 +42,11 @@ impl<'a> Model for Items<'a> {
 }
 
 impl<'a> Items<'a> {
-    /// The items of `text`: a music line, or what is inside a chord.
+    /// The items of `text`: a music line, or what is inside a chord. To read them all takes time linear in the length of the text.
     ///
-    /// The law of items stands beside it: they are items by the table, and no others are; their texts are the whole text, one after another, from its
-    /// front to its end.
+    /// The law of items stands beside it: they are items by the table, and the text has no other items; their texts are the whole text, one after
+    /// another, from its front to its end. Each is of its row, so that a note's text is an accidental as it is written, a byte that names a letter, and
+    /// octave marks; an inline field's is `[`, a letter, `:`, the value and `]`; a chord's is `[`, its inside, which has no `[`, `]` or `|`, and `]`.
     pub fn new(text: &'a [u8]) -> Items<'a>
         ensures items { result ≡ spans_of text.now }
 
@@ -65,7 +66,7 @@ impl<'a> Items<'a> {
         }
     }
 
-    /// A second reader of the items that are left.
+    /// A second reader of the items that are left, with the same places.
     pub fn again(&self) -> Items<'a>
         ensures { result ≡ self.now }
     {

@@ -1,4 +1,6 @@
 // What an item of a music line is.
+ghost use Rattle.std.specs.Prelude.{◌≡◌};
+ghost use Rattle.abc_items.specs.Rows.{front};
 
 /// What an item of a music line is: the rows of the table of items, in its order. At each place the first row that fits is taken, as far as it goes.
 #[derive(Clone, Copy, Debug, PartialEq, Eq)]
@@ -28,4 +30,12 @@ pub enum Kind {
 pub(crate) struct Front {
     pub(crate) kind: Kind,
     pub(crate) length: usize,
+}
+
+impl Front {
+    pub(crate) fn new(kind: Kind, length: usize) -> Front
+        ensures { result ≡ front kind length }
+    {
+        Front { kind, length }
+    }
 }

@@ -3,18 +3,18 @@ ghost use Rattle.std.specs.Prelude.{◌≡◌, ℕ, ◌<◌, ◌≤◌, ◌+◌,
 ghost use Rattle.std.specs.List.{prefix_len};
 ghost use Rattle.std.specs.Char.{is_ascii_digit};
 ghost use Rattle.abc_keys.specs.Keys.{begins};
-ghost use Rattle.abc_items.specs.Marks.{closing_brace, closing_bracket, is_closing_bracket, is_octave_mark, is_chord_byte, has_no};
+ghost use Rattle.abc_items.specs.Marks.{opening_brace, closing_brace, closing_bracket, is_closing_bracket, is_octave_mark, is_chord_byte, has_no};
 ghost use Rattle.abc_items.specs.Grammar.{spelling_of, IsNote};
-ghost use Rattle.abc_items.specs.Rows.{up_to, enclosed, inline_field, chord, colon_part, colon_parts, tuplet, own_accidental, note, first_item};
+ghost use Rattle.abc_items.specs.Rows.{up_to, enclosed, inline_field, chord, colon_part, colon_parts, tuplet, own_accidental, note, first_item, begins_longer_row, plain_front};
 ghost use Rattle.abc_items.specs.Misses.{AreMissing};
 
 use crate::kinds::{Front, Kind};
 use abc_keys::{Accidental, accidental_of, doubled, letter_of};
 use memchr::{memchr, memchr3};
 
-// Closing marks that were sought and not found, so that no later search for one begins: a text of many opening marks and no closing one is read in
-// time linear in its length. The quotation mark and the marks of decorations need no such memory. Each closes itself, so where a search for one
-// fails, the text has no further one that would begin another search.
+// Closing marks that were sought and not found. No later search for one of them begins, so that a text of many opening marks and no closing one is
+// read in time linear in its length; a search that finds its mark passes over the bytes of its own item alone. The quotation mark and the marks of
+// decorations need no such memory: each closes itself, so where a search for one fails, the text has no further one to begin another search.
 #[derive(Clone, Copy)]
 pub(crate) struct Misses {
     // No `}` is left.
@@ -58,10 +58,11 @@ fn enclosed(bytes: &[u8], mark: u8) -> Option<usize>
     }
 }
 
+// Grace notes.
 #[tactic(auto, unfolding(crate::specs::Rows::enclosed))]
 fn grace(bytes: &[u8], missing: &mut bool) -> Option<usize>
     requires { IsTrue missing.old → IsTrue (has_no closing_brace bytes.now) }
-    ensures value { result ≡ enclosed 123 125 bytes.now }
+    ensures value { result ≡ enclosed opening_brace closing_brace bytes.now }
     ensures within { IfSome result (λ n. (0 < n) × (n ≤ length bytes.now)) }
     ensures missing { IsTrue missing.new → IsTrue (has_no closing_brace bytes.now) }
 {
@@ -71,6 +72,7 @@ fn grace(bytes: &[u8], missing: &mut bool) -> Option<usize>
     }
 }
 
+// An inline field.
 #[tactic(auto, unfolding(crate::specs::Rows::inline_field))]
 fn inline_field(bytes: &[u8], missing: &mut bool) -> Option<usize>
     requires { IsTrue missing.old → IsTrue (has_no closing_bracket bytes.now) }
@@ -86,7 +88,8 @@ fn inline_field(bytes: &[u8], missing: &mut bool) -> Option<usize>
     }
 }
 
-// How many bytes at the front may stand in a chord. The search stops at the next `[` at the latest, and so no two such searches pass over one byte.
+// How many bytes at the front may stand in a chord. The search begins after a `[` and stops at the next one at the latest, so that no two such
+// searches pass over one byte, and those of a text take time linear in its length, whatever they find.
 fn chord_bytes(bytes: &[u8]) -> usize
     ensures value { result ≡ prefix_len is_chord_byte bytes.now }
     ensures within { result ≤ length bytes.now }
@@ -94,6 +97,7 @@ fn chord_bytes(bytes: &[u8]) -> usize
     memchr3(b'[', b']', b'|', bytes).unwrap_or(bytes.len())
 }
 
+// Whether the first byte is a digit.
 fn begins_with_digit(bytes: &[u8]) -> bool
     ensures { result ≡ begins is_ascii_digit bytes.now }
 {
@@ -110,6 +114,7 @@ fn begins_with_closing_bracket(bytes: &[u8]) -> bool
     matches!(bytes, [b']', ..])
 }
 
+// A chord.
 #[tactic(auto, unfolding(crate::specs::Rows::chord))]
 fn chord(bytes: &[u8]) -> Option<usize>
     ensures value { result ≡ chord bytes.now }
@@ -128,6 +133,7 @@ fn chord(bytes: &[u8]) -> Option<usize>
     }
 }
 
+// How many digits are at the front.
 fn digits(bytes: &[u8]) -> usize
     ensures value { result ≡ prefix_len is_ascii_digit bytes.now }
     ensures within { result ≤ length bytes.now }
@@ -138,6 +144,7 @@ fn digits(bytes: &[u8]) -> usize
         .count()
 }
 
+// How many bytes a colon at the front has, with the digits after it.
 fn colon_part(bytes: &[u8]) -> usize
     ensures value { result ≡ colon_part bytes.now }
     ensures within { result ≤ length bytes.now }
@@ -148,6 +155,7 @@ fn colon_part(bytes: &[u8]) -> usize
     }
 }
 
+// The same for up to two colons.
 fn two_colon_parts(bytes: &[u8]) -> usize
     ensures value { result ≡ colon_parts 2 bytes.now }
     ensures within { result ≤ length bytes.now }
@@ -156,6 +164,7 @@ fn two_colon_parts(bytes: &[u8]) -> usize
     first + colon_part(&bytes[first..])
 }
 
+// A tuplet.
 #[tactic(auto, unfolding(crate::specs::Rows::tuplet))]
 fn tuplet(bytes: &[u8]) -> Option<usize>
     ensures value { result ≡ tuplet bytes.now }
@@ -189,7 +198,7 @@ pub fn own_accidental(text: &[u8]) -> Option<Accidental>
     }
 }
 
-/// How many bytes an accidental has as it is written: 0 where there is none.
+/// How many bytes a note's own accidental has, as it is written: 0 where it has none. The byte after them names the letter (ABC 2.1, 4.1 and 4.2).
 pub fn spelling_length(own: Option<Accidental>) -> usize
     ensures value { result ≡ length (spelling_of own) }
     ensures few { result ≤ 2 }
@@ -201,6 +210,7 @@ pub fn spelling_length(own: Option<Accidental>) -> usize
     }
 }
 
+// How many octave marks are at the front.
 fn octave_marks(bytes: &[u8]) -> usize
     ensures value { result ≡ prefix_len is_octave_mark bytes.now }
     ensures within { result ≤ length bytes.now }
@@ -211,6 +221,7 @@ fn octave_marks(bytes: &[u8]) -> usize
         .count()
 }
 
+// A note.
 #[tactic(auto, unfolding(crate::specs::Rows::note))]
 fn note(bytes: &[u8]) -> Option<usize>
     ensures value { result ≡ note bytes.now }
@@ -225,6 +236,39 @@ fn note(bytes: &[u8]) -> Option<usize>
     }
 }
 
+// The item at the front of a text, where its first byte begins none of the longer rows: these are most items, and need no search.
+fn plain_item(bytes: &[u8]) -> Option<Front>
+    ensures value { IfSome result (λ item. item ≡ first_item bytes.now) }
+    ensures within { IfSome result (λ item. (0 < item.length) × (item.length ≤ length bytes.now)) }
+{
+    match bytes {
+        [byte, rest @ ..] if !begins_longer_row(*byte) => Some(plain_front(*byte, rest)),
+        _ => None,
+    }
+}
+
+fn begins_longer_row(byte: u8) -> bool
+    ensures { result ≡ begins_longer_row byte }
+{
+    matches!(
+        byte,
+        b'"' | b'!' | b'+' | b'{' | b'[' | b'(' | b'^' | b'=' | b'_'
+    )
+}
+
+fn plain_front(byte: u8, rest: &[u8]) -> Front
+    ensures value { result ≡ plain_front byte rest.now }
+    ensures within { (0 < result.length) × (result.length ≤ length rest.now + 1) }
+{
+    if letter_of(byte).is_some() {
+        Front::new(Kind::Note, 1 + octave_marks(rest))
+    } else if byte == b'|' || byte == b':' {
+        Front::new(Kind::Bar, 1)
+    } else {
+        Front::new(Kind::Other, 1)
+    }
+}
+
 // The item at the front of a text: the first row that fits.
 #[tactic(auto, unfolding(crate::specs::Rows::first_item))]
 pub(crate) fn first_item(bytes: &[u8], misses: &mut Misses) -> Front
@@ -235,57 +279,36 @@ pub(crate) fn first_item(bytes: &[u8], misses: &mut Misses) -> Front
     ensures within { result.length ≤ length bytes.now }
     ensures misses { AreMissing misses.new bytes.now }
 {
+    if let Some(item) = plain_item(bytes) {
+        return item;
+    }
     if let Some(length) = enclosed(bytes, b'"') {
-        return Front {
-            kind: Kind::Quoted,
-            length,
-        };
+        return Front::new(Kind::Quoted, length);
     }
     if let Some(length) = enclosed(bytes, b'!') {
-        return Front {
-            kind: Kind::Decoration,
-            length,
-        };
+        return Front::new(Kind::Decoration, length);
     }
     if let Some(length) = enclosed(bytes, b'+') {
-        return Front {
-            kind: Kind::Decoration,
-            length,
-        };
+        return Front::new(Kind::Decoration, length);
     }
     if let Some(length) = grace(bytes, &mut misses.brace) {
-        return Front {
-            kind: Kind::Grace,
-            length,
-        };
+        return Front::new(Kind::Grace, length);
     }
     if let Some(length) = inline_field(bytes, &mut misses.bracket) {
-        return Front {
-            kind: Kind::InlineField,
-            length,
-        };
+        return Front::new(Kind::InlineField, length);
     }
     if let Some(length) = chord(bytes) {
-        return Front {
-            kind: Kind::Chord,
-            length,
-        };
+        return Front::new(Kind::Chord, length);
     }
     if let Some(length) = tuplet(bytes) {
-        return Front {
-            kind: Kind::Tuplet,
-            length,
-        };
+        return Front::new(Kind::Tuplet, length);
     }
     if let Some(length) = note(bytes) {
-        return Front {
-            kind: Kind::Note,
-            length,
-        };
+        return Front::new(Kind::Note, length);
     }
     let kind = match bytes {
         [b'|' | b':', ..] => Kind::Bar,
         _ => Kind::Other,
     };
-    Front { kind, length: 1 }
+    Front::new(kind, 1)
 }

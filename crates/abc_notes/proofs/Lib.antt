@@ -6,3 +6,4 @@ pub mod TuneLemmas
 pub mod BarLemmas
 pub mod KeptLemmas
 pub mod EventCounts
+pub mod NoteParts

@@ -74,6 +74,13 @@ unfolding line_events
 line_step base spans later span event chord is told =
     ap (line_events base) is ∙ ap (λ events. events ++ line_events base later) (sym told) ∙ append_assoc (events_of event) chord (line_events base later)
 
+-- an item of a line that is no chord
+pub plain_step : (base : ℕ) (spans later : List Span) (span : Span) (event : Option CodeEvent) → spans ≡ span ∷ later
+    → events_of event ≡ item_events base span.kind span
+    → line_events base spans ≡ events_of event ++ line_events base later
+unfolding line_events
+plain_step base spans later span event is told = ap (line_events base) is ∙ ap (λ events. events ++ line_events base later) (sym told)
+
 pub line_end : (base : ℕ) (spans : List Span) → spans ≡ [] → line_events base spans ≡ []
 unfolding line_events
 line_end base spans none = ap (line_events base) none

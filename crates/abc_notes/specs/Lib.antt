@@ -6,3 +6,4 @@ pub mod Music
 pub mod Bounds
 pub mod Kept
 pub mod Tokens
+pub mod NoteParts

@@ -43,35 +43,30 @@ impl Bar {
         }
     }
 
-    // The bar after a change of key.
-    pub fn after_change(self, signature: Signature) -> Bar
-        requires { self.since + 1 < 2 ^ 64 }
-        ensures after { (past : List AnyEvent) → IsBarAfter past self → IsBarAfter (change signature ∷ past) result }
-        ensures start { result.start ≡ self.start }
+    // Takes a change of key.
+    pub fn take_change(&mut self, signature: Signature)
+        requires { self.old.since + 1 < 2 ^ 64 }
+        ensures after { (past : List AnyEvent) → IsBarAfter past self.old → IsBarAfter (change signature ∷ past) self.new }
+        ensures start { self.new.start ≡ self.old.start }
     {
-        Bar {
-            signature,
-            since: self.since + 1,
-            ..self
-        }
+        self.since += 1;
+        self.signature = signature;
     }
 
-    // The bar after a note.
-    pub fn after_note(self, written: WrittenNote) -> Bar
-        requires { self.since + 1 < 2 ^ 64 }
-        ensures after { (past : List AnyEvent) → IsBarAfter past self → IsBarAfter (note (written_note written.entry) ∷ past) result }
-        ensures start { result.start ≡ self.start }
+    // Takes a note.
+    pub fn take_note(&mut self, written: WrittenNote)
+        requires { self.old.since + 1 < 2 ^ 64 }
+        ensures after { (past : List AnyEvent) → IsBarAfter past self.old → IsBarAfter (note (written_note written.entry) ∷ past) self.new }
+        ensures start { self.new.start ≡ self.old.start }
     {
-        let mut after = self;
-        after.since += 1;
+        self.since += 1;
         if let Some(accidental) = written.own {
             if is_near(written) {
-                set_entry(&mut after.entries, written, accidental);
+                set_entry(&mut self.entries, written, accidental);
             } else {
-                after.has_far = true;
+                self.has_far = true;
             }
         }
-        after
     }
 }
 

@@ -1,5 +1,5 @@
 // The events of a music line.
-ghost use Rattle.std.specs.Prelude.{◌≡◌, ◌+◌, ◌≤◌, ◌++◌, [], List, length};
+ghost use Rattle.std.specs.Prelude.{◌≡◌, ◌≢◌, ◌+◌, ◌≤◌, ◌++◌, [], List, false, length, IsTrue};
 ghost use Rattle.std.specs.Iterator.{YieldsFirstBy, item_count};
 ghost use Rattle.abc_items.specs.ItemView.{item_span};
 ghost use Rattle.abc_items.specs.Spans.{spans_of};
@@ -19,8 +19,9 @@ use std::marker::Model;
 pub(crate) struct LineEvents<'a> {
     base: usize,
     items: Items<'a>,
-    // What is left of a chord that has been begun.
+    // What is left of a chord that has been begun, and whether one has.
     chord: ChordEvents<'a>,
+    in_chord: bool,
 }
 
 impl<'a> Model for LineEvents<'a> {
@@ -28,7 +29,7 @@ impl<'a> Model for LineEvents<'a> {
 
     ghost view = { λ events. events.chord ++ line_events events.base events.items };
 
-    ghost invariant = { λ events. AreShort events.base events.items };
+    ghost invariant = { λ events. AreShort events.base events.items × (events.in_chord ≡ false → events.chord ≡ []) };
 }
 
 impl<'a> LineEvents<'a> {
@@ -41,6 +42,7 @@ impl<'a> LineEvents<'a> {
             base,
             items: Items::new(line),
             chord: ChordEvents::none(),
+            in_chord: false,
         }
     }
 
@@ -60,6 +62,7 @@ impl<'a> LineEvents<'a> {
             base: self.base,
             items: self.items.again(),
             chord: self.chord.again(),
+            in_chord: self.in_chord,
         }
     }
 
@@ -68,15 +71,19 @@ impl<'a> LineEvents<'a> {
         ensures { YieldsFirstBy event_of (λ events. events) self.old result self.new }
     {
         'items: loop {
-            let event = self.chord.next();
+            let event = next_of_chord(&mut self.chord, &mut self.in_chord);
             if event.is_some() {
                 return event;
             }
             let Some(item) = self.items.next() else {
                 return None;
             };
-            let (event, chord) = item_events(item, self.base);
-            self.chord = chord;
+            if is_chord(item.kind) {
+                self.chord = chord_events(item, self.base);
+                self.in_chord = true;
+                continue;
+            }
+            let event = item_event(item, self.base);
             if event.is_some() {
                 return event;
             }
@@ -84,18 +91,45 @@ impl<'a> LineEvents<'a> {
     }
 }
 
-// What an item tells: one event, or those of a chord.
-fn item_events<'a>(item: Item<'a>, base: usize) -> (Option<Event<'a>>, ChordEvents<'a>)
-    requires { IsShort base (item_span item) }
-    ensures { events_of result.0 ++ result.1 ≡ item_events base item.entry.kind (item_span item.entry) }
+// Takes the first event of a chord, where one has been begun.
+fn next_of_chord<'a>(chord: &mut ChordEvents<'a>, in_chord: &mut bool) -> Option<Event<'a>>
+    requires { in_chord.old ≡ false → chord.old ≡ [] }
+    ensures steps { YieldsFirstBy event_of (λ events. events) chord.old result chord.new }
+    ensures ended { in_chord.new ≡ false → chord.new ≡ [] }
+{
+    if !*in_chord {
+        return None;
+    }
+    let event = chord.next();
+    *in_chord = event.is_some();
+    event
+}
+
+fn is_chord(kind: Kind) -> bool
+    ensures yes { IsTrue result → kind ≡ Kind.Chord }
+    ensures no { kind ≡ Kind.Chord → IsTrue result }
+{
+    matches!(kind, Kind::Chord)
+}
+
+// What a chord tells.
+fn chord_events<'a>(item: Item<'a>, base: usize) -> ChordEvents<'a>
+    requires short { IsShort base (item_span item) }
+    requires chord { item.kind ≡ Kind.Chord }
+    ensures { result ≡ item_events base item.entry.kind (item_span item.entry) }
+{
+    ChordEvents::new(inside_of(item.text), base + item.from + 1)
+}
+
+// The event of an item that is no chord, if it is one.
+fn item_event<'a>(item: Item<'a>, base: usize) -> Option<Event<'a>>
+    requires short { IsShort base (item_span item) }
+    requires no_chord { item.kind ≢ Kind.Chord }
+    ensures { events_of result ≡ item_events base item.entry.kind (item_span item.entry) }
 {
     match item.kind {
-        Kind::Chord => {
-            let inside = inside_of(item.text);
-            (None, ChordEvents::new(inside, base + item.from + 1))
-        }
-        Kind::InlineField => (inline_event(item.text), ChordEvents::none()),
-        _ => (plain_event(item, base, true), ChordEvents::none()),
+        Kind::InlineField => inline_event(item.text),
+        _ => plain_event(item, base, true),
     }
 }
 

@@ -73,6 +73,10 @@ fn octave_of(name: u8, marks: &[u8]) -> i32
     } else {
         0
     };
+    // Most notes have no octave marks.
+    if marks.is_empty() {
+        return small as i32;
+    }
     let up = small + times(marks, b'\'');
     up as i32 - times(marks, b',') as i32
 }

@@ -11,6 +11,7 @@ ghost use Rattle.abc_notes.specs.EventView.{event_of, written_note};
 ghost use Rattle.abc_notes.specs.Music.{line_events, music_events, tune_events, tune_signature};
 ghost use Rattle.abc_notes.specs.Pitches.{SoundedNote, sounded, sounded_notes, FollowsTheRule};
 ghost use Rattle.abc_notes.specs.Kept.{past_of, IsKept};
+ghost use Rattle.abc_notes.specs.NoteParts.{AreNoteParts, NotesRise};
 ghost use Rattle.abc_notes.specs.Tokens.{token_note};
 
 use crate::bar::Bar;
@@ -62,6 +63,8 @@ impl<'a> Notes<'a> {
     /// the signature.
     pub fn of_tune(text: &'a TuneText) -> Notes<'a>
         ensures notes { result ≡ sounded_notes (tune_signature text.now) [] (tune_events text.now) }
+        ensures parts { AreNoteParts text.now result }
+        ensures rise { NotesRise 0 result }
         ensures accidentals { (first : AnySignature) (past : List AnyEvent) (note : AnyNote) → FollowsTheRule first past note }
     {
         let (start, events) = TuneEvents::of_tune(text);
@@ -72,6 +75,9 @@ impl<'a> Notes<'a> {
     pub fn of_line(line: &'a [u8], key: &Key) -> Notes<'a>
         requires { length line.now ≤ 4000000 }
         ensures notes { result ≡ sounded_notes (signature_of key.now) [] (music_events 0 line.now) }
+        ensures by_any_items { (items : List Token) → AreItems items (uncommented line.now) → result ≡ sounded_notes (signature_of key.now) [] (line_events 0 (spans_from 0 items)) }
+        ensures parts { AreNoteParts line.now result }
+        ensures rise { NotesRise 0 result }
     {
         Notes::new(signature(key), TuneEvents::of_line(without_comment(line)))
     }
@@ -98,14 +104,14 @@ impl<'a> Notes<'a> {
             match event {
                 Event::Note(note) => {
                     let accidental = accidental_of(&self.bar, &self.bar_events, note);
-                    self.bar = self.bar.after_note(note);
+                    self.bar.take_note(note);
                     return Some(token(note, accidental));
                 }
                 Event::Bar => {
                     self.bar_events = self.events.again();
                     self.bar = Bar::new(self.bar.signature);
                 }
-                Event::Change(signature) => self.bar = self.bar.after_change(signature),
+                Event::Change(signature) => self.bar.take_change(signature),
             }
         }
     }

@@ -1,6 +1,6 @@
 // One pass over the tunes of a book.
 use abc_fields::{Fields, TuneText, fields};
-use abc_keys::{Letter, key_of, signature};
+use abc_notes::{Letter, Notes, key_of, signature};
 
 // What is read of each tune.
 #[derive(Clone, Copy)]
@@ -8,6 +8,7 @@ pub(crate) enum What {
     Split,
     Fields,
     Keys,
+    Notes,
 }
 
 impl What {
@@ -16,6 +17,7 @@ impl What {
             "split" => Some(What::Split),
             "fields" => Some(What::Fields),
             "keys" => Some(What::Keys),
+            "notes" => Some(What::Notes),
             _ => None,
         }
     }
@@ -30,7 +32,8 @@ pub(crate) fn pass(tunes: &[TuneText], what: What) -> u64 {
     sum
 }
 
-// The bytes of a tune; or the bytes of its titles, rhythm and key text; or these and the letters that its signature changes.
+// The bytes of a tune; or the bytes of its titles, rhythm and key text; or these and the letters that its signature changes; or the semitones of all its
+// notes above `C`, or below it.
 fn read(tune: &TuneText, what: What) -> u64 {
     match what {
         What::Split => tune.bytes().len() as u64,
@@ -39,6 +42,7 @@ fn read(tune: &TuneText, what: What) -> u64 {
             let found = fields(tune);
             field_bytes(&found).wrapping_add(changed_letters(found.key))
         }
+        What::Notes => semitones(Notes::of_tune(tune)),
     }
 }
 
@@ -70,4 +74,12 @@ fn changed_letters(key: &[u8]) -> u64 {
         }
     }
     changed
+}
+
+fn semitones(notes: Notes) -> u64 {
+    let mut sum: u64 = 0;
+    for note in notes {
+        sum = sum.wrapping_add(u64::from(note.pitch.unsigned_abs()));
+    }
+    sum
 }

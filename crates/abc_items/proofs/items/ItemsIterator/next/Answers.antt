@@ -1,5 +1,4 @@
-use Rattle.std.proofs.Common.{sym, ◌∙◌, ◌≡◌, ◌<◌, rules, arith, subst, length, List, ℕ}
-use Rattle.std.proofs.lemmas.List.{length-drop}
+use Rattle.std.proofs.Common.{sym, ◌∙◌, rules, arith, subst, List, ℕ}
 use Rattle.abc_items.specs.Misses.{AreMissing}
 use Rattle.abc_items.proofs.ClosingMarks.{missing_later}
 use Rattle.abc_items.proofs.Places.{spans_step}

@@ -14,17 +14,17 @@ returns-in_default c = (
 
 pub invariant_of-self-in-Note : goal.invariant_of-self-in-Note
 invariant_of-self-in-Note c =
-    kept_on c.events.self-inside.bar c.after_note-self-inside.result c.events.self-inside.bar_events c.events.self-inside.events c.next.new.self (note (written_note c.in-Note.note))
+    kept_on c.events.self-inside.bar c.take_note.new.self c.events.self-inside.bar_events c.events.self-inside.events c.next.new.self (note (written_note c.in-Note.note))
     c.events.invariant.kept (c.in-Some.ensures.steps ∙ ap (λ e. event_of e ∷ c.next.new.self) c.in-Note.is)
-    (c.after_note-self-inside.ensures.after _ c.events.invariant.kept.after)
+    (c.take_note.ensures.after _ c.events.invariant.kept.after)
 
 pub returns-in-Note : goal.returns-in-Note
 returns-in-Note c =
     sym c.self.view_is ∙ sym c.events.invariant.notes
-    ∙ notes_note c.events.self-inside.bar c.after_note-self-inside.result c.events.self-inside.bar_events c.events.self-inside.events c.next.new.self (written_note c.in-Note.note)
+    ∙ notes_note c.events.self-inside.bar c.take_note.new.self c.events.self-inside.bar_events c.events.self-inside.events c.next.new.self (written_note c.in-Note.note)
     c.events.invariant.kept (c.in-Some.ensures.steps ∙ ap (λ e. event_of e ∷ c.next.new.self) c.in-Note.is)
-    (c.after_note-self-inside.ensures.after _ c.events.invariant.kept.after) c.after_note-self-inside.ensures.start
-    ∙ ap (λ n. n ∷ notes_left c.after_note-self-inside.result c.events.self-inside.bar_events c.next.new.self)
+    (c.take_note.ensures.after _ c.events.invariant.kept.after) c.take_note.ensures.start
+    ∙ ap (λ n. n ∷ notes_left c.take_note.new.self c.events.self-inside.bar_events c.next.new.self)
     (ap (sounded (written_note c.in-Note.note)) (sym c.accidental_of-accidental.ensures) ∙ sym c.token.ensures)
 
 pub events-preserved-in-Bar : goal.events-preserved-in-Bar
@@ -42,10 +42,10 @@ events-preserved-in-Bar c =
 pub events-preserved : goal.events-preserved
 events-preserved c =
     let is = c.in-Some.ensures.steps ∙ ap (λ e. event_of e ∷ c.next.new.self) c.in-Change.is in
-    let after = c.after_change-self-inside.ensures.after _ c.events.invariant.kept.after in
+    let after = c.take_change.ensures.after _ c.events.invariant.kept.after in
     record {
-      notes = sym (notes_change c.events.self-inside.bar c.after_change-self-inside.result c.events.self-inside.bar_events c.events.self-inside.events c.next.new.self c.in-Change.signature
-          c.events.invariant.kept is after c.after_change-self-inside.ensures.start) ∙ c.events.invariant.notes;
-      kept = kept_on c.events.self-inside.bar c.after_change-self-inside.result c.events.self-inside.bar_events c.events.self-inside.events c.next.new.self (change c.in-Change.signature)
+      notes = sym (notes_change c.events.self-inside.bar c.take_change.new.self c.events.self-inside.bar_events c.events.self-inside.events c.next.new.self c.in-Change.signature
+          c.events.invariant.kept is after c.take_change.ensures.start) ∙ c.events.invariant.notes;
+      kept = kept_on c.events.self-inside.bar c.take_change.new.self c.events.self-inside.bar_events c.events.self-inside.events c.next.new.self (change c.in-Change.signature)
           c.events.invariant.kept is after;
     }

@@ -4,7 +4,7 @@ use Rattle.abc_notes.specs.EventView.{written_note}
 use Rattle.abc_notes.specs.Pitches.{in_force}
 use Rattle.abc_notes.specs.Tables.{IsNear}
 use Rattle.abc_notes.proofs.PastLemmas.{holds_set, borne_none, borne_far, borne_near}
-use Rattle.abc_notes.proofs.bar.Bar.after_note.Goals as goal
+use Rattle.abc_notes.proofs.bar.Bar.take_note.Goals as goal
 
 pub returns-then-is_near-clause-after : goal.returns-then-is_near-clause-after
 unfolding in_force
@@ -13,7 +13,7 @@ returns-then-is_near-clause-after c =
     λ past kept. record {
       count = omega (arith, kept.count);
       current = kept.current;
-      near = holds_set (written_note c.args.written) c.in-Some.accidental past c.args.self.entries c.set_entry.new.entries c.in-Some.is c.set_entry.ensures kept.near;
+      near = holds_set (written_note c.args.written) c.in-Some.accidental past c.args.self.now.entries c.set_entry.new.entries c.in-Some.is c.set_entry.ensures kept.near;
       far = λ none l o far. sym (borne_near (written_note c.args.written) past l o near far) ∙ kept.far none l o far;
     }
 

@@ -1,7 +1,7 @@
 use Rattle.std.proofs.Common.{refl, sym, ◌∙◌, arith}
 use Rattle.abc_notes.specs.Pitches.{in_force}
 use Rattle.abc_notes.proofs.PastLemmas.{borne_change}
-use Rattle.abc_notes.proofs.bar.Bar.after_change.Goals as goal
+use Rattle.abc_notes.proofs.bar.Bar.take_change.Goals as goal
 
 pub returns-clause-after : goal.returns-clause-after
 unfolding in_force
