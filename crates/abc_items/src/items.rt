@@ -85,6 +85,7 @@ impl<'a> Iterator for Items<'a> {
 
     ghost remaining = { item_count (λ items. items) };
 
+    #[inline(always)]
     fn next(&mut self) -> Option<Item<'a>> {
         if self.rest.is_empty() {
             return None;

@@ -5,7 +5,7 @@ ghost use Rattle.std.specs.Char.{is_ascii_digit};
 ghost use Rattle.abc_keys.specs.Keys.{begins};
 ghost use Rattle.abc_items.specs.Marks.{opening_brace, closing_brace, closing_bracket, is_closing_bracket, is_octave_mark, is_chord_byte, has_no};
 ghost use Rattle.abc_items.specs.Grammar.{spelling_of, IsNote};
-ghost use Rattle.abc_items.specs.Rows.{up_to, enclosed, inline_field, chord, colon_part, colon_parts, tuplet, own_accidental, note, first_item, begins_longer_row, plain_front};
+ghost use Rattle.abc_items.specs.Rows.{up_to, enclosed, inline_field, chord, colon_part, colon_parts, tuplet, own_accidental, note, first_item, is_note_name, begins_longer_row, plain_front};
 ghost use Rattle.abc_items.specs.Misses.{AreMissing};
 
 use crate::kinds::{Front, Kind};
@@ -184,6 +184,7 @@ fn tuplet(bytes: &[u8]) -> Option<usize>
 
 /// The accidental that a text begins with, as it is written: one of two bytes before one of one byte (ABC 2.1, 4.2). At the text of a note it is the
 /// note's own.
+#[inline(always)]
 pub fn own_accidental(text: &[u8]) -> Option<Accidental>
     ensures value { result ≡ own_accidental text.now }
     ensures own { (rest : List ℕ) (note : IsNote text.now rest) → result ≡ note.own }
@@ -199,6 +200,7 @@ pub fn own_accidental(text: &[u8]) -> Option<Accidental>
 }
 
 /// How many bytes a note's own accidental has, as it is written: 0 where it has none. The byte after them names the letter (ABC 2.1, 4.1 and 4.2).
+#[inline(always)]
 pub fn spelling_length(own: Option<Accidental>) -> usize
     ensures value { result ≡ length (spelling_of own) }
     ensures few { result ≤ 2 }
@@ -237,6 +239,7 @@ fn note(bytes: &[u8]) -> Option<usize>
 }
 
 // The item at the front of a text, where its first byte begins none of the longer rows: these are most items, and need no search.
+#[inline(always)]
 fn plain_item(bytes: &[u8]) -> Option<Front>
     ensures value { IfSome result (λ item. item ≡ first_item bytes.now) }
     ensures within { IfSome result (λ item. (0 < item.length) × (item.length ≤ length bytes.now)) }
@@ -256,17 +259,24 @@ fn begins_longer_row(byte: u8) -> bool
     )
 }
 
+#[inline(always)]
 fn plain_front(byte: u8, rest: &[u8]) -> Front
     ensures value { result ≡ plain_front byte rest.now }
     ensures within { (0 < result.length) × (result.length ≤ length rest.now + 1) }
 {
-    if letter_of(byte).is_some() {
+    if is_note_name(byte) {
         Front::new(Kind::Note, 1 + octave_marks(rest))
     } else if byte == b'|' || byte == b':' {
         Front::new(Kind::Bar, 1)
     } else {
         Front::new(Kind::Other, 1)
     }
+}
+
+fn is_note_name(byte: u8) -> bool
+    ensures { result ≡ is_note_name byte }
+{
+    matches!(byte, b'A'..=b'G' | b'a'..=b'g')
 }
 
 // The item at the front of a text: the first row that fits.

@@ -41,18 +41,24 @@ impl Accidental {
     }
 }
 
+// The letters in the order of their names.
+const NAMED: [Letter; 7] = [
+    Letter::A,
+    Letter::B,
+    Letter::C,
+    Letter::D,
+    Letter::E,
+    Letter::F,
+    Letter::G,
+];
+
 /// The letter that a byte names, if it is one of `A` to `G` or `a` to `g`.
 pub fn letter_of(byte: u8) -> Option<Letter>
     ensures { result ≡ letter_of byte }
 {
     match byte {
-        b'A' | b'a' => Some(Letter::A),
-        b'B' | b'b' => Some(Letter::B),
-        b'C' | b'c' => Some(Letter::C),
-        b'D' | b'd' => Some(Letter::D),
-        b'E' | b'e' => Some(Letter::E),
-        b'F' | b'f' => Some(Letter::F),
-        b'G' | b'g' => Some(Letter::G),
+        b'A'..=b'G' => Some(NAMED[(byte - b'A') as usize]),
+        b'a'..=b'g' => Some(NAMED[(byte - b'a') as usize]),
         _ => None,
     }
 }

@@ -33,15 +33,8 @@ impl Signature {
     pub fn at(&self, letter: Letter) -> Accidental
         ensures { result ≡ accidental_at self.now letter }
     {
-        match letter {
-            Letter::C => self.c,
-            Letter::D => self.d,
-            Letter::E => self.e,
-            Letter::F => self.f,
-            Letter::G => self.g,
-            Letter::A => self.a,
-            Letter::B => self.b,
-        }
+        let accidentals = [self.c, self.d, self.e, self.f, self.g, self.a, self.b];
+        accidentals[letter as usize]
     }
 
     // The signature with another accidental at a letter.

@@ -1,5 +1,6 @@
 -- A note and an event of the code as those that definitions speak of.
 use Rattle.std.specs.Prelude.{List, [], ◌∷◌, Option, Some, None}
+use Rattle.abc_keys.specs.Keys.{key_of_text, signature_of}
 use Rattle.abc_notes.specs.declared.written.WrittenNote.{WrittenNote as CodeNote}
 use Rattle.abc_notes.specs.declared.written.Event.{Event as CodeEvent}
 use Rattle.abc_notes.specs.declared.written.Event.TheVariants.{Note, Bar, Change}
@@ -11,7 +12,7 @@ written_note n = record { from = n.from; to = n.to; bytes = n.text.now; letter =
 abbrev pub event_of : CodeEvent → Event
 event_of (Note n) = note (written_note n)
 event_of Bar = bar
-event_of (Change s) = change s
+event_of (Change text) = change (signature_of (key_of_text text.now))
 
 -- an event, if there is one, as a list
 abbrev pub events_of : Option CodeEvent → List Event

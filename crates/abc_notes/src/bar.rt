@@ -111,13 +111,5 @@ fn index_of(place: WrittenNote) -> usize
 pub(crate) fn letter_number(letter: Letter) -> usize
     ensures { result ≡ letter_number letter }
 {
-    match letter {
-        Letter::C => 0,
-        Letter::D => 1,
-        Letter::E => 2,
-        Letter::F => 3,
-        Letter::G => 4,
-        Letter::A => 5,
-        Letter::B => 6,
-    }
+    letter as usize
 }

@@ -67,6 +67,7 @@ impl<'a> LineEvents<'a> {
     }
 
     // Takes the first event that is left.
+    #[inline(always)]
     fn first_event(&mut self) -> Option<Event<'a>>
         ensures { YieldsFirstBy event_of (λ events. events) self.old result self.new }
     {
@@ -122,6 +123,7 @@ fn chord_events<'a>(item: Item<'a>, base: usize) -> ChordEvents<'a>
 }
 
 // The event of an item that is no chord, if it is one.
+#[inline(always)]
 fn item_event<'a>(item: Item<'a>, base: usize) -> Option<Event<'a>>
     requires short { IsShort base (item_span item) }
     requires no_chord { item.kind ≢ Kind.Chord }
@@ -149,6 +151,7 @@ impl<'a> Iterator for LineEvents<'a> {
 
     ghost remaining = { item_count (λ events. events) };
 
+    #[inline(always)]
     fn next(&mut self) -> Option<Event<'a>> {
         self.first_event()
     }

@@ -7,10 +7,11 @@ ghost use Rattle.abc_notes.specs.Music.{octave_of, written, plain_events, inline
 
 use crate::written::{Event, WrittenNote};
 use abc_items::{Item, Kind, own_accidental, spelling_length};
-use abc_keys::{Letter, key_of, letter_of, signature};
+use abc_keys::{Letter, letter_of};
 
 // The event of an item that is no chord and no field, if it is one. The text of the items begins at `base`.
 #[tactic(auto, unfolding(crate::specs::Music::plain_events))]
+#[inline(always)]
 pub(crate) fn plain_event<'a>(item: Item<'a>, base: usize, counts: bool) -> Option<Event<'a>>
     requires ordered { item.from + length item.text.now ≡ item.to }
     requires short { base + item.to ≤ 4000000 }
@@ -30,7 +31,7 @@ pub(crate) fn inline_event(text: &[u8]) -> Option<Event<'_>>
     match text {
         [_, b'K', _, rest @ ..] => {
             let value = &rest[..rest.len().saturating_sub(1)];
-            Some(Event::Change(signature(&key_of(value))))
+            Some(Event::Change(value))
         }
         _ => None,
     }
@@ -38,6 +39,7 @@ pub(crate) fn inline_event(text: &[u8]) -> Option<Event<'_>>
 
 // The note that an item is.
 #[tactic(auto, unfolding(crate::specs::Music::written))]
+#[inline(always)]
 fn written<'a>(item: Item<'a>, base: usize, counts: bool) -> WrittenNote<'a>
     requires ordered { item.from + length item.text.now ≡ item.to }
     requires short { base + item.to ≤ 4000000 }

@@ -20,7 +20,7 @@ use crate::recall::accidental_of;
 use crate::tune::TuneEvents;
 use crate::written::{Event, WrittenNote};
 use abc_fields::{TuneText, without_comment};
-use abc_keys::{Accidental, Key, Signature, signature};
+use abc_keys::{Accidental, Key, Signature, key_of, signature};
 use std::marker::Model;
 
 /// A note of a text, as it sounds.
@@ -94,6 +94,7 @@ impl<'a> Notes<'a> {
     }
 
     // Takes the first note that is left.
+    #[inline(always)]
     fn first_note(&mut self) -> Option<NoteToken<'a>>
         ensures { YieldsFirstBy token_note (λ notes. notes) self.old result self.new }
     {
@@ -111,7 +112,7 @@ impl<'a> Notes<'a> {
                     self.bar_events = self.events.again();
                     self.bar = Bar::new(self.bar.signature);
                 }
-                Event::Change(signature) => self.bar.take_change(signature),
+                Event::Change(text) => self.bar.take_change(signature(&key_of(text))),
             }
         }
     }
@@ -124,12 +125,14 @@ impl<'a> Iterator for Notes<'a> {
 
     ghost remaining = { item_count (λ notes. notes) };
 
+    #[inline(always)]
     fn next(&mut self) -> Option<NoteToken<'a>> {
         self.first_note()
     }
 }
 
 // A note with its pitch.
+#[inline(always)]
 fn token<'a>(note: WrittenNote<'a>, accidental: Accidental) -> NoteToken<'a>
     ensures { token_note result ≡ sounded (written_note note.entry) accidental }
 {

@@ -8,19 +8,14 @@ use abc_keys::{Accidental, Letter};
 
 const OCTAVE: i32 = 12;
 
+// Those of the letters from C to B.
+const LETTER_PITCHES: [i32; 7] = [0, 2, 4, 5, 7, 9, 11];
+
 fn letter_pitch(letter: Letter) -> i32
     ensures value { result ≡ letter_pitch letter }
     ensures small { (pos 0 ≤ℤ result) × (result ≤ℤ pos 11) }
 {
-    match letter {
-        Letter::C => 0,
-        Letter::D => 2,
-        Letter::E => 4,
-        Letter::F => 5,
-        Letter::G => 7,
-        Letter::A => 9,
-        Letter::B => 11,
-    }
+    LETTER_PITCHES[letter as usize]
 }
 
 // Semitones from C.

@@ -76,6 +76,7 @@ impl<'a> TuneEvents<'a> {
     }
 
     // Takes the first event that is left.
+    #[inline(always)]
     fn first_event(&mut self) -> Option<Event<'a>>
         ensures { YieldsFirstBy event_of (λ events. events) self.old result self.new }
     {
@@ -123,7 +124,7 @@ fn line_events<'a>(line: Line<'a>, in_part: bool) -> (Option<Event<'a>>, LineEve
     let text = line.text;
     let is_aside = is_field_line(text) || is_continuation(text) || is_comment(text);
     if !in_part && is_key_line(text) {
-        let change = Event::Change(signature(&key_of(field_value(text))));
+        let change = Event::Change(field_value(text));
         (Some(change), LineEvents::none())
     } else if in_part || is_aside {
         (None, LineEvents::none())
@@ -139,6 +140,7 @@ impl<'a> Iterator for TuneEvents<'a> {
 
     ghost remaining = { item_count (λ events. events) };
 
+    #[inline(always)]
     fn next(&mut self) -> Option<Event<'a>> {
         self.first_event()
     }

@@ -1,4 +1,5 @@
 use Rattle.std.proofs.Common.{◌≤◌, ◌∷◌, ◌∙◌, sym, ap, subst, List, length, arith}
+use Rattle.abc_keys.specs.Keys.{signature_of}
 use Rattle.abc_notes.specs.Events.{Event, note, change}
 use Rattle.abc_notes.specs.EventView.{event_of, written_note}
 use Rattle.abc_notes.specs.Kept.{IsKept}
@@ -41,11 +42,12 @@ events-preserved-in-Bar c =
 
 pub events-preserved : goal.events-preserved
 events-preserved c =
-    let is = c.in-Some.ensures.steps ∙ ap (λ e. event_of e ∷ c.next.new.self) c.in-Change.is in
+    let is = c.in-Some.ensures.steps ∙ ap (λ e. event_of e ∷ c.next.new.self) c.in-Change.is
+    ∙ ap (λ s. change s ∷ c.next.new.self) (sym (c.signature.ensures ∙ ap signature_of c.key_of.ensures.key)) in
     let after = c.take_change.ensures.after _ c.events.invariant.kept.after in
     record {
-      notes = sym (notes_change c.events.self-inside.bar c.take_change.new.self c.events.self-inside.bar_events c.events.self-inside.events c.next.new.self c.in-Change.signature
+      notes = sym (notes_change c.events.self-inside.bar c.take_change.new.self c.events.self-inside.bar_events c.events.self-inside.events c.next.new.self c.signature.result
           c.events.invariant.kept is after c.take_change.ensures.start) ∙ c.events.invariant.notes;
-      kept = kept_on c.events.self-inside.bar c.take_change.new.self c.events.self-inside.bar_events c.events.self-inside.events c.next.new.self (change c.in-Change.signature)
+      kept = kept_on c.events.self-inside.bar c.take_change.new.self c.events.self-inside.bar_events c.events.self-inside.events c.next.new.self (change c.signature.result)
           c.events.invariant.kept is after;
     }
