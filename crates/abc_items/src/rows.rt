@@ -280,7 +280,7 @@ fn is_note_name(byte: u8) -> bool
 }
 
 // The item at the front of a text: the first row that fits.
-#[tactic(auto, unfolding(crate::specs::Rows::first_item))]
+#[inline(always)]
 pub(crate) fn first_item(bytes: &[u8], misses: &mut Misses) -> Front
     requires some { 0 < length bytes.now }
     requires misses { AreMissing misses.old bytes.now }
@@ -289,9 +289,22 @@ pub(crate) fn first_item(bytes: &[u8], misses: &mut Misses) -> Front
     ensures within { result.length ≤ length bytes.now }
     ensures misses { AreMissing misses.new bytes.now }
 {
-    if let Some(item) = plain_item(bytes) {
-        return item;
+    match plain_item(bytes) {
+        Some(item) => item,
+        None => searched_item(bytes, misses),
     }
+}
+
+// The same, row by row.
+#[tactic(auto, unfolding(crate::specs::Rows::first_item))]
+fn searched_item(bytes: &[u8], misses: &mut Misses) -> Front
+    requires some { 0 < length bytes.now }
+    requires misses { AreMissing misses.old bytes.now }
+    ensures value { result ≡ first_item bytes.now }
+    ensures some { 0 < result.length }
+    ensures within { result.length ≤ length bytes.now }
+    ensures misses { AreMissing misses.new bytes.now }
+{
     if let Some(length) = enclosed(bytes, b'"') {
         return Front::new(Kind::Quoted, length);
     }

@@ -93,6 +93,7 @@ impl<'a> LineEvents<'a> {
 }
 
 // Takes the first event of a chord, where one has been begun.
+#[inline(always)]
 fn next_of_chord<'a>(chord: &mut ChordEvents<'a>, in_chord: &mut bool) -> Option<Event<'a>>
     requires { in_chord.old ≡ false → chord.old ≡ [] }
     ensures steps { YieldsFirstBy event_of (λ events. events) chord.old result chord.new }
