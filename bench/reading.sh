@@ -35,3 +35,22 @@ for layer in split fields keys notes; do
     awk -v layer="$layer" -v total="$total" -v spent=$((nanoseconds - one)) \
         'BEGIN { printf "%-8s %8.2f ms  %s\n", layer, spent / 20 / 1000000, total }'
 done
+
+# Hostile tunes of 64,000 bytes of music: each is read in the time of its length.
+hostile() {
+    awk -v what="$1" 'BEGIN {
+        printf "X:1\nK:C\n"
+        if (what == "comma") { printf "C"; for (n = 1; n < 64000; n++) printf ","; print ""; exit }
+        for (n = length(what); n <= 64000; n += length(what)) printf "%s", what
+        print ""
+    }' > "$work/tunes.abc"
+}
+
+for text in '{' '"' '[' '(3' '[K:' '!' '^' '[C' comma 'C,,,,,,,,,' '^C,,,,,,,,,C,,,,,,,,,,'; do
+    hostile "$text"
+    passes notes 1
+    one=$nanoseconds
+    passes notes 21
+    awk -v text="$text" -v total="$total" -v spent=$((nanoseconds - one)) \
+        'BEGIN { printf "64,000 bytes of %-24s %8.2f ms  %s\n", text, spent / 20 / 1000000, total }'
+done
