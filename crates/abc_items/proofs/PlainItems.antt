@@ -1,11 +1,10 @@
 -- A byte that begins none of the longer rows is a note with its octave marks, a bar or another byte.
-use Rattle.std.proofs.Common.{◌≡◌, ℕ, ◌<◌, length, slice_index, take, drop, ◌+◌, ◌-◌, List, [], ◌∷◌, Bool, true, false, cond, Option, Some, None, refl, sym, ap, ◌∙◌, arith}
-use Rattle.std.specs.Prelude.{codes, ◌==◌, if◌then◌else◌}
+use Rattle.std.proofs.Common.{◌≡◌, ℕ, ◌<◌, length, slice_index, take, drop, ◌+◌, ◌-◌, List, [], ◌∷◌, Bool, true, false, Some, None, refl, sym, ap, ◌∙◌, arith}
+use Rattle.std.specs.Prelude.{◌==◌, if◌then◌else◌}
 use Rattle.std.specs.List.{prefix_len}
 use Rattle.std.proofs.Math.Seq.{take-length}
 use Rattle.std.proofs.lemmas.Bool.Decides.{nat_tests}
-use Rattle.abc_keys.specs.declared.letters.Accidental.{Accidental}
-use Rattle.abc_keys.specs.Letters.{is_one_of, accidental_of}
+use Rattle.abc_keys.specs.Letters.{accidental_of}
 use Rattle.abc_items.specs.declared.kinds.Front.{Front}
 use Rattle.abc_items.specs.declared.kinds.Kind.TheVariants.{Note, Bar, Other}
 use Rattle.abc_items.specs.Marks.{is_bar, is_octave_mark}

@@ -1,5 +1,5 @@
 -- A token as the sounded note that it is.
-use Rattle.abc_notes.specs.declared.notes.NoteToken.{NoteToken}
+use Rattle.abc_notes.specs.declared.token.NoteToken.{NoteToken}
 use Rattle.abc_notes.specs.Pitches.{SoundedNote}
 
 abbrev pub token_note : NoteToken → SoundedNote

@@ -11,8 +11,10 @@ mod note_items;
 mod notes;
 mod pitches;
 mod recall;
+mod token;
 mod tune;
 mod written;
 
 pub use abc_keys::{Accidental, Key, Letter, Mode, Scale, Sign, Signature, key_of, signature};
-pub use notes::{NoteToken, Notes};
+pub use notes::Notes;
+pub use token::NoteToken;

@@ -17,26 +17,12 @@ ghost use Rattle.abc_notes.specs.Tokens.{token_note};
 use crate::bar::Bar;
 use crate::pitches::pitch_of;
 use crate::recall::accidental_of;
+use crate::token::NoteToken;
 use crate::tune::TuneEvents;
 use crate::written::{Event, WrittenNote};
 use abc_fields::{TuneText, without_comment};
 use abc_keys::{Accidental, Key, Signature, key_of, signature};
 use std::marker::Model;
-
-/// A note of a text, as it sounds.
-#[derive(Clone, Copy, Debug)]
-pub struct NoteToken<'a> {
-    /// The index of its first byte in the text.
-    pub from: usize,
-    /// The index past its last byte.
-    pub to: usize,
-    /// Its bytes: its accidental, if it has one, its letter and its octave marks.
-    pub text: &'a [u8],
-    /// Semitones from the `C` of octave 0: `c` is 12, `C,` is -12.
-    pub pitch: i32,
-    /// Whether it counts as a note of its tune's melody: of a chord the first note alone does.
-    pub counts: bool,
-}
 
 /// The notes of a tune or of a music line, in order, with their pitches (ABC 2.1, 4.1, 4.2 and 4.17; this archive's profile). A clause sees the list of
 /// the notes that are left.

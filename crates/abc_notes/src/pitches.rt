@@ -20,7 +20,9 @@ fn letter_pitch(letter: Letter) -> i32
 
 // Semitones from C.
 pub(crate) fn pitch_of(note: &WrittenNote, accidental: Accidental) -> i32
-    ensures { result ≡ pitch_of (written_note note.now) accidental }
+    ensures value { result ≡ pitch_of (written_note note.now) accidental }
+    ensures low { negsuc 48000001 ≤ℤ result }
+    ensures high { result ≤ℤ pos 48000013 }
 {
     letter_pitch(note.letter) + OCTAVE * note.octave + accidental.semitones()
 }

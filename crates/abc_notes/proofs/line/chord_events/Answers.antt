@@ -1,4 +1,4 @@
-use Rattle.std.proofs.Common.{◌≡◌, ◌∙◌, ◌+◌, sym, ap, true}
+use Rattle.std.proofs.Common.{◌∙◌, ◌+◌, sym, ap, true}
 use Rattle.abc_items.specs.ItemView.{item_span}
 use Rattle.abc_items.specs.Spans.{spans_of}
 use Rattle.abc_notes.specs.Music.{chord_events}

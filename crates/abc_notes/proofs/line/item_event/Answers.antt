@@ -1,4 +1,4 @@
-use Rattle.std.proofs.Common.{◌≡◌, ◌∙◌, sym}
+use Rattle.std.proofs.Common.{◌∙◌, sym}
 use Rattle.abc_items.specs.ItemView.{item_span}
 use Rattle.abc_notes.proofs.StreamLemmas.{field_item, plain_item}
 use Rattle.abc_notes.proofs.line.item_event.Goals as goal

@@ -1,4 +1,4 @@
-use Rattle.std.proofs.Common.{◌≡◌, ◌∙◌, sym, ap, subst, List, []}
+use Rattle.std.proofs.Common.{◌≡◌, ◌∙◌, sym, subst, List, []}
 use Rattle.abc_notes.specs.Music.{tune_events, tune_signature}
 use Rattle.abc_notes.specs.NoteParts.{AreNoteParts, NotesRise}
 use Rattle.abc_notes.specs.Pitches.{SoundedNote, sounded_notes}
