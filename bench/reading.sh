@@ -28,7 +28,7 @@ passes() {
     nanoseconds=$((end - start))
 }
 
-for layer in split fields keys notes; do
+for layer in split fields keys notes steps; do
     passes "$layer" 1
     one=$nanoseconds
     passes "$layer" 21

@@ -4,6 +4,8 @@
 #[cfg(test)]
 mod fields;
 #[cfg(test)]
+mod incipits;
+#[cfg(test)]
 mod items;
 #[cfg(test)]
 mod key_texts;

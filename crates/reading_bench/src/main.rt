@@ -1,5 +1,5 @@
 //! The program `reading_bench`, by which the reading of tunes is timed: `reading_bench WHAT PASSES` reads the book of standard input, reads each of its tunes
-//! so many times, and prints what one pass came to. WHAT is `split` (the tunes alone), `fields`, `keys` or `notes`.
+//! so many times, and prints what one pass came to. WHAT is `split` (the tunes alone), `fields`, `keys`, `notes` or `steps`.
 #![tactic(auto)]
 
 mod pass;
@@ -16,7 +16,7 @@ const LONGEST_TEXT: usize = 64_100;
 fn main(rt: HostRuntime) -> io::Result<()> {
     let words: Vec<String> = env::args(&rt)?.collect(rt.alloc())?;
     let Some((what, passes)) = asked(words.as_slice()) else {
-        eprintln!(&rt; "usage: reading_bench split|fields|keys|notes PASSES < BOOK")?;
+        eprintln!(&rt; "usage: reading_bench split|fields|keys|notes|steps PASSES < BOOK")?;
         return Ok(());
     };
     let mut book = Vec::new(rt.alloc());

@@ -1,6 +1,7 @@
 // One pass over the tunes of a book.
 use abc_fields::{Fields, TuneText, fields};
 use abc_notes::{Letter, Notes, key_of, signature};
+use tune_incipit::{MOST_NOTES, Steps, steps};
 
 // What is read of each tune.
 #[derive(Clone, Copy)]
@@ -9,6 +10,7 @@ pub(crate) enum What {
     Fields,
     Keys,
     Notes,
+    Steps,
 }
 
 impl What {
@@ -18,6 +20,7 @@ impl What {
             "fields" => Some(What::Fields),
             "keys" => Some(What::Keys),
             "notes" => Some(What::Notes),
+            "steps" => Some(What::Steps),
             _ => None,
         }
     }
@@ -33,7 +36,7 @@ pub(crate) fn pass(tunes: &[TuneText], what: What) -> u64 {
 }
 
 // The bytes of a tune; or the bytes of its titles, rhythm and key text; or these and the letters that its signature changes; or the semitones of all its
-// notes above `C`, or below it.
+// notes above `C`, or below it; or those of the steps between its first eight notes.
 fn read(tune: &TuneText, what: What) -> u64 {
     match what {
         What::Split => tune.bytes().len() as u64,
@@ -43,6 +46,7 @@ fn read(tune: &TuneText, what: What) -> u64 {
             field_bytes(&found).wrapping_add(changed_letters(found.key))
         }
         What::Notes => semitones(Notes::of_tune(tune)),
+        What::Steps => step_semitones(&steps(tune, MOST_NOTES)),
     }
 }
 
@@ -80,6 +84,14 @@ fn semitones(notes: Notes) -> u64 {
     let mut sum: u64 = 0;
     for note in notes {
         sum = sum.wrapping_add(u64::from(note.pitch.unsigned_abs()));
+    }
+    sum
+}
+
+fn step_semitones(steps: &Steps) -> u64 {
+    let mut sum: u64 = 0;
+    for step in steps.as_slice() {
+        sum = sum.wrapping_add(u64::from(step.unsigned_abs()));
     }
     sum
 }

@@ -1,0 +1,78 @@
+-- The steps so far, and the notes that are left, are together the incipit.
+use Rattle.std.proofs.Common.{◌≡◌, ℕ, zero, suc, ◌+◌, ◌-◌, ◌<◌, ◌≤◌, List, [], ◌∷◌, ◌++◌, length, take, refl, ap, sym, ◌∙◌, arith, true, false, Option, Some, None, ℤ, ◌-ℤ◌, append_assoc, length-append, map, filter}
+use Rattle.std.specs.Prelude.{cond}
+use Rattle.std.proofs.lemmas.List.{append-nil}
+use Rattle.abc_notes.specs.Pitches.{SoundedNote}
+use Rattle.tune_incipit.specs.Incipits.{counting_pitches, differences, incipit_of, steps_and}
+
+-- the steps from the last note, if one has come, through these pitches
+unfoldable pub steps_on : Option ℤ → List ℤ → List ℤ
+steps_on None pitches = differences pitches
+steps_on (Some last) pitches = differences (last ∷ pitches)
+
+-- how many notes have come, by the last one and the steps
+abbrev pub notes_so_far : Option ℤ → List ℤ → ℕ
+notes_so_far None steps = length steps
+notes_so_far (Some last) steps = length steps + 1
+
+-- the steps so far, and those of the notes that are left
+unfoldable pub all_steps : ℕ → Option ℤ → List ℤ → List SoundedNote → List ℤ
+all_steps count last steps notes = steps ++ steps_on last (take (count - notes_so_far last steps) (counting_pitches notes))
+
+counting_no : (n : SoundedNote) (rest : List SoundedNote) → n.counts ≡ false → counting_pitches (n ∷ rest) ≡ counting_pitches rest
+counting_no n rest e = (λ i. map (λ (x : SoundedNote). x.pitch) (cond (e i) (n ∷ filter (λ x. x.counts) rest) (filter (λ x. x.counts) rest)))
+
+counting_yes : (n : SoundedNote) (rest : List SoundedNote) → n.counts ≡ true → counting_pitches (n ∷ rest) ≡ n.pitch ∷ counting_pitches rest
+counting_yes n rest e = (λ i. map (λ (x : SoundedNote). x.pitch) (cond (e i) (n ∷ filter (λ x. x.counts) rest) (filter (λ x. x.counts) rest)))
+
+pub notes_so_far-le : (last : Option ℤ) (steps : List ℤ) → notes_so_far last steps ≤ length steps + 1
+notes_so_far-le None steps = omega arith
+notes_so_far-le (Some last) steps = omega arith
+
+pub length-steps_and : (last : Option ℤ) (steps : List ℤ) (pitch : ℤ) → length (steps_and steps last pitch) ≡ notes_so_far last steps
+length-steps_and None steps pitch = refl
+length-steps_and (Some last) steps pitch = length-append steps ((pitch -ℤ last) ∷ [])
+
+-- at the beginning all is left
+pub all_steps-start : (count : ℕ) (steps : List ℤ) (notes : List SoundedNote) → steps ≡ [] → all_steps count None steps notes ≡ incipit_of count notes
+unfolding all_steps steps_on incipit_of
+all_steps-start count steps notes e =
+    let k : count - 0 ≡ count = omega arith in
+    (λ i. e i ++ differences (take (count - length (e i)) (counting_pitches notes))) ∙ ap (λ n. differences (take n (counting_pitches notes))) k
+
+-- a note that does not count changes nothing
+pub all_steps-skip : (count : ℕ) (last : Option ℤ) (steps : List ℤ) (n : SoundedNote) (rest : List SoundedNote) → n.counts ≡ false
+    → all_steps count last steps (n ∷ rest) ≡ all_steps count last steps rest
+unfolding all_steps
+all_steps-skip count last steps n rest e = ap (λ p. steps ++ steps_on last (take (count - notes_so_far last steps) p)) (counting_no n rest e)
+
+-- one that counts adds its step
+pub all_steps-more : (count : ℕ) (last : Option ℤ) (steps : List ℤ) (n : SoundedNote) (rest : List SoundedNote) → n.counts ≡ true → notes_so_far last steps < count
+    → all_steps count last steps (n ∷ rest) ≡ all_steps count (Some n.pitch) (steps_and steps last n.pitch) rest
+unfolding all_steps steps_on differences
+all_steps-more count None steps n rest e room =
+    let k : count - length steps ≡ suc (count - (length steps + 1)) = omega arith in
+    (λ i. steps ++ differences (take (k i) (counting_yes n rest e i)))
+all_steps-more count (Some last) steps n rest e room =
+    let longer : List ℤ = steps ++ (n.pitch -ℤ last) ∷ [] in
+    let k : count - (length steps + 1) ≡ suc (count - (length longer + 1)) = omega (arith, length-append steps ((n.pitch -ℤ last) ∷ [])) in
+    (λ i. steps ++ differences (last ∷ take (k i) (counting_yes n rest e i)))
+    ∙ sym (append_assoc steps ((n.pitch -ℤ last) ∷ []) (differences (n.pitch ∷ take (count - (length longer + 1)) (counting_pitches rest))))
+
+-- enough notes have come
+pub all_steps-full : (count : ℕ) (last : ℤ) (steps : List ℤ) (rest : List SoundedNote) → length steps + 1 ≡ count → all_steps count (Some last) steps rest ≡ steps
+unfolding all_steps steps_on differences
+all_steps-full count last steps rest e =
+    let k : count - (length steps + 1) ≡ 0 = omega arith in
+    (λ i. steps ++ differences (last ∷ take (k i) (counting_pitches rest))) ∙ append-nil steps
+
+take-none : (k : ℕ) (xs : List ℤ) → xs ≡ [] → take k xs ≡ []
+take-none zero xs e = refl
+take-none (suc k) [] e = refl
+take-none (suc k) (x ∷ xs) e = absurd (cc)
+
+-- no note is left
+pub all_steps-none : (count : ℕ) (last : Option ℤ) (steps : List ℤ) (notes : List SoundedNote) → notes ≡ [] → all_steps count last steps notes ≡ steps
+unfolding all_steps steps_on differences
+all_steps-none count None steps notes e = ap (λ p. steps ++ differences p) (take-none _ (counting_pitches notes) (ap counting_pitches e)) ∙ append-nil steps
+all_steps-none count (Some last) steps notes e = ap (λ p. steps ++ differences (last ∷ p)) (take-none _ (counting_pitches notes) (ap counting_pitches e)) ∙ append-nil steps

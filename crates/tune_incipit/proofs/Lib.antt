@@ -1,0 +1,3 @@
+pub mod PlaceLemmas
+pub mod Growing
+pub mod IncipitLaws

@@ -1,0 +1,2 @@
+pub mod Incipits
+pub mod Places
