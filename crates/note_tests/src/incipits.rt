@@ -71,7 +71,13 @@ fn stops_at_the_eighth_note(rt: HostRuntime) -> Result<(), Fail> {
     Ok(())
 }
 
-// A query, and its steps; no steps where it is refused.
+// The steps of a query, by its first eight notes that count.
+fn steps_of_query<R: Abort>(rt: &R, query: &[u8]) -> Result<Steps, BadQuery> {
+    assert!(rt; query.len() <= 4_000_000);
+    query_steps(query, MOST_NOTES)
+}
+
+// Queries with their steps; a query without steps is refused.
 #[test]
 fn finds_the_steps_of_queries(rt: HostRuntime) -> Result<(), Fail> {
     let cases: [Case; 16] = [
@@ -93,7 +99,7 @@ fn finds_the_steps_of_queries(rt: HostRuntime) -> Result<(), Fail> {
         (b"\xff\xfe", &[]),
     ];
     for (query, wanted) in cases {
-        match query_steps(query, MOST_NOTES) {
+        match steps_of_query(&rt, query) {
             Ok(found) => assert_eq!(&rt; found.as_slice(), wanted),
             Err(BadQuery) => assert!(&rt; wanted.is_empty()),
         }
@@ -102,7 +108,7 @@ fn finds_the_steps_of_queries(rt: HostRuntime) -> Result<(), Fail> {
     for _ in 0..4_000 {
         long.push(b'C')?;
     }
-    let found = query_steps(long.as_slice(), MOST_NOTES)?;
+    let found = steps_of_query(&rt, long.as_slice())?;
     assert_eq!(&rt; found.as_slice(), [0, 0, 0, 0, 0, 0, 0].as_slice());
     Ok(())
 }
@@ -129,7 +135,7 @@ fn tells_how_tunes_begin(rt: HostRuntime) -> Result<(), Fail> {
         (b"GGABAABd", true),
         (b"GGABAABe", false),
     ] {
-        let front = query_steps(query, MOST_NOTES)?;
+        let front = steps_of_query(&rt, query)?;
         assert_eq!(&rt; begins(&front, &tune), wanted);
     }
     let none = steps_of(rt.alloc(), b"K:C")?;
