@@ -51,13 +51,25 @@ pub(crate) fn check_book<R: AllocGlobal + Abort>(
     Ok(())
 }
 
-pub(crate) fn check_line<R: AllocGlobal + Abort>(
+// The notes of a music line by itself.
+pub(crate) fn line_notes<'a, R: Abort>(rt: &R, key: &[u8], line: &'a [u8]) -> Notes<'a> {
+    assert!(rt; line.len() <= 4_000_000);
+    Notes::of_line(line, &key_of(key))
+}
+
+// Reads a line as the music of a tune.
+fn check_tune<R: AllocGlobal + Abort>(
     rt: &R,
     key: &[u8],
     line: &[u8],
     wanted: &str,
 ) -> Result<(), Fail> {
-    check_notes(rt, line, Notes::of_line(line, &key_of(key)), wanted)
+    let mut book = Vec::new(rt.alloc());
+    book.extend_from_slice(b"X:1\nK:")?;
+    book.extend_from_slice(key)?;
+    book.push(b'\n')?;
+    book.extend_from_slice(line)?;
+    check_book(rt, book.as_slice(), wanted)
 }
 
 // Reads a line in a key by itself, and as the music of a tune.
@@ -67,13 +79,8 @@ pub(crate) fn check<R: AllocGlobal + Abort>(
     line: &[u8],
     wanted: &str,
 ) -> Result<(), Fail> {
-    check_line(rt, key, line, wanted)?;
-    let mut book = Vec::new(rt.alloc());
-    book.extend_from_slice(b"X:1\nK:")?;
-    book.extend_from_slice(key)?;
-    book.push(b'\n')?;
-    book.extend_from_slice(line)?;
-    check_book(rt, book.as_slice(), wanted)
+    check_notes(rt, line, line_notes(rt, key, line), wanted)?;
+    check_tune(rt, key, line, wanted)
 }
 
 fn check_all<R: AllocGlobal + Abort>(rt: &R, key: &[u8], cases: &[Case]) -> Result<(), Fail> {
@@ -283,11 +290,8 @@ fn reads_any_line_by_itself_as_music(rt: HostRuntime) -> Result<(), Fail> {
         (b"A \"b%\" C", "9 23", "9 23"),
     ];
     for (line, alone, in_tune) in cases {
-        check_line(&rt, b"C", line, alone)?;
-        let mut book = Vec::new(rt.alloc());
-        book.extend_from_slice(b"X:1\nK:C\n")?;
-        book.extend_from_slice(line)?;
-        check_book(&rt, book.as_slice(), in_tune)?;
+        check_notes(&rt, line, line_notes(&rt, b"C", line), alone)?;
+        check_tune(&rt, b"C", line, in_tune)?;
     }
     Ok(())
 }

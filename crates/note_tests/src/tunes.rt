@@ -1,7 +1,7 @@
 // The notes of whole tunes (ABC 2.1, 2.2 and 4), of notes far from the staff, and of text that is made to be slow to read.
-use crate::notes::{check, check_book, check_line, check_notes};
+use crate::notes::{check, check_book, check_notes, line_notes};
 use abc_fields::split_book;
-use abc_notes::{Notes, key_of};
+use abc_notes::Notes;
 use std::alloc::Global;
 use std::process::Abort;
 use std::test::Fail;
@@ -24,17 +24,11 @@ fn reads_music_lines_alone(rt: HostRuntime) -> Result<(), Fail> {
     let cases: [Case; 16] = [
         (b"K:C", ""),
         (b"K:C\nT:x\nw:ABC", ""),
-        (
-            b"T:ABC\nDEF\nM:C|\nK:G\nG3 GAB|A3 ABd|",
-            "7 7 9 11 9 9 11 14",
-        ),
+        (b"T:ABC\nDEF\nM:C|\nK:G\nG3 GAB|", "7 7 9 11"),
         (b"K:C\nAB\nw:A-B\nc\ns:A * B\nd\nW:G", "9 11 12 14"),
         (b"K:C\n+:AB\nc\n+A:B+d\n+e", "12 14 16"),
-        (
-            b"K:C\nA:|\nB :|\n :|c\nx:A\n1:d\n\xff:e\n::f",
-            "11 12 14 16 17",
-        ),
-        (b"K:C\n w:AB", "9 11"),
+        (b"K:C\nA:|\nB :|\n :|c\n1:d\n\xff:e\n::f", "11 12 14 16 17"),
+        (b"K:C\n w:AB\nx:A", "9 11"),
         (b"K:C\n% ABC\n%ABC\n%%ABC\n % ABC\nA % B\nA%%B", "9 9"),
         (b"K:C\nA \\% B\nA\\%B%C\\%\nA\\\\%B", "9 11 9 11 9 11"),
         (b"K:C\nA \"B%\" c\n{g%f}A\n[C%E]", "9 11 19 0"),
@@ -54,10 +48,7 @@ fn changes_key_in_the_body(rt: HostRuntime) -> Result<(), Fail> {
         (b"K:Bb\nE [K:C]E|_E E", "3 4 3 3"),
         (b"K:C\nFC\nK:D\nFC\nK:F\nFB", "5 0 6 1 5 10"),
         (b"K:D % ^c\nF[K:C]F\nF\nK: D exp ^f%_b\nFCB", "6 5 5 6 0 11"),
-        (
-            b"K:G\nF\nK:none\nF\nK:G\nF\nK:\nF\nK:G\nF\nK:xyz\nF",
-            "6 5 6 5 6 5",
-        ),
+        (b"K:G\nF\nK:none\nF\nK:G\nF\nK:xyz\nF", "6 5 6 5"),
         (b"K:G\nF\nK:%\nF\nK:G#\nF\nK:Hp\nF\nK:HP\nF", "6 5 5 6 5"),
         (b"K:\nK:G\nF", "6"),
         (b"K:G\n K:D\nCF\nk:D\nC\n+:K:D\nC", "2 0 6 0 0"),
@@ -76,33 +67,18 @@ fn passes_over_typeset_text(rt: HostRuntime) -> Result<(), Fail> {
         (b"K:C\n%%beginps x\nA\n%%endtext y\nB", "11"),
         (b"K:C\nA\n%%begintext\nB\n%%text\n% %%end\n %%end\nc", "9"),
         (b"K:C\nA\n%%endtext\nB", "9 11"),
-        (
-            b"K:C\n%%begintext\nA\n%%beginps\nB\n%%endps\nc\n%%endtext\nd",
-            "12 14",
-        ),
-        (
-            b"K:C\n%%begintext %%endtext\nA\n%%endtext %%begintext\nB",
-            "11",
-        ),
+        (b"K:C\n%%beginx\n%%beginy\nB\n%%endy\nc\n%%endx\nd", "12 14"),
+        (b"K:C\n%%beginx %%endx\nA\n%%endx %%beginx\nB", "11"),
         (b"K:C\n%%beginx\n%%endx\nA\n%%beginx\nB\n%%endx\nc", "9 12"),
-        (
-            b"K:C\n%% begintext\nA\n%begintext\nB\n %%begintext\nc",
-            "9 11 12",
-        ),
-        (
-            b"K:C\n%%Begintext\nA\n%%begi\nB\nc%%begintext\nd",
-            "9 11 12 14",
-        ),
+        (b"K:C\n%% beginx\nA\n%beginx\nB\n %%beginx\nc", "9 11 12"),
+        (b"K:C\n%%Beginx\nA\n%%begi\nB\nc%%beginx\nd", "9 11 12 14"),
         (b"K:C\n%%begintext\nK:D\n%%endtext\nFC\nK:G\nF", "5 0 6"),
         (b"K:C\n^F\n%%begintext\nA|:=F\n%%endtext\nF", "6 6"),
         (b"%%begintext\nABC\n%%endtext\nK:C\nA", "9"),
         (b"T:a\n%%begintext\nwords\nK:D\nFC\n%%endtext\nFC", "6 1"),
         (b"%%begintext\nK:D\nFC\nK:G\n%%endtext\nFC", "6 1"),
         (b"%%begintext\nT:a\nK:D\nFC", ""),
-        (
-            b"%%begintext\nA\n%%beginps\n%%endps\nK:C\nA\n%%endtext\nB",
-            "9 11",
-        ),
+        (b"%%beginx\n%%beginy\n%%endy\nK:C\nA\n%%endx\nB", "9 11"),
         (b"%%endtext\nK:C\nA", "9"),
     ];
     check_all(&rt, &cases)
@@ -186,10 +162,7 @@ fn keeps_accidentals_of_far_octaves(rt: HostRuntime) -> Result<(), Fail> {
         (b"{^C<}C< \"^C<\"C< ^|C<", "-144 -144 -144"),
         (b"=C<[K:D]C< c|C<[K:C]C<", "-144 -144 13 -143 -144"),
         (b"^C<[K:none]C<C>[K:D]C>C<", "-143 -143 144 145 -143"),
-        (
-            b"^F<(3:2:3F<^G<A<G<(3:2:3:F<G<",
-            "-138 -138 -136 -135 -136 -139 -137",
-        ),
+        (b"^F<(3:2:3F<G<(3:2:3:F<", "-138 -138 -137 -139"),
     ];
     for (line, wanted) in cases {
         let text = stretched(rt.alloc(), line)?;
@@ -213,6 +186,10 @@ fn push_note(line: &mut Vec<u8>, note: &[u8], octave: i32) -> Result<(), Fail> {
     Ok(())
 }
 
+fn f_pitch(octave: i32) -> i32 {
+    octave.wrapping_mul(12).wrapping_add(5)
+}
+
 #[test]
 fn tells_octaves_apart(rt: HostRuntime) -> Result<(), Fail> {
     for first in -20..=20 {
@@ -221,11 +198,15 @@ fn tells_octaves_apart(rt: HostRuntime) -> Result<(), Fail> {
             push_note(&mut line, b"^F", first)?;
             push_note(&mut line, b"F", second)?;
             push_note(&mut line, b"|F", first)?;
-            let low = 5 + 12 * first;
-            let high = 5 + 12 * second;
-            let next = if first == second { high + 1 } else { high };
-            let wanted = format!(in rt.alloc(); "{} {next} {low}", low + 1)?;
-            check_line(&rt, b"C", line.as_slice(), wanted.as_str())?;
+            let raised = f_pitch(first).wrapping_add(1);
+            let next = if first == second {
+                raised
+            } else {
+                f_pitch(second)
+            };
+            let wanted = format!(in rt.alloc(); "{raised} {next} {}", f_pitch(first))?;
+            let notes = line_notes(&rt, b"C", line.as_slice());
+            check_notes(&rt, line.as_slice(), notes, wanted.as_str())?;
         }
     }
     Ok(())
@@ -305,7 +286,7 @@ fn reads_slow_lines(rt: HostRuntime) -> Result<(), Fail> {
     ];
     for case in &cases {
         let line = long_text(rt.alloc(), case)?;
-        check_long(&rt, case, Notes::of_line(line.as_slice(), &key_of(b"C")));
+        check_long(&rt, case, line_notes(&rt, b"C", line.as_slice()));
     }
     Ok(())
 }
