@@ -36,7 +36,7 @@ for layer in split fields keys notes steps; do
         'BEGIN { printf "%-8s %8.2f ms  %s\n", layer, spent / 20 / 1000000, total }'
 done
 
-# Hostile tunes of 64,000 bytes of music: each is read in the time of its length.
+# Hostile tunes of 64,000 bytes of music. Each is read in the time of its length, but for the last: there the bar is read again for notes far off.
 hostile() {
     awk -v what="$1" 'BEGIN {
         printf "X:1\nK:C\n"
