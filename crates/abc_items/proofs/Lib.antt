@@ -7,4 +7,5 @@ pub mod NoteRow
 pub mod FirstItem
 pub mod PlainItems
 pub mod ItemLaw
+pub mod PlainBytes
 pub mod Places

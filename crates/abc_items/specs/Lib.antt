@@ -4,3 +4,4 @@ pub mod Rows
 pub mod Spans
 pub mod Misses
 pub mod ItemView
+pub mod Plain

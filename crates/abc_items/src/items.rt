@@ -1,5 +1,5 @@
 // The items of a text.
-ghost use Rattle.std.specs.Prelude.{◌≡◌, ℕ, ◌+◌, ◌^◌, ◌<◌, ◌≤◌, List, map, length};
+ghost use Rattle.std.specs.Prelude.{◌≡◌, ℕ, ◌+◌, ◌^◌, ◌<◌, ◌≤◌, ◌++◌, List, map, length, is_some};
 ghost use Rattle.std.specs.Iterator.{YieldsFirstBy, item_count};
 ghost use Rattle.std.specs.List.{All};
 ghost use Rattle.abc_items.specs.Grammar.{Token, AreItems};
@@ -7,9 +7,10 @@ ghost use Rattle.abc_items.specs.Rows.{items_of};
 ghost use Rattle.abc_items.specs.Spans.{Span, spans_from, spans_of, token_of, SpansFill, FitsItsRow};
 ghost use Rattle.abc_items.specs.Misses.{AreMissing};
 ghost use Rattle.abc_items.specs.ItemView.{item_span};
+ghost use Rattle.abc_items.specs.Plain.{begin_plain, spans_in};
 
 use crate::kinds::Kind;
-use crate::rows::{Misses, first_item};
+use crate::rows::{Misses, first_item, plain_kind};
 use std::marker::Model;
 
 /// An item of a music line.
@@ -64,6 +65,27 @@ impl<'a> Items<'a> {
                 bracket: false,
             },
         }
+    }
+
+    /// Takes the first item that is left where it is one byte, none of those that begin the longer rows, as most items are. Else it takes none.
+    #[inline(always)]
+    pub fn next_plain(&mut self) -> Option<Item<'a>>
+        ensures steps { self.old ≡ spans_in result ++ self.new }
+        ensures plain { is_some result ≡ begin_plain self.old }
+    {
+        let Some(kind) = plain_kind(self.rest) else {
+            return None;
+        };
+        let (text, later) = self.rest.split_at(1);
+        let from = self.at;
+        self.rest = later;
+        self.at = from + 1;
+        Some(Item {
+            kind,
+            from,
+            to: from + 1,
+            text,
+        })
     }
 
     /// A second reader of the items that are left, with the same places.

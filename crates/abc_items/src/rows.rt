@@ -1,12 +1,13 @@
 // The item at the front of a text: one function for each row of the table of items.
-ghost use Rattle.std.specs.Prelude.{◌≡◌, ℕ, ◌<◌, ◌≤◌, ◌+◌, List, length, IfSome, Some, None, drop, IsTrue};
+ghost use Rattle.std.specs.Prelude.{◌≡◌, ℕ, ◌<◌, ◌≤◌, ◌+◌, ◌==◌, ◌&&◌, is_some, List, length, IfSome, Some, None, drop, IsTrue};
 ghost use Rattle.std.specs.List.{prefix_len};
 ghost use Rattle.std.specs.Char.{is_ascii_digit};
 ghost use Rattle.abc_keys.specs.Keys.{begins};
 ghost use Rattle.abc_items.specs.Marks.{opening_brace, closing_brace, closing_bracket, is_closing_bracket, is_octave_mark, is_chord_byte, has_no};
 ghost use Rattle.abc_items.specs.Grammar.{spelling_of, IsNote};
-ghost use Rattle.abc_items.specs.Rows.{up_to, enclosed, inline_field, chord, colon_part, colon_parts, tuplet, own_accidental, note, first_item, is_note_name, begins_longer_row, plain_front};
+ghost use Rattle.abc_items.specs.Rows.{up_to, enclosed, inline_field, chord, colon_part, colon_parts, tuplet, own_accidental, note, first_item, is_note_name, begins_longer_row, plain_front, front};
 ghost use Rattle.abc_items.specs.Misses.{AreMissing};
+ghost use Rattle.abc_items.specs.Plain.{is_plain_byte, alone};
 
 use crate::kinds::{Front, Kind};
 use abc_keys::{Accidental, accidental_of, doubled, letter_of};
@@ -212,6 +213,12 @@ pub fn spelling_length(own: Option<Accidental>) -> usize
     }
 }
 
+fn is_octave_mark(byte: u8) -> bool
+    ensures { result ≡ is_octave_mark byte }
+{
+    matches!(byte, b',' | b'\'')
+}
+
 // How many octave marks are at the front.
 fn octave_marks(bytes: &[u8]) -> usize
     ensures value { result ≡ prefix_len is_octave_mark bytes.now }
@@ -219,7 +226,7 @@ fn octave_marks(bytes: &[u8]) -> usize
 {
     bytes
         .iter()
-        .take_while(|byte| matches!(**byte, b',' | b'\''))
+        .take_while(|byte| is_octave_mark(**byte))
         .count()
 }
 
@@ -248,6 +255,46 @@ fn plain_item(bytes: &[u8]) -> Option<Front>
         [byte, rest @ ..] if !begins_longer_row(*byte) => Some(plain_front(*byte, rest)),
         _ => None,
     }
+}
+
+// What the item at the front of a text is, where it is one byte alone, none of those that begin the longer rows.
+#[inline(always)]
+pub(crate) fn plain_kind(bytes: &[u8]) -> Option<Kind>
+    ensures value { IfSome result (λ kind. front kind 1 ≡ first_item bytes.now) }
+    ensures within { IfSome result (λ kind. 0 < length bytes.now) }
+    ensures plain { is_some result ≡ (begins is_plain_byte bytes.now && (first_item bytes.now).length == 1) }
+{
+    match bytes {
+        [byte, rest @ ..] => alone(*byte, rest),
+        [] => None,
+    }
+}
+
+// What a byte is before a rest, where it is an item alone. Most bytes are notes.
+#[inline(always)]
+fn alone(byte: u8, rest: &[u8]) -> Option<Kind>
+    ensures { result ≡ alone byte rest.now }
+{
+    if is_note_name(byte) {
+        return if begins_with_octave_mark(rest) {
+            None
+        } else {
+            Some(Kind::Note)
+        };
+    }
+    if begins_longer_row(byte) {
+        return None;
+    }
+    Some(match byte {
+        b'|' | b':' => Kind::Bar,
+        _ => Kind::Other,
+    })
+}
+
+fn begins_with_octave_mark(bytes: &[u8]) -> bool
+    ensures { result ≡ begins is_octave_mark bytes.now }
+{
+    matches!(bytes, [mark, ..] if is_octave_mark(*mark))
 }
 
 fn begins_longer_row(byte: u8) -> bool

@@ -3,15 +3,11 @@ use Rattle.std.proofs.Common.{◌≡◌, ◌+◌, ◌≤◌, List, [], ◌∷◌
 use Rattle.abc_keys.specs.declared.signatures.Signature.{Signature}
 use Rattle.abc_notes.specs.declared.bar.Bar.{Bar}
 use Rattle.abc_notes.specs.Events.{WrittenNote, Event, note, bar, change}
-use Rattle.abc_notes.specs.Kept.{past_of, IsKept}
-use Rattle.abc_notes.specs.Pitches.{accidental_of_note, sounded, sounded_notes, SoundedNote}
+use Rattle.abc_notes.specs.Kept.{past_of, notes_left, IsKept}
+use Rattle.abc_notes.specs.Pitches.{accidental_of_note, sounded, sounded_notes}
 use Rattle.abc_notes.specs.Tables.{IsBarAfter}
 use Rattle.abc_notes.proofs.BarLemmas.{drop_one, past_one, past_none}
 use Rattle.abc_notes.proofs.PastLemmas.{notes_bar, notes_end}
-
--- the notes that are left
-abbrev pub notes_left : Bar → List Event → List Event → List SoundedNote
-notes_left b bar_events events = sounded_notes b.start (past_of b.since bar_events) events
 
 module _ (old new : Bar) (bar_events events rest : List Event) (e : Event) (kept : IsKept old bar_events events) (is : events ≡ e ∷ rest)
     (after : IsBarAfter (e ∷ past_of old.since bar_events) new) where

@@ -43,6 +43,17 @@ impl Bar {
         }
     }
 
+    // Begins anew, where a bar ends.
+    pub fn begin(&mut self)
+        ensures after { IsBarAfter [] self.new }
+        ensures start { self.new.start ≡ self.old.signature }
+    {
+        self.start = self.signature;
+        self.since = 0;
+        self.entries = [None; ENTRIES];
+        self.has_far = false;
+    }
+
     // Takes a change of key.
     pub fn take_change(&mut self, signature: Signature)
         requires { self.old.since + 1 < 2 ^ 64 }

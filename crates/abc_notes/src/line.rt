@@ -66,6 +66,26 @@ impl<'a> LineEvents<'a> {
         }
     }
 
+    // Takes the first event that is left where it and the items before it are plain bytes, as is most often so. Else it takes none, but may pass over items
+    // that tell nothing.
+    #[inline(always)]
+    pub fn next_plain(&mut self) -> Option<Event<'a>>
+        ensures { self.old ≡ events_of result ++ self.new }
+    {
+        if self.in_chord {
+            return None;
+        }
+        'items: loop {
+            let Some(item) = self.items.next_plain() else {
+                return None;
+            };
+            let event = item_event(item, self.base);
+            if event.is_some() {
+                return event;
+            }
+        }
+    }
+
     // Takes the first event that is left.
     #[inline(always)]
     fn first_event(&mut self) -> Option<Event<'a>>

@@ -1,18 +1,19 @@
 // The notes of tunes and of music lines, with their pitches.
-ghost use Rattle.std.specs.Prelude.{◌≡◌, ◌+◌, ◌≤◌, ◌∷◌, [], ℕ, List, take, drop, reverse, length};
+ghost use Rattle.std.specs.Prelude.{◌≡◌, ◌+◌, ◌≤◌, ◌∷◌, ◌++◌, [], ℕ, List, take, drop, reverse, length};
 ghost use Rattle.std.specs.Iterator.{YieldsFirstBy, item_count};
 ghost use Rattle.abc_fields.specs.Values.{uncommented};
 ghost use Rattle.abc_items.specs.Grammar.{Token, AreItems};
 ghost use Rattle.abc_items.specs.Spans.{Span, spans_from, spans_of};
-ghost use Rattle.abc_keys.specs.Keys.{signature_of};
+ghost use Rattle.abc_keys.specs.Keys.{key_of_text, signature_of};
 ghost use Rattle.abc_keys.specs.declared.signatures.Signature.{Signature as AnySignature};
 ghost use Rattle.abc_notes.specs.Events.{Event as AnyEvent, WrittenNote as AnyNote};
 ghost use Rattle.abc_notes.specs.EventView.{event_of, written_note};
 ghost use Rattle.abc_notes.specs.Music.{line_events, music_events, tune_events, tune_signature};
 ghost use Rattle.abc_notes.specs.Pitches.{SoundedNote, sounded, sounded_notes, FollowsTheRule};
-ghost use Rattle.abc_notes.specs.Kept.{past_of, IsKept};
+ghost use Rattle.abc_notes.specs.Kept.{past_of, notes_left, IsKept};
 ghost use Rattle.abc_notes.specs.NoteParts.{AreNoteParts, NotesRise};
-ghost use Rattle.abc_notes.specs.Tokens.{token_note};
+ghost use Rattle.abc_notes.specs.Tables.{IsBarAfter};
+ghost use Rattle.abc_notes.specs.Tokens.{token_note, notes_in};
 
 use crate::bar::Bar;
 use crate::pitches::pitch_of;
@@ -85,20 +86,29 @@ impl<'a> Notes<'a> {
         ensures { YieldsFirstBy token_note (λ notes. notes) self.old result self.new }
     {
         'events: loop {
+            let Some(event) = self.events.next_plain() else {
+                break;
+            };
+            let note = heard(event, &mut self.bar, &mut self.bar_events, &self.events);
+            if note.is_some() {
+                return note;
+            }
+        }
+        self.searched_note()
+    }
+
+    // The same, where what comes next is not plain. It stands apart, so that the way of most notes is short.
+    #[inline(never)]
+    fn searched_note(&mut self) -> Option<NoteToken<'a>>
+        ensures { YieldsFirstBy token_note (λ notes. notes) self.old result self.new }
+    {
+        'events: loop {
             let Some(event) = self.events.next() else {
                 return None;
             };
-            match event {
-                Event::Note(note) => {
-                    let accidental = accidental_of(&self.bar, &self.bar_events, note);
-                    self.bar.take_note(note);
-                    return Some(token(note, accidental));
-                }
-                Event::Bar => {
-                    self.bar_events = self.events.again();
-                    self.bar = Bar::new(self.bar.signature);
-                }
-                Event::Change(text) => self.bar.take_change(signature(&key_of(text))),
+            let note = heard(event, &mut self.bar, &mut self.bar_events, &self.events);
+            if note.is_some() {
+                return note;
             }
         }
     }
@@ -115,6 +125,54 @@ impl<'a> Iterator for Notes<'a> {
     fn next(&mut self) -> Option<NoteToken<'a>> {
         self.first_note()
     }
+}
+
+// Takes an event into what is kept of its bar, and gives the note that it is, if it is one. `events` are those after it.
+#[inline(always)]
+fn heard<'a>(
+    event: Event<'a>,
+    bar: &mut Bar,
+    bar_events: &mut TuneEvents<'a>,
+    events: &TuneEvents<'a>,
+) -> Option<NoteToken<'a>>
+    requires { IsKept bar.old bar_events.old (event_of event ∷ events.now) }
+    ensures kept { IsKept bar.new bar_events.new events.now }
+    ensures notes { notes_left bar.old bar_events.old (event_of event.entry ∷ events.now) ≡ notes_in result ++ notes_left bar.new bar_events.new events.now }
+{
+    match event {
+        Event::Note(note) => {
+            let accidental = accidental_of(bar, bar_events, note);
+            bar.take_note(note);
+            Some(token(note, accidental))
+        }
+        Event::Bar => {
+            begin_bar(bar, bar_events, events);
+            None
+        }
+        Event::Change(text) => {
+            bar.take_change(signature_told(text));
+            None
+        }
+    }
+}
+
+// Begins a bar, of which these are the events.
+#[inline(never)]
+fn begin_bar<'a>(bar: &mut Bar, bar_events: &mut TuneEvents<'a>, events: &TuneEvents<'a>)
+    ensures after { IsBarAfter [] bar.new }
+    ensures start { bar.new.start ≡ bar.old.signature }
+    ensures events { bar_events.new ≡ events.now }
+{
+    bar.begin();
+    *bar_events = events.again();
+}
+
+// The signature of a key as it is written.
+#[inline(never)]
+fn signature_told(text: &[u8]) -> Signature
+    ensures { result ≡ signature_of (key_of_text text.now) }
+{
+    signature(&key_of(text))
 }
 
 // A note with its pitch.

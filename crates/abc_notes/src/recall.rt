@@ -5,7 +5,7 @@ ghost use Rattle.abc_notes.specs.Events.{Event as AnyEvent};
 ghost use Rattle.abc_notes.specs.EventView.{event_of, written_note};
 ghost use Rattle.abc_notes.specs.Kept.{past_of};
 ghost use Rattle.abc_notes.specs.Pitches.{borne, is_at, accidental_of_note};
-ghost use Rattle.abc_notes.specs.Tables.{IsBarAfter};
+ghost use Rattle.abc_notes.specs.Tables.{IsBarAfter, IsNear};
 
 use crate::bar::{Bar, entry, is_near, letter_number};
 use crate::tune::TuneEvents;
@@ -13,6 +13,7 @@ use crate::written::{Event, WrittenNote};
 use abc_keys::Accidental;
 
 // The accidental of the note that comes next: its own; else what the bar bears at its letter and octave; else that of the signature.
+#[inline(always)]
 pub(crate) fn accidental_of(bar: &Bar, bar_events: &TuneEvents, place: WrittenNote) -> Accidental
     requires { IsBarAfter (past_of bar.now.since bar_events.now) bar.now }
     ensures { result ≡ accidental_of_note bar.now.start (past_of bar.now.since bar_events.now) (written_note place.entry) }
@@ -27,13 +28,26 @@ pub(crate) fn accidental_of(bar: &Bar, bar_events: &TuneEvents, place: WrittenNo
 }
 
 // What the bar bears so far at a note's letter and octave.
+#[inline(always)]
 fn borne_at(bar: &Bar, bar_events: &TuneEvents, place: WrittenNote) -> Option<Accidental>
     requires { IsBarAfter (past_of bar.now.since bar_events.now) bar.now }
     ensures { result ≡ borne (past_of bar.now.since bar_events.now) place.entry.letter place.entry.octave }
 {
     if is_near(place) {
         entry(&bar.entries, place)
-    } else if bar.has_far {
+    } else {
+        borne_far(bar, bar_events, place)
+    }
+}
+
+// The same for an octave that has no entries.
+#[inline(never)]
+fn borne_far(bar: &Bar, bar_events: &TuneEvents, place: WrittenNote) -> Option<Accidental>
+    requires kept { IsBarAfter (past_of bar.now.since bar_events.now) bar.now }
+    requires far { IsNear place.octave → ⊥ }
+    ensures { result ≡ borne (past_of bar.now.since bar_events.now) place.entry.letter place.entry.octave }
+{
+    if bar.has_far {
         recall(bar_events.again(), bar.since, place)
     } else {
         None

@@ -75,6 +75,14 @@ impl<'a> TuneEvents<'a> {
         }
     }
 
+    // The same as `LineEvents::next_plain`, for what is left of the line in hand.
+    #[inline(always)]
+    pub fn next_plain(&mut self) -> Option<Event<'a>>
+        ensures { self.old ≡ events_of result ++ self.new }
+    {
+        self.line.next_plain()
+    }
+
     // Takes the first event that is left.
     #[inline(always)]
     fn first_event(&mut self) -> Option<Event<'a>>

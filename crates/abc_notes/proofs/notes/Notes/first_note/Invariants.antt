@@ -1,6 +1,5 @@
 use Rattle.std.proofs.Common.{◌≡◌, length}
-use Rattle.abc_notes.specs.Kept.{IsKept}
-use Rattle.abc_notes.proofs.KeptLemmas.{notes_left}
+use Rattle.abc_notes.specs.Kept.{IsKept, notes_left}
 use Rattle.abc_notes.proofs.notes.Notes.first_note.Given as goal
 
 -- the notes that are left are all, and the bar is kept

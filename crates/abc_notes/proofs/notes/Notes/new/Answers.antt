@@ -1,7 +1,7 @@
 use Rattle.std.proofs.Common.{◌∙◌, sym, ap, subst, List}
 use Rattle.abc_notes.specs.Events.{Event}
-use Rattle.abc_notes.specs.Kept.{IsKept}
-use Rattle.abc_notes.proofs.KeptLemmas.{kept_new, notes_new, notes_left}
+use Rattle.abc_notes.specs.Kept.{notes_left, IsKept}
+use Rattle.abc_notes.proofs.KeptLemmas.{kept_new, notes_new}
 use Rattle.abc_notes.proofs.notes.Notes.new.Goals as goal
 
 pub invariant_of-result : goal.invariant_of-result
