@@ -1,0 +1,29 @@
+// The rounds of the program `disk_bench`, by calls of the system alone: FILE ROUNDS. It makes the same calls in the same order (`fstat` in place of `statx`),
+// and differs in this: a short write or an interrupted call ends it, where `disk_bench` goes on.
+#include <fcntl.h>
+#include <libgen.h>
+#include <stdio.h>
+#include <stdlib.h>
+#include <string.h>
+#include <sys/stat.h>
+#include <unistd.h>
+
+enum { PAGES = 256, PAGE = 4096 };
+
+int main(int count, char **words) {
+    if (count != 3) return 2;
+    static char page[PAGE];
+    memset(page, 0x5a, sizeof page);
+    long rounds = atol(words[2]);
+    int file = open(words[1], O_RDWR | O_CREAT | O_CLOEXEC, 0666);
+    int folder = open(dirname(words[1]), O_RDONLY | O_CLOEXEC);
+    if (file < 0 || folder < 0 || fsync(folder) != 0 || close(folder) != 0) return 1;
+    for (long round = 0; round < rounds; round++) {
+        if (pwrite(file, page, PAGE, (off_t)(round % PAGES) * PAGE) != PAGE) return 1;
+        if (fdatasync(file) != 0) return 1;
+    }
+    struct stat about;
+    if (fstat(file, &about) != 0) return 1;
+    printf("%lld\n", (long long)about.st_size);
+    return 0;
+}

@@ -1,0 +1,11 @@
+pub mod Bytes
+pub mod Disk
+pub mod FileDisk
+pub mod FileStays
+pub mod FileTold
+pub mod Memory
+pub mod Moments
+pub mod Record
+pub mod Stays
+pub mod Stops
+pub mod Wrapped

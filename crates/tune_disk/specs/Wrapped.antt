@@ -1,0 +1,45 @@
+-- Disks that fail some calls of the disk within them.
+use Rattle.std.specs.Prelude.{◌≡◌, ℕ, zero, suc, ◌-◌, ◌<◌, Option, Some, None, Result, IsErr, refl}
+use Rattle.std.specs.Coded.{Coded, code_by, coded×, coded_ℕ, coded_option}
+use Rattle.tune_disk.specs.Disk.{CountsFailure}
+
+-- a disk behind a fuse: how many calls pass yet, and how often the fuse itself has failed
+pub record Fused (D : Type 0) : Type 0 where
+  pub disk : D
+  pub calls_left : ℕ
+  pub failed : ℕ
+
+abbrev pub fused_code : {D : Type 0} → Coded D → Coded (Fused D)
+fused_code {D} disk =
+    code_by (D × (ℕ × ℕ)) (coded× disk (coded× coded_ℕ coded_ℕ)) (λ f. (f.disk, (f.calls_left, f.failed))) (λ p. record { disk = p.0; calls_left = p.1.0; failed = p.1.1 }) (λ _. refl)
+
+-- One call of a fuse: where it is blown, the call fails and the disk within is not touched; else that disk has the call, and its failures alone are told.
+pub record Burns {D T E : Type 0} (failures : D → ℕ) (result : Result T E) (old new : Fused D) : Type 0 where
+  pub blown : old.calls_left ≡ 0 → IsErr result × (new.disk ≡ old.disk)
+  pub passed : 0 < old.calls_left → CountsFailure result (failures old.disk) (failures new.disk)
+  pub left : new.calls_left ≡ old.calls_left - 1
+
+-- a disk of which one call fails: how many calls pass before it, or none where it is past
+pub record Faulted (D : Type 0) : Type 0 where
+  pub disk : D
+  pub calls_before : Option ℕ
+
+abbrev pub faulted_code : {D : Type 0} → Coded D → Coded (Faulted D)
+faulted_code {D} disk = code_by (D × Option ℕ) (coded× disk (coded_option coded_ℕ)) (λ f. (f.disk, f.calls_before)) (λ p. record { disk = p.0; calls_before = p.1 }) (λ _. refl)
+
+-- how many calls pass before the fault after one more call
+abbrev pub one_call_on : Option ℕ → Option ℕ
+one_call_on None = None
+one_call_on (Some zero) = None
+one_call_on (Some (suc n)) = Some n
+
+-- how many faults there were
+abbrev pub faults_past : Option ℕ → ℕ
+faults_past None = 1
+faults_past (Some n) = 0
+
+-- One call: the one whose turn to fail has come fails, and the disk within is not touched; else that disk has the call, and its failures alone are told.
+pub record FailsOnce {D T E : Type 0} (failures : D → ℕ) (result : Result T E) (old new : Faulted D) : Type 0 where
+  pub due : old.calls_before ≡ Some 0 → IsErr result × (new.disk ≡ old.disk)
+  pub passed : (old.calls_before ≡ Some 0 → ⊥) → CountsFailure result (failures old.disk) (failures new.disk)
+  pub before : new.calls_before ≡ one_call_on old.calls_before

@@ -1,0 +1,79 @@
+// The calls of the operating system that a disk over a file makes. Each function makes one call, over interruptions and parts, and keeps what it told.
+ghost use Rattle.std.specs.Prelude.{◌≡◌, ◌+◌, ◌<◌, ◌≤◌, ◌^◌, ◌∷◌, ◌++◌, [], length, IfOk, OnOk, OnErr};
+ghost use Rattle.tune_disk.specs.FileTold.{IsToldRead, IsToldWrite};
+ghost use Rattle.tune_disk.specs.declared.file.told.Told.TheVariants.{Length, Broke, Synced};
+
+use super::told::{Told, tell_read, tell_write};
+use crate::buffers::clear_from;
+use http_server::Log;
+use std::fs::File;
+use std::io;
+use std::os::unix::fs::FileExt;
+
+pub(super) fn measure(file: &File, log: &mut Log<u64, Told>) -> io::Result<u64>
+    ensures ok { IfOk result (λ n. log.new.items ≡ log.old.items ++ (0, Length n) ∷ []) }
+    ensures err { OnErr result (log.new.items ≡ log.old.items) }
+{
+    let size = file.metadata()?.len();
+    *log = log.and(&0, &Told::Length(size));
+    Ok(size)
+}
+
+/// Reads once, and where the file has ended gives zeros: how many bytes are now there.
+pub(super) fn read_part(
+    file: &File,
+    log: &mut Log<u64, Told>,
+    at: u64,
+    into: &mut [u8],
+) -> io::Result<usize>
+    requires some { 0 < length into.old }
+    requires fits { at + length into.old ≤ 2 ^ 40 }
+    ensures count { IfOk result (λ n. (0 < n) × (n ≤ length into.new)) }
+    ensures ok { IfOk result (λ n. IsToldRead at n into.new log.old.items log.new.items) }
+    ensures err { OnErr result (log.new.items ≡ log.old.items) }
+{
+    for _ in 0..u64::MAX {
+        match file.read_at(into, at) {
+            Ok(0) => {
+                *log = log.and(&at, &Told::Ended);
+                clear_from(into, 0);
+                return Ok(into.len());
+            }
+            Ok(count) => {
+                tell_read(log, at, &into[..count]);
+                return Ok(count);
+            }
+            Err(error) if error.kind() == io::ErrorKind::Interrupted => {}
+            Err(error) => return Err(error),
+        }
+    }
+    Err(io::ErrorKind::Interrupted.into())
+}
+
+/// Writes all of these bytes, in several calls where the system takes them in parts.
+pub(super) fn write_all(
+    file: &File,
+    log: &mut Log<u64, Told>,
+    at: u64,
+    bytes: &[u8],
+) -> io::Result<()>
+    ensures ok { OnOk result (IsToldWrite at bytes.now log.old.items log.new.items) }
+    ensures err { OnErr result (log.new.items ≡ log.old.items ++ (at, Broke (length bytes.now)) ∷ []) }
+{
+    let done = file.write_all_at(bytes, at);
+    match done {
+        Ok(()) => tell_write(log, at, bytes),
+        Err(_) => *log = log.and(&at, &Told::Broke(bytes.len() as u64)),
+    }
+    done
+}
+
+/// Makes the bytes that were written stable, and with them the length: `fdatasync` leaves out only what reading them back does not need.
+pub(super) fn make_stable(file: &File, log: &mut Log<u64, Told>) -> io::Result<()>
+    ensures ok { OnOk result (log.new.items ≡ log.old.items ++ (0, Synced) ∷ []) }
+    ensures err { OnErr result (log.new.items ≡ log.old.items) }
+{
+    file.sync_data()?;
+    *log = log.and(&0, &Told::Synced);
+    Ok(())
+}

@@ -1,0 +1,236 @@
+// A disk in memory, which keeps a record of its writes and syncs.
+ghost use Rattle.std.specs.Prelude.{◌≡◌, ◌⊎◌, ◌∷◌, ◌++◌, [], ◌<◌, ◌≤◌, ◌^◌, ◌+◌, IfOk, OnOk, OnErr, IsOk, is_ok, length, take, drop};
+ghost use Rattle.tune_disk.specs.Disk.{Written, Writes, Shows, CountsFailure, filled};
+ghost use Rattle.tune_disk.specs.Record.{state_of};
+
+use crate::buffers::{clear_from, copy_front};
+use crate::{DeviceFault, Disk};
+use std::alloc::{AllocError, Global};
+
+#[derive(Drop)]
+pub(crate) enum Step {
+    Write(u64, Vec<u8>),
+    Sync,
+}
+
+/// Which of the files that a stop (a crash or power loss) may leave: `Lost` is what the last sync left, as where nothing written since came to the
+/// device, and `Kept` the present content, as where all of it did.
+#[derive(Clone, Copy, Debug, PartialEq, Eq)]
+pub enum StopChoice {
+    Lost,
+    Kept,
+}
+
+/// A file in memory, which is always honest. It keeps a record of all its writes and syncs, so that it can tell what a stop would leave; a write or a
+/// sync that finds no memory for its record is a fault, and changes nothing.
+#[derive(Drop)]
+pub struct MemoryDisk {
+    alloc: Global,
+    first: Vec<u8>,
+    steps: Vec<Step>,
+    content: Vec<u8>,
+    failed: u64,
+    ghost replays: { content.items ≡ (state_of first.items steps.items).seen },
+}
+
+impl MemoryDisk {
+    ghost use Rattle.tune_disk.specs.Disk.{fresh, MayLeave};
+    ghost use Rattle.tune_disk.specs.Memory.{memory_state};
+
+    /// A file without a byte. It takes no memory yet.
+    pub fn new(alloc: Global) -> MemoryDisk
+        ensures { memory_state result ≡ fresh [] }
+    {
+        MemoryDisk {
+            alloc,
+            first: Vec::new(alloc),
+            steps: Vec::new(alloc),
+            content: Vec::new(alloc),
+            failed: 0,
+        }
+    }
+
+    /// A file of these bytes, all of them stable.
+    pub fn from_bytes(alloc: Global, bytes: &[u8]) -> Result<MemoryDisk, AllocError>
+        ensures { IfOk result (λ disk. memory_state disk ≡ fresh bytes.now) }
+    {
+        Ok(MemoryDisk {
+            alloc,
+            first: bytes.to_vec(alloc)?,
+            steps: Vec::new(alloc),
+            content: bytes.to_vec(alloc)?,
+            failed: 0,
+        })
+    }
+
+    /// The present content.
+    pub fn bytes(&self) -> &[u8]
+        ensures { result.now ≡ (memory_state self.now).seen }
+    {
+        &self.content
+    }
+
+    /// One of the files that a stop may leave now, as a disk that holds just that. An error comes for want of memory alone.
+    pub fn stopped(&self, choice: StopChoice) -> Result<MemoryDisk, AllocError>
+        ensures file { IfOk result (λ disk. MayLeave (memory_state self.now).now (memory_state disk).seen) }
+        ensures fresh { IfOk result (λ disk. memory_state disk ≡ fresh (memory_state disk).seen) }
+        ensures lost { IfOk result (λ disk. choice ≡ StopChoice.Lost → (memory_state disk).seen ≡ (memory_state self.now).now.stable) }
+        ensures kept { IfOk result (λ disk. choice ≡ StopChoice.Kept → (memory_state disk).seen ≡ (memory_state self.now).seen) }
+    {
+        let file = match choice {
+            StopChoice::Lost => stable(self.alloc, &self.first, &self.steps)?,
+            StopChoice::Kept => self.content.to_vec(self.alloc)?,
+        };
+        MemoryDisk::from_bytes(self.alloc, &file)
+    }
+}
+
+// What the last sync left.
+fn stable(alloc: Global, first: &[u8], steps: &[Step]) -> Result<Vec<u8>, AllocError>
+    ensures { IfOk result (λ file. file.items ≡ (state_of first.now steps.now).now.stable) }
+{
+    let mut stable = first.to_vec(alloc)?;
+    let mut content = first.to_vec(alloc)?;
+    for step in steps {
+        match step {
+            Step::Write(at, bytes) => overwrite(&mut content, *at, bytes)?,
+            Step::Sync => stable = content.to_vec(alloc)?,
+        }
+    }
+    Ok(stable)
+}
+
+impl Disk for MemoryDisk {
+    ghost use Rattle.std.specs.Prelude.{ℕ};
+    ghost use Rattle.tune_disk.specs.Memory.{memory_state, memory_failures, memory_stays};
+
+    ghost state = { memory_state };
+
+    ghost failures = { memory_failures };
+
+    ghost honest = { λ _. Unit {0} };
+
+    ghost seen_may_stay = { λ disk _. memory_stays disk };
+
+    // It never fails.
+    fn len(&mut self) -> Result<u64, DeviceFault>
+        ensures len { IfOk result (λ n. n ≡ length (memory_state self.old).seen) }
+        ensures ok { IsOk result }
+        ensures state { memory_state self.new ≡ memory_state self.old }
+        ensures failures { memory_failures self.new ≡ memory_failures self.old }
+    {
+        Ok(self.content.len() as u64)
+    }
+
+    // It never fails.
+    fn read(&mut self, at: u64, into: &mut [u8]) -> Result<(), DeviceFault>
+        requires { at + length into.old ≤ 2 ^ 40 }
+        ensures read { Shows (memory_state self.old).seen at into.new }
+        ensures ok { IsOk result }
+        ensures state { memory_state self.new ≡ memory_state self.old }
+        ensures failures { memory_failures self.new ≡ memory_failures self.old }
+    {
+        show(&self.content, at as usize, into);
+        Ok(())
+    }
+
+    // A fault changes nothing.
+    fn write_at(&mut self, at: u64, bytes: &[u8]) -> Result<(), DeviceFault>
+        requires { at + length bytes.now ≤ 2 ^ 40 }
+        ensures write { Writes at bytes.now result (memory_state self.old) (memory_state self.new) }
+        ensures err { OnErr result (memory_state self.new ≡ memory_state self.old) }
+        ensures failures { CountsFailure result (memory_failures self.old) (memory_failures self.new) }
+    {
+        let done = write_and_note(self.alloc, &mut self.content, &mut self.steps, at, bytes);
+        count(done, &mut self.failed)
+    }
+
+    fn sync(&mut self) -> Result<(), DeviceFault> {
+        let done = note(&mut self.steps, Step::Sync);
+        count(done, &mut self.failed)
+    }
+}
+
+// Counts want of memory as a fault.
+fn count(done: Result<(), AllocError>, failed: &mut u64) -> Result<(), DeviceFault>
+    ensures same { is_ok result ≡ is_ok done }
+    ensures failures { CountsFailure result failed.old failed.new }
+{
+    if done.is_err() {
+        *failed = failed.saturating_add(1);
+        return Err(DeviceFault);
+    }
+    Ok(())
+}
+
+fn note(steps: &mut Vec<Step>, step: Step) -> Result<(), AllocError>
+    ensures ok { OnOk result (steps.new.items ≡ steps.old.items ++ step ∷ []) }
+    ensures err { OnErr result (steps.new.items ≡ steps.old.items) }
+{
+    steps.push(step)?;
+    Ok(())
+}
+
+// Notes a write and makes it, or does neither.
+fn write_and_note(
+    alloc: Global,
+    content: &mut Vec<u8>,
+    steps: &mut Vec<Step>,
+    at: u64,
+    bytes: &[u8],
+) -> Result<(), AllocError>
+    ensures content { OnOk result (Written at bytes.now content.old.items content.new.items) }
+    ensures steps { OnOk result ((v : _) × (v.items ≡ bytes.now) × (steps.new.items ≡ steps.old.items ++ Step.Write at v ∷ [])) }
+    ensures content_err { OnErr result (content.new.items ≡ content.old.items) }
+    ensures steps_err { OnErr result (steps.new.items ≡ steps.old.items) }
+{
+    note(steps, Step::Write(at, bytes.to_vec(alloc)?))?;
+    if let Err(error) = overwrite(content, at, bytes) {
+        let _ = steps.pop();
+        return Err(error);
+    }
+    Ok(())
+}
+
+// Writes over a part of a file.
+fn paste(file: &mut [u8], at: usize, bytes: &[u8])
+    requires { at + length bytes.now ≤ length file.old }
+    ensures { file.new ≡ take at file.old ++ bytes.now ++ drop (at + length bytes.now) file.old }
+{
+    file[at..at + bytes.len()].copy_from_slice(bytes);
+}
+
+// Puts zeros behind a file, up to this length.
+fn lengthen(file: &mut Vec<u8>, size: usize) -> Result<(), AllocError>
+    ensures ok { OnOk result (file.new.items ≡ filled size file.old.items) }
+    ensures err { OnErr result (file.new.items ≡ file.old.items) }
+{
+    if size > file.len() {
+        file.resize(size, 0)?;
+    }
+    Ok(())
+}
+
+fn overwrite(file: &mut Vec<u8>, at: u64, bytes: &[u8]) -> Result<(), AllocError>
+    ensures ok { OnOk result (Written at bytes.now file.old.items file.new.items) }
+    ensures err { OnErr result (file.new.items ≡ file.old.items) }
+{
+    if bytes.is_empty() {
+        return Ok(());
+    }
+    let at = at as usize;
+    let end = at.checked_add(bytes.len()).ok_or(AllocError)?;
+    lengthen(file, end)?;
+    paste(file, at, bytes);
+    Ok(())
+}
+
+// Fills a buffer from a place on; past the file's end with zeros.
+fn show(file: &[u8], at: usize, into: &mut [u8])
+    ensures { Shows file.now at into.new }
+{
+    let from = at.min(file.len());
+    let known = into.len().min(file.len() - from);
+    copy_front(into, &file[from..from + known]);
+    clear_from(into, known);
+}
