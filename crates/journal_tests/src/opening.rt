@@ -1,0 +1,120 @@
+// Opening files behind a closed gate, and files that are none.
+use crate::files::{Forged, OPEN, closed, file};
+use crate::pages::{calls_of_opening, check_bytes, check_pages, check_refused};
+use std::process::Abort;
+use std::test::Fail;
+use tune_disk::{FuseDisk, MemoryDisk};
+use tune_journal::OpenFault;
+
+// The first bytes of a file are refused.
+fn check_cut<R: AllocGlobal + Abort>(
+    rt: &R,
+    whole: &[u8],
+    len: usize,
+    why: OpenFault,
+) -> Result<(), Fail> {
+    let cut = whole.get(..len).ok_or("cut")?;
+    let disk = MemoryDisk::from_bytes(rt.alloc(), cut)?;
+    let _ = check_refused(rt, len as u64, disk, why)?;
+    Ok(())
+}
+
+#[test]
+fn opens_no_file_that_is_cut_short(rt: HostRuntime) -> Result<(), Fail> {
+    let whole = closed(rt.alloc(), &[0x33], 1)?;
+    for len in 0..8 {
+        check_cut(&rt, &whole, len, OpenFault::NotArchive)?;
+    }
+    for len in 8..64 {
+        check_cut(&rt, &whole, len, OpenFault::Damaged)?;
+    }
+    for len in [4095, 4096, 4097, 8200, 12_292, 16_384, 20_479] {
+        check_cut(&rt, &whole, len, OpenFault::Damaged)?;
+    }
+    check_pages(
+        &rt,
+        20_480,
+        MemoryDisk::from_bytes(rt.alloc(), &whole)?,
+        &[0x33],
+    )
+}
+
+#[test]
+fn opens_no_file_with_a_wrong_magic(rt: HostRuntime) -> Result<(), Fail> {
+    let mut forged = closed(rt.alloc(), &[0x33], 1)?;
+    for place in 0..8 {
+        for change in [1, 0x20, 0x80, 0xff] {
+            if let Some(byte) = forged.get_mut(place) {
+                *byte ^= change;
+            }
+            check_cut(&rt, &forged, 20_480, OpenFault::NotArchive)?;
+            // The same change takes it back.
+            if let Some(byte) = forged.get_mut(place) {
+                *byte ^= change;
+            }
+        }
+    }
+    // Nor is a short file without the magic an archive.
+    check_cut(&rt, b"abctune1 and more", 17, OpenFault::NotArchive)
+}
+
+#[test]
+fn opens_files_by_their_count(rt: HostRuntime) -> Result<(), Fail> {
+    let alloc = rt.alloc();
+    for (count, wanted) in [(1, [1].as_slice()), (2, &[1, 2]), (3, &[1, 2, 3])] {
+        let disk = MemoryDisk::from_bytes(alloc, &closed(alloc, &[1, 2, 3], count)?)?;
+        check_pages(&rt, count as u64, disk, wanted)?;
+    }
+    for count in [0, 4, 5, 4_000_000, 4_000_001, u32::MAX] {
+        let file = closed(alloc, &[1, 2, 3], count)?;
+        check_cut(&rt, &file, file.len(), OpenFault::Damaged)?;
+    }
+    Ok(())
+}
+
+#[test]
+fn opens_two_pages_from_their_last_byte_on(rt: HostRuntime) -> Result<(), Fail> {
+    let whole = closed(rt.alloc(), &[1, 2], 2)?;
+    check_cut(&rt, &whole, 20_480, OpenFault::Damaged)?;
+    check_cut(&rt, &whole, 24_575, OpenFault::Damaged)?;
+    check_pages(
+        &rt,
+        24_576,
+        MemoryDisk::from_bytes(rt.alloc(), &whole)?,
+        &[1, 2],
+    )
+}
+
+#[test]
+fn finds_one_value_of_the_gate_open(rt: HostRuntime) -> Result<(), Fail> {
+    let alloc = rt.alloc();
+    for gate in 0..=255 {
+        let forged = Forged {
+            gate,
+            new_count: 2,
+            entries: 1,
+            count: 1,
+            pages: &[0x33],
+            log: &[(1, 0x44)],
+        };
+        let disk = MemoryDisk::from_bytes(alloc, &file(alloc, &forged)?)?;
+        if gate == OPEN {
+            check_pages(&rt, gate as u64, disk, &[0x33, 0x44])?;
+        } else {
+            check_pages(&rt, gate as u64, disk, &[0x33])?;
+        }
+    }
+    Ok(())
+}
+
+// A device that fails at any call of an opening: the disk comes back as it was.
+#[test]
+fn a_fault_in_opening_hands_the_disk_back(rt: HostRuntime) -> Result<(), Fail> {
+    let whole = closed(rt.alloc(), &[1, 2], 2)?;
+    for calls in 0..calls_of_opening(rt.alloc(), &whole)? {
+        let fuse = FuseDisk::new(MemoryDisk::from_bytes(rt.alloc(), &whole)?, calls);
+        let disk = check_refused(&rt, calls, fuse, OpenFault::Device)?.into_inner();
+        check_bytes(&rt, calls, &disk, &whole)?;
+    }
+    Ok(())
+}

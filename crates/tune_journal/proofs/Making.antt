@@ -1,0 +1,140 @@
+-- A stop while a journal is made.
+use Rattle.std.proofs.Common.{◌≡◌, ◌≢◌, ◌⊎◌, inl, inr, ℕ, zero, suc, ◌<◌, ◌≤◌, List, [], ◌∷◌, length, get_or, refl, sym, ◌∙◌, ap, subst, arith, Result, Ok, Err}
+use Rattle.byteorder.specs.Endian.{big_bytes}
+use Rattle.std.proofs.lemmas.List.{same_lists}
+use Rattle.std.proofs.lemmas.Bool.{cases_eq}
+use Rattle.tune_disk.specs.Disk.{State, MayLeave, Written, Writes, settled, touched, GoesTo}
+use Rattle.tune_disk.specs.Stops.{Agrees, SinceThen, LeavesOnly}
+use Rattle.tune_disk.specs.Moments.{since_same}
+use Rattle.tune_disk.specs.Bytes.{written_long, length_after_some}
+use Rattle.tune_journal.specs.Image.{window, magic, gate_of, count_of, in_place, HasCount, StandsFor}
+use Rattle.tune_journal.specs.Opening.{StandsForNone}
+use Rattle.tune_journal.specs.Making.{IsCleared, IsLaid, StandsForNoneOr}
+use Rattle.tune_journal.specs.Phases.{IsOutside, Settles}
+use Rattle.tune_journal.specs.Rest.{IsAtRest}
+use Rattle.tune_journal.proofs.Windows.{get_or-window, written_window, written_other}
+use Rattle.tune_journal.proofs.Frame.{agree_number, agree_in_place, stands_closed, in_place_at, length-in_place, number_is}
+use Rattle.tune_journal.proofs.Runs.{settles_settled, settles_agrees}
+
+-- lists of numbers are equal or not
+list_cases : (xs ys : List ℕ) → (xs ≡ ys) ⊎ (xs ≢ ys)
+list_cases [] [] = inl refl
+list_cases [] (y ∷ ys) = inr (λ e. cc)
+list_cases (x ∷ xs) [] = inr (λ e. cc)
+list_cases (x ∷ xs) (y ∷ ys) = elim (cases_eq x y) [
+  | inl same ↦ (elim (list_cases xs ys) [
+    | inl rest ↦ inl (λ i. same i ∷ rest i)
+    | inr other ↦ inr (λ e. (let rest : xs ≡ ys = cc in other rest))
+  ])
+  | inr other ↦ inr (λ e. (let same : x ≡ y = cc in other same))
+]
+
+short_none : (c : List ℕ) → length c < 20480 → StandsForNone c
+short_none c short pages s = omega (arith, s.headed.long, short)
+
+-- a file that does not begin with the magic's first letter
+other_none : (c : List ℕ) → get_or c 0 0 ≡ 0 → StandsForNone c
+other_none c is_zero pages s =
+    let first : get_or (window 0 8 c) 0 0 ≡ get_or c 0 0 = get_or-window 0 8 c 0 (omega arith) in
+    let letter : get_or (window 0 8 c) 0 0 ≡ 65 = ap (λ (l : List ℕ). get_or l 0 0) s.headed.magic in
+    omega (arith, first, letter, is_zero)
+
+pub cleared_since : {T E : Type 0} (bytes : List ℕ) (r : Result T E) (a b : State) → length bytes ≡ 4096 → a.now ≡ settled [] → Writes 0 bytes r a b → SinceThen a b StandsForNone
+cleared_since {T} {E} bytes r a b size rest w = by_cases r w
+  where
+    first : LeavesOnly a.now StandsForNone
+    first = λ c left. short_none c (let l : MayLeave (settled []) c = subst (λ m. MayLeave m c) rest left in omega (arith, l.no_longer))
+
+    goes : GoesTo (touched 0 (length bytes) a.now) a b → SinceThen a b StandsForNone
+    goes to = record {
+      since = touched 0 (length bytes) a.now ∷ [];
+      history = λ i. to.now i ∷ to.past i;
+      each = ((λ c left. short_none c (let l : MayLeave (touched 0 (length bytes) (settled [])) c = subst (λ m. MayLeave (touched 0 (length bytes) m) c) rest left in omega (arith, l.no_longer, size, length_after_some 0 (length bytes) 0 (omega (arith, size))))), tt);
+      first = first;
+    }
+
+    by_cases : (r : Result T E) → Writes 0 bytes r a b → SinceThen a b StandsForNone
+    by_cases (Ok t) w = goes w.1
+    by_cases (Err e) (inl same) = subst (λ (s : State). SinceThen a s StandsForNone) (sym same) (since_same StandsForNone a first)
+    by_cases (Err e) (inr w) = goes w.1
+
+-- while the blocks behind the first are written
+pub laying : (s : State) → IsCleared s → (c : List ℕ) → Agrees (λ i. i < 4096) s.seen c → StandsForNone c
+laying s cleared c agrees = other_none c (agrees.same 0 (omega (arith, cleared.long)) (omega arith) ∙ cleared.zero)
+
+one_page : (first f : List ℕ) → window 16384 4096 f ≡ first → in_place 1 f ≡ first ∷ []
+one_page first f is = same_lists (in_place 1 f) (first ∷ []) (length-in_place 1 f) (λ p d lt. at p d (omega (arith, lt, length-in_place 1 f)))
+  where
+    here : (d : List ℕ) → get_or (in_place 1 f) 0 d ≡ first
+    here d = in_place_at 1 0 f d (omega arith) ∙ is
+
+    at : (p : ℕ) (d : List ℕ) → p < 1 → get_or (in_place 1 f) p d ≡ get_or (first ∷ []) p d
+    at zero d lt = here d
+    at (suc p) d lt = absurd (omega arith)
+
+module _ (first f c : List ℕ) (laid : IsLaid first f) (agrees : Agrees (IsOutside 0 8) f c) where
+  titled_count : count_of c ≡ 1
+  titled_count = agree_number (IsOutside 0 8) f c agrees 12288 (omega (arith, laid.long)) (λ i le lt. inr (omega arith)) ∙ laid.count
+
+  titled_gate : gate_of c ≡ 0
+  titled_gate = agrees.same 4096 (omega (arith, laid.long)) (inr (omega arith)) ∙ laid.gate
+
+  titled_has : HasCount 1 c
+  titled_has = record { least = omega arith; most = omega arith; long = omega (arith, laid.long, agrees.longer) }
+
+  titled_pages : in_place 1 c ≡ in_place 1 f
+  titled_pages = agree_in_place (IsOutside 0 8) f c agrees 1 (omega (arith, laid.long)) (λ i le lt. inr (omega arith))
+
+  titled_long : 20480 ≤ length c
+  titled_long = omega (arith, laid.long, agrees.longer)
+
+  -- while the magic is written
+  pub titling : StandsForNoneOr first c
+  titling = elim (cases_magic (window 0 8 c)) [
+    | inl is ↦ inr (subst (λ (p : List (List ℕ)). StandsFor p c) (one_page first f laid.page)
+        (stands_closed 1 f c (record { magic = is; long = titled_long }) (λ it. omega (arith, it, titled_gate)) titled_count titled_has titled_pages))
+    | inr other ↦ inl (λ pages s. other s.headed.magic)
+  ]
+    where
+      cases_magic : (l : List ℕ) → (l ≡ magic) ⊎ (l ≢ magic)
+      cases_magic l = list_cases l magic
+
+pub titled_after : (first : List ℕ) (old new : State) → IsLaid first old.seen → Settles (IsOutside 0 8) old new → window 0 8 new.seen ≡ magic → IsAtRest 1 new × (in_place 1 new.seen ≡ first ∷ [])
+titled_after first old new laid ran is =
+    let agrees = settles_agrees (IsOutside 0 8) old new ran in (
+      record {
+        settled = settles_settled (IsOutside 0 8) old new ran;
+        headed = record { magic = is; long = titled_long first old.seen new.seen laid agrees };
+        gate = λ it. omega (arith, it, titled_gate first old.seen new.seen laid agrees);
+        count = titled_count first old.seen new.seen laid agrees;
+        pages = titled_has first old.seen new.seen laid agrees;
+      },
+      titled_pages first old.seen new.seen laid agrees ∙ one_page first old.seen laid.page,
+    )
+
+pub laid_after : (first zeros one old a b c d : List ℕ) → length old ≡ 4096 → length zeros ≡ 4096 → get_or zeros 0 0 ≡ 0 → one ≡ big_bytes 4 1 → length first ≡ 4096
+    → Written 4096 zeros old a → Written 8192 zeros a b → Written 12288 one b c → Written 16384 first c d → IsLaid first d
+laid_after first zeros one old a b c d old_size zeros_size zero_is one_is first_size wa wb wc wd =
+    let one_size : length one ≡ 4 = ap length one_is in
+    let a_size : length a ≡ 8192 = omega (arith, written_long 4096 zeros old a wa (omega arith)) in
+    let b_size : length b ≡ 12288 = omega (arith, written_long 8192 zeros a b wb (omega arith)) in
+    let c_size : length c ≡ 12292 = omega (arith, written_long 12288 one b c wc (omega arith)) in
+    record {
+      gate = wd.outside 4096 (inl (omega arith)) ∙ wc.outside 4096 (inl (omega arith)) ∙ wb.outside 4096 (inl (omega arith)) ∙ wa.inside 0 (omega arith) ∙ zero_is;
+      count = number_is 12288 1 d (omega arith) (written_other 16384 first c d (omega arith) wd 12288 4 (omega arith) (inl (omega arith)) ∙ subst (λ (n : ℕ). window 12288 n c ≡ one) one_size (written_window 12288 one b c (omega arith) wc) ∙ one_is);
+      page = subst (λ (n : ℕ). window 16384 n d ≡ first) first_size (written_window 16384 first c d (omega arith) wd);
+      long = omega (arith, written_long 16384 first c d wd (omega arith));
+    }
+
+pub empty_leaves : (s : State) → MayLeave s.now s.seen → LeavesOnly s.now (λ c. c ≡ []) → s.seen ≡ []
+empty_leaves s stays only = only s.seen stays
+
+pub none_either : (first c : List ℕ) → StandsForNone c → StandsForNoneOr first c
+none_either first c none = inl none
+
+pub empty_none : (first c : List ℕ) → c ≡ [] → StandsForNoneOr first c
+empty_none first c is = inl (short_none c (omega (arith, ap length is)))
+
+pub nothing_in : (n : ℕ) (f : List ℕ) → n ≡ 0 → n ≡ length f → f ≡ []
+nothing_in n [] none is = refl
+nothing_in n (b ∷ f) none is = absurd (omega (arith, none, is))

@@ -1,0 +1,77 @@
+-- A stop while a file is opened.
+use Rattle.std.proofs.Common.{◌≡◌, inl, inr, ℕ, ◌<◌, ◌≤◌, List, [], length, sym, ◌∙◌, ap, subst, arith, Result, Ok}
+use Rattle.tune_disk.specs.Disk.{State, MayLeave, settled}
+use Rattle.tune_disk.specs.Stops.{LeavesOnly, SinceThen}
+use Rattle.tune_disk.specs.Moments.{since_same, since_sync, since_then, since_weaker}
+use Rattle.tune_journal.specs.Image.{StandsFor, StandsForEither, IsHeaded, HasCount, number, entry_place, gate_of, count_of, log_of, in_place}
+use Rattle.tune_journal.specs.Pages.{changed}
+use Rattle.tune_journal.specs.Opening.{IsSynced, IsSyncedOrSame, HasEntries, Sees, IsBounded}
+use Rattle.tune_journal.specs.Moments.{KeepsEither, LeftOrSame}
+use Rattle.tune_journal.specs.declared.look.Found.{Found}
+use Rattle.tune_journal.specs.declared.look.Found.TheVariants.{Damaged, Closed, Open}
+use Rattle.tune_journal.specs.Rest.{IsAtRest, IsOpened}
+use Rattle.tune_journal.proofs.Frame.{entries_at, length-entries, length-in_place}
+use Rattle.tune_journal.proofs.Above.{stands_once}
+use Rattle.tune_journal.proofs.Changed.{length-changed}
+
+pub synced_since : (P : List ℕ → Type 0) (old new : State) → LeavesOnly old.now P → MayLeave old.now old.seen → IsSyncedOrSame old new → SinceThen old new P
+synced_since P old new leaves stays (inl same) = subst (λ (s : State). SinceThen old s P) (sym same) (since_same P old leaves)
+synced_since P old new leaves stays (inr synced) = let r : Result (Unit {0}) (Unit {0}) = Ok tt in since_sync P r old old new (since_same P old leaves) stays (synced.seen, synced.goes)
+
+pub synced_leaves : (old new : State) → MayLeave old.now old.seen → IsSyncedOrSame old new → SinceThen old new (LeftOrSame old)
+synced_leaves old new stays synced = synced_since (LeftOrSame old) old new (λ c left. inl left) stays synced
+
+pub recovered_leaves : (old mid new : State) (pages : List (List ℕ)) → MayLeave old.now old.seen → IsSynced old mid → MayLeave mid.now mid.seen → SinceThen mid new (StandsFor pages) → SinceThen old new (LeftOrSame old)
+recovered_leaves old mid new pages stays synced mid_stays since =
+    since_then (LeftOrSame old) old mid new (synced_leaves old mid stays (inr synced))
+    (since_weaker (StandsFor pages) (LeftOrSame old) (λ c s. inr (pages, subst (StandsFor pages) synced.seen (since.first mid.seen mid_stays), s)) mid new since)
+
+-- what was read at first stands for the pages that a recovery leaves
+pub recovered_stands : (old mid new : State) (pages left : List (List ℕ)) → IsSynced old mid → MayLeave mid.now mid.seen → SinceThen mid new (StandsFor pages) → left ≡ pages → StandsFor left old.seen
+recovered_stands old mid new pages left synced mid_stays since is =
+    subst (λ (p : List (List ℕ)). StandsFor p old.seen) (sym is) (subst (StandsFor pages) synced.seen (since.first mid.seen mid_stays))
+
+pub keeps_either : (old new : State) → MayLeave old.now old.seen → SinceThen old new (LeftOrSame old) → KeepsEither old new
+keeps_either old new stays since = λ a b leaves. since_weaker (LeftOrSame old) (StandsForEither a b) (either a b leaves) old new since
+  where
+    same : (a b pages : List (List ℕ)) (c : List ℕ) → StandsFor pages old.seen → StandsFor pages c → StandsForEither a b old.seen → StandsForEither a b c
+    same a b pages c here s (inl at_a) = inl (subst (λ (p : List (List ℕ)). StandsFor p c) (stands_once pages a old.seen here at_a) s)
+    same a b pages c here s (inr at_b) = inr (subst (λ (p : List (List ℕ)). StandsFor p c) (stands_once pages b old.seen here at_b) s)
+
+    either : (a b : List (List ℕ)) → LeavesOnly old.now (StandsForEither a b) → (c : List ℕ) → LeftOrSame old c → StandsForEither a b c
+    either a b leaves c (inl left) = leaves c left
+    either a b leaves c (inr it) = same a b it.0 c it.1 it.2 (leaves old.seen stays)
+
+pub opened_entries : (m k : ℕ) (s : State) → IsOpened m s → number 8196 s.seen ≡ k → HasEntries m k s.seen
+opened_entries m k s opened is = record {
+  long = subst (λ (j : ℕ). entry_place m j ≤ length s.seen) is opened.log.long;
+  below = λ i lt. (let low : i < number 8196 s.seen = omega (arith, is, lt) in
+      subst (λ (e : ℕ × List ℕ). e.0 < m) (entries_at m (number 8196 s.seen) i s.seen (0, []) low) (opened.log.log.below i (0, []) (omega (arith, low, length-entries m (number 8196 s.seen) s.seen))));
+}
+
+pub sees_damaged : (found : Found) (file : List ℕ) → found ≡ Damaged → Sees found file → Sees Damaged file
+sees_damaged found file is sees = subst (λ (f : Found). Sees f file) is sees
+
+-- a synced disk whose gate is closed is at rest
+pub closed_rest : (n : ℕ) (found : Found) (old new : State) → found ≡ Closed n → IsSynced old new → Sees found old.seen → IsAtRest n new
+closed_rest n found old new is synced sees =
+    let closed : Sees (Closed n) old.seen = subst (λ (f : Found). Sees f old.seen) is sees in
+    let back : old.seen ≡ new.seen = sym synced.seen in
+    record {
+      settled = synced.goes.now ∙ ap settled back;
+      headed = subst IsHeaded back closed.0;
+      gate = λ is_open. closed.1 (ap gate_of back ∙ is_open);
+      count = ap count_of synced.seen ∙ closed.2;
+      pages = subst (HasCount n) back closed.3;
+    }
+
+-- and its log is told
+pub open_told : (m k : ℕ) (found : Found) (old new : State) → found ≡ Open m k → IsSynced old new → Sees found old.seen → length (log_of new.seen) ≡ k
+open_told m k found old new is synced sees =
+    let seen : Sees (Open m k) old.seen = subst (λ (f : Found). Sees f old.seen) is sees in
+    length-entries (number 8192 new.seen) (number 8196 new.seen) new.seen ∙ ap (number 8196) synced.seen ∙ seen.3
+
+pub open_bounds : (m k : ℕ) (found : Found) (s : State) → found ≡ Open m k → IsBounded found → k ≤ length (changed (in_place m s.seen) (log_of s.seen))
+open_bounds m k found s is bounded =
+    let seen : IsBounded (Open m k) = subst IsBounded is bounded in
+    omega (arith, seen.2, length-changed (in_place m s.seen) (log_of s.seen), length-in_place m s.seen)

@@ -1,0 +1,41 @@
+-- What the calls of a commit do to a device.
+use Rattle.std.specs.Prelude.{◌≡◌, ◌⊎◌, ℕ, ◌+◌, ◌*◌, ◌<◌, ◌≤◌, List, [], ◌∷◌, ◌++◌, length, Result, MatchResult}
+use Rattle.byteorder.specs.Endian.{big_bytes}
+use Rattle.tune_disk.specs.Disk.{State, GoesTo, settled}
+use Rattle.tune_disk.specs.Stops.{Spares}
+use Rattle.tune_journal.specs.ChangeList.{change_at}
+use Rattle.tune_journal.specs.Image.{window, page_place, entry_place}
+
+-- writes that keep these places, and then a sync
+pub record Settles (Kept : ℕ → Type 0) (old new : State) : Type 0 where
+  pub mid : State
+  pub spares : Spares Kept old mid
+  pub seen : new.seen ≡ mid.seen
+  pub goes : GoesTo (settled mid.seen) mid new
+
+abbrev pub WritesAndSyncs : {T E : Type 0} → (ℕ → Type 0) → Result T E → State → State → Type 0
+WritesAndSyncs Kept result old new = MatchResult result (λ _. Settles Kept old new) (λ _. Spares Kept old new)
+
+-- the log's place and the descriptor are free to write
+abbrev pub IsNoLog : ℕ → ℕ → Type 0
+IsNoLog m i = (i < 8192) ⊎ ((8200 ≤ i) × (i < entry_place m 0))
+
+abbrev pub IsOutside : ℕ → ℕ → ℕ → Type 0
+IsOutside at n i = (i < at) ⊎ (at + n ≤ i)
+
+-- no page that these entries name
+abbrev pub IsInNoPage : List (ℕ × List ℕ) → ℕ → Type 0
+IsInNoPage [] i = Unit {0}
+IsInNoPage (entry ∷ log) i = ((i < page_place entry.0) ⊎ (page_place entry.0 + 4096 ≤ i)) × IsInNoPage log i
+
+abbrev pub HoldsDescriptor : ℕ → ℕ → List ℕ → Type 0
+HoldsDescriptor m k file = (window 8192 8 file ≡ big_bytes 4 m ++ big_bytes 4 k) × (8200 ≤ length file)
+
+-- the places that neither an image nor the count is written to
+abbrev pub KeepsBoth : List (ℕ × List ℕ) → ℕ → Type 0
+KeepsBoth log i = IsInNoPage log i × IsOutside 12288 4 i
+
+-- the first n of these entries stand there
+abbrev pub HoldsEntries : ℕ → List (ℕ × List ℕ) → ℕ → List ℕ → Type 0
+HoldsEntries at log n file = (k : ℕ) → k < n
+    → (window (at + 4100 * k) 4100 file ≡ big_bytes 4 (change_at log k).0 ++ (change_at log k).1) × (at + 4100 * (k + 1) ≤ length file)

@@ -1,0 +1,55 @@
+-- Why a file is not opened.
+use Rattle.std.specs.Prelude.{◌≡◌, ◌≢◌, ℕ, ◌<◌, ◌≤◌, length}
+use Rattle.tune_disk.specs.Disk.{State, Rises}
+use Rattle.tune_journal.specs.Image.{window, magic}
+use Rattle.tune_journal.specs.Opening.{IsSynced, StandsForNone}
+use Rattle.tune_journal.specs.declared.fault.OpenFault.{OpenFault}
+use Rattle.tune_journal.specs.declared.fault.OpenFault.TheVariants.{NotArchive, Damaged, NotEmpty, OutOfMemory, Device}
+
+-- Where the file is at fault nothing was written.
+abbrev pub IsRefusedFor : OpenFault → State → State → Type 0
+IsRefusedFor NotArchive old new = IsSynced old new × (8 ≤ length old.seen → window 0 8 old.seen ≢ magic)
+IsRefusedFor Damaged old new = IsSynced old new × (window 0 8 old.seen ≡ magic) × (8 ≤ length old.seen) × StandsForNone old.seen
+IsRefusedFor NotEmpty old new = ⊥
+IsRefusedFor OutOfMemory old new = ⊥
+IsRefusedFor Device old new = Unit {0}
+
+-- `Device` alone is told where the disk failed, and wherever it did.
+abbrev pub CountsFailureIf : OpenFault → ℕ → ℕ → Type 0
+CountsFailureIf Device old new = Rises old new
+CountsFailureIf NotArchive old new = new ≡ old
+CountsFailureIf Damaged old new = new ≡ old
+CountsFailureIf NotEmpty old new = new ≡ old
+CountsFailureIf OutOfMemory old new = new ≡ old
+
+-- The same, but that `Device` is told without a failure where the disk is not honest.
+abbrev pub CountsFailureWhere : Type 0 → OpenFault → ℕ → ℕ → Type 0
+CountsFailureWhere Honest Device old new = Honest → Rises old new
+CountsFailureWhere Honest NotArchive old new = new ≡ old
+CountsFailureWhere Honest Damaged old new = new ≡ old
+CountsFailureWhere Honest NotEmpty old new = new ≡ old
+CountsFailureWhere Honest OutOfMemory old new = new ≡ old
+
+-- Why a journal is not made. On a disk with a byte nothing was written.
+abbrev pub IsUnmadeFor : OpenFault → State → State → Type 0
+IsUnmadeFor NotEmpty old new = IsSynced old new × (0 < length old.seen)
+IsUnmadeFor Device old new = Unit {0}
+IsUnmadeFor NotArchive old new = ⊥
+IsUnmadeFor OutOfMemory old new = ⊥
+IsUnmadeFor Damaged old new = ⊥
+
+-- what opening may answer, whatever the disk does
+abbrev pub IsOpenReason : OpenFault → Type 0
+IsOpenReason NotArchive = Unit {0}
+IsOpenReason Damaged = Unit {0}
+IsOpenReason Device = Unit {0}
+IsOpenReason NotEmpty = ⊥
+IsOpenReason OutOfMemory = ⊥
+
+-- and what making may
+abbrev pub IsMakeReason : OpenFault → Type 0
+IsMakeReason NotEmpty = Unit {0}
+IsMakeReason Device = Unit {0}
+IsMakeReason NotArchive = ⊥
+IsMakeReason Damaged = ⊥
+IsMakeReason OutOfMemory = ⊥
