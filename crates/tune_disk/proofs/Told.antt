@@ -172,7 +172,3 @@ pub same_answer : {T E F : Type 0} (r : Result T E) (t : Result T F) → MatchRe
 same_answer (Ok v) t same = ap is_ok same
 same_answer (Err e) (Err f) same = refl
 same_answer (Err e) (Ok v) same = cc
-
-pub if_ok : {T E : Type 0} (r : Result T E) (P Q : T → Type 0) → IfOk r P → ((x : T) → P x → Q x) → IfOk r Q
-if_ok (Ok x) P Q holds so = so x holds
-if_ok (Err e) P Q holds so = tt

@@ -1,7 +1,7 @@
 // A disk over a file of the operating system.
-ghost use Rattle.std.specs.Prelude.{◌≡◌, ◌≢◌, ◌+◌, ◌^◌, ◌<◌, ◌≤◌, ℕ, length, slice_index, [], IfOk, OnOk, OnErr, IfSome, IsErr, MatchResult};
+ghost use Rattle.std.specs.Prelude.{◌≡◌, ◌≢◌, ◌+◌, ◌^◌, ◌≤◌, length, [], IfOk, OnOk, OnErr, IfSome, IsErr, MatchResult};
 ghost use Rattle.std.specs.Path.{path_parent};
-ghost use Rattle.tune_disk.specs.Disk.{Shows, CountsFailure};
+ghost use Rattle.tune_disk.specs.Disk.{CountsFailure};
 ghost use Rattle.tune_disk.specs.FileTold.{IsToldRead, IsToldMore};
 
 mod calls;

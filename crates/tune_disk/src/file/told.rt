@@ -1,5 +1,5 @@
 // What a file of the operating system told, kept for clauses alone: it takes no memory.
-ghost use Rattle.std.specs.Prelude.{◌≡◌, ◌+◌, ◌≤◌, ◌^◌, ◌∷◌, ◌++◌, [], length};
+ghost use Rattle.std.specs.Prelude.{◌+◌, ◌≤◌, ◌^◌, length};
 ghost use Rattle.tune_disk.specs.FileTold.{IsToldRead, IsToldWrite};
 
 use http_server::Log;
