@@ -1,6 +1,4 @@
 // Small helpers over any disk.
-ghost use Rattle.std.specs.Prelude.{◌≤◌, ◌+◌, ◌^◌, length};
-
 use std::test::Fail;
 use tune_disk::{DeviceFault, Disk};
 

@@ -1,5 +1,5 @@
 // A disk in memory, which keeps a record of its writes and syncs.
-ghost use Rattle.std.specs.Prelude.{◌≡◌, ◌⊎◌, ◌∷◌, ◌++◌, [], ◌<◌, ◌≤◌, ◌^◌, ◌+◌, IfOk, OnOk, OnErr, IsOk, is_ok, length, take, drop};
+ghost use Rattle.std.specs.Prelude.{◌≡◌, ◌∷◌, ◌++◌, [], ◌<◌, ◌≤◌, ◌^◌, ◌+◌, IfOk, OnOk, OnErr, IsOk, is_ok, length, take, drop};
 ghost use Rattle.tune_disk.specs.Disk.{Written, Writes, Shows, CountsFailure, filled};
 ghost use Rattle.tune_disk.specs.Record.{state_of};
 
@@ -101,7 +101,6 @@ fn stable(alloc: Global, first: &[u8], steps: &[Step]) -> Result<Vec<u8>, AllocE
 }
 
 impl Disk for MemoryDisk {
-    ghost use Rattle.std.specs.Prelude.{ℕ};
     ghost use Rattle.tune_disk.specs.Memory.{memory_state, memory_failures, memory_stays};
 
     ghost state = { memory_state };
