@@ -7,9 +7,9 @@ root=$(CDPATH='' cd -- "$(dirname -- "$0")/.." && pwd) || exit 1
 folder=${1:-$root/bench/work}
 runs=${2:-10}
 rounds=${3:-1000}
-program=$root/crates/disk_bench/out/disk_bench
+program=$root/crates/bench_disk/out/bench_disk
 work=$root/bench/work
-[ -x "$program" ] || { echo "no program at $program: build it by 'rt run -- pages 5' in crates/disk_bench" >&2; exit 1; }
+[ -x "$program" ] || { echo "no program at $program: build it by 'rt run -- pages 5' in crates/bench_disk" >&2; exit 1; }
 mkdir -p "$work" "$folder" || exit 1
 cc -O2 -o "$work/disk_c" "$root/bench/disk.c" || exit 1
 export LC_ALL=C
@@ -17,9 +17,9 @@ export LC_ALL=C
 # Prints the milliseconds of one run.
 timed() {
     local start end length
-    rm -f "$folder/disk_bench.pages"
+    rm -f "$folder/bench_disk.pages"
     start=$(date +%s%N)
-    length=$("$1" "$folder/disk_bench.pages" "$rounds") || { echo "$1 failed" >&2; exit 1; }
+    length=$("$1" "$folder/bench_disk.pages" "$rounds") || { echo "$1 failed" >&2; exit 1; }
     end=$(date +%s%N)
     [ "$length" = $(((rounds < 256 ? rounds : 256) * 4096)) ] || { echo "$1: a length of $length" >&2; exit 1; }
     echo $(((end - start) / 1000)) | awk '{ printf "%.2f\n", $1 / 1000 }'
@@ -37,13 +37,13 @@ for ((run = 0; run < runs; run++)); do
     fi
     echo "$ours" >> "$work/disk_ours"
     echo "$there" >> "$work/disk_c_times"
-    printf 'disk_bench %10s ms    C %10s ms\n' "$ours" "$there"
+    printf 'bench_disk %10s ms    C %10s ms\n' "$ours" "$there"
 done
-rm -f "$folder/disk_bench.pages"
+rm -f "$folder/bench_disk.pages"
 paste <(sort -n "$work/disk_ours") <(sort -n "$work/disk_c_times") | awk '
     { ours[NR] = $1; there[NR] = $2 }
     END {
         middle = int((NR + 1) / 2)
-        printf "least: disk_bench %.2f ms, C %.2f ms, ratio %.3f\n", ours[1], there[1], ours[1] / there[1]
-        printf "middle: disk_bench %.2f ms, C %.2f ms, ratio %.3f\n", ours[middle], there[middle], ours[middle] / there[middle]
+        printf "least: bench_disk %.2f ms, C %.2f ms, ratio %.3f\n", ours[1], there[1], ours[1] / there[1]
+        printf "middle: bench_disk %.2f ms, C %.2f ms, ratio %.3f\n", ours[middle], there[middle], ours[middle] / there[middle]
     }'

@@ -1,12 +1,12 @@
 #!/usr/bin/env bash
 # Usage: bench/reading.sh [EXECUTABLE]
-# Times the reading of 20,000 tunes (3.8 MB), layer by layer, by the program `reading_bench`. A line is a layer, the milliseconds of one pass over all tunes
+# Times the reading of 20,000 tunes (3.8 MB), layer by layer, by the program `bench_reading`. A line is a layer, the milliseconds of one pass over all tunes
 # (those of 21 passes less those of 1 pass, by 20), and what a pass came to.
 set -u
 root=$(CDPATH='' cd -- "$(dirname -- "$0")/.." && pwd) || exit 1
-program=${1:-$root/crates/reading_bench/out/reading_bench}
+program=${1:-$root/crates/bench_reading/out/bench_reading}
 work=$root/bench/work
-[ -x "$program" ] || { echo "no program at $program: build it by 'rt run' in crates/reading_bench" >&2; exit 1; }
+[ -x "$program" ] || { echo "no program at $program: build it by 'rt run' in crates/bench_reading" >&2; exit 1; }
 mkdir -p "$work" || exit 1
 export LC_ALL=C
 

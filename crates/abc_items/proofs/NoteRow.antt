@@ -48,9 +48,9 @@ accidental_before (Some Sharp) name letter tail named = ap (λ o. Some (unwrap_o
 
 -- EACH NOTE HAS ITS LENGTH
 -- where the test of the row passes, it gives a length
-note_tests : (x : Bool) (n m : ℕ) → x ≡ true → n ≡ m → cond x (Some n) None ≡ Some m
-note_tests true n m p same = ap Some same
-note_tests false n m p same = absurd (cc)
+test_notes : (x : Bool) (n m : ℕ) → x ≡ true → n ≡ m → cond x (Some n) None ≡ Some m
+test_notes true n m p same = ap Some same
+test_notes false n m p same = absurd (cc)
 
 -- a note's length, where its accidental is known
 note_after : (own : Option Accidental) (name : ℕ) (letter : Letter) (tail : List ℕ) → own_accidental (spelling_of own ++ (name ∷ tail)) ≡ own → letter_of name ≡ Some letter
@@ -62,7 +62,7 @@ note_after own name letter tail is named =
     let past : drop (length (spelling_of own) + 1) line ≡ tail = drop-append-add (spelling_of own) (name ∷ tail) 1 in
     let before : length (spelling_of (own_accidental line)) ≡ length (spelling_of own) = ap (λ o. length (spelling_of o)) is in
     let begin : begins is_note_name (drop (length (spelling_of (own_accidental line))) line) ≡ true = ap (λ k. begins is_note_name (drop k line)) before ∙ ap (begins is_note_name) at ∙ ap is_some named in
-    note_tests (begins is_note_name (drop (length (spelling_of (own_accidental line))) line))
+    test_notes (begins is_note_name (drop (length (spelling_of (own_accidental line))) line))
     (length (spelling_of (own_accidental line)) + 1 + prefix_len is_octave_mark (drop (length (spelling_of (own_accidental line)) + 1) line))
     (length (spelling_of own) + 1 + prefix_len is_octave_mark tail) begin
     (ap (λ k. k + 1 + prefix_len is_octave_mark (drop (k + 1) line)) before ∙ ap (λ t. length (spelling_of own) + 1 + prefix_len is_octave_mark t) past)

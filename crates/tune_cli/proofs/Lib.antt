@@ -1,6 +1,1 @@
-pub mod Decimals
-pub mod ReadLemmas
-pub mod TakenFields
-pub mod ScriptLemmas
-pub mod StopLemmas
 pub mod CommandLineLemmas

@@ -1,13 +1,13 @@
 -- What the program does for an action, and its status.
 use Rattle.std.specs.Prelude.{◌≡◌, ℕ, List, [], Option, ⊤}
-use Rattle.tune_archive.specs.State.{State}
-use Rattle.tune_archive.specs.Answers.{open_at}
-use Rattle.tune_cli.specs.declared.runs.TheConstants.{MOST_LINES}
-use Rattle.tune_cli.specs.declared.runs.RunEnd.{RunEnd}
-use Rattle.tune_cli.specs.declared.runs.RunEnd.TheVariants.{Ended}
+use Rattle.tune_store.specs.State.{State}
+use Rattle.tune_store.specs.Answers.{open_at}
+use Rattle.tune_scripts.specs.declared.runs.TheConstants.{MOST_LINES}
+use Rattle.tune_scripts.specs.declared.runs.RunEnd.{RunEnd}
+use Rattle.tune_scripts.specs.declared.runs.RunEnd.TheVariants.{Ended}
 use Rattle.tune_cli.specs.declared.command_line.Action.{Action}
 use Rattle.tune_cli.specs.declared.command_line.Action.TheVariants as action
-use Rattle.tune_cli.specs.Scripts.{Told, TellsScript}
+use Rattle.tune_scripts.specs.Scripts.{Told, TellsScript}
 
 -- an archive without a tune
 abbrev pub empty_archive : State

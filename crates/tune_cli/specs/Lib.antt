@@ -1,8 +1,2 @@
-pub mod FirstWords
-pub mod ScriptLines
-pub mod Reads
-pub mod Replies
-pub mod Scripts
-pub mod Turns
 pub mod CommandLine
 pub mod Acts

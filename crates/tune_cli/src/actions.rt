@@ -5,13 +5,13 @@ ghost use Rattle.clap.specs.Words.{app_of};
 ghost use Rattle.tune_cli.specs.Acts.{Acts, status_of};
 
 use crate::command_line::{Action, WordsFault};
-use crate::runs::{RunEnd, run};
+use tune_scripts::{RunEnd, run};
 use clap::Command;
 use clap::error::ErrorKind;
 use std::alloc::{AllocError, Global};
 use std::io;
 use std::io::{Read, Write};
-use tune_archive::ListArchive;
+use tune_store::ListArchive;
 
 /// What the words of the program ask for, its name being the first of them.
 ///

@@ -1,14 +1,9 @@
-//! Scripts of commands: how they are read, and the bytes of their replies.
+//! The words of the program, and what is done for them.
 #![tactic(auto)]
 
 mod actions;
 mod command_line;
-mod reading;
-mod reply;
-mod runs;
-mod script_line;
 
 pub use actions::{act, action, tell};
 pub use command_line::{Action, WordsFault};
-pub use runs::{MOST_LINES, RunEnd, run};
-pub use script_line::LONGEST_LINE;
+pub use tune_scripts::{LONGEST_LINE, MOST_LINES, RunEnd, run};

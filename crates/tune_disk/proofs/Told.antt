@@ -2,7 +2,7 @@
 use Rattle.std.proofs.Common.{◌≡◌, ◌⊎◌, inl, inr, ℕ, ◌+◌, ◌-◌, ◌<◌, ◌≤◌, List, [], ◌∷◌, ◌++◌, length, get_or, refl, sym, ◌∙◌, ap, subst, arith, Result, Ok, Err, IfOk, OnOk, OnErr, IsErr, MatchResult, is_ok}
 use Rattle.std.proofs.lemmas.Bool.{cases_lt}
 use Rattle.std.proofs.lemmas.List.{get_or_past}
-use Rattle.tune_disk.specs.Disk.{State, Written, Torn, Writes, Syncs}
+use Rattle.tune_disk.specs.Disk.{DiskState, Written, Torn, Writes, Syncs}
 use Rattle.tune_disk.specs.Stays.{put_written}
 use Rattle.tune_disk.specs.Record.{put}
 use Rattle.tune_disk.specs.FileTold.{History, Course, told, course, Fits, AllFit, IsToldMore, IsToldRead, IsToldWrite, after_write, after_sync}
@@ -119,7 +119,7 @@ in_hand_more at b bytes a m z r is = record {
 pub written_told : (at : ℕ) (bytes : List ℕ) (a m z : List (ℕ × Told)) → IsInHand bytes a m → z ≡ m ++ (at, Wrote) ∷ [] → IsToldWrite at bytes a z
 written_told at bytes a m z r is = record {
   fits = λ h c fit. r.fits h c (fit_is m z at Wrote is h c fit).0;
-  state = λ h c. ap (λ (k : Course). k.state) (course_is m z at Wrote is h c) ∙ ap (λ (s : State). after_write at (length (course h c m).hand) (put at (course h c m).hand s.seen) s) (r.state h c)
+  state = λ h c. ap (λ (k : Course). k.state) (course_is m z at Wrote is h c) ∙ ap (λ (s : DiskState). after_write at (length (course h c m).hand) (put at (course h c m).hand s.seen) s) (r.state h c)
       ∙ ap (λ (l : List ℕ). after_write at (length l) (put at l (course h c a).state.seen) (course h c a).state) (r.hand h c);
 }
 
@@ -142,7 +142,7 @@ pub sync_told : {T U E F : Type 0} (h : History) (c : Course) (r : Result T E) (
     → Syncs t (course h c a).state (course h c z).state
 sync_told h c (Ok x) (Ok y) a z ok err same =
     let is : (course h c z).state ≡ after_sync (course h c a).state = ap (λ (k : Course). k.state) (course_is a z 0 Synced ok h c) in
-    (ap (λ (s : State). s.seen) is, record { now = ap (λ (s : State). s.now) is; past = ap (λ (s : State). s.past) is })
+    (ap (λ (s : DiskState). s.seen) is, record { now = ap (λ (s : DiskState). s.now) is; past = ap (λ (s : DiskState). s.past) is })
 sync_told h c (Err x) (Err y) a z ok err same = ap (λ (l : List (ℕ × Told)). (course h c l).state) err
 sync_told h c (Ok x) (Err y) a z ok err same = cc
 sync_told h c (Err x) (Ok y) a z ok err same = cc
@@ -155,14 +155,14 @@ pub write_told : {T U E F : Type 0} (h : History) (c : Course) (r : Result T E) 
     → AllFit h c z → Writes at bytes t (course h c a).state (course h c z).state
 write_told h c (Ok x) (Ok y) at bytes a z ok err same fit =
     let is = ok.state h c in (
-      subst (Written at bytes (course h c a).state.seen) (sym (ap (λ (s : State). s.seen) is)) (put_written at bytes (course h c a).state.seen),
-      record { now = ap (λ (s : State). s.now) is; past = ap (λ (s : State). s.past) is },
+      subst (Written at bytes (course h c a).state.seen) (sym (ap (λ (s : DiskState). s.seen) is)) (put_written at bytes (course h c a).state.seen),
+      record { now = ap (λ (s : DiskState). s.now) is; past = ap (λ (s : DiskState). s.past) is },
     )
 write_told h c (Err x) (Err y) at bytes a z ok err same fit =
     let is = ap (λ (k : Course). k.state) (course_is a z at (Broke (length bytes)) err h c) in
     inr (
-      subst (Torn at (length bytes) (course h c a).state.seen) (sym (ap (λ (s : State). s.seen) is)) (fit_is a z at (Broke (length bytes)) err h c fit).1,
-      record { now = ap (λ (s : State). s.now) is; past = ap (λ (s : State). s.past) is },
+      subst (Torn at (length bytes) (course h c a).state.seen) (sym (ap (λ (s : DiskState). s.seen) is)) (fit_is a z at (Broke (length bytes)) err h c fit).1,
+      record { now = ap (λ (s : DiskState). s.now) is; past = ap (λ (s : DiskState). s.past) is },
     )
 write_told h c (Ok x) (Err y) at bytes a z ok err same fit = cc
 write_told h c (Err x) (Ok y) at bytes a z ok err same fit = cc

@@ -32,13 +32,13 @@ abbrev pub settled : List ℕ → Medium
 settled file = record { stable = file; written = []; reach = length file }
 
 -- A disk: what a read gives, what a stop may leave now, and what it might have left before, the newest first.
-pub record State : Type 0 where
+pub record DiskState : Type 0 where
   pub seen : List ℕ
   pub now : Medium
   pub past : List Medium
 
 -- This file has never been written: it is all on the disk.
-abbrev pub fresh : List ℕ → State
+abbrev pub fresh : List ℕ → DiskState
 fresh file = record { seen = file; now = settled file; past = [] }
 
 -- new is old with these bytes at this place; a gap before them is zeros, as every place past the end is
@@ -54,18 +54,18 @@ pub record Torn (at n : ℕ) (old new : List ℕ) : Type 0 where
   pub outside : (i : ℕ) → (i < at) ⊎ (at + n ≤ i) → slice_index new i ≡ slice_index old i
 
 -- time goes on, to this medium
-pub record GoesTo (m : Medium) (old new : State) : Type 0 where
+pub record GoesTo (m : Medium) (old new : DiskState) : Type 0 where
   pub now : new.now ≡ m
   pub past : new.past ≡ old.now ∷ old.past
 
 -- A write that failed changed nothing, or counts as written with any bytes.
-abbrev pub Writes : {T E : Type 0} → ℕ → List ℕ → Result T E → State → State → Type 0
+abbrev pub Writes : {T E : Type 0} → ℕ → List ℕ → Result T E → DiskState → DiskState → Type 0
 Writes at bytes result old new = MatchResult result
     (λ _. Written at bytes old.seen new.seen × GoesTo (touched at (length bytes) old.now) old new)
     (λ _. (new ≡ old) ⊎ (Torn at (length bytes) old.seen new.seen × GoesTo (touched at (length bytes) old.now) old new))
 
 -- A sync that failed made nothing stable.
-abbrev pub Syncs : {T E : Type 0} → Result T E → State → State → Type 0
+abbrev pub Syncs : {T E : Type 0} → Result T E → DiskState → DiskState → Type 0
 Syncs result old new = MatchResult result (λ _. (new.seen ≡ old.seen) × GoesTo (settled old.seen) old new) (λ _. new ≡ old)
 
 -- these are the bytes from there on; past the end there are zeros

@@ -1,6 +1,6 @@
 -- What a `FileDisk` stands for.
 use Rattle.std.specs.Prelude.{◌≡◌, []}
-use Rattle.tune_disk.specs.Disk.{State, MayLeave}
+use Rattle.tune_disk.specs.Disk.{DiskState, MayLeave}
 use Rattle.tune_disk.specs.FileTold.{History, history_of, at_opening, course, AllFit}
 use Rattle.tune_disk.specs.FileStays.{course_stays}
 use Rattle.tune_disk.specs.declared.file.FileDisk.{FileDisk}
@@ -8,7 +8,7 @@ use Rattle.tune_disk.specs.declared.file.FileDisk.{FileDisk}
 abbrev pub file_history : FileDisk → History
 file_history disk = history_of disk.opening.value
 
-abbrev pub file_state : FileDisk → State
+abbrev pub file_state : FileDisk → DiskState
 file_state disk = (course (file_history disk) (at_opening (file_history disk)) disk.log.items).state
 
 -- All that the file told fits what it stood for, from the opening on.

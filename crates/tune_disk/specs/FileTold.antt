@@ -1,6 +1,6 @@
 -- What a file of the operating system told, one thing after another, and what it then stands for.
 use Rattle.std.specs.Prelude.{◌≡◌, ℕ, ◌+◌, ◌<◌, ◌≤◌, List, [], ◌∷◌, ◌++◌, length, slice_index, get_or}
-use Rattle.tune_disk.specs.Disk.{State, Torn, touched, settled, fresh}
+use Rattle.tune_disk.specs.Disk.{DiskState, Torn, touched, settled, fresh}
 use Rattle.tune_disk.specs.Record.{put}
 use Rattle.tune_disk.specs.declared.file.told.Told.{Told}
 use Rattle.tune_disk.specs.declared.file.told.Told.TheVariants.{Length, Byte, Ended, Begun, Put, Wrote, Broke, Synced}
@@ -8,7 +8,7 @@ use Rattle.tune_disk.specs.declared.file.told.Told.TheVariants.{Length, Byte, En
 -- What nothing that a file tells says of it.
 pub record History : Type 0 where
   -- when the file was opened: what a read gave, and what a stop might leave
-  pub opened : State
+  pub opened : DiskState
   -- what the file held after each write that failed, in their order
   pub broken : List (List ℕ)
 
@@ -18,15 +18,15 @@ history_of opening = record { opened = fresh []; broken = [] }
 
 -- a file as it goes on: what it stands for, the bytes of the write in hand, and how many writes have failed
 pub record Course : Type 0 where
-  pub state : State
+  pub state : DiskState
   pub hand : List ℕ
   pub failed : ℕ
 
 -- the state after a write of so many bytes at a place, which left this content
-abbrev pub after_write : ℕ → ℕ → List ℕ → State → State
+abbrev pub after_write : ℕ → ℕ → List ℕ → DiskState → DiskState
 after_write at n content s = record { seen = content; now = touched at n s.now; past = s.now ∷ s.past }
 
-abbrev pub after_sync : State → State
+abbrev pub after_sync : DiskState → DiskState
 after_sync s = record { seen = s.seen; now = settled s.seen; past = s.now ∷ s.past }
 
 -- the file after it told this of a place

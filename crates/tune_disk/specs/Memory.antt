@@ -1,12 +1,12 @@
 -- What a `MemoryDisk` shows.
 use Rattle.std.specs.Prelude.{ℕ}
-use Rattle.tune_disk.specs.Disk.{State, MayLeave}
+use Rattle.tune_disk.specs.Disk.{DiskState, MayLeave}
 use Rattle.tune_disk.specs.Record.{state_of}
 use Rattle.tune_disk.specs.Stays.{replayed_stays, settled_stays}
 use Rattle.tune_disk.specs.declared.memory.MemoryDisk.{MemoryDisk}
 
 -- its first content after all its writes and syncs
-abbrev pub memory_state : MemoryDisk → State
+abbrev pub memory_state : MemoryDisk → DiskState
 memory_state disk = state_of disk.first.items disk.steps.items
 
 -- how often it found no memory

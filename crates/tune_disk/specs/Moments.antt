@@ -1,12 +1,12 @@
 -- How a run of device calls goes on.
 use Rattle.std.proofs.Common.{◌≡◌, ◌⊎◌, inl, inr, ℕ, ◌+◌, ◌<◌, ◌≤◌, List, [], ◌∷◌, ◌++◌, length, get_or, refl, sym, ◌∙◌, ap, subst, arith, Result, Ok, Err}
 use Rattle.std.proofs.lemmas.List.{append_assoc, ext_get_or}
-use Rattle.tune_disk.specs.Disk.{Medium, State, MayLeave, touched, settled, Writes, Syncs}
+use Rattle.tune_disk.specs.Disk.{Medium, DiskState, MayLeave, touched, settled, Writes, Syncs}
 use Rattle.tune_disk.specs.Bytes.{longer_after}
 use Rattle.tune_disk.specs.Stops.{LeavesOnly, EachLeavesOnly, SinceThen, KeepsPlaces, EachKeepsPlaces, Spares, Agrees}
 
 -- Nothing happened.
-pub spares_none : (Kept : ℕ → Type 0) (s : State) → Spares Kept s s
+pub spares_none : (Kept : ℕ → Type 0) (s : DiskState) → Spares Kept s s
 spares_none Kept s = record {
   since = [];
   history = refl;
@@ -24,7 +24,7 @@ keeps_both : (Kept : ℕ → Type 0) (a : Medium) (ms ns : List Medium) → Each
 keeps_both Kept a [] ns e f = f
 keeps_both Kept a (m ∷ ms) ns e f = (e.0, keeps_both Kept a ms ns e.1 f)
 
-pub spares_then : (Kept : ℕ → Type 0) (a b c : State) → Spares Kept a b → Spares Kept b c → Spares Kept a c
+pub spares_then : (Kept : ℕ → Type 0) (a b c : DiskState) → Spares Kept a b → Spares Kept b c → Spares Kept a c
 spares_then Kept a b c s t = record {
   since = t.since ++ s.since;
   history = t.history ∙ ap (λ (l : List Medium). t.since ++ l) s.history ∙ sym (append_assoc t.since s.since (a.now ∷ a.past));
@@ -39,7 +39,7 @@ keeps_fewer : (Kept Fewer : ℕ → Type 0) → ((i : ℕ) → Fewer i → Kept 
 keeps_fewer Kept Fewer f a [] e = tt
 keeps_fewer Kept Fewer f a (m ∷ ms) e = (record { stable = e.0.stable; untouched = λ i k u. e.0.untouched i (f i k) u }, keeps_fewer Kept Fewer f a ms e.1)
 
-pub spares_fewer : (Kept Fewer : ℕ → Type 0) (a b : State) → ((i : ℕ) → Fewer i → Kept i) → Spares Kept a b → Spares Fewer a b
+pub spares_fewer : (Kept Fewer : ℕ → Type 0) (a b : DiskState) → ((i : ℕ) → Fewer i → Kept i) → Spares Kept a b → Spares Fewer a b
 spares_fewer Kept Fewer a b f s = record {
   since = s.since;
   history = s.history;
@@ -50,7 +50,7 @@ spares_fewer Kept Fewer a b f s = record {
 }
 
 -- one write, whatever it answered
-pub spares_write : {T E : Type 0} (Kept : ℕ → Type 0) (at : ℕ) (bytes : List ℕ) (r : Result T E) (a b : State) → Writes at bytes r a b
+pub spares_write : {T E : Type 0} (Kept : ℕ → Type 0) (at : ℕ) (bytes : List ℕ) (r : Result T E) (a b : DiskState) → Writes at bytes r a b
     → ((i : ℕ) → Kept i → (i < at) ⊎ (at + length bytes ≤ i)) → Spares Kept a b
 spares_write Kept at bytes (Ok t) a b w out =
     let to = w.1 in
@@ -63,7 +63,7 @@ spares_write Kept at bytes (Ok t) a b w out =
       longer = omega (arith, w.0.long, longer_after at (length bytes) (length a.seen));
       seen = λ i kept. w.0.outside i (out i kept);
     }
-spares_write Kept at bytes (Err e) a b (inl same) out = subst (λ (s : State). Spares Kept a s) (sym same) (spares_none Kept a)
+spares_write Kept at bytes (Err e) a b (inl same) out = subst (λ (s : DiskState). Spares Kept a s) (sym same) (spares_none Kept a)
 spares_write Kept at bytes (Err e) a b (inr w) out =
     let to = w.1 in
     let keeps : KeepsPlaces Kept a.now (touched at (length bytes) a.now) = record { stable = refl; untouched = λ i kept u. (out i kept, u) } in
@@ -93,7 +93,7 @@ module _ (P : List ℕ → Type 0) where
   each_agrees Kept file so (m ∷ ms) e = ((λ c left. so c (keeps_agrees Kept file m e.0 c left)), each_agrees Kept file so ms e.1)
 
   -- a phase of writes over a settled disk
-  pub spares_since : (Kept : ℕ → Type 0) (a b : State) → a.now ≡ settled a.seen → Spares Kept a b → ((c : List ℕ) → Agrees Kept a.seen c → P c) → SinceThen a b P
+  pub spares_since : (Kept : ℕ → Type 0) (a b : DiskState) → a.now ≡ settled a.seen → Spares Kept a b → ((c : List ℕ) → Agrees Kept a.seen c → P c) → SinceThen a b P
   spares_since Kept a b rest s so = record {
     since = s.since;
     history = s.history;
@@ -105,7 +105,7 @@ module _ (P : List ℕ → Type 0) where
   each_both [] ns e f = f
   each_both (m ∷ ms) ns e f = (e.0, each_both ms ns e.1 f)
 
-  pub since_then : (a b c : State) → SinceThen a b P → SinceThen b c P → SinceThen a c P
+  pub since_then : (a b c : DiskState) → SinceThen a b P → SinceThen b c P → SinceThen a c P
   since_then a b c s t = record {
     since = t.since ++ s.since;
     history = t.history ∙ ap (λ (l : List Medium). t.since ++ l) s.history ∙ sym (append_assoc t.since s.since (a.now ∷ a.past));
@@ -113,19 +113,19 @@ module _ (P : List ℕ → Type 0) where
     first = s.first;
   }
 
-  pub since_same : (a : State) → LeavesOnly a.now P → SinceThen a a P
+  pub since_same : (a : DiskState) → LeavesOnly a.now P → SinceThen a a P
   since_same a first = record { since = []; history = refl; each = tt; first = first }
 
-  now_from : (a b : State) (ms : List Medium) → b.now ∷ b.past ≡ ms ++ (a.now ∷ a.past) → EachLeavesOnly ms P → LeavesOnly a.now P → LeavesOnly b.now P
+  now_from : (a b : DiskState) (ms : List Medium) → b.now ∷ b.past ≡ ms ++ (a.now ∷ a.past) → EachLeavesOnly ms P → LeavesOnly a.now P → LeavesOnly b.now P
   now_from a b [] is each first = let same : b.now ≡ a.now = cc in subst (λ (m : Medium). LeavesOnly m P) (sym same) first
   now_from a b (m ∷ ms) is each first = let same : b.now ≡ m = cc in subst (λ (m : Medium). LeavesOnly m P) (sym same) each.0
 
   -- what a stop leaves now is among them
-  pub since_now : (a b : State) → SinceThen a b P → LeavesOnly b.now P
+  pub since_now : (a b : DiskState) → SinceThen a b P → LeavesOnly b.now P
   since_now a b s = now_from a b s.since s.history s.each s.first
 
   -- a sync goes on to a file that a stop may leave already
-  pub since_sync : {T E : Type 0} (r : Result T E) (a b c : State) → SinceThen a b P → MayLeave b.now b.seen → Syncs r b c → SinceThen a c P
+  pub since_sync : {T E : Type 0} (r : Result T E) (a b c : DiskState) → SinceThen a b P → MayLeave b.now b.seen → Syncs r b c → SinceThen a c P
   since_sync (Ok t) a b c s stays sync =
       let here = since_now a b s b.seen stays in
       since_then a b c s (record {
@@ -134,9 +134,9 @@ module _ (P : List ℕ → Type 0) where
         each = ((λ file left. subst P (sym (settled_leaves b.seen file left)) here), tt);
         first = since_now a b s;
       })
-  since_sync (Err e) a b c s stays same = subst (λ (x : State). SinceThen a x P) (sym same) s
+  since_sync (Err e) a b c s stays same = subst (λ (x : DiskState). SinceThen a x P) (sym same) s
 
-  pub since_weaker : (Q : List ℕ → Type 0) → ((c : List ℕ) → P c → Q c) → (a b : State) → SinceThen a b P → SinceThen a b Q
+  pub since_weaker : (Q : List ℕ → Type 0) → ((c : List ℕ) → P c → Q c) → (a b : DiskState) → SinceThen a b P → SinceThen a b Q
   since_weaker Q so a b s = record { since = s.since; history = s.history; each = each_weaker s.since s.each; first = λ c left. so c (s.first c left) }
     where
       each_weaker : (ms : List Medium) → EachLeavesOnly ms P → EachLeavesOnly ms Q

@@ -1,7 +1,7 @@
 -- What a read gives is one of the files that a stop may leave.
 use Rattle.std.specs.Prelude.{ℕ, List, [], ◌∷◌, length, refl}
 use Rattle.std.proofs.Common.{◌∙◌, arith}
-use Rattle.tune_disk.specs.Disk.{Medium, State, MayLeave, Written, touched, settled}
+use Rattle.tune_disk.specs.Disk.{Medium, DiskState, MayLeave, Written, touched, settled}
 use Rattle.tune_disk.specs.Bytes.{written_pasted, longer_after, length_after_rises}
 use Rattle.tune_disk.specs.Record.{put, step_to, replayed}
 use Rattle.tune_disk.specs.declared.memory.Step.{Step}
@@ -21,11 +21,11 @@ written_stays m at bytes old new stays w = record {
   same = λ i lt out. w.outside i out.0 ∙ stays.same i lt out.1;
 }
 
-step_stays : (step : Step) (s : State) → MayLeave s.now s.seen → MayLeave (step_to step s).now (step_to step s).seen
+step_stays : (step : Step) (s : DiskState) → MayLeave s.now s.seen → MayLeave (step_to step s).now (step_to step s).seen
 step_stays (Write at bytes) s stays = written_stays s.now at bytes.items s.seen _ stays (put_written at bytes.items s.seen)
 step_stays Sync s stays = settled_stays s.seen
 
-pub replayed_stays : (steps : List Step) (s : State) → MayLeave s.now s.seen → MayLeave (replayed steps s).now (replayed steps s).seen
+pub replayed_stays : (steps : List Step) (s : DiskState) → MayLeave s.now s.seen → MayLeave (replayed steps s).now (replayed steps s).seen
 replayed_stays [] s stays = stays
 replayed_stays (step ∷ steps) s stays = replayed_stays steps (step_to step s) (step_stays step s stays)
 

@@ -1,6 +1,6 @@
 -- What stops may leave over runs of device calls.
 use Rattle.std.specs.Prelude.{◌≡◌, ℕ, ◌+◌, ◌<◌, ◌≤◌, List, [], ◌∷◌, ◌++◌, length, slice_index}
-use Rattle.tune_disk.specs.Disk.{Medium, MayLeave, Untouched, State}
+use Rattle.tune_disk.specs.Disk.{Medium, MayLeave, Untouched, DiskState}
 
 -- a stop leaves files of this kind alone
 abbrev pub LeavesOnly : Medium → (List ℕ → Type 0) → Type 0
@@ -11,7 +11,7 @@ EachLeavesOnly [] P = Unit {0}
 EachLeavesOnly (m ∷ ms) P = LeavesOnly m P × EachLeavesOnly ms P
 
 -- A stop at any moment since old, this one included, leaves files of this kind alone.
-pub record SinceThen (old new : State) (P : List ℕ → Type 0) : Type 0 where
+pub record SinceThen (old new : DiskState) (P : List ℕ → Type 0) : Type 0 where
   pub since : List Medium
   pub history : new.now ∷ new.past ≡ since ++ (old.now ∷ old.past)
   pub each : EachLeavesOnly since P
@@ -27,7 +27,7 @@ EachKeepsPlaces Kept old [] = Unit {0}
 EachKeepsPlaces Kept old (m ∷ ms) = KeepsPlaces Kept old m × EachKeepsPlaces Kept old ms
 
 -- Since old there were writes alone, and none to a place that is kept.
-pub record Spares (Kept : ℕ → Type 0) (old new : State) : Type 0 where
+pub record Spares (Kept : ℕ → Type 0) (old new : DiskState) : Type 0 where
   pub since : List Medium
   pub history : new.now ∷ new.past ≡ since ++ (old.now ∷ old.past)
   pub each : EachKeepsPlaces Kept old.now since

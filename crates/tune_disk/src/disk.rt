@@ -1,6 +1,6 @@
 // What a disk promises.
 ghost use Rattle.std.specs.Prelude.{◌≡◌, ◌+◌, ◌^◌, ◌≤◌, ℕ, length, IfOk, OnOk};
-ghost use Rattle.tune_disk.specs.Disk.{State, MayLeave, Writes, Syncs, Shows, CountsFailure};
+ghost use Rattle.tune_disk.specs.Disk.{DiskState, MayLeave, Writes, Syncs, Shows, CountsFailure};
 
 use thiserror::Error;
 
@@ -15,7 +15,7 @@ pub struct DeviceFault;
 /// Between two syncs a stop may leave any bytes where something was written. No call shortens the file. Each call that fails is counted.
 pub trait Disk: Drop {
     /// What a read gives, what a stop may leave now, and what it might have left before.
-    ghost state: { Self → State };
+    ghost state: { Self → DiskState };
 
     /// How often a call has failed.
     ghost failures: { Self → ℕ };

@@ -4,7 +4,7 @@ use Rattle.std.proofs.lemmas.List.{get_or-set_same, get_or-set_other, get_or_app
 use Rattle.std.specs.List.Sorted.{IsStrictlyIncreasing}
 use Rattle.std.proofs.lemmas.Bool.Decides.{nat_tests}
 use Rattle.std.proofs.lemmas.Bool.{cases_eq}
-use Rattle.tune_disk.specs.Disk.{State, MayLeave}
+use Rattle.tune_disk.specs.Disk.{DiskState, MayLeave}
 use Rattle.tune_disk.specs.Stops.{LeavesOnly, SinceThen}
 use Rattle.tune_disk.specs.Moments.{since_then, since_weaker}
 use Rattle.tune_journal.specs.ChangeList.{image_of, AreAbove, Rises}
@@ -14,7 +14,7 @@ use Rattle.tune_journal.proofs.ChangeLists.{rises_from_increasing, image_of_none
 use Rattle.tune_journal.proofs.Changed.{length-changed}
 use Rattle.tune_journal.specs.Moments.{Goes, LeftOrSame}
 
-module _ {D : Type 0} (honest : D → Type 0) (state : D → State) where
+module _ {D : Type 0} (honest : D → Type 0) (state : D → DiskState) where
   pub goes_then : (a b c : D) (P : List ℕ → Type 0) → Goes honest state a b P → Goes honest state b c P → Goes honest state a c P
   goes_then a b c P s t = record {
     before = λ h. s.before (t.before h);
@@ -36,7 +36,7 @@ abbrev pub StandsForSome : (List (List ℕ) → Type 0) → List ℕ → Type 0
 StandsForSome Q file = (pages : List (List ℕ)) × StandsFor pages file × Q pages
 
 -- Where each file that a stop may leave at first stands for pages of one kind, so does each during an opening.
-pub opening_keeps : (Q : List (List ℕ) → Type 0) (old new : State) → MayLeave old.now old.seen → SinceThen old new (LeftOrSame old) → LeavesOnly old.now (StandsForSome Q) → SinceThen old new (StandsForSome Q)
+pub opening_keeps : (Q : List (List ℕ) → Type 0) (old new : DiskState) → MayLeave old.now old.seen → SinceThen old new (LeftOrSame old) → LeavesOnly old.now (StandsForSome Q) → SinceThen old new (StandsForSome Q)
 opening_keeps Q old new stays since leaves = since_weaker (LeftOrSame old) (StandsForSome Q) (λ c left. each c left) old new since
   where
     each : (c : List ℕ) → LeftOrSame old c → StandsForSome Q c

@@ -6,7 +6,7 @@ use Rattle.std.proofs.lemmas.List.FromFn.{length-map-range_with_len, get_or-map-
 use Rattle.std.proofs.lemmas.List.Elements.{All-get_or, All-tail}
 use Rattle.std.proofs.lemmas.Bool.{cases_eq, cases_lt}
 use Rattle.byteorder.specs.Numbers.{big_number-reads_back}
-use Rattle.tune_disk.specs.Disk.{State, Written, Shows}
+use Rattle.tune_disk.specs.Disk.{DiskState, Written, Shows}
 use Rattle.tune_disk.specs.Stops.{Agrees}
 use Rattle.tune_disk.specs.Bytes.{written_long}
 use Rattle.tune_journal.specs.Image.{window, number, page_place, entry_place, in_place, entries, count_of, new_count_of, log_of, gate_of, IsLog, IsHeaded, HasCount, HasLog, StandsFor, StandsForEither}
@@ -109,7 +109,7 @@ stands_open pages m k c headed is new_count size has are = record {
 }
 
 -- while the log is written
-pub stands_logging : (n m : ℕ) (s : State) → IsAtRest n s → n ≤ m → (c : List ℕ) → Agrees (IsNoLog m) s.seen c → StandsFor (in_place n s.seen) c
+pub stands_logging : (n m : ℕ) (s : DiskState) → IsAtRest n s → n ≤ m → (c : List ℕ) → Agrees (IsNoLog m) s.seen c → StandsFor (in_place n s.seen) c
 stands_logging n m s rest le c agrees =
     let f = s.seen in
     stands_closed n f c
@@ -120,7 +120,7 @@ stands_logging n m s rest le c agrees =
     (agree_in_place (IsNoLog m) f c agrees n rest.pages.long (λ i le' lt. inr (omega arith, omega arith)))
 
 -- while the gate is opened
-pub stands_opening : (n m : ℕ) (s : State) → IsLogged n m s → (c : List ℕ) → Agrees (IsOutside 4096 1) s.seen c → StandsForEither (in_place n s.seen) (changed (in_place m s.seen) (log_of s.seen)) c
+pub stands_opening : (n m : ℕ) (s : DiskState) → IsLogged n m s → (c : List ℕ) → Agrees (IsOutside 4096 1) s.seen c → StandsForEither (in_place n s.seen) (changed (in_place m s.seen) (log_of s.seen)) c
 stands_opening n m s logged c agrees = elim (cases_eq (gate_of c) 167) [
   | inl is ↦ inr (stands_open _ m k c headed is
       (agree_number (IsOutside 4096 1) f c agrees 8192 (omega (arith, rest.headed.long)) (λ i le lt. inr (omega arith)) ∙ logged.new_count)
@@ -172,7 +172,7 @@ unnamed_outside p i (e ∷ log) un le lt = (apart (cases_lt e.0 p), unnamed_outs
     apart (inl below) = inr (omega arith)
     apart (inr above) = inl (omega (arith, ne))
 
-module _ (m : ℕ) (s : State) (opened : IsOpened m s) (c : List ℕ) (agrees : Agrees (KeepsBoth (entries m (number 8196 s.seen) s.seen)) s.seen c) where
+module _ (m : ℕ) (s : DiskState) (opened : IsOpened m s) (c : List ℕ) (agrees : Agrees (KeepsBoth (entries m (number 8196 s.seen) s.seen)) s.seen c) where
   abbrev log : List (ℕ × List ℕ)
   log = entries m (number 8196 s.seen) s.seen
 
@@ -218,7 +218,7 @@ pub log_same : (m : ℕ) (f : List ℕ) → new_count_of f ≡ m → log_of f �
 log_same m f is = ap (λ (m' : ℕ). entries m' (number 8196 f) f) is
 
 -- while the gate is closed
-pub stands_closing : (m : ℕ) (s : State) → IsApplied m s → (c : List ℕ) → Agrees (IsOutside 4096 1) s.seen c → StandsFor (in_place m s.seen) c
+pub stands_closing : (m : ℕ) (s : DiskState) → IsApplied m s → (c : List ℕ) → Agrees (IsOutside 4096 1) s.seen c → StandsFor (in_place m s.seen) c
 stands_closing m s applied c agrees = elim (cases_eq (gate_of c) 167) [
   | inl is ↦ stands_open (in_place m s.seen) m (number 8196 s.seen) c headed is
       (agree_number (IsOutside 4096 1) s.seen c agrees 8192 (omega (arith, opened.headed.long)) (λ i le lt. inr (omega arith)) ∙ opened.new_count)
@@ -260,7 +260,7 @@ entries_written m log f most below held = same_lists (entries m (length log) f) 
         let image : window (entry_place m i + 4) 4096 f ≡ e.1 = back_window (entry_place m i) 4 4096 f (big_bytes 4 e.0) e.1 both refl in
         entries_at m (length log) i f d lt ∙ (λ t. (page t, image t)) ∙ get_or_default log i (0, []) d lt
 
-module _ (n m : ℕ) (old new : State) (log : List (ℕ × List ℕ)) (rest : IsAtRest n old) (le : n ≤ m) (most : m ≤ 4000000) (is_log : IsLog m log)
+module _ (n m : ℕ) (old new : DiskState) (log : List (ℕ × List ℕ)) (rest : IsAtRest n old) (le : n ≤ m) (most : m ≤ 4000000) (is_log : IsLog m log)
     (ran : Settles (IsNoLog m) old new) (held : HoldsEntries (entry_place m 0) log (length log) new.seen) (descriptor : HoldsDescriptor m (length log) new.seen) where
   agrees : Agrees (IsNoLog m) old.seen new.seen
   agrees = settles_agrees (IsNoLog m) old new ran
@@ -304,7 +304,7 @@ module _ (n m : ℕ) (old new : State) (log : List (ℕ × List ℕ)) (rest : Is
     logged_pages,
   )
 
-pub opened_after : (n m : ℕ) (old new : State) → IsLogged n m old → Settles (IsOutside 4096 1) old new → gate_of new.seen ≡ 167
+pub opened_after : (n m : ℕ) (old new : DiskState) → IsLogged n m old → Settles (IsOutside 4096 1) old new → gate_of new.seen ≡ 167
     → IsOpened m new × (log_of new.seen ≡ log_of old.seen) × (in_place m new.seen ≡ in_place m old.seen)
 opened_after n m old new logged ran is =
     let Kept = IsOutside 4096 1 in
@@ -324,7 +324,7 @@ opened_after n m old new logged ran is =
       agree_in_place Kept old.seen new.seen agrees m logged.log.count.long (λ i le lt. inr (omega arith)),
     )
 
-pub applied_after : (m : ℕ) (old new : State) → (opened : IsOpened m old) → Settles (KeepsBoth (entries m (number 8196 old.seen) old.seen)) old new → count_of new.seen ≡ m
+pub applied_after : (m : ℕ) (old new : DiskState) → (opened : IsOpened m old) → Settles (KeepsBoth (entries m (number 8196 old.seen) old.seen)) old new → count_of new.seen ≡ m
     → in_place m new.seen ≡ changed (in_place m old.seen) (log_of old.seen) → IsApplied m new
 applied_after m old new opened ran count pages =
     let Kept = KeepsBoth (entries m (number 8196 old.seen) old.seen) in
@@ -344,7 +344,7 @@ applied_after m old new opened ran count pages =
       pages = pages ∙ sym (changed-changed (in_place m old.seen) (log_of old.seen)) ∙ (λ t. changed (sym pages t) (sym same t));
     }
 
-pub closed_after : (m : ℕ) (old new : State) → IsApplied m old → Settles (IsOutside 4096 1) old new → gate_of new.seen ≡ 0 → IsAtRest m new × (in_place m new.seen ≡ in_place m old.seen)
+pub closed_after : (m : ℕ) (old new : DiskState) → IsApplied m old → Settles (IsOutside 4096 1) old new → gate_of new.seen ≡ 0 → IsAtRest m new × (in_place m new.seen ≡ in_place m old.seen)
 closed_after m old new applied ran is =
     let Kept = IsOutside 4096 1 in
     let agrees = settles_agrees Kept old new ran in

@@ -3,7 +3,7 @@ use Rattle.std.proofs.Common.{◌≡◌, ◌≢◌, ◌⊎◌, inl, inr, ℕ, ze
 use Rattle.byteorder.specs.Endian.{big_bytes}
 use Rattle.std.proofs.lemmas.List.{same_lists}
 use Rattle.std.proofs.lemmas.Bool.{cases_eq}
-use Rattle.tune_disk.specs.Disk.{State, MayLeave, Written, Writes, settled, touched, GoesTo}
+use Rattle.tune_disk.specs.Disk.{DiskState, MayLeave, Written, Writes, settled, touched, GoesTo}
 use Rattle.tune_disk.specs.Stops.{Agrees, SinceThen, LeavesOnly}
 use Rattle.tune_disk.specs.Moments.{since_same}
 use Rattle.tune_disk.specs.Bytes.{written_long, length_after_some}
@@ -39,7 +39,7 @@ other_none c is_zero pages s =
     let letter : get_or (window 0 8 c) 0 0 ≡ 65 = ap (λ (l : List ℕ). get_or l 0 0) s.headed.magic in
     omega (arith, first, letter, is_zero)
 
-pub cleared_since : {T E : Type 0} (bytes : List ℕ) (r : Result T E) (a b : State) → length bytes ≡ 4096 → a.now ≡ settled [] → Writes 0 bytes r a b → SinceThen a b StandsForNone
+pub cleared_since : {T E : Type 0} (bytes : List ℕ) (r : Result T E) (a b : DiskState) → length bytes ≡ 4096 → a.now ≡ settled [] → Writes 0 bytes r a b → SinceThen a b StandsForNone
 cleared_since {T} {E} bytes r a b size rest w = by_cases r w
   where
     first : LeavesOnly a.now StandsForNone
@@ -55,11 +55,11 @@ cleared_since {T} {E} bytes r a b size rest w = by_cases r w
 
     by_cases : (r : Result T E) → Writes 0 bytes r a b → SinceThen a b StandsForNone
     by_cases (Ok t) w = goes w.1
-    by_cases (Err e) (inl same) = subst (λ (s : State). SinceThen a s StandsForNone) (sym same) (since_same StandsForNone a first)
+    by_cases (Err e) (inl same) = subst (λ (s : DiskState). SinceThen a s StandsForNone) (sym same) (since_same StandsForNone a first)
     by_cases (Err e) (inr w) = goes w.1
 
 -- while the blocks behind the first are written
-pub laying : (s : State) → IsCleared s → (c : List ℕ) → Agrees (λ i. i < 4096) s.seen c → StandsForNone c
+pub laying : (s : DiskState) → IsCleared s → (c : List ℕ) → Agrees (λ i. i < 4096) s.seen c → StandsForNone c
 laying s cleared c agrees = other_none c (agrees.same 0 (omega (arith, cleared.long)) (omega arith) ∙ cleared.zero)
 
 one_page : (first f : List ℕ) → window 16384 4096 f ≡ first → in_place 1 f ≡ first ∷ []
@@ -99,7 +99,7 @@ module _ (first f c : List ℕ) (laid : IsLaid first f) (agrees : Agrees (IsOuts
       cases_magic : (l : List ℕ) → (l ≡ magic) ⊎ (l ≢ magic)
       cases_magic l = list_cases l magic
 
-pub titled_after : (first : List ℕ) (old new : State) → IsLaid first old.seen → Settles (IsOutside 0 8) old new → window 0 8 new.seen ≡ magic → IsAtRest 1 new × (in_place 1 new.seen ≡ first ∷ [])
+pub titled_after : (first : List ℕ) (old new : DiskState) → IsLaid first old.seen → Settles (IsOutside 0 8) old new → window 0 8 new.seen ≡ magic → IsAtRest 1 new × (in_place 1 new.seen ≡ first ∷ [])
 titled_after first old new laid ran is =
     let agrees = settles_agrees (IsOutside 0 8) old new ran in (
       record {
@@ -126,7 +126,7 @@ laid_after first zeros one old a b c d old_size zeros_size zero_is one_is first_
       long = omega (arith, written_long 16384 first c d wd (omega arith));
     }
 
-pub empty_leaves : (s : State) → MayLeave s.now s.seen → LeavesOnly s.now (λ c. c ≡ []) → s.seen ≡ []
+pub empty_leaves : (s : DiskState) → MayLeave s.now s.seen → LeavesOnly s.now (λ c. c ≡ []) → s.seen ≡ []
 empty_leaves s stays only = only s.seen stays
 
 pub none_either : (first c : List ℕ) → StandsForNone c → StandsForNoneOr first c

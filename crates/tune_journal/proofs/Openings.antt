@@ -1,6 +1,6 @@
 -- A stop while a file is opened.
 use Rattle.std.proofs.Common.{◌≡◌, inl, inr, ℕ, ◌<◌, ◌≤◌, List, [], length, sym, ◌∙◌, ap, subst, arith, Result, Ok}
-use Rattle.tune_disk.specs.Disk.{State, MayLeave, settled}
+use Rattle.tune_disk.specs.Disk.{DiskState, MayLeave, settled}
 use Rattle.tune_disk.specs.Stops.{LeavesOnly, SinceThen}
 use Rattle.tune_disk.specs.Moments.{since_same, since_sync, since_then, since_weaker}
 use Rattle.tune_journal.specs.Image.{StandsFor, StandsForEither, IsHeaded, HasCount, number, entry_place, gate_of, count_of, log_of, in_place}
@@ -14,24 +14,24 @@ use Rattle.tune_journal.proofs.Frame.{entries_at, length-entries, length-in_plac
 use Rattle.tune_journal.proofs.Above.{stands_once}
 use Rattle.tune_journal.proofs.Changed.{length-changed}
 
-pub synced_since : (P : List ℕ → Type 0) (old new : State) → LeavesOnly old.now P → MayLeave old.now old.seen → IsSyncedOrSame old new → SinceThen old new P
-synced_since P old new leaves stays (inl same) = subst (λ (s : State). SinceThen old s P) (sym same) (since_same P old leaves)
+pub synced_since : (P : List ℕ → Type 0) (old new : DiskState) → LeavesOnly old.now P → MayLeave old.now old.seen → IsSyncedOrSame old new → SinceThen old new P
+synced_since P old new leaves stays (inl same) = subst (λ (s : DiskState). SinceThen old s P) (sym same) (since_same P old leaves)
 synced_since P old new leaves stays (inr synced) = let r : Result (Unit {0}) (Unit {0}) = Ok tt in since_sync P r old old new (since_same P old leaves) stays (synced.seen, synced.goes)
 
-pub synced_leaves : (old new : State) → MayLeave old.now old.seen → IsSyncedOrSame old new → SinceThen old new (LeftOrSame old)
+pub synced_leaves : (old new : DiskState) → MayLeave old.now old.seen → IsSyncedOrSame old new → SinceThen old new (LeftOrSame old)
 synced_leaves old new stays synced = synced_since (LeftOrSame old) old new (λ c left. inl left) stays synced
 
-pub recovered_leaves : (old mid new : State) (pages : List (List ℕ)) → MayLeave old.now old.seen → IsSynced old mid → MayLeave mid.now mid.seen → SinceThen mid new (StandsFor pages) → SinceThen old new (LeftOrSame old)
+pub recovered_leaves : (old mid new : DiskState) (pages : List (List ℕ)) → MayLeave old.now old.seen → IsSynced old mid → MayLeave mid.now mid.seen → SinceThen mid new (StandsFor pages) → SinceThen old new (LeftOrSame old)
 recovered_leaves old mid new pages stays synced mid_stays since =
     since_then (LeftOrSame old) old mid new (synced_leaves old mid stays (inr synced))
     (since_weaker (StandsFor pages) (LeftOrSame old) (λ c s. inr (pages, subst (StandsFor pages) synced.seen (since.first mid.seen mid_stays), s)) mid new since)
 
 -- what was read at first stands for the pages that a recovery leaves
-pub recovered_stands : (old mid new : State) (pages left : List (List ℕ)) → IsSynced old mid → MayLeave mid.now mid.seen → SinceThen mid new (StandsFor pages) → left ≡ pages → StandsFor left old.seen
+pub recovered_stands : (old mid new : DiskState) (pages left : List (List ℕ)) → IsSynced old mid → MayLeave mid.now mid.seen → SinceThen mid new (StandsFor pages) → left ≡ pages → StandsFor left old.seen
 recovered_stands old mid new pages left synced mid_stays since is =
     subst (λ (p : List (List ℕ)). StandsFor p old.seen) (sym is) (subst (StandsFor pages) synced.seen (since.first mid.seen mid_stays))
 
-pub keeps_either : (old new : State) → MayLeave old.now old.seen → SinceThen old new (LeftOrSame old) → KeepsEither old new
+pub keeps_either : (old new : DiskState) → MayLeave old.now old.seen → SinceThen old new (LeftOrSame old) → KeepsEither old new
 keeps_either old new stays since = λ a b leaves. since_weaker (LeftOrSame old) (StandsForEither a b) (either a b leaves) old new since
   where
     same : (a b pages : List (List ℕ)) (c : List ℕ) → StandsFor pages old.seen → StandsFor pages c → StandsForEither a b old.seen → StandsForEither a b c
@@ -42,7 +42,7 @@ keeps_either old new stays since = λ a b leaves. since_weaker (LeftOrSame old) 
     either a b leaves c (inl left) = leaves c left
     either a b leaves c (inr it) = same a b it.0 c it.1 it.2 (leaves old.seen stays)
 
-pub opened_entries : (m k : ℕ) (s : State) → IsOpened m s → number 8196 s.seen ≡ k → HasEntries m k s.seen
+pub opened_entries : (m k : ℕ) (s : DiskState) → IsOpened m s → number 8196 s.seen ≡ k → HasEntries m k s.seen
 opened_entries m k s opened is = record {
   long = subst (λ (j : ℕ). entry_place m j ≤ length s.seen) is opened.log.long;
   below = λ i lt. (let low : i < number 8196 s.seen = omega (arith, is, lt) in
@@ -53,7 +53,7 @@ pub sees_damaged : (found : Found) (file : List ℕ) → found ≡ Damaged → S
 sees_damaged found file is sees = subst (λ (f : Found). Sees f file) is sees
 
 -- a synced disk whose gate is closed is at rest
-pub closed_rest : (n : ℕ) (found : Found) (old new : State) → found ≡ Closed n → IsSynced old new → Sees found old.seen → IsAtRest n new
+pub closed_rest : (n : ℕ) (found : Found) (old new : DiskState) → found ≡ Closed n → IsSynced old new → Sees found old.seen → IsAtRest n new
 closed_rest n found old new is synced sees =
     let closed : Sees (Closed n) old.seen = subst (λ (f : Found). Sees f old.seen) is sees in
     let back : old.seen ≡ new.seen = sym synced.seen in
@@ -66,12 +66,12 @@ closed_rest n found old new is synced sees =
     }
 
 -- and its log is told
-pub open_told : (m k : ℕ) (found : Found) (old new : State) → found ≡ Open m k → IsSynced old new → Sees found old.seen → length (log_of new.seen) ≡ k
+pub open_told : (m k : ℕ) (found : Found) (old new : DiskState) → found ≡ Open m k → IsSynced old new → Sees found old.seen → length (log_of new.seen) ≡ k
 open_told m k found old new is synced sees =
     let seen : Sees (Open m k) old.seen = subst (λ (f : Found). Sees f old.seen) is sees in
     length-entries (number 8192 new.seen) (number 8196 new.seen) new.seen ∙ ap (number 8196) synced.seen ∙ seen.3
 
-pub open_bounds : (m k : ℕ) (found : Found) (s : State) → found ≡ Open m k → IsBounded found → k ≤ length (changed (in_place m s.seen) (log_of s.seen))
+pub open_bounds : (m k : ℕ) (found : Found) (s : DiskState) → found ≡ Open m k → IsBounded found → k ≤ length (changed (in_place m s.seen) (log_of s.seen))
 open_bounds m k found s is bounded =
     let seen : IsBounded (Open m k) = subst IsBounded is bounded in
     omega (arith, seen.2, length-changed (in_place m s.seen) (log_of s.seen), length-in_place m s.seen)

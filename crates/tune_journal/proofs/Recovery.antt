@@ -2,7 +2,7 @@
 use Rattle.std.proofs.Common.{◌≡◌, ◌⊎◌, ◌↔◌, Bool, true, false, IsTrue, ◌≢◌, inl, inr, ℕ, zero, suc, ◌+◌, ◌<◌, ◌≤◌, List, [], ◌∷◌, ◌++◌, length, get_or, set, map, All, refl, sym, ◌∙◌, ap, subst, arith, Result}
 use Rattle.std.proofs.lemmas.List.{length-map}
 use Rattle.std.proofs.lemmas.List.FromFn.{map-range_with_len_more}
-use Rattle.tune_disk.specs.Disk.{State, Written, Writes}
+use Rattle.tune_disk.specs.Disk.{DiskState, Written, Writes}
 use Rattle.tune_disk.specs.Stops.{Agrees, Spares}
 use Rattle.tune_disk.specs.Moments.{spares_then, spares_write}
 use Rattle.tune_journal.specs.Image.{window, number, page_place, entry_place, in_place, entries, IsLog, HasLog}
@@ -14,7 +14,7 @@ use Rattle.tune_journal.proofs.Windows.{length-window}
 use Rattle.tune_journal.proofs.Loops.{image_more, changed-push, outside_page}
 use Rattle.tune_journal.proofs.Frame.{agree_number, agree_window, entries_at, length-entries, in_no_page}
 
-pub spares_agrees : (Kept : ℕ → Type 0) (a b : State) → Spares Kept a b → Agrees Kept a.seen b.seen
+pub spares_agrees : (Kept : ℕ → Type 0) (a b : DiskState) → Spares Kept a b → Agrees Kept a.seen b.seen
 spares_agrees Kept a b s = record { longer = s.longer; same = λ i lt kept. s.seen i kept }
 
 pub entries_none : (m : ℕ) (f : List ℕ) → entries m 0 f ≡ []
@@ -30,7 +30,7 @@ all_below m k f has i d lt =
     let low : i < k = omega (arith, length-entries m k f) in
     subst (λ (e : ℕ × List ℕ). e.0 < m) (sym (entries_at m k i f d low)) (has.below i low)
 
-module _ (m k i : ℕ) (start now : State) (has : HasEntries m k start.seen) (lt : i < k) (so_far : Spares (IsInNoPage (entries m k start.seen)) start now) where
+module _ (m k i : ℕ) (start now : DiskState) (has : HasEntries m k start.seen) (lt : i < k) (so_far : Spares (IsInNoPage (entries m k start.seen)) start now) where
   abbrev log : List (ℕ × List ℕ)
   log = entries m k start.seen
 
@@ -58,7 +58,7 @@ module _ (m k i : ℕ) (start now : State) (has : HasEntries m k start.seen) (lt
   pub image_size : length (window (entry_place m i + 4) 4096 now.seen) ≡ 4096
   image_size = length-window (entry_place m i + 4) 4096 now.seen (omega (arith, within))
 
-  pub copy_spares : {T E : Type 0} (r : Result T E) (next : State) → Writes (page_place (number (entry_place m i) now.seen)) (window (entry_place m i + 4) 4096 now.seen) r now next → Spares (IsInNoPage log) start next
+  pub copy_spares : {T E : Type 0} (r : Result T E) (next : DiskState) → Writes (page_place (number (entry_place m i) now.seen)) (window (entry_place m i + 4) 4096 now.seen) r now next → Spares (IsInNoPage log) start next
   copy_spares r next w = spares_then (IsInNoPage log) start now next so_far
       (spares_write (IsInNoPage log) (page_place (number (entry_place m i) now.seen)) (window (entry_place m i + 4) 4096 now.seen) r now next w (λ j out. apart j (outside_page log i j (omega (arith, lt, length-entries m k start.seen)) out)))
     where
@@ -69,7 +69,7 @@ module _ (m k i : ℕ) (start now : State) (has : HasEntries m k start.seen) (lt
       apart j (inl below) = inl (omega (arith, named, below))
       apart j (inr above) = inr (omega (arith, named, above, image_size))
 
-  pub copy_image : (next : State) → Written (page_place (number (entry_place m i) now.seen)) (window (entry_place m i + 4) 4096 now.seen) now.seen next.seen
+  pub copy_image : (next : DiskState) → Written (page_place (number (entry_place m i) now.seen)) (window (entry_place m i + 4) 4096 now.seen) now.seen next.seen
       → in_place m now.seen ≡ changed (in_place m start.seen) (entries m i start.seen) → in_place m next.seen ≡ changed (in_place m start.seen) (entries m (i + 1) start.seen)
   copy_image next w before =
       image_more m (number (entry_place m i) now.seen) (window (entry_place m i + 4) 4096 now.seen) now.seen next.seen image_size low (omega (arith, within)) w
@@ -117,13 +117,13 @@ module _ (m k : ℕ) (f : List ℕ) where
           omega (arith, up, number_at i (omega (arith, lt)), subst (λ (x : ℕ). get_or (map (λ e. e.0) (entries m k f)) x 0 ≡ number (entry_place m (suc i)) f) (sym same) (number_at (suc i) lt)))
 
 -- the second number of a descriptor, on a disk that a read left as it was
-pub second_number : (a b : State) (n : ℕ) → b ≡ a → 20480 ≤ length a.seen → (8200 ≤ length b.seen → n ≡ number 8196 b.seen) → n ≡ number 8196 a.seen
-second_number a b n same long is = (let same_seen : b.seen ≡ a.seen = ap (λ (s : State). s.seen) same in is (omega (arith, ap length same_seen, long)) ∙ ap (number 8196) same_seen)
+pub second_number : (a b : DiskState) (n : ℕ) → b ≡ a → 20480 ≤ length a.seen → (8200 ≤ length b.seen → n ≡ number 8196 b.seen) → n ≡ number 8196 a.seen
+second_number a b n same long is = (let same_seen : b.seen ≡ a.seen = ap (λ (s : DiskState). s.seen) same in is (omega (arith, ap length same_seen, long)) ∙ ap (number 8196) same_seen)
 
 -- what the test of a log says
-pub tested : (m k : ℕ) (a b : State) (said : Bool) → b ≡ a → entry_place m k ≤ length a.seen → (entry_place m k ≤ length b.seen → IsTrue said ↔ Climbs m k b.seen) → IsTrue said ↔ Climbs m k a.seen
+pub tested : (m k : ℕ) (a b : DiskState) (said : Bool) → b ≡ a → entry_place m k ≤ length a.seen → (entry_place m k ≤ length b.seen → IsTrue said ↔ Climbs m k b.seen) → IsTrue said ↔ Climbs m k a.seen
 tested m k a b said same long says =
-    let same_seen : b.seen ≡ a.seen = ap (λ (s : State). s.seen) same in
+    let same_seen : b.seen ≡ a.seen = ap (λ (s : DiskState). s.seen) same in
     subst (λ (f : List ℕ). IsTrue said ↔ Climbs m k f) same_seen (says (omega (arith, ap length same_seen, long)))
 
 pub has_log : (m k : ℕ) (f : List ℕ) → m ≤ 4000000 → 0 < k → k ≤ m → entry_place m k ≤ length f → Climbs m k f → HasLog m k f

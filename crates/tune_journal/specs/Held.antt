@@ -1,7 +1,7 @@
 -- What contracts see of a journal and of the states of a commit: a disk, and the lists of pages that stand on it.
 use Rattle.std.specs.Prelude.{ℕ, ◌≤◌, List, refl}
 use Rattle.std.specs.Coded.{Coded, code_by, coded×, coded_list, coded_ℕ}
-use Rattle.tune_disk.specs.Disk.{State}
+use Rattle.tune_disk.specs.Disk.{DiskState}
 use Rattle.tune_journal.specs.Image.{in_place, log_of}
 use Rattle.tune_journal.specs.Pages.{changed}
 use Rattle.tune_journal.specs.Rest.{IsAtRest, IsLogged, IsOpened, IsApplied}
@@ -40,7 +40,7 @@ module _ {D : Type 0} where
       code_by (D × (List (List ℕ) × (List (ℕ × List ℕ) × List (List ℕ)))) (coded× code (coded× (coded_list (coded_list coded_ℕ)) (coded× (coded_list (coded× coded_ℕ (coded_list coded_ℕ))) (coded_list (coded_list coded_ℕ)))))
       (λ h. (h.device, (h.pages, (h.changes, h.next)))) (λ p. record { device = p.0; pages = p.1.0; changes = p.1.1.0; next = p.1.1.1 }) (λ _. refl)
 
-  module _ (state : D → State) where
+  module _ (state : D → DiskState) where
     -- the first n pages of the disk
     abbrev pub held : D → ℕ → Held D
     held device n = record { device = device; pages = in_place n (state device).seen }
@@ -63,7 +63,7 @@ module _ {D : Type 0} where
     }
 
   -- A count is in bounds whatever the disk answered; the rest is told of an honest disk alone.
-  module _ (honest : D → Type 0) (state : D → State) where
+  module _ (honest : D → Type 0) (state : D → DiskState) where
     pub record IsSound (device : D) (n : ℕ) : Type 0 where
       pub least : 1 ≤ n
       pub most : n ≤ 4000000

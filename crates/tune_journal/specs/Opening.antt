@@ -1,6 +1,6 @@
 -- What opening looks at.
 use Rattle.std.specs.Prelude.{◌≡◌, ◌≢◌, ◌⊎◌, ℕ, zero, suc, ◌+◌, ◌<◌, ◌≤◌, List, length}
-use Rattle.tune_disk.specs.Disk.{State, GoesTo, settled}
+use Rattle.tune_disk.specs.Disk.{DiskState, GoesTo, settled}
 use Rattle.tune_journal.specs.Image.{number, window, magic, entry_place, gate_of, count_of, new_count_of, IsHeaded, HasCount, HasLog, StandsFor}
 use Rattle.tune_journal.specs.declared.look.Found.{Found}
 use Rattle.tune_journal.specs.declared.look.Found.TheVariants.{NotArchive, Damaged, Closed, Open}
@@ -15,12 +15,12 @@ abbrev pub Climbs : ℕ → ℕ → List ℕ → Type 0
 Climbs m k file = (i : ℕ) → i < k → (least_of m i file ≤ number (entry_place m i) file) × (number (entry_place m i) file < m)
 
 -- a sync, and nothing else
-pub record IsSynced (old new : State) : Type 0 where
+pub record IsSynced (old new : DiskState) : Type 0 where
   pub seen : new.seen ≡ old.seen
   pub goes : GoesTo (settled old.seen) old new
 
 -- such a sync, or not even that
-abbrev pub IsSyncedOrSame : State → State → Type 0
+abbrev pub IsSyncedOrSame : DiskState → DiskState → Type 0
 IsSyncedOrSame old new = (new ≡ old) ⊎ IsSynced old new
 
 -- this file stands for no pages

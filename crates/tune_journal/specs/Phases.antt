@@ -1,19 +1,19 @@
 -- What the calls of a commit do to a device.
 use Rattle.std.specs.Prelude.{◌≡◌, ◌⊎◌, ℕ, ◌+◌, ◌*◌, ◌<◌, ◌≤◌, List, [], ◌∷◌, ◌++◌, length, Result, MatchResult}
 use Rattle.byteorder.specs.Endian.{big_bytes}
-use Rattle.tune_disk.specs.Disk.{State, GoesTo, settled}
+use Rattle.tune_disk.specs.Disk.{DiskState, GoesTo, settled}
 use Rattle.tune_disk.specs.Stops.{Spares}
 use Rattle.tune_journal.specs.ChangeList.{change_at}
 use Rattle.tune_journal.specs.Image.{window, page_place, entry_place}
 
 -- writes that keep these places, and then a sync
-pub record Settles (Kept : ℕ → Type 0) (old new : State) : Type 0 where
-  pub mid : State
+pub record Settles (Kept : ℕ → Type 0) (old new : DiskState) : Type 0 where
+  pub mid : DiskState
   pub spares : Spares Kept old mid
   pub seen : new.seen ≡ mid.seen
   pub goes : GoesTo (settled mid.seen) mid new
 
-abbrev pub WritesAndSyncs : {T E : Type 0} → (ℕ → Type 0) → Result T E → State → State → Type 0
+abbrev pub WritesAndSyncs : {T E : Type 0} → (ℕ → Type 0) → Result T E → DiskState → DiskState → Type 0
 WritesAndSyncs Kept result old new = MatchResult result (λ _. Settles Kept old new) (λ _. Spares Kept old new)
 
 -- the log's place and the descriptor are free to write

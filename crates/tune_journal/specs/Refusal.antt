@@ -1,13 +1,13 @@
 -- Why a file is not opened.
 use Rattle.std.specs.Prelude.{◌≡◌, ◌≢◌, ℕ, ◌<◌, ◌≤◌, length}
-use Rattle.tune_disk.specs.Disk.{State, Rises}
+use Rattle.tune_disk.specs.Disk.{DiskState, Rises}
 use Rattle.tune_journal.specs.Image.{window, magic}
 use Rattle.tune_journal.specs.Opening.{IsSynced, StandsForNone}
 use Rattle.tune_journal.specs.declared.fault.OpenFault.{OpenFault}
 use Rattle.tune_journal.specs.declared.fault.OpenFault.TheVariants.{NotArchive, Damaged, NotEmpty, OutOfMemory, Device}
 
 -- Where the file is at fault nothing was written.
-abbrev pub IsRefusedFor : OpenFault → State → State → Type 0
+abbrev pub IsRefusedFor : OpenFault → DiskState → DiskState → Type 0
 IsRefusedFor NotArchive old new = IsSynced old new × (8 ≤ length old.seen → window 0 8 old.seen ≢ magic)
 IsRefusedFor Damaged old new = IsSynced old new × (window 0 8 old.seen ≡ magic) × (8 ≤ length old.seen) × StandsForNone old.seen
 IsRefusedFor NotEmpty old new = ⊥
@@ -31,7 +31,7 @@ CountsFailureWhere Honest NotEmpty old new = new ≡ old
 CountsFailureWhere Honest OutOfMemory old new = new ≡ old
 
 -- Why a journal is not made. On a disk with a byte nothing was written.
-abbrev pub IsUnmadeFor : OpenFault → State → State → Type 0
+abbrev pub IsUnmadeFor : OpenFault → DiskState → DiskState → Type 0
 IsUnmadeFor NotEmpty old new = IsSynced old new × (0 < length old.seen)
 IsUnmadeFor Device old new = Unit {0}
 IsUnmadeFor NotArchive old new = ⊥

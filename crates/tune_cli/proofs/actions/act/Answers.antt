@@ -1,13 +1,13 @@
 use Rattle.std.proofs.Common.{List, Option, ℕ, subst}
 use Rattle.std.specs.Prelude.{⊤}
-use Rattle.tune_archive.specs.State.{State}
-use Rattle.tune_archive.specs.Answers.{open_at}
-use Rattle.tune_cli.specs.declared.runs.TheConstants.{MOST_LINES}
+use Rattle.tune_store.specs.State.{State}
+use Rattle.tune_store.specs.Answers.{open_at}
+use Rattle.tune_scripts.specs.declared.runs.TheConstants.{MOST_LINES}
 use Rattle.tune_cli.specs.declared.command_line.Action.{Action}
 use Rattle.tune_cli.specs.declared.command_line.Action.TheVariants as action
 use Rattle.tune_cli.specs.Acts.{Acts, ListsScript}
-use Rattle.tune_cli.specs.Scripts.{Told, TellsScript}
-use Rattle.tune_cli.proofs.ScriptLemmas.{told_by, tells_output}
+use Rattle.tune_scripts.specs.Scripts.{Told, TellsScript}
+use Rattle.tune_scripts.proofs.ScriptLemmas.{told_by, tells_output}
 use Rattle.tune_cli.proofs.actions.act.Goals as goal
 
 -- each action is to run a script

@@ -1,5 +1,5 @@
 use Rattle.std.proofs.Common.{◌≡◌, ◌↔◌, ◌≤◌, ℕ, IsTrue, length, sym, ◌∙◌, subst, arith}
-use Rattle.tune_disk.specs.Disk.{State}
+use Rattle.tune_disk.specs.Disk.{DiskState}
 use Rattle.tune_journal.specs.Image.{number, entry_place, HasLog}
 use Rattle.tune_journal.specs.Opening.{Climbs}
 use Rattle.tune_journal.proofs.Recovery.{second_number, tested, has_log, log_climbs, not_log, true_gives, false_gives}
@@ -7,7 +7,7 @@ use Rattle.tune_journal.proofs.look.look_open.Goals as goal
 
 pub returns-then-count-gt-MOST_PAGES-clause-sees : goal.returns-then-count-gt-MOST_PAGES-clause-sees
 returns-then-count-gt-MOST_PAGES-clause-sees g c = λ h size long log.
-    (let old : State = g.D.Disk.state c.args.device.now in
+    (let old : DiskState = g.D.Disk.state c.args.device.now in
     let h1 = c.in_ok-entries.ensures.honest h in
     let count : c.in_ok-count.count ≡ number 8192 old.seen = c.in_ok-count.ensures.number h1 (omega (arith, size, long)) in
     let entries : c.in_ok-entries.entries ≡ number 8196 old.seen = second_number old _ _ (c.in_ok-count.ensures.state h1) (omega (arith, size, long)) (c.in_ok-entries.ensures.number h) in
@@ -15,7 +15,7 @@ returns-then-count-gt-MOST_PAGES-clause-sees g c = λ h size long log.
 
 pub returns-then-branch-clause-sees : goal.returns-then-branch-clause-sees
 returns-then-branch-clause-sees g c = λ h size long.
-    (let old : State = g.D.Disk.state c.args.device.now in
+    (let old : DiskState = g.D.Disk.state c.args.device.now in
     let h2 = c.in_ok-check_log.ensures.honest h in
     let h1 = c.in_ok-entries.ensures.honest h2 in
     let count : c.in_ok-count.count ≡ number 8192 old.seen = c.in_ok-count.ensures.number h1 (omega (arith, size, long)) in
@@ -26,7 +26,7 @@ returns-then-branch-clause-sees g c = λ h size long.
 
 pub returns-else-branch-clause-sees : goal.returns-else-branch-clause-sees
 returns-else-branch-clause-sees g c = λ h size long log.
-    (let old : State = g.D.Disk.state c.args.device.now in
+    (let old : DiskState = g.D.Disk.state c.args.device.now in
     let h2 = c.in_ok-check_log.ensures.honest h in
     let h1 = c.in_ok-entries.ensures.honest h2 in
     let count : c.in_ok-count.count ≡ number 8192 old.seen = c.in_ok-count.ensures.number h1 (omega (arith, size, long)) in

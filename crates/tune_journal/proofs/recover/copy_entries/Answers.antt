@@ -1,7 +1,7 @@
 use Rattle.std.proofs.lemmas.Result.{err_from_is_err_and}
 use Rattle.std.proofs.Common.{ℕ, subst, ap, sym, ◌∙◌, refl}
 use Rattle.tune_disk.specs.Moments.{spares_none}
-use Rattle.tune_disk.specs.Disk.{State}
+use Rattle.tune_disk.specs.Disk.{DiskState}
 use Rattle.tune_journal.specs.Image.{in_place}
 use Rattle.tune_journal.specs.Pages.{changed}
 use Rattle.tune_journal.proofs.Recovery.{entries_none, copy_spares, copy_image, within, low}

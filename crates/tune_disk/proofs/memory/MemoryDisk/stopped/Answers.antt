@@ -1,5 +1,5 @@
 use Rattle.std.proofs.Common.{◌≡◌, rules, ◌∙◌, sym, ap, subst, List, ℕ}
-use Rattle.tune_disk.specs.Disk.{State, MayLeave}
+use Rattle.tune_disk.specs.Disk.{DiskState, MayLeave}
 use Rattle.tune_disk.specs.Stays.{stable_stays}
 use Rattle.tune_disk.specs.Memory.{memory_state, memory_stays}
 use Rattle.tune_disk.proofs.Kept.{holds_then}
@@ -14,4 +14,4 @@ returns-clause-file c =
       | in-Lost+in_ok-file-in-Lost w ↦ (let is : c.match-choice.file.items ≡ s.now.stable = search rules in subst (λ (l : List ℕ). MayLeave s.now l) (sym is) (stable_stays _ _ stays))
       | in-Kept+in_ok-file-in-Kept w ↦ (let is : c.match-choice.file.items ≡ s.seen = search rules in subst (λ (l : List ℕ). MayLeave s.now l) (sym is) stays)
     ] in
-    holds_then c.from_bytes.result _ _ c.from_bytes.ensures (λ d is. subst (λ (l : List ℕ). MayLeave s.now l) (sym (ap (λ (t : State). t.seen) is ∙ c.deref-2.ensures.value)) from)
+    holds_then c.from_bytes.result _ _ c.from_bytes.ensures (λ d is. subst (λ (l : List ℕ). MayLeave s.now l) (sym (ap (λ (t : DiskState). t.seen) is ∙ c.deref-2.ensures.value)) from)

@@ -1,6 +1,6 @@
 use Rattle.std.proofs.Common.{◌≡◌, ◌+◌, ◌<◌, ◌≤◌, ◌∙◌, [], ap, sym, length, arith, rules}
 use Rattle.std.proofs.lemmas.Result.{on_ok_weaker}
-use Rattle.tune_disk.specs.Disk.{State}
+use Rattle.tune_disk.specs.Disk.{DiskState}
 use Rattle.tune_journal.specs.Image.{window}
 use Rattle.tune_journal.proofs.Frame.{length-in_place, in_place_at}
 use Rattle.tune_journal.proofs.Windows.{shows_window}
@@ -18,7 +18,7 @@ returns-clause-page g c =
     let lt : c.args.page < c.self.inside.count = omega (arith, c.requires, size) in
     let bytes : length c.read.new.into ≡ 4096 = search rules in
     rw (← c.self.view_is) (on_ok_weaker c.read.result (λ read h.
-    (let s : State = g.D.Disk.state c.self.inside.device in
+    (let s : DiskState = g.D.Disk.state c.self.inside.device in
     let rest = c.self.invariant.rest (c.read.ensures.honest h) in
     let long : c.page_place.result + length c.read.new.into ≤ length s.seen = omega (arith, c.page_place.ensures, lt, bytes, rest.pages.long) in
     shows_window c.page_place.result c.read.new.into s.seen (read h) long

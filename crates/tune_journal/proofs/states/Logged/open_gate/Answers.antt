@@ -1,5 +1,5 @@
 use Rattle.std.proofs.Common.{◌∙◌, sym}
-use Rattle.tune_disk.specs.Disk.{State}
+use Rattle.tune_disk.specs.Disk.{DiskState}
 use Rattle.tune_journal.specs.Image.{StandsForEither, log_of, in_place}
 use Rattle.tune_journal.specs.Pages.{changed}
 use Rattle.tune_journal.specs.Phases.{IsOutside}
@@ -19,7 +19,7 @@ invariant_of-result g c = record {
 pub returns-in-Ok-clause-moments : goal.returns-in-Ok-clause-moments
 returns-in-Ok-clause-moments g c = rw (← c.self.view_is) (record {
   before = c.write_synced.ensures.honest;
-  since = λ h. (let s : State = g.D.Disk.state c.self.inside.device in
+  since = λ h. (let s : DiskState = g.D.Disk.state c.self.inside.device in
       let logged = c.self.invariant.logged (c.write_synced.ensures.honest h) in
       run_since (StandsForEither (in_place c.self.inside.count s.seen) (changed (in_place c.self.inside.new_count s.seen) (log_of s.seen))) (IsOutside 4096 1) c.write_synced.result _ _ logged.rest.settled (c.write_synced.ensures.writes h) (stands_opening c.self.inside.count c.self.inside.new_count _ logged));
 })
@@ -45,7 +45,7 @@ returns-in-Ok-clause-count g c = rw (← c.self.view_is)
 pub returns-in-Err-clause-moments : goal.returns-in-Err-clause-moments
 returns-in-Err-clause-moments g c = rw (← c.self.view_is) (record {
   before = c.write_synced.ensures.honest;
-  since = λ h. (let s : State = g.D.Disk.state c.self.inside.device in
+  since = λ h. (let s : DiskState = g.D.Disk.state c.self.inside.device in
       let logged = c.self.invariant.logged (c.write_synced.ensures.honest h) in
       run_since (StandsForEither (in_place c.self.inside.count s.seen) (changed (in_place c.self.inside.new_count s.seen) (log_of s.seen))) (IsOutside 4096 1) c.write_synced.result _ _ logged.rest.settled (c.write_synced.ensures.writes h) (stands_opening c.self.inside.count c.self.inside.new_count _ logged));
 })

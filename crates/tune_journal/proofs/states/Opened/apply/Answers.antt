@@ -1,5 +1,5 @@
 use Rattle.std.proofs.Common.{◌≡◌, ◌<◌, ◌∙◌, sym, ap, subst, ℕ, List, All, length, arith}
-use Rattle.tune_disk.specs.Disk.{State}
+use Rattle.tune_disk.specs.Disk.{DiskState}
 use Rattle.tune_journal.specs.Image.{StandsFor, log_of, number, entries, in_place}
 use Rattle.tune_journal.specs.Pages.{changed}
 use Rattle.tune_journal.specs.Phases.{KeepsBoth, WritesAndSyncs, Settles}
@@ -21,7 +21,7 @@ invariant_of-result g c = record {
   most = c.self.invariant.most;
   applied = λ h. (let old = c.in-Ok.ensures.honest h in
       let m = c.self.inside.new_count in
-      let s : State = g.D.Disk.state c.self.inside.device in
+      let s : DiskState = g.D.Disk.state c.self.inside.device in
       let opened = c.self.invariant.opened old in
       let log : c.args.changes.now ≡ log_of s.seen = c.requires.log (subst (λ x. g.D.Disk.honest x.device) c.self.view_is old) ∙ ap (λ x. x.changes) (sym c.self.view_is) in
       let is : c.args.changes.now ≡ entries m (number 8196 s.seen) s.seen = log ∙ log_same m s.seen opened.new_count in
@@ -36,7 +36,7 @@ returns-in-Ok-clause-moments g c = rw (← c.self.view_is) (record {
   before = c.write_pages.ensures.honest;
   since = λ h. (let old = c.write_pages.ensures.honest h in
       let m = c.self.inside.new_count in
-      let s : State = g.D.Disk.state c.self.inside.device in
+      let s : DiskState = g.D.Disk.state c.self.inside.device in
       let opened = c.self.invariant.opened old in
       let same : log_of s.seen ≡ entries m (number 8196 s.seen) s.seen = log_same m s.seen opened.new_count in
       let log : c.args.changes.now ≡ log_of s.seen = c.requires.log (subst (λ x. g.D.Disk.honest x.device) c.self.view_is old) ∙ ap (λ x. x.changes) (sym c.self.view_is) in
@@ -58,7 +58,7 @@ returns-in-Err-clause-moments g c = rw (← c.self.view_is) (record {
   before = c.write_pages.ensures.honest;
   since = λ h. (let old = c.write_pages.ensures.honest h in
       let m = c.self.inside.new_count in
-      let s : State = g.D.Disk.state c.self.inside.device in
+      let s : DiskState = g.D.Disk.state c.self.inside.device in
       let opened = c.self.invariant.opened old in
       let same : log_of s.seen ≡ entries m (number 8196 s.seen) s.seen = log_same m s.seen opened.new_count in
       let log : c.args.changes.now ≡ log_of s.seen = c.requires.log (subst (λ x. g.D.Disk.honest x.device) c.self.view_is old) ∙ ap (λ x. x.changes) (sym c.self.view_is) in

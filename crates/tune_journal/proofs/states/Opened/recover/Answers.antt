@@ -1,5 +1,5 @@
 use Rattle.std.proofs.Common.{◌≡◌, sym, ◌∙◌, subst, ap, length, ℕ, List, arith}
-use Rattle.tune_disk.specs.Disk.{State}
+use Rattle.tune_disk.specs.Disk.{DiskState}
 use Rattle.tune_journal.specs.Image.{StandsFor, log_of, number, entries, in_place}
 use Rattle.tune_journal.specs.Pages.{changed}
 use Rattle.tune_journal.specs.Opening.{HasEntries}
@@ -12,10 +12,10 @@ use Rattle.tune_journal.proofs.Frame.{stands_applying, applied_after, log_same, 
 use Rattle.tune_journal.proofs.states.Opened.recover.Goals as goal
 
 -- the number of entries that a descriptor tells, by the log's own length
-told : (s : State) (k : ℕ) → length (log_of s.seen) ≡ k → number 8196 s.seen ≡ k
+told : (s : DiskState) (k : ℕ) → length (log_of s.seen) ≡ k → number 8196 s.seen ≡ k
 told s k is = sym (length-entries (number 8192 s.seen) (number 8196 s.seen) s.seen) ∙ is
 
-log_by : (m k : ℕ) (s : State) → IsOpened m s → number 8196 s.seen ≡ k → entries m k s.seen ≡ log_of s.seen
+log_by : (m k : ℕ) (s : DiskState) → IsOpened m s → number 8196 s.seen ≡ k → entries m k s.seen ≡ log_of s.seen
 log_by m k s opened is = ap (λ (j : ℕ). entries m j s.seen) (sym is) ∙ sym (log_same m s.seen opened.new_count)
 
 pub copy_log-requires : goal.copy_log-requires
@@ -30,7 +30,7 @@ invariant_of-result g c = record {
   most = c.self.invariant.most;
   applied = λ h. (let m = c.self.inside.new_count in
       let k = c.args.entries in
-      let s : State = g.D.Disk.state c.self.inside.device in
+      let s : DiskState = g.D.Disk.state c.self.inside.device in
       let old = c.copy_log.ensures.honest h in
       let opened = c.self.invariant.opened old in
       let is : number 8196 s.seen ≡ k = told s k (ap (λ x. length x.changes) c.self.view_is ∙ c.requires.entries (subst (λ x. g.D.Disk.honest x.device) c.self.view_is old)) in
@@ -46,7 +46,7 @@ returns-in-Ok-clause-moments g c = rw (← c.self.view_is) (record {
   before = c.copy_log.ensures.honest;
   since = λ h. (let m = c.self.inside.new_count in
       let k = c.args.entries in
-      let s : State = g.D.Disk.state c.self.inside.device in
+      let s : DiskState = g.D.Disk.state c.self.inside.device in
       let old = c.copy_log.ensures.honest h in
       let opened = c.self.invariant.opened old in
       let is : number 8196 s.seen ≡ k = told s k (ap (λ x. length x.changes) c.self.view_is ∙ c.requires.entries (subst (λ x. g.D.Disk.honest x.device) c.self.view_is old)) in
@@ -61,7 +61,7 @@ pub returns-in-Ok-clause-pages : goal.returns-in-Ok-clause-pages
 returns-in-Ok-clause-pages g c = rw (← c.self.view_is) (λ h.
     (let m = c.self.inside.new_count in
     let k = c.args.entries in
-    let s : State = g.D.Disk.state c.self.inside.device in
+    let s : DiskState = g.D.Disk.state c.self.inside.device in
     let old = c.copy_log.ensures.honest h in
     let opened = c.self.invariant.opened old in
     let is : number 8196 s.seen ≡ k = told s k (ap (λ x. length x.changes) c.self.view_is ∙ c.requires.entries (subst (λ x. g.D.Disk.honest x.device) c.self.view_is old)) in
@@ -76,7 +76,7 @@ returns-in-Err-clause-moments g c = rw (← c.self.view_is) (record {
   before = c.copy_log.ensures.honest;
   since = λ h. (let m = c.self.inside.new_count in
       let k = c.args.entries in
-      let s : State = g.D.Disk.state c.self.inside.device in
+      let s : DiskState = g.D.Disk.state c.self.inside.device in
       let old = c.copy_log.ensures.honest h in
       let opened = c.self.invariant.opened old in
       let is : number 8196 s.seen ≡ k = told s k (ap (λ x. length x.changes) c.self.view_is ∙ c.requires.entries (subst (λ x. g.D.Disk.honest x.device) c.self.view_is old)) in
@@ -91,7 +91,7 @@ pub returns-in-Err-clause-failures : goal.returns-in-Err-clause-failures
 returns-in-Err-clause-failures g c = rw (← c.self.view_is) (λ h.
     (let m = c.self.inside.new_count in
     let k = c.args.entries in
-    let s : State = g.D.Disk.state c.self.inside.device in
+    let s : DiskState = g.D.Disk.state c.self.inside.device in
     let old = c.copy_log.ensures.honest h in
     let opened = c.self.invariant.opened old in
     let is : number 8196 s.seen ≡ k = told s k (ap (λ x. length x.changes) c.self.view_is ∙ c.requires.entries (subst (λ x. g.D.Disk.honest x.device) c.self.view_is old)) in

@@ -1,5 +1,0 @@
-use Rattle.std.proofs.Common.{◌<◌, All}
-use Rattle.journal_tests.proofs.pages.changes.Given as goal
-
-abbrev pub invariant-loop-page : goal.invariant-loop-page
-invariant-loop-page l = All (λ change. change.0 < l.count) l.changes

@@ -1,0 +1,136 @@
+// Lines, books and archives, called as a library.
+use abc_fields::{BookFault, ByteText, Lines, TuneFault, split_book};
+use std::alloc::Global;
+use std::test::Fail;
+use tune_store::{Command, ListArchive, MOST_TUNES, Refusal, Reply, TuneStore};
+
+#[test]
+fn reads_lines_with_each_ending(rt: HostRuntime) {
+    let text = b"a\nbc\r\n\rd\r\r\n\n e";
+    let wanted = [
+        (0, 1, b"a".as_slice()),
+        (2, 4, b"bc"),
+        (6, 6, b""),
+        (7, 8, b"d"),
+        (9, 9, b""),
+        (11, 11, b""),
+        (12, 14, b" e"),
+    ];
+    let mut lines = Lines::new(text);
+    for (from, to, line) in wanted {
+        let found = lines.next().map(|l| (l.from, l.to, l.text));
+        assert_eq!(&rt; found, Some((from, to, line)));
+    }
+    assert!(&rt; lines.next().is_none());
+    assert!(&rt; Lines::new(b"").next().is_none());
+    assert_eq!(&rt; Lines::new(b"\n").count(), 1);
+    assert_eq!(&rt; Lines::new(b"\xef\xbb\xbf").count(), 1);
+}
+
+#[test]
+fn splits_a_book_into_the_texts_of_its_tunes(rt: HostRuntime) -> Result<(), Fail> {
+    let book = b"\n \nX:5\nT:a\nK:C\nX:\nT:b\nK:C\nABc|\n\nfree text\nK:D\n\nX:5\nK:C";
+    let tunes = split_book(rt.alloc(), book, 14)?;
+    assert_eq!(&rt; tunes.len(), 3);
+    for (place, wanted) in [
+        (0, b"T:a\nK:C\n".as_slice()),
+        (1, b"T:b\nK:C\nABc|\n"),
+        (2, b"K:C\n"),
+    ] {
+        assert_eq!(&rt; tunes.get(place).map(|tune| tune.bytes()), Some(wanted));
+    }
+    Ok(())
+}
+
+// The refusal of a book.
+fn refusal(alloc: Global, book: &[u8], longest: usize) -> Option<BookFault> {
+    split_book(alloc, book, longest).err()
+}
+
+#[test]
+fn refuses_books(rt: HostRuntime) {
+    let no_key = TuneFault::NoKey;
+    let too_long = TuneFault::TooLong;
+    for (book, longest, wanted) in [
+        (b"".as_slice(), 14, BookFault::NoTune),
+        (b" \n\t\n", 14, BookFault::NoTune),
+        (b"a\n", 14, BookFault::NotPlain),
+        (b"X:1\r\nK:C\r\n", 14, BookFault::NotPlain),
+        (b"\xef\xbb\xbfX:1\nK:C\n", 14, BookFault::NotPlain),
+        (b"T:a\nX:1\nK:C\n", 14, BookFault::NotPlain),
+        (
+            b"X:1\nK:C\nX:2\nT:a\n",
+            14,
+            BookFault::BadTune {
+                place: 2,
+                fault: no_key,
+            },
+        ),
+        (
+            b"X:1\nK:C\n",
+            3,
+            BookFault::BadTune {
+                place: 1,
+                fault: too_long,
+            },
+        ),
+        (
+            b"X:1\nT:abc\n",
+            3,
+            BookFault::BadTune {
+                place: 1,
+                fault: no_key,
+            },
+        ),
+        (
+            b"X:1\nK:C\nX:2\nK:C\nABc|\n\nX:3\n",
+            8,
+            BookFault::BadTune {
+                place: 2,
+                fault: too_long,
+            },
+        ),
+    ] {
+        assert_eq!(&rt; refusal(rt.alloc(), book, longest), Some(wanted));
+    }
+}
+
+#[test]
+fn copies_are_their_sources(rt: HostRuntime) -> Result<(), Fail> {
+    let book = b"X:1\nT:\xff\nK:C\n";
+    assert_eq!(&rt;
+        ByteText::copy_of(rt.alloc(), book)?.as_slice(),
+        book.as_slice()
+    );
+    let tunes = split_book(rt.alloc(), book, 16_000)?;
+    let tune = tunes.first().ok_or("no tune")?;
+    assert_eq!(&rt; tune.copy(rt.alloc())?.bytes(), b"T:\xff\nK:C\n".as_slice());
+    Ok(())
+}
+
+#[test]
+fn holds_as_many_tunes_as_it_may(rt: HostRuntime) -> Result<(), Fail> {
+    let import = Command::Import(ByteText::copy_of(rt.alloc(), b"X:1\nK:C\n")?);
+    let mut archive = ListArchive::new(rt.alloc());
+    for _ in 0..MOST_TUNES {
+        assert!(&rt; archive.apply(&import).is_ok());
+    }
+    assert_eq!(&rt; archive.apply(&import).err(), Some(Refusal::ArchiveFull));
+    assert_eq!(&rt;
+        archive.apply(&Command::Show(20_001)).err(),
+        Some(Refusal::Unknown { number: 20_001 })
+    );
+    for number in [1, 2, 9_999, 10_000, 19_999, 20_000] {
+        match archive.apply(&Command::Show(number))? {
+            Reply::Shown(tune) => {
+                assert_eq!(&rt;
+                    (tune.number, tune.revision, tune.text.bytes()),
+                    (number, 1, b"K:C\n".as_slice())
+                );
+                assert_eq!(&rt; tune.copy(rt.alloc())?.text.bytes(), b"K:C\n".as_slice());
+            }
+            _ => return Err(Fail::from("no tune is shown")),
+        }
+    }
+    Ok(())
+}

@@ -1,0 +1,31 @@
+-- A record of what a device has held: a file of one number in each entry.
+use Rattle.std.specs.Prelude.{◌≡◌, ℕ, ◌-◌, ◌<◌, ◌≤◌, List, [], ◌∷◌, length, slice_index}
+use Rattle.std.proofs.Common.{ap, ◌∙◌, arith}
+use Rattle.tune_store.specs.State.{State}
+
+-- the place of the last entry
+abbrev pub last_place : List ℕ → ℕ
+last_place entries = length entries - 1
+
+-- an entry from this place on is the one number of the file
+pub record LeftSince (entries : List ℕ) (since : ℕ) (file : List ℕ) : Type 0 where
+  pub place : ℕ
+  pub from : since ≤ place
+  pub within : place < length entries
+  pub entry : file ≡ slice_index entries place ∷ []
+
+-- the file is how many tunes the state has
+abbrev pub IsOfCount : List ℕ → State → Type 0
+IsOfCount file state = file ≡ length state.tunes ∷ []
+
+-- the last entry is how many tunes the state has
+abbrev pub EndsAt : List ℕ → State → Type 0
+EndsAt entries state = slice_index entries (last_place entries) ≡ length state.tunes
+
+-- a file of the last entry stands for the state
+pub settles : (entries : List ℕ) (state : State) (file : List ℕ) → EndsAt entries state → LeftSince entries (last_place entries) file → IsOfCount file state
+settles entries state file ends left =
+    let from = left.from in
+    let within = left.within in
+    let last : left.place ≡ last_place entries = omega arith in
+    left.entry ∙ ap (λ place. slice_index entries place ∷ []) last ∙ ap (λ number. number ∷ []) ends

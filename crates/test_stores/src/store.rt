@@ -1,0 +1,69 @@
+// A store whose stops leave something.
+ghost use Rattle.std.specs.Prelude.{◌≡◌, ◌+◌, ◌<◌, ◌≤◌, [], ◌∷◌, ◌++◌, false, IfOk, vec_len};
+ghost use Rattle.std.specs.Vec.{vec_capacity};
+ghost use Rattle.test_stores.specs.Record.{LeftSince, IsOfCount, EndsAt, last_place, settles};
+
+use std::alloc::{AllocError, Global};
+use tune_store::{Command, ListArchive, Refusal, Reply, TuneStore};
+
+/// A fake store: an archive in memory, and the record of a device that holds one number, how many tunes there are.
+/// Each accepted command writes it, and each entry is a file that a stop may have left: the last now, the others earlier.
+#[derive(Drop)]
+pub struct RecordedStore {
+    archive: ListArchive,
+    entries: Vec<usize>,
+}
+
+impl RecordedStore {
+    /// A store without a tune, whose record begins with that. The error is want of memory.
+    pub fn new(alloc: Global) -> Result<RecordedStore, AllocError>
+        ensures standing { IfOk result (λ store. ⟦<RecordedStore as TuneStore>⟧.standing store ≡ record { state = record { tunes = [] }; closed = false }) }
+        ensures entries { IfOk result (λ store. store.entries.items ≡ 0 ∷ []) }
+        ensures sound { IfOk result (λ store. ⟦<RecordedStore as TuneStore>⟧.sound store) }
+    {
+        let mut entries = Vec::new(alloc);
+        entries.push(0)?;
+        Ok(RecordedStore {
+            archive: ListArchive::new(alloc),
+            entries,
+        })
+    }
+
+    /// What the device has held, in order.
+    pub fn entries(&self) -> &[usize]
+        ensures { result.now ≡ self.now.entries.items }
+    {
+        self.entries.as_slice()
+    }
+}
+
+impl TuneStore for RecordedStore {
+    ghost standing = { λ store. record { state = store.archive; closed = false } };
+
+    ghost sound = { λ store. EndsAt store.entries.items store.archive };
+
+    ghost moment = { λ store. last_place store.entries.items };
+
+    ghost left_since = { λ store. LeftSince store.entries.items };
+
+    ghost stands_for = { IsOfCount };
+
+    ghost settled = { λ store file sound honest is_open left. settles store.entries.items store.archive file sound left };
+
+    fn apply(&mut self, command: &Command) -> Result<Reply, Refusal> {
+        self.entries.reserve(1)?;
+        let reply = self.archive.apply(command)?;
+        add_entry(&mut self.entries, self.archive.len());
+        Ok(reply)
+    }
+}
+
+// Adds an entry, for which there is room.
+fn add_entry(entries: &mut Vec<usize>, entry: usize)
+    requires { vec_len entries.old < vec_capacity entries.old }
+    ensures entries { entries.new.items ≡ entries.old.items ++ entry ∷ [] }
+    ensures len { vec_len entries.new ≡ vec_len entries.old + 1 }
+    ensures capacity { vec_capacity entries.old ≤ vec_capacity entries.new }
+{
+    entries.push(entry).unwrap()
+}

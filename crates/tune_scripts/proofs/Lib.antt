@@ -1,0 +1,5 @@
+pub mod Decimals
+pub mod ReadLemmas
+pub mod TakenFields
+pub mod ScriptLemmas
+pub mod StopLemmas

@@ -1,0 +1,271 @@
+-- Lists of tunes by rising number.
+use Rattle.std.proofs.Common.{◌≡◌, ℕ, zero, suc, ◌+◌, ◌<◌, ◌≤◌, max, Bool, true, false, not, cond, eqb, ltb, List, [], ◌∷◌, ◌++◌, length, take, drop, get_or, Option, Some, None, Ok, Err, refl, ap, sym, subst, ◌∙◌, arith, add-zero, inl, inr, length-append}
+use Rattle.std.proofs.Math.ListN.{set}
+use Rattle.std.specs.List.{AllByRecursion, AllWithin}
+use Rattle.std.specs.Cmp.{ranked}
+use Rattle.std.specs.Ordering.{ordering_index, nat_cmp}
+use Rattle.std.specs.declared.cmp.Ordering.TheVariants.{Less, Greater}
+use Rattle.std.proofs.lemmas.Bool.Decides.{nat_tests}
+use Rattle.std.proofs.lemmas.Bool.{ne_eqb, eq-eqb, eqb-true, ltb-true, cases_lt, cases_Bool}
+use Rattle.abc_fields.specs.Tunes.{IsTextWithin}
+use Rattle.tune_store.specs.State.{RisesFrom, greatest, IsTune, IsState}
+use Rattle.tune_store.specs.Step.{Outcome, tune_at, numbered, with_tune, without, revised, replace_tune}
+use Rattle.tune_store.specs.declared.tune.Tune.{Tune}
+use Rattle.tune_store.specs.declared.tune.TheConstants.{LONGEST_TEXT, MOST_TUNES, GREATEST_NUMBER, GREATEST_REVISION}
+use Rattle.tune_store.specs.declared.command.Reply.TheVariants.{Replaced}
+use Rattle.tune_store.specs.declared.command.Refusal.TheVariants.{Stale, Worn}
+
+-- the last number is the greatest
+pub greatest_last : (low : ℕ) (tunes : List Tune) (n : ℕ) (d : Tune) → RisesFrom low tunes → n + 1 ≡ length tunes → greatest tunes ≡ (get_or tunes n d).number
+greatest_last low [] n d rises l = absurd (omega arith)
+greatest_last low (tune ∷ []) zero d rises l = omega arith
+greatest_last low (tune ∷ []) (suc n) d rises l = absurd (omega arith)
+greatest_last low (tune ∷ next ∷ tunes) zero d rises l = absurd (omega arith)
+greatest_last low (tune ∷ next ∷ tunes) (suc n) d rises l =
+    let later : greatest (next ∷ tunes) ≡ (get_or (next ∷ tunes) n d).number = greatest_last tune.number (next ∷ tunes) n d rises.1 (omega arith) in
+    let top : max tune.number (greatest (next ∷ tunes)) ≡ greatest (next ∷ tunes) = omega arith in
+    top ∙ later
+
+pub greatest-append : (tunes more : List Tune) → greatest (tunes ++ more) ≡ max (greatest tunes) (greatest more)
+greatest-append [] more = omega arith
+greatest-append (tune ∷ tunes) more = let e = greatest-append tunes more in omega arith
+
+-- one list of rising numbers after another
+rises-append : (low : ℕ) (tunes more : List Tune) → RisesFrom low tunes → RisesFrom (max low (greatest tunes)) more → RisesFrom low (tunes ++ more)
+rises-append low [] more rises later =
+    let P : ℕ → Type 0 = λ n. RisesFrom n more in let same : max low 0 ≡ low = omega arith in subst P same later
+rises-append low (tune ∷ tunes) more rises later =
+    let P : ℕ → Type 0 = λ n. RisesFrom n more in
+    let first = rises.0 in
+    let same : max low (max tune.number (greatest tunes)) ≡ max tune.number (greatest tunes) = omega arith in
+    (rises.0, rises-append tune.number tunes more rises.1 (subst P same later))
+
+each-append : (tunes more : List Tune) → AllByRecursion IsTune tunes → AllByRecursion IsTune more → AllByRecursion IsTune (tunes ++ more)
+each-append [] more each later = later
+each-append (tune ∷ tunes) more each later = (each.0, each-append tunes more each.1 later)
+
+-- NEW TUNES
+numbered-push : (number : ℕ) (texts : List (List ℕ)) (text : List ℕ) → numbered number (texts ++ text ∷ []) ≡ numbered number texts ++ record { number = number + length texts; revision = 1; text = text } ∷ []
+numbered-push number [] text = rw add-zero refl
+numbered-push number (first ∷ texts) text =
+    let place : number + 1 + length texts ≡ number + length (first ∷ texts) = omega arith in
+    ap (λ tunes. record { number = number; revision = 1; text = first } ∷ tunes)
+    (numbered-push (number + 1) texts text ∙ ap (λ n. numbered (number + 1) texts ++ record { number = n; revision = 1; text = text } ∷ []) place)
+
+-- the next of new tunes goes to their end
+pub numbered_next : (first number : ℕ) (texts : List (List ℕ)) (text : List ℕ) → number ≡ first + length texts → numbered first texts ++ record { number = number; revision = 1; text = text } ∷ [] ≡ numbered first (texts ++ text ∷ [])
+numbered_next first number texts text e = sym (numbered-push first texts text ∙ ap (λ n. numbered first texts ++ record { number = n; revision = 1; text = text } ∷ []) (sym e))
+
+pub length-numbered : (number : ℕ) (texts : List (List ℕ)) → length (numbered number texts) ≡ length texts
+length-numbered number [] = refl
+length-numbered number (text ∷ texts) = let e = length-numbered (number + 1) texts in omega arith
+
+pub greatest-numbered : (number : ℕ) (text : List ℕ) (texts : List (List ℕ)) → greatest (numbered number (text ∷ texts)) ≡ number + length texts
+greatest-numbered number text [] = omega arith
+greatest-numbered number text (next ∷ texts) = let e = greatest-numbered (number + 1) next texts in omega arith
+
+-- new numbers from this one on are not above the last of them
+greatest-numbered-le : (number : ℕ) (texts : List (List ℕ)) → greatest (numbered number texts) ≤ number + length texts
+greatest-numbered-le number [] = omega arith
+greatest-numbered-le number (text ∷ texts) = let e = greatest-numbered number text texts in omega arith
+
+rises-numbered : (low number : ℕ) (texts : List (List ℕ)) → low < number → RisesFrom low (numbered number texts)
+rises-numbered low number [] l = tt
+rises-numbered low number (text ∷ texts) l = (l, rises-numbered number (number + 1) texts (omega arith))
+
+each-numbered : (number : ℕ) (texts : List (List ℕ)) → AllByRecursion (IsTextWithin LONGEST_TEXT) texts → AllByRecursion IsTune (numbered number texts)
+each-numbered number [] within = tt
+each-numbered number (text ∷ texts) within =
+    (record { revised = omega arith; revision = omega arith; text = within.0.tune_text; fits = within.0.fits }, each-numbered (number + 1) texts within.1)
+
+-- new tunes of good texts keep the limits, where there is room for them
+pub state_after_import : (tunes : List Tune) (texts : List (List ℕ)) → IsState (record { tunes = tunes }) → AllByRecursion (IsTextWithin LONGEST_TEXT) texts
+    → length tunes + length texts ≤ MOST_TUNES → greatest tunes + length texts ≤ GREATEST_NUMBER → IsState (record { tunes = tunes ++ numbered (greatest tunes + 1) texts })
+state_after_import tunes texts is within room numbers =
+    let P : ℕ → Type 0 = λ n. RisesFrom n (numbered (greatest tunes + 1) texts) in
+    let low : greatest tunes ≡ max 0 (greatest tunes) = omega arith in
+    let top = new_numbers_top tunes texts numbers is.numbers in
+    record {
+      rises = rises-append 0 tunes _ is.rises (subst P low (rises-numbered (greatest tunes) (greatest tunes + 1) texts (omega arith)));
+      numbers = top;
+      tunes = each-append tunes _ is.tunes (each-numbered (greatest tunes + 1) texts within);
+      count = omega (arith, length-append tunes (numbered (greatest tunes + 1) texts), length-numbered (greatest tunes + 1) texts);
+    }
+  where
+    new_numbers_top : (tunes : List Tune) (texts : List (List ℕ)) → greatest tunes + length texts ≤ GREATEST_NUMBER → greatest tunes ≤ GREATEST_NUMBER → greatest (tunes ++ numbered (greatest tunes + 1) texts) ≤ GREATEST_NUMBER
+    new_numbers_top tunes [] numbers h = let e = greatest-append tunes [] in omega arith
+    new_numbers_top tunes (text ∷ texts) numbers h =
+        let e = greatest-append tunes (numbered (greatest tunes + 1) (text ∷ texts)) in
+        let f = greatest-numbered (greatest tunes + 1) text texts in
+        omega arith
+
+-- A TUNE IN THE PLACE OF ANOTHER
+rises-with_tune : (new : Tune) (low : ℕ) (tunes : List Tune) → RisesFrom low tunes → RisesFrom low (with_tune new tunes)
+rises-with_tune new low [] rises = tt
+rises-with_tune new low (tune ∷ tunes) rises = elim (cases_Bool (eqb tune.number new.number)) [
+  | inl same ↦
+      let e : tune.number ≡ new.number = eqb-true tune.number new.number same in
+      let P : ℕ → Type 0 = λ n. (low < n) × RisesFrom n tunes in
+      rw same (subst P e rises)
+  | inr other ↦ rw other (rises.0, rises-with_tune new tune.number tunes rises.1)
+]
+
+greatest-with_tune : (new : Tune) (tunes : List Tune) → greatest (with_tune new tunes) ≡ greatest tunes
+greatest-with_tune new [] = refl
+greatest-with_tune new (tune ∷ tunes) = elim (cases_Bool (eqb tune.number new.number)) [
+  | inl same ↦ rw same (ap (λ n. max n (greatest tunes)) (sym (eqb-true tune.number new.number same)))
+  | inr other ↦ rw other (ap (λ n. max tune.number n) (greatest-with_tune new tunes))
+]
+
+length-with_tune : (new : Tune) (tunes : List Tune) → length (with_tune new tunes) ≡ length tunes
+length-with_tune new [] = refl
+length-with_tune new (tune ∷ tunes) = elim (cases_Bool (eqb tune.number new.number)) [
+  | inl same ↦ rw same refl
+  | inr other ↦ rw other (ap (λ n. suc n) (length-with_tune new tunes))
+]
+
+each-with_tune : (new : Tune) (tunes : List Tune) → IsTune new → AllByRecursion IsTune tunes → AllByRecursion IsTune (with_tune new tunes)
+each-with_tune new [] is each = tt
+each-with_tune new (tune ∷ tunes) is each = elim (cases_Bool (eqb tune.number new.number)) [
+  | inl same ↦ rw same (is, each.1)
+  | inr other ↦ rw other (each.0, each-with_tune new tunes is each.1)
+]
+
+-- a good tune in the place of one keeps the limits
+pub state_after_replace : (new : Tune) (tunes : List Tune) → IsTune new → IsState (record { tunes = tunes }) → IsState (record { tunes = with_tune new tunes })
+state_after_replace new tunes is state = record {
+  rises = rises-with_tune new 0 tunes state.rises;
+  numbers = omega (arith, greatest-with_tune new tunes, state.numbers);
+  tunes = each-with_tune new tunes is state.tunes;
+  count = omega (arith, length-with_tune new tunes, state.count);
+}
+
+-- a good text in the place of a tune's, which has not the greatest revision, makes a good tune
+pub revised_is_tune : (tune : Tune) (text : List ℕ) → IsTextWithin LONGEST_TEXT text → tune.revision < GREATEST_REVISION → IsTune (revised tune text)
+revised_is_tune tune text within less = record { revised = omega arith; revision = omega arith; text = within.tune_text; fits = within.fits }
+
+-- a replacement keeps the limits, where its text is good
+-- an outcome whose state keeps the limits
+abbrev pub KeepsLimits : Outcome → Type 0
+KeepsLimits outcome = IsState outcome.0
+
+by_tests : (tune : Tune) (tunes : List Tune) (number : ℕ) (text : List ℕ) (stale young : Bool) → IsTextWithin LONGEST_TEXT text → ltb tune.revision GREATEST_REVISION ≡ young → IsState (record { tunes = tunes })
+    → KeepsLimits (cond stale (record { tunes = tunes }, Err (Stale tune.revision)) (cond (not young) (record { tunes = tunes }, Err Worn) (record { tunes = with_tune (revised tune text) tunes }, Ok (Replaced number (tune.revision + 1)))))
+by_tests tune tunes number text true young within y state = state
+by_tests tune tunes number text false false within y state = state
+by_tests tune tunes number text false true within y state = state_after_replace (revised tune text) tunes (revised_is_tune tune text within (ltb-true tune.revision GREATEST_REVISION y)) state
+
+-- a replacement keeps the limits, where its text is good
+pub state_after_text : (tunes : List Tune) (number revision : ℕ) (text : List ℕ) (found : Option Tune) → IsState (record { tunes = tunes }) → IsTextWithin LONGEST_TEXT text
+    → KeepsLimits (replace_tune (record { tunes = tunes }) number revision text found)
+state_after_text tunes number revision text None state within = state
+state_after_text tunes number revision text (Some tune) state within =
+    by_tests tune tunes number text (not (eqb tune.revision revision)) (ltb tune.revision GREATEST_REVISION) within refl state
+
+-- the one of texts within a length is within it
+pub only_within : (longest : ℕ) (texts : List (List ℕ)) (text : List ℕ) → AllByRecursion (IsTextWithin longest) texts → texts ≡ text ∷ [] → IsTextWithin longest text
+only_within longest texts text each e = let P : List (List ℕ) → Type 0 = λ ts. AllByRecursion (IsTextWithin longest) ts in (subst P e each).0
+
+-- A TUNE LESS
+rises-lower : (low high : ℕ) (tunes : List Tune) → low ≤ high → RisesFrom high tunes → RisesFrom low tunes
+rises-lower low high [] le rises = tt
+rises-lower low high (tune ∷ tunes) le rises = let first = rises.0 in (omega arith, rises.1)
+
+rises-without : (number low : ℕ) (tunes : List Tune) → RisesFrom low tunes → RisesFrom low (without number tunes)
+rises-without number low [] rises = tt
+rises-without number low (tune ∷ tunes) rises = elim (cases_Bool (eqb tune.number number)) [
+  | inl same ↦ rw same (let first = rises.0 in rises-lower low tune.number tunes (omega arith) rises.1)
+  | inr other ↦ rw other (rises.0, rises-without number tune.number tunes rises.1)
+]
+
+greatest-without : (number : ℕ) (tunes : List Tune) → greatest (without number tunes) ≤ greatest tunes
+greatest-without number [] = omega arith
+greatest-without number (tune ∷ tunes) = elim (cases_Bool (eqb tune.number number)) [
+  | inl same ↦ rw same (omega arith)
+  | inr other ↦ let later = greatest-without number tunes in rw other (omega arith)
+]
+
+length-without : (number : ℕ) (tunes : List Tune) → length (without number tunes) ≤ length tunes
+length-without number [] = omega arith
+length-without number (tune ∷ tunes) = elim (cases_Bool (eqb tune.number number)) [
+  | inl same ↦ rw same (omega arith)
+  | inr other ↦ let later = length-without number tunes in rw other (omega arith)
+]
+
+each-without : (number : ℕ) (tunes : List Tune) → AllByRecursion IsTune tunes → AllByRecursion IsTune (without number tunes)
+each-without number [] each = tt
+each-without number (tune ∷ tunes) each = elim (cases_Bool (eqb tune.number number)) [
+  | inl same ↦ rw same each.1
+  | inr other ↦ rw other (each.0, each-without number tunes each.1)
+]
+
+-- a tune less keeps the limits
+pub state_after_delete : (number : ℕ) (tunes : List Tune) → IsState (record { tunes = tunes }) → IsState (record { tunes = without number tunes })
+state_after_delete number tunes state = record {
+  rises = rises-without number 0 tunes state.rises;
+  numbers = omega (arith, greatest-without number tunes, state.numbers);
+  tunes = each-without number tunes state.tunes;
+  count = omega (arith, length-without number tunes, state.count);
+}
+
+-- LOOK-UPS
+-- each number is above what the list rises from
+above : (low : ℕ) (tunes : List Tune) (n : ℕ) (d : Tune) → RisesFrom low tunes → n < length tunes → low < (get_or tunes n d).number
+above low [] n d rises l = absurd (omega arith)
+above low (tune ∷ tunes) zero d rises l = rises.0
+above low (tune ∷ tunes) (suc n) d rises l = let later = above tune.number tunes n d rises.1 (omega arith) in let first = rises.0 in omega arith
+
+-- numbers rise with the place
+pub ordered : (low : ℕ) (tunes : List Tune) (i j : ℕ) (d : Tune) → RisesFrom low tunes → i ≤ j → j < length tunes → (get_or tunes i d).number ≤ (get_or tunes j d).number
+ordered low [] i j d rises h l = absurd (omega arith)
+ordered low (tune ∷ tunes) zero zero d rises h l = omega arith
+ordered low (tune ∷ tunes) zero (suc j) d rises h l = let later = above tune.number tunes j d rises.1 (omega arith) in omega arith
+ordered low (tune ∷ tunes) (suc i) zero d rises h l = absurd (omega arith)
+ordered low (tune ∷ tunes) (suc i) (suc j) d rises h l = ordered tune.number tunes i j d rises.1 (omega arith) (omega arith)
+
+-- the tune at a place is the tune of its number
+pub tune_at-place : (low number : ℕ) (tunes : List Tune) (n : ℕ) (d : Tune) → RisesFrom low tunes → n < length tunes → (get_or tunes n d).number ≡ number → tune_at number tunes ≡ Some (get_or tunes n d)
+tune_at-place low number [] n d rises l e = absurd (omega arith)
+tune_at-place low number (tune ∷ tunes) zero d rises l e = let same = eq-eqb tune.number number e in rw same refl
+tune_at-place low number (tune ∷ tunes) (suc n) d rises l e =
+    let later = above tune.number tunes n d rises.1 (omega arith) in
+    let other = ne_eqb tune.number number (λ same. omega arith) in
+    rw other (tune_at-place tune.number number tunes n d rises.1 (omega arith) e)
+
+-- a tune goes to its place
+pub with_tune-place : (low : ℕ) (new : Tune) (tunes : List Tune) (n : ℕ) (d : Tune) → RisesFrom low tunes → n < length tunes → (get_or tunes n d).number ≡ new.number → with_tune new tunes ≡ set tunes n new
+with_tune-place low new [] n d rises l e = absurd (omega arith)
+with_tune-place low new (tune ∷ tunes) zero d rises l e = let same = eq-eqb tune.number new.number e in rw same refl
+with_tune-place low new (tune ∷ tunes) (suc n) d rises l e =
+    let later = above tune.number tunes n d rises.1 (omega arith) in
+    let other = ne_eqb tune.number new.number (λ same. omega arith) in
+    rw other (ap (λ ts. tune ∷ ts) (with_tune-place tune.number new tunes n d rises.1 (omega arith) e))
+
+-- a tune is taken out at its place
+pub without-place : (low number : ℕ) (tunes : List Tune) (n : ℕ) (d : Tune) → RisesFrom low tunes → n < length tunes → (get_or tunes n d).number ≡ number → without number tunes ≡ take n tunes ++ drop (suc n) tunes
+without-place low number [] n d rises l e = absurd (omega arith)
+without-place low number (tune ∷ tunes) zero d rises l e = let same = eq-eqb tune.number number e in rw same refl
+without-place low number (tune ∷ tunes) (suc n) d rises l e =
+    let later = above tune.number tunes n d rises.1 (omega arith) in
+    let other = ne_eqb tune.number number (λ same. omega arith) in
+    rw other (ap (λ ts. tune ∷ ts) (without-place tune.number number tunes n d rises.1 (omega arith) e))
+
+-- a number that no tune has
+pub tune_at-none : (number : ℕ) (tunes : List Tune) → ((n : ℕ) (d : Tune) → n < length tunes → (get_or tunes n d).number ≡ number → ⊥) → tune_at number tunes ≡ None
+tune_at-none number [] h = refl
+tune_at-none number (tune ∷ tunes) h =
+    let other = ne_eqb tune.number number (h 0 tune (omega arith)) in
+    rw other (tune_at-none number tunes (λ n d l. h (suc n) d (omega arith)))
+
+-- BINARY SEARCH
+-- the answer of a comparison with one number rises with the other
+pub cmp_rises : (x y number : ℕ) → x ≤ y → ordering_index (nat_cmp x number) ≤ ordering_index (nat_cmp y number)
+cmp_rises x y number le = grind (arith, nat_tests)
+
+-- where all numbers are less below a place, and greater from it on, none is equal
+pub no_place : (number : ℕ) (tunes : List Tune) (place : ℕ) → AllWithin (λ tune. nat_cmp tune.number number ≡ Less) tunes 0 place → AllWithin (λ tune. nat_cmp tune.number number ≡ Greater) tunes place (length tunes)
+    → (n : ℕ) (d : Tune) → n < length tunes → (get_or tunes n d).number ≡ number → ⊥
+no_place number tunes place less greater n d l e = elim (cases_lt n place) [
+  | inl below ↦ let lower : (get_or tunes n d).number < number = ranked _ _ _ (sym (less n d (omega arith) below)) in omega arith
+  | inr from ↦ let higher : number < (get_or tunes n d).number = ranked _ _ _ (sym (greater n d from l)) in omega arith
+]

@@ -1,0 +1,39 @@
+-- What an archive holds: a plain list of tunes.
+use Rattle.std.specs.Prelude.{ℕ, ◌<◌, ◌≤◌, List, [], ◌∷◌, Bool, length, max, ⊤}
+use Rattle.std.specs.List.{AllByRecursion}
+use Rattle.abc_fields.specs.Tunes.{IsTuneText}
+use Rattle.tune_store.specs.declared.tune.Tune.{Tune}
+use Rattle.tune_store.specs.declared.tune.TheConstants.{LONGEST_TEXT, MOST_TUNES, GREATEST_NUMBER, GREATEST_REVISION}
+
+-- tunes by rising number
+pub record State : Type 0 where
+  pub tunes : List Tune
+
+-- what a store stands for, and whether an earlier call was answered by a fault of its device
+pub record Standing : Type 0 where
+  pub state : State
+  pub closed : Bool
+
+-- the greatest number, or 0
+abbrev pub greatest : List Tune → ℕ
+greatest [] = 0
+greatest (tune ∷ tunes) = max tune.number (greatest tunes)
+
+-- numbers rise strictly, and are above this one
+abbrev pub RisesFrom : ℕ → List Tune → Type 0
+RisesFrom low [] = ⊤
+RisesFrom low (tune ∷ tunes) = (low < tune.number) × RisesFrom tune.number tunes
+
+-- a tune within the limits
+pub record IsTune (tune : Tune) : Type 0 where
+  pub revised : 0 < tune.revision
+  pub revision : tune.revision ≤ GREATEST_REVISION
+  pub text : IsTuneText tune.text
+  pub fits : length tune.text ≤ LONGEST_TEXT
+
+-- a state within the limits
+pub record IsState (state : State) : Type 0 where
+  pub rises : RisesFrom 0 state.tunes
+  pub numbers : greatest state.tunes ≤ GREATEST_NUMBER
+  pub tunes : AllByRecursion IsTune state.tunes
+  pub count : length state.tunes ≤ MOST_TUNES
