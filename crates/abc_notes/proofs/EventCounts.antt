@@ -16,7 +16,8 @@ use Rattle.abc_items.specs.declared.kinds.Kind.TheVariants as kind
 use Rattle.abc_items.specs.Spans.{Span, spans_of, SpansFill}
 use Rattle.abc_items.proofs.Places.{spans_fill}
 use Rattle.abc_notes.specs.Events.{Event, change}
-use Rattle.abc_notes.specs.Music.{is_note, plain_events, chord_events, inside_of, inline_events, item_events, line_events, music_events, body_line_events, line_tells, body_events, events_after_header, tune_events}
+use Rattle.abc_notes.specs.Music.{is_note, plain_events, chord_events, inside_of, inline_events, item_events, line_events, music_events, body_line_events}
+use Rattle.abc_notes.specs.Music.{line_tells, body_events, events_after_header, tune_events}
 
 -- ITEMS
 -- an item that is no chord and no field tells at most one event

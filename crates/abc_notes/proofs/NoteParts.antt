@@ -19,7 +19,8 @@ use Rattle.abc_items.specs.Grammar.{Fits, IsChord}
 use Rattle.abc_items.specs.Spans.{Span, spans_of, IsPlaced, SpansFill}
 use Rattle.abc_items.proofs.Places.{spans_fill}
 use Rattle.abc_notes.specs.Events.{WrittenNote, Event, note, bar, change}
-use Rattle.abc_notes.specs.Music.{written, is_note, plain_events, chord_events, inside_of, inline_events, item_events, line_events, music_events, body_line_events, line_tells, body_events, events_after_header, tune_events}
+use Rattle.abc_notes.specs.Music.{written, is_note, plain_events, chord_events, inside_of, inline_events, item_events, line_events, music_events}
+use Rattle.abc_notes.specs.Music.{body_line_events, line_tells, body_events, events_after_header, tune_events}
 use Rattle.abc_notes.specs.NoteParts.{AreNoteParts, NotesRise}
 use Rattle.abc_notes.specs.Pitches.{sounded_notes}
 

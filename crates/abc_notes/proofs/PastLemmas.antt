@@ -1,5 +1,6 @@
 -- What a past leaves in force, and how a bar ends it.
-use Rattle.std.proofs.Common.{◌≡◌, ℕ, zero, suc, List, [], ◌∷◌, ◌++◌, refl, ap, sym, ◌∙◌, Bool, true, false, ℤ, pos, negsuc, Option, Some, None, subst, cond, slice_index_or, replicate}
+use Rattle.std.proofs.Common.{◌≡◌, ℕ, zero, suc, List, [], ◌∷◌, ◌++◌, refl, ap, sym, ◌∙◌, Bool, true, false, ℤ, pos, negsuc, Option, Some, None, subst, cond}
+use Rattle.std.proofs.Common.{slice_index_or, replicate}
 use Rattle.std.specs.Prelude.{unwrap_or, is_some, ◌&&◌}
 use Rattle.std.proofs.lemmas.Bool.{eqb-true}
 use Rattle.abc_keys.specs.declared.letters.Letter.{Letter}

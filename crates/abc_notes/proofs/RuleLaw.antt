@@ -1,5 +1,6 @@
 -- The accidental of a note is the one that the rule of accidentals names.
-use Rattle.std.proofs.Common.{◌≡◌, ℕ, zero, suc, List, [], ◌∷◌, ◌++◌, refl, ap, sym, ◌∙◌, Bool, true, false, ℤ, pos, negsuc, Option, Some, None, cond, inl, inr, append-nil, eq-eqb}
+use Rattle.std.proofs.Common.{◌≡◌, ℕ, zero, suc, List, [], ◌∷◌, ◌++◌, refl, ap, sym, ◌∙◌, Bool, true, false, ℤ, pos, negsuc, Option, Some, None, cond, inl}
+use Rattle.std.proofs.Common.{inr, append-nil, eq-eqb}
 use Rattle.std.specs.Prelude.{unwrap_or, is_some, ◌&&◌, ◌==◌}
 use Rattle.std.proofs.lemmas.Bool.{eqb-true}
 use Rattle.abc_keys.specs.declared.letters.Letter.{Letter}

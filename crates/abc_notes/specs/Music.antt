@@ -1,5 +1,8 @@
--- What music lines tell: their notes, bars and changes of key (ABC 2.1, 3.2, 4.1, 4.2, 4.8 and 4.17; own profile where the standard is silent).
-use Rattle.std.specs.Prelude.{ℕ, ◌+◌, ◌-◌, ◌&&◌, ◌||◌, not, if◌then◌else◌, Bool, true, false, List, [], ◌∷◌, ◌++◌, codes, take, drop, length, unwrap_or, count_by, slice_index, ℤ, pos, ◌-ℤ◌}
+-- What music lines tell: their notes, bars and changes of key (ABC 2.1, 3.2, 4.1, 4.2, 4.8 and
+-- 4.17; own profile where the standard is silent).
+use Rattle.std.specs.Prelude.{ℕ, ◌+◌, ◌-◌, ◌&&◌, ◌||◌, not, if◌then◌else◌, Bool, true, false, List}
+use Rattle.std.specs.Prelude.{[], ◌∷◌, ◌++◌, codes, take, drop, length, unwrap_or, count_by}
+use Rattle.std.specs.Prelude.{slice_index, ℤ, pos, ◌-ℤ◌}
 use Rattle.abc_fields.specs.Lines.{Span as Line, spans_of as lines_of}
 use Rattle.abc_fields.specs.LineKinds.{is_field_line, is_continuation, is_comment, in_part_after}
 use Rattle.abc_fields.specs.Tunes.{is_key_line}
@@ -85,7 +88,8 @@ music_events base line = line_events base (spans_of (uncommented line))
 abbrev pub key_events : List ℕ → List Event
 key_events line = change (signature_of (key_of_text (field_value line))) ∷ []
 
--- the events of a line of a tune's body: a key changes the signature, other fields, their continuations, comments and directives mean nothing, and the rest is music
+-- the events of a line of a tune's body: a key changes the signature, other fields, their
+-- continuations, comments and directives mean nothing, and the rest is music
 abbrev pub body_line_events : ℕ → List ℕ → List Event
 body_line_events base line =
     if is_key_line line then key_events line
@@ -101,7 +105,8 @@ unfoldable pub body_events : Bool → List Line → List Event
 body_events in_part [] = []
 body_events in_part (line ∷ lines) = line_tells in_part line ++ body_events (in_part_after in_part line.bytes) lines
 
--- the events of a tune's lines: those up to the first that gives the key are its header, in which parts begin and end too
+-- the events of a tune's lines: those up to the first that gives the key are its header, in which
+-- parts begin and end too
 unfoldable pub events_after_header : Bool → List Line → List Event
 events_after_header in_part [] = []
 events_after_header in_part (line ∷ lines) =

@@ -13,7 +13,8 @@ abbrev pub AreNoteParts : List ℕ → List SoundedNote → Type 0
 AreNoteParts text [] = ⊤
 AreNoteParts text (n ∷ notes) = IsNotePart text n × AreNoteParts text notes
 
--- the first note begins nowhere below this, and each later one nowhere before the one before it ends
+-- the first note begins nowhere below this, and each later one nowhere before the one before it
+-- ends
 abbrev pub NotesRise : ℕ → List SoundedNote → Type 0
 NotesRise low [] = ⊤
 NotesRise low (n ∷ notes) = (low ≤ n.from) × NotesRise n.to notes

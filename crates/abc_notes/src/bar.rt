@@ -1,5 +1,6 @@
 // The accidentals of a bar, by letter, for sixteen octaves.
-ghost use Rattle.std.specs.Prelude.{◌≡◌, ◌+◌, ◌^◌, ◌<◌, ℕ, ℤ, List, [], ◌∷◌, Some, None, slice_index_or, length, IsTrue, if◌then◌else◌};
+ghost use Rattle.std.specs.Prelude.{◌≡◌, ◌+◌, ◌^◌, ◌<◌, ℕ, ℤ, List, [], ◌∷◌, Some, None};
+ghost use Rattle.std.specs.Prelude.{slice_index_or, length, IsTrue, if◌then◌else◌};
 ghost use Rattle.abc_keys.specs.declared.letters.Letter.{Letter as AnyLetter};
 ghost use Rattle.abc_keys.specs.ScaleTable.{letter_number};
 ghost use Rattle.abc_notes.specs.Events.{Event as AnyEvent, note, change};
@@ -17,8 +18,9 @@ const OCTAVES: i32 = 16;
 
 const ENTRIES: usize = 112;
 
-// What is kept of a bar so far: the signature where it began and the one in force now, how many events came since, the accidentals that its notes
-// bore, and whether one of them was borne outside the sixteen octaves.
+// What is kept of a bar so far: the signature where it began and the one in force now, how many
+// events came since, the accidentals that its notes bore, and whether one of them was borne outside
+// the sixteen octaves.
 #[derive(Clone, Copy)]
 pub(crate) struct Bar {
     pub start: Signature,

@@ -1,7 +1,8 @@
 //! Reads the notes of tunes: which bytes of a tune are notes, and how high each sounds.
 //!
-//! The rules are those of the abc music standard 2.1, section 4, with this archive's profile where the standard is silent. The bytes of a text
-//! need not be UTF-8, and no call takes memory or refuses.
+//! The rules are those of the abc music standard 2.1, section 4, with this archive's profile where
+//! the standard is silent. The bytes of a text need not be UTF-8, and no call takes memory or
+//! refuses.
 #![tactic(auto)]
 
 mod bar;

@@ -66,8 +66,8 @@ impl<'a> LineEvents<'a> {
         }
     }
 
-    // Takes the first event that is left where it and the items before it are plain bytes, as is most often so. Else it takes none, but may pass over items
-    // that tell nothing.
+    // Takes the first event that is left where it and the items before it are plain bytes, as is
+    // most often so. Else it takes none, but may pass over items that tell nothing.
     #[inline(always)]
     pub fn next_plain(&mut self) -> Option<Event<'a>>
         ensures { self.old ≡ events_of result ++ self.new }

@@ -9,7 +9,8 @@ use crate::written::{Event, WrittenNote};
 use abc_items::{Item, Kind, own_accidental, spelling_length};
 use abc_keys::{Letter, letter_of};
 
-// The event of an item that is no chord and no field, if it is one. The text of the items begins at `base`.
+// The event of an item that is no chord and no field, if it is one. The text of the items begins at
+// `base`.
 #[tactic(auto, unfolding(crate::specs::Music::plain_events))]
 #[inline(always)]
 pub(crate) fn plain_event<'a>(item: Item<'a>, base: usize, counts: bool) -> Option<Event<'a>>

@@ -1,5 +1,6 @@
 // The notes of tunes and of music lines, with their pitches.
-ghost use Rattle.std.specs.Prelude.{◌≡◌, ◌+◌, ◌≤◌, ◌∷◌, ◌++◌, [], ℕ, List, take, drop, reverse, length};
+ghost use Rattle.std.specs.Prelude.{◌≡◌, ◌+◌, ◌≤◌, ◌∷◌, ◌++◌, [], ℕ, List, take, drop, reverse};
+ghost use Rattle.std.specs.Prelude.{length};
 ghost use Rattle.std.specs.Iterator.{YieldsFirstBy, item_count};
 ghost use Rattle.abc_fields.specs.Values.{uncommented};
 ghost use Rattle.abc_items.specs.Grammar.{Token, AreItems};
@@ -25,10 +26,11 @@ use abc_fields::{TuneText, without_comment};
 use abc_keys::{Accidental, Key, Signature, key_of, signature};
 use std::marker::Model;
 
-/// The notes of a tune or of a music line, in order, with their pitches (ABC 2.1, 4.1, 4.2 and 4.17; this archive's profile). A clause sees the list of
-/// the notes that are left.
+/// The notes of a tune or of a music line, in order, with their pitches (ABC 2.1, 4.1, 4.2 and
+/// 4.17; this archive's profile). A clause sees the list of the notes that are left.
 ///
-/// It takes no memory. Accidentals of sixteen octaves are kept in a table; beyond these the bar is read again.
+/// It takes no memory. Accidentals of sixteen octaves are kept in a table; beyond these the bar is
+/// read again.
 #[derive(Drop)]
 pub struct Notes<'a> {
     events: TuneEvents<'a>,
@@ -46,8 +48,8 @@ impl<'a> Model for Notes<'a> {
 }
 
 impl<'a> Notes<'a> {
-    /// The notes of a tune's body: of its music lines, up to the comment of each, those within `%%begin..` parts aside. `K:` lines and `[K:..]` fields change
-    /// the signature.
+    /// The notes of a tune's body: of its music lines, up to the comment of each, those within
+    /// `%%begin..` parts aside. `K:` lines and `[K:..]` fields change the signature.
     pub fn of_tune(text: &'a TuneText) -> Notes<'a>
         ensures notes { result ≡ sounded_notes (tune_signature text.now) [] (tune_events text.now) }
         ensures parts { AreNoteParts text.now result }
@@ -58,7 +60,8 @@ impl<'a> Notes<'a> {
         Notes::new(start, events)
     }
 
-    /// The notes of one music line, up to its comment, in a key. The line has at most 4,000,000 bytes.
+    /// The notes of one music line, up to its comment, in a key. The line has at most 4,000,000
+    /// bytes.
     pub fn of_line(line: &'a [u8], key: &Key) -> Notes<'a>
         requires { length line.now ≤ 4000000 }
         ensures notes { result ≡ sounded_notes (signature_of key.now) [] (music_events 0 line.now) }
@@ -97,7 +100,8 @@ impl<'a> Notes<'a> {
         self.searched_note()
     }
 
-    // The same, where what comes next is not plain. It stands apart, so that the way of most notes is short.
+    // The same, where what comes next is not plain. It stands apart, so that the way of most notes
+    // is short.
     #[inline(never)]
     fn searched_note(&mut self) -> Option<NoteToken<'a>>
         ensures { YieldsFirstBy token_note (λ notes. notes) self.old result self.new }
@@ -127,7 +131,8 @@ impl<'a> Iterator for Notes<'a> {
     }
 }
 
-// Takes an event into what is kept of its bar, and gives the note that it is, if it is one. `events` are those after it.
+// Takes an event into what is kept of its bar, and gives the note that it is, if it is one.
+// `events` are those after it.
 #[inline(always)]
 fn heard<'a>(
     event: Event<'a>,

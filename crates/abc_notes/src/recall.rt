@@ -12,7 +12,8 @@ use crate::tune::TuneEvents;
 use crate::written::{Event, WrittenNote};
 use abc_keys::Accidental;
 
-// The accidental of the note that comes next: its own; else what the bar bears at its letter and octave; else that of the signature.
+// The accidental of the note that comes next: its own; else what the bar bears at its letter and
+// octave; else that of the signature.
 #[inline(always)]
 pub(crate) fn accidental_of(bar: &Bar, bar_events: &TuneEvents, place: WrittenNote) -> Accidental
     requires { IsBarAfter (past_of bar.now.since bar_events.now) bar.now }

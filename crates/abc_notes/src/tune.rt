@@ -6,7 +6,8 @@ ghost use Rattle.abc_items.specs.Spans.{spans_of};
 ghost use Rattle.abc_notes.specs.Bounds.{LinesAreShort};
 ghost use Rattle.abc_notes.specs.Events.{Event as AnyEvent};
 ghost use Rattle.abc_notes.specs.EventView.{event_of, events_of};
-ghost use Rattle.abc_notes.specs.Music.{line_events, line_tells, body_events, events_after_header, first_key, tune_events, tune_signature};
+ghost use Rattle.abc_notes.specs.Music.{line_events, line_tells, body_events, events_after_header};
+ghost use Rattle.abc_notes.specs.Music.{first_key, tune_events, tune_signature};
 
 use crate::line::LineEvents;
 use crate::written::Event;

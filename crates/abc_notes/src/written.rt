@@ -3,7 +3,8 @@ ghost use Rattle.std.specs.Prelude.{◌≤ℤ◌, pos, negsuc};
 
 use abc_keys::{Accidental, Letter};
 
-// A note as it is written: its place in the text, its bytes, its letter and octave, its own accidental, and whether it counts.
+// A note as it is written: its place in the text, its bytes, its letter and octave, its own
+// accidental, and whether it counts.
 #[derive(Clone, Copy, Debug)]
 pub(crate) struct WrittenNote<'a> {
     pub from: usize,

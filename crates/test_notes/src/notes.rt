@@ -1,4 +1,6 @@
-// The notes of music lines and their pitches (ABC 2.1, 4), worked out by hand. A pitch counts semitones from `C`. In what is wanted, a note that does not count for the melody stands in parentheses.
+// The notes of music lines and their pitches (ABC 2.1, 4), worked out by hand. A pitch counts
+// semitones from `C`. In what is wanted, a note that does not count for the melody stands in
+// parentheses.
 use abc_fields::split_book;
 use abc_notes::{Notes, key_of};
 use std::alloc::Global;

@@ -1,5 +1,6 @@
 -- The steps so far, and the notes that are left, are together the incipit.
-use Rattle.std.proofs.Common.{◌≡◌, ℕ, zero, suc, ◌+◌, ◌-◌, ◌<◌, ◌≤◌, List, [], ◌∷◌, ◌++◌, length, take, refl, ap, sym, ◌∙◌, arith, true, false, Option, Some, None, ℤ, ◌-ℤ◌, append_assoc, length-append, map, filter}
+use Rattle.std.proofs.Common.{◌≡◌, ℕ, zero, suc, ◌+◌, ◌-◌, ◌<◌, ◌≤◌, List, [], ◌∷◌, ◌++◌, length, take, refl, ap, sym, ◌∙◌, arith, true, false, Option, Some}
+use Rattle.std.proofs.Common.{None, ℤ, ◌-ℤ◌, append_assoc, length-append, map, filter}
 use Rattle.std.specs.Prelude.{cond}
 use Rattle.std.proofs.lemmas.List.{append-nil}
 use Rattle.abc_notes.specs.Pitches.{SoundedNote}

@@ -1,5 +1,6 @@
 -- How many steps an incipit has, that it is the same at each height, that fewer notes give a front of it, and the signature of C.
-use Rattle.std.proofs.Common.{◌≡◌, ℕ, ◌-◌, List, [], ◌∷◌, ◌++◌, ◌≤◌, zero, suc, length, take, map, filter, refl, ap, ◌∙◌, arith, true, false, cond, min, count_by, ℤ, ◌+ℤ◌, ◌-ℤ◌, codes}
+use Rattle.std.proofs.Common.{◌≡◌, ℕ, ◌-◌, List, [], ◌∷◌, ◌++◌, ◌≤◌, zero, suc, length, take, map, filter, refl, ap, ◌∙◌, arith, true, false, cond, min}
+use Rattle.std.proofs.Common.{count_by, ℤ, ◌+ℤ◌, ◌-ℤ◌, codes}
 use Rattle.std.proofs.lemmas.List.{length-take, length-map, take-map}
 use Rattle.std.proofs.lemmas.List.Sums.{length-filter}
 use Rattle.std.proofs.lemmas.Int.{ints}

@@ -1,11 +1,14 @@
 //! Incipits: by which steps in semitones a tune begins, and whether it begins as a query does.
 //!
-//! The incipit of a tune is the list of the differences between neighbours among its first few notes that count (this archive's profile). No call
-//! takes memory, and only a query with fewer than two notes that count is refused.
+//! The incipit of a tune is the list of the differences between neighbours among its first few
+//! notes that count (this archive's profile). No call takes memory, and only a query with fewer
+//! than two notes that count is refused.
 #![tactic(auto)]
 
-ghost use Rattle.std.specs.Prelude.{◌≡◌, ◌+◌, ◌-◌, ◌<◌, ◌≤◌, ◌↔◌, ◌++◌, ◌∷◌, [], List, ℕ, ℤ, length, count_by, min, IsTrue, IfOk, IsErr, IsOk, option_map};
-ghost use Rattle.tune_incipit.specs.Incipits.{incipit_of, tune_notes, query_notes, raised, steps_and};
+ghost use Rattle.std.specs.Prelude.{◌≡◌, ◌+◌, ◌-◌, ◌<◌, ◌≤◌, ◌↔◌, ◌++◌, ◌∷◌, [], List, ℕ, ℤ};
+ghost use Rattle.std.specs.Prelude.{length, count_by, min, IsTrue, IfOk, IsErr, IsOk, option_map};
+ghost use Rattle.tune_incipit.specs.Incipits.{incipit_of, tune_notes, query_notes, raised};
+ghost use Rattle.tune_incipit.specs.Incipits.{steps_and};
 ghost use Rattle.abc_notes.specs.Pitches.{SoundedNote};
 
 mod step_list;
@@ -55,7 +58,8 @@ fn first_steps(notes: Notes, count: usize) -> Steps
     steps
 }
 
-/// The incipit of a tune by its first `notes` notes that count, or by all of them where it has fewer: one step less than notes, and none of no note.
+/// The incipit of a tune by its first `notes` notes that count, or by all of them where it has
+/// fewer: one step less than notes, and none of no note.
 pub fn steps(text: &TuneText, notes: usize) -> Steps
     requires few { FEWEST_NOTES ≤ notes }
     requires many { notes ≤ MOST_NOTES }
@@ -74,8 +78,9 @@ pub fn steps(text: &TuneText, notes: usize) -> Steps
 #[error("a query has two notes at least")]
 pub struct BadQuery;
 
-/// The incipit of a query of notes, by its first `notes` notes that count. The query is read as one music line in C, up to its comment, whatever it begins
-/// with (this archive's profile); it has at most 4,000,000 bytes.
+/// The incipit of a query of notes, by its first `notes` notes that count. The query is read as one
+/// music line in C, up to its comment, whatever it begins with (this archive's profile); it has at
+/// most 4,000,000 bytes.
 pub fn query_steps(query: &[u8], notes: usize) -> Result<Steps, BadQuery>
     requires short { length query.now ≤ 4000000 }
     requires few { FEWEST_NOTES ≤ notes }

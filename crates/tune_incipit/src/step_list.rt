@@ -6,7 +6,8 @@ use std::marker::Model;
 // How many steps there is room for: those between twelve notes.
 pub(crate) const MOST_STEPS: usize = 11;
 
-/// The steps between neighbouring notes, in semitones, up to eleven of them. A clause sees their list.
+/// The steps between neighbouring notes, in semitones, up to eleven of them. A clause sees their
+/// list.
 #[derive(Clone, Copy, Debug, PartialEq, Eq)]
 pub struct Steps {
     items: [i32; MOST_STEPS],

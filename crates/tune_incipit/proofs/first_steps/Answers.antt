@@ -2,7 +2,8 @@ use Rattle.std.proofs.Common.{◌≡◌, ◌+◌, ◌<◌, length, Option, Some,
 use Rattle.abc_notes.specs.Tokens.{token_note}
 use Rattle.abc_notes.specs.Pitches.{SoundedNote}
 use Rattle.tune_incipit.specs.Incipits.{incipit_of}
-use Rattle.tune_incipit.proofs.Growing.{all_steps, notes_so_far, notes_so_far-le, length-steps_and, all_steps-start, all_steps-skip, all_steps-more, all_steps-full, all_steps-none}
+use Rattle.tune_incipit.proofs.Growing.{all_steps, notes_so_far, notes_so_far-le, length-steps_and, all_steps-start, all_steps-skip, all_steps-more}
+use Rattle.tune_incipit.proofs.Growing.{all_steps-full, all_steps-none}
 use Rattle.tune_incipit.proofs.first_steps.Goals as goal
 
 pub loop-token-init : goal.loop-token-init

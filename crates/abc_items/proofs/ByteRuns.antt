@@ -7,14 +7,16 @@ use Rattle.abc_keys.specs.Keys.{begins}
 use Rattle.abc_items.specs.Grammar.{IsRun}
 
 -- one byte more, or none
-front_step : (p : ℕ → Bool) (byte n : ℕ) (text : List ℕ) (c : Bool) → p byte ≡ c → list_all p (take n text) ≡ true → list_all p (take (cond c (1 + n) 0) (byte ∷ text)) ≡ true
+front_step : (p : ℕ → Bool) (byte n : ℕ) (text : List ℕ) (c : Bool) → p byte ≡ c → list_all p (take n text) ≡ true
+    → list_all p (take (cond c (1 + n) 0) (byte ∷ text)) ≡ true
 front_step p byte n text true passes rest =
     let k : 1 + n ≡ suc n = omega arith in
     ap (λ m. list_all p (take m (byte ∷ text))) k ∙ and_from (p byte) (list_all p (take n text)) passes rest
 front_step p byte n text false passes rest = refl
 
 -- one byte more, or none, and what stops the front
-stop_step : (p : ℕ → Bool) (byte n : ℕ) (text : List ℕ) (c : Bool) → p byte ≡ c → begins p (drop n text) ≡ false → begins p (drop (cond c (1 + n) 0) (byte ∷ text)) ≡ false
+stop_step : (p : ℕ → Bool) (byte n : ℕ) (text : List ℕ) (c : Bool) → p byte ≡ c → begins p (drop n text) ≡ false
+    → begins p (drop (cond c (1 + n) 0) (byte ∷ text)) ≡ false
 stop_step p byte n text true passes rest = let k : 1 + n ≡ suc n = omega arith in ap (λ m. begins p (drop m (byte ∷ text))) k ∙ rest
 stop_step p byte n text false passes rest = passes
 
