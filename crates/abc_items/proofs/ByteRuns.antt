@@ -3,7 +3,7 @@ use Rattle.std.proofs.Common.{◌≡◌, ℕ, suc, ◌+◌, Bool, true, false, c
 use Rattle.std.specs.List.{prefix_len, list_all}
 use Rattle.std.proofs.lemmas.Bool.{and_parts, and_from}
 use Rattle.std.proofs.lemmas.List.{take-append-drop}
-use Rattle.abc_keys.specs.Keys.{begins}
+use Rattle.abc_fields.specs.Bytes.{begins}
 use Rattle.abc_items.specs.Grammar.{IsRun}
 
 -- one byte more, or none

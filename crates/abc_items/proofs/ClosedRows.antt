@@ -6,8 +6,8 @@ use Rattle.std.specs.Char.{is_ascii_alphabetic, is_ascii_digit}
 use Rattle.std.proofs.lemmas.Bool.{eqb-true, eq-eqb, ltb-true, lt-ltb}
 use Rattle.std.proofs.lemmas.List.{length-take-le, append_assoc, length-append}
 use Rattle.std.proofs.lemmas.List.Sums.{prefix_len-le-length}
-use Rattle.abc_keys.specs.Keys.{begins}
-use Rattle.abc_items.specs.Marks.{closing_bracket, is_chord_byte, is_closing_bracket, has_no, colon, opening_bracket}
+use Rattle.abc_fields.specs.Bytes.{colon, begins}
+use Rattle.abc_items.specs.Marks.{closing_bracket, is_chord_byte, is_closing_bracket, has_no, opening_bracket}
 use Rattle.abc_items.specs.Grammar.{IsRun, IsEnclosed, IsInlineField, IsChord}
 use Rattle.abc_items.specs.Rows.{up_to, longer, enclosed, inline_field, chord}
 use Rattle.abc_items.proofs.ByteRuns.{front_is_run, run_is_longest}

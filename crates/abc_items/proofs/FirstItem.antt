@@ -3,7 +3,8 @@ use Rattle.std.proofs.Common.{◌≡◌, ◌⊎◌, ℕ, zero, suc, ◌+◌, ◌
 use Rattle.std.proofs.Common.{None, refl, ap, sym, ◌∙◌, arith, inl, inr, subst}
 use Rattle.std.proofs.lemmas.Bool.{eqb-true, eq-eqb, cases_order}
 use Rattle.std.proofs.lemmas.List.{take-append-drop}
-use Rattle.abc_items.specs.Marks.{bar_mark, closing_brace, colon, exclamation_mark, opening_brace, opening_bracket, opening_parenthesis, plus_sign}
+use Rattle.abc_fields.specs.Bytes.{colon}
+use Rattle.abc_items.specs.Marks.{bar_mark, closing_brace, exclamation_mark, opening_brace, opening_bracket, opening_parenthesis, plus_sign}
 use Rattle.abc_items.specs.Marks.{quotation_mark}
 use Rattle.abc_items.specs.declared.kinds.Front.{Front}
 use Rattle.abc_items.specs.declared.kinds.Kind.{Kind}

@@ -1,4 +1,4 @@
--- The places of items: they follow each other from the front of the text to its end.
+-- Where items begin and end: they follow each other from the front of the text to its end.
 use Rattle.std.proofs.Common.{◌≡◌, ℕ, zero, suc, ◌+◌, ◌-◌, ◌<◌, ◌≤◌, List, [], ◌∷◌, ◌++◌, length, take, drop, get_or, refl, ap, sym, ◌∙◌, arith, subst}
 use Rattle.std.specs.Prelude.{map, slice_range}
 use Rattle.std.specs.List.{All}
@@ -11,8 +11,8 @@ use Rattle.abc_items.specs.ItemSpans.{ItemSpan, item_spans_from, item_spans_of, 
 use Rattle.abc_items.proofs.FirstItem.{item_has_byte}
 use Rattle.abc_items.proofs.ItemLaw.{items_are, items_step}
 
--- a part of a text is what stands between its places
-part_between : (front part rest : List ℕ) → slice_range (front ++ (part ++ rest)) (length front) (length front + length part) ≡ part
+-- a part of a text is what stands between its two ends
+pub part_between : (front part rest : List ℕ) → slice_range (front ++ (part ++ rest)) (length front) (length front + length part) ≡ part
 part_between front part rest =
     let width : length front + length part - length front ≡ length part = omega arith in
     rw (width, drop-append_seam front (part ++ rest)) (take-append_seam part rest)
@@ -21,7 +21,7 @@ part_between front part rest =
 rest_after : (front part rest : List ℕ) → drop (length front + length part) (front ++ (part ++ rest)) ≡ rest
 rest_after front part rest = drop-append-add front (part ++ rest) (length part) ∙ drop-append_seam part rest
 
--- an item of a text, with its places
+-- an item of a text, and where it begins and ends
 placed : (text front : List ℕ) (item : ItemText) (rest : List ℕ) → front ++ (item.text ++ rest) ≡ text → IsItem item.kind item.text rest
     → IsSpanAt text (length front) (record { kind = item.kind; from = length front; to = length front + length item.text; bytes = item.text })
 placed text front item rest whole is =
@@ -54,7 +54,7 @@ fill_from text front at (item ∷ items) are whole place =
 pub spans_fill : (text : List ℕ) → ItemSpansFill text 0 (item_spans_of text)
 spans_fill text = let are = items_are text in fill_from text [] 0 (items_of text) are.each are.whole refl
 
--- the places alone tell spans from items
+-- spans have the texts of their items
 pub spans_have_items : (at : ℕ) (items : List ItemText) → map item_text_of (item_spans_from at items) ≡ items
 spans_have_items at [] = refl
 spans_have_items at (item ∷ items) = ap (λ later. item ∷ later) (spans_have_items (at + length item.text) items)

@@ -9,8 +9,9 @@ use Rattle.std.proofs.Math.Seq.{take-append-add, drop-append-add, drop-append_se
 use Rattle.abc_keys.specs.declared.letters.Accidental.{Accidental}
 use Rattle.abc_keys.specs.declared.letters.Accidental.TheVariants.{DoubleFlat, Flat, Natural, Sharp, DoubleSharp}
 use Rattle.abc_keys.specs.declared.letters.Letter.{Letter}
-use Rattle.abc_keys.specs.Letters.{is_one_of, accidental_of, doubled, letter_of}
-use Rattle.abc_keys.specs.Keys.{begins}
+use Rattle.abc_fields.specs.Bytes.{is_one_of}
+use Rattle.abc_keys.specs.Letters.{accidental_of, doubled, letter_of}
+use Rattle.abc_fields.specs.Bytes.{begins}
 use Rattle.abc_items.specs.Marks.{is_octave_mark, flat_sign, natural_sign, sharp_sign}
 use Rattle.abc_items.specs.Grammar.{IsRun, IsNote, spelling_of}
 use Rattle.abc_items.specs.Rows.{own_accidental, is_note_name, note}

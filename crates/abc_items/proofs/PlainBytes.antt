@@ -8,7 +8,7 @@ use Rattle.std.proofs.lemmas.Bool.{true≢false}
 use Rattle.std.proofs.lemmas.Bool.Decides.{nat_tests}
 use Rattle.std.proofs.lemmas.List.{length-take-le}
 use Rattle.std.proofs.lemmas.List.Sums.{prefix_len-le-length}
-use Rattle.abc_keys.specs.Keys.{begins}
+use Rattle.abc_fields.specs.Bytes.{begins}
 use Rattle.abc_items.specs.declared.kinds.Front.{Front}
 use Rattle.abc_items.specs.declared.kinds.Kind.TheVariants.{Note, Bar, Other}
 use Rattle.abc_items.specs.Marks.{is_bar, is_octave_mark}

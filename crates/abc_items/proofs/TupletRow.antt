@@ -7,8 +7,8 @@ use Rattle.std.proofs.lemmas.Bool.{eqb-true, ltb-true, lt-ltb, cases_Bool}
 use Rattle.std.proofs.lemmas.List.{length-take-le, append_assoc, length-append, drop-drop}
 use Rattle.std.proofs.lemmas.List.Sums.{prefix_len-le-length}
 use Rattle.std.proofs.Math.Seq.{take-add, drop-append_seam}
-use Rattle.abc_keys.specs.Keys.{begins}
-use Rattle.abc_items.specs.Marks.{is_colon, colon, opening_parenthesis}
+use Rattle.abc_fields.specs.Bytes.{colon, begins}
+use Rattle.abc_items.specs.Marks.{is_colon, opening_parenthesis}
 use Rattle.abc_items.specs.Grammar.{IsRun, AreColonParts, IsTuplet}
 use Rattle.abc_items.specs.Rows.{colon_part, colon_parts, tuplet}
 use Rattle.abc_items.proofs.ByteRuns.{front_is_run, run_is_longest, run_before}

@@ -8,13 +8,13 @@ use Rattle.std.specs.Char.{is_ascii_alphabetic, is_ascii_digit}
 use Rattle.abc_keys.specs.declared.letters.Accidental.{Accidental}
 use Rattle.abc_keys.specs.declared.letters.Letter.{Letter}
 use Rattle.abc_keys.specs.Letters.{letter_of, spelling}
-use Rattle.abc_keys.specs.Keys.{begins}
+use Rattle.abc_fields.specs.Bytes.{colon, begins}
 use Rattle.abc_items.specs.declared.kinds.Kind.{Kind}
 use Rattle.abc_items.specs.declared.kinds.Kind.TheVariants.{Quoted, Decoration, Grace, InlineField}
 use Rattle.abc_items.specs.declared.kinds.Kind.TheVariants.{Chord, Tuplet, Note, Bar, Other}
 use Rattle.abc_items.specs.Marks.{quotation_mark, exclamation_mark, plus_sign, opening_brace}
 use Rattle.abc_items.specs.Marks.{closing_brace, opening_bracket, closing_bracket}
-use Rattle.abc_items.specs.Marks.{opening_parenthesis, colon, is_colon, is_octave_mark}
+use Rattle.abc_items.specs.Marks.{opening_parenthesis, is_colon, is_octave_mark}
 use Rattle.abc_items.specs.Marks.{is_chord_byte, has_no}
 
 -- bytes that pass, as many as there are: this rest begins with no further one

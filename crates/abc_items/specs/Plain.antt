@@ -1,8 +1,8 @@
 -- Items of one byte that need no search.
 use Rattle.std.specs.Prelude.{ℕ, ◌==◌, ◌&&◌, not, Bool, false, List, [], ◌∷◌, length, Option, Some}
 use Rattle.std.specs.Prelude.{None}
-use Rattle.abc_keys.specs.Keys.{begins}
-use Rattle.abc_keys.specs.Letters.{is_one_of}
+use Rattle.abc_fields.specs.Bytes.{begins}
+use Rattle.abc_fields.specs.Bytes.{is_one_of}
 use Rattle.abc_items.specs.Marks.{quotation_mark, exclamation_mark, plus_sign, opening_brace}
 use Rattle.abc_items.specs.Marks.{opening_bracket, opening_parenthesis, sharp_sign, natural_sign}
 use Rattle.abc_items.specs.Marks.{flat_sign}

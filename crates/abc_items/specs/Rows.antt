@@ -6,14 +6,14 @@ use Rattle.std.specs.Option.{option_map, is_some, unwrap_or}
 use Rattle.std.specs.Char.{is_ascii_alphabetic, is_ascii_digit}
 use Rattle.abc_keys.specs.declared.letters.Accidental.{Accidental}
 use Rattle.abc_keys.specs.Letters.{accidental_of, doubled, letter_of}
-use Rattle.abc_keys.specs.Keys.{begins}
+use Rattle.abc_fields.specs.Bytes.{colon, begins}
 use Rattle.abc_items.specs.declared.kinds.Kind.{Kind}
 use Rattle.abc_items.specs.declared.kinds.Kind.TheVariants.{Quoted, Decoration, Grace, InlineField}
 use Rattle.abc_items.specs.declared.kinds.Kind.TheVariants.{Chord, Tuplet, Note, Bar, Other}
 use Rattle.abc_items.specs.declared.kinds.Front.{Front}
 use Rattle.abc_items.specs.Marks.{quotation_mark, exclamation_mark, plus_sign, opening_brace}
 use Rattle.abc_items.specs.Marks.{closing_brace, opening_bracket, closing_bracket}
-use Rattle.abc_items.specs.Marks.{opening_parenthesis, colon, is_closing_bracket, is_bar}
+use Rattle.abc_items.specs.Marks.{opening_parenthesis, is_closing_bracket, is_bar}
 use Rattle.abc_items.specs.Marks.{is_octave_mark, is_chord_byte}
 use Rattle.abc_items.specs.Grammar.{ItemText, spelling_of}
 

@@ -58,7 +58,8 @@ impl<'a> Items<'a> {
         ensures items { result ≡ item_spans_of text.now }
 
         ensures are_items { AreItems (items_of text.now) text.now }
-        ensures no_other_items { (items : List ItemText) → AreItems items text.now → items ≡ items_of text.now }
+        ensures no_other_items { (items : List ItemText) → AreItems items text.now
+            → items ≡ items_of text.now }
         ensures texts { map item_text_of (item_spans_of text.now) ≡ items_of text.now }
         ensures fill { ItemSpansFill text.now 0 (item_spans_of text.now) }
         ensures rows { All (FitsItsRow text.now) (item_spans_of text.now) }

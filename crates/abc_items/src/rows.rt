@@ -3,7 +3,7 @@ ghost use Rattle.std.specs.Prelude.{◌≡◌, ℕ, ◌<◌, ◌≤◌, ◌+◌,
 ghost use Rattle.std.specs.Prelude.{IfSome, Some, None, drop, IsTrue};
 ghost use Rattle.std.specs.List.{prefix_len};
 ghost use Rattle.std.specs.Char.{is_ascii_digit};
-ghost use Rattle.abc_keys.specs.Keys.{begins};
+ghost use Rattle.abc_fields.specs.Bytes.{begins};
 ghost use Rattle.abc_items.specs.Marks.{opening_brace, closing_brace, closing_bracket};
 ghost use Rattle.abc_items.specs.Marks.{is_closing_bracket, is_octave_mark, is_chord_byte, has_no};
 ghost use Rattle.abc_items.specs.Grammar.{spelling_of, IsNote};
@@ -273,7 +273,8 @@ fn plain_item(bytes: &[u8]) -> Option<Front>
 pub(crate) fn plain_kind(bytes: &[u8]) -> Option<Kind>
     ensures value { IfSome result (λ kind. front kind 1 ≡ first_item bytes.now) }
     ensures within { IfSome result (λ kind. 0 < length bytes.now) }
-    ensures plain { is_some result ≡ (begins is_plain_byte bytes.now && (first_item bytes.now).length == 1) }
+    ensures plain { is_some result
+        ≡ (begins is_plain_byte bytes.now && (first_item bytes.now).length == 1) }
 {
     match bytes {
         [byte, rest @ ..] => alone(*byte, rest),

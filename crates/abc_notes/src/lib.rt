@@ -5,17 +5,17 @@
 //! refuses.
 #![tactic(auto)]
 
+mod accidentals;
 mod bar;
-mod chord;
-mod line;
-mod note_items;
+mod chord_events;
+mod events;
+mod item_events;
+mod line_events;
+mod note_tokens;
 mod notes;
 mod pitches;
-mod recall;
-mod token;
-mod tune;
-mod written;
+mod tune_events;
 
 pub use abc_keys::{Accidental, Key, Letter, Mode, Scale, Sign, Signature, key_of, signature};
+pub use note_tokens::NoteToken;
 pub use notes::Notes;
-pub use token::NoteToken;

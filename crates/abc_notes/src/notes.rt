@@ -2,26 +2,27 @@
 ghost use Rattle.std.specs.Prelude.{◌≡◌, ◌+◌, ◌≤◌, ◌∷◌, ◌++◌, [], ℕ, List, take, drop, reverse};
 ghost use Rattle.std.specs.Prelude.{length};
 ghost use Rattle.std.specs.Iterator.{YieldsFirstBy, item_count};
+ghost use Rattle.abc_fields.specs.Limits.{longest_book};
 ghost use Rattle.abc_fields.specs.Values.{uncommented};
-ghost use Rattle.abc_items.specs.Grammar.{Token, AreItems};
-ghost use Rattle.abc_items.specs.Spans.{Span, spans_from, spans_of};
+ghost use Rattle.abc_items.specs.Grammar.{ItemText, AreItems};
+ghost use Rattle.abc_items.specs.ItemSpans.{ItemSpan, item_spans_from, item_spans_of};
 ghost use Rattle.abc_keys.specs.Keys.{key_of_text, signature_of};
 ghost use Rattle.abc_keys.specs.declared.signatures.Signature.{Signature as AnySignature};
 ghost use Rattle.abc_notes.specs.Events.{Event as AnyEvent, WrittenNote as AnyNote};
-ghost use Rattle.abc_notes.specs.EventView.{event_of, written_note};
+ghost use Rattle.abc_notes.specs.Inside.EventView.{event_of, notes_in, written_note};
 ghost use Rattle.abc_notes.specs.Music.{line_events, music_events, tune_events, tune_signature};
 ghost use Rattle.abc_notes.specs.Pitches.{SoundedNote, sounded, sounded_notes, FollowsTheRule};
-ghost use Rattle.abc_notes.specs.Kept.{past_of, notes_left, IsKept};
+ghost use Rattle.abc_notes.specs.Inside.Kept.{past_of, notes_left, IsKept};
 ghost use Rattle.abc_notes.specs.NoteParts.{AreNoteParts, NotesRise};
-ghost use Rattle.abc_notes.specs.Tables.{IsBarAfter};
-ghost use Rattle.abc_notes.specs.Tokens.{token_note, notes_in};
+ghost use Rattle.abc_notes.specs.Inside.BarTables.{IsBarAfter};
+ghost use Rattle.abc_notes.specs.Tokens.{token_note};
 
+use crate::accidentals::accidental_in_force;
 use crate::bar::Bar;
+use crate::events::{Event, WrittenNote};
+use crate::note_tokens::NoteToken;
 use crate::pitches::pitch_of;
-use crate::recall::accidental_of;
-use crate::token::NoteToken;
-use crate::tune::TuneEvents;
-use crate::written::{Event, WrittenNote};
+use crate::tune_events::TuneEvents;
 use abc_fields::{TuneText, without_comment};
 use abc_keys::{Accidental, Key, Signature, key_of, signature};
 use std::marker::Model;
@@ -42,7 +43,7 @@ pub struct Notes<'a> {
 impl<'a> Model for Notes<'a> {
     ghost Value = { List SoundedNote };
 
-    ghost view = { λ notes. sounded_notes notes.bar.start (past_of notes.bar.since notes.bar_events) notes.events };
+    ghost view = { λ notes. notes_left notes.bar notes.bar_events notes.events };
 
     ghost invariant = { λ notes. IsKept notes.bar notes.bar_events notes.events };
 }
@@ -54,7 +55,8 @@ impl<'a> Notes<'a> {
         ensures notes { result ≡ sounded_notes (tune_signature text.now) [] (tune_events text.now) }
         ensures parts { AreNoteParts text.now result }
         ensures rise { NotesRise 0 result }
-        ensures accidentals { (first : AnySignature) (past : List AnyEvent) (note : AnyNote) → FollowsTheRule first past note }
+        ensures accidentals { (first : AnySignature) (past : List AnyEvent) (note : AnyNote)
+            → FollowsTheRule first past note }
     {
         let (start, events) = TuneEvents::of_tune(text);
         Notes::new(start, events)
@@ -63,9 +65,11 @@ impl<'a> Notes<'a> {
     /// The notes of one music line, up to its comment, in a key. The line has at most 4,000,000
     /// bytes.
     pub fn of_line(line: &'a [u8], key: &Key) -> Notes<'a>
-        requires { length line.now ≤ 4000000 }
+        requires { length line.now ≤ longest_book }
         ensures notes { result ≡ sounded_notes (signature_of key.now) [] (music_events 0 line.now) }
-        ensures by_any_items { (items : List Token) → AreItems items (uncommented line.now) → result ≡ sounded_notes (signature_of key.now) [] (line_events 0 (spans_from 0 items)) }
+        ensures by_any_items { (items : List ItemText) → AreItems items (uncommented line.now)
+            → result
+            ≡ sounded_notes (signature_of key.now) [] (line_events 0 (item_spans_from 0 items)) }
         ensures parts { AreNoteParts line.now result }
         ensures rise { NotesRise 0 result }
     {
@@ -73,7 +77,7 @@ impl<'a> Notes<'a> {
     }
 
     fn new(start: Signature, events: TuneEvents<'a>) -> Notes<'a>
-        requires { length events ≤ 4000000 }
+        requires { length events ≤ longest_book }
         ensures { result ≡ sounded_notes start [] events.entry }
     {
         Notes {
@@ -142,11 +146,12 @@ fn heard<'a>(
 ) -> Option<NoteToken<'a>>
     requires { IsKept bar.old bar_events.old (event_of event ∷ events.now) }
     ensures kept { IsKept bar.new bar_events.new events.now }
-    ensures notes { notes_left bar.old bar_events.old (event_of event.entry ∷ events.now) ≡ notes_in result ++ notes_left bar.new bar_events.new events.now }
+    ensures notes { notes_left bar.old bar_events.old (event_of event.entry ∷ events.now)
+        ≡ notes_in result ++ notes_left bar.new bar_events.new events.now }
 {
     match event {
         Event::Note(note) => {
-            let accidental = accidental_of(bar, bar_events, note);
+            let accidental = accidental_in_force(bar, bar_events, note);
             bar.take_note(note);
             Some(token(note, accidental))
         }
@@ -155,7 +160,7 @@ fn heard<'a>(
             None
         }
         Event::Change(text) => {
-            bar.take_change(signature_told(text));
+            bar.take_change(written_signature(text));
             None
         }
     }
@@ -174,7 +179,7 @@ fn begin_bar<'a>(bar: &mut Bar, bar_events: &mut TuneEvents<'a>, events: &TuneEv
 
 // The signature of a key as it is written.
 #[inline(never)]
-fn signature_told(text: &[u8]) -> Signature
+fn written_signature(text: &[u8]) -> Signature
     ensures { result ≡ signature_of (key_of_text text.now) }
 {
     signature(&key_of(text))

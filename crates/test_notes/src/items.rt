@@ -23,7 +23,7 @@ fn initial(kind: Kind) -> u8 {
     }
 }
 
-// Reads what is left of the line, from this place on. Each item has to begin where the one before
+// Reads what is left of the line, from this index on. Each item has to begin where the one before
 // it ends, its text has to stand there, and the last one has to end with the line.
 fn outline<R: AllocGlobal + Abort>(
     rt: &R,
@@ -214,14 +214,14 @@ fn reads_what_is_left_again(rt: HostRuntime) -> Result<(), Fail> {
     let wanted: &[u8] = b"Q...NC...BG..D..";
     for taken in 0..7 {
         let mut items = Items::new(line);
-        let mut place = 0;
+        let mut end = 0;
         for _ in 0..taken {
-            place = items.next().map_or(place, |item| item.to);
+            end = items.next().map_or(end, |item| item.to);
         }
-        let left = wanted.get(place..).unwrap_or(b"");
-        let drawn = outline(&rt, line, items.again(), place)?;
+        let left = wanted.get(end..).unwrap_or(b"");
+        let drawn = outline(&rt, line, items.again(), end)?;
         assert_eq!(&rt; drawn.as_slice(), left, "after {taken}");
-        let drawn = outline(&rt, line, items, place)?;
+        let drawn = outline(&rt, line, items, end)?;
         assert_eq!(&rt; drawn.as_slice(), left, "after {taken}");
     }
     Ok(())

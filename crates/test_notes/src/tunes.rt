@@ -116,14 +116,14 @@ fn tells_where_each_note_stands(rt: HostRuntime) -> Result<(), Fail> {
         ),
     ];
     for (book, wanted) in cases {
-        let mut told = String::new(rt.alloc());
+        let mut found = String::new(rt.alloc());
         for tune in split_book(rt.alloc(), book, 16_000)?.iter() {
             for note in Notes::of_tune(tune) {
                 let text = String::from_utf8_lossy(rt.alloc(), note.text)?;
-                write!(told, "{} {};", note.from, text)?;
+                write!(found, "{} {};", note.from, text)?;
             }
         }
-        assert_eq!(&rt; told.as_str(), wanted);
+        assert_eq!(&rt; found.as_str(), wanted);
     }
     Ok(())
 }

@@ -1,7 +1,7 @@
 -- What a byte begins that begins none of the longer rows.
 use Rattle.std.specs.Prelude.{ℕ, ◌+◌, if◌then◌else◌, List, Option, Some, None}
 use Rattle.std.specs.List.{prefix_len}
-use Rattle.abc_keys.specs.Keys.{begins}
+use Rattle.abc_fields.specs.Bytes.{begins}
 use Rattle.abc_items.specs.declared.kinds.Kind.{Kind}
 use Rattle.abc_items.specs.declared.kinds.Kind.TheVariants.{Note, Bar, Other}
 use Rattle.abc_items.specs.declared.kinds.Front.{Front}
