@@ -7,14 +7,14 @@ use Rattle.tune_disk.specs.Disk.{DiskState, MayLeave, Written, Writes, settled, 
 use Rattle.tune_disk.specs.Stops.{Agrees, SinceThen, LeavesOnly}
 use Rattle.tune_disk.specs.Moments.{since_same}
 use Rattle.tune_disk.specs.Bytes.{written_long, length_after_some}
-use Rattle.tune_journal.specs.Image.{window, magic, gate_of, count_of, in_place, HasCount, StandsFor}
+use Rattle.tune_journal.specs.Image.{window, magic, gate_of, count_of, pages_of, HasPageCount, StandsFor}
 use Rattle.tune_journal.specs.Opening.{StandsForNone}
 use Rattle.tune_journal.specs.Making.{IsCleared, IsLaid, StandsForNoneOr}
 use Rattle.tune_journal.specs.Phases.{IsOutside, Settles}
 use Rattle.tune_journal.specs.Rest.{IsAtRest}
 use Rattle.tune_journal.proofs.Windows.{get_or-window, written_window, written_other}
-use Rattle.tune_journal.proofs.Frame.{agree_number, agree_in_place, stands_closed, in_place_at, length-in_place, number_is}
-use Rattle.tune_journal.proofs.Runs.{settles_settled, settles_agrees}
+use Rattle.tune_journal.proofs.Frame.{agree_number, agree_pages_of, stands_closed, pages_of_at, length-pages_of, number_is}
+use Rattle.tune_journal.proofs.CallRuns.{settles_settled, settles_agrees}
 
 -- lists of numbers are equal or not
 list_cases : (xs ys : List ℕ) → (xs ≡ ys) ⊎ (xs ≢ ys)
@@ -62,13 +62,13 @@ cleared_since {T} {E} bytes r a b size rest w = by_cases r w
 pub laying : (s : DiskState) → IsCleared s → (c : List ℕ) → Agrees (λ i. i < 4096) s.seen c → StandsForNone c
 laying s cleared c agrees = other_none c (agrees.same 0 (omega (arith, cleared.long)) (omega arith) ∙ cleared.zero)
 
-one_page : (first f : List ℕ) → window 16384 4096 f ≡ first → in_place 1 f ≡ first ∷ []
-one_page first f is = same_lists (in_place 1 f) (first ∷ []) (length-in_place 1 f) (λ p d lt. at p d (omega (arith, lt, length-in_place 1 f)))
+one_page : (first f : List ℕ) → window 16384 4096 f ≡ first → pages_of 1 f ≡ first ∷ []
+one_page first f is = same_lists (pages_of 1 f) (first ∷ []) (length-pages_of 1 f) (λ p d lt. at p d (omega (arith, lt, length-pages_of 1 f)))
   where
-    here : (d : List ℕ) → get_or (in_place 1 f) 0 d ≡ first
-    here d = in_place_at 1 0 f d (omega arith) ∙ is
+    here : (d : List ℕ) → get_or (pages_of 1 f) 0 d ≡ first
+    here d = pages_of_at 1 0 f d (omega arith) ∙ is
 
-    at : (p : ℕ) (d : List ℕ) → p < 1 → get_or (in_place 1 f) p d ≡ get_or (first ∷ []) p d
+    at : (p : ℕ) (d : List ℕ) → p < 1 → get_or (pages_of 1 f) p d ≡ get_or (first ∷ []) p d
     at zero d lt = here d
     at (suc p) d lt = absurd (omega arith)
 
@@ -79,11 +79,11 @@ module _ (first f c : List ℕ) (laid : IsLaid first f) (agrees : Agrees (IsOuts
   titled_gate : gate_of c ≡ 0
   titled_gate = agrees.same 4096 (omega (arith, laid.long)) (inr (omega arith)) ∙ laid.gate
 
-  titled_has : HasCount 1 c
+  titled_has : HasPageCount 1 c
   titled_has = record { least = omega arith; most = omega arith; long = omega (arith, laid.long, agrees.longer) }
 
-  titled_pages : in_place 1 c ≡ in_place 1 f
-  titled_pages = agree_in_place (IsOutside 0 8) f c agrees 1 (omega (arith, laid.long)) (λ i le lt. inr (omega arith))
+  titled_pages : pages_of 1 c ≡ pages_of 1 f
+  titled_pages = agree_pages_of (IsOutside 0 8) f c agrees 1 (omega (arith, laid.long)) (λ i le lt. inr (omega arith))
 
   titled_long : 20480 ≤ length c
   titled_long = omega (arith, laid.long, agrees.longer)
@@ -99,7 +99,7 @@ module _ (first f c : List ℕ) (laid : IsLaid first f) (agrees : Agrees (IsOuts
       cases_magic : (l : List ℕ) → (l ≡ magic) ⊎ (l ≢ magic)
       cases_magic l = list_cases l magic
 
-pub titled_after : (first : List ℕ) (old new : DiskState) → IsLaid first old.seen → Settles (IsOutside 0 8) old new → window 0 8 new.seen ≡ magic → IsAtRest 1 new × (in_place 1 new.seen ≡ first ∷ [])
+pub titled_after : (first : List ℕ) (old new : DiskState) → IsLaid first old.seen → Settles (IsOutside 0 8) old new → window 0 8 new.seen ≡ magic → IsAtRest 1 new × (pages_of 1 new.seen ≡ first ∷ [])
 titled_after first old new laid ran is =
     let agrees = settles_agrees (IsOutside 0 8) old new ran in (
       record {

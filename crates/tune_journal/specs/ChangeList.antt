@@ -25,13 +25,13 @@ AreAbove page [] = Unit {0}
 AreAbove page (c ∷ cs) = (page < c.0) × AreAbove page cs
 
 -- all changes after one are of pages above its page
-abbrev pub Rises : List (ℕ × List ℕ) → Type 0
-Rises [] = Unit {0}
-Rises (c ∷ cs) = AreAbove c.0 cs × Rises cs
+abbrev pub PagesRise : List (ℕ × List ℕ) → Type 0
+PagesRise [] = Unit {0}
+PagesRise (c ∷ cs) = AreAbove c.0 cs × PagesRise cs
 
 -- the pages rise, and each image has 4,096 bytes
 pub record IsChangeList (changes : List (ℕ × List ℕ)) : Type 0 where
-  pub rising : Rises changes
+  pub rising : PagesRise changes
   pub sized : All (λ c. length c.1 ≡ 4096) changes
 
 -- the change at place i

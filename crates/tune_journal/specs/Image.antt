@@ -23,24 +23,24 @@ abbrev pub magic : List ℕ
 magic = 65 ∷ 66 ∷ 67 ∷ 84 ∷ 85 ∷ 78 ∷ 69 ∷ 49 ∷ []
 
 -- where a page stands
-abbrev pub page_place : ℕ → ℕ
-page_place page = 16384 + 4096 * page
+abbrev pub page_offset : ℕ → ℕ
+page_offset page = 16384 + 4096 * page
 
 -- entry i of the log behind m pages
-abbrev pub entry_place : ℕ → ℕ → ℕ
-entry_place m i = 16384 + 4096 * m + 4100 * i
+abbrev pub entry_offset : ℕ → ℕ → ℕ
+entry_offset m i = 16384 + 4096 * m + 4100 * i
 
 -- as it stands in the log
-abbrev pub entry_bytes : ℕ → List ℕ → List ℕ
-entry_bytes page image = big_bytes 4 page ++ image
+abbrev pub log_entry : ℕ → List ℕ → List ℕ
+log_entry page image = big_bytes 4 page ++ image
 
 -- the first n pages, each in its place
-unfoldable pub in_place : ℕ → List ℕ → List (List ℕ)
-in_place n file = map (λ p. window (page_place p) 4096 file) (range_with_len 0 n)
+unfoldable pub pages_of : ℕ → List ℕ → List (List ℕ)
+pages_of n file = map (λ p. window (page_offset p) 4096 file) (range_with_len 0 n)
 
 -- k entries of the log behind m pages: the number of a page, and its image
 unfoldable pub entries : ℕ → ℕ → List ℕ → List (ℕ × List ℕ)
-entries m k file = map (λ i. (number (entry_place m i) file, window (entry_place m i + 4) 4096 file)) (range_with_len 0 k)
+entries m k file = map (λ i. (number (entry_offset m i) file, window (entry_offset m i + 4) 4096 file)) (range_with_len 0 k)
 
 abbrev pub count_of : List ℕ → ℕ
 count_of file = number 12288 file
@@ -65,21 +65,21 @@ pub record IsHeaded (file : List ℕ) : Type 0 where
   pub magic : window 0 8 file ≡ magic
   pub long : 20480 ≤ length file
 
-pub record HasCount (n : ℕ) (file : List ℕ) : Type 0 where
+pub record HasPageCount (n : ℕ) (file : List ℕ) : Type 0 where
   pub least : 1 ≤ n
   pub most : n ≤ 4000000
-  pub long : page_place n ≤ length file
+  pub long : page_offset n ≤ length file
 
 pub record HasLog (m k : ℕ) (file : List ℕ) : Type 0 where
-  pub count : HasCount m file
-  pub long : entry_place m k ≤ length file
+  pub count : HasPageCount m file
+  pub long : entry_offset m k ≤ length file
   pub log : IsLog m (entries m k file)
 
 -- A closed gate: the pages stand in their places. An open one: so they do, but for those that the log names.
 pub record StandsFor (pages : List (List ℕ)) (file : List ℕ) : Type 0 where
   pub headed : IsHeaded file
-  pub is_closed : gate_of file ≢ 167 → HasCount (count_of file) file × (pages ≡ in_place (count_of file) file)
-  pub is_open : gate_of file ≡ 167 → HasLog (new_count_of file) (number 8196 file) file × (pages ≡ changed (in_place (new_count_of file) file) (log_of file))
+  pub is_closed : gate_of file ≢ 167 → HasPageCount (count_of file) file × (pages ≡ pages_of (count_of file) file)
+  pub is_open : gate_of file ≡ 167 → HasLog (new_count_of file) (number 8196 file) file × (pages ≡ changed (pages_of (new_count_of file) file) (log_of file))
 
 -- before or after
 abbrev pub StandsForEither : List (List ℕ) → List (List ℕ) → List ℕ → Type 0

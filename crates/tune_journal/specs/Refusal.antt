@@ -3,8 +3,8 @@ use Rattle.std.specs.Prelude.{◌≡◌, ◌≢◌, ℕ, ◌<◌, ◌≤◌, len
 use Rattle.tune_disk.specs.Disk.{DiskState, Rises}
 use Rattle.tune_journal.specs.Image.{window, magic}
 use Rattle.tune_journal.specs.Opening.{IsSynced, StandsForNone}
-use Rattle.tune_journal.specs.declared.fault.OpenFault.{OpenFault}
-use Rattle.tune_journal.specs.declared.fault.OpenFault.TheVariants.{NotArchive, Damaged, NotEmpty, OutOfMemory, Device}
+use Rattle.tune_journal.specs.declared.open_fault.OpenFault.{OpenFault}
+use Rattle.tune_journal.specs.declared.open_fault.OpenFault.TheVariants.{NotArchive, Damaged, NotEmpty, OutOfMemory, Device}
 
 -- Where the file is at fault nothing was written.
 abbrev pub IsRefusedFor : OpenFault → DiskState → DiskState → Type 0

@@ -1,7 +1,7 @@
--- The states of a journal's device between its calls.
+-- The states of a journal's disk between its calls.
 use Rattle.std.specs.Prelude.{◌≡◌, ◌≢◌, ℕ}
 use Rattle.tune_disk.specs.Disk.{DiskState, settled}
-use Rattle.tune_journal.specs.Image.{IsHeaded, HasCount, HasLog, count_of, new_count_of, number, gate_of, in_place, log_of}
+use Rattle.tune_journal.specs.Image.{IsHeaded, HasPageCount, HasLog, count_of, new_count_of, number, gate_of, pages_of, log_of}
 use Rattle.tune_journal.specs.Pages.{changed}
 
 -- n pages in their places behind a closed gate, all of it on the disk
@@ -10,7 +10,7 @@ pub record IsAtRest (n : ℕ) (s : DiskState) : Type 0 where
   pub headed : IsHeaded s.seen
   pub gate : gate_of s.seen ≢ 167
   pub count : count_of s.seen ≡ n
-  pub pages : HasCount n s.seen
+  pub pages : HasPageCount n s.seen
 
 -- and a whole log behind m pages
 pub record IsLogged (n m : ℕ) (s : DiskState) : Type 0 where
@@ -30,4 +30,4 @@ pub record IsOpened (m : ℕ) (s : DiskState) : Type 0 where
 pub record IsApplied (m : ℕ) (s : DiskState) : Type 0 where
   pub opened : IsOpened m s
   pub count : count_of s.seen ≡ m
-  pub pages : in_place m s.seen ≡ changed (in_place m s.seen) (log_of s.seen)
+  pub pages : pages_of m s.seen ≡ changed (pages_of m s.seen) (log_of s.seen)

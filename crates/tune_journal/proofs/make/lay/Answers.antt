@@ -2,7 +2,7 @@ use Rattle.std.proofs.Common.{◌≡◌, ◌<◌, inl, length, refl, arith, rule
 use Rattle.std.proofs.lemmas.Result.{on_ok_weaker, err_from_is_err_and}
 use Rattle.tune_disk.specs.Moments.{spares_then, spares_write}
 use Rattle.tune_journal.specs.Phases.{IsOutside}
-use Rattle.tune_journal.proofs.Runs.{writes_fewer, writes_after, writes_ok}
+use Rattle.tune_journal.proofs.CallRuns.{writes_fewer, writes_after, writes_ok}
 use Rattle.tune_journal.proofs.Making.{laid_after}
 use Rattle.tune_journal.proofs.make.lay.Goals as goal
 
@@ -25,7 +25,7 @@ returns-clause-laid g c =
     let h1 = c.in_ok-write_at-2.ensures.honest h2 in
     let size : length c.args.first.now.bytes ≡ 4096 = search rules in
     laid_after c.args.first.now.bytes _ c.number_bytes.result _ _ _ _ _ long refl refl c.number_bytes.ensures size
-    (writes_ok 4096 _ c.write_at.result _ (g.D.Disk.state c.args.device.now) (g.D.Disk.state c.write_at.new.self) c.in_ok-write_at.was (c.write_at.ensures.write h1))
+    (writes_ok 4096 _ c.write_at.result _ (g.D.Disk.state c.args.disk.now) (g.D.Disk.state c.write_at.new.self) c.in_ok-write_at.was (c.write_at.ensures.write h1))
     (writes_ok 8192 _ c.write_at-2.result _ (g.D.Disk.state c.write_at.new.self) (g.D.Disk.state c.write_at-2.new.self) c.in_ok-write_at-2.was (c.write_at-2.ensures.write h2))
     (writes_ok 12288 _ c.write_at-3.result _ (g.D.Disk.state c.write_at-2.new.self) (g.D.Disk.state c.write_at-3.new.self) c.in_ok-write_at-3.was (c.write_at-3.ensures.write h3))
     (w h))) c.write_synced.ensures.written

@@ -5,7 +5,7 @@ use Rattle.tune_disk.specs.Moments.{since_then}
 use Rattle.tune_journal.specs.Image.{StandsFor}
 use Rattle.tune_journal.specs.Making.{StandsForNoneOr}
 use Rattle.tune_journal.proofs.Rests.{rest_leaves}
-use Rattle.tune_journal.proofs.Frame.{length-in_place}
+use Rattle.tune_journal.proofs.Frame.{length-pages_of}
 use Rattle.tune_journal.proofs.Openings.{synced_since}
 use Rattle.tune_journal.proofs.Making.{empty_leaves, empty_none, nothing_in}
 use Rattle.tune_journal.proofs.journal.Journal.make.Goals as goal
@@ -39,10 +39,10 @@ returns-in-Err-clause-moments g c = λ h1 only.
 
 pub returns-in-Ok-lay_out-clause-rest : goal.returns-in-Ok-lay_out-clause-rest
 returns-in-Ok-lay_out-clause-rest g c = λ h.
-    (let s = g.D.Disk.state c.lay_out.new.device in
+    (let s = g.D.Disk.state c.lay_out.new.disk in
     let ok = c.in-Ok-eq0.ensures.ok (c.lay_out.ensures.honest h) in
     let empty = ok.0.seen ∙ nothing_in _ _ c.in-Ok-eq0.field-0-test ok.1 in
     subst (λ (p : List (List ℕ)). LeavesOnly s.now (StandsFor p)) (c.in-Ok-lay_out.ensures.pages h empty) (rest_leaves 1 s (c.in-Ok-lay_out.ensures.rest h empty)))
 
 pub returns-in-Ok-lay_out-clause-count : goal.returns-in-Ok-lay_out-clause-count
-returns-in-Ok-lay_out-clause-count g c = length-in_place 1 (g.D.Disk.state c.lay_out.new.device).seen
+returns-in-Ok-lay_out-clause-count g c = length-pages_of 1 (g.D.Disk.state c.lay_out.new.disk).seen
