@@ -73,12 +73,25 @@ abbrev pub Shows : List ℕ → ℕ → List ℕ → Type 0
 Shows file at bytes = (k : ℕ) → k < length bytes → slice_index bytes k ≡ slice_index file (at + k)
 
 -- A count of failures goes up by one, and stays at the top of a u64.
-abbrev pub Rises : ℕ → ℕ → Type 0
-Rises old new = (new ≡ old + 1) ⊎ ((2 ^ 64 - 1 ≤ old) × (new ≡ old))
+abbrev pub CountsUp : ℕ → ℕ → Type 0
+CountsUp old new = (new ≡ old + 1) ⊎ ((2 ^ 64 - 1 ≤ old) × (new ≡ old))
 
 -- Each failure is counted, and nothing else is.
 abbrev pub CountsFailure : {T E : Type 0} → Result T E → ℕ → ℕ → Type 0
-CountsFailure result old new = MatchResult result (λ _. new ≡ old) (λ _. Rises old new)
+CountsFailure result old new = MatchResult result (λ _. new ≡ old) (λ _. CountsUp old new)
+
+-- What each call of a disk keeps, whatever it answers.
+pub record Calls {S T E : Type 0} (honest : S → Type 0) (failures : S → ℕ)
+    (result : Result T E) (old new : S) : Type 0 where
+  -- honesty is known only after the answers, so it is kept backwards
+  pub was_honest : honest new → honest old
+  pub counted : CountsFailure result (failures old) (failures new)
+
+-- A call that only looks: it leaves the state as it was.
+pub record Looks {S T E : Type 0} (honest : S → Type 0) (failures : S → ℕ)
+    (state : S → DiskState) (result : Result T E) (old new : S) : Type 0 where
+  pub calls : Calls honest failures result old new
+  pub same : honest new → state new ≡ state old
 
 -- the file with zeros behind it, up to this length
 abbrev pub filled : ℕ → List ℕ → List ℕ

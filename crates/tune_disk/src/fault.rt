@@ -1,7 +1,7 @@
 // A disk of which one call fails.
 ghost use Rattle.std.specs.Prelude.{◌≡◌, ◌+◌, ◌≤◌, ◌^◌, ◌↔◌, Some, IsErr, IfOk, OnOk, length};
-ghost use Rattle.tune_disk.specs.Disk.{CountsFailure, Shows, Writes, Syncs};
-ghost use Rattle.tune_disk.specs.Wrapped.{FailsOnce, faults_past, one_call_on};
+ghost use Rattle.tune_disk.specs.Disk.{CountsFailure, Calls, Looks, Shows, Writes, Syncs};
+ghost use Rattle.tune_disk.specs.Wrapped.{FailsOnce, faults_past, one_call_on, faulted_state, faulted_honest, faulted_failures};
 
 use crate::{DeviceFault, Disk};
 use std::marker::Model;
@@ -68,19 +68,17 @@ fn count_down(calls_before: &mut Option<u64>) -> Result<(), DeviceFault>
 }
 
 impl<D: Disk> Disk for OneFault<D> {
-    ghost state = { λ fault. D.Disk.state fault.disk };
+    ghost state = { faulted_state D.Disk.state };
 
-    ghost failures = { λ fault. D.Disk.failures fault.disk + faults_past fault.calls_before };
+    ghost failures = { faulted_failures D.Disk.failures };
 
-    ghost honest = { λ fault. D.Disk.honest fault.disk };
+    ghost honest = { faulted_honest D.Disk.honest };
 
     ghost seen_may_stay = { λ fault. D.Disk.seen_may_stay fault.disk };
 
     fn len(&mut self) -> Result<u64, DeviceFault>
-        ensures honest { D.honest self.new.disk → D.honest self.old.disk }
         ensures len { IfOk result (λ n. D.honest self.new.disk → n ≡ length (D.state self.old.disk).seen) }
-        ensures state { D.honest self.new.disk → D.state self.new.disk ≡ D.state self.old.disk }
-        ensures failures { CountsFailure result (D.failures self.old.disk + faults_past self.old.calls_before) (D.failures self.new.disk + faults_past self.new.calls_before) }
+        ensures looks { Looks (faulted_honest D.honest) (faulted_failures D.failures) (faulted_state D.state) result self.old self.new }
         ensures once { FailsOnce D.failures result self.old self.new }
     {
         count_down(&mut self.calls_before)?;
@@ -89,10 +87,8 @@ impl<D: Disk> Disk for OneFault<D> {
 
     fn read(&mut self, at: u64, into: &mut [u8]) -> Result<(), DeviceFault>
         requires { at + length into.old ≤ 2 ^ 40 }
-        ensures honest { D.honest self.new.disk → D.honest self.old.disk }
         ensures read { OnOk result (D.honest self.new.disk → Shows (D.state self.old.disk).seen at into.new) }
-        ensures state { D.honest self.new.disk → D.state self.new.disk ≡ D.state self.old.disk }
-        ensures failures { CountsFailure result (D.failures self.old.disk + faults_past self.old.calls_before) (D.failures self.new.disk + faults_past self.new.calls_before) }
+        ensures looks { Looks (faulted_honest D.honest) (faulted_failures D.failures) (faulted_state D.state) result self.old self.new }
         ensures once { FailsOnce D.failures result self.old self.new }
     {
         count_down(&mut self.calls_before)?;
@@ -101,9 +97,8 @@ impl<D: Disk> Disk for OneFault<D> {
 
     fn write_at(&mut self, at: u64, bytes: &[u8]) -> Result<(), DeviceFault>
         requires { at + length bytes.now ≤ 2 ^ 40 }
-        ensures honest { D.honest self.new.disk → D.honest self.old.disk }
         ensures write { D.honest self.new.disk → Writes at bytes.now result (D.state self.old.disk) (D.state self.new.disk) }
-        ensures failures { CountsFailure result (D.failures self.old.disk + faults_past self.old.calls_before) (D.failures self.new.disk + faults_past self.new.calls_before) }
+        ensures calls { Calls (faulted_honest D.honest) (faulted_failures D.failures) result self.old self.new }
         ensures once { FailsOnce D.failures result self.old self.new }
     {
         // The call that fails writes nothing.
@@ -112,9 +107,8 @@ impl<D: Disk> Disk for OneFault<D> {
     }
 
     fn sync(&mut self) -> Result<(), DeviceFault>
-        ensures honest { D.honest self.new.disk → D.honest self.old.disk }
         ensures sync { D.honest self.new.disk → Syncs result (D.state self.old.disk) (D.state self.new.disk) }
-        ensures failures { CountsFailure result (D.failures self.old.disk + faults_past self.old.calls_before) (D.failures self.new.disk + faults_past self.new.calls_before) }
+        ensures calls { Calls (faulted_honest D.honest) (faulted_failures D.failures) result self.old self.new }
         ensures once { FailsOnce D.failures result self.old self.new }
     {
         count_down(&mut self.calls_before)?;

@@ -3,3 +3,4 @@ pub mod Step
 pub mod Answers
 pub mod Stops
 pub mod Revisions
+pub mod Stores

@@ -1,6 +1,6 @@
 use Rattle.std.proofs.Common.{◌-◌, length, sym, ◌∙◌, arith, ap, ◌<◌}
 use Rattle.tune_store.proofs.StateLemmas.{greatest_last}
-use Rattle.tune_store.proofs.list.greatest_number.Goals as goal
+use Rattle.tune_store.proofs.list_archive.greatest_number.Goals as goal
 
 pub returns-in-Some : goal.returns-in-Some
 returns-in-Some c =

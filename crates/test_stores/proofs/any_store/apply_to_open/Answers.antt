@@ -1,5 +1,5 @@
 use Rattle.std.proofs.Common.{◌≤◌, inl, inr, arith}
-use Rattle.test_stores.proofs.any_store.carry_out.Goals as goal
+use Rattle.test_stores.proofs.any_store.apply_to_open.Goals as goal
 
 pub returns-clause-left : goal.returns-clause-left
 returns-clause-left g c = λ honest file left.

@@ -1,7 +1,7 @@
 use Rattle.std.proofs.Common.{subst}
 use Rattle.tune_store.specs.Step.{Outcome, tune_at}
 use Rattle.tune_store.proofs.StateLemmas.{state_after_text, KeepsLimits, only_within}
-use Rattle.tune_store.proofs.list.replace.Goals as goal
+use Rattle.tune_store.proofs.list_archive.replace.Goals as goal
 
 pub returns-clause-state : goal.returns-clause-state
 returns-clause-state c =

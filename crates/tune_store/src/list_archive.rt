@@ -8,8 +8,8 @@ ghost use Rattle.tune_store.specs.State.{State, IsState, IsTune, RisesFrom, grea
 ghost use Rattle.tune_store.specs.Step.{numbered, tune_at, import_book, replace_book, replace_tune, delete_tune, show_tune, exported};
 
 use crate::command::{Command, Refusal, Reply};
-use crate::store::TuneStore;
 use crate::tune::{GREATEST_NUMBER, GREATEST_REVISION, LONGEST_TEXT, MOST_TUNES, Tune};
+use crate::tune_store::TuneStore;
 use abc_fields::{TuneText, split_book};
 use std::alloc::Global;
 use std::marker::Model;

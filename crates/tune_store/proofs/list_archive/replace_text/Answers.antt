@@ -4,7 +4,7 @@ use Rattle.tune_store.specs.declared.tune.Tune.{Tune}
 use Rattle.tune_store.specs.declared.tune.TheConstants.{GREATEST_REVISION}
 use Rattle.tune_store.specs.Step.{revised, tune_at}
 use Rattle.tune_store.proofs.StateLemmas.{with_tune-place}
-use Rattle.tune_store.proofs.list.replace_text.Goals as goal
+use Rattle.tune_store.proofs.list_archive.replace_text.Goals as goal
 
 pub returns : goal.returns
 returns c =

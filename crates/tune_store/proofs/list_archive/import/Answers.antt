@@ -3,7 +3,7 @@ use Rattle.tune_store.specs.State.{greatest}
 use Rattle.tune_store.specs.Step.{numbered}
 use Rattle.tune_store.specs.declared.tune.TheConstants.{MOST_TUNES, GREATEST_NUMBER}
 use Rattle.tune_store.proofs.StateLemmas.{state_after_import}
-use Rattle.tune_store.proofs.list.import.Goals as goal
+use Rattle.tune_store.proofs.list_archive.import.Goals as goal
 
 pub returns-clause-state : goal.returns-clause-state
 returns-clause-state c =

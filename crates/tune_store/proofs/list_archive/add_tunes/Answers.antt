@@ -5,7 +5,7 @@ use Rattle.std.proofs.lemmas.List.{length_push}
 use Rattle.tune_store.specs.declared.tune.Tune.{Tune}
 use Rattle.tune_store.specs.Step.{numbered}
 use Rattle.tune_store.proofs.StateLemmas.{numbered_next, length-numbered}
-use Rattle.tune_store.proofs.list.add_tunes.Goals as goal
+use Rattle.tune_store.proofs.list_archive.add_tunes.Goals as goal
 
 pub unwrap-requires : goal.unwrap-requires
 unwrap-requires c =

@@ -1,7 +1,7 @@
 use Rattle.std.proofs.Common.{◌≡◌, refl, ap, sym, inl, inr, true, false, arith}
 use Rattle.tune_store.specs.Step.{Outcome}
 use Rattle.tune_store.proofs.StepLemmas.{in_memory, refused_stays, failing_closes, closed_answers, answers_reach}
-use Rattle.tune_store.proofs.list.ListArchiveTuneStore.apply.Goals as goal
+use Rattle.tune_store.proofs.list_archive.ListArchiveTuneStore.apply.Goals as goal
 
 pub returns-in-Import-clause-answer : goal.returns-in-Import-clause-answer
 returns-in-Import-clause-answer c =

@@ -2,7 +2,7 @@ use Rattle.std.proofs.Common.{ℕ, List, [], ◌∷◌, ◌++◌, Ok, ap, sym, �
 use Rattle.std.proofs.lemmas.Result.{err_from_is_err_and}
 use Rattle.tune_store.specs.Answers.{passed, no_memory}
 use Rattle.test_stores.proofs.RecordLemmas.{pushes}
-use Rattle.test_stores.proofs.store.RecordedStoreTuneStore.apply.Goals as goal
+use Rattle.test_stores.proofs.recorded_store.RecordedStoreTuneStore.apply.Goals as goal
 
 pub returns-in_err-reserve-clause-answer : goal.returns-in_err-reserve-clause-answer
 returns-in_err-reserve-clause-answer c =
