@@ -13,6 +13,7 @@ use Rattle.tune_journal.specs.Pages.{page_at, changed, pages_after}
 use Rattle.tune_journal.proofs.ChangeLists.{rises_from_increasing, image_of_none}
 use Rattle.tune_journal.proofs.Changed.{length-changed}
 use Rattle.tune_journal.specs.Moments.{Goes, LeftOrSame}
+use Rattle.tune_journal.specs.Layout.{gate_open}
 
 module _ {D : Type 0} (honest : D → Type 0) (state : D → DiskState) where
   pub goes_then : (a b c : D) (P : List ℕ → Type 0) → Goes honest state a b P → Goes honest state b c P → Goes honest state a c P
@@ -26,7 +27,7 @@ module _ {D : Type 0} (honest : D → Type 0) (state : D → DiskState) where
 
 -- A file stands for one list of pages at most.
 pub stands_once : (a b : List (List ℕ)) (file : List ℕ) → StandsFor a file → StandsFor b file → a ≡ b
-stands_once a b file s t = elim (cases_eq (gate_of file) 167) [
+stands_once a b file s t = elim (cases_eq (gate_of file) gate_open) [
   | inl is ↦ (s.is_open is).1 ∙ sym (t.is_open is).1
   | inr shut ↦ (s.is_closed shut).1 ∙ sym (t.is_closed shut).1
 ]

@@ -11,6 +11,7 @@ use Rattle.std.proofs.lemmas.Bool.Decides.{nat_tests}
 use Rattle.tune_journal.specs.declared.changes.ChangedPage.{ChangedPage}
 use Rattle.tune_journal.specs.Listed.{change_in, listed}
 use Rattle.tune_journal.specs.ChangeList.{IsChangeList, with_change, image_of, change_at, changed_page, AreBelow, AreAbove, PagesRise, FoundAt, MissingAt}
+use Rattle.tune_journal.specs.Layout.{block_bytes}
 
 abbrev Change : Type 0
 Change = ℕ × List ℕ
@@ -113,9 +114,9 @@ rises_with page image (c ∷ cs) rises = elim (cases_order page c.0) [
 ]
 
 abbrev IsSized : Change → Type 0
-IsSized c = length c.1 ≡ 4096
+IsSized c = length c.1 ≡ block_bytes
 
-pub sized_with : (page : ℕ) (image : List ℕ) (l : List Change) → length image ≡ 4096 → All (λ c. length c.1 ≡ 4096) l → All (λ c. length c.1 ≡ 4096) (with_change page image l)
+pub sized_with : (page : ℕ) (image : List ℕ) (l : List Change) → length image ≡ block_bytes → All (λ c. length c.1 ≡ block_bytes) l → All (λ c. length c.1 ≡ block_bytes) (with_change page image l)
 sized_with page image [] size sized = All-cons IsSized (page, image) [] size sized
 sized_with page image (c ∷ cs) size sized =
     let later : All IsSized cs = All-tail IsSized c cs sized in
@@ -170,6 +171,6 @@ listed_inserted at items new missing =
     ∙ ap (λ (l : List Change). take at (listed items) ++ change_in new ∷ l) (sym (drop-map change_in at items))
     ∙ sym (with_change_missing new.page at new.image.value.bytes (listed items) missing)
 
-pub keeps_order : (page : ℕ) (image : List ℕ) (old new : List Change) → new ≡ with_change page image old → length image ≡ 4096 → IsChangeList old → IsChangeList new
+pub keeps_order : (page : ℕ) (image : List ℕ) (old new : List Change) → new ≡ with_change page image old → length image ≡ block_bytes → IsChangeList old → IsChangeList new
 keeps_order page image old new is size keeps =
     subst IsChangeList (sym is) (record { rising = rises_with page image old keeps.rising; sized = sized_with page image old size keeps.sized })

@@ -5,7 +5,7 @@ use Rattle.std.proofs.lemmas.List.FromFn.{map-range_with_len_more}
 use Rattle.tune_disk.specs.Disk.{DiskState, Written, Writes}
 use Rattle.tune_disk.specs.Stops.{Agrees, Spares}
 use Rattle.tune_disk.specs.Moments.{spares_then, spares_write}
-use Rattle.tune_journal.specs.Image.{window, number, page_offset, entry_offset, pages_of, entries, IsLog, HasLog}
+use Rattle.tune_journal.specs.Image.{window, number, page_offset, entry_offset, pages_of, entries, IsLog, HasLog, entry_count_of}
 use Rattle.tune_journal.specs.Pages.{changed}
 use Rattle.tune_journal.specs.ChangeList.{change_at}
 use Rattle.tune_journal.specs.Phases.{IsInNoPage}
@@ -13,6 +13,7 @@ use Rattle.tune_journal.specs.Opening.{HasEntries, Climbs, least_of}
 use Rattle.tune_journal.proofs.Windows.{length-window}
 use Rattle.tune_journal.proofs.Loops.{image_more, changed-push, outside_page}
 use Rattle.tune_journal.proofs.Frame.{agree_number, agree_window, entries_at, length-entries, in_no_page}
+use Rattle.tune_journal.specs.Layout.{block_bytes, entry_count_offset, least_length, most_pages}
 
 pub spares_agrees : (Kept : ℕ → Type 0) (a b : DiskState) → Spares Kept a b → Agrees Kept a.seen b.seen
 spares_agrees Kept a b s = record { longer = s.longer; same = λ i lt kept. s.seen i kept }
@@ -21,9 +22,9 @@ pub entries_none : (m : ℕ) (f : List ℕ) → entries m 0 f ≡ []
 unfolding entries
 entries_none m f = refl
 
-pub entries_more : (m k : ℕ) (f : List ℕ) → entries m (k + 1) f ≡ entries m k f ++ (number (entry_offset m k) f, window (entry_offset m k + 4) 4096 f) ∷ []
+pub entries_more : (m k : ℕ) (f : List ℕ) → entries m (k + 1) f ≡ entries m k f ++ (number (entry_offset m k) f, window (entry_offset m k + 4) block_bytes f) ∷ []
 unfolding entries
-entries_more m k f = map-range_with_len_more (λ i. (number (entry_offset m i) f, window (entry_offset m i + 4) 4096 f)) 0 k k (omega arith)
+entries_more m k f = map-range_with_len_more (λ i. (number (entry_offset m i) f, window (entry_offset m i + 4) block_bytes f)) 0 k k (omega arith)
 
 pub all_below : (m k : ℕ) (f : List ℕ) → HasEntries m k f → All (λ e. e.0 < m) (entries m k f)
 all_below m k f has i d lt =
@@ -46,8 +47,8 @@ module _ (m k i : ℕ) (start now : DiskState) (has : HasEntries m k start.seen)
   pub page_same : number (entry_offset m i) now.seen ≡ number (entry_offset m i) start.seen
   page_same = agree_number (IsInNoPage log) start.seen now.seen agrees (entry_offset m i) (omega (arith, long)) (λ j le lt'. behind j (omega arith))
 
-  pub image_same : window (entry_offset m i + 4) 4096 now.seen ≡ window (entry_offset m i + 4) 4096 start.seen
-  image_same = agree_window (IsInNoPage log) start.seen now.seen agrees (entry_offset m i + 4) 4096 (omega (arith, long)) (λ j le lt'. behind j (omega arith))
+  pub image_same : window (entry_offset m i + 4) block_bytes now.seen ≡ window (entry_offset m i + 4) block_bytes start.seen
+  image_same = agree_window (IsInNoPage log) start.seen now.seen agrees (entry_offset m i + 4) block_bytes (omega (arith, long)) (λ j le lt'. behind j (omega arith))
 
   pub within : entry_offset m (i + 1) ≤ length now.seen
   within = omega (arith, long, so_far.longer)
@@ -55,26 +56,26 @@ module _ (m k i : ℕ) (start now : DiskState) (has : HasEntries m k start.seen)
   pub low : number (entry_offset m i) now.seen < m
   low = omega (arith, page_same, has.below i lt)
 
-  pub image_size : length (window (entry_offset m i + 4) 4096 now.seen) ≡ 4096
-  image_size = length-window (entry_offset m i + 4) 4096 now.seen (omega (arith, within))
+  pub image_size : length (window (entry_offset m i + 4) block_bytes now.seen) ≡ block_bytes
+  image_size = length-window (entry_offset m i + 4) block_bytes now.seen (omega (arith, within))
 
-  pub copy_spares : {T E : Type 0} (r : Result T E) (next : DiskState) → Writes (page_offset (number (entry_offset m i) now.seen)) (window (entry_offset m i + 4) 4096 now.seen) r now next → Spares (IsInNoPage log) start next
+  pub copy_spares : {T E : Type 0} (r : Result T E) (next : DiskState) → Writes (page_offset (number (entry_offset m i) now.seen)) (window (entry_offset m i + 4) block_bytes now.seen) r now next → Spares (IsInNoPage log) start next
   copy_spares r next w = spares_then (IsInNoPage log) start now next so_far
-      (spares_write (IsInNoPage log) (page_offset (number (entry_offset m i) now.seen)) (window (entry_offset m i + 4) 4096 now.seen) r now next w (λ j out. apart j (outside_page log i j (omega (arith, lt, length-entries m k start.seen)) out)))
+      (spares_write (IsInNoPage log) (page_offset (number (entry_offset m i) now.seen)) (window (entry_offset m i + 4) block_bytes now.seen) r now next w (λ j out. apart j (outside_page log i j (omega (arith, lt, length-entries m k start.seen)) out)))
     where
       named : (change_at log i).0 ≡ number (entry_offset m i) now.seen
       named = ap (λ (e : ℕ × List ℕ). e.0) (entries_at m k i start.seen (0, []) lt) ∙ sym page_same
 
-      apart : (j : ℕ) → (j < page_offset (change_at log i).0) ⊎ (page_offset (change_at log i).0 + 4096 ≤ j) → (j < page_offset (number (entry_offset m i) now.seen)) ⊎ (page_offset (number (entry_offset m i) now.seen) + length (window (entry_offset m i + 4) 4096 now.seen) ≤ j)
+      apart : (j : ℕ) → (j < page_offset (change_at log i).0) ⊎ (page_offset (change_at log i).0 + block_bytes ≤ j) → (j < page_offset (number (entry_offset m i) now.seen)) ⊎ (page_offset (number (entry_offset m i) now.seen) + length (window (entry_offset m i + 4) block_bytes now.seen) ≤ j)
       apart j (inl below) = inl (omega (arith, named, below))
       apart j (inr above) = inr (omega (arith, named, above, image_size))
 
-  pub copy_image : (next : DiskState) → Written (page_offset (number (entry_offset m i) now.seen)) (window (entry_offset m i + 4) 4096 now.seen) now.seen next.seen
+  pub copy_image : (next : DiskState) → Written (page_offset (number (entry_offset m i) now.seen)) (window (entry_offset m i + 4) block_bytes now.seen) now.seen next.seen
       → pages_of m now.seen ≡ changed (pages_of m start.seen) (entries m i start.seen) → pages_of m next.seen ≡ changed (pages_of m start.seen) (entries m (i + 1) start.seen)
   copy_image next w before =
-      image_more m (number (entry_offset m i) now.seen) (window (entry_offset m i + 4) 4096 now.seen) now.seen next.seen image_size low (omega (arith, within)) w
+      image_more m (number (entry_offset m i) now.seen) (window (entry_offset m i + 4) block_bytes now.seen) now.seen next.seen image_size low (omega (arith, within)) w
       ∙ (λ t. set (before t) (page_same t) (image_same t))
-      ∙ sym (changed-push (pages_of m start.seen) (entries m i start.seen) (number (entry_offset m i) start.seen, window (entry_offset m i + 4) 4096 start.seen))
+      ∙ sym (changed-push (pages_of m start.seen) (entries m i start.seen) (number (entry_offset m i) start.seen, window (entry_offset m i + 4) block_bytes start.seen))
       ∙ ap (changed (pages_of m start.seen)) (sym (entries_more m i start.seen))
 
 numbers_at : (xs : List (ℕ × List ℕ)) (i : ℕ) → get_or (map (λ e. e.0) xs) i 0 ≡ (get_or xs i (0, [])).0
@@ -117,8 +118,8 @@ module _ (m k : ℕ) (f : List ℕ) where
           omega (arith, up, number_at i (omega (arith, lt)), subst (λ (x : ℕ). get_or (map (λ e. e.0) (entries m k f)) x 0 ≡ number (entry_offset m (suc i)) f) (sym same) (number_at (suc i) lt)))
 
 -- the second number of a descriptor, on a disk that a read left as it was
-pub second_number : (a b : DiskState) (n : ℕ) → b ≡ a → 20480 ≤ length a.seen → (8200 ≤ length b.seen → n ≡ number 8196 b.seen) → n ≡ number 8196 a.seen
-second_number a b n same long is = (let same_seen : b.seen ≡ a.seen = ap (λ (s : DiskState). s.seen) same in is (omega (arith, ap length same_seen, long)) ∙ ap (number 8196) same_seen)
+pub second_number : (a b : DiskState) (n : ℕ) → b ≡ a → least_length ≤ length a.seen → (entry_count_offset + 4 ≤ length b.seen → n ≡ entry_count_of b.seen) → n ≡ entry_count_of a.seen
+second_number a b n same long is = (let same_seen : b.seen ≡ a.seen = ap (λ (s : DiskState). s.seen) same in is (omega (arith, ap length same_seen, long)) ∙ ap entry_count_of same_seen)
 
 -- what the test of a log says
 pub tested : (m k : ℕ) (a b : DiskState) (said : Bool) → b ≡ a → entry_offset m k ≤ length a.seen → (entry_offset m k ≤ length b.seen → IsTrue said ↔ Climbs m k b.seen) → IsTrue said ↔ Climbs m k a.seen
@@ -126,14 +127,14 @@ tested m k a b said same long says =
     let same_seen : b.seen ≡ a.seen = ap (λ (s : DiskState). s.seen) same in
     subst (λ (f : List ℕ). IsTrue said ↔ Climbs m k f) same_seen (says (omega (arith, ap length same_seen, long)))
 
-pub has_log : (m k : ℕ) (f : List ℕ) → m ≤ 4000000 → 0 < k → k ≤ m → entry_offset m k ≤ length f → Climbs m k f → HasLog m k f
+pub has_log : (m k : ℕ) (f : List ℕ) → m ≤ most_pages → 0 < k → k ≤ m → entry_offset m k ≤ length f → Climbs m k f → HasLog m k f
 has_log m k f most some few long climbs = record {
   count = record { least = omega (arith, some, few); most = most; long = omega (arith, long) };
   long = long;
   log = climbs_log m k f some few climbs;
 }
 
-pub not_log : (m k m' k' : ℕ) (f : List ℕ) → m ≡ m' → k ≡ k' → HasLog m' k' f → (4000000 < m) ⊎ ((m ≤ 4000000 × (k ≡ 0)) ⊎ (m ≤ 4000000 × (k ≢ 0) × (m < k))) → ⊥
+pub not_log : (m k m' k' : ℕ) (f : List ℕ) → m ≡ m' → k ≡ k' → HasLog m' k' f → (most_pages < m) ⊎ ((m ≤ most_pages × (k ≡ 0)) ⊎ (m ≤ most_pages × (k ≢ 0) × (m < k))) → ⊥
 not_log m k m' k' f is is' log (inl over) = omega (arith, is, over, log.count.most)
 not_log m k m' k' f is is' log (inr (inl none)) = omega (arith, is', none.1, log.log.some, length-entries m' k' f)
 not_log m k m' k' f is is' log (inr (inr many)) = omega (arith, is, is', many.2, log.log.few, length-entries m' k' f)

@@ -5,6 +5,7 @@ use Rattle.tune_disk.specs.Disk.{DiskState}
 use Rattle.tune_journal.specs.Image.{pages_of, log_of}
 use Rattle.tune_journal.specs.Pages.{changed}
 use Rattle.tune_journal.specs.Rest.{IsAtRest, IsLogged, IsOpened, IsApplied}
+use Rattle.tune_journal.specs.Layout.{most_pages}
 
 -- a list of pages on a disk
 pub record Held (D : Type 0) : Type 0 where
@@ -66,20 +67,20 @@ module _ {D : Type 0} where
   module _ (honest : D → Type 0) (state : D → DiskState) where
     pub record IsSound (disk : D) (n : ℕ) : Type 0 where
       pub least : 1 ≤ n
-      pub most : n ≤ 4000000
+      pub most : n ≤ most_pages
       pub rest : honest disk → IsAtRest n (state disk)
 
     pub record IsSoundLogged (disk : D) (n m : ℕ) : Type 0 where
       pub least : 1 ≤ m
-      pub most : m ≤ 4000000
+      pub most : m ≤ most_pages
       pub logged : honest disk → IsLogged n m (state disk)
 
     pub record IsSoundOpened (disk : D) (m : ℕ) : Type 0 where
       pub least : 1 ≤ m
-      pub most : m ≤ 4000000
+      pub most : m ≤ most_pages
       pub opened : honest disk → IsOpened m (state disk)
 
     pub record IsSoundApplied (disk : D) (m : ℕ) : Type 0 where
       pub least : 1 ≤ m
-      pub most : m ≤ 4000000
+      pub most : m ≤ most_pages
       pub applied : honest disk → IsApplied m (state disk)

@@ -1,10 +1,11 @@
 // A journal, and the commit that changes it.
 ghost use Rattle.std.specs.Prelude.{◌≡◌, ◌<◌, ◌≤◌, All, length, MatchResult, IfOk, OnOk};
-ghost use Rattle.tune_disk.specs.Disk.{Rises, CountsFailure};
+ghost use Rattle.tune_disk.specs.Disk.{CountsUp, Looks};
 ghost use Rattle.tune_disk.specs.Stops.{LeavesOnly};
 ghost use Rattle.tune_journal.specs.Image.{StandsFor, StandsForEither};
 ghost use Rattle.tune_journal.specs.Moments.{Goes};
 ghost use Rattle.tune_journal.specs.Pages.{NamesAll, page_at, pages_after};
+ghost use Rattle.tune_journal.specs.Layout.{most_pages};
 
 use crate::changes::{Changes, PageImage};
 use crate::commit::write_log;
@@ -37,7 +38,7 @@ impl<D: Disk> Journal<D> {
     /// The number of pages, from 1 to 4,000,000.
     pub fn count(&self) -> u32
         ensures count { result ≡ length self.now.pages }
-        ensures bounds { (1 ≤ result) × (result ≤ 4000000) }
+        ensures bounds { (1 ≤ result) × (result ≤ most_pages) }
         // A journal is at rest: a stop leaves its pages alone.
         ensures rest { D.honest self.now.disk → LeavesOnly (D.state self.now.disk).now (StandsFor self.now.pages) }
     {
@@ -51,12 +52,10 @@ impl<D: Disk> Journal<D> {
     /// `DeviceFault` where the disk failed: `into` then has any bytes, and the journal is as before.
     pub fn read(&mut self, page: u32, into: &mut PageImage) -> Result<(), DeviceFault>
         requires { page < length self.old.pages }
-        ensures honest { D.honest self.new.disk → D.honest self.old.disk }
         ensures page { OnOk result (D.honest self.new.disk → into.new.bytes ≡ page_at self.old.pages page) }
-        ensures state { D.honest self.new.disk → D.state self.new.disk ≡ D.state self.old.disk }
         ensures pages { D.honest self.new.disk → self.new.pages ≡ self.old.pages }
         ensures count { length self.new.pages ≡ length self.old.pages }
-        ensures failures { CountsFailure result (D.failures self.old.disk) (D.failures self.new.disk) }
+        ensures looks { Looks D.honest D.failures D.state result self.old.disk self.new.disk }
     {
         self.disk.read(page_offset(page), &mut into.bytes)
     }
@@ -77,7 +76,7 @@ impl<D: Disk> Journal<D> {
     /// `Broken` where the disk failed: its disk stands for the list before or after, and is to be opened again.
     pub fn commit(self, new_count: u32, changes: &Changes) -> Result<Journal<D>, Broken<D>>
         requires grows { length self.pages ≤ new_count }
-        requires most { new_count ≤ 4000000 }
+        requires most { new_count ≤ most_pages }
         requires some { 0 < length changes.now }
         requires below { All (λ e. e.0 < new_count) changes.now }
         requires names { NamesAll (length self.pages) new_count changes.now }
@@ -89,7 +88,7 @@ impl<D: Disk> Journal<D> {
         ensures rest { IfOk result (λ journal. D.honest journal.disk → LeavesOnly (D.state journal.disk).now (StandsFor (pages_after self.pages new_count changes.now))) }
         ensures pages { IfOk result (λ journal. D.honest journal.disk → journal.pages ≡ pages_after self.pages new_count changes.now) }
         ensures count { IfOk result (λ journal. length journal.pages ≡ new_count) }
-        ensures failures { MatchResult result (λ journal. D.failures journal.disk ≡ D.failures self.disk) (λ broken. Rises (D.failures self.disk) (D.failures broken.disk)) }
+        ensures failures { MatchResult result (λ journal. D.failures journal.disk ≡ D.failures self.disk) (λ broken. CountsUp (D.failures self.disk) (D.failures broken.disk)) }
     {
         self.log(new_count, changes)?
             .open_gate()?
@@ -104,7 +103,7 @@ impl<D: Disk> Journal<D> {
     /// `Broken` where the disk failed: its disk stands for the list before.
     pub fn log(self, new_count: u32, changes: &Changes) -> Result<Logged<D>, Broken<D>>
         requires grows { length self.pages ≤ new_count }
-        requires most { new_count ≤ 4000000 }
+        requires most { new_count ≤ most_pages }
         requires some { 0 < length changes.now }
         requires below { All (λ e. e.0 < new_count) changes.now }
         requires names { NamesAll (length self.pages) new_count changes.now }
@@ -116,7 +115,7 @@ impl<D: Disk> Journal<D> {
         ensures changes { IfOk result (λ logged. D.honest logged.disk → logged.changes ≡ changes.now) }
         ensures next { IfOk result (λ logged. D.honest logged.disk → logged.next ≡ pages_after self.pages new_count changes.now) }
         ensures count { IfOk result (λ logged. length logged.next ≡ new_count) }
-        ensures failures { MatchResult result (λ logged. D.failures logged.disk ≡ D.failures self.disk) (λ broken. Rises (D.failures self.disk) (D.failures broken.disk)) }
+        ensures failures { MatchResult result (λ logged. D.failures logged.disk ≡ D.failures self.disk) (λ broken. CountsUp (D.failures self.disk) (D.failures broken.disk)) }
     {
         let Journal { mut disk, count } = self;
         match write_log(&mut disk, new_count, changes) {

@@ -2,6 +2,7 @@
 ghost use Rattle.std.specs.Prelude.{◌≡◌, ◌≤◌};
 ghost use Rattle.byteorder.specs.Endian.{big_bytes};
 ghost use Rattle.tune_journal.specs.Image.{page_offset, entry_offset};
+ghost use Rattle.tune_journal.specs.Layout.{most_pages};
 
 use byteorder::{BigEndian, ByteOrder};
 
@@ -46,7 +47,7 @@ pub(crate) fn page_offset(page: u32) -> u64
 
 /// The log stands behind `count` pages.
 pub(crate) fn entry_offset(count: u32, entry: u32) -> u64
-    requires { (count ≤ 4000000) × (entry ≤ 4000000) }
+    requires { (count ≤ most_pages) × (entry ≤ most_pages) }
     ensures { result ≡ entry_offset count entry }
 {
     page_offset(count) + ENTRY_BYTES as u64 * entry as u64

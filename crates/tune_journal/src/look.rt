@@ -1,8 +1,9 @@
 // What opening finds in a file that a stop may have left.
 ghost use Rattle.std.specs.Prelude.{◌≡◌, ◌≤◌, ◌^◌, ◌+◌, ◌↔◌, IsTrue, length, OnOk, IfOk};
-ghost use Rattle.tune_disk.specs.Disk.{CountsFailure};
-ghost use Rattle.tune_journal.specs.Image.{window, number, entry_offset, magic, gate_of};
+ghost use Rattle.tune_disk.specs.Disk.{Calls, Looks};
+ghost use Rattle.tune_journal.specs.Image.{window, number, entry_offset, gate_of};
 ghost use Rattle.tune_journal.specs.Opening.{Climbs, IsSynced, IsSyncedOrSame, Sees, SeesOpen, SeesClosed, IsBounded};
+ghost use Rattle.tune_journal.specs.Layout.{magic, magic_offset, magic_bytes, gate_open, least_length, most_pages};
 
 use crate::layout::{
     COUNT_OFFSET, DESCRIPTOR_OFFSET, ENTRY_COUNT_OFFSET, GATE_OFFSET, GATE_OPEN, LEAST_BYTES,
@@ -13,10 +14,9 @@ use tune_disk::{DeviceFault, Disk};
 
 /// Syncs, and asks for the length.
 pub(crate) fn settle<D: Disk>(disk: &mut D) -> Result<u64, DeviceFault>
-    ensures honest { D.honest disk.new → D.honest disk.old }
     ensures ok { IfOk result (λ size. D.honest disk.new → IsSynced (D.state disk.old) (D.state disk.new) × (size ≡ length (D.state disk.old).seen)) }
     ensures err { D.honest disk.new → IsSyncedOrSame (D.state disk.old) (D.state disk.new) }
-    ensures failures { CountsFailure result (D.failures disk.old) (D.failures disk.new) }
+    ensures calls { Calls D.honest D.failures result disk.old disk.new }
 {
     disk.sync()?;
     disk.len()
@@ -24,10 +24,8 @@ pub(crate) fn settle<D: Disk>(disk: &mut D) -> Result<u64, DeviceFault>
 
 fn read_number<D: Disk>(disk: &mut D, at: u64) -> Result<u32, DeviceFault>
     requires { at + 4 ≤ 2 ^ 40 }
-    ensures honest { D.honest disk.new → D.honest disk.old }
-    ensures state { D.honest disk.new → D.state disk.new ≡ D.state disk.old }
     ensures number { IfOk result (λ n. D.honest disk.new → at + 4 ≤ length (D.state disk.old).seen → n ≡ number at (D.state disk.old).seen) }
-    ensures failures { CountsFailure result (D.failures disk.old) (D.failures disk.new) }
+    ensures looks { Looks D.honest D.failures D.state result disk.old disk.new }
 {
     let mut bytes = [0; 4];
     disk.read(at, &mut bytes)?;
@@ -36,12 +34,10 @@ fn read_number<D: Disk>(disk: &mut D, at: u64) -> Result<u32, DeviceFault>
 
 /// Do the entries of a log name pages below `count`, each above the last?
 fn check_log<D: Disk>(disk: &mut D, count: u32, entries: u32) -> Result<bool, DeviceFault>
-    requires { (count ≤ 4000000) × (entries ≤ count) }
-    ensures honest { D.honest disk.new → D.honest disk.old }
-    ensures state { D.honest disk.new → D.state disk.new ≡ D.state disk.old }
+    requires { (count ≤ most_pages) × (entries ≤ count) }
     ensures climbs { IfOk result (λ yes. D.honest disk.new → entry_offset count entries ≤ length (D.state disk.old).seen
         → IsTrue yes ↔ Climbs count entries (D.state disk.old).seen) }
-    ensures failures { CountsFailure result (D.failures disk.old) (D.failures disk.new) }
+    ensures looks { Looks D.honest D.failures D.state result disk.old disk.new }
 {
     let mut least = 0;
     for entry in 0..entries {
@@ -70,10 +66,8 @@ fn is_magic(bytes: &[u8]) -> bool
 
 /// Is the magic at the front?
 fn read_magic<D: Disk>(disk: &mut D) -> Result<bool, DeviceFault>
-    ensures honest { D.honest disk.new → D.honest disk.old }
-    ensures state { D.honest disk.new → D.state disk.new ≡ D.state disk.old }
-    ensures magic { IfOk result (λ yes. D.honest disk.new → 8 ≤ length (D.state disk.old).seen → IsTrue yes ↔ (window 0 8 (D.state disk.old).seen ≡ magic)) }
-    ensures failures { CountsFailure result (D.failures disk.old) (D.failures disk.new) }
+    ensures magic { IfOk result (λ yes. D.honest disk.new → magic_bytes ≤ length (D.state disk.old).seen → IsTrue yes ↔ (window magic_offset magic_bytes (D.state disk.old).seen ≡ magic)) }
+    ensures looks { Looks D.honest D.failures D.state result disk.old disk.new }
 {
     let mut bytes = [0; 8];
     disk.read(MAGIC_OFFSET, &mut bytes)?;
@@ -82,10 +76,8 @@ fn read_magic<D: Disk>(disk: &mut D) -> Result<bool, DeviceFault>
 
 /// Is the gate open?
 fn read_gate<D: Disk>(disk: &mut D) -> Result<bool, DeviceFault>
-    ensures honest { D.honest disk.new → D.honest disk.old }
-    ensures state { D.honest disk.new → D.state disk.new ≡ D.state disk.old }
-    ensures gate { IfOk result (λ yes. D.honest disk.new → IsTrue yes ↔ (gate_of (D.state disk.old).seen ≡ 167)) }
-    ensures failures { CountsFailure result (D.failures disk.old) (D.failures disk.new) }
+    ensures gate { IfOk result (λ yes. D.honest disk.new → IsTrue yes ↔ (gate_of (D.state disk.old).seen ≡ gate_open)) }
+    ensures looks { Looks D.honest D.failures D.state result disk.old disk.new }
 {
     let mut bytes = [0];
     disk.read(GATE_OFFSET, &mut bytes)?;
@@ -93,11 +85,9 @@ fn read_gate<D: Disk>(disk: &mut D) -> Result<bool, DeviceFault>
 }
 
 fn look_closed<D: Disk>(disk: &mut D, size: u64) -> Result<Found, DeviceFault>
-    ensures honest { D.honest disk.new → D.honest disk.old }
-    ensures state { D.honest disk.new → D.state disk.new ≡ D.state disk.old }
-    ensures sees { IfOk result (λ found. D.honest disk.new → size ≡ length (D.state disk.old).seen → 20480 ≤ size → SeesClosed found (D.state disk.old).seen) }
+    ensures sees { IfOk result (λ found. D.honest disk.new → size ≡ length (D.state disk.old).seen → least_length ≤ size → SeesClosed found (D.state disk.old).seen) }
     ensures bounded { IfOk result IsBounded }
-    ensures failures { CountsFailure result (D.failures disk.old) (D.failures disk.new) }
+    ensures looks { Looks D.honest D.failures D.state result disk.old disk.new }
 {
     let count = read_number(disk, COUNT_OFFSET)?;
     if count == 0 || count > MOST_PAGES || size < page_offset(count) {
@@ -108,11 +98,9 @@ fn look_closed<D: Disk>(disk: &mut D, size: u64) -> Result<Found, DeviceFault>
 }
 
 fn look_open<D: Disk>(disk: &mut D, size: u64) -> Result<Found, DeviceFault>
-    ensures honest { D.honest disk.new → D.honest disk.old }
-    ensures state { D.honest disk.new → D.state disk.new ≡ D.state disk.old }
-    ensures sees { IfOk result (λ found. D.honest disk.new → size ≡ length (D.state disk.old).seen → 20480 ≤ size → SeesOpen found (D.state disk.old).seen) }
+    ensures sees { IfOk result (λ found. D.honest disk.new → size ≡ length (D.state disk.old).seen → least_length ≤ size → SeesOpen found (D.state disk.old).seen) }
     ensures bounded { IfOk result IsBounded }
-    ensures failures { CountsFailure result (D.failures disk.old) (D.failures disk.new) }
+    ensures looks { Looks D.honest D.failures D.state result disk.old disk.new }
 {
     let count = read_number(disk, DESCRIPTOR_OFFSET)?;
     let entries = read_number(disk, ENTRY_COUNT_OFFSET)?;
@@ -131,12 +119,11 @@ fn look_open<D: Disk>(disk: &mut D, size: u64) -> Result<Found, DeviceFault>
 
 /// Syncs, and looks at the front of the file and at its log. It writes nothing.
 pub(crate) fn look<D: Disk>(disk: &mut D) -> Result<Found, DeviceFault>
-    ensures honest { D.honest disk.new → D.honest disk.old }
     ensures synced { OnOk result (D.honest disk.new → IsSynced (D.state disk.old) (D.state disk.new)) }
     ensures state { D.honest disk.new → IsSyncedOrSame (D.state disk.old) (D.state disk.new) }
     ensures sees { IfOk result (λ found. D.honest disk.new → Sees found (D.state disk.old).seen) }
     ensures bounded { IfOk result IsBounded }
-    ensures failures { CountsFailure result (D.failures disk.old) (D.failures disk.new) }
+    ensures calls { Calls D.honest D.failures result disk.old disk.new }
 {
     let size = settle(disk)?;
     if size < MAGIC.len() as u64 || !read_magic(disk)? {

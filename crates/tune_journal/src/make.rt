@@ -1,6 +1,6 @@
 // Making a journal of one page.
 ghost use Rattle.std.specs.Prelude.{◌≡◌, ◌<◌, [], ◌∷◌, length, OnOk, IfOk, IfErr, MatchResult};
-ghost use Rattle.tune_disk.specs.Disk.{CountsFailure, settled};
+ghost use Rattle.tune_disk.specs.Disk.{Calls, settled};
 ghost use Rattle.tune_disk.specs.Stops.{LeavesOnly, SinceThen};
 ghost use Rattle.tune_journal.specs.Image.{StandsFor, pages_of};
 ghost use Rattle.tune_journal.specs.Making.{IsCleared, IsLaid, IsEmptyFile, StandsForNoneOr};
@@ -8,6 +8,7 @@ ghost use Rattle.tune_journal.specs.Opening.{StandsForNone};
 ghost use Rattle.tune_journal.specs.Phases.{WritesAndSyncs};
 ghost use Rattle.tune_journal.specs.Refusal.{IsUnmadeFor, IsMakeReason, CountsFailureIf};
 ghost use Rattle.tune_journal.specs.Rest.{IsAtRest};
+ghost use Rattle.tune_journal.specs.Layout.{block_bytes};
 
 use crate::changes::PageImage;
 use crate::commit::write_synced;
@@ -22,10 +23,9 @@ use tune_disk::{DeviceFault, Disk};
 
 /// Writes a first block of zeros into an empty file.
 fn clear<D: Disk>(disk: &mut D) -> Result<(), DeviceFault>
-    ensures honest { D.honest disk.new → D.honest disk.old }
     ensures moments { D.honest disk.new → (D.state disk.old).now ≡ settled [] → SinceThen (D.state disk.old) (D.state disk.new) StandsForNone }
     ensures cleared { OnOk result (D.honest disk.new → (D.state disk.old).seen ≡ [] → IsCleared (D.state disk.new)) }
-    ensures failures { CountsFailure result (D.failures disk.old) (D.failures disk.new) }
+    ensures calls { Calls D.honest D.failures result disk.old disk.new }
 {
     let zeros = [0; BLOCK];
     disk.write_at(MAGIC_OFFSET, &zeros)?;
@@ -34,10 +34,9 @@ fn clear<D: Disk>(disk: &mut D) -> Result<(), DeviceFault>
 
 /// Writes a closed gate, an empty descriptor, a count of one and the page.
 fn lay<D: Disk>(disk: &mut D, first: &PageImage) -> Result<(), DeviceFault>
-    ensures honest { D.honest disk.new → D.honest disk.old }
-    ensures writes { D.honest disk.new → WritesAndSyncs (λ i. i < 4096) result (D.state disk.old) (D.state disk.new) }
-    ensures laid { OnOk result (D.honest disk.new → length (D.state disk.old).seen ≡ 4096 → IsLaid first.now.bytes (D.state disk.new).seen) }
-    ensures failures { CountsFailure result (D.failures disk.old) (D.failures disk.new) }
+    ensures writes { D.honest disk.new → WritesAndSyncs (λ i. i < block_bytes) result (D.state disk.old) (D.state disk.new) }
+    ensures laid { OnOk result (D.honest disk.new → length (D.state disk.old).seen ≡ block_bytes → IsLaid first.now.bytes (D.state disk.new).seen) }
+    ensures calls { Calls D.honest D.failures result disk.old disk.new }
 {
     let zeros = [0; BLOCK];
     disk.write_at(GATE_OFFSET, &zeros)?;
@@ -48,12 +47,11 @@ fn lay<D: Disk>(disk: &mut D, first: &PageImage) -> Result<(), DeviceFault>
 
 /// Lays out an empty file. The magic comes last.
 pub(crate) fn lay_out<D: Disk>(disk: &mut D, first: &PageImage) -> Result<(), DeviceFault>
-    ensures honest { D.honest disk.new → D.honest disk.old }
     ensures moments { D.honest disk.new → (D.state disk.old).now ≡ settled [] → (D.state disk.old).seen ≡ []
         → SinceThen (D.state disk.old) (D.state disk.new) (StandsForNoneOr first.now.bytes) }
     ensures rest { OnOk result (D.honest disk.new → (D.state disk.old).seen ≡ [] → IsAtRest 1 (D.state disk.new)) }
     ensures pages { OnOk result (D.honest disk.new → (D.state disk.old).seen ≡ [] → pages_of 1 (D.state disk.new).seen ≡ first.now.bytes ∷ []) }
-    ensures failures { CountsFailure result (D.failures disk.old) (D.failures disk.new) }
+    ensures calls { Calls D.honest D.failures result disk.old disk.new }
 {
     clear(disk)?;
     lay(disk, first)?;

@@ -1,6 +1,6 @@
 // Opening a file that a stop may have left.
 ghost use Rattle.std.specs.Prelude.{◌≡◌, ◌≤◌, ℕ, List, length, IfOk, IfErr, MatchResult};
-ghost use Rattle.tune_disk.specs.Disk.{Rises};
+ghost use Rattle.tune_disk.specs.Disk.{CountsUp};
 ghost use Rattle.tune_disk.specs.Stops.{LeavesOnly, SinceThen};
 ghost use Rattle.tune_journal.specs.Image.{StandsFor};
 ghost use Rattle.tune_journal.specs.Moments.{KeepsEither, LeftOrSame};
@@ -24,7 +24,7 @@ impl<D: Disk> Opened<D> {
             (λ broken. Goes D.honest D.state self.disk broken.disk (StandsFor self.pages)) }
         ensures pages { IfOk result (λ applied. D.honest applied.disk → applied.pages ≡ self.pages) }
         ensures failures { MatchResult result (λ applied. D.failures applied.disk ≡ D.failures self.disk)
-            (λ broken. D.honest broken.disk → Rises (D.failures self.disk) (D.failures broken.disk)) }
+            (λ broken. D.honest broken.disk → CountsUp (D.failures self.disk) (D.failures broken.disk)) }
     {
         let Opened {
             mut disk,
@@ -46,7 +46,7 @@ impl<D: Disk> Opened<D> {
         ensures pages { IfOk result (λ journal. D.honest journal.disk → journal.pages ≡ self.pages) }
         ensures rest { IfOk result (λ journal. D.honest journal.disk → LeavesOnly (D.state journal.disk).now (StandsFor journal.pages)) }
         ensures failures { MatchResult result (λ journal. D.failures journal.disk ≡ D.failures self.disk)
-            (λ broken. D.honest broken.disk → Rises (D.failures self.disk) (D.failures broken.disk)) }
+            (λ broken. D.honest broken.disk → CountsUp (D.failures self.disk) (D.failures broken.disk)) }
     {
         self.recover(entries)?.close()
     }

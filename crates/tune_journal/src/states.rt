@@ -1,6 +1,6 @@
 // The states of a commit, one after another. Each owns the disk, so nothing else is written between two of them.
 ghost use Rattle.std.specs.Prelude.{◌≡◌, ◌<◌, All, length, MatchResult, IfOk};
-ghost use Rattle.tune_disk.specs.Disk.{Rises};
+ghost use Rattle.tune_disk.specs.Disk.{CountsUp};
 ghost use Rattle.tune_disk.specs.Stops.{LeavesOnly};
 ghost use Rattle.tune_journal.specs.Image.{StandsFor, StandsForEither};
 ghost use Rattle.tune_journal.specs.Moments.{Goes};
@@ -86,7 +86,7 @@ impl<D: Disk> Logged<D> {
         ensures pages { IfOk result (λ opened. D.honest opened.disk → opened.pages ≡ self.next) }
         ensures changes { IfOk result (λ opened. D.honest opened.disk → opened.changes ≡ self.changes) }
         ensures count { IfOk result (λ opened. length opened.pages ≡ length self.next) }
-        ensures failures { MatchResult result (λ opened. D.failures opened.disk ≡ D.failures self.disk) (λ broken. Rises (D.failures self.disk) (D.failures broken.disk)) }
+        ensures failures { MatchResult result (λ opened. D.failures opened.disk ≡ D.failures self.disk) (λ broken. CountsUp (D.failures self.disk) (D.failures broken.disk)) }
     {
         let Logged {
             mut disk,
@@ -115,7 +115,7 @@ impl<D: Disk> Opened<D> {
         ensures rest { IfOk result (λ applied. D.honest applied.disk → LeavesOnly (D.state applied.disk).now (StandsFor applied.pages)) }
         ensures pages { IfOk result (λ applied. D.honest applied.disk → applied.pages ≡ self.pages) }
         ensures count { IfOk result (λ applied. length applied.pages ≡ length self.pages) }
-        ensures failures { MatchResult result (λ applied. D.failures applied.disk ≡ D.failures self.disk) (λ broken. Rises (D.failures self.disk) (D.failures broken.disk)) }
+        ensures failures { MatchResult result (λ applied. D.failures applied.disk ≡ D.failures self.disk) (λ broken. CountsUp (D.failures self.disk) (D.failures broken.disk)) }
     {
         let Opened {
             mut disk,
@@ -141,7 +141,7 @@ impl<D: Disk> Applied<D> {
         ensures rest { IfOk result (λ journal. D.honest journal.disk → LeavesOnly (D.state journal.disk).now (StandsFor journal.pages)) }
         ensures pages { IfOk result (λ journal. D.honest journal.disk → journal.pages ≡ self.pages) }
         ensures count { IfOk result (λ journal. length journal.pages ≡ length self.pages) }
-        ensures failures { MatchResult result (λ journal. D.failures journal.disk ≡ D.failures self.disk) (λ broken. Rises (D.failures self.disk) (D.failures broken.disk)) }
+        ensures failures { MatchResult result (λ journal. D.failures journal.disk ≡ D.failures self.disk) (λ broken. CountsUp (D.failures self.disk) (D.failures broken.disk)) }
     {
         let Applied {
             mut disk,

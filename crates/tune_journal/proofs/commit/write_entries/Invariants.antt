@@ -2,10 +2,11 @@ use Rattle.std.proofs.Common.{◌≡◌, ◌+◌, ◌*◌, ◌<◌}
 use Rattle.tune_disk.specs.Stops.{Spares}
 use Rattle.tune_journal.specs.Phases.{HoldsEntries}
 use Rattle.tune_journal.proofs.commit.write_entries.Given as goal
+use Rattle.tune_journal.specs.Layout.{entry_bytes}
 
 abbrev pub invariant-loop-place : goal.invariant-loop-place
 invariant-loop-place g l = record {
-  at : l.at ≡ l.base + 4100 * l.place;
+  at : l.at ≡ l.base + entry_bytes * l.place;
   honest : g.D.Disk.honest l.disk → g.D.Disk.honest l.initial.disk;
   spares : g.D.Disk.honest l.disk → Spares (λ i. i < l.base) (g.D.Disk.state l.initial.disk) (g.D.Disk.state l.disk);
   entries : g.D.Disk.honest l.disk → HoldsEntries l.base l.changes l.place (g.D.Disk.state l.disk).seen;

@@ -28,7 +28,7 @@ returns-in_err-copy_entry-clause-failures g c =
     let p = err_from_is_err_and c.from_residual.result c.from_residual.ensures.1 in
     rw p.1 (λ h has. (let old = c.copy_entry.ensures.honest h in
     let so_far = c.loop-entry.invariant.spares old has in
-    subst (λ (n : ℕ). Rattle.tune_disk.specs.Disk.Rises n (g.D.Disk.failures c.copy_entry.new.disk)) c.loop-entry.invariant.failures
+    subst (λ (n : ℕ). Rattle.tune_disk.specs.Disk.CountsUp n (g.D.Disk.failures c.copy_entry.new.disk)) c.loop-entry.invariant.failures
     (c.in_err-copy_entry.ensures.failures h (within c.args.count c.args.entries c.loop-entry.entry _ _ has c.loop-entry-test.true so_far) (low c.args.count c.args.entries c.loop-entry.entry _ _ has c.loop-entry-test.true so_far))))
 
 pub loop-entry-preserved : goal.loop-entry-preserved

@@ -6,46 +6,46 @@ use Rattle.tune_journal.proofs.Rests.{rest_leaves, rest_stands}
 use Rattle.tune_journal.proofs.journal.Journal.open.Goals as goal
 
 pub returns-in-Ok-Closed-clause-leaves : goal.returns-in-Ok-Closed-clause-leaves
-returns-in-Ok-Closed-clause-leaves g c = λ h. synced_leaves _ _ (g.met.D.Disk.seen_may_stay c.args.disk (c.look.ensures.honest h)) (c.look.ensures.state h)
+returns-in-Ok-Closed-clause-leaves g c = λ h. synced_leaves _ _ (g.met.D.Disk.seen_may_stay c.args.disk (c.look.ensures.calls.was_honest h)) (c.look.ensures.state h)
 
 pub returns-in-Ok-Closed-clause-moments : goal.returns-in-Ok-Closed-clause-moments
-returns-in-Ok-Closed-clause-moments g c = λ h. keeps_either _ _ (g.met.D.Disk.seen_may_stay c.args.disk (c.look.ensures.honest h)) (returns-in-Ok-Closed-clause-leaves g c h)
+returns-in-Ok-Closed-clause-moments g c = λ h. keeps_either _ _ (g.met.D.Disk.seen_may_stay c.args.disk (c.look.ensures.calls.was_honest h)) (returns-in-Ok-Closed-clause-leaves g c h)
 
 pub returns-in-Ok-Damaged-clause-leaves : goal.returns-in-Ok-Damaged-clause-leaves
-returns-in-Ok-Damaged-clause-leaves g c = λ h. synced_leaves _ _ (g.met.D.Disk.seen_may_stay c.args.disk (c.look.ensures.honest h)) (c.look.ensures.state h)
+returns-in-Ok-Damaged-clause-leaves g c = λ h. synced_leaves _ _ (g.met.D.Disk.seen_may_stay c.args.disk (c.look.ensures.calls.was_honest h)) (c.look.ensures.state h)
 
 pub returns-in-Ok-Damaged-clause-moments : goal.returns-in-Ok-Damaged-clause-moments
-returns-in-Ok-Damaged-clause-moments g c = λ h. keeps_either _ _ (g.met.D.Disk.seen_may_stay c.args.disk (c.look.ensures.honest h)) (returns-in-Ok-Damaged-clause-leaves g c h)
+returns-in-Ok-Damaged-clause-moments g c = λ h. keeps_either _ _ (g.met.D.Disk.seen_may_stay c.args.disk (c.look.ensures.calls.was_honest h)) (returns-in-Ok-Damaged-clause-leaves g c h)
 
 pub returns-in-Ok-NotArchive-clause-leaves : goal.returns-in-Ok-NotArchive-clause-leaves
-returns-in-Ok-NotArchive-clause-leaves g c = λ h. synced_leaves _ _ (g.met.D.Disk.seen_may_stay c.args.disk (c.look.ensures.honest h)) (c.look.ensures.state h)
+returns-in-Ok-NotArchive-clause-leaves g c = λ h. synced_leaves _ _ (g.met.D.Disk.seen_may_stay c.args.disk (c.look.ensures.calls.was_honest h)) (c.look.ensures.state h)
 
 pub returns-in-Ok-NotArchive-clause-moments : goal.returns-in-Ok-NotArchive-clause-moments
-returns-in-Ok-NotArchive-clause-moments g c = λ h. keeps_either _ _ (g.met.D.Disk.seen_may_stay c.args.disk (c.look.ensures.honest h)) (returns-in-Ok-NotArchive-clause-leaves g c h)
+returns-in-Ok-NotArchive-clause-moments g c = λ h. keeps_either _ _ (g.met.D.Disk.seen_may_stay c.args.disk (c.look.ensures.calls.was_honest h)) (returns-in-Ok-NotArchive-clause-leaves g c h)
 
 pub returns-in-Err-clause-leaves : goal.returns-in-Err-clause-leaves
-returns-in-Err-clause-leaves g c = λ h. synced_leaves _ _ (g.met.D.Disk.seen_may_stay c.args.disk (c.look.ensures.honest h)) (c.look.ensures.state h)
+returns-in-Err-clause-leaves g c = λ h. synced_leaves _ _ (g.met.D.Disk.seen_may_stay c.args.disk (c.look.ensures.calls.was_honest h)) (c.look.ensures.state h)
 
 pub returns-in-Err-clause-moments : goal.returns-in-Err-clause-moments
-returns-in-Err-clause-moments g c = λ h. keeps_either _ _ (g.met.D.Disk.seen_may_stay c.args.disk (c.look.ensures.honest h)) (returns-in-Err-clause-leaves g c h)
+returns-in-Err-clause-moments g c = λ h. keeps_either _ _ (g.met.D.Disk.seen_may_stay c.args.disk (c.look.ensures.calls.was_honest h)) (returns-in-Err-clause-leaves g c h)
 
 pub returns-in-Ok-clause-leaves : goal.returns-in-Ok-clause-leaves
 returns-in-Ok-clause-leaves g c = λ h.
     (let goes = c.in-Ok.ensures.moments in
     let mid = goes.before h in
-    recovered_leaves (g.D.Disk.state c.args.disk) (g.D.Disk.state c.look.new.disk) _ _ (g.met.D.Disk.seen_may_stay c.args.disk (c.look.ensures.honest mid)) (c.in-Ok-Open.ensures.synced mid) (g.met.D.Disk.seen_may_stay c.look.new.disk mid) (goes.since h))
+    recovered_leaves (g.D.Disk.state c.args.disk) (g.D.Disk.state c.look.new.disk) _ _ (g.met.D.Disk.seen_may_stay c.args.disk (c.look.ensures.calls.was_honest mid)) (c.in-Ok-Open.ensures.synced mid) (g.met.D.Disk.seen_may_stay c.look.new.disk mid) (goes.since h))
 
 pub returns-in-Ok-clause-moments : goal.returns-in-Ok-clause-moments
-returns-in-Ok-clause-moments g c = λ h. keeps_either _ _ (g.met.D.Disk.seen_may_stay c.args.disk (c.look.ensures.honest (c.in-Ok.ensures.moments.before h))) (returns-in-Ok-clause-leaves g c h)
+returns-in-Ok-clause-moments g c = λ h. keeps_either _ _ (g.met.D.Disk.seen_may_stay c.args.disk (c.look.ensures.calls.was_honest (c.in-Ok.ensures.moments.before h))) (returns-in-Ok-clause-leaves g c h)
 
 pub returns-in-Err-finish-clause-leaves : goal.returns-in-Err-finish-clause-leaves
 returns-in-Err-finish-clause-leaves g c = λ h.
     (let goes = c.in-Err-finish.ensures.moments in
     let mid = goes.before h in
-    recovered_leaves (g.D.Disk.state c.args.disk) (g.D.Disk.state c.look.new.disk) _ _ (g.met.D.Disk.seen_may_stay c.args.disk (c.look.ensures.honest mid)) (c.in-Ok-Open.ensures.synced mid) (g.met.D.Disk.seen_may_stay c.look.new.disk mid) (goes.since h))
+    recovered_leaves (g.D.Disk.state c.args.disk) (g.D.Disk.state c.look.new.disk) _ _ (g.met.D.Disk.seen_may_stay c.args.disk (c.look.ensures.calls.was_honest mid)) (c.in-Ok-Open.ensures.synced mid) (g.met.D.Disk.seen_may_stay c.look.new.disk mid) (goes.since h))
 
 pub returns-in-Err-finish-clause-moments : goal.returns-in-Err-finish-clause-moments
-returns-in-Err-finish-clause-moments g c = λ h. keeps_either _ _ (g.met.D.Disk.seen_may_stay c.args.disk (c.look.ensures.honest (c.in-Err-finish.ensures.moments.before h))) (returns-in-Err-finish-clause-leaves g c h)
+returns-in-Err-finish-clause-moments g c = λ h. keeps_either _ _ (g.met.D.Disk.seen_may_stay c.args.disk (c.look.ensures.calls.was_honest (c.in-Err-finish.ensures.moments.before h))) (returns-in-Err-finish-clause-leaves g c h)
 
 pub returns-in-Ok-Closed-clause-pages : goal.returns-in-Ok-Closed-clause-pages
 returns-in-Ok-Closed-clause-pages g c = λ h.

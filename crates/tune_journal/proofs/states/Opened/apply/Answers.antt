@@ -1,6 +1,6 @@
 use Rattle.std.proofs.Common.{◌≡◌, ◌<◌, ◌∙◌, sym, ap, subst, ℕ, List, All, length, arith}
 use Rattle.tune_disk.specs.Disk.{DiskState}
-use Rattle.tune_journal.specs.Image.{StandsFor, log_of, number, entries, pages_of}
+use Rattle.tune_journal.specs.Image.{StandsFor, log_of, entries, pages_of, entry_count_of}
 use Rattle.tune_journal.specs.Pages.{changed}
 use Rattle.tune_journal.specs.Phases.{KeepsBoth, WritesAndSyncs, Settles}
 use Rattle.tune_journal.proofs.CallRuns.{run_since}
@@ -19,12 +19,12 @@ pub invariant_of-result : goal.invariant_of-result
 invariant_of-result g c = record {
   least = c.self.invariant.least;
   most = c.self.invariant.most;
-  applied = λ h. (let old = c.in-Ok.ensures.honest h in
+  applied = λ h. (let old = c.in-Ok.ensures.calls.was_honest h in
       let m = c.self.inside.new_count in
       let s : DiskState = g.D.Disk.state c.self.inside.disk in
       let opened = c.self.invariant.opened old in
       let log : c.args.changes.now ≡ log_of s.seen = c.requires.log (subst (λ x. g.D.Disk.honest x.disk) c.self.view_is old) ∙ ap (λ x. x.changes) (sym c.self.view_is) in
-      let is : c.args.changes.now ≡ entries m (number 8196 s.seen) s.seen = log ∙ log_same m s.seen opened.new_count in
+      let is : c.args.changes.now ≡ entries m (entry_count_of s.seen) s.seen = log ∙ log_same m s.seen opened.new_count in
       applied_after m s _ opened
       (subst (λ (l : List (ℕ × List ℕ)). Settles (KeepsBoth l) s (g.D.Disk.state c.write_pages.new.disk)) is (c.in-Ok.ensures.writes h))
       (c.in-Ok.ensures.count h)
@@ -33,14 +33,14 @@ invariant_of-result g c = record {
 
 pub returns-in-Ok-clause-moments : goal.returns-in-Ok-clause-moments
 returns-in-Ok-clause-moments g c = rw (← c.self.view_is) (record {
-  before = c.write_pages.ensures.honest;
-  since = λ h. (let old = c.write_pages.ensures.honest h in
+  before = c.write_pages.ensures.calls.was_honest;
+  since = λ h. (let old = c.write_pages.ensures.calls.was_honest h in
       let m = c.self.inside.new_count in
       let s : DiskState = g.D.Disk.state c.self.inside.disk in
       let opened = c.self.invariant.opened old in
-      let same : log_of s.seen ≡ entries m (number 8196 s.seen) s.seen = log_same m s.seen opened.new_count in
+      let same : log_of s.seen ≡ entries m (entry_count_of s.seen) s.seen = log_same m s.seen opened.new_count in
       let log : c.args.changes.now ≡ log_of s.seen = c.requires.log (subst (λ x. g.D.Disk.honest x.disk) c.self.view_is old) ∙ ap (λ x. x.changes) (sym c.self.view_is) in
-      run_since (StandsFor (changed (pages_of m s.seen) (log_of s.seen))) (KeepsBoth (entries m (number 8196 s.seen) s.seen)) c.write_pages.result _ _ opened.settled
+      run_since (StandsFor (changed (pages_of m s.seen) (log_of s.seen))) (KeepsBoth (entries m (entry_count_of s.seen) s.seen)) c.write_pages.result _ _ opened.settled
       (subst (λ (l : List (ℕ × List ℕ)). WritesAndSyncs (KeepsBoth l) c.write_pages.result s (g.D.Disk.state c.write_pages.new.disk)) (log ∙ same) (c.write_pages.ensures.writes h))
       (λ file agrees. subst (λ (l : List (ℕ × List ℕ)). StandsFor (changed (pages_of m s.seen) l) file) (sym same) (stands_applying m s opened file agrees)));
 })
@@ -55,14 +55,14 @@ returns-in-Ok-clause-count g c = rw (← c.self.view_is)
 
 pub returns-in-Err-clause-moments : goal.returns-in-Err-clause-moments
 returns-in-Err-clause-moments g c = rw (← c.self.view_is) (record {
-  before = c.write_pages.ensures.honest;
-  since = λ h. (let old = c.write_pages.ensures.honest h in
+  before = c.write_pages.ensures.calls.was_honest;
+  since = λ h. (let old = c.write_pages.ensures.calls.was_honest h in
       let m = c.self.inside.new_count in
       let s : DiskState = g.D.Disk.state c.self.inside.disk in
       let opened = c.self.invariant.opened old in
-      let same : log_of s.seen ≡ entries m (number 8196 s.seen) s.seen = log_same m s.seen opened.new_count in
+      let same : log_of s.seen ≡ entries m (entry_count_of s.seen) s.seen = log_same m s.seen opened.new_count in
       let log : c.args.changes.now ≡ log_of s.seen = c.requires.log (subst (λ x. g.D.Disk.honest x.disk) c.self.view_is old) ∙ ap (λ x. x.changes) (sym c.self.view_is) in
-      run_since (StandsFor (changed (pages_of m s.seen) (log_of s.seen))) (KeepsBoth (entries m (number 8196 s.seen) s.seen)) c.write_pages.result _ _ opened.settled
+      run_since (StandsFor (changed (pages_of m s.seen) (log_of s.seen))) (KeepsBoth (entries m (entry_count_of s.seen) s.seen)) c.write_pages.result _ _ opened.settled
       (subst (λ (l : List (ℕ × List ℕ)). WritesAndSyncs (KeepsBoth l) c.write_pages.result s (g.D.Disk.state c.write_pages.new.disk)) (log ∙ same) (c.write_pages.ensures.writes h))
       (λ file agrees. subst (λ (l : List (ℕ × List ℕ)). StandsFor (changed (pages_of m s.seen) l) file) (sym same) (stands_applying m s opened file agrees)));
 })
