@@ -1,3 +1,4 @@
+pub mod Limits
 pub mod State
 pub mod Step
 pub mod Answers

@@ -4,6 +4,7 @@ ghost use Rattle.std.specs.List.{AllByRecursion};
 ghost use Rattle.std.specs.Vec.{vec_capacity};
 ghost use Rattle.abc_fields.specs.Books.{book_answer};
 ghost use Rattle.tune_store.specs.declared.tune.Tune.{Tune};
+ghost use Rattle.tune_store.specs.Limits.{longest_text};
 ghost use Rattle.tune_store.specs.State.{State, IsState, IsTune, RisesFrom, greatest};
 ghost use Rattle.tune_store.specs.Step.{numbered, tune_at, import_book, replace_book, replace_tune, delete_tune, show_tune, exported};
 
@@ -82,14 +83,14 @@ fn import(alloc: Global, tunes: &mut Vec<Tune>, book: &[u8]) -> Result<Reply, Re
     requires { IsState (record { tunes = tunes.old.items }) }
     ensures state { IsState (record { tunes = tunes.new.items }) }
     ensures answer { ((result ≡ Err Refusal.OutOfMemory) × (tunes.new.items ≡ tunes.old.items))
-        ⊎ (import_book (record { tunes = tunes.old.items }) (book_answer LONGEST_TEXT book.now) ≡ (record { tunes = tunes.new.items }, result)) }
+        ⊎ (import_book (record { tunes = tunes.old.items }) (book_answer longest_text book.now) ≡ (record { tunes = tunes.new.items }, result)) }
 {
     let texts = split_book(alloc, book, LONGEST_TEXT)?;
     let count = texts.len();
     if count > MOST_TUNES - tunes.len() {
         return Err(Refusal::ArchiveFull);
     }
-    let greatest = greatest_number(tunes);
+    let greatest = last_number(tunes);
     let last = greatest + count as u32;
     if last > GREATEST_NUMBER {
         return Err(Refusal::NumbersSpent);
@@ -119,7 +120,7 @@ fn add_tunes(tunes: &mut Vec<Tune>, texts: Vec<TuneText>, first: u32)
 }
 
 // The greatest number, or 0.
-fn greatest_number(tunes: &[Tune]) -> u32
+fn last_number(tunes: &[Tune]) -> u32
     requires { RisesFrom 0 tunes.now }
     ensures { result ≡ greatest tunes.now }
 {
@@ -140,7 +141,7 @@ fn replace(
     requires { IsState (record { tunes = tunes.old.items }) }
     ensures state { IsState (record { tunes = tunes.new.items }) }
     ensures answer { ((result ≡ Err Refusal.OutOfMemory) × (tunes.new.items ≡ tunes.old.items))
-        ⊎ (replace_book (record { tunes = tunes.old.items }) number revision (book_answer LONGEST_TEXT book.now) ≡ (record { tunes = tunes.new.items }, result)) }
+        ⊎ (replace_book (record { tunes = tunes.old.items }) number revision (book_answer longest_text book.now) ≡ (record { tunes = tunes.new.items }, result)) }
 {
     let texts = split_book(alloc, book, LONGEST_TEXT)?;
     let text = only_text(texts)?;
