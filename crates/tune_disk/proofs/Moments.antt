@@ -2,8 +2,9 @@
 use Rattle.std.proofs.Common.{◌≡◌, ◌⊎◌, inl, inr, ℕ, ◌+◌, ◌<◌, ◌≤◌, List, [], ◌∷◌, ◌++◌, length, get_or, refl, sym, ◌∙◌, ap, subst, arith, Result, Ok, Err}
 use Rattle.std.proofs.lemmas.List.{append_assoc, ext_get_or}
 use Rattle.tune_disk.specs.Disk.{Medium, DiskState, MayLeave, touched, settled, Writes, Syncs}
-use Rattle.tune_disk.specs.Bytes.{longer_after}
-use Rattle.tune_disk.specs.Stops.{LeavesOnly, EachLeavesOnly, SinceThen, KeepsPlaces, EachKeepsPlaces, Spares, Agrees}
+use Rattle.tune_disk.specs.Inside.Overwrites.{longer_after}
+use Rattle.tune_disk.specs.Stops.{LeavesOnly, EachLeavesOnly, SinceThen}
+use Rattle.tune_disk.specs.Inside.Spares.{KeepsOffsets, EachKeepsOffsets, Spares, Agrees}
 
 -- Nothing happened.
 pub spares_none : (Kept : ℕ → Type 0) (s : DiskState) → Spares Kept s s
@@ -16,11 +17,11 @@ spares_none Kept s = record {
   seen = λ i _. refl;
 }
 
-keeps_then : (Kept : ℕ → Type 0) (a b : Medium) → KeepsPlaces Kept a b → (ms : List Medium) → EachKeepsPlaces Kept b ms → EachKeepsPlaces Kept a ms
+keeps_then : (Kept : ℕ → Type 0) (a b : Medium) → KeepsOffsets Kept a b → (ms : List Medium) → EachKeepsOffsets Kept b ms → EachKeepsOffsets Kept a ms
 keeps_then Kept a b k [] e = tt
 keeps_then Kept a b k (m ∷ ms) e = (record { stable = e.0.stable ∙ k.stable; untouched = λ i kept u. e.0.untouched i kept (k.untouched i kept u) }, keeps_then Kept a b k ms e.1)
 
-keeps_both : (Kept : ℕ → Type 0) (a : Medium) (ms ns : List Medium) → EachKeepsPlaces Kept a ms → EachKeepsPlaces Kept a ns → EachKeepsPlaces Kept a (ms ++ ns)
+keeps_both : (Kept : ℕ → Type 0) (a : Medium) (ms ns : List Medium) → EachKeepsOffsets Kept a ms → EachKeepsOffsets Kept a ns → EachKeepsOffsets Kept a (ms ++ ns)
 keeps_both Kept a [] ns e f = f
 keeps_both Kept a (m ∷ ms) ns e f = (e.0, keeps_both Kept a ms ns e.1 f)
 
@@ -35,7 +36,7 @@ spares_then Kept a b c s t = record {
 }
 
 -- fewer places are kept
-keeps_fewer : (Kept Fewer : ℕ → Type 0) → ((i : ℕ) → Fewer i → Kept i) → (a : Medium) (ms : List Medium) → EachKeepsPlaces Kept a ms → EachKeepsPlaces Fewer a ms
+keeps_fewer : (Kept Fewer : ℕ → Type 0) → ((i : ℕ) → Fewer i → Kept i) → (a : Medium) (ms : List Medium) → EachKeepsOffsets Kept a ms → EachKeepsOffsets Fewer a ms
 keeps_fewer Kept Fewer f a [] e = tt
 keeps_fewer Kept Fewer f a (m ∷ ms) e = (record { stable = e.0.stable; untouched = λ i k u. e.0.untouched i (f i k) u }, keeps_fewer Kept Fewer f a ms e.1)
 
@@ -54,24 +55,24 @@ pub spares_write : {T E : Type 0} (Kept : ℕ → Type 0) (at : ℕ) (bytes : Li
     → ((i : ℕ) → Kept i → (i < at) ⊎ (at + length bytes ≤ i)) → Spares Kept a b
 spares_write Kept at bytes (Ok t) a b w out =
     let to = w.1 in
-    let keeps : KeepsPlaces Kept a.now (touched at (length bytes) a.now) = record { stable = refl; untouched = λ i kept u. (out i kept, u) } in
+    let keeps : KeepsOffsets Kept a.now (touched at (length bytes) a.now) = record { stable = refl; untouched = λ i kept u. (out i kept, u) } in
     record {
       since = touched at (length bytes) a.now ∷ [];
       history = λ i. to.now i ∷ to.past i;
       each = (keeps, tt);
-      now = subst (KeepsPlaces Kept a.now) (sym to.now) keeps;
+      now = subst (KeepsOffsets Kept a.now) (sym to.now) keeps;
       longer = omega (arith, w.0.long, longer_after at (length bytes) (length a.seen));
       seen = λ i kept. w.0.outside i (out i kept);
     }
 spares_write Kept at bytes (Err e) a b (inl same) out = subst (λ (s : DiskState). Spares Kept a s) (sym same) (spares_none Kept a)
 spares_write Kept at bytes (Err e) a b (inr w) out =
     let to = w.1 in
-    let keeps : KeepsPlaces Kept a.now (touched at (length bytes) a.now) = record { stable = refl; untouched = λ i kept u. (out i kept, u) } in
+    let keeps : KeepsOffsets Kept a.now (touched at (length bytes) a.now) = record { stable = refl; untouched = λ i kept u. (out i kept, u) } in
     record {
       since = touched at (length bytes) a.now ∷ [];
       history = λ i. to.now i ∷ to.past i;
       each = (keeps, tt);
-      now = subst (KeepsPlaces Kept a.now) (sym to.now) keeps;
+      now = subst (KeepsOffsets Kept a.now) (sym to.now) keeps;
       longer = w.0.no_shorter;
       seen = λ i kept. w.0.outside i (out i kept);
     }
@@ -81,14 +82,14 @@ pub settled_leaves : (file c : List ℕ) → MayLeave (settled file) c → c ≡
 settled_leaves file c left = ext_get_or 0 c file (omega (arith, left.no_shorter, left.no_longer)) (λ i lt. left.same i (omega (arith, left.no_longer)) tt)
 
 -- What a stop leaves over a settled disk agrees with its file at each place that was kept.
-keeps_agrees : (Kept : ℕ → Type 0) (file : List ℕ) (m : Medium) → KeepsPlaces Kept (settled file) m → (c : List ℕ) → MayLeave m c → Agrees Kept file c
+keeps_agrees : (Kept : ℕ → Type 0) (file : List ℕ) (m : Medium) → KeepsOffsets Kept (settled file) m → (c : List ℕ) → MayLeave m c → Agrees Kept file c
 keeps_agrees Kept file m keeps c left = record {
   longer = omega (arith, left.no_shorter, ap length keeps.stable);
   same = λ i lt kept. left.same i (omega (arith, lt, ap length keeps.stable)) (keeps.untouched i kept tt) ∙ ap (λ (l : List ℕ). get_or l i 0) keeps.stable;
 }
 
 module _ (P : List ℕ → Type 0) where
-  each_agrees : (Kept : ℕ → Type 0) (file : List ℕ) → ((c : List ℕ) → Agrees Kept file c → P c) → (ms : List Medium) → EachKeepsPlaces Kept (settled file) ms → EachLeavesOnly ms P
+  each_agrees : (Kept : ℕ → Type 0) (file : List ℕ) → ((c : List ℕ) → Agrees Kept file c → P c) → (ms : List Medium) → EachKeepsOffsets Kept (settled file) ms → EachLeavesOnly ms P
   each_agrees Kept file so [] e = tt
   each_agrees Kept file so (m ∷ ms) e = ((λ c left. so c (keeps_agrees Kept file m e.0 c left)), each_agrees Kept file so ms e.1)
 
@@ -97,8 +98,8 @@ module _ (P : List ℕ → Type 0) where
   spares_since Kept a b rest s so = record {
     since = s.since;
     history = s.history;
-    each = each_agrees Kept a.seen so s.since (subst (λ (m : Medium). EachKeepsPlaces Kept m s.since) rest s.each);
-    first = λ c left. so c (keeps_agrees Kept a.seen a.now (subst (λ (m : Medium). KeepsPlaces Kept m a.now) rest (record { stable = refl; untouched = λ i _ u. u })) c left);
+    each = each_agrees Kept a.seen so s.since (subst (λ (m : Medium). EachKeepsOffsets Kept m s.since) rest s.each);
+    first = λ c left. so c (keeps_agrees Kept a.seen a.now (subst (λ (m : Medium). KeepsOffsets Kept m a.now) rest (record { stable = refl; untouched = λ i _ u. u })) c left);
   }
 
   each_both : (ms ns : List Medium) → EachLeavesOnly ms P → EachLeavesOnly ns P → EachLeavesOnly (ms ++ ns) P

@@ -19,7 +19,7 @@ pub enum OpenFault {
     /// Refusal 21: no memory was left. The journal takes none, so only the layers above answer it.
     #[error("out of memory")]
     OutOfMemory,
-    /// Refusal 22: a call of the device failed.
+    /// Refusal 22: a call of the disk failed.
     #[error("the device failed")]
     Device,
 }
@@ -33,7 +33,7 @@ pub struct Refused<D: Disk> {
     pub why: OpenFault,
 }
 
-/// The disk of a journal whose device failed in a commit. It stands for the pages from before the
+/// The disk of a journal whose disk failed in a commit. It stands for the pages from before the
 /// commit or for those from after it, and is to be opened again.
 #[derive(Drop)]
 pub struct Broken<D: Disk> {

@@ -1,13 +1,21 @@
 // A disk of which one call fails.
 ghost use Rattle.std.specs.Prelude.{◌≡◌, ◌+◌, ◌≤◌, ◌^◌, ◌↔◌, Some, IsErr, IfOk, OnOk, length};
 ghost use Rattle.tune_disk.specs.Disk.{CountsFailure, Calls, Looks, Shows, Writes, Syncs};
-ghost use Rattle.tune_disk.specs.Wrapped.{FailsOnce, faults_past, one_call_on, faulted_state, faulted_honest, faulted_failures};
+ghost use Rattle.tune_disk.specs.Wrapped.{
+  FailsOnce,
+  faults_past,
+  one_call_on,
+  faulted_state,
+  faulted_honest,
+  faulted_failures,
+};
 
 use crate::{DeviceFault, Disk};
 use std::marker::Model;
 
-/// A disk of which one call fails, without a call of the disk within it; all others are passed on. It is honest as that disk is. A clause sees the disk
-/// within, and how many calls pass before the fault, or that it is past.
+/// A disk of which one call fails, without a call of the disk within it; all others are passed on.
+/// It is honest as that disk is. A clause sees the disk within, and how many calls pass before the
+/// fault, or that it is past.
 #[derive(Drop)]
 pub struct OneFault<D: Disk> {
     disk: D,
@@ -15,7 +23,8 @@ pub struct OneFault<D: Disk> {
 }
 
 impl<D: Disk> Model for OneFault<D> {
-    ghost use Rattle.tune_disk.specs.Wrapped.{Faulted, faulted_code};
+    ghost use Rattle.tune_disk.specs.Inside.Codes.{faulted_code};
+    ghost use Rattle.tune_disk.specs.Wrapped.{Faulted};
 
     ghost Value = { Faulted D };
 
@@ -50,7 +59,7 @@ impl<D: Disk> OneFault<D> {
 
 // Counts one call, which fails where its turn has come.
 fn count_down(calls_before: &mut Option<u64>) -> Result<(), DeviceFault>
-    ensures failures { CountsFailure result (faults_past calls_before.old) (faults_past calls_before.new) }
+    ensures counted { CountsFailure result (faults_past calls_before.old) (faults_past calls_before.new) }
     ensures due { IsErr result ↔ (calls_before.old ≡ Some 0) }
     ensures before { calls_before.new ≡ one_call_on calls_before.old }
 {
@@ -78,7 +87,8 @@ impl<D: Disk> Disk for OneFault<D> {
 
     fn len(&mut self) -> Result<u64, DeviceFault>
         ensures len { IfOk result (λ n. D.honest self.new.disk → n ≡ length (D.state self.old.disk).seen) }
-        ensures looks { Looks (faulted_honest D.honest) (faulted_failures D.failures) (faulted_state D.state) result self.old self.new }
+        ensures looks { Looks (faulted_honest D.honest) (faulted_failures D.failures) (faulted_state D.state)
+            result self.old self.new }
         ensures once { FailsOnce D.failures result self.old self.new }
     {
         count_down(&mut self.calls_before)?;
@@ -88,7 +98,8 @@ impl<D: Disk> Disk for OneFault<D> {
     fn read(&mut self, at: u64, into: &mut [u8]) -> Result<(), DeviceFault>
         requires { at + length into.old ≤ 2 ^ 40 }
         ensures read { OnOk result (D.honest self.new.disk → Shows (D.state self.old.disk).seen at into.new) }
-        ensures looks { Looks (faulted_honest D.honest) (faulted_failures D.failures) (faulted_state D.state) result self.old self.new }
+        ensures looks { Looks (faulted_honest D.honest) (faulted_failures D.failures) (faulted_state D.state)
+            result self.old self.new }
         ensures once { FailsOnce D.failures result self.old self.new }
     {
         count_down(&mut self.calls_before)?;
@@ -97,7 +108,8 @@ impl<D: Disk> Disk for OneFault<D> {
 
     fn write_at(&mut self, at: u64, bytes: &[u8]) -> Result<(), DeviceFault>
         requires { at + length bytes.now ≤ 2 ^ 40 }
-        ensures write { D.honest self.new.disk → Writes at bytes.now result (D.state self.old.disk) (D.state self.new.disk) }
+        ensures write { D.honest self.new.disk
+            → Writes at bytes.now result (D.state self.old.disk) (D.state self.new.disk) }
         ensures calls { Calls (faulted_honest D.honest) (faulted_failures D.failures) result self.old self.new }
         ensures once { FailsOnce D.failures result self.old self.new }
     {
