@@ -69,7 +69,8 @@ def contract_lines(lines):
     for number, line in lines:
         text = line.strip()
         if depth > 0 or re.match(r'(ensures|requires|ghost)\b', text):
-            depth += text.count('{') - text.count('}')
+            bare = re.sub(r'"[^"]*"', '', text)
+            depth += bare.count('{') - bare.count('}')
             yield number, line
         elif text.startswith('//'):
             yield number, line
