@@ -6,8 +6,9 @@ ghost use Rattle.test_stores.specs.Record.{LeftSince, IsOfCount, EndsAt, last_pl
 use std::alloc::{AllocError, Global};
 use tune_store::{Command, ListArchive, Refusal, Reply, TuneStore};
 
-/// A fake store: an archive in memory, and the record of a device that holds one number, how many tunes there are.
-/// Each accepted command writes it, and each entry is a file that a stop may have left: the last now, the others earlier.
+/// A fake store: an archive in memory, and the record of a device that holds one number, how many
+/// tunes there are. Each accepted command writes it, and each entry is a file that a stop may have
+/// left: the last now, the others earlier.
 #[derive(Drop)]
 pub struct RecordedStore {
     archive: ListArchive,
@@ -15,7 +16,7 @@ pub struct RecordedStore {
 }
 
 impl RecordedStore {
-    /// A store without a tune, whose record begins with that. The error is want of memory.
+    /// A store without a tune, whose record begins with that. The error is out of memory.
     pub fn new(alloc: Global) -> Result<RecordedStore, AllocError>
         ensures standing { IfOk result (λ store. ⟦<RecordedStore as TuneStore>⟧.standing store ≡ record { state = record { tunes = [] }; closed = false }) }
         ensures entries { IfOk result (λ store. store.entries.items ≡ 0 ∷ []) }

@@ -1,5 +1,8 @@
 -- The law of revisions: what commands, one after another, make of the revision of a tune.
-use Rattle.std.specs.Prelude.{◌≡◌, ℕ, ◌+◌, List, [], ◌∷◌, Bool, false, ◌&&◌, ◌==◌, if◌then◌else◌, IsTrue, IsFalse, Option, Some, IsSome, is_ok, ⊤}
+use Rattle.std.specs.Prelude.{
+    ◌≡◌, ℕ, ◌+◌, List, [], ◌∷◌, Bool, false, ◌&&◌, ◌==◌, if◌then◌else◌, IsTrue, IsFalse, Option,
+    Some, IsSome, is_ok, ⊤
+}
 use Rattle.std.specs.Option.{option_map}
 use Rattle.tune_store.specs.State.{State}
 use Rattle.tune_store.specs.Step.{step, tune_at}
@@ -61,12 +64,14 @@ abbrev pub OthersKeepRevision : State → ℕ → Command → Type 0
 OthersKeepRevision state number command =
     IsFalse (replaces number state command) → HasTune number state → HasTune number (step state command).0 → revision_of number (step state command).0 ≡ revision_of number state
 
--- while a tune stays, its revision rises by one with each accepted Replace of it, and by nothing else
+-- while a tune stays, its revision rises by one with each accepted Replace of it, and by nothing
+-- else
 abbrev pub RevisionCounts : State → ℕ → ℕ → List Command → Type 0
 RevisionCounts state number revision commands =
     revision_of number state ≡ Some revision → Stays number state commands → revision_of number (after state commands) ≡ Some (revision + times_replaced number state commands)
 
--- while a tune stays, a Replace that names a revision that it had is accepted only where no accepted Replace of it came since
+-- while a tune stays, a Replace that names a revision that it had is accepted only where no
+-- accepted Replace of it came since
 abbrev pub AcceptedReplaceIsCurrent : State → ℕ → ℕ → List Command → List ℕ → Type 0
 AcceptedReplaceIsCurrent state number revision commands book =
     revision_of number state ≡ Some revision → Stays number state commands → IsTrue (accepts (after state commands) (Replace number revision book)) → times_replaced number state commands ≡ 0

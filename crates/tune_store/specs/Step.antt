@@ -1,5 +1,8 @@
 -- What a command does to the plain list, and what it is answered.
-use Rattle.std.specs.Prelude.{ℕ, ◌+◌, List, [], ◌∷◌, ◌++◌, length, map, not, ◌==◌, nat_lt, if◌then◌else◌, Option, None, Some, Result, Ok, Err}
+use Rattle.std.specs.Prelude.{
+    ℕ, ◌+◌, List, [], ◌∷◌, ◌++◌, length, map, not, ◌==◌, nat_lt, if◌then◌else◌, Option, None, Some,
+    Result, Ok, Err
+}
 use Rattle.abc_fields.specs.Books.{Texts, book_answer}
 use Rattle.abc_fields.specs.declared.book.BookFault.{BookFault}
 use Rattle.abc_fields.specs.declared.book.BookFault.TheVariants as fault
@@ -8,11 +11,18 @@ use Rattle.tune_store.specs.declared.tune.Tune.{Tune}
 use Rattle.tune_store.specs.Limits.{longest_text, most_tunes, greatest_number, greatest_revision}
 use Rattle.tune_store.specs.State.{State, greatest}
 use Rattle.tune_store.specs.declared.command.Command.{Command}
-use Rattle.tune_store.specs.declared.command.Command.TheVariants.{Import, Replace, Delete, Show, ExportAll}
+use Rattle.tune_store.specs.declared.command.Command.TheVariants.{
+    Import, Replace, Delete, Show, ExportAll
+}
 use Rattle.tune_store.specs.declared.command.Reply.{Reply}
-use Rattle.tune_store.specs.declared.command.Reply.TheVariants.{Imported, Replaced, Deleted, Shown, Exported}
+use Rattle.tune_store.specs.declared.command.Reply.TheVariants.{
+    Imported, Replaced, Deleted, Shown, Exported
+}
 use Rattle.tune_store.specs.declared.command.Refusal.{Refusal}
-use Rattle.tune_store.specs.declared.command.Refusal.TheVariants.{BookTooLong, NotPlain, NoTune, BadTune, NotOne, Unknown, Stale, Worn, ArchiveFull, NumbersSpent, OutOfMemory}
+use Rattle.tune_store.specs.declared.command.Refusal.TheVariants.{
+    BookTooLong, NotPlain, NoTune, BadTune, NotOne, Unknown, Stale, Worn, ArchiveFull,
+    NumbersSpent, OutOfMemory
+}
 
 -- the state after a command, and its answer
 abbrev pub Outcome : Type 0

@@ -24,7 +24,8 @@ pub record Passes {S : Type 0} (honest sound : S → Type 0) (standing : S → S
   pub was_honest : honest new → honest old
   pub stays_sound : sound old → sound new
   pub later : moment old ≤ moment new
-  -- what a stop might have left by then, it might still have left: nothing of the device's past is taken back
+  -- what a stop might have left by then, it might still have left: nothing of the device's past is
+  -- taken back
   pub keeps : honest new → (since : ℕ) (file : List ℕ) → left_since old since file → left_since new since file
   -- beside that it may have left files that stand for one of them, or for the state before, alone
   pub leaves : sound old → honest new → (since : ℕ) (file : List ℕ) → since ≤ moment old → left_since new since file

@@ -1,12 +1,17 @@
 // An archive in memory.
-ghost use Rattle.std.specs.Prelude.{◌≡◌, ◌≢◌, ℕ, ◌+◌, ◌^◌, ◌<◌, ◌≤◌, ◌⊎◌, List, [], ◌∷◌, ◌++◌, length, false, None, Some, Ok, Err, IfOk, IfErr, IfNone, IfSome, vec_len, slice_index_or};
+ghost use Rattle.std.specs.Prelude.{
+    ◌≡◌, ◌≢◌, ℕ, ◌+◌, ◌^◌, ◌<◌, ◌≤◌, ◌⊎◌, List, [], ◌∷◌, ◌++◌, length, false, None, Some, Ok, Err,
+    IfOk, IfErr, IfNone, IfSome, vec_len, slice_index_or
+};
 ghost use Rattle.std.specs.List.{AllByRecursion};
 ghost use Rattle.std.specs.Vec.{vec_capacity};
 ghost use Rattle.abc_fields.specs.Books.{book_answer};
 ghost use Rattle.tune_store.specs.declared.tune.Tune.{Tune};
 ghost use Rattle.tune_store.specs.Limits.{longest_text};
 ghost use Rattle.tune_store.specs.State.{State, IsState, IsTune, RisesFrom, greatest};
-ghost use Rattle.tune_store.specs.Step.{numbered, tune_at, import_book, replace_book, replace_tune, delete_tune, show_tune, exported};
+ghost use Rattle.tune_store.specs.Step.{
+    numbered, tune_at, import_book, replace_book, replace_tune, delete_tune, show_tune, exported
+};
 
 use crate::command::{Command, Refusal, Reply};
 use crate::tune::{GREATEST_NUMBER, GREATEST_REVISION, LONGEST_TEXT, MOST_TUNES, Tune};
@@ -223,7 +228,7 @@ fn export(alloc: Global, tunes: &[Tune]) -> Result<Reply, Refusal>
     for tune in tunes {
         book = book.with_tune(tune.number, &tune.text)?;
     }
-    Ok(Reply::Exported(book.into_text()))
+    Ok(Reply::Exported(book.into_book()))
 }
 
 // The place of the tune of a number.
