@@ -1,5 +1,6 @@
 -- What a line does to the answer to a book.
-use Rattle.std.proofs.Common.{◌≡◌, ℕ, ◌+◌, ◌≤◌, Bool, true, false, cond, not, eqb, ltb, ◌||◌, List, [], ◌∷◌, ◌++◌, length, map, get_or, None, Some, Ok, Err, Option, refl, ap, sym, ◌∙◌, subst, is_some, arith, ◌⊎◌, inl, inr}
+use Rattle.std.proofs.Common.{◌≡◌, ℕ, ◌+◌, ◌≤◌, Bool, true, false, cond, not, eqb, ltb, ◌||◌, List, [], ◌∷◌, ◌++◌, length, map, get_or, None, Some, Ok, Err}
+use Rattle.std.proofs.Common.{Option, refl, ap, sym, ◌∙◌, subst, is_some, arith, ◌⊎◌, inl, inr}
 use Rattle.std.specs.Prelude.{IfOk}
 use Rattle.std.specs.List.{AllByRecursion}
 use Rattle.std.proofs.lemmas.List.{append_assoc, append-nil, get_or_default}
@@ -9,11 +10,11 @@ use Rattle.memchr.specs.Find.{IsFirstByte, is_byte}
 use Rattle.abc_fields.specs.Bytes.{line_feed, carriage_return}
 use Rattle.abc_fields.specs.Lines.{Piece, Span, pieces_of, lines_of, spans_of, has_no_ending, ArePieces}
 use Rattle.abc_fields.proofs.LineLaw.{pieces_divide}
-use Rattle.abc_fields.proofs.LinePlaces.{spans_have_lines}
+use Rattle.abc_fields.proofs.LineOffsets.{spans_have_lines}
 use Rattle.abc_fields.specs.Tunes.{is_key_line, is_tune_start, ends_tune, tune_run, tune_runs, joined, has_key, IsTuneLine, IsOpenText, IsTextWithin}
 use Rattle.abc_fields.specs.Books.{Texts, before_texts, runs_answer, book_answer, book_of_runs, has_return, is_plain}
-use Rattle.abc_fields.specs.OpenBooks.{open_answer}
-use Rattle.abc_fields.specs.declared.book.TheConstants.{LONGEST_BOOK}
+use Rattle.abc_fields.specs.Inside.OpenBooks.{open_answer}
+use Rattle.abc_fields.specs.Limits.{longest_book}
 use Rattle.abc_fields.specs.declared.book.BookFault.{BookFault}
 use Rattle.abc_fields.specs.declared.book.BookFault.TheVariants.{BadTune, NoTune, OutOfMemory}
 use Rattle.abc_fields.specs.declared.book.TuneFault.TheVariants.{NoKey, TooLong}
@@ -123,8 +124,8 @@ texts_within longest book texts e =
 
 -- THE WHOLE BOOK
 -- a plain book of a good length is answered by its tunes
-pub book_read : (longest : ℕ) (book : List ℕ) → length book ≤ LONGEST_BOOK → is_plain book ≡ true → book_answer longest book ≡ book_of_runs longest (tune_runs (lines_of book))
-book_read longest book l h = rw (le-ltb LONGEST_BOOK (length book) l, h) refl
+pub book_read : (longest : ℕ) (book : List ℕ) → length book ≤ longest_book → is_plain book ≡ true → book_answer longest book ≡ book_of_runs longest (tune_runs (lines_of book))
+book_read longest book l h = rw (le-ltb longest_book (length book) l, h) refl
 
 pub runs_ok : (longest : ℕ) (runs : List (List (List ℕ))) (texts : List (List ℕ)) → runs_answer longest 1 runs ≡ Ok texts → (length texts ≡ 0 → ⊥) → book_of_runs longest runs ≡ Ok texts
 runs_ok longest [] texts e h = absurd (h (let same : [] ≡ texts = cc in sym (ap length same)))
@@ -165,6 +166,6 @@ refused_at fault old IsRest rest whole same is (inl memory) = inl memory
 refused_at fault old IsRest rest whole same is (inr h) = inr (same ∙ h rest is)
 
 -- the refusal of the tunes is that of the book
-pub refused_book : (longest : ℕ) (book : List ℕ) (fault : BookFault) → length book ≤ LONGEST_BOOK → is_plain book ≡ true → (fault ≡ OutOfMemory) ⊎ (runs_answer longest 1 (tune_runs (lines_of book)) ≡ Err fault) → (fault ≡ OutOfMemory) ⊎ (book_answer longest book ≡ Err fault)
+pub refused_book : (longest : ℕ) (book : List ℕ) (fault : BookFault) → length book ≤ longest_book → is_plain book ≡ true → (fault ≡ OutOfMemory) ⊎ (runs_answer longest 1 (tune_runs (lines_of book)) ≡ Err fault) → (fault ≡ OutOfMemory) ⊎ (book_answer longest book ≡ Err fault)
 refused_book longest book fault l h (inl memory) = inl memory
 refused_book longest book fault l h (inr r) = inr (book_read longest book l h ∙ runs_err longest (tune_runs (lines_of book)) fault r)

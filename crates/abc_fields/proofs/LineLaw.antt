@@ -5,7 +5,8 @@ use Rattle.std.proofs.lemmas.List.{append_assoc, append-nil, length-append}
 use Rattle.std.proofs.lemmas.Bool.{eqb-true, cases_Bool, cond_both, and_parts, not-true, or_from, or_parts}
 use Rattle.std.specs.Prelude.{slice_range}
 use Rattle.abc_fields.specs.Bytes.{line_feed, carriage_return}
-use Rattle.abc_fields.specs.Lines.{Piece, pieces_of, onto_content, onto_ending, ended_by, begins_with_feed, ends_line, text_of, has_no_ending, IsEnding, IsUnended, ArePieces, Divides, spans_from, spans_of, IsSpan, SpansRise}
+use Rattle.abc_fields.specs.Lines.{Piece, pieces_of, onto_content, onto_ending, ended_by, begins_with_feed, ends_line, text_of, has_no_ending, IsEnding}
+use Rattle.abc_fields.specs.Lines.{IsUnended, ArePieces, Divides, spans_from, spans_of, IsSpan, SpansRise}
 
 -- THE PIECES DIVIDE THE TEXT
 -- a byte at the front of the first content is a byte at the front of the text

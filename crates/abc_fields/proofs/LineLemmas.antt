@@ -1,10 +1,11 @@
 -- What a search for the end of a line finds.
-use Rattle.std.proofs.Common.{◌≡◌, ℕ, zero, suc, ◌+◌, ◌<◌, true, false, eqb, List, [], ◌∷◌, ◌++◌, length, take, drop, get_or, refl, ap, sym, ◌∙◌, arith, add-zero, ◌⊎◌, inl, inr, subst}
+use Rattle.std.proofs.Common.{◌≡◌, ℕ, zero, suc, ◌+◌, ◌<◌, true, false, eqb, List, [], ◌∷◌, ◌++◌, length, take, drop, get_or, refl, ap, sym, ◌∙◌, arith}
+use Rattle.std.proofs.Common.{add-zero, ◌⊎◌, inl, inr, subst}
 use Rattle.std.proofs.lemmas.List.{drop-drop, length-drop, get_or-drop, take_all, take-append-drop}
 use Rattle.std.proofs.lemmas.Bool.{eqb-true, ne_eqb, eq-eqb, both_ways, or_cases, cases_Bool, false_from_ne_true}
 use Rattle.abc_fields.specs.Bytes.{line_feed, carriage_return}
 use Rattle.abc_fields.specs.Lines.{pieces_of, ends_line, has_no_ending, IsEnding}
-use Rattle.abc_fields.specs.LineEndings.{ending_length}
+use Rattle.abc_fields.specs.Inside.LineEndings.{ending_length}
 use Rattle.abc_fields.proofs.LineLaw.{pieces_of_line, pieces_of_last}
 
 -- no byte below this place ends a line

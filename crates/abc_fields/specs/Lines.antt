@@ -1,5 +1,8 @@
--- What the lines of a text are (ABC 2.1, 2.2): a text is a row of pieces, each a content and the ending after it, and the contents are the lines.
-use Rattle.std.specs.Prelude.{◌≡◌, ℕ, ◌+◌, ◌<◌, ◌≤◌, List, [], ◌∷◌, ◌++◌, length, map, codes, slice_range, slice_get, Some, Bool, true, false, not, ◌==◌, ◌||◌, ◌⊎◌, if◌then◌else◌, ⊤}
+-- What the lines of a text are (ABC 2.1, 2.2): a text is a row of pieces, each a content and the
+-- ending after it, and the contents are the lines.
+use Rattle.std.specs.Prelude.{◌≡◌, ℕ, ◌+◌, ◌<◌, ◌≤◌, List, [], ◌∷◌, ◌++◌, length, map, codes}
+use Rattle.std.specs.Prelude.{slice_range, slice_get, Some, Bool, true, false, not, ◌==◌, ◌||◌, ◌⊎◌}
+use Rattle.std.specs.Prelude.{if◌then◌else◌, ⊤}
 use Rattle.std.specs.List.{list_all}
 use Rattle.abc_fields.specs.Bytes.{line_feed, carriage_return}
 
@@ -32,7 +35,8 @@ onto_ending byte (p ∷ ps) = record { content = p.content; ending = byte ∷ p.
 abbrev pub ended_by : ℕ → Piece
 ended_by byte = record { content = []; ending = byte ∷ [] }
 
--- a line feed ends a line, and so does a carriage return, alone or with the line feed that follows it
+-- a line feed ends a line, and so does a carriage return, alone or with the line feed that follows
+-- it
 abbrev pub pieces_of : List ℕ → List Piece
 pieces_of [] = []
 pieces_of (byte ∷ text) =
@@ -54,7 +58,8 @@ text_of (p ∷ ps) = p.content ++ (p.ending ++ text_of ps)
 abbrev pub has_no_ending : List ℕ → Bool
 has_no_ending line = list_all (λ byte. not (ends_line byte)) line
 
--- an ending before the rest of its text: a line feed, a carriage return and a line feed, or a carriage return that no line feed follows
+-- an ending before the rest of its text: a line feed, a carriage return and a line feed, or a
+-- carriage return that no line feed follows
 abbrev pub IsEnding : List ℕ → List ℕ → Type 0
 IsEnding ending rest =
     (ending ≡ codes "\n") ⊎ ((ending ≡ codes "\r\n") ⊎ ((ending ≡ codes "\r") × (begins_with_feed rest ≡ false)))

@@ -1,4 +1,5 @@
--- The parts of a text round the bytes that a test passes, and the text without such bytes at its ends.
+-- The parts of a text round the bytes that a test passes, and the text without such bytes at its
+-- ends.
 use Rattle.std.specs.Prelude.{ℕ, List, [], ◌∷◌, Bool, true, if◌then◌else◌}
 use Rattle.std.specs.List.{onto_first, list_all}
 use Rattle.abc_fields.specs.Bytes.{is_blank}

@@ -8,7 +8,8 @@ use Rattle.abc_keys.specs.declared.letters.Letter.TheVariants.{C, D, E, F, G, A,
 use Rattle.abc_keys.specs.declared.letters.Accidental.{Accidental}
 use Rattle.abc_keys.specs.declared.letters.Accidental.TheVariants.{DoubleFlat, Flat, Natural, Sharp, DoubleSharp}
 use Rattle.abc_keys.specs.declared.signatures.Signature.{Signature}
-use Rattle.abc_keys.specs.Letters.{is_one_of, letter_of, spelling, accidental_of, doubled}
+use Rattle.abc_fields.specs.Bytes.{is_one_of}
+use Rattle.abc_keys.specs.Letters.{letter_of, spelling, accidental_of, doubled}
 use Rattle.abc_keys.specs.Signatures.{accidental_at, with_accidental}
 use Rattle.abc_keys.specs.Accidentals.{changed_by, Setting, AreSpelled, with_settings, SetsItsPairs, SetsNone, LastCounts}
 

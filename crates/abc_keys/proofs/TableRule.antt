@@ -1,5 +1,6 @@
 -- The line of fifths gives the table.
-use Rattle.std.proofs.Common.{◌≡◌, ◌⊎◌, refl, sym, ◌∙◌, ℤ, pos, negsuc, ◌+ℤ◌, ◌≤ℤ◌, ◌<ℤ◌, Bool, true, false, cond, Option, Some, None, inl, inr, arith, ap, subst}
+use Rattle.std.proofs.Common.{◌≡◌, ◌⊎◌, refl, sym, ◌∙◌, ℤ, pos, negsuc, ◌+ℤ◌, ◌≤ℤ◌, ◌<ℤ◌, Bool, true, false, cond, Option, Some, None, inl, inr, arith, ap}
+use Rattle.std.proofs.Common.{subst}
 use lib.Signed.{lt_z}
 use Rattle.std.proofs.lemmas.Int.{ints}
 use Rattle.abc_keys.specs.declared.letters.Letter.{Letter}
@@ -9,7 +10,7 @@ use Rattle.abc_keys.specs.declared.scales.Sign.TheVariants.{Natural, Sharp, Flat
 use Rattle.abc_keys.specs.declared.scales.Mode.{Mode}
 use Rattle.abc_keys.specs.declared.scales.Mode.TheVariants.{Major, Lydian, Mixolydian, Dorian, Minor, Phrygian, Locrian}
 use Rattle.abc_keys.specs.declared.scales.Scale.{Scale}
-use Rattle.abc_keys.specs.Fifths.{tonic_fifths, sign_fifths, mode_fifths}
+use Rattle.abc_keys.specs.Inside.Fifths.{tonic_fifths, sign_fifths, mode_fifths}
 use Rattle.abc_keys.specs.ScaleTable.{listed_count}
 
 -- the number, where it is from seven flats to seven sharps

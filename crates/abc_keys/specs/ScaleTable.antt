@@ -1,12 +1,15 @@
--- The scales that have a signature: 105 rows of a tonic, its sign and a mode, each with its count of sharps, or of flats where the count
--- is below zero (ABC 2.1, 3.1.14, carried on to seven sharps and seven flats in each mode). `negsuc n` is -(n + 1).
-use Rattle.std.specs.Prelude.{ℕ, ◌==◌, ◌&&◌, if◌then◌else◌, Bool, ℤ, pos, negsuc, List, [], ◌∷◌, Option, Some, None}
+-- The scales that have a signature: 105 rows of a tonic, its sign and a mode, each with its count
+-- of sharps, or of flats where the count is below zero (ABC 2.1, 3.1.14, carried on to seven sharps
+-- and seven flats in each mode). `negsuc n` is -(n + 1).
+use Rattle.std.specs.Prelude.{ℕ, ◌==◌, ◌&&◌, if◌then◌else◌, Bool, ℤ, pos, negsuc, List, [], ◌∷◌}
+use Rattle.std.specs.Prelude.{Option, Some, None}
 use Rattle.abc_keys.specs.declared.letters.Letter.{Letter}
 use Rattle.abc_keys.specs.declared.letters.Letter.TheVariants.{C, D, E, F, G, A, B}
 use Rattle.abc_keys.specs.declared.scales.Sign.{Sign}
 use Rattle.abc_keys.specs.declared.scales.Sign.TheVariants.{Natural, Sharp, Flat}
 use Rattle.abc_keys.specs.declared.scales.Mode.{Mode}
-use Rattle.abc_keys.specs.declared.scales.Mode.TheVariants.{Major, Lydian, Mixolydian, Dorian, Minor, Phrygian, Locrian}
+use Rattle.abc_keys.specs.declared.scales.Mode.TheVariants.{Major, Lydian, Mixolydian, Dorian}
+use Rattle.abc_keys.specs.declared.scales.Mode.TheVariants.{Minor, Phrygian, Locrian}
 use Rattle.abc_keys.specs.declared.scales.Scale.{Scale}
 
 pub record Row : Type 0 where

@@ -1,4 +1,5 @@
--- Signatures: an accidental for each letter, and those of a count of sharps or flats (ABC 2.1, 3.1.14).
+-- Signatures: an accidental for each letter, and those of a count of sharps or flats (ABC 2.1,
+-- 3.1.14).
 use Rattle.std.specs.Prelude.{◌≡◌, ℕ, zero, suc, ◌+◌, ℤ, pos, negsuc, List, [], ◌∷◌, take, ⊤}
 use Rattle.std.specs.List.{fold}
 use Rattle.abc_keys.specs.declared.letters.Letter.{Letter}
@@ -48,7 +49,8 @@ abbrev pub of_count : ℤ → Signature
 of_count (pos n) = with_letters Sharp (take n sharp_order)
 of_count (negsuc n) = with_letters Flat (take (n + 1) flat_order)
 
--- as many of the first letters of a list as this have the accidental, and its other letters have none
+-- as many of the first letters of a list as this have the accidental, and its other letters have
+-- none
 abbrev pub HaveFirst : Accidental → ℕ → List Letter → Signature → Type 0
 HaveFirst accidental n [] s = ⊤
 HaveFirst accidental zero (letter ∷ letters) s = (accidental_at s letter ≡ Natural) × HaveFirst accidental zero letters s

@@ -4,8 +4,8 @@ use Rattle.std.proofs.lemmas.List.{append-nil}
 use Rattle.std.specs.Prelude.{⊤}
 use Rattle.abc_fields.specs.Lines.{Span}
 use Rattle.abc_fields.specs.Tunes.{tune_run}
-use Rattle.abc_fields.specs.OpenBooks.{open_answer}
-use Rattle.abc_fields.specs.declared.book.TheConstants.{LONGEST_BOOK}
+use Rattle.abc_fields.specs.Inside.OpenBooks.{open_answer}
+use Rattle.abc_fields.specs.Limits.{longest_book}
 use Rattle.abc_fields.proofs.BookLemmas.{contents, AllPlain, answer_at_start, spans_plain, refused_at}
 use Rattle.abc_fields.proofs.TextLengths.{book_limit}
 use Rattle.abc_fields.proofs.book.tunes_of.Goals as goal
@@ -15,7 +15,7 @@ loop-line-init c =
     let limit = c.min-limit.result in
     rw (c.into_iter-line-iterator.ensures.into_iter_gives, c.new-line-items.ensures.lines, c.new-tunes.ensures.items) record {
       plain = spans_plain c.args.book.now;
-      answer = answer_at_start limit c.args.book.now ∙ book_limit c.args.longest LONGEST_BOOK limit c.args.book.now c.min-limit.ensures c.requires;
+      answer = answer_at_start limit c.args.book.now ∙ book_limit c.args.longest longest_book limit c.args.book.now c.min-limit.ensures c.requires;
     }
 
 pub take_line-requires-clause-plain : goal.take_line-requires-clause-plain

@@ -1,7 +1,7 @@
 use Rattle.std.proofs.Common.{length, add-zero, arith}
 use Rattle.std.proofs.lemmas.List.{drop_all, take_all, take_rest}
 use Rattle.abc_fields.proofs.LineLemmas.{one_piece, first_piece}
-use Rattle.abc_fields.proofs.text_lines.first_line.Goals as goal
+use Rattle.abc_fields.proofs.lines.first_line.Goals as goal
 
 pub returns-in-None-clause-first : goal.returns-in-None-clause-first
 returns-in-None-clause-first c =

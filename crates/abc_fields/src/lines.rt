@@ -1,9 +1,10 @@
 // The lines of a text.
 ghost use Rattle.std.specs.Prelude.{◌≡◌, ℕ, ◌+◌, ◌^◌, ◌<◌, ◌≤◌, List, ◌∷◌, map, take, drop, length};
 ghost use Rattle.std.specs.Iterator.{YieldsFirstBy, item_count};
-ghost use Rattle.abc_fields.specs.Lines.{Piece, Span, Divides, SpansRise, SpansFollow, pieces_of, spans_from, spans_of};
+ghost use Rattle.abc_fields.specs.Lines.{Piece, Span, Divides, SpansRise, SpansFollow, pieces_of};
+ghost use Rattle.abc_fields.specs.Lines.{spans_from, spans_of};
 ghost use Rattle.abc_fields.specs.LineView.{line_span};
-ghost use Rattle.abc_fields.specs.LineEndings.{ending_length};
+ghost use Rattle.abc_fields.specs.Inside.LineEndings.{ending_length};
 
 use memchr::memchr2;
 use std::marker::Model;
@@ -19,8 +20,9 @@ pub struct Line<'a> {
     pub text: &'a [u8],
 }
 
-/// The lines of a text, in order, as parts of it (ABC 2.1, 2.2): a line ends at a line feed, at a carriage return and a line feed, or at a
-/// carriage return alone, and the last line also at the text's end, where it has a byte. A clause sees the list of the lines that are left.
+/// The lines of a text, in order, as parts of it (ABC 2.1, 2.2): a line ends at a line feed, at a
+/// carriage return and a line feed, or at a carriage return alone, and the last line also at the
+/// text's end, where it has a byte. A clause sees the list of the lines that are left.
 #[derive(Drop)]
 pub struct Lines<'a> {
     rest: &'a [u8],
@@ -38,15 +40,16 @@ impl<'a> Model for Lines<'a> {
 impl<'a> Lines<'a> {
     /// The lines of `text`. A byte order mark at its front is a part of the first line.
     ///
-    /// The law of lines stands beside it: a text is its pieces, one after another, each a content and an ending; no other pieces divide it so;
-    /// the lines are their contents, each the part of the text between its places, which rise.
+    /// The law of lines stands beside it: a text is its pieces, one after another, each a content
+    /// and an ending; no other pieces divide it so; the lines are their contents, each the part of
+    /// the text between its places, which rise.
     pub fn new(text: &'a [u8]) -> Lines<'a>
         ensures lines { result ≡ spans_of text.now }
 
         ensures pieces { Divides (pieces_of text.now) text.now }
         ensures no_other_pieces { (ps : List Piece) → Divides ps text.now → ps ≡ pieces_of text.now }
         ensures contents { map (λ s. s.bytes) (spans_of text.now) ≡ map (λ p. p.content) (pieces_of text.now) }
-        ensures places { SpansRise text.now 0 (spans_of text.now) }
+        ensures rising { SpansRise text.now 0 (spans_of text.now) }
         ensures after_pieces { SpansFollow text.now (pieces_of text.now) }
     {
         Lines { rest: text, at: 0 }

@@ -14,13 +14,13 @@ pub spans_have_lines : (text : List ℕ) → map (λ s. s.bytes) (spans_of text)
 spans_have_lines text = spans_contents 0 (pieces_of text)
 
 -- a piece's span among those of pieces of which the first begins here
-place_among : (at start : ℕ) (before after : List Piece) (p : Piece) → at + length (text_of before) ≡ start
+offsets_among : (at start : ℕ) (before after : List Piece) (p : Piece) → at + length (text_of before) ≡ start
     → slice_get (spans_from at (before ++ (p ∷ after))) (length before) ≡ Some (record { from = start; to = start + length p.content; bytes = p.content })
-place_among at start [] after p sum = let same : at ≡ start = omega arith in rw same refl
-place_among at start (q ∷ before) after p sum =
-    place_among (at + length q.content + length q.ending) start before after p (omega (arith, simp length-append at sum))
+offsets_among at start [] after p sum = let same : at ≡ start = omega arith in rw same refl
+offsets_among at start (q ∷ before) after p sum =
+    offsets_among (at + length q.content + length q.ending) start before after p (omega (arith, simp length-append at sum))
 
 -- a line begins after the bytes of the pieces before it
-pub span_place : (text : List ℕ) (before after : List Piece) (p : Piece) → before ++ (p ∷ after) ≡ pieces_of text
+pub span_offsets : (text : List ℕ) (before after : List Piece) (p : Piece) → before ++ (p ∷ after) ≡ pieces_of text
     → slice_get (spans_of text) (length before) ≡ Some (record { from = length (text_of before); to = length (text_of before) + length p.content; bytes = p.content })
-span_place text before after p whole = rw (← whole) (place_among 0 (length (text_of before)) before after p (omega arith))
+span_offsets text before after p whole = rw (← whole) (offsets_among 0 (length (text_of before)) before after p (omega arith))

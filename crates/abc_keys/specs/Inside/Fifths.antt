@@ -1,4 +1,5 @@
--- The line of fifths: how far along it a tonic, its sign and a mode lie from C major, and from where on it a letter is sharp or flat.
+-- The line of fifths: how far along it a tonic, its sign and a mode lie from C major, and from
+-- where on it a letter is sharp or flat.
 use Rattle.std.specs.Prelude.{ℤ, pos, negsuc, neg_ℤ, not, if◌then◌else◌}
 use Rattle.std.specs.Prelude.{int_lt}
 use Rattle.abc_keys.specs.declared.letters.Letter.{Letter}
@@ -8,7 +9,8 @@ use Rattle.abc_keys.specs.declared.letters.Accidental.TheVariants as accidental
 use Rattle.abc_keys.specs.declared.scales.Sign.{Sign}
 use Rattle.abc_keys.specs.declared.scales.Sign.TheVariants.{Natural, Sharp, Flat}
 use Rattle.abc_keys.specs.declared.scales.Mode.{Mode}
-use Rattle.abc_keys.specs.declared.scales.Mode.TheVariants.{Major, Lydian, Mixolydian, Dorian, Minor, Phrygian, Locrian}
+use Rattle.abc_keys.specs.declared.scales.Mode.TheVariants.{Major, Lydian, Mixolydian, Dorian}
+use Rattle.abc_keys.specs.declared.scales.Mode.TheVariants.{Minor, Phrygian, Locrian}
 
 abbrev pub tonic_fifths : Letter → ℤ
 tonic_fifths F = negsuc 0
