@@ -10,7 +10,7 @@ use Rattle.std.proofs.lemmas.Bool.{ne_eqb, eq-eqb, eqb-true, eqb-false, ltb-fals
 use Rattle.abc_fields.specs.Lines.{lines_of}
 use Rattle.abc_fields.specs.Tunes.{tune_runs, IsTextWithin}
 use Rattle.abc_fields.specs.Books.{Texts, runs_answer, book_of_runs, book_answer, is_plain}
-use Rattle.abc_fields.specs.declared.book.TheConstants.{LONGEST_BOOK}
+use Rattle.abc_fields.specs.Limits.{longest_book}
 use Rattle.abc_fields.specs.declared.book.BookFault.TheVariants as fault
 use Rattle.abc_fields.proofs.BookLemmas.{TextsWithin, texts_within}
 use Rattle.tune_store.specs.State.{State, IsState, RisesFrom, greatest}
@@ -107,7 +107,7 @@ book_texts longest (run ∷ runs) false true within = within
 
 -- the texts of a book are tune texts within the length
 book_within : (longest : ℕ) (book : List ℕ) → TextsWithin longest (book_answer longest book)
-book_within longest book = book_texts longest (tune_runs (lines_of book)) (ltb LONGEST_BOOK (length book)) (is_plain book) (runs_texts longest book _ refl)
+book_within longest book = book_texts longest (tune_runs (lines_of book)) (ltb longest_book (length book)) (is_plain book) (runs_texts longest book _ refl)
 
 import_tests : (state : State) (texts : List (List ℕ)) (reply : Reply) (full spent : Bool) → ltb most_tunes (length state.tunes + length texts) ≡ full → ltb greatest_number (greatest state.tunes + length texts) ≡ spent
     → IsState state → AllByRecursion (IsTextWithin longest_text) texts → KeepsLimits (cond full (state, Err ArchiveFull) (cond spent (state, Err NumbersSpent) (with_texts state texts, Ok reply)))
