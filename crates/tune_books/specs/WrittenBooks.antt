@@ -15,7 +15,8 @@ written_tune number text = codes "X:" ++ decimal number ++ codes "\n" ++ text
 abbrev pub written_tunes : List ℕ → List (List ℕ) → List ℕ
 written_tunes [] texts = []
 written_tunes (number ∷ numbers) [] = []
-written_tunes (number ∷ numbers) (text ∷ texts) = (codes "\n" ++ written_tune number text) ++ written_tunes numbers texts
+written_tunes (number ∷ numbers) (text ∷ texts) =
+    (codes "\n" ++ written_tune number text) ++ written_tunes numbers texts
 
 -- a book: its first line, and its tunes
 abbrev pub written_book : List ℕ → List (List ℕ) → List ℕ

@@ -32,8 +32,8 @@ impl BookWriter {
     }
 
     /// The book with one more tune at its end: an empty line, the line `X:` with the number, and
-    /// the text (ABC 2.1, section 2.2.1; this archive's profile). The error is out of memory, and what was
-    /// written is dropped then.
+    /// the text (ABC 2.1, section 2.2.1; this archive's profile). The error is out of memory, and
+    /// what was written is dropped then.
     pub fn with_tune(self, number: u32, text: &TuneText) -> Result<BookWriter, AllocError>
         ensures { IfOk result (λ writer.
             writer ≡ self ++ (codes "\n" ++ written_tune number text.now)) }

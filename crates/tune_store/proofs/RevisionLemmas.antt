@@ -1,7 +1,35 @@
 -- The law of revisions, and what each command keeps.
 use Rattle.std.proofs.Common.{
-    ◌≡◌, ℕ, ◌+◌, ◌≤◌, Bool, true, false, not, cond, eqb, ltb, List, [], ◌∷◌, ◌++◌, length, Option, Some, None, Ok, Err, refl, ap, sym, subst, ◌∙◌, arith,
-    add-zero, inl, inr
+  ◌≡◌,
+  ℕ,
+  ◌+◌,
+  ◌≤◌,
+  Bool,
+  true,
+  false,
+  not,
+  cond,
+  eqb,
+  ltb,
+  List,
+  [],
+  ◌∷◌,
+  ◌++◌,
+  length,
+  Option,
+  Some,
+  None,
+  Ok,
+  Err,
+  refl,
+  ap,
+  sym,
+  subst,
+  ◌∙◌,
+  arith,
+  add-zero,
+  inl,
+  inr,
 }
 use Rattle.std.specs.Prelude.{IsSome, IsTrue, IsFalse, is_ok, is_some}
 use Rattle.std.specs.Option.{option_map}
@@ -15,11 +43,31 @@ use Rattle.abc_fields.specs.declared.book.BookFault.TheVariants as fault
 use Rattle.abc_fields.proofs.BookLemmas.{TextsWithin, texts_within}
 use Rattle.tune_store.specs.State.{State, IsState, RisesFrom, greatest}
 use Rattle.tune_store.specs.Step.{
-    Outcome, step, tune_at, with_tune, without, revised, with_texts, import_book, replace_tune, replace_book, delete_tune, show_tune
+  Outcome,
+  step,
+  tune_at,
+  with_tune,
+  without,
+  revised,
+  with_texts,
+  import_book,
+  replace_tune,
+  replace_book,
+  delete_tune,
+  show_tune,
 }
 use Rattle.tune_store.specs.Revisions.{
-    revision_of, HasTune, accepts, replaces, after, times_replaced, RaisesRevision, AcceptedReplaceRaises, OthersKeepRevision, RevisionCounts,
-    AcceptedReplaceIsCurrent
+  revision_of,
+  HasTune,
+  accepts,
+  replaces,
+  after,
+  times_replaced,
+  RaisesRevision,
+  AcceptedReplaceRaises,
+  OthersKeepRevision,
+  RevisionCounts,
+  AcceptedReplaceIsCurrent,
 }
 use Rattle.tune_store.specs.declared.tune.Tune.{Tune}
 use Rattle.tune_store.specs.Limits.{longest_text, most_tunes, greatest_number, greatest_revision}

@@ -1,22 +1,50 @@
 -- Answers by the step.
 use Rattle.std.proofs.Common.{
-    ◌≡◌, ℕ, ◌+◌, Bool, true, false, not, cond, eqb, ltb, List, [], ◌∷◌, length, Option, Some, None, Result, Ok, Err, refl, sym, ap, ◌∙◌, inl, inr, ◌⊎◌
+  ◌≡◌,
+  ℕ,
+  ◌+◌,
+  Bool,
+  true,
+  false,
+  not,
+  cond,
+  eqb,
+  ltb,
+  List,
+  [],
+  ◌∷◌,
+  length,
+  Option,
+  Some,
+  None,
+  Result,
+  Ok,
+  Err,
+  refl,
+  sym,
+  ap,
+  ◌∙◌,
+  inl,
+  inr,
+  ◌⊎◌,
+  arith,
 }
-use Rattle.std.specs.Prelude.{◌≢◌, ◌↔◌, IfErr}
+use Rattle.std.specs.Prelude.{◌≢◌, ◌↔◌, IfErr, ⊤}
 use Rattle.abc_fields.specs.Books.{Texts, book_answer}
 use Rattle.abc_fields.specs.declared.book.BookFault.{BookFault}
 use Rattle.abc_fields.specs.declared.book.BookFault.TheVariants as fault
 use Rattle.tune_store.specs.State.{State, Standing, greatest}
 use Rattle.tune_store.specs.Step.{Outcome, refusal_of, step, import_book, replace_book, replace_texts, replace_tune, delete_tune, show_tune, tune_at}
 use Rattle.tune_store.specs.Answers.{Answers, open_at, stepped, no_memory, failed_before, failed_after, is_closed, passed}
-use Rattle.tune_store.specs.Stops.{Among}
+use Rattle.tune_store.specs.Stops.{Among, Passes}
+use Rattle.tune_store.specs.Inside.Lists.{state_of, StaysOrGives}
 use Rattle.tune_store.specs.declared.tune.Tune.{Tune}
 use Rattle.tune_store.specs.Limits.{longest_text, most_tunes, greatest_number, greatest_revision}
 use Rattle.tune_store.specs.declared.command.Command.{Command}
 use Rattle.tune_store.specs.declared.command.Command.TheVariants.{Import, Replace, Delete, Show, ExportAll}
 use Rattle.tune_store.specs.declared.command.Reply.{Reply}
 use Rattle.tune_store.specs.declared.command.Refusal.{Refusal}
-use Rattle.tune_store.specs.declared.command.Refusal.TheVariants.{OutOfMemory, Device, Closed}
+use Rattle.tune_store.specs.declared.command.Refusal.TheVariants.{Device, Closed}
 
 -- A REFUSED COMMAND CHANGES NOTHING
 -- where the answer is a refusal, the state is this one
@@ -157,8 +185,26 @@ answers_reach _ _ _ _ (failed_after old command) = inr (inl refl)
 answers_reach _ _ _ _ (is_closed old command) = inl refl
 
 -- A STORE IN MEMORY
--- memory was refused and nothing changed, or the answer is that of the plain list
-pub in_memory : (old new : List Tune) (command : Command) (answer : Result Reply Refusal) → ((answer ≡ Err OutOfMemory) × (new ≡ old)) ⊎ (step (record { tunes = old }) command ≡ (record { tunes = new }, answer))
-    → Answers (open_at (record { tunes = old })) command answer (open_at (record { tunes = new }))
-in_memory old new command answer (inl h) = rw (h.0, h.1) (no_memory (record { tunes = old }) command)
-in_memory old new command answer (inr h) = stepped (record { tunes = old }) (record { tunes = new }) command answer h
+-- it is out of memory and stays, or its answer is that of the plain list
+pub in_memory : (old new : List Tune) (command : Command) (answer : Result Reply Refusal)
+    → StaysOrGives old new answer (step (state_of old) command) → Answers (open_at (state_of old)) command answer (open_at (state_of new))
+in_memory old new command answer (inl h) = rw (h.0, h.1) (no_memory (state_of old) command)
+in_memory old new command answer (inr h) = stepped (state_of old) (state_of new) command answer h
+
+-- it has no device that fails
+pub never_fails : (old new : State) (command : Command) (answer : Result Reply Refusal)
+    → Answers (open_at old) command answer (open_at new) → answer ≡ Err Device → ⊥
+never_fails old new command answer answers failed = let closed : false ≡ true = failing_closes _ _ _ _ answers failed in cc
+
+-- it passes the states of its answer, and no stop leaves any of them
+pub passes_in_memory : (old new : State) (command : Command) (answer : Result Reply Refusal)
+    → Answers (open_at old) command answer (open_at new)
+    → Passes {S = State} (λ _. ⊤) (λ _. ⊤) open_at (λ _. 0) (λ _ _ _. ⊥) (λ _ _. ⊥) old new (passed old command answer)
+passes_in_memory old new command answer answers = record {
+  reaches = answers_reach _ _ _ _ answers;
+  was_honest = λ honest. honest;
+  stays_sound = λ sound. sound;
+  later = omega arith;
+  keeps = λ honest since file left. left;
+  leaves = λ sound honest since file early left. absurd left;
+}

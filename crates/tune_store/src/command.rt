@@ -70,7 +70,7 @@ pub enum Refusal {
     /// The book has more bytes than `abc_fields::LONGEST_BOOK`.
     #[error("the book is too long")]
     BookTooLong,
-    /// Memory was refused in this call.
+    /// Memory ran out in this call.
     #[error("out of memory")]
     OutOfMemory,
     /// The device failed in this call. It then holds the archive before the command, or after it.

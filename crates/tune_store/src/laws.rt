@@ -3,7 +3,11 @@ ghost use Rattle.std.specs.Prelude.{◌≡◌, ℕ, List, IsFalse};
 ghost use Rattle.tune_store.specs.State.{State, IsState};
 ghost use Rattle.tune_store.specs.Step.{step};
 ghost use Rattle.tune_store.specs.Revisions.{
-    accepts, AcceptedReplaceRaises, OthersKeepRevision, RevisionCounts, AcceptedReplaceIsCurrent
+  accepts,
+  AcceptedReplaceRaises,
+  OthersKeepRevision,
+  RevisionCounts,
+  AcceptedReplaceIsCurrent,
 };
 ghost use Rattle.tune_store.specs.declared.command.Command.{Command};
 
@@ -22,10 +26,17 @@ ghost use Rattle.tune_store.specs.declared.command.Command.{Command};
 /// - `limits`: every command leaves the list within the limits.
 /// - `refused`: a command that is not accepted leaves the list as it was.
 pub fn law_of_revisions()
-    ensures replaced { (state : State) (number revision : ℕ) (book : List ℕ) → AcceptedReplaceRaises state number revision book }
-    ensures others { (state : State) (number : ℕ) (command : Command) → IsState state → OthersKeepRevision state number command }
-    ensures counted { (state : State) (number revision : ℕ) (commands : List Command) → IsState state → RevisionCounts state number revision commands }
-    ensures current { (state : State) (number revision : ℕ) (commands : List Command) (book : List ℕ) → IsState state → AcceptedReplaceIsCurrent state number revision commands book }
-    ensures limits { (state : State) (command : Command) → IsState state → IsState (step state command).0 }
-    ensures refused { (state : State) (command : Command) → IsFalse (accepts state command) → (step state command).0 ≡ state }
+    ensures replaced { (state : State) (number revision : ℕ) (book : List ℕ)
+        → AcceptedReplaceRaises state number revision book }
+    ensures others { (state : State) (number : ℕ) (command : Command)
+        → IsState state → OthersKeepRevision state number command }
+    ensures counted { (state : State) (number revision : ℕ) (commands : List Command)
+        → IsState state → RevisionCounts state number revision commands }
+    ensures current { (state : State) (number revision : ℕ) (commands : List Command)
+        (book : List ℕ) → IsState state
+        → AcceptedReplaceIsCurrent state number revision commands book }
+    ensures limits { (state : State) (command : Command)
+        → IsState state → IsState (step state command).0 }
+    ensures refused { (state : State) (command : Command)
+        → IsFalse (accepts state command) → (step state command).0 ≡ state }
 {}

@@ -32,17 +32,21 @@ pub trait TuneStore {
     ghost stands_for: { List ℕ → State → Type 0 } = { λ _ _. ⊥ };
 
     /// Carries out a command, or refuses it. The refusals are those of the command, `OutOfMemory`,
-    /// `Device` where the device failed, and
-    /// `Closed` where it failed before. After each but `Device` the store is as it was.
+    /// `Device` where the device failed, and `Closed` where it failed before. After each but
+    /// `Device` the store is as it was.
     fn apply(&mut self, command: &Command) -> Result<Reply, Refusal>
         ensures answer { Answers (standing self.old) command.now result (standing self.new) }
-        ensures refused { IfErr result (λ refusal. refusal ≢ Refusal.Device → standing self.new ≡ standing self.old) }
+        ensures refused { IfErr result (λ refusal.
+            refusal ≢ Refusal.Device → standing self.new ≡ standing self.old) }
         ensures closes { IsErrOf result Refusal.Device → (standing self.new).closed ≡ true }
         ensures closed { IsErrOf result Refusal.Closed ↔ ((standing self.old).closed ≡ true) }
-        ensures stops { Passes honest sound standing moment left_since stands_for self.old self.new (passed (standing self.old).state command.now result) }
-        ensures cause { honest self.new → IsErrOf result Refusal.Device → HasFailed (failures self.old) (failures self.new) };
+        ensures stops { Passes honest sound standing moment left_since stands_for
+            self.old self.new (passed (standing self.old).state command.now result) }
+        ensures cause { honest self.new → IsErrOf result Refusal.Device
+            → HasFailed (failures self.old) (failures self.new) };
 
     /// Where the store is open, a stop now leaves its state.
-    ghost settled: { (store : Self) (file : List ℕ) → sound store → honest store → (standing store).closed ≡ false
-        → left_since store (moment store) file → stands_for file (standing store).state };
+    ghost settled: { (store : Self) (file : List ℕ) → sound store → honest store
+        → (standing store).closed ≡ false → left_since store (moment store) file
+        → stands_for file (standing store).state };
 }

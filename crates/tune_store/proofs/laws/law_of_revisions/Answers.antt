@@ -1,5 +1,10 @@
 use Rattle.tune_store.proofs.RevisionLemmas.{
-    accepted_replace_raises, others_keep_revision, revision_counts, accepted_replace_is_current, step_keeps_limits, refused_leaves
+  accepted_replace_raises,
+  others_keep_revision,
+  revision_counts,
+  accepted_replace_is_current,
+  step_keeps_limits,
+  refused_leaves,
 }
 use Rattle.tune_store.proofs.laws.law_of_revisions.Goals as goal
 
