@@ -12,8 +12,9 @@ pub fn apply_to_open<S: TuneStore>(store: &mut S, command: &Command) -> Result<R
     requires sound { S.sound store.old }
     ensures answer { Answers (S.standing store.old) command.now result (S.standing store.new) }
     ensures sound { S.sound store.new }
-    ensures left { S.honest store.new → (file : List ℕ) → S.left_since store.new (S.moment store.old) file
-        → StandsForOne S.stands_for ((S.standing store.old).state ∷ passed (S.standing store.old).state command.now result) file }
+    ensures left { let state = (S.standing store.old).state in
+        S.honest store.new → (file : List ℕ) → S.left_since store.new (S.moment store.old) file
+        → StandsForOne S.stands_for (state ∷ passed state command.now result) file }
 {
     store.apply(command)
 }

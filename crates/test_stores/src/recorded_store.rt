@@ -1,7 +1,8 @@
 // A store whose stops leave something.
 ghost use Rattle.std.specs.Prelude.{◌≡◌, ◌+◌, ◌<◌, ◌≤◌, [], ◌∷◌, ◌++◌, false, IfOk, vec_len};
 ghost use Rattle.std.specs.Vec.{vec_capacity};
-ghost use Rattle.test_stores.specs.Record.{LeftSince, IsOfCount, EndsAt, last_place, settles};
+ghost use Rattle.test_stores.specs.Record.{LeftSince, IsOfCount, EndsAt, last_place};
+ghost use Rattle.test_stores.specs.Inside.Settling.{settles};
 
 use std::alloc::{AllocError, Global};
 use tune_store::{Command, ListArchive, Refusal, Reply, TuneStore};
@@ -18,7 +19,8 @@ pub struct RecordedStore {
 impl RecordedStore {
     /// A store without a tune, whose record begins with that. The error is out of memory.
     pub fn new(alloc: Global) -> Result<RecordedStore, AllocError>
-        ensures standing { IfOk result (λ store. ⟦<RecordedStore as TuneStore>⟧.standing store ≡ record { state = record { tunes = [] }; closed = false }) }
+        ensures standing { IfOk result (λ store. ⟦<RecordedStore as TuneStore>⟧.standing store
+            ≡ record { state = record { tunes = [] }; closed = false }) }
         ensures entries { IfOk result (λ store. store.entries.items ≡ 0 ∷ []) }
         ensures sound { IfOk result (λ store. ⟦<RecordedStore as TuneStore>⟧.sound store) }
     {
@@ -49,7 +51,8 @@ impl TuneStore for RecordedStore {
 
     ghost stands_for = { IsOfCount };
 
-    ghost settled = { λ store file sound honest is_open left. settles store.entries.items store.archive file sound left };
+    ghost settled = { λ store file sound honest is_open left.
+        settles store.entries.items store.archive file sound left };
 
     fn apply(&mut self, command: &Command) -> Result<Reply, Refusal> {
         self.entries.reserve(1)?;

@@ -1,34 +1,6 @@
 -- Answers by the step.
-use Rattle.std.proofs.Common.{
-  ◌≡◌,
-  ℕ,
-  ◌+◌,
-  Bool,
-  true,
-  false,
-  not,
-  cond,
-  eqb,
-  ltb,
-  List,
-  [],
-  ◌∷◌,
-  length,
-  Option,
-  Some,
-  None,
-  Result,
-  Ok,
-  Err,
-  refl,
-  sym,
-  ap,
-  ◌∙◌,
-  inl,
-  inr,
-  ◌⊎◌,
-  arith,
-}
+use Rattle.std.proofs.Common.{◌≡◌, ℕ, ◌+◌, Bool, true, false, not, cond, eqb, ltb, List, [], ◌∷◌, length, Option, Some, None, Result, Ok, Err, refl, sym, ap}
+use Rattle.std.proofs.Common.{◌∙◌, inl, inr, ◌⊎◌, arith}
 use Rattle.std.specs.Prelude.{◌≢◌, ◌↔◌, IfErr, ⊤}
 use Rattle.abc_fields.specs.Books.{Texts, book_answer}
 use Rattle.abc_fields.specs.declared.book.BookFault.{BookFault}
@@ -108,7 +80,8 @@ abbrev NotOfDevice : Outcome → Type 0
 NotOfDevice outcome = (refusal : Refusal) → outcome.1 ≡ Err refusal → IsOfDevice refusal → ⊥
 
 -- an outcome by two tests, of which each refuses for no device
-two_tests_not_of_device : (old new : State) (a b : Bool) (x y : Refusal) (reply : Reply) → (IsOfDevice x → ⊥) → (IsOfDevice y → ⊥) → NotOfDevice (cond a (old, Err x) (cond b (old, Err y) (new, Ok reply)))
+two_tests_not_of_device : (old new : State) (a b : Bool) (x y : Refusal) (reply : Reply) → (IsOfDevice x → ⊥) → (IsOfDevice y → ⊥)
+    → NotOfDevice (cond a (old, Err x) (cond b (old, Err y) (new, Ok reply)))
 two_tests_not_of_device old new true b x y reply not_x not_y refusal h of = let same : x ≡ refusal = cc in not_x (rw same of)
 two_tests_not_of_device old new false true x y reply not_x not_y refusal h of = let same : y ≡ refusal = cc in not_y (rw same of)
 two_tests_not_of_device old new false false x y reply not_x not_y refusal h of = cc
@@ -119,7 +92,8 @@ import_not_of_device old (Ok texts) refusal h of =
     two_tests_not_of_device old _ (ltb most_tunes (length old.tunes + length texts)) (ltb greatest_number (greatest old.tunes + length texts)) _ _ _
     (λ x. elim x [ inl e ↦ cc | inr e ↦ cc ]) (λ y. elim y [ inl e ↦ cc | inr e ↦ cc ]) refusal h of
 
-replace_tune_not_of_device : (old : State) (number revision : ℕ) (text : List ℕ) (found : Option Tune) → NotOfDevice (replace_tune old number revision text found)
+replace_tune_not_of_device : (old : State) (number revision : ℕ) (text : List ℕ) (found : Option Tune)
+    → NotOfDevice (replace_tune old number revision text found)
 replace_tune_not_of_device old number revision text None refusal h of = elim of [ inl e ↦ cc | inr e ↦ cc ]
 replace_tune_not_of_device old number revision text (Some tune) refusal h of =
     two_tests_not_of_device old _ (not (eqb tune.revision revision)) (not (ltb tune.revision greatest_revision)) _ _ _
@@ -127,7 +101,8 @@ replace_tune_not_of_device old number revision text (Some tune) refusal h of =
 
 replace_texts_not_of_device : (old : State) (number revision : ℕ) (texts : List (List ℕ)) → NotOfDevice (replace_texts old number revision texts)
 replace_texts_not_of_device old number revision [] refusal h of = elim of [ inl e ↦ cc | inr e ↦ cc ]
-replace_texts_not_of_device old number revision (text ∷ []) refusal h of = replace_tune_not_of_device old number revision text (tune_at number old.tunes) refusal h of
+replace_texts_not_of_device old number revision (text ∷ []) refusal h of =
+    replace_tune_not_of_device old number revision text (tune_at number old.tunes) refusal h of
 replace_texts_not_of_device old number revision (text ∷ next ∷ texts) refusal h of = elim of [ inl e ↦ cc | inr e ↦ cc ]
 
 replace_not_of_device : (old : State) (number revision : ℕ) (texts : Texts) → NotOfDevice (replace_book old number revision texts)
@@ -151,34 +126,42 @@ step_not_of_device old (Show number) = show_not_of_device old number (tune_at nu
 
 -- WHAT AN ANSWER SAYS OF THE STORE
 -- after each refusal but that of a device that failed, the store stands for what it stood for
-pub refused_stays : (old new : Standing) (command : Command) (answer : Result Reply Refusal) → Answers old command answer new → IfErr answer (λ refusal. refusal ≢ Device → new ≡ old)
+pub refused_stays : (old new : Standing) (command : Command) (answer : Result Reply Refusal) → Answers old command answer new
+    → IfErr answer (λ refusal. refusal ≢ Device → new ≡ old)
 refused_stays _ _ _ _ (stepped old new command (Ok reply) e) = tt
-refused_stays _ _ _ _ (stepped old new command (Err refusal) e) = λ other. ap open_at (sym (ap (λ (o : Outcome). o.0) e) ∙ refused_keeps old command refusal (ap (λ (o : Outcome). o.1) e))
+refused_stays _ _ _ _ (stepped old new command (Err refusal) e) =
+    λ other. ap open_at (sym (ap (λ (o : Outcome). o.0) e) ∙ refused_keeps old command refusal (ap (λ (o : Outcome). o.1) e))
 refused_stays _ _ _ _ (no_memory old command) = λ other. refl
 refused_stays _ _ _ _ (failed_before old command) = λ other. absurd (other refl)
 refused_stays _ _ _ _ (failed_after old command) = λ other. absurd (other refl)
 refused_stays _ _ _ _ (is_closed old command) = λ other. refl
 
 -- a store whose device failed in a call is closed after it
-pub failing_closes : (old new : Standing) (command : Command) (answer : Result Reply Refusal) → Answers old command answer new → answer ≡ Err Device → new.closed ≡ true
-failing_closes _ _ _ _ (stepped old new command answer e) failed = absurd (step_not_of_device old command Device (ap (λ (o : Outcome). o.1) e ∙ failed) (inl refl))
+pub failing_closes : (old new : Standing) (command : Command) (answer : Result Reply Refusal) → Answers old command answer new → answer ≡ Err Device
+    → new.closed ≡ true
+failing_closes _ _ _ _ (stepped old new command answer e) failed =
+    absurd (step_not_of_device old command Device (ap (λ (o : Outcome). o.1) e ∙ failed) (inl refl))
 failing_closes _ _ _ _ (no_memory old command) failed = cc
 failing_closes _ _ _ _ (failed_before old command) failed = refl
 failing_closes _ _ _ _ (failed_after old command) failed = refl
 failing_closes _ _ _ _ (is_closed old command) failed = refl
 
 -- a store answers that it is closed exactly where it is
-pub closed_answers : (old new : Standing) (command : Command) (answer : Result Reply Refusal) → Answers old command answer new → (answer ≡ Err Closed) ↔ (old.closed ≡ true)
-closed_answers _ _ _ _ (stepped old new command answer e) = (λ h. absurd (step_not_of_device old command Closed (ap (λ (o : Outcome). o.1) e ∙ h) (inr refl)), λ h. cc)
+pub closed_answers : (old new : Standing) (command : Command) (answer : Result Reply Refusal) → Answers old command answer new
+    → (answer ≡ Err Closed) ↔ (old.closed ≡ true)
+closed_answers _ _ _ _ (stepped old new command answer e) =
+    (λ h. absurd (step_not_of_device old command Closed (ap (λ (o : Outcome). o.1) e ∙ h) (inr refl)), λ h. cc)
 closed_answers _ _ _ _ (no_memory old command) = (λ h. cc, λ h. cc)
 closed_answers _ _ _ _ (failed_before old command) = (λ h. cc, λ h. cc)
 closed_answers _ _ _ _ (failed_after old command) = (λ h. cc, λ h. cc)
 closed_answers _ _ _ _ (is_closed old command) = (λ h. refl, λ h. refl)
 
 -- the state after an answer is the state before, or one that the command went on to
-pub answers_reach : (old new : Standing) (command : Command) (answer : Result Reply Refusal) → Answers old command answer new → Among new.state (old.state ∷ passed old.state command answer)
+pub answers_reach : (old new : Standing) (command : Command) (answer : Result Reply Refusal) → Answers old command answer new
+    → Among new.state (old.state ∷ passed old.state command answer)
 answers_reach _ _ _ _ (stepped old new command (Ok reply) e) = inr (inl (sym (ap (λ (o : Outcome). o.0) e)))
-answers_reach _ _ _ _ (stepped old new command (Err refusal) e) = inl (sym (ap (λ (o : Outcome). o.0) e) ∙ refused_keeps old command refusal (ap (λ (o : Outcome). o.1) e))
+answers_reach _ _ _ _ (stepped old new command (Err refusal) e) =
+    inl (sym (ap (λ (o : Outcome). o.0) e) ∙ refused_keeps old command refusal (ap (λ (o : Outcome). o.1) e))
 answers_reach _ _ _ _ (no_memory old command) = inl refl
 answers_reach _ _ _ _ (failed_before old command) = inl refl
 answers_reach _ _ _ _ (failed_after old command) = inr (inl refl)

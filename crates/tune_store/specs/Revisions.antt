@@ -1,24 +1,6 @@
 -- The law of revisions: what commands, one after another, make of the revision of a tune.
-use Rattle.std.specs.Prelude.{
-  ◌≡◌,
-  ℕ,
-  ◌+◌,
-  List,
-  [],
-  ◌∷◌,
-  Bool,
-  false,
-  ◌&&◌,
-  ◌==◌,
-  if◌then◌else◌,
-  IsTrue,
-  IsFalse,
-  Option,
-  Some,
-  IsSome,
-  is_ok,
-  ⊤,
-}
+use Rattle.std.specs.Prelude.{◌≡◌, ℕ, ◌+◌, List, [], ◌∷◌, Bool, false, ◌&&◌, ◌==◌, if◌then◌else◌}
+use Rattle.std.specs.Prelude.{IsTrue, IsFalse, Option, Some, IsSome, is_ok, ⊤}
 use Rattle.std.specs.Option.{option_map}
 use Rattle.tune_store.specs.State.{State}
 use Rattle.tune_store.specs.Step.{step, tune_at}

@@ -1,24 +1,6 @@
 -- What a command does to the plain list, and what it is answered.
-use Rattle.std.specs.Prelude.{
-  ℕ,
-  ◌+◌,
-  List,
-  [],
-  ◌∷◌,
-  ◌++◌,
-  length,
-  map,
-  not,
-  ◌==◌,
-  nat_lt,
-  if◌then◌else◌,
-  Option,
-  None,
-  Some,
-  Result,
-  Ok,
-  Err,
-}
+use Rattle.std.specs.Prelude.{ℕ, ◌+◌, List, [], ◌∷◌, ◌++◌, length, map, not, ◌==◌, nat_lt}
+use Rattle.std.specs.Prelude.{if◌then◌else◌, Option, None, Some, Result, Ok, Err}
 use Rattle.abc_fields.specs.Books.{Texts, book_answer}
 use Rattle.abc_fields.specs.declared.book.BookFault.{BookFault}
 use Rattle.abc_fields.specs.declared.book.BookFault.TheVariants as fault
@@ -27,35 +9,16 @@ use Rattle.tune_store.specs.declared.tune.Tune.{Tune}
 use Rattle.tune_store.specs.Limits.{longest_text, most_tunes, greatest_number, greatest_revision}
 use Rattle.tune_store.specs.State.{State, greatest}
 use Rattle.tune_store.specs.declared.command.Command.{Command}
-use Rattle.tune_store.specs.declared.command.Command.TheVariants.{
-  Import,
-  Replace,
-  Delete,
-  Show,
-  ExportAll,
-}
+use Rattle.tune_store.specs.declared.command.Command.TheVariants.{Import, Replace, Delete, Show}
+use Rattle.tune_store.specs.declared.command.Command.TheVariants.{ExportAll}
 use Rattle.tune_store.specs.declared.command.Reply.{Reply}
-use Rattle.tune_store.specs.declared.command.Reply.TheVariants.{
-  Imported,
-  Replaced,
-  Deleted,
-  Shown,
-  Exported,
-}
+use Rattle.tune_store.specs.declared.command.Reply.TheVariants.{Imported, Replaced, Deleted, Shown}
+use Rattle.tune_store.specs.declared.command.Reply.TheVariants.{Exported}
 use Rattle.tune_store.specs.declared.command.Refusal.{Refusal}
-use Rattle.tune_store.specs.declared.command.Refusal.TheVariants.{
-  BookTooLong,
-  NotPlain,
-  NoTune,
-  BadTune,
-  NotOne,
-  Unknown,
-  Stale,
-  Worn,
-  ArchiveFull,
-  NumbersSpent,
-  OutOfMemory,
-}
+use Rattle.tune_store.specs.declared.command.Refusal.TheVariants.{BookTooLong, NotPlain, NoTune}
+use Rattle.tune_store.specs.declared.command.Refusal.TheVariants.{BadTune, NotOne, Unknown, Stale}
+use Rattle.tune_store.specs.declared.command.Refusal.TheVariants.{Worn, ArchiveFull, NumbersSpent}
+use Rattle.tune_store.specs.declared.command.Refusal.TheVariants.{OutOfMemory}
 
 -- a state, and the answer beside it
 abbrev pub Outcome : Type 0

@@ -2,13 +2,8 @@
 ghost use Rattle.std.specs.Prelude.{◌≡◌, ℕ, List, IsFalse};
 ghost use Rattle.tune_store.specs.State.{State, IsState};
 ghost use Rattle.tune_store.specs.Step.{step};
-ghost use Rattle.tune_store.specs.Revisions.{
-  accepts,
-  AcceptedReplaceRaises,
-  OthersKeepRevision,
-  RevisionCounts,
-  AcceptedReplaceIsCurrent,
-};
+ghost use Rattle.tune_store.specs.Revisions.{accepts, AcceptedReplaceRaises, OthersKeepRevision};
+ghost use Rattle.tune_store.specs.Revisions.{RevisionCounts, AcceptedReplaceIsCurrent};
 ghost use Rattle.tune_store.specs.declared.command.Command.{Command};
 
 /// The law of revisions. It speaks of a plain list of tunes, which is what every store stands for

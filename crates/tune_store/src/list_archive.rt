@@ -1,47 +1,15 @@
 // An archive in memory.
-ghost use Rattle.std.specs.Prelude.{
-  ◌≡◌,
-  ◌≢◌,
-  ℕ,
-  ◌+◌,
-  ◌^◌,
-  ◌<◌,
-  ◌≤◌,
-  ◌⊎◌,
-  List,
-  [],
-  ◌∷◌,
-  ◌++◌,
-  length,
-  false,
-  None,
-  Some,
-  Ok,
-  Err,
-  IfOk,
-  IfErr,
-  IfNone,
-  IfSome,
-  vec_len,
-  slice_index_or,
-};
+ghost use Rattle.std.specs.Prelude.{◌≡◌, ◌≢◌, ℕ, ◌+◌, ◌^◌, ◌<◌, ◌≤◌, ◌⊎◌, List, [], ◌∷◌, ◌++◌};
+ghost use Rattle.std.specs.Prelude.{length, false, None, Some, Ok, Err, IfOk, IfErr, IfNone};
+ghost use Rattle.std.specs.Prelude.{IfSome, vec_len, slice_index_or};
 ghost use Rattle.std.specs.List.{AllByRecursion};
 ghost use Rattle.std.specs.Vec.{vec_capacity};
 ghost use Rattle.abc_fields.specs.Books.{book_answer};
 ghost use Rattle.tune_store.specs.declared.tune.Tune.{Tune};
 ghost use Rattle.tune_store.specs.Limits.{longest_text};
 ghost use Rattle.tune_store.specs.State.{State, IsState, IsTune, RisesFrom, greatest};
-ghost use Rattle.tune_store.specs.Step.{
-  step,
-  numbered,
-  tune_at,
-  import_book,
-  replace_book,
-  replace_tune,
-  delete_tune,
-  show_tune,
-  exported,
-};
+ghost use Rattle.tune_store.specs.Step.{step, numbered, tune_at, import_book, replace_book};
+ghost use Rattle.tune_store.specs.Step.{replace_tune, delete_tune, show_tune, exported};
 ghost use Rattle.tune_store.specs.Inside.Lists.{state_of, StaysOrGives};
 
 use crate::command::{Command, Refusal, Reply};
