@@ -23,7 +23,8 @@ pub few_titles : (n : ℕ) (titles : List (List ℕ)) → length titles ≤ n �
 few_titles n titles few = sym (ap (take n) (append-nil titles) ∙ take_all n titles few)
 
 -- an empty value is no title
-pub few_titles-empty : (n : ℕ) (titles : List (List ℕ)) (value : List ℕ) → length titles ≤ n → length value ≡ 0 → titles ≡ take n (titles ++ non_empty (value ∷ []))
+pub few_titles-empty : (n : ℕ) (titles : List (List ℕ)) (value : List ℕ) → length titles ≤ n → length value ≡ 0
+    → titles ≡ take n (titles ++ non_empty (value ∷ []))
 few_titles-empty n titles [] few empty = few_titles n titles few
 few_titles-empty n titles (byte ∷ value) few empty = absurd (omega arith)
 
@@ -39,7 +40,8 @@ take_taken (suc n) [] ys = refl
 take_taken (suc n) (x ∷ xs) ys = ap (λ l. x ∷ l) (take_taken n xs ys)
 
 -- the values of lines are those of the first lines and then those of the others
-non_empty_values-append : (name : List ℕ) (lines more : List (List ℕ)) → non_empty_values name (lines ++ more) ≡ non_empty_values name lines ++ non_empty_values name more
+non_empty_values-append : (name : List ℕ) (lines more : List (List ℕ))
+    → non_empty_values name (lines ++ more) ≡ non_empty_values name lines ++ non_empty_values name more
 non_empty_values-append name lines more =
     ap (λ l. non_empty (map field_value l)) (filter-append (λ line. begins_with line name) lines more)
     ∙ ap non_empty (map-append field_value (filter (λ line. begins_with line name) lines) (filter (λ line. begins_with line name) more))
@@ -50,7 +52,8 @@ pub titles_step : (n : ℕ) (titles : List (List ℕ)) (name line : List ℕ) (l
     → take n (take n (titles ++ non_empty_values name (line ∷ [])) ++ non_empty_values name lines) ≡ take n (titles ++ non_empty_values name (line ∷ lines))
 titles_step n titles name line lines =
     take_taken n (titles ++ non_empty_values name (line ∷ [])) (non_empty_values name lines)
-    ∙ ap (take n) (append_assoc titles (non_empty_values name (line ∷ [])) (non_empty_values name lines) ∙ ap (λ l. titles ++ l) (sym (non_empty_values-append name (line ∷ []) lines)))
+    ∙ ap (take n) (append_assoc titles (non_empty_values name (line ∷ [])) (non_empty_values name lines)
+    ∙ ap (λ l. titles ++ l) (sym (non_empty_values-append name (line ∷ []) lines)))
 
 first-append : (xs ys : List (List ℕ)) → slice_get (xs ++ ys) 0 ≡ option_or (slice_get xs 0) (slice_get ys 0)
 first-append [] ys = refl
@@ -67,10 +70,13 @@ or_none (Some x) = refl
 
 -- the first value goes on with a line
 pub first_step : (so_far : Option (List ℕ)) (name line : List ℕ) (lines : List (List ℕ))
-    → option_or (option_or so_far (slice_get (non_empty_values name (line ∷ [])) 0)) (slice_get (non_empty_values name lines) 0) ≡ option_or so_far (slice_get (non_empty_values name (line ∷ lines)) 0)
+    → option_or (option_or so_far (slice_get (non_empty_values name (line ∷ [])) 0)) (slice_get (non_empty_values name lines) 0)
+    ≡ option_or so_far (slice_get (non_empty_values name (line ∷ lines)) 0)
 first_step so_far name line lines =
     or_assoc so_far (slice_get (non_empty_values name (line ∷ [])) 0) (slice_get (non_empty_values name lines) 0)
-    ∙ ap (option_or so_far) (sym (ap (λ l. slice_get l 0) (non_empty_values-append name (line ∷ []) lines) ∙ first-append (non_empty_values name (line ∷ [])) (non_empty_values name lines)))
+    ∙ ap (option_or so_far)
+    (sym (ap (λ l. slice_get l 0) (non_empty_values-append name (line ∷ []) lines)
+    ∙ first-append (non_empty_values name (line ∷ [])) (non_empty_values name lines)))
 
 -- a line of one name is none of another
 other_name : (a b : ℕ) (line : List ℕ) → eqb b a ≡ false → begins_with line (a ∷ 58 ∷ []) ≡ true → begins_with line (b ∷ 58 ∷ []) ≡ false
@@ -103,7 +109,8 @@ pub key_later : (line : List ℕ) (lines : List (List ℕ)) → is_key_line line
 key_later line lines other = rw other refl
 
 -- the value of a line that gives the key comes first
-pub key_here : (line : List ℕ) (lines : List (List ℕ)) → is_key_line line ≡ true → unwrap_or (slice_get (values_of (codes "K:") (line ∷ lines)) 0) [] ≡ field_value line
+pub key_here : (line : List ℕ) (lines : List (List ℕ)) → is_key_line line ≡ true
+    → unwrap_or (slice_get (values_of (codes "K:") (line ∷ lines)) 0) [] ≡ field_value line
 key_here line lines is = rw is refl
 
 -- where a line gives the key, the header ends with the first such line
