@@ -6,7 +6,7 @@ use Rattle.std.proofs.lemmas.Bool.Decides.{nat_tests}
 use Rattle.std.proofs.lemmas.Bool.{cases_eq}
 use Rattle.tune_disk.specs.Disk.{DiskState, MayLeave}
 use Rattle.tune_disk.specs.Stops.{LeavesOnly, SinceThen}
-use Rattle.tune_disk.specs.Moments.{since_weaker}
+use Rattle.tune_disk.proofs.Moments.{since_weaker}
 use Rattle.tune_journal.specs.ChangeList.{image_of}
 use Rattle.tune_journal.specs.Image.{StandsFor, gate_of}
 use Rattle.tune_journal.specs.Inside.ChangeOrder.{AreAbove, PagesRise}

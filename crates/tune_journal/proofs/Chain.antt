@@ -2,7 +2,7 @@
 use Rattle.std.proofs.Common.{◌≡◌, inl, inr, ℕ, List, subst, Result, Ok, Err, IfOk}
 use Rattle.tune_disk.specs.Disk.{DiskState}
 use Rattle.tune_disk.specs.Stops.{SinceThen}
-use Rattle.tune_disk.specs.Moments.{since_then, since_weaker}
+use Rattle.tune_disk.proofs.Moments.{since_then, since_weaker}
 use Rattle.tune_journal.specs.Held.{Held, disk_of}
 use Rattle.tune_journal.specs.declared.open_fault.Broken.{Broken}
 use Rattle.tune_journal.specs.Image.{StandsFor, StandsForEither}

@@ -7,8 +7,8 @@ use Rattle.std.proofs.lemmas.List.Elements.{All-get_or, All-tail}
 use Rattle.std.proofs.lemmas.Bool.{cases_eq, cases_lt}
 use Rattle.byteorder.specs.Numbers.{big_number-reads_back}
 use Rattle.tune_disk.specs.Disk.{DiskState, Written, Shows}
-use Rattle.tune_disk.specs.Stops.{Agrees}
-use Rattle.tune_disk.specs.Bytes.{written_long}
+use Rattle.tune_disk.specs.Inside.Spares.{Agrees}
+use Rattle.tune_disk.proofs.Writes.{written_long}
 use Rattle.tune_journal.specs.ChangeList.{change_at}
 use Rattle.tune_journal.specs.Image.{window, number, page_offset, entry_offset, pages_of, entries, count_of, new_count_of, log_of, gate_of, IsLog, IsHeaded, HasPageCount, HasLog, StandsFor, StandsForEither, entry_count_of}
 use Rattle.tune_journal.specs.Inside.Phases.{KeepsBoth, IsNoLog, IsOutside, IsInNoPage, HoldsEntries, HoldsDescriptor, Settles}

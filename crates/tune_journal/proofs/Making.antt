@@ -4,9 +4,11 @@ use Rattle.byteorder.specs.Endian.{big_bytes}
 use Rattle.std.proofs.lemmas.List.{same_lists}
 use Rattle.std.proofs.lemmas.Bool.{cases_eq}
 use Rattle.tune_disk.specs.Disk.{DiskState, MayLeave, Written, Writes, settled, touched, GoesTo}
-use Rattle.tune_disk.specs.Stops.{Agrees, SinceThen, LeavesOnly}
-use Rattle.tune_disk.specs.Moments.{since_same}
-use Rattle.tune_disk.specs.Bytes.{written_long, length_after_some}
+use Rattle.tune_disk.specs.Inside.Spares.{Agrees}
+use Rattle.tune_disk.specs.Stops.{SinceThen, LeavesOnly}
+use Rattle.tune_disk.proofs.Moments.{since_same}
+use Rattle.tune_disk.proofs.Writes.{written_long}
+use Rattle.tune_disk.specs.Inside.Overwrites.{length_after_some}
 use Rattle.tune_journal.specs.Image.{window, gate_of, count_of, pages_of, HasPageCount, StandsFor, StandsForNone}
 use Rattle.tune_journal.specs.Inside.Laying.{IsCleared, IsLaid}
 use Rattle.tune_journal.specs.Inside.Phases.{IsOutside, Settles}

@@ -2,7 +2,7 @@
 use Rattle.std.proofs.Common.{◌≡◌, inl, inr, ℕ, ◌<◌, ◌≤◌, List, [], length, sym, ◌∙◌, ap, subst, arith, Result, Ok}
 use Rattle.tune_disk.specs.Disk.{DiskState, MayLeave, settled}
 use Rattle.tune_disk.specs.Stops.{LeavesOnly, SinceThen}
-use Rattle.tune_disk.specs.Moments.{since_same, since_sync, since_then, since_weaker}
+use Rattle.tune_disk.proofs.Moments.{since_same, since_sync, since_then, since_weaker}
 use Rattle.tune_journal.specs.Image.{StandsFor, StandsForEither, IsHeaded, HasPageCount, entry_offset, gate_of, count_of, log_of, pages_of, entry_count_of, new_count_of}
 use Rattle.tune_journal.specs.Inside.Looking.{IsSyncedOrSame, HasEntries, Sees, IsBounded}
 use Rattle.tune_journal.specs.Inside.Rest.{IsAtRest, IsOpened}

@@ -3,8 +3,8 @@ use Rattle.std.proofs.Common.{◌≡◌, ◌⊎◌, ◌↔◌, Bool, true, false
 use Rattle.std.proofs.lemmas.List.{length-map}
 use Rattle.std.proofs.lemmas.List.FromFn.{map-range_with_len_more}
 use Rattle.tune_disk.specs.Disk.{DiskState, Written, Writes}
-use Rattle.tune_disk.specs.Stops.{Agrees, Spares}
-use Rattle.tune_disk.specs.Moments.{spares_then, spares_write}
+use Rattle.tune_disk.specs.Inside.Spares.{Agrees, Spares}
+use Rattle.tune_disk.proofs.Moments.{spares_then, spares_write}
 use Rattle.tune_journal.specs.ChangeList.{change_at}
 use Rattle.tune_journal.specs.Image.{window, number, page_offset, entry_offset, pages_of, entries, IsLog, HasLog, entry_count_of}
 use Rattle.tune_journal.specs.Inside.Looking.{HasEntries, HasEntry, Climbs, least_of}

@@ -1,8 +1,9 @@
 -- What a stop leaves between the parts of a commit.
 use Rattle.std.proofs.Common.{◌≡◌, ℕ, List, refl, sym, subst, arith}
 use Rattle.tune_disk.specs.Disk.{DiskState, MayLeave, settled}
-use Rattle.tune_disk.specs.Stops.{Agrees, LeavesOnly}
-use Rattle.tune_disk.specs.Moments.{settled_leaves}
+use Rattle.tune_disk.specs.Inside.Spares.{Agrees}
+use Rattle.tune_disk.specs.Stops.{LeavesOnly}
+use Rattle.tune_disk.proofs.Moments.{settled_leaves}
 use Rattle.tune_journal.specs.Image.{StandsFor, pages_of, log_of, entries, entry_count_of}
 use Rattle.tune_journal.specs.Inside.Phases.{KeepsBoth, IsOutside}
 use Rattle.tune_journal.specs.Inside.Rest.{IsAtRest, IsOpened, IsApplied}

@@ -1,7 +1,7 @@
 // Recovery: the images of a log are copied to their places.
 ghost use Rattle.std.specs.Prelude.{◌≡◌, ◌<◌, ◌≤◌, ◌+◌, length, OnOk};
 ghost use Rattle.tune_disk.specs.Disk.{Writes};
-ghost use Rattle.tune_disk.specs.Stops.{Spares};
+ghost use Rattle.tune_disk.specs.Inside.Spares.{Spares};
 ghost use Rattle.tune_journal.specs.Image.{window, number, page_offset, entry_offset, entries as entries_in, pages_of, count_of};
 ghost use Rattle.tune_journal.specs.Inside.Looking.{HasEntries, HasEntry};
 ghost use Rattle.tune_journal.specs.Inside.Phases.{WritesAndSyncs, KeepsBoth, IsInNoPage, CallsIf};

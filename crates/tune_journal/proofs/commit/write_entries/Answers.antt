@@ -1,7 +1,7 @@
 use Rattle.std.proofs.Common.{◌≡◌, ℕ, ◌<◌, ◌++◌, inl, ◌∙◌, List, length, arith, subst}
 use Rattle.byteorder.specs.Endian.{big_bytes}
 use Rattle.tune_disk.specs.Disk.{Written}
-use Rattle.tune_disk.specs.Moments.{spares_then, spares_write}
+use Rattle.tune_disk.proofs.Moments.{spares_then, spares_write}
 use Rattle.tune_journal.specs.Inside.Phases.{log_entry}
 use Rattle.tune_journal.specs.Layout.{entry_bytes}
 use Rattle.tune_journal.proofs.Loops.{entries_more}

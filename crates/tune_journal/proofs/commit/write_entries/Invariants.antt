@@ -1,5 +1,5 @@
 use Rattle.std.proofs.Common.{◌≡◌, ◌+◌, ◌*◌, ◌<◌}
-use Rattle.tune_disk.specs.Stops.{Spares}
+use Rattle.tune_disk.specs.Inside.Spares.{Spares}
 use Rattle.tune_journal.specs.Inside.Phases.{HoldsEntries}
 use Rattle.tune_journal.specs.Layout.{entry_bytes}
 use Rattle.tune_journal.proofs.commit.write_entries.Given as goal

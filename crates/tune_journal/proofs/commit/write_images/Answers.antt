@@ -1,6 +1,6 @@
 use Rattle.std.proofs.Common.{ℕ, ◌<◌, ◌≤◌, sym, ◌∙◌, ap, length, List, set, take, arith}
 use Rattle.tune_disk.specs.Disk.{Written}
-use Rattle.tune_disk.specs.Moments.{spares_then, spares_write}
+use Rattle.tune_disk.proofs.Moments.{spares_then, spares_write}
 use Rattle.tune_journal.specs.Image.{pages_of, page_offset}
 use Rattle.tune_journal.specs.Inside.Phases.{IsInNoPage}
 use Rattle.tune_journal.specs.Layout.{most_pages}

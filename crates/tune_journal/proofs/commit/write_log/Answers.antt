@@ -1,8 +1,8 @@
 use Rattle.std.proofs.Common.{◌≡◌, ℕ, ◌<◌, ◌∙◌, ◌++◌, ap, length, subst, arith}
 use Rattle.byteorder.specs.Endian.{big_bytes}
 use Rattle.std.proofs.lemmas.Result.{on_ok_weaker, err_from_is_err_and}
-use Rattle.tune_disk.specs.Moments.{spares_fewer}
-use Rattle.tune_disk.specs.Bytes.{written_long}
+use Rattle.tune_disk.proofs.Moments.{spares_fewer}
+use Rattle.tune_disk.proofs.Writes.{written_long}
 use Rattle.tune_journal.specs.Image.{window, entry_offset}
 use Rattle.tune_journal.specs.Inside.Phases.{IsNoLog, IsOutside, HoldsEntries}
 use Rattle.tune_journal.specs.Layout.{descriptor_offset}

@@ -1,6 +1,6 @@
 use Rattle.std.proofs.Common.{◌≡◌, ℕ, inr, sym, ◌∙◌, ap, length, subst, arith}
 use Rattle.std.proofs.lemmas.Result.{on_ok_weaker, err_from_is_err_and}
-use Rattle.tune_disk.specs.Moments.{spares_fewer}
+use Rattle.tune_disk.proofs.Moments.{spares_fewer}
 use Rattle.tune_journal.specs.Image.{window}
 use Rattle.tune_journal.specs.Inside.Phases.{KeepsBoth, IsInNoPage, IsOutside}
 use Rattle.tune_journal.specs.Layout.{count_offset}

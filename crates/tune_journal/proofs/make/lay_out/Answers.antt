@@ -1,5 +1,5 @@
 use Rattle.std.proofs.Common.{◌<◌, arith}
-use Rattle.tune_disk.specs.Moments.{since_then, since_weaker}
+use Rattle.tune_disk.proofs.Moments.{since_then, since_weaker}
 use Rattle.tune_journal.specs.Image.{StandsForNone}
 use Rattle.tune_journal.specs.Inside.Laying.{IsCleared, IsLaid}
 use Rattle.tune_journal.specs.Inside.Phases.{IsOutside}

@@ -1,6 +1,6 @@
 use Rattle.std.proofs.lemmas.Result.{err_from_is_err_and}
 use Rattle.std.proofs.Common.{ℕ, subst, ap, sym, ◌∙◌, refl}
-use Rattle.tune_disk.specs.Moments.{spares_none}
+use Rattle.tune_disk.proofs.Moments.{spares_none}
 use Rattle.tune_disk.specs.Disk.{CountsUp}
 use Rattle.tune_journal.specs.Image.{pages_of}
 use Rattle.tune_journal.specs.Pages.{changed}

@@ -1,5 +1,5 @@
 use Rattle.std.proofs.Common.{◌≡◌}
-use Rattle.tune_disk.specs.Stops.{Spares}
+use Rattle.tune_disk.specs.Inside.Spares.{Spares}
 use Rattle.tune_journal.specs.Image.{entries, pages_of}
 use Rattle.tune_journal.specs.Inside.Looking.{HasEntries}
 use Rattle.tune_journal.specs.Inside.Phases.{IsInNoPage}

@@ -1,5 +1,5 @@
 use Rattle.std.proofs.Common.{◌∙◌}
-use Rattle.tune_disk.specs.Moments.{since_then, since_weaker}
+use Rattle.tune_disk.proofs.Moments.{since_then, since_weaker}
 use Rattle.tune_journal.specs.Image.{StandsFor}
 use Rattle.tune_journal.proofs.Chain.{stands_as, ok_held}
 use Rattle.tune_journal.proofs.states.Opened.finish.Goals as goal
