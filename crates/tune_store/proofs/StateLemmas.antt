@@ -1,21 +1,17 @@
--- Lists of tunes by rising number.
-use Rattle.std.proofs.Common.{◌≡◌, ℕ, zero, suc, ◌+◌, ◌<◌, ◌≤◌, max, Bool, true, false, not, cond, eqb, ltb, List, [], ◌∷◌, ◌++◌, length, take, drop, get_or}
+-- What a command makes of a list of tunes by rising number, and its limits.
+use Rattle.std.proofs.Common.{◌≡◌, ℕ, zero, suc, ◌+◌, ◌<◌, ◌≤◌, max, Bool, true, false, not, cond, eqb, ltb, List, [], ◌∷◌, ◌++◌, length, get_or}
 use Rattle.std.proofs.Common.{Option, Some, None, Ok, Err, refl, ap, sym, subst, ◌∙◌, arith, add-zero, inl, inr, length-append}
-use Rattle.std.proofs.Math.ListN.{set}
-use Rattle.std.specs.List.{AllByRecursion, AllWithin}
-use Rattle.std.specs.Cmp.{ranked}
-use Rattle.std.specs.Ordering.{ordering_index, nat_cmp}
-use Rattle.std.specs.declared.cmp.Ordering.TheVariants.{Less, Greater}
-use Rattle.std.proofs.lemmas.Bool.Decides.{nat_tests}
-use Rattle.std.proofs.lemmas.Bool.{ne_eqb, eq-eqb, eqb-true, ltb-true, cases_lt, cases_Bool}
+use Rattle.std.specs.List.{AllByRecursion}
+use Rattle.std.proofs.lemmas.Bool.{eqb-true, ltb-true, cases_Bool}
 use Rattle.abc_fields.specs.Tunes.{IsTextWithin}
 use Rattle.tune_store.specs.State.{RisesFrom, greatest, IsTune, IsState}
-use Rattle.tune_store.specs.Step.{Outcome, tune_at, numbered, with_tune, without, revised, replace_tune}
+use Rattle.tune_store.specs.Step.{Outcome, numbered, with_tune, without, revised, replace_tune}
 use Rattle.tune_store.specs.declared.tune.Tune.{Tune}
 use Rattle.tune_store.specs.Limits.{longest_text, most_tunes, greatest_number, greatest_revision}
 use Rattle.tune_store.specs.declared.command.Reply.TheVariants.{Replaced}
 use Rattle.tune_store.specs.declared.command.Refusal.TheVariants.{Stale, Worn}
 
+-- RISING NUMBERS
 -- the last number is the greatest
 pub greatest_last : (low : ℕ) (tunes : List Tune) (n : ℕ) (d : Tune) → RisesFrom low tunes → n + 1 ≡ length tunes → greatest tunes ≡ (get_or tunes n d).number
 greatest_last low [] n d rises l = absurd (omega arith)
@@ -150,7 +146,6 @@ state_after_replace new tunes is state = record {
 pub revised_is_tune : (tune : Tune) (text : List ℕ) → IsTextWithin longest_text text → tune.revision < greatest_revision → IsTune (revised tune text)
 revised_is_tune tune text within less = record { revised = omega arith; revision = omega arith; text = within.tune_text; fits = within.fits }
 
--- a replacement keeps the limits, where its text is good
 -- an outcome whose state keeps the limits
 abbrev pub KeepsLimits : Outcome → Type 0
 KeepsLimits outcome = IsState outcome.0
@@ -219,71 +214,3 @@ state_after_delete number tunes state = record {
   tunes = each-without number tunes state.tunes;
   count = omega (arith, length-without number tunes, state.count);
 }
-
--- LOOK-UPS
--- each number is above what the list rises from
-above : (low : ℕ) (tunes : List Tune) (n : ℕ) (d : Tune) → RisesFrom low tunes → n < length tunes → low < (get_or tunes n d).number
-above low [] n d rises l = absurd (omega arith)
-above low (tune ∷ tunes) zero d rises l = rises.0
-above low (tune ∷ tunes) (suc n) d rises l = let later = above tune.number tunes n d rises.1 (omega arith) in let first = rises.0 in omega arith
-
--- numbers rise with the place
-pub ordered : (low : ℕ) (tunes : List Tune) (i j : ℕ) (d : Tune) → RisesFrom low tunes → i ≤ j → j < length tunes
-    → (get_or tunes i d).number ≤ (get_or tunes j d).number
-ordered low [] i j d rises h l = absurd (omega arith)
-ordered low (tune ∷ tunes) zero zero d rises h l = omega arith
-ordered low (tune ∷ tunes) zero (suc j) d rises h l = let later = above tune.number tunes j d rises.1 (omega arith) in omega arith
-ordered low (tune ∷ tunes) (suc i) zero d rises h l = absurd (omega arith)
-ordered low (tune ∷ tunes) (suc i) (suc j) d rises h l = ordered tune.number tunes i j d rises.1 (omega arith) (omega arith)
-
--- the tune at a place is the tune of its number
-pub tune_at-place : (low number : ℕ) (tunes : List Tune) (n : ℕ) (d : Tune) → RisesFrom low tunes → n < length tunes → (get_or tunes n d).number ≡ number
-    → tune_at number tunes ≡ Some (get_or tunes n d)
-tune_at-place low number [] n d rises l e = absurd (omega arith)
-tune_at-place low number (tune ∷ tunes) zero d rises l e = let same = eq-eqb tune.number number e in rw same refl
-tune_at-place low number (tune ∷ tunes) (suc n) d rises l e =
-    let later = above tune.number tunes n d rises.1 (omega arith) in
-    let other = ne_eqb tune.number number (λ same. omega arith) in
-    rw other (tune_at-place tune.number number tunes n d rises.1 (omega arith) e)
-
--- a tune goes to its place
-pub with_tune-place : (low : ℕ) (new : Tune) (tunes : List Tune) (n : ℕ) (d : Tune) → RisesFrom low tunes → n < length tunes
-    → (get_or tunes n d).number ≡ new.number → with_tune new tunes ≡ set tunes n new
-with_tune-place low new [] n d rises l e = absurd (omega arith)
-with_tune-place low new (tune ∷ tunes) zero d rises l e = let same = eq-eqb tune.number new.number e in rw same refl
-with_tune-place low new (tune ∷ tunes) (suc n) d rises l e =
-    let later = above tune.number tunes n d rises.1 (omega arith) in
-    let other = ne_eqb tune.number new.number (λ same. omega arith) in
-    rw other (ap (λ ts. tune ∷ ts) (with_tune-place tune.number new tunes n d rises.1 (omega arith) e))
-
--- a tune is taken out at its place
-pub without-place : (low number : ℕ) (tunes : List Tune) (n : ℕ) (d : Tune) → RisesFrom low tunes → n < length tunes → (get_or tunes n d).number ≡ number
-    → without number tunes ≡ take n tunes ++ drop (suc n) tunes
-without-place low number [] n d rises l e = absurd (omega arith)
-without-place low number (tune ∷ tunes) zero d rises l e = let same = eq-eqb tune.number number e in rw same refl
-without-place low number (tune ∷ tunes) (suc n) d rises l e =
-    let later = above tune.number tunes n d rises.1 (omega arith) in
-    let other = ne_eqb tune.number number (λ same. omega arith) in
-    rw other (ap (λ ts. tune ∷ ts) (without-place tune.number number tunes n d rises.1 (omega arith) e))
-
--- a number that no tune has
-pub tune_at-none : (number : ℕ) (tunes : List Tune) → ((n : ℕ) (d : Tune) → n < length tunes → (get_or tunes n d).number ≡ number → ⊥)
-    → tune_at number tunes ≡ None
-tune_at-none number [] h = refl
-tune_at-none number (tune ∷ tunes) h =
-    let other = ne_eqb tune.number number (h 0 tune (omega arith)) in
-    rw other (tune_at-none number tunes (λ n d l. h (suc n) d (omega arith)))
-
--- BINARY SEARCH
--- the answer of a comparison with one number rises with the other
-pub cmp_rises : (x y number : ℕ) → x ≤ y → ordering_index (nat_cmp x number) ≤ ordering_index (nat_cmp y number)
-cmp_rises x y number le = grind (arith, nat_tests)
-
--- where all numbers are less below a place, and greater from it on, none is equal
-pub no_place : (number : ℕ) (tunes : List Tune) (place : ℕ) → AllWithin (λ tune. nat_cmp tune.number number ≡ Less) tunes 0 place
-    → AllWithin (λ tune. nat_cmp tune.number number ≡ Greater) tunes place (length tunes)
-    → (n : ℕ) (d : Tune) → n < length tunes → (get_or tunes n d).number ≡ number → ⊥
-no_place number tunes place less greater n d l e = elim (cases_lt n place) [
-  | inl below ↦ let lower : (get_or tunes n d).number < number = ranked _ _ _ (sym (less n d (omega arith) below)) in omega arith
-  | inr from ↦ let higher : number < (get_or tunes n d).number = ranked _ _ _ (sym (greater n d from l)) in omega arith
-]

@@ -1,10 +1,11 @@
 -- What opening looks at.
 use Rattle.std.specs.Prelude.{◌≡◌, ◌≢◌, ◌⊎◌, ℕ, zero, suc, ◌+◌, ◌<◌, ◌≤◌, List, length}
-use Rattle.tune_disk.specs.Disk.{DiskState, GoesTo, settled}
-use Rattle.tune_journal.specs.Image.{number, window, entry_offset, gate_of, count_of, new_count_of, IsHeaded, HasPageCount, HasLog, StandsFor, entry_count_of}
+use Rattle.tune_disk.specs.Disk.{DiskState}
+use Rattle.tune_journal.specs.Image.{number, window, entry_offset, gate_of, count_of, new_count_of, IsHeaded, HasPageCount, HasLog, entry_count_of, StandsForNone}
+use Rattle.tune_journal.specs.Layout.{magic, magic_offset, magic_bytes, gate_open, most_pages}
+use Rattle.tune_journal.specs.Refusal.{IsSynced}
 use Rattle.tune_journal.specs.declared.look.Found.{Found}
 use Rattle.tune_journal.specs.declared.look.Found.TheVariants.{NotArchive, Damaged, Closed, Open}
-use Rattle.tune_journal.specs.Layout.{magic, magic_offset, magic_bytes, gate_open, most_pages}
 
 -- entry i of a log names at least this page
 abbrev pub least_of : ℕ → ℕ → List ℕ → ℕ
@@ -15,18 +16,14 @@ least_of m (suc i) file = number (entry_offset m i) file + 1
 abbrev pub Climbs : ℕ → ℕ → List ℕ → Type 0
 Climbs m k file = (i : ℕ) → i < k → (least_of m i file ≤ number (entry_offset m i) file) × (number (entry_offset m i) file < m)
 
--- a sync, and nothing else
-pub record IsSynced (old new : DiskState) : Type 0 where
-  pub seen : new.seen ≡ old.seen
-  pub goes : GoesTo (settled old.seen) old new
-
 -- such a sync, or not even that
 abbrev pub IsSyncedOrSame : DiskState → DiskState → Type 0
 IsSyncedOrSame old new = (new ≡ old) ⊎ IsSynced old new
 
--- this file stands for no pages
-abbrev pub StandsForNone : List ℕ → Type 0
-StandsForNone file = (pages : List (List ℕ)) → StandsFor pages file → ⊥
+-- Entry i of the log behind m pages is within the file, and names a page below m.
+pub record HasEntry (m i : ℕ) (file : List ℕ) : Type 0 where
+  pub long : entry_offset m (i + 1) ≤ length file
+  pub below : number (entry_offset m i) file < m
 
 -- These entries are all within the file, and name pages below m.
 pub record HasEntries (m k : ℕ) (file : List ℕ) : Type 0 where

@@ -1,8 +1,8 @@
 -- What the calls of a commit do to a disk.
-use Rattle.std.specs.Prelude.{◌≡◌, ◌⊎◌, ℕ, ◌+◌, ◌*◌, ◌<◌, ◌≤◌, List, [], ◌∷◌, ◌++◌, length, Result, MatchResult}
+use Rattle.std.specs.Prelude.{◌≡◌, ◌⊎◌, ℕ, ◌+◌, ◌*◌, ◌<◌, ◌≤◌, List, [], ◌∷◌, ◌++◌, length, Result, MatchResult, OnOk}
 use Rattle.byteorder.specs.Endian.{big_bytes}
-use Rattle.tune_disk.specs.Disk.{DiskState, GoesTo, settled}
-use Rattle.tune_disk.specs.Stops.{Spares}
+use Rattle.tune_disk.specs.Disk.{DiskState, GoesTo, settled, CountsFailure}
+use Rattle.tune_disk.specs.Inside.Spares.{Spares}
 use Rattle.tune_journal.specs.ChangeList.{change_at}
 use Rattle.tune_journal.specs.Image.{window, page_offset, entry_offset}
 use Rattle.tune_journal.specs.Layout.{block_bytes, descriptor_offset, descriptor_bytes, count_offset, entry_bytes}
@@ -40,3 +40,15 @@ KeepsBoth log i = IsInNoPage log i × IsOutside count_offset 4 i
 abbrev pub HoldsEntries : ℕ → List (ℕ × List ℕ) → ℕ → List ℕ → Type 0
 HoldsEntries at log n file = (k : ℕ) → k < n
     → (window (at + entry_bytes * k) entry_bytes file ≡ big_bytes 4 (change_at log k).0 ++ (change_at log k).1) × (at + entry_bytes * (k + 1) ≤ length file)
+
+-- as it stands in the log
+abbrev pub log_entry : ℕ → List ℕ → List ℕ
+log_entry page image = big_bytes 4 page ++ image
+
+-- What a call keeps that goes on from what the disk answered before: where this holds, and the disk
+-- is honest, it fails just where a call of the disk does.
+pub record CallsIf {S T E : Type 0} (honest : S → Type 0) (failures : S → ℕ)
+    (result : Result T E) (old new : S) (Holds : Type 0) : Type 0 where
+  pub was_honest : honest new → honest old
+  pub ok : OnOk result (failures new ≡ failures old)
+  pub counted : honest new → Holds → CountsFailure result (failures old) (failures new)
