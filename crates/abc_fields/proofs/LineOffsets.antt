@@ -22,5 +22,6 @@ offsets_among at start (q ∷ before) after p sum =
 
 -- a line begins after the bytes of the pieces before it
 pub span_offsets : (text : List ℕ) (before after : List Piece) (p : Piece) → before ++ (p ∷ after) ≡ pieces_of text
-    → slice_get (spans_of text) (length before) ≡ Some (record { from = length (text_of before); to = length (text_of before) + length p.content; bytes = p.content })
+    → slice_get (spans_of text) (length before)
+    ≡ Some (record { from = length (text_of before); to = length (text_of before) + length p.content; bytes = p.content })
 span_offsets text before after p whole = rw (← whole) (offsets_among 0 (length (text_of before)) before after p (omega arith))

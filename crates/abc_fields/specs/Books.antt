@@ -23,12 +23,15 @@ has_return book = list_any (λ byte. byte == carriage_return) book
 -- whether the first line that is not empty, if there is one, starts a tune
 abbrev pub begins_with_tune : List (List ℕ) → Bool
 begins_with_tune [] = true
-begins_with_tune (line ∷ lines) = if is_empty_line line then begins_with_tune lines else is_tune_start line
+begins_with_tune (line ∷ lines) =
+    if is_empty_line line then begins_with_tune lines else is_tune_start line
 
 -- a book that this archive reads: the lines end at line feeds, and nothing stands before the first
 -- tune
 abbrev pub is_plain : List ℕ → Bool
-is_plain book = not (has_return book) && not (begins_with book byte_order_mark) && begins_with_tune (lines_of book)
+is_plain book =
+    not (has_return book) && not (begins_with book byte_order_mark)
+    && begins_with_tune (lines_of book)
 
 -- TUNES IN THE ORDER OF THE BOOK
 -- these texts stand before those of an answer

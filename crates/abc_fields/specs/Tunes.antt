@@ -30,7 +30,8 @@ tune_run (line ∷ lines) = if ends_tune line then [] else line ∷ tune_run lin
 -- for each line that starts a tune, the lines of that tune after it
 abbrev pub tune_runs : List (List ℕ) → List (List (List ℕ))
 tune_runs [] = []
-tune_runs (line ∷ lines) = if is_tune_start line then tune_run lines ∷ tune_runs lines else tune_runs lines
+tune_runs (line ∷ lines) =
+    if is_tune_start line then tune_run lines ∷ tune_runs lines else tune_runs lines
 
 -- lines, each ended by a line feed
 abbrev pub joined : List (List ℕ) → List ℕ

@@ -35,7 +35,8 @@ pub record IsUncommented (line kept : List ℕ) : Type 0 where
   pub rest : List ℕ
   pub whole : kept ++ rest ≡ line
   pub comment : (rest ≡ []) ⊎ (BeginsWithPercent rest × ¬ EndsWith backslash kept)
-  pub no_earlier : (before after : List ℕ) → before ++ (percent ∷ after) ≡ kept → EndsWith backslash before
+  pub no_earlier : (before after : List ℕ) → before ++ (percent ∷ after) ≡ kept
+      → EndsWith backslash before
 
 -- the kept bytes are the text but for blanks at its ends, and are not blank at either end
 -- themselves

@@ -47,10 +47,10 @@ pub enum BookFault {
     /// No line begins with `X:`.
     #[error("the book has no tune")]
     NoTune,
-    /// The first tune that is refused, by its place, counted from 1.
+    /// The first tune that is refused, by its place in the book, counted from 1.
     #[error("tune {place}: {fault}")]
     BadTune { place: usize, fault: TuneFault },
-    /// Memory was refused.
+    /// There is no memory.
     #[error("out of memory")]
     OutOfMemory,
 }
@@ -170,7 +170,8 @@ impl OpenTune {
 
     fn with_line(self, line: &[u8]) -> Result<OpenTune, AllocError>
         requires { IsTuneLine line.now }
-        ensures { IfOk result (λ t. t ≡ (self.0 ++ (line.now ++ line_feed ∷ []), self.1 || is_key_line line.now)) }
+        ensures { IfOk result (λ t.
+            t ≡ (self.0 ++ (line.now ++ line_feed ∷ []), self.1 || is_key_line line.now)) }
     {
         let OpenTune { mut text, has_key } = self;
         text.extend_from_slice(line)?;
@@ -185,8 +186,9 @@ impl OpenTune {
 // The tunes of the lines of a book.
 fn tunes_of(alloc: Global, book: &[u8], longest: usize) -> Result<Vec<TuneText>, BookFault>
     requires { length book.now ≤ longest_book }
-    ensures { MatchResult result (λ tunes. runs_answer longest 1 (tune_runs (lines_of book.now)) ≡ Ok tunes.items)
-        (λ e. (e ≡ BookFault.OutOfMemory) ⊎ (runs_answer longest 1 (tune_runs (lines_of book.now)) ≡ Err e)) }
+    ensures { let answer = runs_answer longest 1 (tune_runs (lines_of book.now)) in
+        MatchResult result (λ tunes. answer ≡ Ok tunes.items)
+        (λ e. (e ≡ BookFault.OutOfMemory) ⊎ (answer ≡ Err e)) }
 {
     // No text is longer than its book, so the lesser of these limits refuses the same texts.
     let limit = longest.min(LONGEST_BOOK);
@@ -209,7 +211,9 @@ fn take_line(
 ) -> Result<Option<OpenTune>, BookFault>
     requires plain { has_no_ending line.now ≡ true }
     requires short { longest ≤ longest_book }
-    ensures { KeepsAnswer result (λ rest. open_answer longest tunes.old.items started (line.now ∷ rest)) (λ now. open_answer longest tunes.new.items now) (λ _. ⊤) }
+    ensures { KeepsAnswer result
+        (λ rest. open_answer longest tunes.old.items started (line.now ∷ rest))
+        (λ now. open_answer longest tunes.new.items now) (λ _. ⊤) }
 {
     if starts_tune(line) {
         close_tune(tunes, started, longest)?;
@@ -232,7 +236,8 @@ fn close_tune(
     longest: usize,
 ) -> Result<(), BookFault>
     requires { longest ≤ longest_book }
-    ensures { KeepsAnswer result (open_answer longest tunes.old.items started) (λ _. open_answer longest tunes.new.items None) (λ rest. tune_run rest ≡ []) }
+    ensures { KeepsAnswer result (open_answer longest tunes.old.items started)
+        (λ _. open_answer longest tunes.new.items None) (λ rest. tune_run rest ≡ []) }
 {
     if let Some(tune) = started {
         let OpenTune { text, has_key } = tune;

@@ -42,13 +42,14 @@ impl<'a> Lines<'a> {
     ///
     /// The law of lines stands beside it: a text is its pieces, one after another, each a content
     /// and an ending; no other pieces divide it so; the lines are their contents, each the part of
-    /// the text between its places, which rise.
+    /// the text from where it begins to where it ends, one after another.
     pub fn new(text: &'a [u8]) -> Lines<'a>
         ensures lines { result ≡ spans_of text.now }
-
         ensures pieces { Divides (pieces_of text.now) text.now }
-        ensures no_other_pieces { (ps : List Piece) → Divides ps text.now → ps ≡ pieces_of text.now }
-        ensures contents { map (λ s. s.bytes) (spans_of text.now) ≡ map (λ p. p.content) (pieces_of text.now) }
+        ensures no_other_pieces { (ps : List Piece) → Divides ps text.now
+            → ps ≡ pieces_of text.now }
+        ensures contents { map (λ s. s.bytes) (spans_of text.now)
+            ≡ map (λ p. p.content) (pieces_of text.now) }
         ensures rising { SpansRise text.now 0 (spans_of text.now) }
         ensures after_pieces { SpansFollow text.now (pieces_of text.now) }
     {
@@ -94,7 +95,9 @@ impl<'a> Iterator for Lines<'a> {
 fn first_line(text: &[u8]) -> (usize, usize)
     requires { 0 < length text.now }
     ensures within { result.0 + result.1 ≤ length text.now }
-    ensures first { pieces_of text.now ≡ record { content = take result.0 text.now; ending = take result.1 (drop result.0 text.now) }
+    ensures first { let content = take result.0 text.now in
+        let ending = take result.1 (drop result.0 text.now) in
+        pieces_of text.now ≡ record { content = content; ending = ending }
         ∷ pieces_of (drop (result.0 + result.1) text.now) }
 {
     match memchr2(b'\n', b'\r', text) {

@@ -21,7 +21,8 @@ abbrev pub fifths_of : Scale → ℤ
 fifths_of scale = tonic_fifths scale.tonic +ℤ sign_fifths scale.sign +ℤ mode_fifths scale.mode
 
 -- each of the 147 scales, those that stand in no row included
-rule_by_cases : (t : Letter) (s : Sign) (m : Mode) → within (tonic_fifths t +ℤ sign_fifths s +ℤ mode_fifths m) ≡ listed_count (record { tonic = t; sign = s; mode = m })
+rule_by_cases : (t : Letter) (s : Sign) (m : Mode)
+    → within (tonic_fifths t +ℤ sign_fifths s +ℤ mode_fifths m) ≡ listed_count (record { tonic = t; sign = s; mode = m })
 unfolding listed_count
 rule_by_cases C Natural Major = refl
 rule_by_cases C Sharp Major = refl
@@ -96,7 +97,8 @@ mode_fifths_small Locrian = (omega (arith, ints), omega (arith, ints))
 pub listed_few : (scale : Scale) (count : ℤ) → listed_count scale ≡ Some count → (negsuc 6 ≤ℤ count) × (count ≤ℤ pos 7)
 listed_few scale count is = by_tests (fifths_of scale) (lt_z (fifths_of scale) (negsuc 6)) (lt_z (pos 7) (fifths_of scale)) refl refl (within-listed scale ∙ is)
   where
-    by_tests : (z : ℤ) (low high : Bool) → lt_z z (negsuc 6) ≡ low → lt_z (pos 7) z ≡ high → cond low None (cond high None (Some z)) ≡ Some count → (negsuc 6 ≤ℤ count) × (count ≤ℤ pos 7)
+    by_tests : (z : ℤ) (low high : Bool) → lt_z z (negsuc 6) ≡ low → lt_z (pos 7) z ≡ high → cond low None (cond high None (Some z)) ≡ Some count
+        → (negsuc 6 ≤ℤ count) × (count ≤ℤ pos 7)
     by_tests z true high l h chosen = absurd (cc)
     by_tests z false true l h chosen = absurd (cc)
     by_tests z false false l h chosen =

@@ -12,12 +12,16 @@ use Rattle.abc_keys.specs.declared.scales.Mode.TheVariants.{Major, Lydian, Mixol
 use Rattle.abc_keys.specs.declared.scales.Mode.TheVariants.{Minor, Phrygian, Locrian}
 use Rattle.abc_keys.specs.declared.scales.Scale.{Scale}
 
+-- a scale, and its count of sharps, or of flats below zero
 pub record Row : Type 0 where
   pub scale : Scale
   pub count : ℤ
 
 abbrev pub row : Letter → Sign → Mode → ℤ → Row
-row tonic sign mode count = record { scale = record { tonic = tonic; sign = sign; mode = mode }; count = count }
+row tonic sign mode count = record {
+  scale = record { tonic = tonic; sign = sign; mode = mode };
+  count = count;
+}
 
 -- by mode, from seven flats to seven sharps
 abbrev pub table : List Row
@@ -155,7 +159,10 @@ mode_number Locrian = 6
 
 -- whether two scales are the same
 abbrev pub same_scale : Scale → Scale → Bool
-same_scale a b = letter_number a.tonic == letter_number b.tonic && sign_number a.sign == sign_number b.sign && mode_number a.mode == mode_number b.mode
+same_scale a b =
+    letter_number a.tonic == letter_number b.tonic
+    && sign_number a.sign == sign_number b.sign
+    && mode_number a.mode == mode_number b.mode
 
 -- the count that stands beside the scale in a list of rows
 abbrev pub count_in : List Row → Scale → Option ℤ

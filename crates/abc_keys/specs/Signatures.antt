@@ -30,7 +30,15 @@ with_accidental s B accidental = record s { b = accidental }
 
 -- no sharps and no flats
 abbrev pub no_accidentals : Signature
-no_accidentals = record { c = Natural; d = Natural; e = Natural; f = Natural; g = Natural; a = Natural; b = Natural }
+no_accidentals = record {
+  c = Natural;
+  d = Natural;
+  e = Natural;
+  f = Natural;
+  g = Natural;
+  a = Natural;
+  b = Natural;
+}
 
 -- SHARPS AND FLATS BY THEIR COUNT
 -- the orders in which sharps and flats come
@@ -42,7 +50,8 @@ flat_order = B ∷ E ∷ A ∷ D ∷ G ∷ C ∷ F ∷ []
 
 -- these letters with one accidental, and the others with none
 abbrev pub with_letters : Accidental → List Letter → Signature
-with_letters accidental letters = fold (λ s letter. with_accidental s letter accidental) no_accidentals letters
+with_letters accidental letters =
+    fold (λ s letter. with_accidental s letter accidental) no_accidentals letters
 
 -- so many sharps, or flats below zero, each in its order
 abbrev pub of_count : ℤ → Signature
@@ -53,8 +62,10 @@ of_count (negsuc n) = with_letters Flat (take (n + 1) flat_order)
 -- none
 abbrev pub HaveFirst : Accidental → ℕ → List Letter → Signature → Type 0
 HaveFirst accidental n [] s = ⊤
-HaveFirst accidental zero (letter ∷ letters) s = (accidental_at s letter ≡ Natural) × HaveFirst accidental zero letters s
-HaveFirst accidental (suc n) (letter ∷ letters) s = (accidental_at s letter ≡ accidental) × HaveFirst accidental n letters s
+HaveFirst accidental zero (letter ∷ letters) s =
+    (accidental_at s letter ≡ Natural) × HaveFirst accidental zero letters s
+HaveFirst accidental (suc n) (letter ∷ letters) s =
+    (accidental_at s letter ≡ accidental) × HaveFirst accidental n letters s
 
 -- so many sharps, or flats below zero, in their order, and no other accidentals
 abbrev pub HasCount : ℤ → Signature → Type 0

@@ -31,8 +31,10 @@ use abc_fields::{is_blank, trim_blanks};
 pub fn key_of(text: &[u8]) -> Key
     ensures key { result ≡ key_of_text text.now }
     ensures words { (word : List ℕ) → SetsItsPairs word }
-    ensures last_counts { (signature : AnySignature) (pairs : List Setting) → LastCounts signature pairs }
-    ensures counted { (scale : AnyScale) (count : ℤ) → listed_count scale ≡ Some count → HasCount count (of_count count) }
+    ensures last_counts { (signature : AnySignature) (pairs : List Setting)
+        → LastCounts signature pairs }
+    ensures counted { (scale : AnyScale) (count : ℤ)
+        → listed_count scale ≡ Some count → HasCount count (of_count count) }
     ensures skips_blanks { SkipsBlanks text.now }
 {
     key_of_trimmed(trim_blanks(text))

@@ -6,8 +6,9 @@ ghost use Rattle.tune_disk.specs.Wrapped.{Burns, fused_state, fused_honest, fuse
 use crate::{DeviceFault, Disk};
 use std::marker::Model;
 
-/// A disk that passes so many calls on to the disk within it, and then fails each one, without a call of that disk. It is honest as that disk is.
-/// A clause sees the disk within, how many calls pass yet, and how often the fuse itself has failed.
+/// A disk that passes so many calls on to the disk within it, and then fails each one, without a
+/// call of that disk. It is honest as that disk is. A clause sees the disk within, how many calls
+/// pass yet, and how often the fuse itself has failed.
 #[derive(Drop)]
 pub struct FuseDisk<D: Disk> {
     disk: D,
@@ -16,13 +17,15 @@ pub struct FuseDisk<D: Disk> {
 }
 
 impl<D: Disk> Model for FuseDisk<D> {
-    ghost use Rattle.tune_disk.specs.Wrapped.{Fused, fused_code};
+    ghost use Rattle.tune_disk.specs.Inside.Codes.{fused_code};
+    ghost use Rattle.tune_disk.specs.Wrapped.{Fused};
 
     ghost Value = { Fused D };
 
     ghost coded = { fused_code D.code };
 
-    ghost view = { λ fuse. record { disk = fuse.disk; calls_left = fuse.calls_left; failed = fuse.failed } };
+    ghost view = { λ fuse.
+        record { disk = fuse.disk; calls_left = fuse.calls_left; failed = fuse.failed } };
 }
 
 impl<D: Disk> FuseDisk<D> {
@@ -54,7 +57,7 @@ impl<D: Disk> FuseDisk<D> {
 
 // Counts one call, which fails where no call is left.
 fn spend(calls_left: &mut u64, failed: &mut u64) -> Result<(), DeviceFault>
-    ensures failures { CountsFailure result failed.old failed.new }
+    ensures counted { CountsFailure result failed.old failed.new }
     ensures blown { IsErr result ↔ (calls_left.old ≡ 0) }
     ensures left { calls_left.new ≡ calls_left.old - 1 }
 {
@@ -76,8 +79,11 @@ impl<D: Disk> Disk for FuseDisk<D> {
     ghost seen_may_stay = { λ fuse. D.Disk.seen_may_stay fuse.disk };
 
     fn len(&mut self) -> Result<u64, DeviceFault>
-        ensures len { IfOk result (λ n. D.honest self.new.disk → n ≡ length (D.state self.old.disk).seen) }
-        ensures looks { Looks (fused_honest D.honest) (fused_failures D.failures) (fused_state D.state) result self.old self.new }
+        ensures len { IfOk result (λ n. D.honest self.new.disk
+            → n ≡ length (D.state self.old.disk).seen) }
+        ensures looks { Looks
+            (fused_honest D.honest) (fused_failures D.failures) (fused_state D.state)
+            result self.old self.new }
         ensures burns { Burns D.failures result self.old self.new }
     {
         spend(&mut self.calls_left, &mut self.failed)?;
@@ -86,8 +92,11 @@ impl<D: Disk> Disk for FuseDisk<D> {
 
     fn read(&mut self, at: u64, into: &mut [u8]) -> Result<(), DeviceFault>
         requires { at + length into.old ≤ 2 ^ 40 }
-        ensures read { OnOk result (D.honest self.new.disk → Shows (D.state self.old.disk).seen at into.new) }
-        ensures looks { Looks (fused_honest D.honest) (fused_failures D.failures) (fused_state D.state) result self.old self.new }
+        ensures read { OnOk result (D.honest self.new.disk
+            → Shows (D.state self.old.disk).seen at into.new) }
+        ensures looks { Looks
+            (fused_honest D.honest) (fused_failures D.failures) (fused_state D.state)
+            result self.old self.new }
         ensures burns { Burns D.failures result self.old self.new }
     {
         spend(&mut self.calls_left, &mut self.failed)?;
@@ -96,8 +105,10 @@ impl<D: Disk> Disk for FuseDisk<D> {
 
     fn write_at(&mut self, at: u64, bytes: &[u8]) -> Result<(), DeviceFault>
         requires { at + length bytes.now ≤ 2 ^ 40 }
-        ensures write { D.honest self.new.disk → Writes at bytes.now result (D.state self.old.disk) (D.state self.new.disk) }
-        ensures calls { Calls (fused_honest D.honest) (fused_failures D.failures) result self.old self.new }
+        ensures write { D.honest self.new.disk
+            → Writes at bytes.now result (D.state self.old.disk) (D.state self.new.disk) }
+        ensures calls { Calls
+            (fused_honest D.honest) (fused_failures D.failures) result self.old self.new }
         ensures burns { Burns D.failures result self.old self.new }
     {
         // A blown fuse writes nothing.
@@ -106,8 +117,10 @@ impl<D: Disk> Disk for FuseDisk<D> {
     }
 
     fn sync(&mut self) -> Result<(), DeviceFault>
-        ensures sync { D.honest self.new.disk → Syncs result (D.state self.old.disk) (D.state self.new.disk) }
-        ensures calls { Calls (fused_honest D.honest) (fused_failures D.failures) result self.old self.new }
+        ensures sync { D.honest self.new.disk
+            → Syncs result (D.state self.old.disk) (D.state self.new.disk) }
+        ensures calls { Calls
+            (fused_honest D.honest) (fused_failures D.failures) result self.old self.new }
         ensures burns { Burns D.failures result self.old self.new }
     {
         spend(&mut self.calls_left, &mut self.failed)?;

@@ -1,5 +1,7 @@
 pub mod Above
+mod Applying
 mod Chain
+mod CallRuns
 mod ChangeLists
 mod Changed
 mod Frame
@@ -8,5 +10,4 @@ mod Making
 mod Openings
 mod Recovery
 mod Rests
-mod Runs
 mod Windows

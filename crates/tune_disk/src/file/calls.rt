@@ -1,6 +1,8 @@
-// The calls of the operating system that a disk over a file makes. Each function makes one call, over interruptions and parts, and keeps what it told.
-ghost use Rattle.std.specs.Prelude.{◌≡◌, ◌+◌, ◌<◌, ◌≤◌, ◌^◌, ◌∷◌, ◌++◌, [], length, IfOk, OnOk, OnErr};
-ghost use Rattle.tune_disk.specs.FileTold.{IsToldRead, IsToldWrite};
+// The calls of the operating system that a disk over a file makes. Each function makes one call,
+// over interruptions and parts, and keeps what it told.
+ghost use Rattle.std.specs.Prelude.{◌≡◌, ◌+◌, ◌<◌, ◌≤◌, ◌^◌, ◌∷◌, ◌++◌, [], length, IfOk, OnOk};
+ghost use Rattle.std.specs.Prelude.{OnErr};
+ghost use Rattle.tune_disk.specs.Inside.ToldMore.{IsToldRead, IsToldWrite};
 ghost use Rattle.tune_disk.specs.declared.file.told.Told.TheVariants.{Length, Broke, Synced};
 
 use super::told::{Told, tell_read, tell_write};
@@ -58,7 +60,8 @@ pub(super) fn write_all(
     bytes: &[u8],
 ) -> io::Result<()>
     ensures ok { OnOk result (IsToldWrite at bytes.now log.old.items log.new.items) }
-    ensures err { OnErr result (log.new.items ≡ log.old.items ++ (at, Broke (length bytes.now)) ∷ []) }
+    ensures err { OnErr result
+        (log.new.items ≡ log.old.items ++ (at, Broke (length bytes.now)) ∷ []) }
 {
     let done = file.write_all_at(bytes, at);
     match done {
@@ -68,7 +71,8 @@ pub(super) fn write_all(
     done
 }
 
-/// Makes the bytes that were written stable, and with them the length: `fdatasync` leaves out only what reading them back does not need.
+/// Makes the bytes that were written stable, and with them the length: `fdatasync` leaves out only
+/// what reading them back does not need.
 pub(super) fn make_stable(file: &File, log: &mut Log<u64, Told>) -> io::Result<()>
     ensures ok { OnOk result (log.new.items ≡ log.old.items ++ (0, Synced) ∷ []) }
     ensures err { OnErr result (log.new.items ≡ log.old.items) }

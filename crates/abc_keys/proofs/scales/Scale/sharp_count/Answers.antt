@@ -18,6 +18,7 @@ returns-else-count-geminus7-clause-value c =
     let g = sign_fifths_small c.args.self.sign in
     let m = mode_fifths_small c.args.self.mode in
     elim c.else-count-geminus7.branch [
-      | else-count-geminus7-via-then-count-geminus7+else-count-le7 w ↦ not_listed c.args.self (fifths_of c.args.self) (λ i. fifths_of c.args.self) (inr (omega (arith, ints)))
+      | else-count-geminus7-via-then-count-geminus7+else-count-le7 w ↦ not_listed c.args.self (fifths_of c.args.self) (λ i. fifths_of c.args.self)
+          (inr (omega (arith, ints)))
       | else-count-geminus7-via-else-count-geminus7 w ↦ not_listed c.args.self (fifths_of c.args.self) (λ i. fifths_of c.args.self) (inl (omega (arith, ints)))
     ]

@@ -1,5 +1,6 @@
 use Rattle.tune_disk.specs.FileDisk.{file_history}
-use Rattle.tune_disk.specs.FileTold.{IsToldMore, at_opening}
+use Rattle.tune_disk.specs.Inside.ToldMore.{IsToldMore}
+use Rattle.tune_disk.specs.FileTold.{at_opening}
 use Rattle.tune_disk.proofs.Kept.{holds_then}
 use Rattle.tune_disk.proofs.Told.{length_more, length_told}
 use Rattle.tune_disk.proofs.file.FileDiskDisk.len.Goals as goal
@@ -23,7 +24,7 @@ returns-clause-looks c =
     record {
       calls = record {
         was_honest = λ honest. record { opened = honest.opened; told = more.fits h (at_opening h) honest.told };
-        counted = c.counted.ensures.failures;
+        counted = c.counted.ensures.counted;
       };
       same = λ _. more.state h (at_opening h);
     }

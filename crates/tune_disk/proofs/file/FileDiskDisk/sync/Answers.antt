@@ -13,7 +13,7 @@ returns-clause-calls c =
         told = sync_more done.result c.args.self.now.log.items done.new.log.items
             done.ensures.ok done.ensures.err h (at_opening h) honest.told;
       };
-      counted = c.counted.ensures.failures;
+      counted = c.counted.ensures.counted;
     }
 
 pub returns-clause-sync : goal.returns-clause-sync

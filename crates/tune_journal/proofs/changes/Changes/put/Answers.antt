@@ -3,8 +3,10 @@ use Rattle.std.specs.List.{insert}
 use Rattle.std.proofs.lemmas.Bool.{false≢true}
 use Rattle.tune_journal.specs.declared.changes.ChangedPage.{ChangedPage}
 use Rattle.tune_journal.specs.declared.changes.PageImage.{PageImage}
-use Rattle.tune_journal.specs.ChangeList.{with_change, FoundAt, MissingAt}
-use Rattle.tune_journal.specs.Listed.{listed}
+use Rattle.tune_journal.specs.ChangeList.{with_change}
+use Rattle.tune_journal.specs.Inside.ChangeOrder.{FoundAt, MissingAt}
+use Rattle.tune_journal.specs.Inside.Listed.{listed}
+use Rattle.tune_journal.specs.Layout.{block_bytes}
 use Rattle.tune_journal.proofs.ChangeLists.{listed_replaced, listed_inserted, image_of_missing, keeps_order}
 use Rattle.tune_journal.proofs.changes.Changes.put.Goals as goal
 
@@ -18,7 +20,7 @@ pub invariant_of-self : goal.invariant_of-self
 invariant_of-self c =
     let items = c.self.inside.changed.items in
     let found : FoundAt c.args.page c.in-Ok.at (listed items) = subst (FoundAt c.args.page c.in-Ok.at) (sym c.self.view_is) c.in-Ok.ensures.found in
-    let size : length c.args.image.now.bytes ≡ 4096 = search rules in
+    let size : length c.args.image.now.bytes ≡ block_bytes = search rules in
     keeps_order c.args.page c.args.image.now.bytes (listed items) _ (listed_replaced c.args.page c.in-Ok.at items c.index_mut-changed.result.now _ found c.index_mut-changed.ensures.value refl) size c.self.invariant
 
 pub returns-in-Ok-clause-ok : goal.returns-in-Ok-clause-ok
@@ -39,7 +41,7 @@ pub invariant_of-self-in-Err : goal.invariant_of-self-in-Err
 invariant_of-self-in-Err c =
     let items = c.self.inside.changed.items in
     let missing : MissingAt c.args.page c.in-Err.at (listed items) = subst (MissingAt c.args.page c.in-Err.at) (sym c.self.view_is) c.in-Err.ensures.missing in
-    let size : length c.args.image.now.bytes ≡ 4096 = search rules in
+    let size : length c.args.image.now.bytes ≡ block_bytes = search rules in
     keeps_order c.args.page c.args.image.now.bytes (listed items) (listed c.insert.new.self.items)
     (with_inserted c.args.page c.in-Err.at items c.insert.new.self.items _ c.args.image.now missing c.in_ok-insert-in-Err.ensures.items c.in_ok-image-in-Err.ensures.ok refl) size c.self.invariant
 
