@@ -7,7 +7,7 @@ use Rattle.tune_scripts.specs.declared.runs.RunEnd.{RunEnd}
 use Rattle.tune_scripts.specs.declared.runs.RunEnd.TheVariants.{Ended}
 use Rattle.tune_cli.specs.declared.command_line.Action.{Action}
 use Rattle.tune_cli.specs.declared.command_line.Action.TheVariants as action
-use Rattle.tune_scripts.specs.Scripts.{Told, TellsScript}
+use Rattle.tune_scripts.specs.Scripts.{KnownAt, TellsScript}
 
 -- an archive without a tune
 abbrev pub empty_archive : State
@@ -23,7 +23,7 @@ pub record ListsScript (input left was now : Option (List ℕ)) (status : ℕ) :
   pub end : RunEnd
   pub state : State
   pub ends : status ≡ status_of end
-  pub output : Told end (TellsScript MOST_LINES input left was now (open_at empty_archive) end (open_at state) (λ _. ⊤))
+  pub output : KnownAt end (TellsScript MOST_LINES input left was now (open_at empty_archive) end (open_at state) (λ _. ⊤))
 
 -- what an action does with the input and the output, and the status that it gives
 abbrev pub Acts : Action → Option (List ℕ) → Option (List ℕ) → Option (List ℕ) → Option (List ℕ) → ℕ → Type 0

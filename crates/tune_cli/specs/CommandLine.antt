@@ -25,9 +25,9 @@ abbrev pub name_of : Action → List ℕ
 name_of action.List = codes "list"
 
 -- want of memory, which the parser reports as its own error
-abbrev pub IsWantOfMemory : WordsFault → Type 0
-IsWantOfMemory (Clap error) = kind_of error ≡ OutOfMemory
-IsWantOfMemory Missing = ⊥
+abbrev pub IsOutOfMemory : WordsFault → Type 0
+IsOutOfMemory (Clap error) = kind_of error ≡ OutOfMemory
+IsOutOfMemory Missing = ⊥
 
 -- the error is one that the parser finds in the words, or want of memory; or they parse and have no subcommand
 abbrev pub FaultFits : List (List ℕ) → WordsFault → Type 0

@@ -19,9 +19,9 @@ pub enum WordsFault {
 }
 
 impl From<AllocError> for WordsFault {
-    ghost use Rattle.tune_cli.specs.CommandLine.{IsWantOfMemory};
+    ghost use Rattle.tune_cli.specs.CommandLine.{IsOutOfMemory};
 
-    ghost from_gives = { λ _ fault. IsWantOfMemory fault };
+    ghost from_gives = { λ _ fault. IsOutOfMemory fault };
 
     fn from(e: AllocError) -> WordsFault {
         WordsFault::Clap(Error::from(e))

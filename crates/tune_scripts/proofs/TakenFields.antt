@@ -5,7 +5,7 @@ use Rattle.std.specs.Borrow.{Bor}
 use Rattle.bstr.specs.Fields.{SpanChain}
 use Rattle.bstr.specs.Text.{TakesFirstRef}
 use Rattle.bstr.proofs.lemmas.FieldLemmas.{chain-nil}
-use Rattle.tune_scripts.specs.FirstWords.{AreFirstFive}
+use Rattle.tune_scripts.specs.Inside.FirstWords.{AreFirstFive}
 
 -- five calls in a row take the first five
 pub AreFirstFive-taken : (all one two three four five : List (List ℕ)) (first second third fourth fifth : Option (Bor (List ℕ)))

@@ -1,6 +1,6 @@
 use Rattle.std.proofs.Common.{◌<◌, ◌^◌, ◌/◌, arith}
 use Rattle.tune_scripts.proofs.Decimals.{length_decimal_step, length_decimal_digit, length_decimal_pos, length_decimal_le}
-use Rattle.tune_scripts.proofs.reply.digits_of.Goals as goal
+use Rattle.tune_scripts.proofs.replies.digits_of.Goals as goal
 
 pub loop-rest-preserved : goal.loop-rest-preserved
 loop-rest-preserved c =

@@ -1,6 +1,6 @@
 use Rattle.std.proofs.Common.{◌≡◌, ◌+◌, ◌≤◌, ◌<◌, ◌^◌, length}
 use Rattle.std.specs.Fmt.{decimal}
-use Rattle.tune_scripts.proofs.reply.digits_of.Given as goal
+use Rattle.tune_scripts.proofs.replies.digits_of.Given as goal
 
 abbrev pub invariant-loop-rest : goal.invariant-loop-rest
 invariant-loop-rest l = record {

@@ -1,4 +1,4 @@
-use Rattle.tune_scripts.proofs.reply.write_refusal.Goals as goal
+use Rattle.tune_scripts.proofs.replies.write_refusal.Goals as goal
 
 pub returns-in-NotOne : goal.returns-in-NotOne
 returns-in-NotOne g c = rw c.in-NotOne.is c.write.ensures.bytes

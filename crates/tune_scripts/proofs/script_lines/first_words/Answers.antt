@@ -4,9 +4,9 @@ use Rattle.abc_fields.specs.Bytes.{is_blank}
 use Rattle.abc_fields.specs.Words.{words_of}
 use Rattle.abc_fields.proofs.AsciiTests.{fields_are_words}
 use Rattle.bstr.specs.FieldsWith.{fields_of}
-use Rattle.tune_scripts.specs.FirstWords.{AreFirstFive}
+use Rattle.tune_scripts.specs.Inside.FirstWords.{AreFirstFive}
 use Rattle.tune_scripts.proofs.TakenFields.{AreFirstFive-taken, chain_goes_on}
-use Rattle.tune_scripts.proofs.script_line.first_words.Goals as goal
+use Rattle.tune_scripts.proofs.script_lines.first_words.Goals as goal
 
 pub next-requires-2 : goal.next-requires-2
 next-requires-2 c = (search rules, chain_goes_on _ _ _ _ c.next.result c.next.ensures.steps.3 (λ none. none.2.1) c.next.ensures.goes.keeps)

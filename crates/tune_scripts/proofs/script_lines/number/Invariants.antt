@@ -2,7 +2,7 @@ use Rattle.std.proofs.Common.{◌≡◌, ◌<◌, ◌^◌, take, drop, true}
 use Rattle.std.specs.List.{list_all}
 use Rattle.std.specs.Char.{is_ascii_digit}
 use Rattle.tune_scripts.specs.ScriptLines.{value_from}
-use Rattle.tune_scripts.proofs.script_line.number.Given as goal
+use Rattle.tune_scripts.proofs.script_lines.number.Given as goal
 
 abbrev pub invariant-loop-digit : goal.invariant-loop-digit
 invariant-loop-digit l = record {

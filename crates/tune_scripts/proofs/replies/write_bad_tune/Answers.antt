@@ -1,4 +1,4 @@
-use Rattle.tune_scripts.proofs.reply.write_bad_tune.Goals as goal
+use Rattle.tune_scripts.proofs.replies.write_bad_tune.Goals as goal
 
 pub returns-in-NoKey : goal.returns-in-NoKey
 returns-in-NoKey g c = rw c.in-NoKey.is c.write.ensures.bytes

@@ -2,14 +2,15 @@
 ghost use Rattle.std.specs.Prelude.{◌≡◌, ◌∷◌, []};
 ghost use Rattle.abc_fields.specs.Bytes.{is_blank};
 ghost use Rattle.abc_fields.specs.Words.{words_of};
-ghost use Rattle.tune_scripts.specs.FirstWords.{AreFirstFive};
+ghost use Rattle.tune_scripts.specs.Inside.FirstWords.{AreFirstFive};
 ghost use Rattle.tune_scripts.specs.ScriptLines.{meaning_of, number_of, command_of};
 
 use abc_fields::ByteText;
 use bstr::ByteSlice;
 use tune_store::Command;
 
-/// How many bytes a line of a script has at most before its line feed, or the input's end (this archive's script language).
+/// How many bytes a line of a script has at most before its line feed, or the input's end (this
+/// archive's script language).
 pub const LONGEST_LINE: usize = 4_096;
 
 /// What a book is for that follows a line.

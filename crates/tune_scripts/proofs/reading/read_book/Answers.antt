@@ -2,7 +2,7 @@ use Rattle.std.proofs.Common.{refl, take, ◌++◌, arith, sym, ◌∙◌}
 use Rattle.std.proofs.lemmas.List.{length-take, length-append}
 use Rattle.std.proofs.lemmas.Bool.{both_ways}
 use Rattle.tune_scripts.proofs.ReadLemmas.{consumes_more}
-use Rattle.tune_scripts.proofs.reading.read_text.Goals as goal
+use Rattle.tune_scripts.proofs.reading.read_book.Goals as goal
 
 pub loop-left-preserved-then-has_room : goal.loop-left-preserved-then-has_room
 loop-left-preserved-then-has_room g c =
