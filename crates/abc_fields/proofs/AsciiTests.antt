@@ -1,5 +1,6 @@
 -- A test that passes no byte of 128 and above cuts bstr's characters and the bytes themselves in the same way.
-use Rattle.std.proofs.Common.{◌≡◌, ◌⊎◌, ◌+◌, ◌-◌, ◌<◌, ◌≤◌, ℕ, zero, suc, Bool, true, false, cond, List, [], ◌∷◌, ◌++◌, Option, Some, None, length, take, drop, slice_index, refl, sym, ap, ◌∙◌, arith, inl, inr, ⊎_elim, append_assoc, append-nil, length-drop}
+use Rattle.std.proofs.Common.{◌≡◌, ◌⊎◌, ◌+◌, ◌-◌, ◌<◌, ◌≤◌, ℕ, zero, suc, Bool, true, false, cond, List, [], ◌∷◌, ◌++◌, Option, Some, None, length, take, drop}
+use Rattle.std.proofs.Common.{slice_index, refl, sym, ap, ◌∙◌, arith, inl, inr, ⊎_elim, append_assoc, append-nil, length-drop}
 use Rattle.std.specs.Prelude.{◌&&◌}
 use Rattle.std.specs.List.{onto_first, list_all}
 use Rattle.std.proofs.lemmas.Bool.{cases_Bool, cases_lt, cond-true, cond-false, true≢false}
@@ -22,6 +23,7 @@ use Rattle.abc_fields.specs.Words.{parts_by, words_of, trimmed_front, trimmed_ba
 abbrev pub IsAsciiTest : (ℕ → Bool) → Type 0
 IsAsciiTest test = (c : ℕ) → test c ≡ true → c < 128
 
+-- PARTS OF BYTES
 -- the parts of a text whose first part has begun with these bytes before it
 abbrev parts_after : (ℕ → Bool) → List ℕ → List ℕ → List (List ℕ)
 parts_after test begun [] = begun ∷ []
@@ -32,7 +34,8 @@ module _ (test : ℕ → Bool) where
   onto_first-parts_after : (byte : ℕ) (begun text : List ℕ) → onto_first byte (parts_after test begun text) ≡ parts_after test (byte ∷ begun) text
   onto_first-parts_after byte begun [] = refl
   onto_first-parts_after byte begun (next ∷ text) =
-      elim (test next) as (λ b. onto_first byte (cond b (begun ∷ parts_by test text) (parts_after test (begun ++ next ∷ []) text)) ≡ cond b ((byte ∷ begun) ∷ parts_by test text) (parts_after test (byte ∷ (begun ++ next ∷ [])) text))
+      elim (test next) as (λ b. onto_first byte (cond b (begun ∷ parts_by test text) (parts_after test (begun ++ next ∷ []) text))
+      ≡ cond b ((byte ∷ begun) ∷ parts_by test text) (parts_after test (byte ∷ (begun ++ next ∷ [])) text))
       [ true ↦ refl | false ↦ onto_first-parts_after byte (begun ++ next ∷ []) text ]
 
   -- a byte that does not pass begins a part
@@ -50,7 +53,8 @@ module _ (test : ℕ → Bool) where
   parts_by-pass (byte ∷ text) some passes = cond-true _ _ _ passes
 
   -- and it ends the part before it
-  parts_after-pass : (begun text : List ℕ) → 0 < length text → test (slice_index text 0) ≡ true → parts_after test begun text ≡ begun ∷ parts_by test (drop 1 text)
+  parts_after-pass : (begun text : List ℕ) → 0 < length text → test (slice_index text 0) ≡ true
+      → parts_after test begun text ≡ begun ∷ parts_by test (drop 1 text)
   parts_after-pass begun [] some passes = absurd (omega arith)
   parts_after-pass begun (byte ∷ text) some passes = cond-true _ _ _ passes
 
@@ -59,7 +63,8 @@ module _ (test : ℕ → Bool) where
   NonePasses n text = (k : ℕ) → k < n → test (slice_index text k) ≡ false
 
   -- a run that does not pass goes on with the part that has begun
-  parts_after-run : (n : ℕ) (begun text : List ℕ) → n ≤ length text → NonePasses n text → parts_after test begun text ≡ parts_after test (begun ++ take n text) (drop n text)
+  parts_after-run : (n : ℕ) (begun text : List ℕ) → n ≤ length text → NonePasses n text
+      → parts_after test begun text ≡ parts_after test (begun ++ take n text) (drop n text)
   parts_after-run zero begun text fits none = rw append-nil
   parts_after-run (suc n) begun [] fits none = absurd (omega arith)
   parts_after-run (suc n) begun (byte ∷ text) fits none =
@@ -72,15 +77,19 @@ module _ (test : ℕ → Bool) where
   parts_by-run (suc n) (byte ∷ text) some fits none =
       parts_by-begin byte text (none 0 (omega arith)) ∙ parts_after-run n (byte ∷ []) text (omega arith) (λ k lt. none (suc k) (omega arith))
 
+-- BSTR'S PIECES
 -- each byte of a piece that begins with 128 or above is 128 or above
 piece_is_high : (text : List ℕ) (k : ℕ) → 0 < length text → 128 ≤ slice_index text 0 → k < (decoded text).size → 128 ≤ slice_index text k
 piece_is_high text zero some high within = high
 piece_is_high text (suc zero) some high within =
-    let tail = (tail-continues (length text) (slice_index text 0) (slice_index text 1) (slice_index text 2) (slice_index text 3)).0 (omega arith) in grind (arith, nat_tests)
+    let tail = (tail-continues (length text) (slice_index text 0) (slice_index text 1) (slice_index text 2) (slice_index text 3)).0 (omega arith) in
+    grind (arith, nat_tests)
 piece_is_high text (suc (suc zero)) some high within =
-    let tail = (tail-continues (length text) (slice_index text 0) (slice_index text 1) (slice_index text 2) (slice_index text 3)).1 (omega arith) in grind (arith, nat_tests)
+    let tail = (tail-continues (length text) (slice_index text 0) (slice_index text 1) (slice_index text 2) (slice_index text 3)).1 (omega arith) in
+    grind (arith, nat_tests)
 piece_is_high text (suc (suc (suc zero))) some high within =
-    let tail = (tail-continues (length text) (slice_index text 0) (slice_index text 1) (slice_index text 2) (slice_index text 3)).2 (omega arith) in grind (arith, nat_tests)
+    let tail = (tail-continues (length text) (slice_index text 0) (slice_index text 1) (slice_index text 2) (slice_index text 3)).2 (omega arith) in
+    grind (arith, nat_tests)
 piece_is_high text (suc (suc (suc (suc k)))) some high within = absurd (omega (arith, (piece-bounds text some).1))
 
 -- a piece that begins with 128 or above reads as 128 or above
@@ -89,13 +98,15 @@ piece_reads_high text None high is = omega arith
 piece_reads_high text (Some c) high is = ⊎_elim
     (λ low.
     let spelled = SpellsChar-decoded text c is in
-    let first : slice_index text 0 ≡ c = ap (λ bytes. slice_index bytes 0) (spelled.bytes ∙ ap (λ front. front ++ drop (decoded text).size text) (encode_ascii c low)) in
+    let first : slice_index text 0 ≡ c =
+    ap (λ bytes. slice_index bytes 0) (spelled.bytes ∙ ap (λ front. front ++ drop (decoded text).size text) (encode_ascii c low)) in
     absurd (omega arith))
     (λ above. above)
     (cases_lt c 128)
 
 -- a piece that begins below 128 is that byte alone
-piece_is_low : (text : List ℕ) → 0 < length text → slice_index text 0 < 128 → ((decoded text).size ≡ 1) × (or_replacement (decoded text).char ≡ slice_index text 0)
+piece_is_low : (text : List ℕ) → 0 < length text → slice_index text 0 < 128
+    → ((decoded text).size ≡ 1) × (or_replacement (decoded text).char ≡ slice_index text 0)
 piece_is_low text some low =
     let one = value-1 (length text) (slice_index text 0) (slice_index text 1) (slice_index text 2) (slice_index text 3) (some, low) in
     (ap (λ (p : Decoded). p.size) one, ap (λ (p : Decoded). or_replacement p.char) one)
@@ -148,17 +159,22 @@ module _ (whole : List ℕ) (offset : ℕ) (below : offset < length whole) where
   rest_later = drop-drop (size_at whole offset) offset whole
 
   -- the span of the first piece, and those from its end on
-  spans_at-step : spans_at whole offset ≡ (offset, offset + size_at whole offset, first_char (drop offset whole)) ∷ spans_at whole (offset + size_at whole offset)
+  spans_at-step : spans_at whole offset
+      ≡ (offset, offset + size_at whole offset, first_char (drop offset whole)) ∷ spans_at whole (offset + size_at whole offset)
   spans_at-step = spans-first (drop offset whole) offset rest_some
-      ∙ ap (λ text. (offset, offset + size_at whole offset, first_char (drop offset whole)) ∷ spans_from (offset + size_at whole offset) (pieces text)) rest_later
+      ∙ ap
+      (λ text. (offset, offset + size_at whole offset, first_char (drop offset whole)) ∷ spans_from (offset + size_at whole offset) (pieces text))
+      rest_later
 
+-- FIELDS ARE PARTS
 -- a part that has begun grows by the bytes that follow it
-part-grow : (whole : List ℕ) (start offset size : ℕ) → start ≤ offset → part start (offset + size) whole ≡ part start offset whole ++ take size (drop offset whole)
+part-grow : (whole : List ℕ) (start offset size : ℕ) → start ≤ offset
+    → part start (offset + size) whole ≡ part start offset whole ++ take size (drop offset whole)
 part-grow whole start offset size after =
     let more : offset + size - start ≡ (offset - start) + size = omega arith in
-    let place : start + (offset - start) ≡ offset = omega arith in
+    let here : start + (offset - start) ≡ offset = omega arith in
     ap (λ n. take n (drop start whole)) more ∙ take-add (offset - start) size (drop start whole)
-    ∙ ap (λ text. part start offset whole ++ take size text) (drop-drop (offset - start) start whole ∙ ap (λ n. drop n whole) place)
+    ∙ ap (λ text. part start offset whole ++ take size text) (drop-drop (offset - start) start whole ∙ ap (λ n. drop n whole) here)
 
 -- a part that begins here
 part-begin : (whole : List ℕ) (offset size : ℕ) → part offset (offset + size) whole ≡ take size (drop offset whole)
@@ -167,7 +183,8 @@ part-begin whole offset size = let size_is : offset + size - offset ≡ size = o
 -- from an index on the fields are the parts, with no field begun and with one that began at start
 abbrev AreParts : (ℕ → Bool) → List ℕ → ℕ → Type 0
 AreParts test whole offset = (fields_acc test whole None (spans_at whole offset) ≡ parts_by test (drop offset whole))
-    × ((start : ℕ) → start ≤ offset → fields_acc test whole (Some (start, offset)) (spans_at whole offset) ≡ parts_after test (part start offset whole) (drop offset whole))
+    × ((start : ℕ) → start ≤ offset
+    → fields_acc test whole (Some (start, offset)) (spans_at whole offset) ≡ parts_after test (part start offset whole) (drop offset whole))
 
 module _ (test : ℕ → Bool) (ascii : IsAsciiTest test) (whole : List ℕ) where
   -- at the end nothing is left but the part that has begun
@@ -176,7 +193,8 @@ module _ (test : ℕ → Bool) (ascii : IsAsciiTest test) (whole : List ℕ) whe
       let none = spans_at-end whole offset end in
       let nothing = drop_all offset whole end in (
         ap (fields_acc test whole None) none ∙ fields-nil test whole ∙ sym (ap (parts_by test) nothing),
-        λ start after. ap (fields_acc test whole (Some (start, offset))) none ∙ fields-last test whole start offset ∙ sym (ap (parts_after test (part start offset whole)) nothing),
+        λ start after. ap (fields_acc test whole (Some (start, offset))) none ∙ fields-last test whole start offset
+            ∙ sym (ap (parts_after test (part start offset whole)) nothing),
       )
 
   -- if the fields are the parts after the first piece, they are before it
@@ -194,7 +212,8 @@ module _ (test : ℕ → Bool) (ascii : IsAsciiTest test) (whole : List ℕ) whe
       let one : drop 1 rest ≡ drop (offset + size) whole = ap (λ n. drop n rest) (sym passes.1) ∙ next in (
         ap (fields_acc test whole None) step ∙ fields-skip test whole _ _ passes.0 ∙ later.0
             ∙ sym (parts_by-pass test rest some passes.2 ∙ ap (parts_by test) one),
-        λ start after. ap (fields_acc test whole (Some (start, offset))) step ∙ fields-stop test whole _ _ start offset passes.0 ∙ ap (λ parts. part start offset whole ∷ parts) later.0
+        λ start after. ap (fields_acc test whole (Some (start, offset))) step ∙ fields-stop test whole _ _ start offset passes.0
+            ∙ ap (λ parts. part start offset whole ∷ parts) later.0
             ∙ sym (parts_after-pass test (part start offset whole) rest some passes.2 ∙ ap (λ text. part start offset whole ∷ parts_by test text) one),
       ))
       (λ fails. (
@@ -203,7 +222,8 @@ module _ (test : ℕ → Bool) (ascii : IsAsciiTest test) (whole : List ℕ) whe
             ∙ sym (parts_by-run test size rest bounds.0 fits fails.1 ∙ ap (parts_after test (take size rest)) next),
         λ start after. ap (fields_acc test whole (Some (start, offset))) step ∙ fields-more test whole _ _ start offset fails.0 ∙ later.1 start (omega arith)
             ∙ ap (λ begun. parts_after test begun (drop (offset + size) whole)) (part-grow whole start offset size after)
-            ∙ sym (parts_after-run test size (part start offset whole) rest fits fails.1 ∙ ap (parts_after test (part start offset whole ++ take size rest)) next),
+            ∙ sym (parts_after-run test size (part start offset whole) rest fits fails.1
+            ∙ ap (parts_after test (part start offset whole ++ take size rest)) next),
       ))
       (first_piece test ascii rest some)
 
@@ -219,6 +239,7 @@ module _ (test : ℕ → Bool) (ascii : IsAsciiTest test) (whole : List ℕ) whe
 pub fields_are_parts : (test : ℕ → Bool) → IsAsciiTest test → (text : List ℕ) → fields_acc test text None (spans_from 0 (pieces text)) ≡ parts_by test text
 fields_are_parts test ascii text = (AreParts-from test ascii text (length text) 0 (omega arith)).0
 
+-- TRIMS OF THE FRONT
 -- from an index on bstr leaves of the front what the bytes leave
 abbrev IsFrontTrimmed : (ℕ → Bool) → List ℕ → ℕ → Type 0
 IsFrontTrimmed test whole offset = drop (kept_start test (length whole) (spans_at whole offset)) whole ≡ trimmed_front test (drop offset whole)
@@ -250,7 +271,8 @@ module _ (test : ℕ → Bool) (ascii : IsAsciiTest test) (whole : List ℕ) whe
       let step = ap (λ spans. drop (kept_start test (length whole) spans) whole) (spans_at-step whole offset below) in
       ⊎_elim
       (λ passes. step ∙ ap (λ n. drop n whole) (kept-skip test (length whole) _ _ passes.0) ∙ later
-      ∙ sym (trimmed_front-pass test rest some passes.2 ∙ ap (λ n. trimmed_front test (drop n rest)) (sym passes.1) ∙ ap (trimmed_front test) (rest_later whole offset below)))
+      ∙ sym (trimmed_front-pass test rest some passes.2 ∙ ap (λ n. trimmed_front test (drop n rest)) (sym passes.1)
+      ∙ ap (trimmed_front test) (rest_later whole offset below)))
       (λ fails. step ∙ ap (λ n. drop n whole) (kept-stop test (length whole) _ _ fails.0) ∙ sym (trimmed_front-stop test rest some (fails.1 0 (omega arith))))
       (first_piece test ascii rest some)
 
@@ -258,7 +280,9 @@ module _ (test : ℕ → Bool) (ascii : IsAsciiTest test) (whole : List ℕ) whe
   IsFrontTrimmed-from : (fuel offset : ℕ) → length whole ≤ offset + fuel → IsFrontTrimmed test whole offset
   IsFrontTrimmed-from zero offset within = IsFrontTrimmed-end offset (omega arith)
   IsFrontTrimmed-from (suc fuel) offset within = ⊎_elim
-      (λ below. let bounds = size_at-bounds whole offset below in IsFrontTrimmed-step offset below (IsFrontTrimmed-from fuel (offset + size_at whole offset) (omega arith)))
+      (λ below.
+      let bounds = size_at-bounds whole offset below in
+      IsFrontTrimmed-step offset below (IsFrontTrimmed-from fuel (offset + size_at whole offset) (omega arith)))
       (λ end. IsFrontTrimmed-end offset end)
       (cases_lt offset (length whole))
 
@@ -266,11 +290,13 @@ module _ (test : ℕ → Bool) (ascii : IsAsciiTest test) (whole : List ℕ) whe
 pub trim_front_is_bytes : (test : ℕ → Bool) → IsAsciiTest test → (text : List ℕ) → trim_start_by test text ≡ trimmed_front test text
 trim_front_is_bytes test ascii text = IsFrontTrimmed-from test ascii text (length text) 0 (omega arith)
 
+-- TRIMS OF THE BACK
 -- from an index on bstr leaves of the back what the bytes leave: what ends at end where all pass, or else up to the last byte that does not
 abbrev IsBackTrimmed : (ℕ → Bool) → List ℕ → ℕ → Type 0
 IsBackTrimmed test whole offset =
     ((end : ℕ) → list_all test (drop offset whole) ≡ true → take (kept_end test end (spans_at whole offset)) whole ≡ take end whole)
-    × ((end : ℕ) → list_all test (drop offset whole) ≡ false → take (kept_end test end (spans_at whole offset)) whole ≡ take offset whole ++ trimmed_back test (drop offset whole))
+    × ((end : ℕ) → list_all test (drop offset whole) ≡ false
+    → take (kept_end test end (spans_at whole offset)) whole ≡ take offset whole ++ trimmed_back test (drop offset whole))
 
 module _ (test : ℕ → Bool) where
   -- a span that passes leaves the end where it was
@@ -304,7 +330,8 @@ module _ (test : ℕ → Bool) where
   trimmed_back-one (byte ∷ text) not_all = cond-false _ _ _ not_all
 
   -- a run of which no byte passes stays
-  trimmed_back-run : (n : ℕ) (text : List ℕ) → n ≤ length text → NonePasses test n text → trimmed_back test text ≡ take n text ++ trimmed_back test (drop n text)
+  trimmed_back-run : (n : ℕ) (text : List ℕ) → n ≤ length text → NonePasses test n text
+      → trimmed_back test text ≡ take n text ++ trimmed_back test (drop n text)
   trimmed_back-run zero text fits none = refl
   trimmed_back-run (suc n) [] fits none = absurd (omega arith)
   trimmed_back-run (suc n) (byte ∷ text) fits none =
@@ -321,8 +348,11 @@ module _ (test : ℕ → Bool) (ascii : IsAsciiTest test) (whole : List ℕ) whe
       )
 
   -- what stays of a piece stays before what stays after it
-  back-grow : (offset : ℕ) → offset < length whole → trimmed_back test (drop offset whole) ≡ take (size_at whole offset) (drop offset whole) ++ trimmed_back test (drop (size_at whole offset) (drop offset whole))
-      → take (offset + size_at whole offset) whole ++ trimmed_back test (drop (offset + size_at whole offset) whole) ≡ take offset whole ++ trimmed_back test (drop offset whole)
+  back-grow : (offset : ℕ) → offset < length whole
+      → trimmed_back test (drop offset whole)
+      ≡ take (size_at whole offset) (drop offset whole) ++ trimmed_back test (drop (size_at whole offset) (drop offset whole))
+      → take (offset + size_at whole offset) whole ++ trimmed_back test (drop (offset + size_at whole offset) whole)
+      ≡ take offset whole ++ trimmed_back test (drop offset whole)
   back-grow offset below stays =
       let size = size_at whole offset in
       ap (λ front. front ++ trimmed_back test (drop (offset + size) whole)) (take-add offset size whole)
@@ -331,7 +361,8 @@ module _ (test : ℕ → Bool) (ascii : IsAsciiTest test) (whole : List ℕ) whe
       ∙ ap (λ text. take offset whole ++ text) (sym stays)
 
   -- past a piece of which no byte passes
-  back-past : (offset : ℕ) → IsBackTrimmed test whole offset → take (kept_end test offset (spans_at whole offset)) whole ≡ take offset whole ++ trimmed_back test (drop offset whole)
+  back-past : (offset : ℕ) → IsBackTrimmed test whole offset
+      → take (kept_end test offset (spans_at whole offset)) whole ≡ take offset whole ++ trimmed_back test (drop offset whole)
   back-past offset here = ⊎_elim
       (λ all. here.0 offset all ∙ sym (ap (λ text. take offset whole ++ text) (trimmed_back-all test _ all) ∙ append-nil _))
       (λ not_all. here.1 offset not_all)
@@ -350,7 +381,8 @@ module _ (test : ℕ → Bool) (ascii : IsAsciiTest test) (whole : List ℕ) whe
       (λ passes.
       let skip = λ (end : ℕ). step end ∙ ap (λ n. take n whole) (kept_end-pass test end _ _ passes.0) in
       let same : list_all test (drop (offset + size) whole) ≡ list_all test rest =
-      sym (list_all-pass test rest some passes.2 ∙ ap (λ n. list_all test (drop n rest)) (sym passes.1) ∙ ap (list_all test) (rest_later whole offset below)) in (
+      sym (list_all-pass test rest some passes.2 ∙ ap (λ n. list_all test (drop n rest)) (sym passes.1)
+      ∙ ap (list_all test) (rest_later whole offset below)) in (
         λ end all. skip end ∙ later.0 end (same ∙ all),
         λ end not_all. skip end ∙ later.1 end (same ∙ not_all)
             ∙ back-grow offset below (trimmed_back-one test rest not_all ∙ ap (λ n. take n rest ++ trimmed_back test (drop n rest)) (sym passes.1)),
@@ -367,7 +399,9 @@ module _ (test : ℕ → Bool) (ascii : IsAsciiTest test) (whole : List ℕ) whe
   IsBackTrimmed-from : (fuel offset : ℕ) → length whole ≤ offset + fuel → IsBackTrimmed test whole offset
   IsBackTrimmed-from zero offset within = IsBackTrimmed-end offset (omega arith)
   IsBackTrimmed-from (suc fuel) offset within = ⊎_elim
-      (λ below. let bounds = size_at-bounds whole offset below in IsBackTrimmed-step offset below (IsBackTrimmed-from fuel (offset + size_at whole offset) (omega arith)))
+      (λ below.
+      let bounds = size_at-bounds whole offset below in
+      IsBackTrimmed-step offset below (IsBackTrimmed-from fuel (offset + size_at whole offset) (omega arith)))
       (λ end. IsBackTrimmed-end offset end)
       (cases_lt offset (length whole))
 
@@ -375,6 +409,7 @@ module _ (test : ℕ → Bool) (ascii : IsAsciiTest test) (whole : List ℕ) whe
 pub trim_back_is_bytes : (test : ℕ → Bool) → IsAsciiTest test → (text : List ℕ) → trim_end_by test text ≡ trimmed_back test text
 trim_back_is_bytes test ascii text = back-past test ascii text 0 (IsBackTrimmed-from test ascii text (length text) 0 (omega arith))
 
+-- SPACES AND TABS
 -- a space and a tab are below 128
 pub is_blank-ascii : IsAsciiTest is_blank
 is_blank-ascii c passes = grind (arith, nat_tests)

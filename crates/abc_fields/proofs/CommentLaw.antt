@@ -1,5 +1,6 @@
 -- Where the comment of a line begins.
-use Rattle.std.proofs.Common.{◌≡◌, ℕ, zero, suc, ◌+◌, ◌-◌, ◌<◌, ◌≤◌, ◌⊎◌, inl, inr, Bool, true, false, not, eqb, ltb, List, [], ◌∷◌, ◌++◌, length, take, drop, get_or, refl, ap, sym, ◌∙◌, arith, add-one, subst}
+use Rattle.std.proofs.Common.{◌≡◌, ℕ, zero, suc, ◌+◌, ◌-◌, ◌<◌, ◌≤◌, ◌⊎◌, inl, inr, Bool, true, false, not, eqb, ltb, List, [], ◌∷◌, ◌++◌, length, take, drop}
+use Rattle.std.proofs.Common.{get_or, refl, ap, sym, ◌∙◌, arith, add-one, subst}
 use Rattle.std.specs.Prelude.{◌==◌, ◌&&◌}
 use Rattle.std.proofs.lemmas.Bool.{cond_both, eqb-true, eq-eqb, and_parts, not-true, lt-ltb, false_from_ne_true, true≢false}
 use Rattle.std.proofs.lemmas.List.{append_assoc, append-nil, take_more, drop-drop, drop_all, take_all, length-drop, get_or-drop}
@@ -72,7 +73,8 @@ escapes-ended escaped (byte ∷ start) = escapes-ended (byte == backslash) start
 not_ended : (text : List ℕ) → escapes false text ≡ false → EndsWith backslash text → ⊥
 not_ended text plain ended = true≢false (sym (escapes-ended false ended.0) ∙ ap (escapes false) ended.1 ∙ plain)
 
-comment_law : (rest kept : List ℕ) → (rest ≡ []) ⊎ (BeginsWithPercent rest × (escapes false kept ≡ false)) → (rest ≡ []) ⊎ (BeginsWithPercent rest × ¬ EndsWith backslash kept)
+comment_law : (rest kept : List ℕ) → (rest ≡ []) ⊎ (BeginsWithPercent rest × (escapes false kept ≡ false))
+    → (rest ≡ []) ⊎ (BeginsWithPercent rest × ¬ EndsWith backslash kept)
 comment_law rest kept (inl none) = inl none
 comment_law rest kept (inr begins) = inr (begins.0, not_ended kept begins.1)
 
@@ -88,11 +90,11 @@ is_uncommented line =
     }
 
 -- A READING OF A LINE
--- no byte below this place is a percent sign
+-- no byte below this index is a percent sign
 abbrev pub NoPercentBelow : List ℕ → ℕ → Type 0
 NoPercentBelow text n = (j : ℕ) → j < n → eqb (get_or text j 0) percent ≡ true → ⊥
 
--- no comment begins below this place
+-- no comment begins below this index
 abbrev pub IsReadTo : List ℕ → ℕ → Type 0
 IsReadTo line at = uncommented line ≡ take at line ++ uncommented_after (escapes false (take at line)) (drop at line)
 
@@ -106,7 +108,12 @@ plain_front : (escaped : Bool) (text : List ℕ) (n : ℕ) → NoPercentBelow te
 plain_front escaped text zero none = refl
 plain_front escaped [] (suc n) none = refl
 plain_front escaped (byte ∷ text) (suc n) none =
-    rw (false_from_ne_true (eqb byte percent) (none 0 (omega arith))) (ap (λ t. byte ∷ t) (plain_front (byte == backslash) text n (λ j lt. none (suc j) (omega arith))))
+    rw (false_from_ne_true (eqb byte percent) (none 0 (omega arith)))
+    (ap (λ t. byte ∷ t) (plain_front (byte == backslash) text n (λ j lt. none (suc j) (omega arith))))
+
+-- what is left of a line goes up to its end
+pub rest_whole : (line : List ℕ) (at : ℕ) → take (length line - at) (drop at line) ≡ drop at line
+rest_whole line at = take_all (length line - at) (drop at line) (omega (arith, length-drop at line))
 
 -- a reading goes on past bytes that are no percent signs
 pub read_on : (line : List ℕ) (at n : ℕ) → IsReadTo line at → NoPercentBelow (drop at line) n → IsReadTo line (at + n)
@@ -123,7 +130,8 @@ pub record IsReadToPercent (line : List ℕ) (at : ℕ) : Type 0 where
   pub is : eqb (get_or line at 0) percent ≡ true
 
 -- a reading goes on to the first percent sign of the rest
-pub read_on_to : (line rest : List ℕ) (at n : ℕ) → rest ≡ drop at line → IsReadTo line at → NoPercentBelow rest n → n < length rest → eqb (get_or rest n 0) percent ≡ true → IsReadToPercent line (at + n)
+pub read_on_to : (line rest : List ℕ) (at n : ℕ) → rest ≡ drop at line → IsReadTo line at → NoPercentBelow rest n → n < length rest
+    → eqb (get_or rest n 0) percent ≡ true → IsReadToPercent line (at + n)
 read_on_to line rest at n same read none within is =
     let P : List ℕ → Type 0 = λ t. NoPercentBelow t n in
     record {
@@ -146,7 +154,8 @@ read_escaped line at here escaped =
     rw (front, escapes-append, append_assoc) (here.read ∙ rw (escaped, rest) refl)
 
 -- a reading that comes to no further percent sign keeps the line
-pub read_whole : (line rest : List ℕ) (at : ℕ) → rest ≡ drop at line → IsReadTo line at → at ≤ length line → NoPercentBelow rest (length rest) → uncommented line ≡ line
+pub read_whole : (line rest : List ℕ) (at : ℕ) → rest ≡ drop at line → IsReadTo line at → at ≤ length line → NoPercentBelow rest (length rest)
+    → uncommented line ≡ line
 read_whole line rest at same read within none =
     let end : at + length (drop at line) ≡ length line = omega (arith, length-drop at line) in
     let P : ℕ → Type 0 = λ n. IsReadTo line n in
@@ -159,7 +168,7 @@ escapes_at escaped [] n within = absurd (omega arith)
 escapes_at escaped (byte ∷ text) zero within = refl
 escapes_at escaped (byte ∷ text) (suc n) within = escapes_at (byte == backslash) text n (omega arith)
 
--- the byte before a place tells whether it is escaped
+-- the byte before an index tells whether it is escaped
 pub escaped_at : (line : List ℕ) (at : ℕ) → at < length line → (ltb 0 at && eqb (get_or line (at - 1) 0) backslash) ≡ escapes false (take at line)
 escaped_at line zero within = refl
 escaped_at line (suc n) within =

@@ -1,5 +1,6 @@
 -- How a line adds to what a header says.
-use Rattle.std.proofs.Common.{◌≡◌, ℕ, zero, suc, ◌≤◌, true, false, eqb, List, [], ◌∷◌, ◌++◌, length, map, take, Option, None, Some, refl, ap, sym, ◌∙◌, arith, inl, ⊎_elim}
+use Rattle.std.proofs.Common.{◌≡◌, ℕ, zero, suc, ◌≤◌, true, false, eqb, List, [], ◌∷◌, ◌++◌, length, map, take, Option, None, Some, refl, ap, sym, ◌∙◌, arith}
+use Rattle.std.proofs.Common.{inl, ⊎_elim}
 use Rattle.std.specs.Prelude.{slice_get, codes, unwrap_or}
 use Rattle.std.specs.List.{filter, AllByRecursion}
 use Rattle.std.specs.Option.{option_or}
@@ -11,7 +12,7 @@ use Rattle.abc_fields.specs.Tunes.{is_key_line, has_key, joined, IsTuneLine, IsT
 use Rattle.abc_fields.specs.Lines.{lines_of}
 use Rattle.abc_fields.proofs.LineLaw.{pieces_of_line}
 use Rattle.abc_fields.specs.Values.{field_value}
-use Rattle.abc_fields.specs.Fields.{header_of, values_of, has_bytes, filled, key_text_of, HeaderEndsWithKey}
+use Rattle.abc_fields.specs.Fields.{header_of, values_of, has_bytes, non_empty, non_empty_values, key_text_of, HeaderEndsWithKey}
 
 -- the first titles of enough are those
 pub enough_titles : (n : ℕ) (titles more : List (List ℕ)) → length titles ≡ n → titles ≡ take n (titles ++ more)
@@ -22,7 +23,8 @@ pub few_titles : (n : ℕ) (titles : List (List ℕ)) → length titles ≤ n �
 few_titles n titles few = sym (ap (take n) (append-nil titles) ∙ take_all n titles few)
 
 -- an empty value is no title
-pub few_titles-empty : (n : ℕ) (titles : List (List ℕ)) (value : List ℕ) → length titles ≤ n → length value ≡ 0 → titles ≡ take n (titles ++ filled (value ∷ []))
+pub few_titles-empty : (n : ℕ) (titles : List (List ℕ)) (value : List ℕ) → length titles ≤ n → length value ≡ 0
+    → titles ≡ take n (titles ++ non_empty (value ∷ []))
 few_titles-empty n titles [] few empty = few_titles n titles few
 few_titles-empty n titles (byte ∷ value) few empty = absurd (omega arith)
 
@@ -38,18 +40,20 @@ take_taken (suc n) [] ys = refl
 take_taken (suc n) (x ∷ xs) ys = ap (λ l. x ∷ l) (take_taken n xs ys)
 
 -- the values of lines are those of the first lines and then those of the others
-filled_values-append : (name : List ℕ) (lines more : List (List ℕ)) → filled (values_of name (lines ++ more)) ≡ filled (values_of name lines) ++ filled (values_of name more)
-filled_values-append name lines more =
-    ap (λ l. filled (map field_value l)) (filter-append (λ line. begins_with line name) lines more)
-    ∙ ap filled (map-append field_value (filter (λ line. begins_with line name) lines) (filter (λ line. begins_with line name) more))
+non_empty_values-append : (name : List ℕ) (lines more : List (List ℕ))
+    → non_empty_values name (lines ++ more) ≡ non_empty_values name lines ++ non_empty_values name more
+non_empty_values-append name lines more =
+    ap (λ l. non_empty (map field_value l)) (filter-append (λ line. begins_with line name) lines more)
+    ∙ ap non_empty (map-append field_value (filter (λ line. begins_with line name) lines) (filter (λ line. begins_with line name) more))
     ∙ filter-append has_bytes (values_of name lines) (values_of name more)
 
 -- the first titles go on with a line
 pub titles_step : (n : ℕ) (titles : List (List ℕ)) (name line : List ℕ) (lines : List (List ℕ))
-    → take n (take n (titles ++ filled (values_of name (line ∷ []))) ++ filled (values_of name lines)) ≡ take n (titles ++ filled (values_of name (line ∷ lines)))
+    → take n (take n (titles ++ non_empty_values name (line ∷ [])) ++ non_empty_values name lines) ≡ take n (titles ++ non_empty_values name (line ∷ lines))
 titles_step n titles name line lines =
-    take_taken n (titles ++ filled (values_of name (line ∷ []))) (filled (values_of name lines))
-    ∙ ap (take n) (append_assoc titles (filled (values_of name (line ∷ []))) (filled (values_of name lines)) ∙ ap (λ l. titles ++ l) (sym (filled_values-append name (line ∷ []) lines)))
+    take_taken n (titles ++ non_empty_values name (line ∷ [])) (non_empty_values name lines)
+    ∙ ap (take n) (append_assoc titles (non_empty_values name (line ∷ [])) (non_empty_values name lines)
+    ∙ ap (λ l. titles ++ l) (sym (non_empty_values-append name (line ∷ []) lines)))
 
 first-append : (xs ys : List (List ℕ)) → slice_get (xs ++ ys) 0 ≡ option_or (slice_get xs 0) (slice_get ys 0)
 first-append [] ys = refl
@@ -66,10 +70,13 @@ or_none (Some x) = refl
 
 -- the first value goes on with a line
 pub first_step : (so_far : Option (List ℕ)) (name line : List ℕ) (lines : List (List ℕ))
-    → option_or (option_or so_far (slice_get (filled (values_of name (line ∷ []))) 0)) (slice_get (filled (values_of name lines)) 0) ≡ option_or so_far (slice_get (filled (values_of name (line ∷ lines))) 0)
+    → option_or (option_or so_far (slice_get (non_empty_values name (line ∷ [])) 0)) (slice_get (non_empty_values name lines) 0)
+    ≡ option_or so_far (slice_get (non_empty_values name (line ∷ lines)) 0)
 first_step so_far name line lines =
-    or_assoc so_far (slice_get (filled (values_of name (line ∷ []))) 0) (slice_get (filled (values_of name lines)) 0)
-    ∙ ap (option_or so_far) (sym (ap (λ l. slice_get l 0) (filled_values-append name (line ∷ []) lines) ∙ first-append (filled (values_of name (line ∷ []))) (filled (values_of name lines))))
+    or_assoc so_far (slice_get (non_empty_values name (line ∷ [])) 0) (slice_get (non_empty_values name lines) 0)
+    ∙ ap (option_or so_far)
+    (sym (ap (λ l. slice_get l 0) (non_empty_values-append name (line ∷ []) lines)
+    ∙ first-append (non_empty_values name (line ∷ [])) (non_empty_values name lines)))
 
 -- a line of one name is none of another
 other_name : (a b : ℕ) (line : List ℕ) → eqb b a ≡ false → begins_with line (a ∷ 58 ∷ []) ≡ true → begins_with line (b ∷ 58 ∷ []) ≡ false
@@ -102,7 +109,8 @@ pub key_later : (line : List ℕ) (lines : List (List ℕ)) → is_key_line line
 key_later line lines other = rw other refl
 
 -- the value of a line that gives the key comes first
-pub key_here : (line : List ℕ) (lines : List (List ℕ)) → is_key_line line ≡ true → unwrap_or (slice_get (values_of (codes "K:") (line ∷ lines)) 0) [] ≡ field_value line
+pub key_here : (line : List ℕ) (lines : List (List ℕ)) → is_key_line line ≡ true
+    → unwrap_or (slice_get (values_of (codes "K:") (line ∷ lines)) 0) [] ≡ field_value line
 key_here line lines is = rw is refl
 
 -- where a line gives the key, the header ends with the first such line

@@ -5,7 +5,8 @@ use Rattle.std.proofs.lemmas.List.{append_assoc, append-nil, length-append}
 use Rattle.std.proofs.lemmas.Bool.{eqb-true, cases_Bool, cond_both, and_parts, not-true, or_from, or_parts}
 use Rattle.std.specs.Prelude.{slice_range}
 use Rattle.abc_fields.specs.Bytes.{line_feed, carriage_return}
-use Rattle.abc_fields.specs.Lines.{Piece, pieces_of, onto_content, onto_ending, ended_by, begins_with_feed, ends_line, text_of, has_no_ending, IsEnding, IsUnended, ArePieces, Divides, spans_from, spans_of, IsSpan, SpansRise}
+use Rattle.abc_fields.specs.Lines.{Piece, pieces_of, onto_content, onto_ending, ended_by, begins_with_feed, ends_line, text_of, has_no_ending, IsEnding}
+use Rattle.abc_fields.specs.Lines.{IsUnended, ArePieces, Divides, spans_from, spans_of, IsSpan, SpansRise}
 
 -- THE PIECES DIVIDE THE TEXT
 -- a byte at the front of the first content is a byte at the front of the text
@@ -34,21 +35,24 @@ divides_content byte text ps plain divided = record {
 }
 
 -- an ending, before a text that is divided
-divides_ending : (ending text : List ℕ) (ps : List Piece) → IsEnding ending text → Divides ps text → Divides (record { content = []; ending = ending } ∷ ps) (ending ++ text)
+divides_ending : (ending text : List ℕ) (ps : List Piece) → IsEnding ending text → Divides ps text
+    → Divides (record { content = []; ending = ending } ∷ ps) (ending ++ text)
 divides_ending ending text ps ends divided = record {
   whole = ap (λ t. ending ++ t) divided.whole;
   pieces = (record { content = refl; ending = inl (rw divided.whole ends) }, divided.pieces);
 }
 
 -- a carriage return and a line feed, before a text that is divided
-divides_return_feed : (text : List ℕ) → Divides (ended_by line_feed ∷ pieces_of text) (line_feed ∷ text) → Divides (onto_ending carriage_return (pieces_of (line_feed ∷ text))) (carriage_return ∷ line_feed ∷ text)
+divides_return_feed : (text : List ℕ) → Divides (ended_by line_feed ∷ pieces_of text) (line_feed ∷ text)
+    → Divides (onto_ending carriage_return (pieces_of (line_feed ∷ text))) (carriage_return ∷ line_feed ∷ text)
 divides_return_feed text divided = record {
   whole = ap (λ t. carriage_return ∷ t) divided.whole;
   pieces = (record { content = refl; ending = inl (inr (inl refl)) }, divided.pieces.1);
 }
 
 -- a carriage return, before a divided text that begins with a line feed
-divides_return_to_feed : (text : List ℕ) → begins_with_feed text ≡ true → Divides (pieces_of text) text → Divides (onto_ending carriage_return (pieces_of text)) (carriage_return ∷ text)
+divides_return_to_feed : (text : List ℕ) → begins_with_feed text ≡ true → Divides (pieces_of text) text
+    → Divides (onto_ending carriage_return (pieces_of text)) (carriage_return ∷ text)
 divides_return_to_feed [] feed divided = cc
 divides_return_to_feed (byte ∷ text) feed divided =
     let is_feed : byte ≡ line_feed = eqb-true byte line_feed feed in
@@ -79,7 +83,8 @@ kind_of_byte byte = elim (cases_Bool (eqb byte line_feed)) [
 ]
 
 -- any byte, before a text that is divided
-divides_byte : (byte : ℕ) (text : List ℕ) → (ends_line byte ≡ false) ⊎ ((byte ≡ line_feed) ⊎ (byte ≡ carriage_return)) → Divides (pieces_of text) text → Divides (pieces_of (byte ∷ text)) (byte ∷ text)
+divides_byte : (byte : ℕ) (text : List ℕ) → (ends_line byte ≡ false) ⊎ ((byte ≡ line_feed) ⊎ (byte ≡ carriage_return)) → Divides (pieces_of text) text
+    → Divides (pieces_of (byte ∷ text)) (byte ∷ text)
 divides_byte byte text (inl plain) divided = rw (pieces_of_plain byte text plain) (divides_content byte text (pieces_of text) plain divided)
 divides_byte byte text (inr (inl feed)) divided = rw feed (divides_feed text divided)
 divides_byte byte text (inr (inr return)) divided = rw return (divides_return text divided)
@@ -140,20 +145,20 @@ pub pieces_unique : (text : List ℕ) (ps : List Piece) → Divides ps text → 
 pieces_unique text ps divided = pieces_again ps divided.pieces ∙ ap pieces_of divided.whole
 
 -- THE SPANS OF LINES RISE
--- a part of a text is what stands between its places
+-- a part of a text is what stands from where it begins to where it ends
 part_between : (front part rest : List ℕ) → slice_range (front ++ (part ++ rest)) (length front) (length front + length part) ≡ part
 part_between front part rest =
     let width : length front + length part - length front ≡ length part = omega arith in
     rw (width, drop-append_seam front (part ++ rest)) (take-append_seam part rest)
 
--- a content of a text, with its places
+-- a content of a text, and where it begins and ends
 first_span : (text front content rest : List ℕ) (at low : ℕ) → front ++ (content ++ rest) ≡ text → length front ≡ at → low ≤ at
     → IsSpan text low (record { from = at; to = at + length content; bytes = content })
-first_span text front content rest at low whole place above = record {
+first_span text front content rest at low whole start above = record {
   above = above;
   ordered = omega arith;
   within = omega (arith, simp length-append at (ap length whole));
-  part = rw (← whole, ← place) (part_between front content rest);
+  part = rw (← whole, ← start) (part_between front content rest);
 }
 
 -- an ending has a byte
@@ -171,14 +176,14 @@ later_rise text at low p ps (inr unended) rise = rw unended.last tt
 -- the spans of pieces rise, where these bytes stand before the pieces
 spans_rise_after : (text front : List ℕ) (at low : ℕ) (ps : List Piece) → ArePieces ps → front ++ text_of ps ≡ text → length front ≡ at → low ≤ at
     → SpansRise text low (spans_from at ps)
-spans_rise_after text front at low [] are whole place above = tt
-spans_rise_after text front at low (p ∷ ps) are whole place above = (
-  first_span text front p.content (p.ending ++ text_of ps) at low whole place above,
+spans_rise_after text front at low [] are whole start above = tt
+spans_rise_after text front at low (p ∷ ps) are whole start above = (
+  first_span text front p.content (p.ending ++ text_of ps) at low whole start above,
   later_rise text (at + length p.content + length p.ending) (at + length p.content + 1) p ps are.0.ending (λ some.
       spans_rise_after text (front ++ (p.content ++ p.ending)) (at + length p.content + length p.ending) (at + length p.content + 1) ps are.1
       (simp append_assoc whole) (simp length-append (omega arith)) (omega arith)),
 )
 
--- each line is the part of the text between its places, and begins after the line before it ends
+-- each line is the part of the text from where it begins to where it ends, and begins after the line before it ends
 pub spans_rise : (text : List ℕ) → SpansRise text 0 (spans_of text)
 spans_rise text = let divided = pieces_divide text in spans_rise_after text [] 0 0 (pieces_of text) divided.pieces divided.whole refl (omega arith)

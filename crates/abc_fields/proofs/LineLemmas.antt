@@ -1,17 +1,18 @@
 -- What a search for the end of a line finds.
-use Rattle.std.proofs.Common.{◌≡◌, ℕ, zero, suc, ◌+◌, ◌<◌, true, false, eqb, List, [], ◌∷◌, ◌++◌, length, take, drop, get_or, refl, ap, sym, ◌∙◌, arith, add-zero, ◌⊎◌, inl, inr, subst}
+use Rattle.std.proofs.Common.{◌≡◌, ℕ, zero, suc, ◌+◌, ◌<◌, true, false, eqb, List, [], ◌∷◌, ◌++◌, length, take, drop, get_or, refl, ap, sym, ◌∙◌, arith}
+use Rattle.std.proofs.Common.{add-zero, ◌⊎◌, inl, inr, subst}
 use Rattle.std.proofs.lemmas.List.{drop-drop, length-drop, get_or-drop, take_all, take-append-drop}
 use Rattle.std.proofs.lemmas.Bool.{eqb-true, ne_eqb, eq-eqb, both_ways, or_cases, cases_Bool, false_from_ne_true}
 use Rattle.abc_fields.specs.Bytes.{line_feed, carriage_return}
 use Rattle.abc_fields.specs.Lines.{pieces_of, ends_line, has_no_ending, IsEnding}
-use Rattle.abc_fields.specs.LineEndings.{ending_length}
+use Rattle.abc_fields.specs.Inside.LineEndings.{ending_length}
 use Rattle.abc_fields.proofs.LineLaw.{pieces_of_line, pieces_of_last}
 
--- no byte below this place ends a line
+-- no byte below this index ends a line
 abbrev pub NoEndBelow : List ℕ → ℕ → Type 0
 NoEndBelow text n = (j : ℕ) → j < n → ends_line (get_or text j 0) ≡ true → ⊥
 
--- the bytes below that place are a plain line
+-- the bytes below that index are a plain line
 plain_front : (text : List ℕ) (n : ℕ) → NoEndBelow text n → has_no_ending (take n text) ≡ true
 plain_front text zero none = refl
 plain_front [] (suc n) none = refl
@@ -52,7 +53,8 @@ one_piece text none some = pieces_of_last text (rw (take_all (length text) text 
 
 -- the first line goes up to the first byte that ends a line
 pub first_piece : (text : List ℕ) (n : ℕ) → NoEndBelow text n → n < length text → ends_line (get_or text n 0) ≡ true
-    → pieces_of text ≡ record { content = take n text; ending = take (ending_length (drop n text)) (drop n text) } ∷ pieces_of (drop (n + ending_length (drop n text)) text)
+    → pieces_of text
+    ≡ record { content = take n text; ending = take (ending_length (drop n text)) (drop n text) } ∷ pieces_of (drop (n + ending_length (drop n text)) text)
 first_piece text n none within ends =
     let skip = ending_length (drop n text) in
     let ending = ending_at_front (drop n text) (omega (arith, length-drop n text)) (rw get_or-drop (simp add-zero ends)) in

@@ -44,12 +44,16 @@ module _ (test : ℕ → Bool) where
       rw same (not_passing byte text not_all (nothing_kept text law (sym none)))
   last_of_more byte text not_all law b (x ∷ earlier) e = law.last b earlier (cc)
 
+  last_of_nothing : (byte : ℕ) (earlier : List ℕ) → earlier ++ byte ∷ [] ≡ [] → test byte ≡ false
+  last_of_nothing byte [] e = cc
+  last_of_nothing byte (x ∷ earlier) e = cc
+
   back_law : (text : List ℕ) → BackTrimmed text (trimmed_back test text)
-  back_law [] = record { back = []; whole = refl; passes = refl; last = λ byte earlier e. elim earlier as (λ t. t ++ byte ∷ [] ≡ [] → test byte ≡ false) [ [] ↦ λ h. cc | x ∷ xs ↦ λ h. cc ] e }
+  back_law [] = record { back = []; whole = refl; passes = refl; last = last_of_nothing }
   back_law (byte ∷ text) =
       let later = back_law text in
       cond_both (list_all test (byte ∷ text)) _ _ (λ kept. BackTrimmed (byte ∷ text) kept)
-      (λ all. record { back = byte ∷ text; whole = refl; passes = all; last = λ b earlier e. elim earlier as (λ t. t ++ b ∷ [] ≡ [] → test b ≡ false) [ [] ↦ λ h. cc | x ∷ xs ↦ λ h. cc ] e })
+      (λ all. record { back = byte ∷ text; whole = refl; passes = all; last = last_of_nothing })
       (λ not_all. record { back = later.back; whole = ap (λ t. byte ∷ t) later.whole; passes = later.passes; last = last_of_more byte text not_all later })
 
   -- the front of what is left of a front-trimmed text by a trim of its back
@@ -57,7 +61,8 @@ module _ (test : ℕ → Bool) where
       → (byte : ℕ) (later : List ℕ) → byte ∷ later ≡ trimmed_back test text → test byte ≡ false
   first_stays [] first byte later e = cc
   first_stays (x ∷ text) first byte later e =
-      cond_both (list_all test (x ∷ text)) [] (x ∷ trimmed_back test text) (λ kept. byte ∷ later ≡ kept → test byte ≡ false) (λ all h. cc) (λ not_all h. let same : byte ≡ x = cc in rw same (first x text refl)) e
+      cond_both (list_all test (x ∷ text)) [] (x ∷ trimmed_back test text) (λ kept. byte ∷ later ≡ kept → test byte ≡ false) (λ all h. cc)
+      (λ not_all h. let same : byte ≡ x = cc in rw same (first x text refl)) e
 
   -- BYTES PUT ROUND A TEXT
   front-passing : (front text : List ℕ) → list_all test front ≡ true → trimmed_front test (front ++ text) ≡ trimmed_front test text
@@ -86,7 +91,8 @@ module _ (test : ℕ → Bool) where
       (λ no. absurd (true≢false (sym all ∙ rw no refl)))
       (cases_Bool (test byte))
 
-  both-passing : (text back : List ℕ) → list_all test back ≡ true → trimmed_back test (trimmed_front test (text ++ back)) ≡ trimmed_back test (trimmed_front test text)
+  both-passing : (text back : List ℕ) → list_all test back ≡ true
+      → trimmed_back test (trimmed_front test (text ++ back)) ≡ trimmed_back test (trimmed_front test text)
   both-passing [] back all = ap (trimmed_back test) (front-all back all)
   both-passing (byte ∷ text) back all = ⊎_elim
       (λ is. ap (trimmed_back test) (cond-true _ _ _ is) ∙ both-passing text back all ∙ sym (ap (trimmed_back test) (cond-true _ _ _ is)))

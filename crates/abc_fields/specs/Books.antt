@@ -1,12 +1,14 @@
 -- What a book is read as: the texts of its tunes, or why it is refused.
-use Rattle.std.specs.Prelude.{ℕ, ◌+◌, List, [], ◌∷◌, ◌++◌, length, Bool, true, not, ◌&&◌, ◌==◌, nat_lt, if◌then◌else◌, Result, Ok, Err}
+use Rattle.std.specs.Prelude.{ℕ, ◌+◌, List, [], ◌∷◌, ◌++◌, length, Bool, true, not, ◌&&◌, ◌==◌}
+use Rattle.std.specs.Prelude.{nat_lt, if◌then◌else◌, Result, Ok, Err}
 use Rattle.std.specs.List.{list_any}
 use Rattle.abc_fields.specs.Bytes.{carriage_return, byte_order_mark, begins_with}
 use Rattle.abc_fields.specs.Lines.{lines_of}
 use Rattle.abc_fields.specs.Tunes.{tune_runs, has_key, joined, is_empty_line, is_tune_start}
-use Rattle.abc_fields.specs.declared.book.TheConstants.{LONGEST_BOOK}
+use Rattle.abc_fields.specs.Limits.{longest_book}
 use Rattle.abc_fields.specs.declared.book.BookFault.{BookFault}
-use Rattle.abc_fields.specs.declared.book.BookFault.TheVariants.{BookTooLong, NotPlain, NoTune, BadTune}
+use Rattle.abc_fields.specs.declared.book.BookFault.TheVariants.{BookTooLong, NotPlain, NoTune}
+use Rattle.abc_fields.specs.declared.book.BookFault.TheVariants.{BadTune}
 use Rattle.abc_fields.specs.declared.book.TuneFault.TheVariants.{NoKey, TooLong}
 
 -- the texts of tunes, or a refusal
@@ -21,11 +23,15 @@ has_return book = list_any (λ byte. byte == carriage_return) book
 -- whether the first line that is not empty, if there is one, starts a tune
 abbrev pub begins_with_tune : List (List ℕ) → Bool
 begins_with_tune [] = true
-begins_with_tune (line ∷ lines) = if is_empty_line line then begins_with_tune lines else is_tune_start line
+begins_with_tune (line ∷ lines) =
+    if is_empty_line line then begins_with_tune lines else is_tune_start line
 
--- a book that this archive reads: the lines end at line feeds, and nothing stands before the first tune
+-- a book that this archive reads: the lines end at line feeds, and nothing stands before the first
+-- tune
 abbrev pub is_plain : List ℕ → Bool
-is_plain book = not (has_return book) && not (begins_with book byte_order_mark) && begins_with_tune (lines_of book)
+is_plain book =
+    not (has_return book) && not (begins_with book byte_order_mark)
+    && begins_with_tune (lines_of book)
 
 -- TUNES IN THE ORDER OF THE BOOK
 -- these texts stand before those of an answer
@@ -33,7 +39,8 @@ abbrev pub before_texts : List (List ℕ) → Texts → Texts
 before_texts texts (Ok later) = Ok (texts ++ later)
 before_texts texts (Err fault) = Err fault
 
--- a tune of this place, counted from 1, and then the answer to the later ones: the key is looked for before the length
+-- a tune of this place, counted from 1, and then the answer to the later ones: the key is looked
+-- for before the length
 abbrev pub tune_answer : ℕ → ℕ → Bool → List ℕ → Texts → Texts
 tune_answer longest place keyed text later =
     if not keyed then Err (BadTune place NoKey)
@@ -54,6 +61,6 @@ book_of_runs longest (run ∷ runs) = runs_answer longest 1 (run ∷ runs)
 -- the answer to a book, where a text may have this many bytes
 abbrev pub book_answer : ℕ → List ℕ → Texts
 book_answer longest book =
-    if nat_lt LONGEST_BOOK (length book) then Err BookTooLong
+    if nat_lt longest_book (length book) then Err BookTooLong
     else if not (is_plain book) then Err NotPlain
     else book_of_runs longest (tune_runs (lines_of book))

@@ -1,6 +1,6 @@
--- The bytes that the rules on text name, and what it is to begin with some.
-use Rattle.std.specs.Prelude.{ℕ, List, [], ◌∷◌, Bool, ◌==◌, ◌||◌, nat_eq}
-use Rattle.std.specs.List.{starts_with, list_all}
+-- The bytes that the rules on text name, and tests of any bytes.
+use Rattle.std.specs.Prelude.{ℕ, List, [], ◌∷◌, Bool, false, ◌==◌, ◌||◌, nat_eq}
+use Rattle.std.specs.List.{starts_with, list_all, list_any}
 
 abbrev pub tab : ℕ
 tab = 9
@@ -31,6 +31,10 @@ byte_order_mark = 0xEF ∷ 0xBB ∷ 0xBF ∷ []
 abbrev pub is_blank : ℕ → Bool
 is_blank byte = byte == space || byte == tab
 
+-- whether a byte is one of these
+abbrev pub is_one_of : List ℕ → ℕ → Bool
+is_one_of bytes byte = list_any (λ b. byte == b) bytes
+
 -- spaces and tabs alone, or nothing
 abbrev pub is_all_blank : List ℕ → Bool
 is_all_blank text = list_all is_blank text
@@ -38,3 +42,8 @@ is_all_blank text = list_all is_blank text
 -- whether a text begins with these bytes
 abbrev pub begins_with : List ℕ → List ℕ → Bool
 begins_with text front = starts_with nat_eq text front
+
+-- whether the first byte of a text passes a test, if there is one
+abbrev pub begins : (ℕ → Bool) → List ℕ → Bool
+begins test [] = false
+begins test (byte ∷ text) = test byte

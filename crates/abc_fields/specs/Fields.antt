@@ -1,11 +1,12 @@
 -- What the header of a tune says (ABC 2.1, 3.1; own profile where the standard is silent).
-use Rattle.std.specs.Prelude.{◌≡◌, ℕ, List, [], ◌∷◌, ◌++◌, take, map, codes, slice_get, unwrap_or, Option, Bool, true, false, if◌then◌else◌}
+use Rattle.std.specs.Prelude.{◌≡◌, ℕ, List, [], ◌∷◌, ◌++◌, take, map, codes, slice_get, unwrap_or}
+use Rattle.std.specs.Prelude.{Option, Bool, true, false, if◌then◌else◌}
 use Rattle.std.specs.List.{filter}
 use Rattle.abc_fields.specs.Bytes.{begins_with}
 use Rattle.abc_fields.specs.Lines.{lines_of}
 use Rattle.abc_fields.specs.Tunes.{is_key_line, has_key}
 use Rattle.abc_fields.specs.Values.{field_value}
-use Rattle.abc_fields.specs.declared.header_fields.TheConstants.{MOST_TITLES}
+use Rattle.abc_fields.specs.Limits.{most_titles}
 
 -- the lines up to the first that gives the key, that one included (ABC 2.1, 3.1.14)
 abbrev pub header_of : List (List ℕ) → List (List ℕ)
@@ -22,16 +23,20 @@ has_bytes [] = false
 has_bytes (byte ∷ value) = true
 
 -- those of the values that are not empty
-abbrev pub filled : List (List ℕ) → List (List ℕ)
-filled values = filter has_bytes values
+abbrev pub non_empty : List (List ℕ) → List (List ℕ)
+non_empty values = filter has_bytes values
 
--- the values that are not empty, of the header's lines that begin with this name and its colon
+-- the values that are not empty, of the lines that begin with this name and its colon
+abbrev pub non_empty_values : List ℕ → List (List ℕ) → List (List ℕ)
+non_empty_values name lines = non_empty (values_of name lines)
+
+-- the same of the header of a text
 abbrev pub header_values : List ℕ → List ℕ → List (List ℕ)
-header_values name text = filled (values_of name (header_of (lines_of text)))
+header_values name text = non_empty_values name (header_of (lines_of text))
 
 -- the titles, of which the first eight count (ABC 2.1, 3.1.2; own profile)
 abbrev pub titles_of : List ℕ → List (List ℕ)
-titles_of text = take MOST_TITLES (header_values (codes "T:") text)
+titles_of text = take most_titles (header_values (codes "T:") text)
 
 -- the rhythm, if there is one (ABC 2.1, 3.1; own profile)
 abbrev pub rhythm_of : List ℕ → Option (List ℕ)

@@ -1,11 +1,11 @@
 pub mod Bytes
+pub mod Limits
 pub mod Lines
 pub mod LineView
-pub mod Tunes
-pub mod Books
-pub mod OpenBooks
-pub mod LineEndings
 pub mod LineKinds
 pub mod Words
 pub mod Values
+pub mod Tunes
+pub mod Books
 pub mod Fields
+pub mod Inside

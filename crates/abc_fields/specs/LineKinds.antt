@@ -1,4 +1,5 @@
--- What kinds of lines there are (ABC 2.1, 2.2, 3.1 and 3.3; own profile for `%%begin` and `%%end` with every word).
+-- What kinds of lines there are (ABC 2.1, 2.2, 3.1 and 3.3; own profile for `%%begin` and `%%end`
+-- with every word).
 use Rattle.std.specs.Prelude.{ℕ, List, ◌∷◌, codes, Bool, false, not, ◌==◌, ◌&&◌, if◌then◌else◌}
 use Rattle.std.specs.Char.{is_ascii_alphabetic}
 use Rattle.abc_fields.specs.Bytes.{colon, begins_with}

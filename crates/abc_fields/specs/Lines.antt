@@ -1,5 +1,8 @@
--- What the lines of a text are (ABC 2.1, 2.2): a text is a row of pieces, each a content and the ending after it, and the contents are the lines.
-use Rattle.std.specs.Prelude.{◌≡◌, ℕ, ◌+◌, ◌<◌, ◌≤◌, List, [], ◌∷◌, ◌++◌, length, map, codes, slice_range, slice_get, Some, Bool, true, false, not, ◌==◌, ◌||◌, ◌⊎◌, if◌then◌else◌, ⊤}
+-- What the lines of a text are (ABC 2.1, 2.2): a text is a row of pieces, each a content and the
+-- ending after it, and the contents are the lines.
+use Rattle.std.specs.Prelude.{◌≡◌, ℕ, ◌+◌, ◌<◌, ◌≤◌, List, [], ◌∷◌, ◌++◌, length, map, codes}
+use Rattle.std.specs.Prelude.{slice_range, slice_get, Some, Bool, true, false, not, ◌==◌, ◌||◌, ◌⊎◌}
+use Rattle.std.specs.Prelude.{if◌then◌else◌, ⊤}
 use Rattle.std.specs.List.{list_all}
 use Rattle.abc_fields.specs.Bytes.{line_feed, carriage_return}
 
@@ -32,12 +35,20 @@ onto_ending byte (p ∷ ps) = record { content = p.content; ending = byte ∷ p.
 abbrev pub ended_by : ℕ → Piece
 ended_by byte = record { content = []; ending = byte ∷ [] }
 
--- a line feed ends a line, and so does a carriage return, alone or with the line feed that follows it
+-- a carriage return, before a text with these pieces: it is of one ending with the line feed after
+-- it, or ends a line alone
+abbrev pub ended_by_return : List ℕ → List Piece → List Piece
+ended_by_return text later =
+    if begins_with_feed text then onto_ending carriage_return later
+    else ended_by carriage_return ∷ later
+
+-- a line feed ends a line, and so does a carriage return, alone or with the line feed that follows
+-- it
 abbrev pub pieces_of : List ℕ → List Piece
 pieces_of [] = []
 pieces_of (byte ∷ text) =
     if byte == line_feed then ended_by line_feed ∷ pieces_of text
-    else if byte == carriage_return then (if begins_with_feed text then onto_ending carriage_return (pieces_of text) else ended_by carriage_return ∷ pieces_of text)
+    else if byte == carriage_return then ended_by_return text (pieces_of text)
     else onto_content byte (pieces_of text)
 
 -- the lines of a text
@@ -54,10 +65,13 @@ text_of (p ∷ ps) = p.content ++ (p.ending ++ text_of ps)
 abbrev pub has_no_ending : List ℕ → Bool
 has_no_ending line = list_all (λ byte. not (ends_line byte)) line
 
--- an ending before the rest of its text: a line feed, a carriage return and a line feed, or a carriage return that no line feed follows
+-- an ending before the rest of its text: a line feed, a carriage return and a line feed, or a
+-- carriage return that no line feed follows
 abbrev pub IsEnding : List ℕ → List ℕ → Type 0
 IsEnding ending rest =
-    (ending ≡ codes "\n") ⊎ ((ending ≡ codes "\r\n") ⊎ ((ending ≡ codes "\r") × (begins_with_feed rest ≡ false)))
+    (ending ≡ codes "\n")
+    ⊎ ((ending ≡ codes "\r\n")
+    ⊎ ((ending ≡ codes "\r") × (begins_with_feed rest ≡ false)))
 
 -- the last piece may lack an ending, and then has a byte
 pub record IsUnended (p : Piece) (later : List Piece) : Type 0 where
@@ -79,7 +93,7 @@ pub record Divides (ps : List Piece) (text : List ℕ) : Type 0 where
   pub whole : text_of ps ≡ text
   pub pieces : ArePieces ps
 
--- THE PLACES OF LINES
+-- WHERE LINES BEGIN AND END
 -- a line, and where it begins and ends in its text, as indices of bytes from 0
 pub record Span : Type 0 where
   pub from : ℕ
@@ -90,13 +104,15 @@ pub record Span : Type 0 where
 abbrev pub spans_from : ℕ → List Piece → List Span
 spans_from at [] = []
 spans_from at (p ∷ ps) =
-    record { from = at; to = at + length p.content; bytes = p.content } ∷ spans_from (at + length p.content + length p.ending) ps
+    record { from = at; to = at + length p.content; bytes = p.content }
+    ∷ spans_from (at + length p.content + length p.ending) ps
 
--- the lines of a text, with their places
+-- the lines of a text, and where they begin and end in it
 abbrev pub spans_of : List ℕ → List Span
 spans_of text = spans_from 0 (pieces_of text)
 
--- a line is the part of the text between its places, and begins nowhere below this
+-- a line is the part of the text from where it begins to where it ends, and begins nowhere below
+-- this
 pub record IsSpan (text : List ℕ) (low : ℕ) (s : Span) : Type 0 where
   pub above : low ≤ s.from
   pub ordered : s.from ≤ s.to
@@ -111,4 +127,6 @@ SpansRise text low (s ∷ ss) = IsSpan text low s × SpansRise text (s.to + 1) s
 -- where these are the pieces of the text, each line begins after the bytes of the pieces before it
 abbrev pub SpansFollow : List ℕ → List Piece → Type 0
 SpansFollow text ps = (before after : List Piece) (p : Piece) → before ++ (p ∷ after) ≡ ps
-    → slice_get (spans_of text) (length before) ≡ Some (record { from = length (text_of before); to = length (text_of before) + length p.content; bytes = p.content })
+    → let from = length (text_of before) in
+    slice_get (spans_of text) (length before)
+    ≡ Some (record { from = from; to = from + length p.content; bytes = p.content })

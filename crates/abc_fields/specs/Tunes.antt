@@ -1,5 +1,7 @@
--- Which lines of a book are a tune, and what the text of a tune is (ABC 2.1, 2.2.1; own profile where the standard is silent).
-use Rattle.std.specs.Prelude.{◌≡◌, ℕ, ◌≤◌, List, length, [], ◌∷◌, ◌++◌, codes, Bool, true, false, ◌||◌, if◌then◌else◌}
+-- Which lines of a book are a tune, and what the text of a tune is (ABC 2.1, 2.2.1; own profile
+-- where the standard is silent).
+use Rattle.std.specs.Prelude.{◌≡◌, ℕ, ◌≤◌, List, length, [], ◌∷◌, ◌++◌, codes, Bool, true, false}
+use Rattle.std.specs.Prelude.{◌||◌, if◌then◌else◌}
 use Rattle.std.specs.List.{AllByRecursion}
 use Rattle.abc_fields.specs.Bytes.{line_feed, is_all_blank, begins_with}
 use Rattle.abc_fields.specs.Lines.{has_no_ending}
@@ -28,7 +30,8 @@ tune_run (line ∷ lines) = if ends_tune line then [] else line ∷ tune_run lin
 -- for each line that starts a tune, the lines of that tune after it
 abbrev pub tune_runs : List (List ℕ) → List (List (List ℕ))
 tune_runs [] = []
-tune_runs (line ∷ lines) = if is_tune_start line then tune_run lines ∷ tune_runs lines else tune_runs lines
+tune_runs (line ∷ lines) =
+    if is_tune_start line then tune_run lines ∷ tune_runs lines else tune_runs lines
 
 -- lines, each ended by a line feed
 abbrev pub joined : List (List ℕ) → List ℕ
@@ -53,7 +56,8 @@ pub record IsOpenText (text : List ℕ) (keyed : Bool) : Type 0 where
   pub each : AllByRecursion IsTuneLine lines
   pub key : has_key lines ≡ keyed
 
--- one or more lines, each ended by a line feed, with no carriage return, no empty line and no `X:` line among them, and a `K:` line
+-- one or more lines, each ended by a line feed, with no carriage return, no empty line and no `X:`
+-- line among them, and a `K:` line
 abbrev pub IsTuneText : List ℕ → Type 0
 IsTuneText text = IsOpenText text true
 

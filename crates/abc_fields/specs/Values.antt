@@ -1,19 +1,23 @@
 -- What the value of a field is (ABC 2.1, 2.2 and 3.1; own profile where the standard is silent).
-use Rattle.std.specs.Prelude.{◌≡◌, ℕ, List, [], ◌∷◌, ◌++◌, Bool, true, false, not, ◌==◌, ◌&&◌, ◌⊎◌, drop, if◌then◌else◌}
+use Rattle.std.specs.Prelude.{◌≡◌, ℕ, List, [], ◌∷◌, ◌++◌, Bool, true, false, not, ◌==◌, ◌&&◌, ◌⊎◌}
+use Rattle.std.specs.Prelude.{drop, if◌then◌else◌}
 use Rattle.abc_fields.specs.Bytes.{percent, backslash, is_blank, is_all_blank}
 use Rattle.abc_fields.specs.Words.{trimmed}
 
--- the bytes before the first percent sign that no backslash stands directly before; `escaped` says whether one stands before the first byte
+-- the bytes before the first percent sign that no backslash stands directly before; `escaped` says
+-- whether one stands before the first byte
 abbrev pub uncommented_after : Bool → List ℕ → List ℕ
 uncommented_after escaped [] = []
 uncommented_after escaped (byte ∷ text) =
     if byte == percent && not escaped then [] else byte ∷ uncommented_after (byte == backslash) text
 
--- a text without its comment, which the first percent sign begins that no backslash stands directly before
+-- a text without its comment, which the first percent sign begins that no backslash stands directly
+-- before
 abbrev pub uncommented : List ℕ → List ℕ
 uncommented text = uncommented_after false text
 
--- the value of a field line: what follows the colon, without a comment, and without spaces and tabs at its ends
+-- the value of a field line: what follows the colon, without a comment, and without spaces and tabs
+-- at its ends
 abbrev pub field_value : List ℕ → List ℕ
 field_value line = trimmed (uncommented (drop 2 line))
 
@@ -31,9 +35,11 @@ pub record IsUncommented (line kept : List ℕ) : Type 0 where
   pub rest : List ℕ
   pub whole : kept ++ rest ≡ line
   pub comment : (rest ≡ []) ⊎ (BeginsWithPercent rest × ¬ EndsWith backslash kept)
-  pub no_earlier : (before after : List ℕ) → before ++ (percent ∷ after) ≡ kept → EndsWith backslash before
+  pub no_earlier : (before after : List ℕ) → before ++ (percent ∷ after) ≡ kept
+      → EndsWith backslash before
 
--- the kept bytes are the text but for blanks at its ends, and are not blank at either end themselves
+-- the kept bytes are the text but for blanks at its ends, and are not blank at either end
+-- themselves
 pub record IsTrimmed (text kept : List ℕ) : Type 0 where
   pub front : List ℕ
   pub back : List ℕ

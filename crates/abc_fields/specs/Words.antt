@@ -1,4 +1,5 @@
--- The parts of a text round the bytes that a test passes, and the text without such bytes at its ends.
+-- The parts of a text round the bytes that a test passes, and the text without such bytes at its
+-- ends.
 use Rattle.std.specs.Prelude.{ℕ, List, [], ◌∷◌, Bool, true, if◌then◌else◌}
 use Rattle.std.specs.List.{onto_first, list_all}
 use Rattle.abc_fields.specs.Bytes.{is_blank}
@@ -28,7 +29,8 @@ trimmed_front test (byte ∷ text) = if test byte then trimmed_front test text e
 -- the text up to the last byte that the test does not pass
 abbrev pub trimmed_back : (ℕ → Bool) → List ℕ → List ℕ
 trimmed_back test [] = []
-trimmed_back test (byte ∷ text) = if list_all test (byte ∷ text) then [] else byte ∷ trimmed_back test text
+trimmed_back test (byte ∷ text) =
+    if list_all test (byte ∷ text) then [] else byte ∷ trimmed_back test text
 
 -- the text without spaces and tabs at its ends
 abbrev pub trimmed : List ℕ → List ℕ

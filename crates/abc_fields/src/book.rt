@@ -1,15 +1,20 @@
 // The tunes of a book.
-ghost use Rattle.std.specs.Prelude.{◌≡◌, ℕ, ◌<◌, ◌≤◌, ◌⊎◌, ◌||◌, [], ◌∷◌, ◌++◌, List, Bool, true, false, length, None, Ok, Err, ⊤, IfOk, IfErr, MatchResult};
+ghost use Rattle.std.specs.Prelude.{◌≡◌, ℕ, ◌<◌, ◌≤◌, ◌⊎◌, ◌||◌, [], ◌∷◌, ◌++◌, List, Bool, true};
+ghost use Rattle.std.specs.Prelude.{false, length, None, Ok, Err, ⊤, IfOk, IfErr, MatchResult};
 ghost use Rattle.std.specs.List.{AllByRecursion};
 ghost use Rattle.abc_fields.specs.Bytes.{line_feed};
+ghost use Rattle.abc_fields.specs.Limits.{longest_book};
 ghost use Rattle.abc_fields.specs.Lines.{has_no_ending, lines_of};
-ghost use Rattle.abc_fields.specs.Tunes.{is_empty_line, is_tune_start, is_key_line, tune_run, tune_runs, IsTuneLine, IsOpenText, IsTextWithin};
-ghost use Rattle.abc_fields.specs.Books.{has_return, begins_with_tune, is_plain, runs_answer, book_answer};
-ghost use Rattle.abc_fields.specs.OpenBooks.{open_answer, KeepsAnswer};
+ghost use Rattle.abc_fields.specs.Tunes.{is_empty_line, is_tune_start, is_key_line, tune_run};
+ghost use Rattle.abc_fields.specs.Tunes.{tune_runs, IsTuneLine, IsOpenText, IsTextWithin};
+ghost use Rattle.abc_fields.specs.Books.{has_return, begins_with_tune, is_plain, runs_answer};
+ghost use Rattle.abc_fields.specs.Books.{book_answer};
+ghost use Rattle.abc_fields.specs.Inside.OpenBooks.{open_answer, KeepsAnswer};
 
 use crate::line_kinds::is_key_line;
-use crate::text::TuneText;
-use crate::text_lines::Lines;
+use crate::lines::Lines;
+use crate::texts::TuneText;
+use crate::values::is_blank;
 use memchr::memchr;
 use std::alloc::{AllocError, AllocFailed, Global};
 use std::marker::Model;
@@ -35,16 +40,17 @@ pub enum BookFault {
     /// It has more than `LONGEST_BOOK` bytes.
     #[error("the book is too long")]
     BookTooLong,
-    /// It has a carriage return, begins with a byte order mark, or its first line that is not empty does not begin with `X:`.
+    /// It has a carriage return, begins with a byte order mark, or its first line that is not empty
+    /// does not begin with `X:`.
     #[error("the book is not plain")]
     NotPlain,
     /// No line begins with `X:`.
     #[error("the book has no tune")]
     NoTune,
-    /// The first tune that is refused, by its place, counted from 1.
+    /// The first tune that is refused, by its place in the book, counted from 1.
     #[error("tune {place}: {fault}")]
     BadTune { place: usize, fault: TuneFault },
-    /// Memory was refused.
+    /// There is no memory.
     #[error("out of memory")]
     OutOfMemory,
 }
@@ -71,17 +77,21 @@ impl<T: Drop> From<AllocFailed<T>> for BookFault {
     }
 }
 
-/// The texts of a book's tunes, in order (ABC 2.1, 2.2.1; this archive's profile). A tune is an `X:` line and the lines of its block after it, up
-/// to the next `X:` line; its text is these lines, each ended by a line feed. `longest` is how many bytes a text may have.
+/// The texts of a book's tunes, in order (ABC 2.1, 2.2.1; this archive's profile). A tune is an
+/// `X:` line and the lines of its block after it, up to the next `X:` line; its text is these
+/// lines, each ended by a line feed. `longest` is how many bytes a text may have.
 ///
-/// The first of these that holds is the error: `BookTooLong`, `NotPlain`, `NoTune`, `BadTune` for the first tune that has no `K:` line or
-/// a text that is too long. `OutOfMemory` comes in place of any but the first two.
+/// The first of these that holds is the error: `BookTooLong`, `NotPlain`, `NoTune`, `BadTune` for
+/// the first tune that has no `K:` line or a text that is too long. `OutOfMemory` comes in place of
+/// any but the first two.
 pub fn split_book(alloc: Global, book: &[u8], longest: usize) -> Result<Vec<TuneText>, BookFault>
     ensures texts { IfOk result (λ tunes. book_answer longest book.now ≡ Ok tunes.items) }
     ensures within { IfOk result (λ tunes. AllByRecursion (IsTextWithin longest) tunes.items) }
-    ensures refusal { IfErr result (λ fault. (fault ≡ BookFault.OutOfMemory) ⊎ (book_answer longest book.now ≡ Err fault)) }
-    ensures too_long { LONGEST_BOOK < length book.now → result ≡ Err BookFault.BookTooLong }
-    ensures not_plain { length book.now ≤ LONGEST_BOOK → is_plain book.now ≡ false → result ≡ Err BookFault.NotPlain }
+    ensures refusal { IfErr result (λ fault.
+        (fault ≡ BookFault.OutOfMemory) ⊎ (book_answer longest book.now ≡ Err fault)) }
+    ensures too_long { longest_book < length book.now → result ≡ Err BookFault.BookTooLong }
+    ensures not_plain { length book.now ≤ longest_book → is_plain book.now ≡ false
+        → result ≡ Err BookFault.NotPlain }
 {
     if book.len() > LONGEST_BOOK {
         return Err(BookFault::BookTooLong);
@@ -124,7 +134,7 @@ fn starts_with_tune(book: &[u8]) -> bool
 fn is_empty(line: &[u8]) -> bool
     ensures { result ≡ is_empty_line line.now }
 {
-    line.iter().all(|b| *b == b' ' || *b == b'\t')
+    line.iter().all(|byte| is_blank(char::from(*byte)))
 }
 
 fn starts_tune(line: &[u8]) -> bool
@@ -160,7 +170,8 @@ impl OpenTune {
 
     fn with_line(self, line: &[u8]) -> Result<OpenTune, AllocError>
         requires { IsTuneLine line.now }
-        ensures { IfOk result (λ t. t ≡ (self.0 ++ (line.now ++ line_feed ∷ []), self.1 || is_key_line line.now)) }
+        ensures { IfOk result (λ t.
+            t ≡ (self.0 ++ (line.now ++ line_feed ∷ []), self.1 || is_key_line line.now)) }
     {
         let OpenTune { mut text, has_key } = self;
         text.extend_from_slice(line)?;
@@ -174,9 +185,10 @@ impl OpenTune {
 
 // The tunes of the lines of a book.
 fn tunes_of(alloc: Global, book: &[u8], longest: usize) -> Result<Vec<TuneText>, BookFault>
-    requires { length book.now ≤ LONGEST_BOOK }
-    ensures { MatchResult result (λ tunes. runs_answer longest 1 (tune_runs (lines_of book.now)) ≡ Ok tunes.items)
-        (λ e. (e ≡ BookFault.OutOfMemory) ⊎ (runs_answer longest 1 (tune_runs (lines_of book.now)) ≡ Err e)) }
+    requires { length book.now ≤ longest_book }
+    ensures { let answer = runs_answer longest 1 (tune_runs (lines_of book.now)) in
+        MatchResult result (λ tunes. answer ≡ Ok tunes.items)
+        (λ e. (e ≡ BookFault.OutOfMemory) ⊎ (answer ≡ Err e)) }
 {
     // No text is longer than its book, so the lesser of these limits refuses the same texts.
     let limit = longest.min(LONGEST_BOOK);
@@ -198,8 +210,10 @@ fn take_line(
     longest: usize,
 ) -> Result<Option<OpenTune>, BookFault>
     requires plain { has_no_ending line.now ≡ true }
-    requires short { longest ≤ LONGEST_BOOK }
-    ensures { KeepsAnswer result (λ rest. open_answer longest tunes.old.items started (line.now ∷ rest)) (λ now. open_answer longest tunes.new.items now) (λ _. ⊤) }
+    requires short { longest ≤ longest_book }
+    ensures { KeepsAnswer result
+        (λ rest. open_answer longest tunes.old.items started (line.now ∷ rest))
+        (λ now. open_answer longest tunes.new.items now) (λ _. ⊤) }
 {
     if starts_tune(line) {
         close_tune(tunes, started, longest)?;
@@ -221,8 +235,9 @@ fn close_tune(
     started: Option<OpenTune>,
     longest: usize,
 ) -> Result<(), BookFault>
-    requires { longest ≤ LONGEST_BOOK }
-    ensures { KeepsAnswer result (open_answer longest tunes.old.items started) (λ _. open_answer longest tunes.new.items None) (λ rest. tune_run rest ≡ []) }
+    requires { longest ≤ longest_book }
+    ensures { KeepsAnswer result (open_answer longest tunes.old.items started)
+        (λ _. open_answer longest tunes.new.items None) (λ rest. tune_run rest ≡ []) }
 {
     if let Some(tune) = started {
         let OpenTune { text, has_key } = tune;

@@ -5,12 +5,13 @@ ghost use Rattle.abc_fields.specs.Lines.{lines_of};
 
 use crate::header_fields::Fields;
 use crate::line_kinds::is_key_line;
-use crate::text::TuneText;
-use crate::text_lines::Lines;
+use crate::lines::Lines;
+use crate::texts::TuneText;
 use crate::values::field_value;
 
-/// What the header of a tune says (ABC 2.1, 3.1; this archive's profile). The header is the lines up to the first that begins with `K:`, that
-/// one included. Case matters, and a line inside a `%%begin` part counts as any other. It takes no memory.
+/// What the header of a tune says (ABC 2.1, 3.1; this archive's profile). The header is the lines
+/// up to the first that begins with `K:`, that one included. Case matters, and a line inside a
+/// `%%begin` part counts as any other. It takes no memory.
 pub fn fields(text: &TuneText) -> Fields<'_>
     ensures titles { result.titles ≡ titles_of text.now }
     ensures rhythm { option_copied result.rhythm ≡ rhythm_of text.now }

@@ -1,7 +1,9 @@
 // What a tune's header says, as parts of its text.
-ghost use Rattle.std.specs.Prelude.{◌≡◌, ℕ, ◌≤◌, ◌↔◌, List, [], ◌∷◌, ◌++◌, length, take, map, codes, slice_get, option_copied, IsTrue};
+ghost use Rattle.std.specs.Prelude.{◌≡◌, ℕ, ◌≤◌, ◌↔◌, List, [], ◌∷◌, ◌++◌, length, take, map};
+ghost use Rattle.std.specs.Prelude.{codes, slice_get, option_copied, IsTrue};
 ghost use Rattle.std.specs.Option.{option_or};
-ghost use Rattle.abc_fields.specs.Fields.{filled, values_of};
+ghost use Rattle.abc_fields.specs.Fields.{non_empty, non_empty_values};
+ghost use Rattle.abc_fields.specs.Limits.{most_titles};
 
 use crate::values::field_value;
 use arrayvec::ArrayVec;
@@ -10,7 +12,8 @@ use std::marker::Model;
 /// How many titles of a tune count (this archive's profile).
 pub const MOST_TITLES: usize = 8;
 
-/// The titles of a tune, in the order of its header, as parts of its text. A clause sees the list of the bytes of each.
+/// The titles of a tune, in the order of its header, as parts of its text. A clause sees the list
+/// of the bytes of each.
 #[derive(Debug, Drop)]
 pub struct Titles<'a> {
     list: ArrayVec<&'a [u8], MOST_TITLES>,
@@ -41,7 +44,7 @@ impl<'a> Titles<'a> {
     /// How many titles there are.
     pub fn len(&self) -> usize
         ensures value { result ≡ length self.now }
-        ensures fits { result ≤ MOST_TITLES }
+        ensures fits { result ≤ most_titles }
     {
         self.list.len()
     }
@@ -62,7 +65,7 @@ impl<'a> Titles<'a> {
 
     // Takes the value of the next title line: it counts unless it is empty or there are enough.
     fn take_value(&mut self, value: &'a [u8])
-        ensures { self.new ≡ take MOST_TITLES (self.old ++ filled (value.now ∷ [])) }
+        ensures { self.new ≡ take most_titles (self.old ++ non_empty (value.now ∷ [])) }
     {
         if !self.list.is_full() && !value.is_empty() {
             self.list.push(value);
@@ -73,7 +76,8 @@ impl<'a> Titles<'a> {
 /// What the header of a tune says (ABC 2.1, 3.1), as parts of the tune's text.
 #[derive(Debug, Drop)]
 pub struct Fields<'a> {
-    /// The first values of `T:` fields that are not empty, eight at most (ABC 2.1, 3.1.2; this archive's profile).
+    /// The first values of `T:` fields that are not empty, eight at most (ABC 2.1, 3.1.2; this
+    /// archive's profile).
     pub titles: Titles<'a>,
     /// The first value of an `R:` field that is not empty.
     pub rhythm: Option<&'a [u8]>,
@@ -96,9 +100,12 @@ impl<'a> Fields<'a> {
 
     // Takes the next line of the header, which does not give the key.
     pub(crate) fn take_line(&mut self, line: &'a [u8])
-        requires { length self.old.titles ≤ MOST_TITLES }
-        ensures titles { self.new.titles ≡ take MOST_TITLES (self.old.titles ++ filled (values_of (codes "T:") (line.now ∷ []))) }
-        ensures rhythm { option_copied self.new.rhythm ≡ option_or (option_copied self.old.rhythm) (slice_get (filled (values_of (codes "R:") (line.now ∷ []))) 0) }
+        requires { length self.old.titles ≤ most_titles }
+        ensures titles { self.new.titles
+            ≡ take most_titles (self.old.titles ++ non_empty_values (codes "T:") (line.now ∷ [])) }
+        ensures rhythm { option_copied self.new.rhythm
+            ≡ option_or (option_copied self.old.rhythm)
+            (slice_get (non_empty_values (codes "R:") (line.now ∷ [])) 0) }
         ensures key { self.new.key ≡ self.old.key }
     {
         if line.starts_with(b"T:") {
@@ -111,7 +118,7 @@ impl<'a> Fields<'a> {
 
 // The value, unless it is empty.
 fn unless_empty(value: &[u8]) -> Option<&[u8]>
-    ensures { option_copied result ≡ slice_get (filled (value.now ∷ [])) 0 }
+    ensures { option_copied result ≡ slice_get (non_empty (value.now ∷ [])) 0 }
 {
     if value.is_empty() { None } else { Some(value) }
 }

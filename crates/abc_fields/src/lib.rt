@@ -1,21 +1,21 @@
 //! Reads ABC books: the lines of a text, the tunes of a book, and the fields of a tune's header.
 //!
-//! The lines are those of the abc music standard 2.1, section 2.2, with this archive's profile where the standard
-//! is silent. The bytes of a text need not be UTF-8.
+//! The lines are those of the abc music standard 2.1, section 2.2, with this archive's profile
+//! where the standard is silent. The bytes of a text need not be UTF-8.
 #![tactic(auto)]
 
 mod book;
 mod header;
 mod header_fields;
 mod line_kinds;
-mod text;
-mod text_lines;
+mod lines;
+mod texts;
 mod values;
 
 pub use book::{BookFault, LONGEST_BOOK, TuneFault, split_book};
 pub use header::fields;
 pub use header_fields::{Fields, MOST_TITLES, Titles};
 pub use line_kinds::{in_part_after, is_comment, is_continuation, is_field_line, is_key_line};
-pub use text::{ByteText, TuneText};
-pub use text_lines::{Line, Lines};
-pub use values::{field_value, trim_blanks, without_comment};
+pub use lines::{Line, Lines};
+pub use texts::{ByteText, TuneText};
+pub use values::{field_value, is_blank, trim_blanks, without_comment};

@@ -1,7 +1,8 @@
 // The kinds of lines.
 ghost use Rattle.std.specs.Prelude.{◌≡◌};
 ghost use Rattle.abc_fields.specs.Tunes.{is_key_line};
-ghost use Rattle.abc_fields.specs.LineKinds.{is_field_line, is_continuation, is_comment, in_part_after};
+ghost use Rattle.abc_fields.specs.LineKinds.{is_field_line, is_continuation, is_comment};
+ghost use Rattle.abc_fields.specs.LineKinds.{in_part_after};
 
 /// Whether a line is a field: a letter directly before a colon (ABC 2.1, 3.1).
 pub fn is_field_line(line: &[u8]) -> bool
@@ -13,7 +14,8 @@ pub fn is_field_line(line: &[u8]) -> bool
     }
 }
 
-/// Whether a line gives the key: it begins with `K:`. The first one ends the header of its tune (ABC 2.1, 3.1.14).
+/// Whether a line gives the key: it begins with `K:`. The first one ends the header of its tune
+/// (ABC 2.1, 3.1.14).
 pub fn is_key_line(line: &[u8]) -> bool
     ensures { result ≡ is_key_line line.now }
 {
@@ -34,8 +36,10 @@ pub fn is_comment(line: &[u8]) -> bool
     line.starts_with(b"%")
 }
 
-/// Whether the line after this one lies within a part between a line that begins with `%%begin` and the next that begins with `%%end`;
-/// `inside` says whether this one does (this archive's profile of ABC 2.1, 11). A part has no parts within it.
+/// Whether the line after this one lies within a part between a line that begins with `%%begin` and
+/// the next that begins with `%%end`;
+/// `inside` says whether this one does (this archive's profile of ABC 2.1, 11). A part has no parts
+/// within it.
 pub fn in_part_after(inside: bool, line: &[u8]) -> bool
     ensures { result ≡ in_part_after inside line.now }
 {

@@ -1,5 +1,6 @@
 // The values of fields.
-ghost use Rattle.std.specs.Prelude.{◌≡◌, ℕ, ◌-◌, ◌<◌, List, ◌++◌, length, true, ◌==◌, ◌&&◌, slice_index, nat_lt};
+ghost use Rattle.std.specs.Prelude.{◌≡◌, ℕ, ◌-◌, ◌<◌, List, ◌++◌, length, true, ◌==◌, ◌&&◌};
+ghost use Rattle.std.specs.Prelude.{slice_index, nat_lt};
 ghost use Rattle.abc_fields.specs.Bytes.{backslash, is_blank, is_all_blank};
 ghost use Rattle.abc_fields.specs.Values.{uncommented, field_value, IsUncommented, IsTrimmed};
 ghost use Rattle.abc_fields.specs.Words.{trimmed};
@@ -7,9 +8,9 @@ ghost use Rattle.abc_fields.specs.Words.{trimmed};
 use bstr::ByteSlice;
 use memchr::memchr;
 
-/// The value of a field line: what follows the colon, without a comment, and without the spaces and tabs at its ends
-/// (ABC 2.1, 2.2 and 3.1; this archive's profile). The field's name and the colon are the first two bytes, whatever they are;
-/// the value of a shorter line is empty.
+/// The value of a field line: what follows the colon, without a comment, and without the spaces and
+/// tabs at its ends (ABC 2.1, 2.2 and 3.1; this archive's profile). The field's name and the colon
+/// are the first two bytes, whatever they are; the value of a shorter line is empty.
 pub fn field_value(line: &[u8]) -> &[u8]
     ensures { result.now ≡ field_value line.now }
 {
@@ -19,11 +20,12 @@ pub fn field_value(line: &[u8]) -> &[u8]
     trim_blanks(without_comment(&line[2..]))
 }
 
-/// The line up to its comment, if it has one: the first percent sign that no backslash stands directly before begins it
-/// (ABC 2.1, 2.2; this archive's profile). The backslashes stay.
+/// The line up to its comment, if it has one: the first percent sign that no backslash stands
+/// directly before begins it (ABC 2.1, 2.2; this archive's profile). The backslashes stay.
 ///
-/// The law of comments stands beside it: it is the front of the line, the rest is nothing or begins with a percent sign that no backslash
-/// stands directly before, and a backslash stands directly before each percent sign that stays.
+/// The law of comments stands beside it: it is the front of the line, the rest is nothing or begins
+/// with a percent sign that no backslash stands directly before, and a backslash stands directly
+/// before each percent sign that stays.
 pub fn without_comment(line: &[u8]) -> &[u8]
     ensures value { result.now ≡ uncommented line.now }
     ensures law { IsUncommented line.now result.now }
@@ -39,7 +41,7 @@ pub fn without_comment(line: &[u8]) -> &[u8]
     line
 }
 
-// Whether a backslash stands directly before this place.
+// Whether a backslash stands directly before this index.
 fn is_escaped(line: &[u8], at: usize) -> bool
     requires { at < length line.now }
     ensures { result ≡ (nat_lt 0 at && slice_index line.now (at - 1) == backslash) }
@@ -47,8 +49,9 @@ fn is_escaped(line: &[u8], at: usize) -> bool
     at > 0 && line[at - 1] == b'\\'
 }
 
-// Whether a character is a space or a tab.
-fn is_blank(c: char) -> bool
+/// Whether a character is a space or a tab: no other is blank (this archive's profile). For a byte
+/// it is called with `char::from`.
+pub fn is_blank(c: char) -> bool
     ensures { result ≡ is_blank c }
 {
     c == ' ' || c == '\t'
@@ -56,12 +59,14 @@ fn is_blank(c: char) -> bool
 
 /// The text without the spaces and tabs at its ends.
 ///
-/// Its law stands beside it: the text is this, with spaces and tabs before and after it, and this neither begins nor ends with one.
-/// So spaces and tabs that are put round a text change nothing.
+/// Its law stands beside it: the text is this, with spaces and tabs before and after it, and this
+/// neither begins nor ends with one. So spaces and tabs that are put round a text change nothing.
 pub fn trim_blanks(text: &[u8]) -> &[u8]
     ensures value { result.now ≡ trimmed text.now }
     ensures law { IsTrimmed text.now result.now }
-    ensures blanks_at_ends { (front back : List ℕ) → is_all_blank front ≡ true → is_all_blank back ≡ true → trimmed (front ++ (text.now ++ back)) ≡ trimmed text.now }
+    ensures blanks_at_ends { (front back : List ℕ)
+        → is_all_blank front ≡ true → is_all_blank back ≡ true
+        → trimmed (front ++ (text.now ++ back)) ≡ trimmed text.now }
 {
     text.trim_with(is_blank)
 }

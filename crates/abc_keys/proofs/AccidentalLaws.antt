@@ -8,9 +8,10 @@ use Rattle.abc_keys.specs.declared.letters.Letter.TheVariants.{C, D, E, F, G, A,
 use Rattle.abc_keys.specs.declared.letters.Accidental.{Accidental}
 use Rattle.abc_keys.specs.declared.letters.Accidental.TheVariants.{DoubleFlat, Flat, Natural, Sharp, DoubleSharp}
 use Rattle.abc_keys.specs.declared.signatures.Signature.{Signature}
-use Rattle.abc_keys.specs.Letters.{is_one_of, letter_of, spelling, accidental_of, doubled}
+use Rattle.abc_fields.specs.Bytes.{is_one_of}
+use Rattle.abc_keys.specs.Letters.{letter_of, spelling, accidental_of, doubled}
 use Rattle.abc_keys.specs.Signatures.{accidental_at, with_accidental}
-use Rattle.abc_keys.specs.Accidentals.{changed_by, Setting, AreSpelled, with_settings, SetsItsPairs, SetsNone, LastCounts}
+use Rattle.abc_keys.specs.Accidentals.{changed_by, Setting, AreSpelled, IsNoPairs, with_settings, SetsItsPairs, SetsNone, LastCounts}
 
 -- WORDS OF PAIRS CHANGE A SIGNATURE
 -- an accidental and a letter after it set the letter
@@ -25,7 +26,8 @@ after_spelling s DoubleSharp byte rest letter names = rw names refl
 pairs_change : (s : Signature) (pairs : List Setting) (word : List ℕ) → AreSpelled pairs word → changed_by s None word ≡ Some (with_settings s pairs)
 pairs_change s [] word spelled = ap (changed_by s None) spelled
 pairs_change s (p ∷ pairs) word (byte, rest, names, whole, more) =
-    ap (changed_by s None) whole ∙ after_spelling s p.accidental byte rest p.letter names ∙ pairs_change (with_accidental s p.letter p.accidental) pairs rest more
+    ap (changed_by s None) whole ∙ after_spelling s p.accidental byte rest p.letter names
+    ∙ pairs_change (with_accidental s p.letter p.accidental) pairs rest more
 
 -- WORDS THAT CHANGE A SIGNATURE ARE PAIRS
 -- the accidental that has begun, as it is written
@@ -92,8 +94,11 @@ goes_on_with_pairs s after a byte word (Some l) twice e f leads is =
     let later = leads (with_accidental s l a) after None is in
     (record { letter = l; accidental = a } ∷ later.0, (byte, word, e, refl, later.1))
 goes_on_with_pairs s after a byte word None (Some b) e f leads is =
-    let later = leads s after (Some b) is in
-    (later.0, subst (λ (all : List ℕ). AreSpelled later.0 all) (ap (λ front. front ++ word) (two_bytes byte a b f) ∙ append_assoc (spelling a) (byte ∷ []) word) later.1)
+    let later = leads s after (Some b) is in (
+      later.0,
+      subst (λ (all : List ℕ). AreSpelled later.0 all)
+          (ap (λ front. front ++ word) (two_bytes byte a b f) ∙ append_assoc (spelling a) (byte ∷ []) word) later.1,
+    )
 goes_on_with_pairs s after a byte word None None e f leads is = absurd (cc)
 
 change_pairs : (word : List ℕ) → LeadsToPairs word
@@ -112,7 +117,8 @@ set_same s G accidental = refl
 set_same s A accidental = refl
 set_same s B accidental = refl
 
-set_other : (s : Signature) (set letter : Letter) (accidental : Accidental) → set ≢ letter → accidental_at (with_accidental s set accidental) letter ≡ accidental_at s letter
+set_other : (s : Signature) (set letter : Letter) (accidental : Accidental) → set ≢ letter
+    → accidental_at (with_accidental s set accidental) letter ≡ accidental_at s letter
 set_other s C C accidental differ = absurd (differ refl)
 set_other s D D accidental differ = absurd (differ refl)
 set_other s E E accidental differ = absurd (differ refl)
@@ -122,23 +128,27 @@ set_other s A A accidental differ = absurd (differ refl)
 set_other s B B accidental differ = absurd (differ refl)
 set_other s _ _ accidental differ = refl
 
-others_stay : (s : Signature) (pairs : List Setting) (letter : Letter) → SetsNone letter pairs → accidental_at (with_settings s pairs) letter ≡ accidental_at s letter
+others_stay : (s : Signature) (pairs : List Setting) (letter : Letter) → SetsNone letter pairs
+    → accidental_at (with_settings s pairs) letter ≡ accidental_at s letter
 others_stay s [] letter none = refl
 others_stay s (p ∷ pairs) letter none =
     others_stay (with_accidental s p.letter p.accidental) pairs letter none.1 ∙ set_other s p.letter letter p.accidental none.0
 
-last_stays : (s : Signature) (before after : List Setting) (p : Setting) → SetsNone p.letter after → accidental_at (with_settings s (before ++ (p ∷ after))) p.letter ≡ p.accidental
+last_stays : (s : Signature) (before after : List Setting) (p : Setting) → SetsNone p.letter after
+    → accidental_at (with_settings s (before ++ (p ∷ after))) p.letter ≡ p.accidental
 last_stays s [] after p none = others_stay (with_accidental s p.letter p.accidental) after p.letter none ∙ set_same s p.letter p.accidental
 last_stays s (q ∷ before) after p none = last_stays (with_accidental s q.letter q.accidental) before after p none
 
 pub last_counts : (s : Signature) (pairs : List Setting) → LastCounts s pairs
 last_counts s pairs = record {
-  last = λ before after p same none. subst (λ (all : List Setting). accidental_at (with_settings s all) p.letter ≡ p.accidental) same (last_stays s before after p none);
+  last = λ before after p same none.
+      subst (λ (all : List Setting). accidental_at (with_settings s all) p.letter ≡ p.accidental) same (last_stays s before after p none);
   others = λ letter none. others_stay s pairs letter none;
 }
 
 -- THE LAW
-some_after : (s : Signature) (word : List ℕ) (changed : Option Signature) → changed_by s None word ≡ changed → ((pairs : List Setting) → AreSpelled pairs word → ⊥) → unwrap_or changed s ≡ s
+some_after : (s : Signature) (word : List ℕ) (changed : Option Signature) → changed_by s None word ≡ changed
+    → IsNoPairs word → unwrap_or changed s ≡ s
 some_after s word None is none = refl
 some_after s word (Some after) is none = let pairs = change_pairs word s after None is in absurd (none pairs.0 pairs.1)
 
@@ -150,6 +160,6 @@ sets_its_pairs word = record {
 }
   where
     decided : (s : Signature) (changed : Option Signature) → changed_by s None word ≡ changed
-        → MatchOption changed ((pairs : List Setting) → AreSpelled pairs word → ⊥) (λ _. (pairs : List Setting) × AreSpelled pairs word)
+        → MatchOption changed (IsNoPairs word) (λ _. (pairs : List Setting) × AreSpelled pairs word)
     decided s None is = λ pairs spelled. let both : None ≡ Some (with_settings s pairs) = sym is ∙ pairs_change s pairs word spelled in cc
     decided s (Some after) is = change_pairs word s after None is

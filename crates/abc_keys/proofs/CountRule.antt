@@ -3,7 +3,7 @@ use Rattle.std.proofs.Common.{◌≡◌, ℕ, zero, suc, ◌<◌, refl, ℤ, pos
 use Rattle.std.proofs.lemmas.Int.{ints}
 use Rattle.abc_keys.specs.declared.letters.Accidental.{Accidental}
 use Rattle.abc_keys.specs.declared.signatures.Signature.{Signature}
-use Rattle.abc_keys.specs.Fifths.{by_count}
+use Rattle.abc_keys.specs.Inside.Fifths.{by_count}
 use Rattle.abc_keys.specs.Signatures.{of_count, HasCount}
 
 -- THE CODE'S NUMBERS GIVE THE ORDERS

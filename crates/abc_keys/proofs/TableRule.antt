@@ -1,5 +1,6 @@
 -- The line of fifths gives the table.
-use Rattle.std.proofs.Common.{◌≡◌, ◌⊎◌, refl, sym, ◌∙◌, ℤ, pos, negsuc, ◌+ℤ◌, ◌≤ℤ◌, ◌<ℤ◌, Bool, true, false, cond, Option, Some, None, inl, inr, arith, ap, subst}
+use Rattle.std.proofs.Common.{◌≡◌, ◌⊎◌, refl, sym, ◌∙◌, ℤ, pos, negsuc, ◌+ℤ◌, ◌≤ℤ◌, ◌<ℤ◌, Bool, true, false, cond, Option, Some, None, inl, inr, arith, ap}
+use Rattle.std.proofs.Common.{subst}
 use lib.Signed.{lt_z}
 use Rattle.std.proofs.lemmas.Int.{ints}
 use Rattle.abc_keys.specs.declared.letters.Letter.{Letter}
@@ -9,7 +10,7 @@ use Rattle.abc_keys.specs.declared.scales.Sign.TheVariants.{Natural, Sharp, Flat
 use Rattle.abc_keys.specs.declared.scales.Mode.{Mode}
 use Rattle.abc_keys.specs.declared.scales.Mode.TheVariants.{Major, Lydian, Mixolydian, Dorian, Minor, Phrygian, Locrian}
 use Rattle.abc_keys.specs.declared.scales.Scale.{Scale}
-use Rattle.abc_keys.specs.Fifths.{tonic_fifths, sign_fifths, mode_fifths}
+use Rattle.abc_keys.specs.Inside.Fifths.{tonic_fifths, sign_fifths, mode_fifths}
 use Rattle.abc_keys.specs.ScaleTable.{listed_count}
 
 -- the number, where it is from seven flats to seven sharps
@@ -20,7 +21,8 @@ abbrev pub fifths_of : Scale → ℤ
 fifths_of scale = tonic_fifths scale.tonic +ℤ sign_fifths scale.sign +ℤ mode_fifths scale.mode
 
 -- each of the 147 scales, those that stand in no row included
-rule_by_cases : (t : Letter) (s : Sign) (m : Mode) → within (tonic_fifths t +ℤ sign_fifths s +ℤ mode_fifths m) ≡ listed_count (record { tonic = t; sign = s; mode = m })
+rule_by_cases : (t : Letter) (s : Sign) (m : Mode)
+    → within (tonic_fifths t +ℤ sign_fifths s +ℤ mode_fifths m) ≡ listed_count (record { tonic = t; sign = s; mode = m })
 unfolding listed_count
 rule_by_cases C Natural Major = refl
 rule_by_cases C Sharp Major = refl
@@ -95,7 +97,8 @@ mode_fifths_small Locrian = (omega (arith, ints), omega (arith, ints))
 pub listed_few : (scale : Scale) (count : ℤ) → listed_count scale ≡ Some count → (negsuc 6 ≤ℤ count) × (count ≤ℤ pos 7)
 listed_few scale count is = by_tests (fifths_of scale) (lt_z (fifths_of scale) (negsuc 6)) (lt_z (pos 7) (fifths_of scale)) refl refl (within-listed scale ∙ is)
   where
-    by_tests : (z : ℤ) (low high : Bool) → lt_z z (negsuc 6) ≡ low → lt_z (pos 7) z ≡ high → cond low None (cond high None (Some z)) ≡ Some count → (negsuc 6 ≤ℤ count) × (count ≤ℤ pos 7)
+    by_tests : (z : ℤ) (low high : Bool) → lt_z z (negsuc 6) ≡ low → lt_z (pos 7) z ≡ high → cond low None (cond high None (Some z)) ≡ Some count
+        → (negsuc 6 ≤ℤ count) × (count ≤ℤ pos 7)
     by_tests z true high l h chosen = absurd (cc)
     by_tests z false true l h chosen = absurd (cc)
     by_tests z false false l h chosen =

@@ -1,10 +1,11 @@
 -- What a key text says (ABC 2.1, 3.1.14; own profile where the standard is silent).
-use Rattle.std.specs.Prelude.{◌≡◌, ℕ, ◌||◌, not, if◌then◌else◌, Bool, true, false, List, [], ◌∷◌, ◌++◌, codes, nat_eq, Option, Some, None, drop}
+use Rattle.std.specs.Prelude.{◌≡◌, ℕ, ◌||◌, not, if◌then◌else◌, Bool, true, false, List, [], ◌∷◌}
+use Rattle.std.specs.Prelude.{◌++◌, codes, nat_eq, Option, Some, None, drop}
 use Rattle.std.specs.List.{prefix_len, take_while}
 use Rattle.std.specs.Cmp.Lexicographic.{pointwise}
 use Rattle.std.specs.Option.{option_map_or}
 use Rattle.std.specs.Char.{is_ascii_alphabetic}
-use Rattle.abc_fields.specs.Bytes.{is_blank, is_all_blank}
+use Rattle.abc_fields.specs.Bytes.{is_blank, is_all_blank, is_one_of, begins}
 use Rattle.abc_fields.specs.Words.{trimmed}
 use Rattle.abc_keys.specs.declared.letters.Letter.{Letter}
 use Rattle.abc_keys.specs.declared.letters.Accidental.TheVariants as accidental
@@ -17,13 +18,14 @@ use Rattle.abc_keys.specs.declared.mode_words.ModeWord.{ModeWord}
 use Rattle.abc_keys.specs.declared.mode_words.ModeWord.TheVariants.{Mode, Explicit}
 use Rattle.abc_keys.specs.declared.keys.Key.{Key}
 use Rattle.abc_keys.specs.declared.keys.Key.TheVariants as key
-use Rattle.abc_keys.specs.Letters.{is_one_of, capital_letter}
+use Rattle.abc_keys.specs.Letters.{capital_letter}
 use Rattle.abc_keys.specs.Signatures.{no_accidentals, of_count}
 use Rattle.abc_keys.specs.ScaleTable.{listed_count}
 use Rattle.abc_keys.specs.Accidentals.{with_words}
 use Rattle.abc_keys.specs.ModeWords.{is_word, mode_of}
 
 -- PARTS OF A TEXT
+-- a byte that is not blank
 abbrev pub is_ink : ℕ → Bool
 is_ink byte = not (is_blank byte)
 
@@ -31,31 +33,31 @@ is_ink byte = not (is_blank byte)
 abbrev pub past : (ℕ → Bool) → List ℕ → List ℕ
 past test text = drop (prefix_len test text) text
 
--- whether the first byte passes, if there is one
-abbrev pub begins : (ℕ → Bool) → List ℕ → Bool
-begins test [] = false
-begins test (byte ∷ text) = test byte
-
 -- THE FIRST WORD: THE BAGPIPES
 -- `HP` has no signature, `Hp` has F and C sharp
 abbrev pub pipes_signature : List ℕ → Option Signature
 pipes_signature word =
     if pointwise nat_eq word (codes "HP") then Some no_accidentals
-    else if pointwise nat_eq word (codes "Hp") then Some (record no_accidentals { c = accidental.Sharp; f = accidental.Sharp })
+    else if pointwise nat_eq word (codes "Hp")
+    then Some (record no_accidentals { c = accidental.Sharp; f = accidental.Sharp })
     else None
 
 -- TONIC AND MODE
--- a scale of the table has its signature, and then the words after it set accidentals; another scale is no key
+-- a scale of the table has its signature, and then the words after it set accidentals; another
+-- scale is no key
 abbrev pub key_of_scale : Scale → List ℕ → Key
-key_of_scale scale after = option_map_or (λ count. key.Modal scale (with_words (of_count count) after)) (listed_count scale) key.Unread
+key_of_scale scale after = option_map_or
+    (λ count. key.Modal scale (with_words (of_count count) after)) (listed_count scale) key.Unread
 
 -- a mode, or `exp`, which has no signature of its own
 abbrev pub key_of_mode : Letter → Sign → ModeWord → List ℕ → Key
-key_of_mode tonic sign (Mode mode) after = key_of_scale (record { tonic = tonic; sign = sign; mode = mode }) after
+key_of_mode tonic sign (Mode mode) after =
+    key_of_scale (record { tonic = tonic; sign = sign; mode = mode }) after
 key_of_mode tonic sign Explicit after = key.Explicit (with_words no_accidentals after)
 
--- The mode word is the longest run of letters after spaces and tabs. No word is major. A word directly before `=` is no mode. Where the word is no mode,
--- a space or tab before it makes the mode major, and the word is one of those that may set accidentals.
+-- The mode word is the longest run of letters after spaces and tabs. No word is major. A word
+-- directly before `=` is no mode. Where the word is no mode, a space or tab before it makes the
+-- mode major, and the word is one of those that may set accidentals.
 abbrev pub key_after_tonic : Letter → Sign → List ℕ → Key
 key_after_tonic tonic sign text =
     let word_on = past is_blank text in
@@ -70,10 +72,12 @@ key_after_tonic tonic sign text =
 -- what may follow a tonic and its sign: nothing, a space, a tab, a letter, `^`, `_` or `=`
 abbrev pub may_follow_tonic : List ℕ → Bool
 may_follow_tonic [] = true
-may_follow_tonic (byte ∷ text) = is_blank byte || is_ascii_alphabetic byte || is_one_of (codes "^_=") byte
+may_follow_tonic (byte ∷ text) =
+    is_blank byte || is_ascii_alphabetic byte || is_one_of (codes "^_=") byte
 
 abbrev pub key_after_sign : Letter → Sign → List ℕ → Key
-key_after_sign tonic sign text = if may_follow_tonic text then key_after_tonic tonic sign text else key.Unread
+key_after_sign tonic sign text =
+    if may_follow_tonic text then key_after_tonic tonic sign text else key.Unread
 
 -- an optional `#` or `b`
 abbrev pub key_after_letter : Letter → List ℕ → Key
@@ -86,7 +90,8 @@ key_after_letter tonic (byte ∷ text) =
 -- a tonic from `A` to `G`, or no key
 abbrev pub key_with_tonic : List ℕ → Key
 key_with_tonic [] = key.Unread
-key_with_tonic (byte ∷ text) = option_map_or (λ tonic. key_after_letter tonic text) (capital_letter byte) key.Unread
+key_with_tonic (byte ∷ text) =
+    option_map_or (λ tonic. key_after_letter tonic text) (capital_letter byte) key.Unread
 
 -- THE WHOLE TEXT
 -- nothing, or the first word is `none` in any capitals
@@ -119,4 +124,5 @@ signature_of key.Unread = no_accidentals
 
 -- spaces and tabs at the ends of a text say nothing
 abbrev pub SkipsBlanks : List ℕ → Type 0
-SkipsBlanks text = (front back : List ℕ) → is_all_blank front ≡ true → is_all_blank back ≡ true → key_of_text (front ++ (text ++ back)) ≡ key_of_text text
+SkipsBlanks text = (front back : List ℕ) → is_all_blank front ≡ true → is_all_blank back ≡ true
+    → key_of_text (front ++ (text ++ back)) ≡ key_of_text text

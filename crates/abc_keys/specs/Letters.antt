@@ -1,14 +1,12 @@
 -- Which bytes name letters and accidentals, and what accidentals add (ABC 2.1, 4.1 and 4.2).
-use Rattle.std.specs.Prelude.{ℕ, ◌==◌, if◌then◌else◌, Bool, List, codes, Option, Some, None, ℤ, pos, negsuc}
-use Rattle.std.specs.List.{list_any}
+use Rattle.std.specs.Prelude.{ℕ, ◌==◌, if◌then◌else◌, Bool, List, codes, Option, Some, None, ℤ, pos}
+use Rattle.std.specs.Prelude.{negsuc}
+use Rattle.abc_fields.specs.Bytes.{is_one_of}
 use Rattle.abc_keys.specs.declared.letters.Letter.{Letter}
 use Rattle.abc_keys.specs.declared.letters.Letter.TheVariants.{C, D, E, F, G, A, B}
 use Rattle.abc_keys.specs.declared.letters.Accidental.{Accidental}
-use Rattle.abc_keys.specs.declared.letters.Accidental.TheVariants.{DoubleFlat, Flat, Natural, Sharp, DoubleSharp}
-
--- one of these bytes
-abbrev pub is_one_of : List ℕ → ℕ → Bool
-is_one_of bytes byte = list_any (λ b. byte == b) bytes
+use Rattle.abc_keys.specs.declared.letters.Accidental.TheVariants.{DoubleFlat, Flat, Natural, Sharp}
+use Rattle.abc_keys.specs.declared.letters.Accidental.TheVariants.{DoubleSharp}
 
 -- LETTERS
 -- the letter that a byte names

@@ -1,7 +1,7 @@
 pub mod Letters
 pub mod Signatures
 pub mod ScaleTable
-pub mod Fifths
 pub mod Accidentals
 pub mod ModeWords
 pub mod Keys
+pub mod Inside

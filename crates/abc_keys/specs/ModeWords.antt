@@ -1,8 +1,10 @@
 -- The words of a key text that name a mode (ABC 2.1, 3.1.14).
-use Rattle.std.specs.Prelude.{ℕ, ◌||◌, nat_eq, if◌then◌else◌, Bool, List, codes, map, take, Option, Some, None}
+use Rattle.std.specs.Prelude.{ℕ, ◌||◌, nat_eq, if◌then◌else◌, Bool, List, codes, map, take, Option}
+use Rattle.std.specs.Prelude.{Some, None}
 use Rattle.std.specs.Cmp.Lexicographic.{pointwise}
 use Rattle.std.specs.Char.{to_ascii_lowercase}
-use Rattle.abc_keys.specs.declared.scales.Mode.TheVariants.{Major, Lydian, Mixolydian, Dorian, Minor, Phrygian, Locrian}
+use Rattle.abc_keys.specs.declared.scales.Mode.TheVariants.{Major, Lydian, Mixolydian, Dorian}
+use Rattle.abc_keys.specs.declared.scales.Mode.TheVariants.{Minor, Phrygian, Locrian}
 use Rattle.abc_keys.specs.declared.mode_words.ModeWord.{ModeWord}
 use Rattle.abc_keys.specs.declared.mode_words.ModeWord.TheVariants.{Mode, Explicit}
 

@@ -1,20 +1,27 @@
--- The scales that have a signature: 105 rows of a tonic, its sign and a mode, each with its count of sharps, or of flats where the count
--- is below zero (ABC 2.1, 3.1.14, carried on to seven sharps and seven flats in each mode). `negsuc n` is -(n + 1).
-use Rattle.std.specs.Prelude.{ℕ, ◌==◌, ◌&&◌, if◌then◌else◌, Bool, ℤ, pos, negsuc, List, [], ◌∷◌, Option, Some, None}
+-- The scales that have a signature: 105 rows of a tonic, its sign and a mode, each with its count
+-- of sharps, or of flats where the count is below zero (ABC 2.1, 3.1.14, carried on to seven sharps
+-- and seven flats in each mode). `negsuc n` is -(n + 1).
+use Rattle.std.specs.Prelude.{ℕ, ◌==◌, ◌&&◌, if◌then◌else◌, Bool, ℤ, pos, negsuc, List, [], ◌∷◌}
+use Rattle.std.specs.Prelude.{Option, Some, None}
 use Rattle.abc_keys.specs.declared.letters.Letter.{Letter}
 use Rattle.abc_keys.specs.declared.letters.Letter.TheVariants.{C, D, E, F, G, A, B}
 use Rattle.abc_keys.specs.declared.scales.Sign.{Sign}
 use Rattle.abc_keys.specs.declared.scales.Sign.TheVariants.{Natural, Sharp, Flat}
 use Rattle.abc_keys.specs.declared.scales.Mode.{Mode}
-use Rattle.abc_keys.specs.declared.scales.Mode.TheVariants.{Major, Lydian, Mixolydian, Dorian, Minor, Phrygian, Locrian}
+use Rattle.abc_keys.specs.declared.scales.Mode.TheVariants.{Major, Lydian, Mixolydian, Dorian}
+use Rattle.abc_keys.specs.declared.scales.Mode.TheVariants.{Minor, Phrygian, Locrian}
 use Rattle.abc_keys.specs.declared.scales.Scale.{Scale}
 
+-- a scale, and its count of sharps, or of flats below zero
 pub record Row : Type 0 where
   pub scale : Scale
   pub count : ℤ
 
 abbrev pub row : Letter → Sign → Mode → ℤ → Row
-row tonic sign mode count = record { scale = record { tonic = tonic; sign = sign; mode = mode }; count = count }
+row tonic sign mode count = record {
+  scale = record { tonic = tonic; sign = sign; mode = mode };
+  count = count;
+}
 
 -- by mode, from seven flats to seven sharps
 abbrev pub table : List Row
@@ -152,7 +159,10 @@ mode_number Locrian = 6
 
 -- whether two scales are the same
 abbrev pub same_scale : Scale → Scale → Bool
-same_scale a b = letter_number a.tonic == letter_number b.tonic && sign_number a.sign == sign_number b.sign && mode_number a.mode == mode_number b.mode
+same_scale a b =
+    letter_number a.tonic == letter_number b.tonic
+    && sign_number a.sign == sign_number b.sign
+    && mode_number a.mode == mode_number b.mode
 
 -- the count that stands beside the scale in a list of rows
 abbrev pub count_in : List Row → Scale → Option ℤ

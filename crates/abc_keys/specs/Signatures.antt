@@ -1,4 +1,5 @@
--- Signatures: an accidental for each letter, and those of a count of sharps or flats (ABC 2.1, 3.1.14).
+-- Signatures: an accidental for each letter, and those of a count of sharps or flats (ABC 2.1,
+-- 3.1.14).
 use Rattle.std.specs.Prelude.{◌≡◌, ℕ, zero, suc, ◌+◌, ℤ, pos, negsuc, List, [], ◌∷◌, take, ⊤}
 use Rattle.std.specs.List.{fold}
 use Rattle.abc_keys.specs.declared.letters.Letter.{Letter}
@@ -29,7 +30,15 @@ with_accidental s B accidental = record s { b = accidental }
 
 -- no sharps and no flats
 abbrev pub no_accidentals : Signature
-no_accidentals = record { c = Natural; d = Natural; e = Natural; f = Natural; g = Natural; a = Natural; b = Natural }
+no_accidentals = record {
+  c = Natural;
+  d = Natural;
+  e = Natural;
+  f = Natural;
+  g = Natural;
+  a = Natural;
+  b = Natural;
+}
 
 -- SHARPS AND FLATS BY THEIR COUNT
 -- the orders in which sharps and flats come
@@ -41,18 +50,22 @@ flat_order = B ∷ E ∷ A ∷ D ∷ G ∷ C ∷ F ∷ []
 
 -- these letters with one accidental, and the others with none
 abbrev pub with_letters : Accidental → List Letter → Signature
-with_letters accidental letters = fold (λ s letter. with_accidental s letter accidental) no_accidentals letters
+with_letters accidental letters =
+    fold (λ s letter. with_accidental s letter accidental) no_accidentals letters
 
 -- so many sharps, or flats below zero, each in its order
 abbrev pub of_count : ℤ → Signature
 of_count (pos n) = with_letters Sharp (take n sharp_order)
 of_count (negsuc n) = with_letters Flat (take (n + 1) flat_order)
 
--- as many of the first letters of a list as this have the accidental, and its other letters have none
+-- as many of the first letters of a list as this have the accidental, and its other letters have
+-- none
 abbrev pub HaveFirst : Accidental → ℕ → List Letter → Signature → Type 0
 HaveFirst accidental n [] s = ⊤
-HaveFirst accidental zero (letter ∷ letters) s = (accidental_at s letter ≡ Natural) × HaveFirst accidental zero letters s
-HaveFirst accidental (suc n) (letter ∷ letters) s = (accidental_at s letter ≡ accidental) × HaveFirst accidental n letters s
+HaveFirst accidental zero (letter ∷ letters) s =
+    (accidental_at s letter ≡ Natural) × HaveFirst accidental zero letters s
+HaveFirst accidental (suc n) (letter ∷ letters) s =
+    (accidental_at s letter ≡ accidental) × HaveFirst accidental n letters s
 
 -- so many sharps, or flats below zero, in their order, and no other accidentals
 abbrev pub HasCount : ℤ → Signature → Type 0

@@ -1,11 +1,11 @@
 // Accidentals as they are written, and the words of a key text that set them.
 ghost use Rattle.std.specs.Prelude.{◌≡◌};
-ghost use Rattle.abc_fields.specs.Bytes.{is_blank};
 ghost use Rattle.abc_keys.specs.Letters.{accidental_of, doubled};
 ghost use Rattle.abc_keys.specs.Accidentals.{with_word, with_words};
 
 use crate::letters::{Accidental, letter_of};
 use crate::signatures::Signature;
+use abc_fields::is_blank;
 
 /// The accidental that one byte writes: `^`, `_` or `=` (ABC 2.1, 4.2).
 pub fn accidental_of(byte: u8) -> Option<Accidental>
@@ -19,7 +19,8 @@ pub fn accidental_of(byte: u8) -> Option<Accidental>
     }
 }
 
-/// The accidental that two bytes write, `^^` or `__`: from that of the first byte, and the second byte.
+/// The accidental that two bytes write, `^^` or `__`: from that of the first byte, and the second
+/// byte.
 pub fn doubled(first: Accidental, second: u8) -> Option<Accidental>
     ensures { result ≡ doubled first second }
 {
@@ -30,7 +31,8 @@ pub fn doubled(first: Accidental, second: u8) -> Option<Accidental>
     }
 }
 
-// The signature after a word: changed where the word consists of pairs of an accidental and a letter.
+// The signature after a word: changed where the word consists of pairs of an accidental and a
+// letter.
 fn with_word(signature: Signature, word: &[u8]) -> Signature
     ensures { result ≡ with_word signature word.now }
 {
@@ -62,13 +64,6 @@ fn with_word(signature: Signature, word: &[u8]) -> Signature
 pub(crate) fn with_words(signature: Signature, text: &[u8]) -> Signature
     ensures { result ≡ with_words signature text.now }
 {
-    text.split(|byte| is_blank(*byte))
+    text.split(|byte| is_blank(char::from(*byte)))
         .fold(signature, |signature, word| with_word(signature, word))
-}
-
-// Whether a byte is a space or a tab.
-pub(crate) fn is_blank(byte: u8) -> bool
-    ensures { result ≡ is_blank byte }
-{
-    byte == b' ' || byte == b'\t'
 }

@@ -2,32 +2,39 @@
 ghost use Rattle.std.specs.Prelude.{◌≡◌, ◌≤◌, ℕ, ℤ, List, Some, length};
 ghost use Rattle.std.specs.List.{prefix_len};
 ghost use Rattle.std.specs.Char.{is_ascii_alphabetic};
-ghost use Rattle.abc_fields.specs.Bytes.{is_blank};
+ghost use Rattle.abc_fields.specs.Bytes.{is_blank, begins};
 ghost use Rattle.abc_keys.specs.declared.signatures.Signature.{Signature as AnySignature};
 ghost use Rattle.abc_keys.specs.declared.scales.Scale.{Scale as AnyScale};
 ghost use Rattle.abc_keys.specs.Signatures.{of_count, HasCount};
 ghost use Rattle.abc_keys.specs.ScaleTable.{listed_count};
 ghost use Rattle.abc_keys.specs.Accidentals.{Setting, SetsItsPairs, LastCounts};
-ghost use Rattle.abc_keys.specs.Keys.{is_ink, is_none, begins, pipes_signature, key_of_scale, key_of_mode, key_after_tonic, key_after_sign, key_after_letter, key_with_tonic, key_of_trimmed, key_of_text, SkipsBlanks};
+ghost use Rattle.abc_keys.specs.Keys.{is_ink, is_none, pipes_signature, key_of_scale, key_of_mode};
+ghost use Rattle.abc_keys.specs.Keys.{key_after_tonic, key_after_sign, key_after_letter};
+ghost use Rattle.abc_keys.specs.Keys.{key_with_tonic, key_of_trimmed, key_of_text, SkipsBlanks};
 
-use crate::accidentals::{is_blank, with_words};
+use crate::accidentals::with_words;
 use crate::keys::Key;
 use crate::letters::{Accidental, Letter, capital_letter};
 use crate::mode_words::{ModeWord, is_word, mode_of};
 use crate::scales::{Mode, Scale, Sign};
 use crate::signatures::{NO_ACCIDENTALS, Signature};
-use abc_fields::trim_blanks;
+use abc_fields::{is_blank, trim_blanks};
 
-/// What a key text says (ABC 2.1, 3.1.14; this archive's profile). The text is a field's value, or what follows `K:` in an inline field.
+/// What a key text says (ABC 2.1, 3.1.14; this archive's profile). The text is a field's value, or
+/// what follows `K:` in an inline field.
 ///
-/// Laws of the rules stand beside it. Words that set accidentals are pairs of an accidental and a letter, one after another, of which the last one for a
-/// letter counts; other words set none. A scale of the table has as many sharps or flats as its count says, in their order, and no others. Spaces and tabs at the ends of a text say nothing.
+/// Laws of the rules stand beside it. Words that set accidentals are pairs of an accidental and a
+/// letter, one after another, of which the last one for a letter counts; other words set none. A
+/// scale of the table has as many sharps or flats as its count says, in their order, and no others.
+/// Spaces and tabs at the ends of a text say nothing.
 #[tactic(auto, unfolding(crate::specs::Keys::key_of_text))]
 pub fn key_of(text: &[u8]) -> Key
     ensures key { result ≡ key_of_text text.now }
     ensures words { (word : List ℕ) → SetsItsPairs word }
-    ensures last_counts { (signature : AnySignature) (pairs : List Setting) → LastCounts signature pairs }
-    ensures counted { (scale : AnyScale) (count : ℤ) → listed_count scale ≡ Some count → HasCount count (of_count count) }
+    ensures last_counts { (signature : AnySignature) (pairs : List Setting)
+        → LastCounts signature pairs }
+    ensures counted { (scale : AnyScale) (count : ℤ)
+        → listed_count scale ≡ Some count → HasCount count (of_count count) }
     ensures skips_blanks { SkipsBlanks text.now }
 {
     key_of_trimmed(trim_blanks(text))
@@ -158,7 +165,9 @@ fn ink_length(text: &[u8]) -> usize
     ensures value { result ≡ prefix_len is_ink text.now }
     ensures within { result ≤ length text.now }
 {
-    text.iter().take_while(|byte| !is_blank(**byte)).count()
+    text.iter()
+        .take_while(|byte| !is_blank(char::from(**byte)))
+        .count()
 }
 
 // How many spaces and tabs stand at the front.
@@ -166,7 +175,9 @@ fn blank_length(text: &[u8]) -> usize
     ensures value { result ≡ prefix_len is_blank text.now }
     ensures within { result ≤ length text.now }
 {
-    text.iter().take_while(|byte| is_blank(**byte)).count()
+    text.iter()
+        .take_while(|byte| is_blank(char::from(**byte)))
+        .count()
 }
 
 // How many letters stand at the front.
@@ -183,7 +194,7 @@ fn begins_blank(text: &[u8]) -> bool
     ensures { result ≡ begins is_blank text.now }
 {
     match text {
-        [byte, ..] => is_blank(*byte),
+        [byte, ..] => is_blank(char::from(*byte)),
         [] => false,
     }
 }

@@ -5,7 +5,8 @@ ghost use Rattle.abc_keys.specs.Keys.{scale_of, signature_of};
 use crate::scales::Scale;
 use crate::signatures::{NO_ACCIDENTALS, Signature};
 
-/// A key as its text says (ABC 2.1, 3.1.14). Each kind but the last one carries its signature as the words of the text set it.
+/// A key as its text says (ABC 2.1, 3.1.14). Each kind but the last one carries its signature as
+/// the words of the text set it.
 #[derive(Clone, Copy, Debug, PartialEq, Eq)]
 pub enum Key {
     /// A scale of the table of 105.

@@ -1,7 +1,8 @@
 //! Reads keys: what the text of a `K:` field says, and which notes are sharp or flat in it.
 //!
-//! The rules are those of the abc music standard 2.1, section 3.1.14, with this archive's profile where the standard
-//! is silent. The bytes of a key text need not be UTF-8, and no call takes memory or refuses.
+//! The rules are those of the abc music standard 2.1, section 3.1.14, with this archive's profile
+//! where the standard is silent. The bytes of a key text need not be UTF-8, and no call takes
+//! memory or refuses.
 #![tactic(auto)]
 
 mod accidentals;

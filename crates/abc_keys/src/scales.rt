@@ -1,7 +1,7 @@
 // Scales, and their places on the line of fifths.
 ghost use Rattle.std.specs.Prelude.{◌≡◌, ◌≤ℤ◌, pos, negsuc, IfSome};
 ghost use Rattle.abc_keys.specs.ScaleTable.{listed_count};
-ghost use Rattle.abc_keys.specs.Fifths.{tonic_fifths, sign_fifths, mode_fifths};
+ghost use Rattle.abc_keys.specs.Inside.Fifths.{tonic_fifths, sign_fifths, mode_fifths};
 
 use crate::letters::Letter;
 
@@ -34,7 +34,8 @@ pub struct Scale {
 }
 
 impl Scale {
-    // How many sharps the scale has, or flats below zero, where it stands in the table of 105 scales: from seven flats to seven sharps.
+    // How many sharps the scale has, or flats below zero, where it stands in the table of 105
+    // scales: from seven flats to seven sharps.
     pub(crate) fn sharp_count(self) -> Option<i32>
         ensures value { result ≡ listed_count self }
         ensures few { IfSome result (λ n. (negsuc 6 ≤ℤ n) × (n ≤ℤ pos 7)) }

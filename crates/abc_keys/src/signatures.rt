@@ -1,7 +1,8 @@
 // Signatures: an accidental for each letter.
 ghost use Rattle.std.specs.Prelude.{◌≡◌, ◌≤ℤ◌, pos, negsuc};
-ghost use Rattle.abc_keys.specs.Signatures.{accidental_at, with_accidental, no_accidentals, of_count};
-ghost use Rattle.abc_keys.specs.Fifths.{by_count};
+ghost use Rattle.abc_keys.specs.Signatures.{accidental_at, with_accidental, no_accidentals};
+ghost use Rattle.abc_keys.specs.Signatures.{of_count};
+ghost use Rattle.abc_keys.specs.Inside.Fifths.{by_count};
 
 use crate::letters::{Accidental, Letter};
 
@@ -54,7 +55,8 @@ impl Signature {
         changed
     }
 
-    // The signature of so many sharps, or flats below zero: each letter is sharp from a number of sharps on, and flat from a number of flats on.
+    // The signature of so many sharps, or flats below zero: each letter is sharp from a number of
+    // sharps on, and flat from a number of flats on.
     pub(crate) fn of_count(count: i32) -> Signature
         requires low { negsuc 6 ≤ℤ count }
         requires high { count ≤ℤ pos 7 }

@@ -41,7 +41,8 @@ fn check_list<R: AllocGlobal + Abort>(
     Ok(())
 }
 
-// Reads the header of a tune of this text. The titles that it has to have are each ended by a line feed, and an empty rhythm stands for none.
+// Reads the header of a tune of this text. The titles that it has to have are each ended by a line
+// feed, and an empty rhythm stands for none.
 fn check<R: AllocGlobal + Abort>(
     rt: &R,
     text: &[u8],
@@ -180,7 +181,8 @@ fn reads_fields_in_any_order(rt: HostRuntime) -> Result<(), Fail> {
     check(&rt, text, b"a\nb\n", b"jig", b"G dor")
 }
 
-// Lines between `%%begin..` and `%%end..` in a header are field lines like others, and a key line there ends it.
+// Lines between `%%begin..` and `%%end..` in a header are field lines like others, and a key line
+// there ends it.
 #[test]
 fn reads_fields_among_typeset_text(rt: HostRuntime) -> Result<(), Fail> {
     let text = b"T:a\n%%begintext\nT:b\nR:reel\nK:D\n%%endtext\nT:c\nR:jig\nK:G\n";

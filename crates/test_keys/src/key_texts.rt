@@ -1,4 +1,5 @@
-// Key texts, and what they have to say. Each row has some texts, with a semicolon between them, what each of them is, and its signature as semitones for C D E F G A B.
+// Key texts, and what they have to say. Each row has some texts, with a semicolon between them,
+// what each of them is, and its signature as semitones for C D E F G A B.
 use crate::readings::{Case, Kind, PLAIN, Semitones, check, check_all};
 use abc_keys::{Letter, Mode, Sign};
 use std::alloc::Global;

@@ -1,4 +1,5 @@
-//! Tests of key texts, and of the fields of a tune's header, against tables that are written out here.
+//! Tests of key texts, and of the fields of a tune's header, against tables that are written out
+//! here.
 #![tactic(auto)]
 
 #[cfg(test)]

@@ -1,4 +1,5 @@
-// Every pair of a tonic and a mode, in several spellings, against the table of key signatures in ABC 2.1, 3.1.14.
+// Every pair of a tonic and a mode, in several spellings, against the table of key signatures in
+// ABC 2.1, 3.1.14.
 use crate::readings::{Kind, PLAIN, Semitones, check};
 use abc_keys::{Letter, Mode, Sign};
 use std::alloc::Global;

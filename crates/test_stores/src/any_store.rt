@@ -6,7 +6,7 @@ ghost use Rattle.tune_store.specs.Stops.{StandsForOne};
 use tune_store::{Command, Refusal, Reply, TuneStore};
 
 /// Carries out a command on an open store. A stop from just before the command on leaves the state before it, or one that it went on to.
-pub fn carry_out<S: TuneStore>(store: &mut S, command: &Command) -> Result<Reply, Refusal>
+pub fn apply_to_open<S: TuneStore>(store: &mut S, command: &Command) -> Result<Reply, Refusal>
     requires is_open { (S.standing store.old).closed ≡ false }
     requires sound { S.sound store.old }
     ensures answer { Answers (S.standing store.old) command.now result (S.standing store.new) }

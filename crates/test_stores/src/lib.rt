@@ -3,10 +3,10 @@
 #![tactic(auto)]
 
 mod any_store;
-mod store;
+mod recorded_store;
 
-pub use any_store::carry_out;
-pub use store::RecordedStore;
+pub use any_store::apply_to_open;
+pub use recorded_store::RecordedStore;
 
 #[cfg(test)]
-mod stores;
+mod tests;

@@ -1,3 +1,5 @@
 mod Kept
+pub mod Moments
 mod Parts
 mod Told
+pub mod Writes

@@ -3,9 +3,10 @@ use Rattle.std.proofs.Common.{◌≡◌, ◌⊎◌, inl, inr, ℕ, ◌+◌, ◌-
 use Rattle.std.proofs.lemmas.Bool.{cases_lt}
 use Rattle.std.proofs.lemmas.List.{get_or_past}
 use Rattle.tune_disk.specs.Disk.{DiskState, Written, Torn, Writes, Syncs}
-use Rattle.tune_disk.specs.Stays.{put_written}
-use Rattle.tune_disk.specs.Record.{put}
-use Rattle.tune_disk.specs.FileTold.{History, Course, told, course, Fits, AllFit, IsToldMore, IsToldRead, IsToldWrite, after_write, after_sync}
+use Rattle.tune_disk.specs.Inside.Overwrites.{put_written}
+use Rattle.tune_disk.specs.Bytes.{put}
+use Rattle.tune_disk.specs.FileTold.{History, Course, told, course, AnswerFits, AnswersFit, after_write, after_sync}
+use Rattle.tune_disk.specs.Inside.ToldMore.{IsToldMore, IsToldRead, IsToldWrite, IsInHand}
 use Rattle.tune_disk.specs.declared.file.told.Told.{Told}
 use Rattle.tune_disk.specs.declared.file.told.Told.TheVariants.{Length, Byte, Ended, Begun, Put, Wrote, Broke, Synced}
 
@@ -13,7 +14,7 @@ pub course_more : (h : History) (c : Course) (all : List (ℕ × Told)) (at : �
 course_more h c [] at one = refl
 course_more h c (first ∷ all) at one = course_more h (told h first.0 first.1 c) all at one
 
-pub fit_more : (h : History) (c : Course) (all : List (ℕ × Told)) (at : ℕ) (one : Told) → AllFit h c (all ++ (at, one) ∷ []) → AllFit h c all × Fits h (course h c all) at one
+pub fit_more : (h : History) (c : Course) (all : List (ℕ × Told)) (at : ℕ) (one : Told) → AnswersFit h c (all ++ (at, one) ∷ []) → AnswersFit h c all × AnswerFits h (course h c all) at one
 fit_more h c [] at one fit = (tt, fit.0)
 fit_more h c (first ∷ all) at one fit = (let rest = fit_more h (told h first.0 first.1 c) all at one fit.1 in ((fit.0, rest.0), rest.1))
 
@@ -21,8 +22,8 @@ module _ (old new : List (ℕ × Told)) (at : ℕ) (one : Told) (is : new ≡ ol
   pub course_is : (h : History) (c : Course) → course h c new ≡ told h at one (course h c old)
   course_is h c = ap (course h c) is ∙ course_more h c old at one
 
-  pub fit_is : (h : History) (c : Course) → AllFit h c new → AllFit h c old × Fits h (course h c old) at one
-  fit_is h c fit = fit_more h c old at one (subst (AllFit h c) is fit)
+  pub fit_is : (h : History) (c : Course) → AnswersFit h c new → AnswersFit h c old × AnswerFits h (course h c old) at one
+  fit_is h c fit = fit_more h c old at one (subst (AnswersFit h c) is fit)
 
 pub told_none : (log : List (ℕ × Told)) → IsToldMore log log
 told_none log = record { fits = λ h c fit. fit; state = λ h c. refl }
@@ -46,7 +47,7 @@ read_byte at n b bytes a m z b_is r is = record {
       | inr ge ↦ inr (omega arith)
     ]
 
-    each : (h : History) (c : Course) → AllFit h c m → Fits h (course h c m) (at + n) (Byte b) → (k : ℕ) → (k < n) ⊎ (k ≡ n) → get_or bytes k 0 ≡ get_or (course h c a).state.seen (at + k) 0
+    each : (h : History) (c : Course) → AnswersFit h c m → AnswerFits h (course h c m) (at + n) (Byte b) → (k : ℕ) → (k < n) ⊎ (k ≡ n) → get_or bytes k 0 ≡ get_or (course h c a).state.seen (at + k) 0
     each h c fit one k (inl less) = r.shown h c fit k less
     each h c fit one k (inr last) = ap (λ (j : ℕ). get_or bytes j 0) last ∙ sym b_is ∙ one ∙ ap (λ (l : List ℕ). get_or l (at + n) 0) (ap (λ s. s.seen) (r.more.state h c)) ∙ ap (λ (j : ℕ). get_or (course h c a).state.seen (at + j) 0) (sym last)
 
@@ -87,7 +88,7 @@ read_join at d n xs ys zs a m z r s front back = record {
       | inr ge ↦ inr (k - d, omega arith, omega arith)
     ]
 
-    each : (h : History) (c : Course) → AllFit h c z → (k : ℕ) → (k < d) ⊎ ((j : ℕ) × (j < n) × (k ≡ d + j)) → get_or zs k 0 ≡ get_or (course h c a).state.seen (at + k) 0
+    each : (h : History) (c : Course) → AnswersFit h c z → (k : ℕ) → (k < d) ⊎ ((j : ℕ) × (j < n) × (k ≡ d + j)) → get_or zs k 0 ≡ get_or (course h c a).state.seen (at + k) 0
     each h c fit k (inl less) = front k less ∙ r.shown h c (s.more.fits h c fit) k less
     each h c fit k (inr it) =
         ap (λ (i : ℕ). get_or zs i 0) it.2 ∙ back it.0 it.1 ∙ s.shown h c fit it.0 it.1 ∙ ap (λ (l : List ℕ). get_or l ((at + d) + it.0) 0) (ap (λ t. t.seen) (r.more.state h c))
@@ -95,12 +96,6 @@ read_join at d n xs ys zs a m z r s front back = record {
       where
         shift : (j : ℕ) → (at + d) + j ≡ at + (d + j)
         shift j = omega arith
-
--- a write in hand: so many of its bytes are told
-pub record IsInHand (bytes : List ℕ) (old new : List (ℕ × Told)) : Type 0 where
-  pub fits : (h : History) (c : Course) → AllFit h c new → AllFit h c old
-  pub state : (h : History) (c : Course) → (course h c new).state ≡ (course h c old).state
-  pub hand : (h : History) (c : Course) → (course h c new).hand ≡ bytes
 
 pub begun : (at : ℕ) (a z : List (ℕ × Told)) → z ≡ a ++ (at, Begun) ∷ [] → IsInHand [] a z
 begun at a z is = record {
@@ -129,14 +124,14 @@ length_more (Ok n) a z ok err = more_told a z 0 (Length n) ok (λ h c. refl)
 length_more (Err e) a z ok err = told_same a z err
 
 pub length_told : {E F : Type 0} (h : History) (c : Course) (r : Result ℕ E) (t : Result ℕ F) (a z : List (ℕ × Told)) → IfOk r (λ n. z ≡ a ++ (0, Length n) ∷ []) → MatchResult r (λ n. t ≡ Ok n) (λ _. IsErr t)
-    → IfOk t (λ n. AllFit h c z → n ≡ length (course h c a).state.seen)
+    → IfOk t (λ n. AnswersFit h c z → n ≡ length (course h c a).state.seen)
 length_told h c (Ok n) (Ok m) a z ok same = λ fit. (let it : m ≡ n = cc in it ∙ (fit_is a z 0 (Length n) ok h c fit).1)
 length_told h c r (Err e) a z ok same = tt
 length_told h c (Err e) (Ok m) a z ok same = cc
 
-pub sync_more : {T E : Type 0} (r : Result T E) (a z : List (ℕ × Told)) → OnOk r (z ≡ a ++ (0, Synced) ∷ []) → OnErr r (z ≡ a) → (h : History) (c : Course) → AllFit h c z → AllFit h c a
+pub sync_more : {T E : Type 0} (r : Result T E) (a z : List (ℕ × Told)) → OnOk r (z ≡ a ++ (0, Synced) ∷ []) → OnErr r (z ≡ a) → (h : History) (c : Course) → AnswersFit h c z → AnswersFit h c a
 sync_more (Ok t) a z ok err h c fit = (fit_is a z 0 Synced ok h c fit).0
-sync_more (Err e) a z ok err h c fit = subst (AllFit h c) err fit
+sync_more (Err e) a z ok err h c fit = subst (AnswersFit h c) err fit
 
 pub sync_told : {T U E F : Type 0} (h : History) (c : Course) (r : Result T E) (t : Result U F) (a z : List (ℕ × Told)) → OnOk r (z ≡ a ++ (0, Synced) ∷ []) → OnErr r (z ≡ a) → is_ok t ≡ is_ok r
     → Syncs t (course h c a).state (course h c z).state
@@ -147,12 +142,12 @@ sync_told h c (Err x) (Err y) a z ok err same = ap (λ (l : List (ℕ × Told)).
 sync_told h c (Ok x) (Err y) a z ok err same = cc
 sync_told h c (Err x) (Ok y) a z ok err same = cc
 
-pub write_more : {T E : Type 0} (r : Result T E) (at : ℕ) (bytes : List ℕ) (a z : List (ℕ × Told)) → OnOk r (IsToldWrite at bytes a z) → OnErr r (z ≡ a ++ (at, Broke (length bytes)) ∷ []) → (h : History) (c : Course) → AllFit h c z → AllFit h c a
+pub write_more : {T E : Type 0} (r : Result T E) (at : ℕ) (bytes : List ℕ) (a z : List (ℕ × Told)) → OnOk r (IsToldWrite at bytes a z) → OnErr r (z ≡ a ++ (at, Broke (length bytes)) ∷ []) → (h : History) (c : Course) → AnswersFit h c z → AnswersFit h c a
 write_more (Ok t) at bytes a z ok err h c fit = ok.fits h c fit
 write_more (Err e) at bytes a z ok err h c fit = (fit_is a z at (Broke (length bytes)) err h c fit).0
 
 pub write_told : {T U E F : Type 0} (h : History) (c : Course) (r : Result T E) (t : Result U F) (at : ℕ) (bytes : List ℕ) (a z : List (ℕ × Told)) → OnOk r (IsToldWrite at bytes a z) → OnErr r (z ≡ a ++ (at, Broke (length bytes)) ∷ []) → is_ok t ≡ is_ok r
-    → AllFit h c z → Writes at bytes t (course h c a).state (course h c z).state
+    → AnswersFit h c z → Writes at bytes t (course h c a).state (course h c z).state
 write_told h c (Ok x) (Ok y) at bytes a z ok err same fit =
     let is = ok.state h c in (
       subst (Written at bytes (course h c a).state.seen) (sym (ap (λ (s : DiskState). s.seen) is)) (put_written at bytes (course h c a).state.seen),

@@ -1,9 +1,30 @@
--- What a file of the operating system told, one thing after another, and what it then stands for.
-use Rattle.std.specs.Prelude.{◌≡◌, ℕ, ◌+◌, ◌<◌, ◌≤◌, List, [], ◌∷◌, ◌++◌, length, slice_index, get_or}
+-- What a file of the operating system told, one answer after another, and what it then stands for.
+use Rattle.std.specs.Prelude.{
+  ◌≡◌,
+  ℕ,
+  ◌+◌,
+  ◌≤◌,
+  List,
+  [],
+  ◌∷◌,
+  ◌++◌,
+  length,
+  slice_index,
+  get_or,
+}
+use Rattle.tune_disk.specs.Bytes.{put}
 use Rattle.tune_disk.specs.Disk.{DiskState, Torn, touched, settled, fresh}
-use Rattle.tune_disk.specs.Record.{put}
 use Rattle.tune_disk.specs.declared.file.told.Told.{Told}
-use Rattle.tune_disk.specs.declared.file.told.Told.TheVariants.{Length, Byte, Ended, Begun, Put, Wrote, Broke, Synced}
+use Rattle.tune_disk.specs.declared.file.told.Told.TheVariants.{
+  Length,
+  Byte,
+  Ended,
+  Begun,
+  Put,
+  Wrote,
+  Broke,
+  Synced,
+}
 
 -- What nothing that a file tells says of it.
 pub record History : Type 0 where
@@ -12,32 +33,46 @@ pub record History : Type 0 where
   -- what the file held after each write that failed, in their order
   pub broken : List (List ℕ)
 
--- The history of an opening. It is abstract, and no clause says which opening a disk has: what is proved holds whatever the history is.
+-- The history of an opening. It is abstract, and no clause says which opening a disk has: what is
+-- proved holds whatever the history is.
 pub history_of : ℕ → History
 history_of opening = record { opened = fresh []; broken = [] }
 
--- a file as it goes on: what it stands for, the bytes of the write in hand, and how many writes have failed
+-- A file as it goes on: what it stands for, the bytes of the write in hand, and how many writes
+-- have failed.
 pub record Course : Type 0 where
   pub state : DiskState
   pub hand : List ℕ
   pub failed : ℕ
 
--- the state after a write of so many bytes at a place, which left this content
+abbrev pub at_opening : History → Course
+at_opening h = record { state = h.opened; hand = []; failed = 0 }
+
+-- the state after a write of so many bytes at an offset, which left this content
 abbrev pub after_write : ℕ → ℕ → List ℕ → DiskState → DiskState
-after_write at n content s = record { seen = content; now = touched at n s.now; past = s.now ∷ s.past }
+after_write at n content s =
+    record { seen = content; now = touched at n s.now; past = s.now ∷ s.past }
 
 abbrev pub after_sync : DiskState → DiskState
 after_sync s = record { seen = s.seen; now = settled s.seen; past = s.now ∷ s.past }
 
--- the file after it told this of a place
+-- the file after it told this of an offset
 abbrev pub told : History → ℕ → Told → Course → Course
 told h at (Length n) c = c
 told h at (Byte b) c = c
 told h at Ended c = c
 told h at Begun c = record { state = c.state; hand = []; failed = c.failed }
 told h at (Put b) c = record { state = c.state; hand = c.hand ++ b ∷ []; failed = c.failed }
-told h at Wrote c = record { state = after_write at (length c.hand) (put at c.hand c.state.seen) c.state; hand = c.hand; failed = c.failed }
-told h at (Broke n) c = record { state = after_write at n (get_or h.broken c.failed []) c.state; hand = c.hand; failed = c.failed + 1 }
+told h at Wrote c = record {
+  state = after_write at (length c.hand) (put at c.hand c.state.seen) c.state;
+  hand = c.hand;
+  failed = c.failed;
+}
+told h at (Broke n) c = record {
+  state = after_write at n (get_or h.broken c.failed []) c.state;
+  hand = c.hand;
+  failed = c.failed + 1;
+}
 told h at Synced c = record { state = after_sync c.state; hand = c.hand; failed = c.failed }
 
 -- and after all of these, the first first
@@ -45,35 +80,19 @@ abbrev pub course : History → Course → List (ℕ × Told) → Course
 course h c [] = c
 course h c (one ∷ more) = course h (told h one.0 one.1 c) more
 
--- what is told of a place fits what the file stands for
-abbrev pub Fits : History → Course → ℕ → Told → Type 0
-Fits h c at (Length n) = n ≡ length c.state.seen
-Fits h c at (Byte b) = b ≡ slice_index c.state.seen at
-Fits h c at Ended = length c.state.seen ≤ at
-Fits h c at Begun = Unit {0}
-Fits h c at (Put b) = Unit {0}
-Fits h c at Wrote = Unit {0}
-Fits h c at (Broke n) = Torn at n c.state.seen (get_or h.broken c.failed [])
-Fits h c at Synced = Unit {0}
+-- what is told of an offset fits what the file stands for
+abbrev pub AnswerFits : History → Course → ℕ → Told → Type 0
+AnswerFits h c at (Length n) = n ≡ length c.state.seen
+AnswerFits h c at (Byte b) = b ≡ slice_index c.state.seen at
+AnswerFits h c at Ended = length c.state.seen ≤ at
+AnswerFits h c at Begun = Unit {0}
+AnswerFits h c at (Put b) = Unit {0}
+AnswerFits h c at Wrote = Unit {0}
+AnswerFits h c at (Broke n) = Torn at n c.state.seen (get_or h.broken c.failed [])
+AnswerFits h c at Synced = Unit {0}
 
-abbrev pub AllFit : History → Course → List (ℕ × Told) → Type 0
-AllFit h c [] = Unit {0}
-AllFit h c (one ∷ more) = Fits h c one.0 one.1 × AllFit h (told h one.0 one.1 c) more
-
-abbrev pub at_opening : History → Course
-at_opening h = record { state = h.opened; hand = []; failed = 0 }
-
--- What was told before fits where all does, and the file stands for the same.
-pub record IsToldMore (old new : List (ℕ × Told)) : Type 0 where
-  pub fits : (h : History) (c : Course) → AllFit h c new → AllFit h c old
-  pub state : (h : History) (c : Course) → (course h c new).state ≡ (course h c old).state
-
--- So it is, and the first n of these bytes are those that stand there.
-pub record IsToldRead (at n : ℕ) (bytes : List ℕ) (old new : List (ℕ × Told)) : Type 0 where
-  pub more : IsToldMore old new
-  pub shown : (h : History) (c : Course) → AllFit h c new → (k : ℕ) → k < n → slice_index bytes k ≡ slice_index (course h c old).state.seen (at + k)
-
--- What was told before fits where all does, and these bytes were written.
-pub record IsToldWrite (at : ℕ) (bytes : List ℕ) (old new : List (ℕ × Told)) : Type 0 where
-  pub fits : (h : History) (c : Course) → AllFit h c new → AllFit h c old
-  pub state : (h : History) (c : Course) → (course h c new).state ≡ after_write at (length bytes) (put at bytes (course h c old).state.seen) (course h c old).state
+-- each of these does, where the file stands when it is told
+abbrev pub AnswersFit : History → Course → List (ℕ × Told) → Type 0
+AnswersFit h c [] = Unit {0}
+AnswersFit h c (one ∷ more) =
+    AnswerFits h c one.0 one.1 × AnswersFit h (told h one.0 one.1 c) more

@@ -1,11 +1,9 @@
 pub mod Bytes
 pub mod Disk
 pub mod FileDisk
-pub mod FileStays
 pub mod FileTold
+pub mod Inside
 pub mod Memory
-pub mod Moments
-pub mod Record
-pub mod Stays
+pub mod Records
 pub mod Stops
 pub mod Wrapped

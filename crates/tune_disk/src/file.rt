@@ -1,8 +1,22 @@
 // A disk over a file of the operating system.
-ghost use Rattle.std.specs.Prelude.{◌≡◌, ◌≢◌, ◌+◌, ◌^◌, ◌≤◌, length, [], IfOk, OnOk, OnErr, IfSome, IsErr, MatchResult};
+ghost use Rattle.std.specs.Prelude.{
+  ◌≡◌,
+  ◌≢◌,
+  ◌+◌,
+  ◌^◌,
+  ◌≤◌,
+  length,
+  [],
+  IfOk,
+  OnOk,
+  OnErr,
+  IfSome,
+  IsErr,
+  MatchResult,
+};
 ghost use Rattle.std.specs.Path.{path_parent};
 ghost use Rattle.tune_disk.specs.Disk.{CountsFailure};
-ghost use Rattle.tune_disk.specs.FileTold.{IsToldRead, IsToldMore};
+ghost use Rattle.tune_disk.specs.Inside.ToldMore.{IsToldRead, IsToldMore};
 
 mod calls;
 mod told;
@@ -16,11 +30,13 @@ use std::path::{AsPath, Path};
 use std::snapshot::Snapshot;
 use told::Told;
 
-/// A file of the operating system, open for reading and writing. Its answers are kept for clauses alone, which speak of files whose answers fit.
+/// A file of the operating system, open for reading and writing. Its answers are kept for clauses
+/// alone, which speak of files whose answers fit.
 #[derive(Drop)]
 pub struct FileDisk {
     file: File,
-    // Which opening this is, and what the file told since. Clauses alone read them: they take no memory.
+    // Which opening this is, and what the file told since. Clauses alone read them: they take no
+    // memory.
     opening: Snapshot<u64>,
     log: Log<u64, Told>,
     failed: u64,
@@ -29,7 +45,8 @@ pub struct FileDisk {
 impl FileDisk {
     ghost use Rattle.tune_disk.specs.FileDisk.{HasJustOpened};
 
-    /// The file at this path, as it is. A fault where there is none, or where it may not be read and written.
+    /// The file at this path, as it is. A fault where there is none, or where it may not be read and
+    /// written.
     pub fn open<R: Files<File = File>, P: AsPath>(rt: &R, path: P) -> Result<FileDisk, DeviceFault>
         ensures { IfOk result HasJustOpened }
     {
@@ -41,7 +58,9 @@ impl FileDisk {
         }
     }
 
-    /// The file at this path, as it is, or a new empty one. Its folder is synced, so that a stop leaves a new file there.
+    /// The file at this path, as it is, or a new empty one. Its folder is synced, so that a stop
+    /// leaves a new file there. A fault where none can be made, or where it may not be read and
+    /// written.
     pub fn create<R: Files<File = File>, P: AsPath>(
         rt: &R,
         path: P,
@@ -84,7 +103,8 @@ fn folder_of(path: &str) -> &str
 }
 
 impl Disk for FileDisk {
-    ghost use Rattle.tune_disk.specs.FileDisk.{file_state, FileIsHonest, file_stays};
+    ghost use Rattle.tune_disk.specs.FileDisk.{file_state, FileIsHonest};
+    ghost use Rattle.tune_disk.specs.Inside.FileStays.{file_stays};
 
     ghost state = { file_state };
 
@@ -118,7 +138,7 @@ impl Disk for FileDisk {
 // The answer without its error, which is counted.
 fn counted<T: Drop>(done: io::Result<T>, failed: &mut u64) -> Result<T, DeviceFault>
     ensures same { MatchResult done (λ v. result ≡ Ok v) (λ _. IsErr result) }
-    ensures failures { CountsFailure result failed.old failed.new }
+    ensures counted { CountsFailure result failed.old failed.new }
 {
     match done {
         Ok(value) => Ok(value),

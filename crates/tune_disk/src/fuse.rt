@@ -1,13 +1,14 @@
 // A disk whose calls fail from some call on.
 ghost use Rattle.std.specs.Prelude.{◌≡◌, ◌+◌, ◌-◌, ◌≤◌, ◌^◌, ◌↔◌, IsErr, IfOk, OnOk, length};
-ghost use Rattle.tune_disk.specs.Disk.{CountsFailure, Shows, Writes, Syncs};
-ghost use Rattle.tune_disk.specs.Wrapped.{Burns};
+ghost use Rattle.tune_disk.specs.Disk.{CountsFailure, Calls, Looks, Shows, Writes, Syncs};
+ghost use Rattle.tune_disk.specs.Wrapped.{Burns, fused_state, fused_honest, fused_failures};
 
 use crate::{DeviceFault, Disk};
 use std::marker::Model;
 
-/// A disk that passes so many calls on to the disk within it, and then fails each one, without a call of that disk. It is honest as that disk is.
-/// A clause sees the disk within, how many calls pass yet, and how often the fuse itself has failed.
+/// A disk that passes so many calls on to the disk within it, and then fails each one, without a
+/// call of that disk. It is honest as that disk is. A clause sees the disk within, how many calls
+/// pass yet, and how often the fuse itself has failed.
 #[derive(Drop)]
 pub struct FuseDisk<D: Disk> {
     disk: D,
@@ -16,7 +17,8 @@ pub struct FuseDisk<D: Disk> {
 }
 
 impl<D: Disk> Model for FuseDisk<D> {
-    ghost use Rattle.tune_disk.specs.Wrapped.{Fused, fused_code};
+    ghost use Rattle.tune_disk.specs.Inside.Codes.{fused_code};
+    ghost use Rattle.tune_disk.specs.Wrapped.{Fused};
 
     ghost Value = { Fused D };
 
@@ -54,7 +56,7 @@ impl<D: Disk> FuseDisk<D> {
 
 // Counts one call, which fails where no call is left.
 fn spend(calls_left: &mut u64, failed: &mut u64) -> Result<(), DeviceFault>
-    ensures failures { CountsFailure result failed.old failed.new }
+    ensures counted { CountsFailure result failed.old failed.new }
     ensures blown { IsErr result ↔ (calls_left.old ≡ 0) }
     ensures left { calls_left.new ≡ calls_left.old - 1 }
 {
@@ -67,19 +69,18 @@ fn spend(calls_left: &mut u64, failed: &mut u64) -> Result<(), DeviceFault>
 }
 
 impl<D: Disk> Disk for FuseDisk<D> {
-    ghost state = { λ fuse. D.Disk.state fuse.disk };
+    ghost state = { fused_state D.Disk.state };
 
-    ghost failures = { λ fuse. D.Disk.failures fuse.disk + fuse.failed };
+    ghost failures = { fused_failures D.Disk.failures };
 
-    ghost honest = { λ fuse. D.Disk.honest fuse.disk };
+    ghost honest = { fused_honest D.Disk.honest };
 
     ghost seen_may_stay = { λ fuse. D.Disk.seen_may_stay fuse.disk };
 
     fn len(&mut self) -> Result<u64, DeviceFault>
-        ensures honest { D.honest self.new.disk → D.honest self.old.disk }
         ensures len { IfOk result (λ n. D.honest self.new.disk → n ≡ length (D.state self.old.disk).seen) }
-        ensures state { D.honest self.new.disk → D.state self.new.disk ≡ D.state self.old.disk }
-        ensures failures { CountsFailure result (D.failures self.old.disk + self.old.failed) (D.failures self.new.disk + self.new.failed) }
+        ensures looks { Looks (fused_honest D.honest) (fused_failures D.failures) (fused_state D.state)
+            result self.old self.new }
         ensures burns { Burns D.failures result self.old self.new }
     {
         spend(&mut self.calls_left, &mut self.failed)?;
@@ -88,10 +89,9 @@ impl<D: Disk> Disk for FuseDisk<D> {
 
     fn read(&mut self, at: u64, into: &mut [u8]) -> Result<(), DeviceFault>
         requires { at + length into.old ≤ 2 ^ 40 }
-        ensures honest { D.honest self.new.disk → D.honest self.old.disk }
         ensures read { OnOk result (D.honest self.new.disk → Shows (D.state self.old.disk).seen at into.new) }
-        ensures state { D.honest self.new.disk → D.state self.new.disk ≡ D.state self.old.disk }
-        ensures failures { CountsFailure result (D.failures self.old.disk + self.old.failed) (D.failures self.new.disk + self.new.failed) }
+        ensures looks { Looks (fused_honest D.honest) (fused_failures D.failures) (fused_state D.state)
+            result self.old self.new }
         ensures burns { Burns D.failures result self.old self.new }
     {
         spend(&mut self.calls_left, &mut self.failed)?;
@@ -100,9 +100,9 @@ impl<D: Disk> Disk for FuseDisk<D> {
 
     fn write_at(&mut self, at: u64, bytes: &[u8]) -> Result<(), DeviceFault>
         requires { at + length bytes.now ≤ 2 ^ 40 }
-        ensures honest { D.honest self.new.disk → D.honest self.old.disk }
-        ensures write { D.honest self.new.disk → Writes at bytes.now result (D.state self.old.disk) (D.state self.new.disk) }
-        ensures failures { CountsFailure result (D.failures self.old.disk + self.old.failed) (D.failures self.new.disk + self.new.failed) }
+        ensures write { D.honest self.new.disk
+            → Writes at bytes.now result (D.state self.old.disk) (D.state self.new.disk) }
+        ensures calls { Calls (fused_honest D.honest) (fused_failures D.failures) result self.old self.new }
         ensures burns { Burns D.failures result self.old self.new }
     {
         // A blown fuse writes nothing.
@@ -111,9 +111,8 @@ impl<D: Disk> Disk for FuseDisk<D> {
     }
 
     fn sync(&mut self) -> Result<(), DeviceFault>
-        ensures honest { D.honest self.new.disk → D.honest self.old.disk }
         ensures sync { D.honest self.new.disk → Syncs result (D.state self.old.disk) (D.state self.new.disk) }
-        ensures failures { CountsFailure result (D.failures self.old.disk + self.old.failed) (D.failures self.new.disk + self.new.failed) }
+        ensures calls { Calls (fused_honest D.honest) (fused_failures D.failures) result self.old self.new }
         ensures burns { Burns D.failures result self.old self.new }
     {
         spend(&mut self.calls_left, &mut self.failed)?;

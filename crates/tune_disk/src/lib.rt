@@ -3,15 +3,15 @@
 
 mod buffers;
 mod disk;
-mod fault;
 mod file;
 mod fuse;
 mod laws;
 mod memory;
+mod one_fault;
 
 pub use disk::{DeviceFault, Disk};
-pub use fault::OneFault;
 pub use file::FileDisk;
 pub use fuse::FuseDisk;
 pub use laws::law_of_stops;
 pub use memory::{MemoryDisk, StopChoice};
+pub use one_fault::OneFault;

@@ -1,36 +1,58 @@
 // A disk in memory, which keeps a record of its writes and syncs.
-ghost use Rattle.std.specs.Prelude.{◌≡◌, ◌∷◌, ◌++◌, [], ◌<◌, ◌≤◌, ◌^◌, ◌+◌, IfOk, OnOk, OnErr, IsOk, is_ok, length, take, drop};
-ghost use Rattle.tune_disk.specs.Disk.{Written, Writes, Shows, CountsFailure, filled};
-ghost use Rattle.tune_disk.specs.Record.{state_of};
+ghost use Rattle.std.specs.Prelude.{
+  ◌≡◌,
+  ◌∷◌,
+  ◌++◌,
+  [],
+  ◌<◌,
+  ◌≤◌,
+  ◌^◌,
+  ◌+◌,
+  IfOk,
+  OnOk,
+  OnErr,
+  IsOk,
+  is_ok,
+  length,
+  take,
+  drop,
+};
+ghost use Rattle.tune_disk.specs.Disk.{Written, Writes, Shows, CountsFailure};
+ghost use Rattle.tune_disk.specs.Bytes.{filled};
+ghost use Rattle.tune_disk.specs.Records.{state_of};
 
 use crate::buffers::{clear_from, copy_front};
 use crate::{DeviceFault, Disk};
 use std::alloc::{AllocError, Global};
 
+/// What was done to a file.
 #[derive(Drop)]
-pub(crate) enum Step {
+pub(crate) enum Record {
+    /// These bytes were written at this offset.
     Write(u64, Vec<u8>),
     Sync,
 }
 
-/// Which of the files that a stop (a crash or power loss) may leave: `Lost` is what the last sync left, as where nothing written since came to the
-/// device, and `Kept` the present content, as where all of it did.
+/// Which of the files that a stop (a crash or power loss) may leave: `Lost` is what the last sync
+/// left, as where nothing written since came to the disk, and `Kept` the present content, as where
+/// all of it did.
 #[derive(Clone, Copy, Debug, PartialEq, Eq)]
 pub enum StopChoice {
     Lost,
     Kept,
 }
 
-/// A file in memory, which is always honest. It keeps a record of all its writes and syncs, so that it can tell what a stop would leave; a write or a
-/// sync that finds no memory for its record is a fault, and changes nothing.
+/// A file in memory, which is always honest. It keeps a record of all its writes and syncs, so that
+/// it can show what a stop would leave; a write or a sync that finds no memory for its record is a
+/// fault, and changes nothing.
 #[derive(Drop)]
 pub struct MemoryDisk {
     alloc: Global,
     first: Vec<u8>,
-    steps: Vec<Step>,
+    records: Vec<Record>,
     content: Vec<u8>,
     failed: u64,
-    ghost replays: { content.items ≡ (state_of first.items steps.items).seen },
+    ghost replays: { content.items ≡ (state_of first.items records.items).seen },
 }
 
 impl MemoryDisk {
@@ -44,7 +66,7 @@ impl MemoryDisk {
         MemoryDisk {
             alloc,
             first: Vec::new(alloc),
-            steps: Vec::new(alloc),
+            records: Vec::new(alloc),
             content: Vec::new(alloc),
             failed: 0,
         }
@@ -57,7 +79,7 @@ impl MemoryDisk {
         Ok(MemoryDisk {
             alloc,
             first: bytes.to_vec(alloc)?,
-            steps: Vec::new(alloc),
+            records: Vec::new(alloc),
             content: bytes.to_vec(alloc)?,
             failed: 0,
         })
@@ -70,15 +92,18 @@ impl MemoryDisk {
         &self.content
     }
 
-    /// One of the files that a stop may leave now, as a disk that holds just that. An error comes for want of memory alone.
+    /// One of the files that a stop may leave now, as a disk that holds just that. An error comes
+    /// out of memory alone.
     pub fn stopped(&self, choice: StopChoice) -> Result<MemoryDisk, AllocError>
         ensures file { IfOk result (λ disk. MayLeave (memory_state self.now).now (memory_state disk).seen) }
         ensures fresh { IfOk result (λ disk. memory_state disk ≡ fresh (memory_state disk).seen) }
-        ensures lost { IfOk result (λ disk. choice ≡ StopChoice.Lost → (memory_state disk).seen ≡ (memory_state self.now).now.stable) }
-        ensures kept { IfOk result (λ disk. choice ≡ StopChoice.Kept → (memory_state disk).seen ≡ (memory_state self.now).seen) }
+        ensures lost { IfOk result (λ disk. choice ≡ StopChoice.Lost
+            → (memory_state disk).seen ≡ (memory_state self.now).now.stable) }
+        ensures kept { IfOk result (λ disk. choice ≡ StopChoice.Kept
+            → (memory_state disk).seen ≡ (memory_state self.now).seen) }
     {
         let file = match choice {
-            StopChoice::Lost => stable(self.alloc, &self.first, &self.steps)?,
+            StopChoice::Lost => stable(self.alloc, &self.first, &self.records)?,
             StopChoice::Kept => self.content.to_vec(self.alloc)?,
         };
         MemoryDisk::from_bytes(self.alloc, &file)
@@ -86,22 +111,23 @@ impl MemoryDisk {
 }
 
 // What the last sync left.
-fn stable(alloc: Global, first: &[u8], steps: &[Step]) -> Result<Vec<u8>, AllocError>
-    ensures { IfOk result (λ file. file.items ≡ (state_of first.now steps.now).now.stable) }
+fn stable(alloc: Global, first: &[u8], records: &[Record]) -> Result<Vec<u8>, AllocError>
+    ensures { IfOk result (λ file. file.items ≡ (state_of first.now records.now).now.stable) }
 {
     let mut stable = first.to_vec(alloc)?;
     let mut content = first.to_vec(alloc)?;
-    for step in steps {
-        match step {
-            Step::Write(at, bytes) => overwrite(&mut content, *at, bytes)?,
-            Step::Sync => stable = content.to_vec(alloc)?,
+    for one in records {
+        match one {
+            Record::Write(at, bytes) => overwrite(&mut content, *at, bytes)?,
+            Record::Sync => stable = content.to_vec(alloc)?,
         }
     }
     Ok(stable)
 }
 
 impl Disk for MemoryDisk {
-    ghost use Rattle.tune_disk.specs.Memory.{memory_state, memory_failures, memory_stays};
+    ghost use Rattle.tune_disk.specs.Memory.{memory_state, memory_failures};
+    ghost use Rattle.tune_disk.specs.Inside.Stays.{memory_stays};
 
     ghost state = { memory_state };
 
@@ -140,20 +166,20 @@ impl Disk for MemoryDisk {
         ensures err { OnErr result (memory_state self.new ≡ memory_state self.old) }
         ensures failures { CountsFailure result (memory_failures self.old) (memory_failures self.new) }
     {
-        let done = write_and_note(self.alloc, &mut self.content, &mut self.steps, at, bytes);
+        let done = write_and_record(self.alloc, &mut self.content, &mut self.records, at, bytes);
         count(done, &mut self.failed)
     }
 
     fn sync(&mut self) -> Result<(), DeviceFault> {
-        let done = note(&mut self.steps, Step::Sync);
+        let done = keep_record(&mut self.records, Record::Sync);
         count(done, &mut self.failed)
     }
 }
 
-// Counts want of memory as a fault.
+// Counts a call that was out of memory as a fault.
 fn count(done: Result<(), AllocError>, failed: &mut u64) -> Result<(), DeviceFault>
     ensures same { is_ok result ≡ is_ok done }
-    ensures failures { CountsFailure result failed.old failed.new }
+    ensures counted { CountsFailure result failed.old failed.new }
 {
     if done.is_err() {
         *failed = failed.saturating_add(1);
@@ -162,30 +188,31 @@ fn count(done: Result<(), AllocError>, failed: &mut u64) -> Result<(), DeviceFau
     Ok(())
 }
 
-fn note(steps: &mut Vec<Step>, step: Step) -> Result<(), AllocError>
-    ensures ok { OnOk result (steps.new.items ≡ steps.old.items ++ step ∷ []) }
-    ensures err { OnErr result (steps.new.items ≡ steps.old.items) }
+fn keep_record(records: &mut Vec<Record>, one: Record) -> Result<(), AllocError>
+    ensures ok { OnOk result (records.new.items ≡ records.old.items ++ one ∷ []) }
+    ensures err { OnErr result (records.new.items ≡ records.old.items) }
 {
-    steps.push(step)?;
+    records.push(one)?;
     Ok(())
 }
 
-// Notes a write and makes it, or does neither.
-fn write_and_note(
+// Keeps the record of a write and makes it, or does neither.
+fn write_and_record(
     alloc: Global,
     content: &mut Vec<u8>,
-    steps: &mut Vec<Step>,
+    records: &mut Vec<Record>,
     at: u64,
     bytes: &[u8],
 ) -> Result<(), AllocError>
     ensures content { OnOk result (Written at bytes.now content.old.items content.new.items) }
-    ensures steps { OnOk result ((v : _) × (v.items ≡ bytes.now) × (steps.new.items ≡ steps.old.items ++ Step.Write at v ∷ [])) }
+    ensures records { OnOk result ((v : _) × (v.items ≡ bytes.now)
+        × (records.new.items ≡ records.old.items ++ Record.Write at v ∷ [])) }
     ensures content_err { OnErr result (content.new.items ≡ content.old.items) }
-    ensures steps_err { OnErr result (steps.new.items ≡ steps.old.items) }
+    ensures records_err { OnErr result (records.new.items ≡ records.old.items) }
 {
-    note(steps, Step::Write(at, bytes.to_vec(alloc)?))?;
+    keep_record(records, Record::Write(at, bytes.to_vec(alloc)?))?;
     if let Err(error) = overwrite(content, at, bytes) {
-        let _ = steps.pop();
+        let _ = records.pop();
         return Err(error);
     }
     Ok(())
@@ -224,7 +251,7 @@ fn overwrite(file: &mut Vec<u8>, at: u64, bytes: &[u8]) -> Result<(), AllocError
     Ok(())
 }
 
-// Fills a buffer from a place on; past the file's end with zeros.
+// Fills a buffer from an offset on; past the file's end with zeros.
 fn show(file: &[u8], at: usize, into: &mut [u8])
     ensures { Shows file.now at into.new }
 {

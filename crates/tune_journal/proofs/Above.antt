@@ -7,12 +7,13 @@ use Rattle.std.proofs.lemmas.Bool.{cases_eq}
 use Rattle.tune_disk.specs.Disk.{DiskState, MayLeave}
 use Rattle.tune_disk.specs.Stops.{LeavesOnly, SinceThen}
 use Rattle.tune_disk.specs.Moments.{since_then, since_weaker}
-use Rattle.tune_journal.specs.ChangeList.{image_of, AreAbove, Rises}
+use Rattle.tune_journal.specs.ChangeList.{image_of, AreAbove, PagesRise}
 use Rattle.tune_journal.specs.Image.{StandsFor, gate_of}
 use Rattle.tune_journal.specs.Pages.{page_at, changed, pages_after}
 use Rattle.tune_journal.proofs.ChangeLists.{rises_from_increasing, image_of_none}
 use Rattle.tune_journal.proofs.Changed.{length-changed}
 use Rattle.tune_journal.specs.Moments.{Goes, LeftOrSame}
+use Rattle.tune_journal.specs.Layout.{gate_open}
 
 module _ {D : Type 0} (honest : D → Type 0) (state : D → DiskState) where
   pub goes_then : (a b c : D) (P : List ℕ → Type 0) → Goes honest state a b P → Goes honest state b c P → Goes honest state a c P
@@ -26,7 +27,7 @@ module _ {D : Type 0} (honest : D → Type 0) (state : D → DiskState) where
 
 -- A file stands for one list of pages at most.
 pub stands_once : (a b : List (List ℕ)) (file : List ℕ) → StandsFor a file → StandsFor b file → a ≡ b
-stands_once a b file s t = elim (cases_eq (gate_of file) 167) [
+stands_once a b file s t = elim (cases_eq (gate_of file) gate_open) [
   | inl is ↦ (s.is_open is).1 ∙ sym (t.is_open is).1
   | inr shut ↦ (s.is_closed shut).1 ∙ sym (t.is_closed shut).1
 ]
@@ -65,7 +66,7 @@ length-pages_after pages m changes le =
 pub page_kept_after : (pages : List (List ℕ)) (m : ℕ) (changes : List (ℕ × List ℕ)) (p : ℕ) → p < length pages → image_of p changes ≡ None → page_at (pages_after pages m changes) p ≡ page_at pages p
 page_kept_after pages m changes p lt none = page_kept (pages ++ replicate (m - length pages) []) changes p none ∙ get_or_append_left pages (replicate (m - length pages) []) [] p lt
 
-changed_at : (pages : List (List ℕ)) (changes : List (ℕ × List ℕ)) (p : ℕ) (image : List ℕ) → Rises changes → p < length pages → image_of p changes ≡ Some image → page_at (changed pages changes) p ≡ image
+changed_at : (pages : List (List ℕ)) (changes : List (ℕ × List ℕ)) (p : ℕ) (image : List ℕ) → PagesRise changes → p < length pages → image_of p changes ≡ Some image → page_at (changed pages changes) p ≡ image
 changed_at pages [] p image rises lt some = absurd (let e = some in cc)
 changed_at pages ((q, i) ∷ rest) p image rises lt some = elim (cases_eq p q) [
   | inl same ↦ (let found : image_of p ((q, i) ∷ rest) ≡ Some i = grind (arith, nat_tests, same) in

@@ -10,7 +10,8 @@ use Rattle.std.proofs.lemmas.Bool.{cases_order}
 use Rattle.std.proofs.lemmas.Bool.Decides.{nat_tests}
 use Rattle.tune_journal.specs.declared.changes.ChangedPage.{ChangedPage}
 use Rattle.tune_journal.specs.Listed.{change_in, listed}
-use Rattle.tune_journal.specs.ChangeList.{IsChangeList, with_change, image_of, change_at, changed_page, AreBelow, AreAbove, Rises, FoundAt, MissingAt}
+use Rattle.tune_journal.specs.ChangeList.{IsChangeList, with_change, image_of, change_at, changed_page, AreBelow, AreAbove, PagesRise, FoundAt, MissingAt}
+use Rattle.tune_journal.specs.Layout.{block_bytes}
 
 abbrev Change : Type 0
 Change = ℕ × List ℕ
@@ -90,7 +91,7 @@ above_lower low page [] lt above = tt
 above_lower low page (c ∷ cs) lt above = (omega (arith, above.0), above_lower low page cs lt above.1)
 
 -- where the page at a place is above this one, so is each after it
-pub above_from_first : (page at : ℕ) (l : List Change) → Rises l → (at < length l → page < changed_page l at) → AreAbove page (drop at l)
+pub above_from_first : (page at : ℕ) (l : List Change) → PagesRise l → (at < length l → page < changed_page l at) → AreAbove page (drop at l)
 above_from_first page zero [] rises first = tt
 above_from_first page zero (c ∷ cs) rises first = (let lt : page < c.0 = first (omega arith) in (lt, above_lower page c.0 cs lt rises.0))
 above_from_first page (suc at) [] rises first = tt
@@ -104,18 +105,18 @@ above_with low page image (c ∷ cs) lt above = elim (cases_order page c.0) [
   | inr (inr more) ↦ subst (AreAbove low) (sym (with_after page image c cs more)) (above.0, above_with low page image cs lt above.1)
 ]
 
-pub rises_with : (page : ℕ) (image : List ℕ) (l : List Change) → Rises l → Rises (with_change page image l)
+pub rises_with : (page : ℕ) (image : List ℕ) (l : List Change) → PagesRise l → PagesRise (with_change page image l)
 rises_with page image [] rises = (tt, tt)
 rises_with page image (c ∷ cs) rises = elim (cases_order page c.0) [
-  | inl is ↦ subst Rises (sym (with_same page image c cs (sym is))) (subst (λ (p : ℕ). AreAbove p cs) (sym is) rises.0, rises.1)
-  | inr (inl less) ↦ subst Rises (sym (with_before page image c cs less)) ((less, above_lower page c.0 cs less rises.0), rises)
-  | inr (inr more) ↦ subst Rises (sym (with_after page image c cs more)) (above_with c.0 page image cs more rises.0, rises_with page image cs rises.1)
+  | inl is ↦ subst PagesRise (sym (with_same page image c cs (sym is))) (subst (λ (p : ℕ). AreAbove p cs) (sym is) rises.0, rises.1)
+  | inr (inl less) ↦ subst PagesRise (sym (with_before page image c cs less)) ((less, above_lower page c.0 cs less rises.0), rises)
+  | inr (inr more) ↦ subst PagesRise (sym (with_after page image c cs more)) (above_with c.0 page image cs more rises.0, rises_with page image cs rises.1)
 ]
 
 abbrev IsSized : Change → Type 0
-IsSized c = length c.1 ≡ 4096
+IsSized c = length c.1 ≡ block_bytes
 
-pub sized_with : (page : ℕ) (image : List ℕ) (l : List Change) → length image ≡ 4096 → All (λ c. length c.1 ≡ 4096) l → All (λ c. length c.1 ≡ 4096) (with_change page image l)
+pub sized_with : (page : ℕ) (image : List ℕ) (l : List Change) → length image ≡ block_bytes → All (λ c. length c.1 ≡ block_bytes) l → All (λ c. length c.1 ≡ block_bytes) (with_change page image l)
 sized_with page image [] size sized = All-cons IsSized (page, image) [] size sized
 sized_with page image (c ∷ cs) size sized =
     let later : All IsSized cs = All-tail IsSized c cs sized in
@@ -134,20 +135,20 @@ above_from_less : (low : ℕ) (l : List Change) → AllByRecursion (λ p. nat_cm
 above_from_less low [] less = tt
 above_from_less low (c ∷ cs) less = (let is : nat_cmp low c.0 ≡ Less = less.0 in grind (arith, nat_tests), above_from_less low cs less.1)
 
-sorted_from_rises : (l : List Change) → Rises l → IsStrictlySortedBy nat_cmp (map (λ c. c.0) l)
+sorted_from_rises : (l : List Change) → PagesRise l → IsStrictlySortedBy nat_cmp (map (λ c. c.0) l)
 unfolding IsStrictlySortedBy
 sorted_from_rises [] rises = tt
 sorted_from_rises (c ∷ cs) rises = (less_from_above c.0 cs rises.0, sorted_from_rises cs rises.1)
 
-rises_from_sorted : (l : List Change) → IsStrictlySortedBy nat_cmp (map (λ c. c.0) l) → Rises l
+rises_from_sorted : (l : List Change) → IsStrictlySortedBy nat_cmp (map (λ c. c.0) l) → PagesRise l
 rises_from_sorted [] sorted = tt
 rises_from_sorted (c ∷ cs) sorted =
     (above_from_less c.0 cs (sorted_head nat_cmp c.0 (map (λ d. d.0) cs) sorted), rises_from_sorted cs (sorted_tail nat_cmp c.0 (map (λ d. d.0) cs) sorted))
 
-pub increasing_from_rises : (l : List Change) → Rises l → IsStrictlyIncreasing (map (λ c. c.0) l)
+pub increasing_from_rises : (l : List Change) → PagesRise l → IsStrictlyIncreasing (map (λ c. c.0) l)
 increasing_from_rises l rises = IsStrictlyIncreasing-from_sorted (map (λ c. c.0) l) (sorted_from_rises l rises)
 
-pub rises_from_increasing : (l : List Change) → IsStrictlyIncreasing (map (λ c. c.0) l) → Rises l
+pub rises_from_increasing : (l : List Change) → IsStrictlyIncreasing (map (λ c. c.0) l) → PagesRise l
 rises_from_increasing l rising = rises_from_sorted l (sorted_from_strictly_increasing (map (λ c. c.0) l) rising)
 
 -- What a value holds, at a place.
@@ -170,6 +171,6 @@ listed_inserted at items new missing =
     ∙ ap (λ (l : List Change). take at (listed items) ++ change_in new ∷ l) (sym (drop-map change_in at items))
     ∙ sym (with_change_missing new.page at new.image.value.bytes (listed items) missing)
 
-pub keeps_order : (page : ℕ) (image : List ℕ) (old new : List Change) → new ≡ with_change page image old → length image ≡ 4096 → IsChangeList old → IsChangeList new
+pub keeps_order : (page : ℕ) (image : List ℕ) (old new : List Change) → new ≡ with_change page image old → length image ≡ block_bytes → IsChangeList old → IsChangeList new
 keeps_order page image old new is size keeps =
     subst IsChangeList (sym is) (record { rising = rises_with page image old keeps.rising; sized = sized_with page image old size keeps.sized })

@@ -1,5 +1,6 @@
 pub mod Above
 mod Chain
+mod CallRuns
 mod ChangeLists
 mod Changed
 mod Frame
@@ -8,5 +9,4 @@ mod Making
 mod Openings
 mod Recovery
 mod Rests
-mod Runs
 mod Windows

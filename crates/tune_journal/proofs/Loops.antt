@@ -8,60 +8,61 @@ use Rattle.std.proofs.lemmas.List.FromFn.{length-map-range_with_len, get_or-map-
 use Rattle.std.proofs.lemmas.Bool.{cases_eq, cases_lt}
 use Rattle.tune_disk.specs.Disk.{Written}
 use Rattle.tune_disk.specs.Bytes.{written_long}
-use Rattle.tune_journal.specs.Image.{window, in_place, page_place}
+use Rattle.tune_journal.specs.Image.{window, pages_of, page_offset}
 use Rattle.tune_journal.specs.Pages.{changed}
 use Rattle.tune_journal.specs.ChangeList.{change_at}
 use Rattle.tune_journal.specs.Phases.{HoldsEntries, IsInNoPage, IsNoLog, IsOutside}
 use Rattle.tune_journal.proofs.Windows.{written_window, written_other}
+use Rattle.tune_journal.specs.Layout.{block_bytes, descriptor_offset, entry_bytes}
 
 -- one entry more
-pub entries_more : (base i : ℕ) (log : List (ℕ × List ℕ)) (bytes old new : List ℕ) → HoldsEntries base log i old → length bytes ≡ 4100
-    → bytes ≡ big_bytes 4 (change_at log i).0 ++ (change_at log i).1 → Written (base + 4100 * i) bytes old new → HoldsEntries base log (i + 1) new
+pub entries_more : (base i : ℕ) (log : List (ℕ × List ℕ)) (bytes old new : List ℕ) → HoldsEntries base log i old → length bytes ≡ entry_bytes
+    → bytes ≡ big_bytes 4 (change_at log i).0 ++ (change_at log i).1 → Written (base + entry_bytes * i) bytes old new → HoldsEntries base log (i + 1) new
 entries_more base i log bytes old new held size is w k lt = elim (cases_eq k i) [
   | inl same ↦ (
-    subst (λ (j : ℕ). window (base + 4100 * j) 4100 new ≡ big_bytes 4 (change_at log j).0 ++ (change_at log j).1) (sym same)
-        (subst (λ (n : ℕ). window (base + 4100 * i) n new ≡ big_bytes 4 (change_at log i).0 ++ (change_at log i).1) size (written_window (base + 4100 * i) bytes old new (omega arith) w ∙ is)),
-    omega (arith, written_long (base + 4100 * i) bytes old new w (omega arith)),
+    subst (λ (j : ℕ). window (base + entry_bytes * j) entry_bytes new ≡ big_bytes 4 (change_at log j).0 ++ (change_at log j).1) (sym same)
+        (subst (λ (n : ℕ). window (base + entry_bytes * i) n new ≡ big_bytes 4 (change_at log i).0 ++ (change_at log i).1) size (written_window (base + entry_bytes * i) bytes old new (omega arith) w ∙ is)),
+    omega (arith, written_long (base + entry_bytes * i) bytes old new w (omega arith)),
   )
   | inr other ↦ (
       let h = held k (omega arith) in (
-        written_other (base + 4100 * i) bytes old new (omega arith) w (base + 4100 * k) 4100 (omega (arith, h.1)) (inl (omega arith)) ∙ h.0,
-        omega (arith, h.1, written_long (base + 4100 * i) bytes old new w (omega arith)),
+        written_other (base + entry_bytes * i) bytes old new (omega arith) w (base + entry_bytes * k) entry_bytes (omega (arith, h.1)) (inl (omega arith)) ∙ h.0,
+        omega (arith, h.1, written_long (base + entry_bytes * i) bytes old new w (omega arith)),
       )
       )
 ]
 
 -- One write of an image into its place changes that page alone.
-pub image_more : (n page : ℕ) (image old new : List ℕ) → length image ≡ 4096 → page < n → page_place n ≤ length old → Written (page_place page) image old new → in_place n new ≡ set (in_place n old) page image
-unfolding in_place
-image_more n page image old new size below long w = same_lists (in_place n new) (set (in_place n old) page image) sizes (λ k d lt. each k d (omega (arith, length-map-range_with_len (λ p. window (page_place p) 4096 new) 0 n)))
+pub image_more : (n page : ℕ) (image old new : List ℕ) → length image ≡ block_bytes → page < n → page_offset n ≤ length old → Written (page_offset page) image old new → pages_of n new ≡ set (pages_of n old) page image
+unfolding pages_of
+image_more n page image old new size below long w = same_lists (pages_of n new) (set (pages_of n old) page image) sizes (λ k d lt. each k d (omega (arith, length-map-range_with_len (λ p. window (page_offset p) block_bytes new) 0 n)))
   where
-    sizes : length (in_place n new) ≡ length (set (in_place n old) page image)
-    sizes = length-map-range_with_len (λ p. window (page_place p) 4096 new) 0 n ∙ sym (length-set (in_place n old) page image ∙ length-map-range_with_len (λ p. window (page_place p) 4096 old) 0 n)
+    sizes : length (pages_of n new) ≡ length (set (pages_of n old) page image)
+    sizes = length-map-range_with_len (λ p. window (page_offset p) block_bytes new) 0 n ∙ sym (length-set (pages_of n old) page image ∙ length-map-range_with_len (λ p. window (page_offset p) block_bytes old) 0 n)
 
-    old_size : length (in_place n old) ≡ n
-    old_size = length-map-range_with_len (λ p. window (page_place p) 4096 old) 0 n
+    old_size : length (pages_of n old) ≡ n
+    old_size = length-map-range_with_len (λ p. window (page_offset p) block_bytes old) 0 n
 
-    here : (d : List ℕ) → get_or (in_place n new) page d ≡ get_or (set (in_place n old) page image) page d
+    here : (d : List ℕ) → get_or (pages_of n new) page d ≡ get_or (set (pages_of n old) page image) page d
     here d =
-        get_or-map-range_with_len (λ p. window (page_place p) 4096 new) 0 n page page d below (omega arith)
-        ∙ subst (λ (m : ℕ). window (page_place page) m new ≡ image) size (written_window (page_place page) image old new (omega arith) w)
-        ∙ sym (get_or-set_same (in_place n old) page image d (omega (arith, old_size)))
+        get_or-map-range_with_len (λ p. window (page_offset p) block_bytes new) 0 n page page d below (omega arith)
+        ∙ subst (λ (m : ℕ). window (page_offset page) m new ≡ image) size (written_window (page_offset page) image old new (omega arith) w)
+        ∙ sym (get_or-set_same (pages_of n old) page image d (omega (arith, old_size)))
 
-    there : (k : ℕ) (d : List ℕ) → k < n → k ≢ page → get_or (in_place n new) k d ≡ get_or (set (in_place n old) page image) k d
+    there : (k : ℕ) (d : List ℕ) → k < n → k ≢ page → get_or (pages_of n new) k d ≡ get_or (set (pages_of n old) page image) k d
     there k d lt ne =
-        get_or-map-range_with_len (λ p. window (page_place p) 4096 new) 0 n k k d lt (omega arith)
-        ∙ written_other (page_place page) image old new (omega arith) w (page_place k) 4096 (omega arith) (apart (cases_lt k page))
-        ∙ sym (get_or-map-range_with_len (λ p. window (page_place p) 4096 old) 0 n k k d lt (omega arith))
-        ∙ sym (get_or-set_other (in_place n old) page k image d ne)
+        get_or-map-range_with_len (λ p. window (page_offset p) block_bytes new) 0 n k k d lt (omega arith)
+        ∙ written_other (page_offset page) image old new (omega arith) w (page_offset k) block_bytes (omega arith) (apart (cases_lt k page))
+        ∙ sym (get_or-map-range_with_len (λ p. window (page_offset p) block_bytes old) 0 n k k d lt (omega arith))
+        ∙ sym (get_or-set_other (pages_of n old) page k image d ne)
       where
-        apart : (k < page) ⊎ (page ≤ k) → (page_place k + 4096 ≤ page_place page) ⊎ (page_place page + length image ≤ page_place k)
+        apart : (k < page) ⊎ (page ≤ k) → (page_offset k + block_bytes ≤ page_offset page) ⊎ (page_offset page + length image ≤ page_offset k)
         apart (inl lt) = inl (omega arith)
         apart (inr le) = inr (omega arith)
 
-    each : (k : ℕ) (d : List ℕ) → k < n → get_or (in_place n new) k d ≡ get_or (set (in_place n old) page image) k d
+    each : (k : ℕ) (d : List ℕ) → k < n → get_or (pages_of n new) k d ≡ get_or (set (pages_of n old) page image) k d
     each k d lt = elim (cases_eq k page) [
-      | inl same ↦ subst (λ (j : ℕ). get_or (in_place n new) j d ≡ get_or (set (in_place n old) page image) j d) (sym same) (here d)
+      | inl same ↦ subst (λ (j : ℕ). get_or (pages_of n new) j d ≡ get_or (set (pages_of n old) page image) j d) (sym same) (here d)
       | inr other ↦ there k d lt other
     ]
 
@@ -70,7 +71,7 @@ changed-push pages [] e = refl
 changed-push pages (x ∷ log) e = changed-push (set pages x.0 x.1) log e
 
 -- the places that no page of a list holds are outside each of its pages
-pub outside_page : (log : List (ℕ × List ℕ)) (k i : ℕ) → k < length log → IsInNoPage log i → (i < page_place (change_at log k).0) ⊎ (page_place (change_at log k).0 + 4096 ≤ i)
+pub outside_page : (log : List (ℕ × List ℕ)) (k i : ℕ) → k < length log → IsInNoPage log i → (i < page_offset (change_at log k).0) ⊎ (page_offset (change_at log k).0 + block_bytes ≤ i)
 outside_page [] k i lt out = absurd (omega arith)
 outside_page (e ∷ log) zero i lt out = out.0
 outside_page (e ∷ log) (suc k) i lt out = outside_page log k i (omega arith) out.1
@@ -79,21 +80,21 @@ outside_page (e ∷ log) (suc k) i lt out = outside_page log k i (omega arith) o
 pub entries_kept : (base : ℕ) (log : List (ℕ × List ℕ)) (n at : ℕ) (bytes old new : List ℕ) → 0 < length bytes → at + length bytes ≤ base → HoldsEntries base log n old → Written at bytes old new → HoldsEntries base log n new
 entries_kept base log n at bytes old new some before held w k lt =
     let h = held k lt in
-    (written_other at bytes old new some w (base + 4100 * k) 4100 (omega (arith, h.1)) (inr (omega arith)) ∙ h.0, omega (arith, h.1, written_long at bytes old new w some))
+    (written_other at bytes old new some w (base + entry_bytes * k) entry_bytes (omega (arith, h.1)) (inr (omega arith)) ∙ h.0, omega (arith, h.1, written_long at bytes old new w some))
 
-pub below_log : (m b i : ℕ) → b ≡ page_place m → IsNoLog m i → i < b
+pub below_log : (m b i : ℕ) → b ≡ page_offset m → IsNoLog m i → i < b
 below_log m b i is (inl lt) = omega arith
 below_log m b i is (inr out) = omega (arith, out.1)
 
-pub off_descriptor : (m n i : ℕ) → n ≡ 8 → IsNoLog m i → IsOutside 8192 n i
+pub off_descriptor : (m n i : ℕ) → n ≡ 8 → IsNoLog m i → IsOutside descriptor_offset n i
 off_descriptor m n i is (inl lt) = inl lt
 off_descriptor m n i is (inr out) = inr (omega (arith, out.0))
 
 -- nor is such a place in the image that is written for one of the entries
-pub outside_image : (log : List (ℕ × List ℕ)) (k page i : ℕ) (image : List ℕ) → k < length log → page ≡ (change_at log k).0 → length image ≡ 4096 → IsInNoPage log i → (i < page_place page) ⊎ (page_place page + length image ≤ i)
+pub outside_image : (log : List (ℕ × List ℕ)) (k page i : ℕ) (image : List ℕ) → k < length log → page ≡ (change_at log k).0 → length image ≡ block_bytes → IsInNoPage log i → (i < page_offset page) ⊎ (page_offset page + length image ≤ i)
 outside_image log k page i image lt is size out = by_cases (outside_page log k i lt out)
   where
-    by_cases : (i < page_place (change_at log k).0) ⊎ (page_place (change_at log k).0 + 4096 ≤ i) → (i < page_place page) ⊎ (page_place page + length image ≤ i)
+    by_cases : (i < page_offset (change_at log k).0) ⊎ (page_offset (change_at log k).0 + block_bytes ≤ i) → (i < page_offset page) ⊎ (page_offset page + length image ≤ i)
     by_cases (inl below) = inl (omega (arith, is))
     by_cases (inr above) = inr (omega (arith, is, size))
 

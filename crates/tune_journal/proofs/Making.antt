@@ -1,5 +1,5 @@
 -- A stop while a journal is made.
-use Rattle.std.proofs.Common.{◌≡◌, ◌≢◌, ◌⊎◌, inl, inr, ℕ, zero, suc, ◌<◌, ◌≤◌, List, [], ◌∷◌, length, get_or, refl, sym, ◌∙◌, ap, subst, arith, Result, Ok, Err}
+use Rattle.std.proofs.Common.{◌≡◌, ◌≢◌, ◌⊎◌, inl, inr, ℕ, zero, suc, ◌+◌, ◌<◌, ◌≤◌, List, [], ◌∷◌, length, get_or, refl, sym, ◌∙◌, ap, subst, arith, Result, Ok, Err}
 use Rattle.byteorder.specs.Endian.{big_bytes}
 use Rattle.std.proofs.lemmas.List.{same_lists}
 use Rattle.std.proofs.lemmas.Bool.{cases_eq}
@@ -7,14 +7,15 @@ use Rattle.tune_disk.specs.Disk.{DiskState, MayLeave, Written, Writes, settled, 
 use Rattle.tune_disk.specs.Stops.{Agrees, SinceThen, LeavesOnly}
 use Rattle.tune_disk.specs.Moments.{since_same}
 use Rattle.tune_disk.specs.Bytes.{written_long, length_after_some}
-use Rattle.tune_journal.specs.Image.{window, magic, gate_of, count_of, in_place, HasCount, StandsFor}
+use Rattle.tune_journal.specs.Image.{window, gate_of, count_of, pages_of, HasPageCount, StandsFor}
 use Rattle.tune_journal.specs.Opening.{StandsForNone}
 use Rattle.tune_journal.specs.Making.{IsCleared, IsLaid, StandsForNoneOr}
 use Rattle.tune_journal.specs.Phases.{IsOutside, Settles}
 use Rattle.tune_journal.specs.Rest.{IsAtRest}
 use Rattle.tune_journal.proofs.Windows.{get_or-window, written_window, written_other}
-use Rattle.tune_journal.proofs.Frame.{agree_number, agree_in_place, stands_closed, in_place_at, length-in_place, number_is}
-use Rattle.tune_journal.proofs.Runs.{settles_settled, settles_agrees}
+use Rattle.tune_journal.proofs.Frame.{agree_number, agree_pages_of, stands_closed, pages_of_at, length-pages_of, number_is}
+use Rattle.tune_journal.proofs.CallRuns.{settles_settled, settles_agrees}
+use Rattle.tune_journal.specs.Layout.{magic, block_bytes, magic_offset, magic_bytes, gate_offset, descriptor_offset, count_offset, pages_offset, least_length}
 
 -- lists of numbers are equal or not
 list_cases : (xs ys : List ℕ) → (xs ≡ ys) ⊎ (xs ≢ ys)
@@ -29,17 +30,17 @@ list_cases (x ∷ xs) (y ∷ ys) = elim (cases_eq x y) [
   | inr other ↦ inr (λ e. (let same : x ≡ y = cc in other same))
 ]
 
-short_none : (c : List ℕ) → length c < 20480 → StandsForNone c
+short_none : (c : List ℕ) → length c < least_length → StandsForNone c
 short_none c short pages s = omega (arith, s.headed.long, short)
 
 -- a file that does not begin with the magic's first letter
 other_none : (c : List ℕ) → get_or c 0 0 ≡ 0 → StandsForNone c
 other_none c is_zero pages s =
-    let first : get_or (window 0 8 c) 0 0 ≡ get_or c 0 0 = get_or-window 0 8 c 0 (omega arith) in
-    let letter : get_or (window 0 8 c) 0 0 ≡ 65 = ap (λ (l : List ℕ). get_or l 0 0) s.headed.magic in
+    let first : get_or (window magic_offset magic_bytes c) 0 0 ≡ get_or c 0 0 = get_or-window magic_offset magic_bytes c 0 (omega arith) in
+    let letter : get_or (window magic_offset magic_bytes c) 0 0 ≡ 65 = ap (λ (l : List ℕ). get_or l 0 0) s.headed.magic in
     omega (arith, first, letter, is_zero)
 
-pub cleared_since : {T E : Type 0} (bytes : List ℕ) (r : Result T E) (a b : DiskState) → length bytes ≡ 4096 → a.now ≡ settled [] → Writes 0 bytes r a b → SinceThen a b StandsForNone
+pub cleared_since : {T E : Type 0} (bytes : List ℕ) (r : Result T E) (a b : DiskState) → length bytes ≡ block_bytes → a.now ≡ settled [] → Writes 0 bytes r a b → SinceThen a b StandsForNone
 cleared_since {T} {E} bytes r a b size rest w = by_cases r w
   where
     first : LeavesOnly a.now StandsForNone
@@ -59,38 +60,38 @@ cleared_since {T} {E} bytes r a b size rest w = by_cases r w
     by_cases (Err e) (inr w) = goes w.1
 
 -- while the blocks behind the first are written
-pub laying : (s : DiskState) → IsCleared s → (c : List ℕ) → Agrees (λ i. i < 4096) s.seen c → StandsForNone c
+pub laying : (s : DiskState) → IsCleared s → (c : List ℕ) → Agrees (λ i. i < block_bytes) s.seen c → StandsForNone c
 laying s cleared c agrees = other_none c (agrees.same 0 (omega (arith, cleared.long)) (omega arith) ∙ cleared.zero)
 
-one_page : (first f : List ℕ) → window 16384 4096 f ≡ first → in_place 1 f ≡ first ∷ []
-one_page first f is = same_lists (in_place 1 f) (first ∷ []) (length-in_place 1 f) (λ p d lt. at p d (omega (arith, lt, length-in_place 1 f)))
+one_page : (first f : List ℕ) → window pages_offset block_bytes f ≡ first → pages_of 1 f ≡ first ∷ []
+one_page first f is = same_lists (pages_of 1 f) (first ∷ []) (length-pages_of 1 f) (λ p d lt. at p d (omega (arith, lt, length-pages_of 1 f)))
   where
-    here : (d : List ℕ) → get_or (in_place 1 f) 0 d ≡ first
-    here d = in_place_at 1 0 f d (omega arith) ∙ is
+    here : (d : List ℕ) → get_or (pages_of 1 f) 0 d ≡ first
+    here d = pages_of_at 1 0 f d (omega arith) ∙ is
 
-    at : (p : ℕ) (d : List ℕ) → p < 1 → get_or (in_place 1 f) p d ≡ get_or (first ∷ []) p d
+    at : (p : ℕ) (d : List ℕ) → p < 1 → get_or (pages_of 1 f) p d ≡ get_or (first ∷ []) p d
     at zero d lt = here d
     at (suc p) d lt = absurd (omega arith)
 
-module _ (first f c : List ℕ) (laid : IsLaid first f) (agrees : Agrees (IsOutside 0 8) f c) where
+module _ (first f c : List ℕ) (laid : IsLaid first f) (agrees : Agrees (IsOutside magic_offset magic_bytes) f c) where
   titled_count : count_of c ≡ 1
-  titled_count = agree_number (IsOutside 0 8) f c agrees 12288 (omega (arith, laid.long)) (λ i le lt. inr (omega arith)) ∙ laid.count
+  titled_count = agree_number (IsOutside magic_offset magic_bytes) f c agrees count_offset (omega (arith, laid.long)) (λ i le lt. inr (omega arith)) ∙ laid.count
 
   titled_gate : gate_of c ≡ 0
-  titled_gate = agrees.same 4096 (omega (arith, laid.long)) (inr (omega arith)) ∙ laid.gate
+  titled_gate = agrees.same gate_offset (omega (arith, laid.long)) (inr (omega arith)) ∙ laid.gate
 
-  titled_has : HasCount 1 c
+  titled_has : HasPageCount 1 c
   titled_has = record { least = omega arith; most = omega arith; long = omega (arith, laid.long, agrees.longer) }
 
-  titled_pages : in_place 1 c ≡ in_place 1 f
-  titled_pages = agree_in_place (IsOutside 0 8) f c agrees 1 (omega (arith, laid.long)) (λ i le lt. inr (omega arith))
+  titled_pages : pages_of 1 c ≡ pages_of 1 f
+  titled_pages = agree_pages_of (IsOutside magic_offset magic_bytes) f c agrees 1 (omega (arith, laid.long)) (λ i le lt. inr (omega arith))
 
-  titled_long : 20480 ≤ length c
+  titled_long : least_length ≤ length c
   titled_long = omega (arith, laid.long, agrees.longer)
 
   -- while the magic is written
   pub titling : StandsForNoneOr first c
-  titling = elim (cases_magic (window 0 8 c)) [
+  titling = elim (cases_magic (window magic_offset magic_bytes c)) [
     | inl is ↦ inr (subst (λ (p : List (List ℕ)). StandsFor p c) (one_page first f laid.page)
         (stands_closed 1 f c (record { magic = is; long = titled_long }) (λ it. omega (arith, it, titled_gate)) titled_count titled_has titled_pages))
     | inr other ↦ inl (λ pages s. other s.headed.magic)
@@ -99,11 +100,11 @@ module _ (first f c : List ℕ) (laid : IsLaid first f) (agrees : Agrees (IsOuts
       cases_magic : (l : List ℕ) → (l ≡ magic) ⊎ (l ≢ magic)
       cases_magic l = list_cases l magic
 
-pub titled_after : (first : List ℕ) (old new : DiskState) → IsLaid first old.seen → Settles (IsOutside 0 8) old new → window 0 8 new.seen ≡ magic → IsAtRest 1 new × (in_place 1 new.seen ≡ first ∷ [])
+pub titled_after : (first : List ℕ) (old new : DiskState) → IsLaid first old.seen → Settles (IsOutside magic_offset magic_bytes) old new → window magic_offset magic_bytes new.seen ≡ magic → IsAtRest 1 new × (pages_of 1 new.seen ≡ first ∷ [])
 titled_after first old new laid ran is =
-    let agrees = settles_agrees (IsOutside 0 8) old new ran in (
+    let agrees = settles_agrees (IsOutside magic_offset magic_bytes) old new ran in (
       record {
-        settled = settles_settled (IsOutside 0 8) old new ran;
+        settled = settles_settled (IsOutside magic_offset magic_bytes) old new ran;
         headed = record { magic = is; long = titled_long first old.seen new.seen laid agrees };
         gate = λ it. omega (arith, it, titled_gate first old.seen new.seen laid agrees);
         count = titled_count first old.seen new.seen laid agrees;
@@ -112,18 +113,18 @@ titled_after first old new laid ran is =
       titled_pages first old.seen new.seen laid agrees ∙ one_page first old.seen laid.page,
     )
 
-pub laid_after : (first zeros one old a b c d : List ℕ) → length old ≡ 4096 → length zeros ≡ 4096 → get_or zeros 0 0 ≡ 0 → one ≡ big_bytes 4 1 → length first ≡ 4096
-    → Written 4096 zeros old a → Written 8192 zeros a b → Written 12288 one b c → Written 16384 first c d → IsLaid first d
+pub laid_after : (first zeros one old a b c d : List ℕ) → length old ≡ block_bytes → length zeros ≡ block_bytes → get_or zeros 0 0 ≡ 0 → one ≡ big_bytes 4 1 → length first ≡ block_bytes
+    → Written gate_offset zeros old a → Written descriptor_offset zeros a b → Written count_offset one b c → Written pages_offset first c d → IsLaid first d
 laid_after first zeros one old a b c d old_size zeros_size zero_is one_is first_size wa wb wc wd =
     let one_size : length one ≡ 4 = ap length one_is in
-    let a_size : length a ≡ 8192 = omega (arith, written_long 4096 zeros old a wa (omega arith)) in
-    let b_size : length b ≡ 12288 = omega (arith, written_long 8192 zeros a b wb (omega arith)) in
-    let c_size : length c ≡ 12292 = omega (arith, written_long 12288 one b c wc (omega arith)) in
+    let a_size : length a ≡ descriptor_offset = omega (arith, written_long gate_offset zeros old a wa (omega arith)) in
+    let b_size : length b ≡ count_offset = omega (arith, written_long descriptor_offset zeros a b wb (omega arith)) in
+    let c_size : length c ≡ count_offset + 4 = omega (arith, written_long count_offset one b c wc (omega arith)) in
     record {
-      gate = wd.outside 4096 (inl (omega arith)) ∙ wc.outside 4096 (inl (omega arith)) ∙ wb.outside 4096 (inl (omega arith)) ∙ wa.inside 0 (omega arith) ∙ zero_is;
-      count = number_is 12288 1 d (omega arith) (written_other 16384 first c d (omega arith) wd 12288 4 (omega arith) (inl (omega arith)) ∙ subst (λ (n : ℕ). window 12288 n c ≡ one) one_size (written_window 12288 one b c (omega arith) wc) ∙ one_is);
-      page = subst (λ (n : ℕ). window 16384 n d ≡ first) first_size (written_window 16384 first c d (omega arith) wd);
-      long = omega (arith, written_long 16384 first c d wd (omega arith));
+      gate = wd.outside gate_offset (inl (omega arith)) ∙ wc.outside gate_offset (inl (omega arith)) ∙ wb.outside gate_offset (inl (omega arith)) ∙ wa.inside 0 (omega arith) ∙ zero_is;
+      count = number_is count_offset 1 d (omega arith) (written_other pages_offset first c d (omega arith) wd count_offset 4 (omega arith) (inl (omega arith)) ∙ subst (λ (n : ℕ). window count_offset n c ≡ one) one_size (written_window count_offset one b c (omega arith) wc) ∙ one_is);
+      page = subst (λ (n : ℕ). window pages_offset n d ≡ first) first_size (written_window pages_offset first c d (omega arith) wd);
+      long = omega (arith, written_long pages_offset first c d wd (omega arith));
     }
 
 pub empty_leaves : (s : DiskState) → MayLeave s.now s.seen → LeavesOnly s.now (λ c. c ≡ []) → s.seen ≡ []

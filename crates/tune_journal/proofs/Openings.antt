@@ -3,14 +3,14 @@ use Rattle.std.proofs.Common.{◌≡◌, inl, inr, ℕ, ◌<◌, ◌≤◌, List
 use Rattle.tune_disk.specs.Disk.{DiskState, MayLeave, settled}
 use Rattle.tune_disk.specs.Stops.{LeavesOnly, SinceThen}
 use Rattle.tune_disk.specs.Moments.{since_same, since_sync, since_then, since_weaker}
-use Rattle.tune_journal.specs.Image.{StandsFor, StandsForEither, IsHeaded, HasCount, number, entry_place, gate_of, count_of, log_of, in_place}
+use Rattle.tune_journal.specs.Image.{StandsFor, StandsForEither, IsHeaded, HasPageCount, entry_offset, gate_of, count_of, log_of, pages_of, entry_count_of, new_count_of}
 use Rattle.tune_journal.specs.Pages.{changed}
 use Rattle.tune_journal.specs.Opening.{IsSynced, IsSyncedOrSame, HasEntries, Sees, IsBounded}
 use Rattle.tune_journal.specs.Moments.{KeepsEither, LeftOrSame}
 use Rattle.tune_journal.specs.declared.look.Found.{Found}
 use Rattle.tune_journal.specs.declared.look.Found.TheVariants.{Damaged, Closed, Open}
 use Rattle.tune_journal.specs.Rest.{IsAtRest, IsOpened}
-use Rattle.tune_journal.proofs.Frame.{entries_at, length-entries, length-in_place}
+use Rattle.tune_journal.proofs.Frame.{entries_at, length-entries, length-pages_of}
 use Rattle.tune_journal.proofs.Above.{stands_once}
 use Rattle.tune_journal.proofs.Changed.{length-changed}
 
@@ -42,11 +42,11 @@ keeps_either old new stays since = λ a b leaves. since_weaker (LeftOrSame old) 
     either a b leaves c (inl left) = leaves c left
     either a b leaves c (inr it) = same a b it.0 c it.1 it.2 (leaves old.seen stays)
 
-pub opened_entries : (m k : ℕ) (s : DiskState) → IsOpened m s → number 8196 s.seen ≡ k → HasEntries m k s.seen
+pub opened_entries : (m k : ℕ) (s : DiskState) → IsOpened m s → entry_count_of s.seen ≡ k → HasEntries m k s.seen
 opened_entries m k s opened is = record {
-  long = subst (λ (j : ℕ). entry_place m j ≤ length s.seen) is opened.log.long;
-  below = λ i lt. (let low : i < number 8196 s.seen = omega (arith, is, lt) in
-      subst (λ (e : ℕ × List ℕ). e.0 < m) (entries_at m (number 8196 s.seen) i s.seen (0, []) low) (opened.log.log.below i (0, []) (omega (arith, low, length-entries m (number 8196 s.seen) s.seen))));
+  long = subst (λ (j : ℕ). entry_offset m j ≤ length s.seen) is opened.log.long;
+  below = λ i lt. (let low : i < entry_count_of s.seen = omega (arith, is, lt) in
+      subst (λ (e : ℕ × List ℕ). e.0 < m) (entries_at m (entry_count_of s.seen) i s.seen (0, []) low) (opened.log.log.below i (0, []) (omega (arith, low, length-entries m (entry_count_of s.seen) s.seen))));
 }
 
 pub sees_damaged : (found : Found) (file : List ℕ) → found ≡ Damaged → Sees found file → Sees Damaged file
@@ -62,16 +62,16 @@ closed_rest n found old new is synced sees =
       headed = subst IsHeaded back closed.0;
       gate = λ is_open. closed.1 (ap gate_of back ∙ is_open);
       count = ap count_of synced.seen ∙ closed.2;
-      pages = subst (HasCount n) back closed.3;
+      pages = subst (HasPageCount n) back closed.3;
     }
 
 -- and its log is told
 pub open_told : (m k : ℕ) (found : Found) (old new : DiskState) → found ≡ Open m k → IsSynced old new → Sees found old.seen → length (log_of new.seen) ≡ k
 open_told m k found old new is synced sees =
     let seen : Sees (Open m k) old.seen = subst (λ (f : Found). Sees f old.seen) is sees in
-    length-entries (number 8192 new.seen) (number 8196 new.seen) new.seen ∙ ap (number 8196) synced.seen ∙ seen.3
+    length-entries (new_count_of new.seen) (entry_count_of new.seen) new.seen ∙ ap entry_count_of synced.seen ∙ seen.3
 
-pub open_bounds : (m k : ℕ) (found : Found) (s : DiskState) → found ≡ Open m k → IsBounded found → k ≤ length (changed (in_place m s.seen) (log_of s.seen))
+pub open_bounds : (m k : ℕ) (found : Found) (s : DiskState) → found ≡ Open m k → IsBounded found → k ≤ length (changed (pages_of m s.seen) (log_of s.seen))
 open_bounds m k found s is bounded =
     let seen : IsBounded (Open m k) = subst IsBounded is bounded in
-    omega (arith, seen.2, length-changed (in_place m s.seen) (log_of s.seen), length-in_place m s.seen)
+    omega (arith, seen.2, length-changed (pages_of m s.seen) (log_of s.seen), length-pages_of m s.seen)

@@ -5,7 +5,7 @@ use Rattle.std.proofs.lemmas.List.FromFn.{map-range_with_len_more}
 use Rattle.tune_disk.specs.Disk.{DiskState, Written, Writes}
 use Rattle.tune_disk.specs.Stops.{Agrees, Spares}
 use Rattle.tune_disk.specs.Moments.{spares_then, spares_write}
-use Rattle.tune_journal.specs.Image.{window, number, page_place, entry_place, in_place, entries, IsLog, HasLog}
+use Rattle.tune_journal.specs.Image.{window, number, page_offset, entry_offset, pages_of, entries, IsLog, HasLog, entry_count_of}
 use Rattle.tune_journal.specs.Pages.{changed}
 use Rattle.tune_journal.specs.ChangeList.{change_at}
 use Rattle.tune_journal.specs.Phases.{IsInNoPage}
@@ -13,6 +13,7 @@ use Rattle.tune_journal.specs.Opening.{HasEntries, Climbs, least_of}
 use Rattle.tune_journal.proofs.Windows.{length-window}
 use Rattle.tune_journal.proofs.Loops.{image_more, changed-push, outside_page}
 use Rattle.tune_journal.proofs.Frame.{agree_number, agree_window, entries_at, length-entries, in_no_page}
+use Rattle.tune_journal.specs.Layout.{block_bytes, entry_count_offset, least_length, most_pages}
 
 pub spares_agrees : (Kept : ℕ → Type 0) (a b : DiskState) → Spares Kept a b → Agrees Kept a.seen b.seen
 spares_agrees Kept a b s = record { longer = s.longer; same = λ i lt kept. s.seen i kept }
@@ -21,9 +22,9 @@ pub entries_none : (m : ℕ) (f : List ℕ) → entries m 0 f ≡ []
 unfolding entries
 entries_none m f = refl
 
-pub entries_more : (m k : ℕ) (f : List ℕ) → entries m (k + 1) f ≡ entries m k f ++ (number (entry_place m k) f, window (entry_place m k + 4) 4096 f) ∷ []
+pub entries_more : (m k : ℕ) (f : List ℕ) → entries m (k + 1) f ≡ entries m k f ++ (number (entry_offset m k) f, window (entry_offset m k + 4) block_bytes f) ∷ []
 unfolding entries
-entries_more m k f = map-range_with_len_more (λ i. (number (entry_place m i) f, window (entry_place m i + 4) 4096 f)) 0 k k (omega arith)
+entries_more m k f = map-range_with_len_more (λ i. (number (entry_offset m i) f, window (entry_offset m i + 4) block_bytes f)) 0 k k (omega arith)
 
 pub all_below : (m k : ℕ) (f : List ℕ) → HasEntries m k f → All (λ e. e.0 < m) (entries m k f)
 all_below m k f has i d lt =
@@ -37,45 +38,45 @@ module _ (m k i : ℕ) (start now : DiskState) (has : HasEntries m k start.seen)
   agrees : Agrees (IsInNoPage log) start.seen now.seen
   agrees = spares_agrees (IsInNoPage log) start now so_far
 
-  behind : (j : ℕ) → page_place m ≤ j → IsInNoPage log j
+  behind : (j : ℕ) → page_offset m ≤ j → IsInNoPage log j
   behind j le = in_no_page m j log (all_below m k start.seen has) (inr le)
 
-  long : entry_place m (i + 1) ≤ length start.seen
+  long : entry_offset m (i + 1) ≤ length start.seen
   long = omega (arith, has.long)
 
-  pub page_same : number (entry_place m i) now.seen ≡ number (entry_place m i) start.seen
-  page_same = agree_number (IsInNoPage log) start.seen now.seen agrees (entry_place m i) (omega (arith, long)) (λ j le lt'. behind j (omega arith))
+  pub page_same : number (entry_offset m i) now.seen ≡ number (entry_offset m i) start.seen
+  page_same = agree_number (IsInNoPage log) start.seen now.seen agrees (entry_offset m i) (omega (arith, long)) (λ j le lt'. behind j (omega arith))
 
-  pub image_same : window (entry_place m i + 4) 4096 now.seen ≡ window (entry_place m i + 4) 4096 start.seen
-  image_same = agree_window (IsInNoPage log) start.seen now.seen agrees (entry_place m i + 4) 4096 (omega (arith, long)) (λ j le lt'. behind j (omega arith))
+  pub image_same : window (entry_offset m i + 4) block_bytes now.seen ≡ window (entry_offset m i + 4) block_bytes start.seen
+  image_same = agree_window (IsInNoPage log) start.seen now.seen agrees (entry_offset m i + 4) block_bytes (omega (arith, long)) (λ j le lt'. behind j (omega arith))
 
-  pub within : entry_place m (i + 1) ≤ length now.seen
+  pub within : entry_offset m (i + 1) ≤ length now.seen
   within = omega (arith, long, so_far.longer)
 
-  pub low : number (entry_place m i) now.seen < m
+  pub low : number (entry_offset m i) now.seen < m
   low = omega (arith, page_same, has.below i lt)
 
-  pub image_size : length (window (entry_place m i + 4) 4096 now.seen) ≡ 4096
-  image_size = length-window (entry_place m i + 4) 4096 now.seen (omega (arith, within))
+  pub image_size : length (window (entry_offset m i + 4) block_bytes now.seen) ≡ block_bytes
+  image_size = length-window (entry_offset m i + 4) block_bytes now.seen (omega (arith, within))
 
-  pub copy_spares : {T E : Type 0} (r : Result T E) (next : DiskState) → Writes (page_place (number (entry_place m i) now.seen)) (window (entry_place m i + 4) 4096 now.seen) r now next → Spares (IsInNoPage log) start next
+  pub copy_spares : {T E : Type 0} (r : Result T E) (next : DiskState) → Writes (page_offset (number (entry_offset m i) now.seen)) (window (entry_offset m i + 4) block_bytes now.seen) r now next → Spares (IsInNoPage log) start next
   copy_spares r next w = spares_then (IsInNoPage log) start now next so_far
-      (spares_write (IsInNoPage log) (page_place (number (entry_place m i) now.seen)) (window (entry_place m i + 4) 4096 now.seen) r now next w (λ j out. apart j (outside_page log i j (omega (arith, lt, length-entries m k start.seen)) out)))
+      (spares_write (IsInNoPage log) (page_offset (number (entry_offset m i) now.seen)) (window (entry_offset m i + 4) block_bytes now.seen) r now next w (λ j out. apart j (outside_page log i j (omega (arith, lt, length-entries m k start.seen)) out)))
     where
-      named : (change_at log i).0 ≡ number (entry_place m i) now.seen
+      named : (change_at log i).0 ≡ number (entry_offset m i) now.seen
       named = ap (λ (e : ℕ × List ℕ). e.0) (entries_at m k i start.seen (0, []) lt) ∙ sym page_same
 
-      apart : (j : ℕ) → (j < page_place (change_at log i).0) ⊎ (page_place (change_at log i).0 + 4096 ≤ j) → (j < page_place (number (entry_place m i) now.seen)) ⊎ (page_place (number (entry_place m i) now.seen) + length (window (entry_place m i + 4) 4096 now.seen) ≤ j)
+      apart : (j : ℕ) → (j < page_offset (change_at log i).0) ⊎ (page_offset (change_at log i).0 + block_bytes ≤ j) → (j < page_offset (number (entry_offset m i) now.seen)) ⊎ (page_offset (number (entry_offset m i) now.seen) + length (window (entry_offset m i + 4) block_bytes now.seen) ≤ j)
       apart j (inl below) = inl (omega (arith, named, below))
       apart j (inr above) = inr (omega (arith, named, above, image_size))
 
-  pub copy_image : (next : DiskState) → Written (page_place (number (entry_place m i) now.seen)) (window (entry_place m i + 4) 4096 now.seen) now.seen next.seen
-      → in_place m now.seen ≡ changed (in_place m start.seen) (entries m i start.seen) → in_place m next.seen ≡ changed (in_place m start.seen) (entries m (i + 1) start.seen)
+  pub copy_image : (next : DiskState) → Written (page_offset (number (entry_offset m i) now.seen)) (window (entry_offset m i + 4) block_bytes now.seen) now.seen next.seen
+      → pages_of m now.seen ≡ changed (pages_of m start.seen) (entries m i start.seen) → pages_of m next.seen ≡ changed (pages_of m start.seen) (entries m (i + 1) start.seen)
   copy_image next w before =
-      image_more m (number (entry_place m i) now.seen) (window (entry_place m i + 4) 4096 now.seen) now.seen next.seen image_size low (omega (arith, within)) w
+      image_more m (number (entry_offset m i) now.seen) (window (entry_offset m i + 4) block_bytes now.seen) now.seen next.seen image_size low (omega (arith, within)) w
       ∙ (λ t. set (before t) (page_same t) (image_same t))
-      ∙ sym (changed-push (in_place m start.seen) (entries m i start.seen) (number (entry_place m i) start.seen, window (entry_place m i + 4) 4096 start.seen))
-      ∙ ap (changed (in_place m start.seen)) (sym (entries_more m i start.seen))
+      ∙ sym (changed-push (pages_of m start.seen) (entries m i start.seen) (number (entry_offset m i) start.seen, window (entry_offset m i + 4) block_bytes start.seen))
+      ∙ ap (changed (pages_of m start.seen)) (sym (entries_more m i start.seen))
 
 numbers_at : (xs : List (ℕ × List ℕ)) (i : ℕ) → get_or (map (λ e. e.0) xs) i 0 ≡ (get_or xs i (0, [])).0
 numbers_at [] i = refl
@@ -83,7 +84,7 @@ numbers_at (x ∷ xs) zero = refl
 numbers_at (x ∷ xs) (suc i) = numbers_at xs i
 
 module _ (m k : ℕ) (f : List ℕ) where
-  number_at : (i : ℕ) → i < k → get_or (map (λ e. e.0) (entries m k f)) i 0 ≡ number (entry_place m i) f
+  number_at : (i : ℕ) → i < k → get_or (map (λ e. e.0) (entries m k f)) i 0 ≡ number (entry_offset m i) f
   number_at i lt = numbers_at (entries m k f) i ∙ ap (λ (e : ℕ × List ℕ). e.0) (entries_at m k i f (0, []) lt)
 
   length-numbers : length (map (λ e. e.0) (entries m k f)) ≡ k
@@ -97,43 +98,43 @@ module _ (m k : ℕ) (f : List ℕ) where
     below = λ i d lt. (let lt' : i < k = omega (arith, lt, length-entries m k f) in subst (λ (e : ℕ × List ℕ). e.0 < m) (sym (entries_at m k i f d lt')) (climbs i lt').1);
   }
     where
-      next : (i : ℕ) → i + 1 < k → number (entry_place m i) f + 1 ≤ number (entry_place m (i + 1)) f
+      next : (i : ℕ) → i + 1 < k → number (entry_offset m i) f + 1 ≤ number (entry_offset m (i + 1)) f
       next i lt = least (i + 1) lt i (omega arith)
         where
-          least : (j : ℕ) → j < k → (i : ℕ) → j ≡ suc i → number (entry_place m i) f + 1 ≤ number (entry_place m j) f
+          least : (j : ℕ) → j < k → (i : ℕ) → j ≡ suc i → number (entry_offset m i) f + 1 ≤ number (entry_offset m j) f
           least zero lt i is = absurd (omega arith)
-          least (suc j) lt i is = (let same : j ≡ i = omega arith in subst (λ (x : ℕ). number (entry_place m x) f + 1 ≤ number (entry_place m (suc j)) f) same (climbs (suc j) lt).0)
+          least (suc j) lt i is = (let same : j ≡ i = omega arith in subst (λ (x : ℕ). number (entry_offset m x) f + 1 ≤ number (entry_offset m (suc j)) f) same (climbs (suc j) lt).0)
 
   pub log_climbs : IsLog m (entries m k f) → Climbs m k f
   log_climbs log i lt = (least i lt, below)
     where
-      below : number (entry_place m i) f < m
+      below : number (entry_offset m i) f < m
       below = subst (λ (e : ℕ × List ℕ). e.0 < m) (entries_at m k i f (0, []) lt) (log.below i (0, []) (omega (arith, lt, length-entries m k f)))
 
-      least : (i : ℕ) → i < k → least_of m i f ≤ number (entry_place m i) f
+      least : (i : ℕ) → i < k → least_of m i f ≤ number (entry_offset m i) f
       least zero lt = omega arith
       least (suc i) lt = (let up = log.rising i (omega (arith, lt, length-numbers)) in
           let same : i + 1 ≡ suc i = omega arith in
-          omega (arith, up, number_at i (omega (arith, lt)), subst (λ (x : ℕ). get_or (map (λ e. e.0) (entries m k f)) x 0 ≡ number (entry_place m (suc i)) f) (sym same) (number_at (suc i) lt)))
+          omega (arith, up, number_at i (omega (arith, lt)), subst (λ (x : ℕ). get_or (map (λ e. e.0) (entries m k f)) x 0 ≡ number (entry_offset m (suc i)) f) (sym same) (number_at (suc i) lt)))
 
 -- the second number of a descriptor, on a disk that a read left as it was
-pub second_number : (a b : DiskState) (n : ℕ) → b ≡ a → 20480 ≤ length a.seen → (8200 ≤ length b.seen → n ≡ number 8196 b.seen) → n ≡ number 8196 a.seen
-second_number a b n same long is = (let same_seen : b.seen ≡ a.seen = ap (λ (s : DiskState). s.seen) same in is (omega (arith, ap length same_seen, long)) ∙ ap (number 8196) same_seen)
+pub second_number : (a b : DiskState) (n : ℕ) → b ≡ a → least_length ≤ length a.seen → (entry_count_offset + 4 ≤ length b.seen → n ≡ entry_count_of b.seen) → n ≡ entry_count_of a.seen
+second_number a b n same long is = (let same_seen : b.seen ≡ a.seen = ap (λ (s : DiskState). s.seen) same in is (omega (arith, ap length same_seen, long)) ∙ ap entry_count_of same_seen)
 
 -- what the test of a log says
-pub tested : (m k : ℕ) (a b : DiskState) (said : Bool) → b ≡ a → entry_place m k ≤ length a.seen → (entry_place m k ≤ length b.seen → IsTrue said ↔ Climbs m k b.seen) → IsTrue said ↔ Climbs m k a.seen
+pub tested : (m k : ℕ) (a b : DiskState) (said : Bool) → b ≡ a → entry_offset m k ≤ length a.seen → (entry_offset m k ≤ length b.seen → IsTrue said ↔ Climbs m k b.seen) → IsTrue said ↔ Climbs m k a.seen
 tested m k a b said same long says =
     let same_seen : b.seen ≡ a.seen = ap (λ (s : DiskState). s.seen) same in
     subst (λ (f : List ℕ). IsTrue said ↔ Climbs m k f) same_seen (says (omega (arith, ap length same_seen, long)))
 
-pub has_log : (m k : ℕ) (f : List ℕ) → m ≤ 4000000 → 0 < k → k ≤ m → entry_place m k ≤ length f → Climbs m k f → HasLog m k f
+pub has_log : (m k : ℕ) (f : List ℕ) → m ≤ most_pages → 0 < k → k ≤ m → entry_offset m k ≤ length f → Climbs m k f → HasLog m k f
 has_log m k f most some few long climbs = record {
   count = record { least = omega (arith, some, few); most = most; long = omega (arith, long) };
   long = long;
   log = climbs_log m k f some few climbs;
 }
 
-pub not_log : (m k m' k' : ℕ) (f : List ℕ) → m ≡ m' → k ≡ k' → HasLog m' k' f → (4000000 < m) ⊎ ((m ≤ 4000000 × (k ≡ 0)) ⊎ (m ≤ 4000000 × (k ≢ 0) × (m < k))) → ⊥
+pub not_log : (m k m' k' : ℕ) (f : List ℕ) → m ≡ m' → k ≡ k' → HasLog m' k' f → (most_pages < m) ⊎ ((m ≤ most_pages × (k ≡ 0)) ⊎ (m ≤ most_pages × (k ≢ 0) × (m < k))) → ⊥
 not_log m k m' k' f is is' log (inl over) = omega (arith, is, over, log.count.most)
 not_log m k m' k' f is is' log (inr (inl none)) = omega (arith, is', none.1, log.log.some, length-entries m' k' f)
 not_log m k m' k' f is is' log (inr (inr many)) = omega (arith, is, is', many.2, log.log.few, length-entries m' k' f)

@@ -1,5 +1,6 @@
 -- Which pages change, and to which images: by rising page.
 use Rattle.std.specs.Prelude.{◌≡◌, ℕ, ◌<◌, ◌≤◌, ◌==◌, nat_lt, slice_index_or, List, [], ◌∷◌, length, take, drop, All, Option, Some, None, if◌then◌else◌}
+use Rattle.tune_journal.specs.Layout.{block_bytes}
 
 -- the list with this image for the page, in place of the one that is there
 abbrev pub with_change : ℕ → List ℕ → List (ℕ × List ℕ) → List (ℕ × List ℕ)
@@ -25,14 +26,14 @@ AreAbove page [] = Unit {0}
 AreAbove page (c ∷ cs) = (page < c.0) × AreAbove page cs
 
 -- all changes after one are of pages above its page
-abbrev pub Rises : List (ℕ × List ℕ) → Type 0
-Rises [] = Unit {0}
-Rises (c ∷ cs) = AreAbove c.0 cs × Rises cs
+abbrev pub PagesRise : List (ℕ × List ℕ) → Type 0
+PagesRise [] = Unit {0}
+PagesRise (c ∷ cs) = AreAbove c.0 cs × PagesRise cs
 
 -- the pages rise, and each image has 4,096 bytes
 pub record IsChangeList (changes : List (ℕ × List ℕ)) : Type 0 where
-  pub rising : Rises changes
-  pub sized : All (λ c. length c.1 ≡ 4096) changes
+  pub rising : PagesRise changes
+  pub sized : All (λ c. length c.1 ≡ block_bytes) changes
 
 -- the change at place i
 abbrev pub change_at : List (ℕ × List ℕ) → ℕ → ℕ × List ℕ

@@ -4,11 +4,12 @@
 --   8192   the page count that the log leads to, and at 8196 the number of the log's entries
 --   12288  the page count
 --   16384  the pages of 4,096 bytes, and behind m of them the log, in entries of 4,100 bytes: the number of a page, and its image
-use Rattle.std.specs.Prelude.{◌≡◌, ◌≢◌, ◌⊎◌, ℕ, ◌+◌, ◌*◌, ◌<◌, ◌≤◌, List, [], ◌∷◌, ◌++◌, length, take, drop, map, slice_index, All}
+use Rattle.std.specs.Prelude.{◌≡◌, ◌≢◌, ◌⊎◌, ℕ, ◌+◌, ◌*◌, ◌<◌, ◌≤◌, List, ◌++◌, length, take, drop, map, slice_index, All}
 use Rattle.byteorder.specs.Endian.{big_number, big_bytes}
 use Rattle.std.specs.List.{range_with_len}
 use Rattle.tune_journal.specs.Pages.{changed}
 use Rattle.std.specs.List.Sorted.{IsStrictlyIncreasing}
+use Rattle.tune_journal.specs.Layout.{block_bytes, magic, magic_offset, magic_bytes, gate_offset, gate_open, descriptor_offset, entry_count_offset, count_offset, pages_offset, entry_bytes, least_length, most_pages}
 
 -- the n bytes from there on
 abbrev pub window : ℕ → ℕ → List ℕ → List ℕ
@@ -18,41 +19,40 @@ window at n file = take n (drop at file)
 unfoldable pub number : ℕ → List ℕ → ℕ
 number at file = big_number 4 (window at 4 file)
 
--- "ABCTUNE1"
-abbrev pub magic : List ℕ
-magic = 65 ∷ 66 ∷ 67 ∷ 84 ∷ 85 ∷ 78 ∷ 69 ∷ 49 ∷ []
-
 -- where a page stands
-abbrev pub page_place : ℕ → ℕ
-page_place page = 16384 + 4096 * page
+abbrev pub page_offset : ℕ → ℕ
+page_offset page = pages_offset + block_bytes * page
 
 -- entry i of the log behind m pages
-abbrev pub entry_place : ℕ → ℕ → ℕ
-entry_place m i = 16384 + 4096 * m + 4100 * i
+abbrev pub entry_offset : ℕ → ℕ → ℕ
+entry_offset m i = pages_offset + block_bytes * m + entry_bytes * i
 
 -- as it stands in the log
-abbrev pub entry_bytes : ℕ → List ℕ → List ℕ
-entry_bytes page image = big_bytes 4 page ++ image
+abbrev pub log_entry : ℕ → List ℕ → List ℕ
+log_entry page image = big_bytes 4 page ++ image
 
 -- the first n pages, each in its place
-unfoldable pub in_place : ℕ → List ℕ → List (List ℕ)
-in_place n file = map (λ p. window (page_place p) 4096 file) (range_with_len 0 n)
+unfoldable pub pages_of : ℕ → List ℕ → List (List ℕ)
+pages_of n file = map (λ p. window (page_offset p) block_bytes file) (range_with_len 0 n)
 
 -- k entries of the log behind m pages: the number of a page, and its image
 unfoldable pub entries : ℕ → ℕ → List ℕ → List (ℕ × List ℕ)
-entries m k file = map (λ i. (number (entry_place m i) file, window (entry_place m i + 4) 4096 file)) (range_with_len 0 k)
+entries m k file = map (λ i. (number (entry_offset m i) file, window (entry_offset m i + 4) block_bytes file)) (range_with_len 0 k)
 
 abbrev pub count_of : List ℕ → ℕ
-count_of file = number 12288 file
+count_of file = number count_offset file
 
 abbrev pub new_count_of : List ℕ → ℕ
-new_count_of file = number 8192 file
+new_count_of file = number descriptor_offset file
+
+abbrev pub entry_count_of : List ℕ → ℕ
+entry_count_of file = number entry_count_offset file
 
 abbrev pub log_of : List ℕ → List (ℕ × List ℕ)
-log_of file = entries (number 8192 file) (number 8196 file) file
+log_of file = entries (new_count_of file) (entry_count_of file) file
 
 abbrev pub gate_of : List ℕ → ℕ
-gate_of file = slice_index file 4096
+gate_of file = slice_index file gate_offset
 
 -- A log names pages below m, each above the last.
 pub record IsLog (m : ℕ) (log : List (ℕ × List ℕ)) : Type 0 where
@@ -62,24 +62,24 @@ pub record IsLog (m : ℕ) (log : List (ℕ × List ℕ)) : Type 0 where
   pub below : All (λ e. e.0 < m) log
 
 pub record IsHeaded (file : List ℕ) : Type 0 where
-  pub magic : window 0 8 file ≡ magic
-  pub long : 20480 ≤ length file
+  pub magic : window magic_offset magic_bytes file ≡ magic
+  pub long : least_length ≤ length file
 
-pub record HasCount (n : ℕ) (file : List ℕ) : Type 0 where
+pub record HasPageCount (n : ℕ) (file : List ℕ) : Type 0 where
   pub least : 1 ≤ n
-  pub most : n ≤ 4000000
-  pub long : page_place n ≤ length file
+  pub most : n ≤ most_pages
+  pub long : page_offset n ≤ length file
 
 pub record HasLog (m k : ℕ) (file : List ℕ) : Type 0 where
-  pub count : HasCount m file
-  pub long : entry_place m k ≤ length file
+  pub count : HasPageCount m file
+  pub long : entry_offset m k ≤ length file
   pub log : IsLog m (entries m k file)
 
 -- A closed gate: the pages stand in their places. An open one: so they do, but for those that the log names.
 pub record StandsFor (pages : List (List ℕ)) (file : List ℕ) : Type 0 where
   pub headed : IsHeaded file
-  pub is_closed : gate_of file ≢ 167 → HasCount (count_of file) file × (pages ≡ in_place (count_of file) file)
-  pub is_open : gate_of file ≡ 167 → HasLog (new_count_of file) (number 8196 file) file × (pages ≡ changed (in_place (new_count_of file) file) (log_of file))
+  pub is_closed : gate_of file ≢ gate_open → HasPageCount (count_of file) file × (pages ≡ pages_of (count_of file) file)
+  pub is_open : gate_of file ≡ gate_open → HasLog (new_count_of file) (entry_count_of file) file × (pages ≡ changed (pages_of (new_count_of file) file) (log_of file))
 
 -- before or after
 abbrev pub StandsForEither : List (List ℕ) → List (List ℕ) → List ℕ → Type 0

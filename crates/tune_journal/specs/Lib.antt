@@ -1,6 +1,7 @@
 pub mod ChangeList
 pub mod Held
 pub mod Image
+pub mod Layout
 pub mod Listed
 pub mod Making
 pub mod Moments

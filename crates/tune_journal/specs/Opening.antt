@@ -1,18 +1,19 @@
 -- What opening looks at.
 use Rattle.std.specs.Prelude.{◌≡◌, ◌≢◌, ◌⊎◌, ℕ, zero, suc, ◌+◌, ◌<◌, ◌≤◌, List, length}
 use Rattle.tune_disk.specs.Disk.{DiskState, GoesTo, settled}
-use Rattle.tune_journal.specs.Image.{number, window, magic, entry_place, gate_of, count_of, new_count_of, IsHeaded, HasCount, HasLog, StandsFor}
+use Rattle.tune_journal.specs.Image.{number, window, entry_offset, gate_of, count_of, new_count_of, IsHeaded, HasPageCount, HasLog, StandsFor, entry_count_of}
 use Rattle.tune_journal.specs.declared.look.Found.{Found}
 use Rattle.tune_journal.specs.declared.look.Found.TheVariants.{NotArchive, Damaged, Closed, Open}
+use Rattle.tune_journal.specs.Layout.{magic, magic_offset, magic_bytes, gate_open, most_pages}
 
 -- entry i of a log names at least this page
 abbrev pub least_of : ℕ → ℕ → List ℕ → ℕ
 least_of m zero file = 0
-least_of m (suc i) file = number (entry_place m i) file + 1
+least_of m (suc i) file = number (entry_offset m i) file + 1
 
 -- the first k entries name pages below m, each above the last
 abbrev pub Climbs : ℕ → ℕ → List ℕ → Type 0
-Climbs m k file = (i : ℕ) → i < k → (least_of m i file ≤ number (entry_place m i) file) × (number (entry_place m i) file < m)
+Climbs m k file = (i : ℕ) → i < k → (least_of m i file ≤ number (entry_offset m i) file) × (number (entry_offset m i) file < m)
 
 -- a sync, and nothing else
 pub record IsSynced (old new : DiskState) : Type 0 where
@@ -29,33 +30,33 @@ StandsForNone file = (pages : List (List ℕ)) → StandsFor pages file → ⊥
 
 -- These entries are all within the file, and name pages below m.
 pub record HasEntries (m k : ℕ) (file : List ℕ) : Type 0 where
-  pub long : entry_place m k ≤ length file
-  pub below : (i : ℕ) → i < k → number (entry_place m i) file < m
+  pub long : entry_offset m k ≤ length file
+  pub below : (i : ℕ) → i < k → number (entry_offset m i) file < m
 
 -- what a look at a file found in it
 abbrev pub Sees : Found → List ℕ → Type 0
-Sees NotArchive file = 8 ≤ length file → window 0 8 file ≢ magic
-Sees Damaged file = (window 0 8 file ≡ magic) × (8 ≤ length file) × StandsForNone file
-Sees (Closed n) file = IsHeaded file × (gate_of file ≢ 167) × (count_of file ≡ n) × HasCount n file
-Sees (Open m k) file = IsHeaded file × (gate_of file ≡ 167) × (new_count_of file ≡ m) × (number 8196 file ≡ k) × HasLog m k file
+Sees NotArchive file = magic_bytes ≤ length file → window magic_offset magic_bytes file ≢ magic
+Sees Damaged file = (window magic_offset magic_bytes file ≡ magic) × (magic_bytes ≤ length file) × StandsForNone file
+Sees (Closed n) file = IsHeaded file × (gate_of file ≢ gate_open) × (count_of file ≡ n) × HasPageCount n file
+Sees (Open m k) file = IsHeaded file × (gate_of file ≡ gate_open) × (new_count_of file ≡ m) × (entry_count_of file ≡ k) × HasLog m k file
 
 -- the same of a file whose gate is closed
 abbrev pub SeesClosed : Found → List ℕ → Type 0
-SeesClosed (Closed n) file = (count_of file ≡ n) × HasCount n file
-SeesClosed Damaged file = HasCount (count_of file) file → ⊥
+SeesClosed (Closed n) file = (count_of file ≡ n) × HasPageCount n file
+SeesClosed Damaged file = HasPageCount (count_of file) file → ⊥
 SeesClosed NotArchive file = ⊥
 SeesClosed (Open m k) file = ⊥
 
 -- and of one whose gate is open
 abbrev pub SeesOpen : Found → List ℕ → Type 0
-SeesOpen (Open m k) file = (new_count_of file ≡ m) × (number 8196 file ≡ k) × HasLog m k file
-SeesOpen Damaged file = HasLog (new_count_of file) (number 8196 file) file → ⊥
+SeesOpen (Open m k) file = (new_count_of file ≡ m) × (entry_count_of file ≡ k) × HasLog m k file
+SeesOpen Damaged file = HasLog (new_count_of file) (entry_count_of file) file → ⊥
 SeesOpen NotArchive file = ⊥
 SeesOpen (Closed n) file = ⊥
 
 -- Numbers that may be used whatever the disk answered.
 abbrev pub IsBounded : Found → Type 0
-IsBounded (Closed n) = (1 ≤ n) × (n ≤ 4000000)
-IsBounded (Open m k) = (1 ≤ k) × (m ≤ 4000000) × (k ≤ m)
+IsBounded (Closed n) = (1 ≤ n) × (n ≤ most_pages)
+IsBounded (Open m k) = (1 ≤ k) × (m ≤ most_pages) × (k ≤ m)
 IsBounded NotArchive = Unit {0}
 IsBounded Damaged = Unit {0}

@@ -1,10 +1,11 @@
--- What the calls of a commit do to a device.
+-- What the calls of a commit do to a disk.
 use Rattle.std.specs.Prelude.{◌≡◌, ◌⊎◌, ℕ, ◌+◌, ◌*◌, ◌<◌, ◌≤◌, List, [], ◌∷◌, ◌++◌, length, Result, MatchResult}
 use Rattle.byteorder.specs.Endian.{big_bytes}
 use Rattle.tune_disk.specs.Disk.{DiskState, GoesTo, settled}
 use Rattle.tune_disk.specs.Stops.{Spares}
 use Rattle.tune_journal.specs.ChangeList.{change_at}
-use Rattle.tune_journal.specs.Image.{window, page_place, entry_place}
+use Rattle.tune_journal.specs.Image.{window, page_offset, entry_offset}
+use Rattle.tune_journal.specs.Layout.{block_bytes, descriptor_offset, descriptor_bytes, count_offset, entry_bytes}
 
 -- writes that keep these places, and then a sync
 pub record Settles (Kept : ℕ → Type 0) (old new : DiskState) : Type 0 where
@@ -18,7 +19,7 @@ WritesAndSyncs Kept result old new = MatchResult result (λ _. Settles Kept old 
 
 -- the log's place and the descriptor are free to write
 abbrev pub IsNoLog : ℕ → ℕ → Type 0
-IsNoLog m i = (i < 8192) ⊎ ((8200 ≤ i) × (i < entry_place m 0))
+IsNoLog m i = (i < descriptor_offset) ⊎ ((descriptor_offset + descriptor_bytes ≤ i) × (i < entry_offset m 0))
 
 abbrev pub IsOutside : ℕ → ℕ → ℕ → Type 0
 IsOutside at n i = (i < at) ⊎ (at + n ≤ i)
@@ -26,16 +27,16 @@ IsOutside at n i = (i < at) ⊎ (at + n ≤ i)
 -- no page that these entries name
 abbrev pub IsInNoPage : List (ℕ × List ℕ) → ℕ → Type 0
 IsInNoPage [] i = Unit {0}
-IsInNoPage (entry ∷ log) i = ((i < page_place entry.0) ⊎ (page_place entry.0 + 4096 ≤ i)) × IsInNoPage log i
+IsInNoPage (entry ∷ log) i = ((i < page_offset entry.0) ⊎ (page_offset entry.0 + block_bytes ≤ i)) × IsInNoPage log i
 
 abbrev pub HoldsDescriptor : ℕ → ℕ → List ℕ → Type 0
-HoldsDescriptor m k file = (window 8192 8 file ≡ big_bytes 4 m ++ big_bytes 4 k) × (8200 ≤ length file)
+HoldsDescriptor m k file = (window descriptor_offset descriptor_bytes file ≡ big_bytes 4 m ++ big_bytes 4 k) × (descriptor_offset + descriptor_bytes ≤ length file)
 
 -- the places that neither an image nor the count is written to
 abbrev pub KeepsBoth : List (ℕ × List ℕ) → ℕ → Type 0
-KeepsBoth log i = IsInNoPage log i × IsOutside 12288 4 i
+KeepsBoth log i = IsInNoPage log i × IsOutside count_offset 4 i
 
 -- the first n of these entries stand there
 abbrev pub HoldsEntries : ℕ → List (ℕ × List ℕ) → ℕ → List ℕ → Type 0
 HoldsEntries at log n file = (k : ℕ) → k < n
-    → (window (at + 4100 * k) 4100 file ≡ big_bytes 4 (change_at log k).0 ++ (change_at log k).1) × (at + 4100 * (k + 1) ≤ length file)
+    → (window (at + entry_bytes * k) entry_bytes file ≡ big_bytes 4 (change_at log k).0 ++ (change_at log k).1) × (at + entry_bytes * (k + 1) ≤ length file)

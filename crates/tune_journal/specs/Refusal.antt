@@ -1,22 +1,23 @@
 -- Why a file is not opened.
 use Rattle.std.specs.Prelude.{◌≡◌, ◌≢◌, ℕ, ◌<◌, ◌≤◌, length}
-use Rattle.tune_disk.specs.Disk.{DiskState, Rises}
-use Rattle.tune_journal.specs.Image.{window, magic}
+use Rattle.tune_disk.specs.Disk.{DiskState, CountsUp}
+use Rattle.tune_journal.specs.Image.{window}
 use Rattle.tune_journal.specs.Opening.{IsSynced, StandsForNone}
-use Rattle.tune_journal.specs.declared.fault.OpenFault.{OpenFault}
-use Rattle.tune_journal.specs.declared.fault.OpenFault.TheVariants.{NotArchive, Damaged, NotEmpty, OutOfMemory, Device}
+use Rattle.tune_journal.specs.declared.open_fault.OpenFault.{OpenFault}
+use Rattle.tune_journal.specs.declared.open_fault.OpenFault.TheVariants.{NotArchive, Damaged, NotEmpty, OutOfMemory, Device}
+use Rattle.tune_journal.specs.Layout.{magic, magic_offset, magic_bytes}
 
 -- Where the file is at fault nothing was written.
 abbrev pub IsRefusedFor : OpenFault → DiskState → DiskState → Type 0
-IsRefusedFor NotArchive old new = IsSynced old new × (8 ≤ length old.seen → window 0 8 old.seen ≢ magic)
-IsRefusedFor Damaged old new = IsSynced old new × (window 0 8 old.seen ≡ magic) × (8 ≤ length old.seen) × StandsForNone old.seen
+IsRefusedFor NotArchive old new = IsSynced old new × (magic_bytes ≤ length old.seen → window magic_offset magic_bytes old.seen ≢ magic)
+IsRefusedFor Damaged old new = IsSynced old new × (window magic_offset magic_bytes old.seen ≡ magic) × (magic_bytes ≤ length old.seen) × StandsForNone old.seen
 IsRefusedFor NotEmpty old new = ⊥
 IsRefusedFor OutOfMemory old new = ⊥
 IsRefusedFor Device old new = Unit {0}
 
 -- `Device` alone is told where the disk failed, and wherever it did.
 abbrev pub CountsFailureIf : OpenFault → ℕ → ℕ → Type 0
-CountsFailureIf Device old new = Rises old new
+CountsFailureIf Device old new = CountsUp old new
 CountsFailureIf NotArchive old new = new ≡ old
 CountsFailureIf Damaged old new = new ≡ old
 CountsFailureIf NotEmpty old new = new ≡ old
@@ -24,7 +25,7 @@ CountsFailureIf OutOfMemory old new = new ≡ old
 
 -- The same, but that `Device` is told without a failure where the disk is not honest.
 abbrev pub CountsFailureWhere : Type 0 → OpenFault → ℕ → ℕ → Type 0
-CountsFailureWhere Honest Device old new = Honest → Rises old new
+CountsFailureWhere Honest Device old new = Honest → CountsUp old new
 CountsFailureWhere Honest NotArchive old new = new ≡ old
 CountsFailureWhere Honest Damaged old new = new ≡ old
 CountsFailureWhere Honest NotEmpty old new = new ≡ old

@@ -2,6 +2,7 @@
 ghost use Rattle.std.specs.Prelude.{◌≡◌, ◌<◌, ◌==◌, [], length, map, All, OnOk, OnErr, IsOk, IsSome, IfOk, IfErr, option_map};
 ghost use Rattle.std.specs.List.Sorted.{IsStrictlyIncreasing};
 ghost use Rattle.tune_journal.specs.ChangeList.{with_change, image_of, change_at, changed_page, FoundAt, MissingAt};
+ghost use Rattle.tune_journal.specs.Layout.{block_bytes};
 
 use std::alloc::{AllocError, Global};
 use std::marker::Model;
@@ -89,7 +90,7 @@ impl Changes {
     pub fn len(&self) -> usize
         ensures len { result ≡ length self.now }
         ensures rising { IsStrictlyIncreasing (map (λ c. c.0) self.now) }
-        ensures sized { All (λ c. length c.1 ≡ 4096) self.now }
+        ensures sized { All (λ c. length c.1 ≡ block_bytes) self.now }
     {
         self.changed.len()
     }

@@ -1,15 +1,16 @@
 // A journal, and the commit that changes it.
 ghost use Rattle.std.specs.Prelude.{◌≡◌, ◌<◌, ◌≤◌, All, length, MatchResult, IfOk, OnOk};
-ghost use Rattle.tune_disk.specs.Disk.{Rises, CountsFailure};
+ghost use Rattle.tune_disk.specs.Disk.{CountsUp, Looks};
 ghost use Rattle.tune_disk.specs.Stops.{LeavesOnly};
 ghost use Rattle.tune_journal.specs.Image.{StandsFor, StandsForEither};
 ghost use Rattle.tune_journal.specs.Moments.{Goes};
 ghost use Rattle.tune_journal.specs.Pages.{NamesAll, page_at, pages_after};
+ghost use Rattle.tune_journal.specs.Layout.{most_pages};
 
 use crate::changes::{Changes, PageImage};
 use crate::commit::write_log;
-use crate::fault::Broken;
-use crate::layout::page_place;
+use crate::layout::page_offset;
+use crate::open_fault::Broken;
 use crate::states::Logged;
 use std::marker::Model;
 use tune_disk::{DeviceFault, Disk};
@@ -17,7 +18,7 @@ use tune_disk::{DeviceFault, Disk};
 /// A list of pages of 4,096 bytes on a disk, in this archive's file format, changed as a whole or not at all.
 #[derive(Drop)]
 pub struct Journal<D: Disk> {
-    pub(crate) device: D,
+    pub(crate) disk: D,
     pub(crate) count: u32,
 }
 
@@ -28,18 +29,18 @@ impl<D: Disk> Model for Journal<D> {
 
     ghost coded = { held_code D.code };
 
-    ghost view = { λ j. held D.state j.device j.count };
+    ghost view = { λ j. held D.state j.disk j.count };
 
-    ghost invariant = { λ j. IsSound D.honest D.state j.device j.count };
+    ghost invariant = { λ j. IsSound D.honest D.state j.disk j.count };
 }
 
 impl<D: Disk> Journal<D> {
     /// The number of pages, from 1 to 4,000,000.
     pub fn count(&self) -> u32
         ensures count { result ≡ length self.now.pages }
-        ensures bounds { (1 ≤ result) × (result ≤ 4000000) }
+        ensures bounds { (1 ≤ result) × (result ≤ most_pages) }
         // A journal is at rest: a stop leaves its pages alone.
-        ensures rest { D.honest self.now.device → LeavesOnly (D.state self.now.device).now (StandsFor self.now.pages) }
+        ensures rest { D.honest self.now.disk → LeavesOnly (D.state self.now.disk).now (StandsFor self.now.pages) }
     {
         self.count
     }
@@ -48,48 +49,46 @@ impl<D: Disk> Journal<D> {
     ///
     /// # Errors
     ///
-    /// `DeviceFault` where the device failed: `into` then has any bytes, and the journal is as before.
+    /// `DeviceFault` where the disk failed: `into` then has any bytes, and the journal is as before.
     pub fn read(&mut self, page: u32, into: &mut PageImage) -> Result<(), DeviceFault>
         requires { page < length self.old.pages }
-        ensures honest { D.honest self.new.device → D.honest self.old.device }
-        ensures page { OnOk result (D.honest self.new.device → into.new.bytes ≡ page_at self.old.pages page) }
-        ensures state { D.honest self.new.device → D.state self.new.device ≡ D.state self.old.device }
-        ensures pages { D.honest self.new.device → self.new.pages ≡ self.old.pages }
+        ensures page { OnOk result (D.honest self.new.disk → into.new.bytes ≡ page_at self.old.pages page) }
+        ensures pages { D.honest self.new.disk → self.new.pages ≡ self.old.pages }
         ensures count { length self.new.pages ≡ length self.old.pages }
-        ensures failures { CountsFailure result (D.failures self.old.device) (D.failures self.new.device) }
+        ensures looks { Looks D.honest D.failures D.state result self.old.disk self.new.disk }
     {
-        self.device.read(page_place(page), &mut into.bytes)
+        self.disk.read(page_offset(page), &mut into.bytes)
     }
 
     /// The disk, which stands for the pages.
     pub fn into_disk(self) -> D
-        ensures disk { result ≡ self.device }
+        ensures disk { result ≡ self.disk }
         ensures rest { D.honest result → LeavesOnly (D.state result).now (StandsFor self.pages) }
     {
-        let Journal { device, count: _ } = self;
-        device
+        let Journal { disk, count: _ } = self;
+        disk
     }
 
     /// Replaces the list of pages by the next, whole or not at all: `new_count` pages, those that change with their new images.
     ///
     /// # Errors
     ///
-    /// `Broken` where the device failed: its disk stands for the list before or after, and is to be opened again.
+    /// `Broken` where the disk failed: its disk stands for the list before or after, and is to be opened again.
     pub fn commit(self, new_count: u32, changes: &Changes) -> Result<Journal<D>, Broken<D>>
         requires grows { length self.pages ≤ new_count }
-        requires most { new_count ≤ 4000000 }
+        requires most { new_count ≤ most_pages }
         requires some { 0 < length changes.now }
         requires below { All (λ e. e.0 < new_count) changes.now }
         requires names { NamesAll (length self.pages) new_count changes.now }
         // A stop at any moment of the call leaves the pages from before it or those from after it.
         ensures moments { MatchResult result
-            (λ journal. Goes D.honest D.state self.device journal.device (StandsForEither self.pages (pages_after self.pages new_count changes.now)))
-            (λ broken. Goes D.honest D.state self.device broken.disk (StandsForEither self.pages (pages_after self.pages new_count changes.now))) }
+            (λ journal. Goes D.honest D.state self.disk journal.disk (StandsForEither self.pages (pages_after self.pages new_count changes.now)))
+            (λ broken. Goes D.honest D.state self.disk broken.disk (StandsForEither self.pages (pages_after self.pages new_count changes.now))) }
         // At `Ok` it leaves those from after it alone.
-        ensures rest { IfOk result (λ journal. D.honest journal.device → LeavesOnly (D.state journal.device).now (StandsFor (pages_after self.pages new_count changes.now))) }
-        ensures pages { IfOk result (λ journal. D.honest journal.device → journal.pages ≡ pages_after self.pages new_count changes.now) }
+        ensures rest { IfOk result (λ journal. D.honest journal.disk → LeavesOnly (D.state journal.disk).now (StandsFor (pages_after self.pages new_count changes.now))) }
+        ensures pages { IfOk result (λ journal. D.honest journal.disk → journal.pages ≡ pages_after self.pages new_count changes.now) }
         ensures count { IfOk result (λ journal. length journal.pages ≡ new_count) }
-        ensures failures { MatchResult result (λ journal. D.failures journal.device ≡ D.failures self.device) (λ broken. Rises (D.failures self.device) (D.failures broken.disk)) }
+        ensures failures { MatchResult result (λ journal. D.failures journal.disk ≡ D.failures self.disk) (λ broken. CountsUp (D.failures self.disk) (D.failures broken.disk)) }
     {
         self.log(new_count, changes)?
             .open_gate()?
@@ -101,31 +100,31 @@ impl<D: Disk> Journal<D> {
     ///
     /// # Errors
     ///
-    /// `Broken` where the device failed: its disk stands for the list before.
+    /// `Broken` where the disk failed: its disk stands for the list before.
     pub fn log(self, new_count: u32, changes: &Changes) -> Result<Logged<D>, Broken<D>>
         requires grows { length self.pages ≤ new_count }
-        requires most { new_count ≤ 4000000 }
+        requires most { new_count ≤ most_pages }
         requires some { 0 < length changes.now }
         requires below { All (λ e. e.0 < new_count) changes.now }
         requires names { NamesAll (length self.pages) new_count changes.now }
         ensures moments { MatchResult result
-            (λ logged. Goes D.honest D.state self.device logged.device (StandsFor self.pages))
-            (λ broken. Goes D.honest D.state self.device broken.disk (StandsFor self.pages)) }
-        ensures rest { IfOk result (λ logged. D.honest logged.device → LeavesOnly (D.state logged.device).now (StandsFor logged.pages)) }
-        ensures pages { IfOk result (λ logged. D.honest logged.device → logged.pages ≡ self.pages) }
-        ensures changes { IfOk result (λ logged. D.honest logged.device → logged.changes ≡ changes.now) }
-        ensures next { IfOk result (λ logged. D.honest logged.device → logged.next ≡ pages_after self.pages new_count changes.now) }
+            (λ logged. Goes D.honest D.state self.disk logged.disk (StandsFor self.pages))
+            (λ broken. Goes D.honest D.state self.disk broken.disk (StandsFor self.pages)) }
+        ensures rest { IfOk result (λ logged. D.honest logged.disk → LeavesOnly (D.state logged.disk).now (StandsFor logged.pages)) }
+        ensures pages { IfOk result (λ logged. D.honest logged.disk → logged.pages ≡ self.pages) }
+        ensures changes { IfOk result (λ logged. D.honest logged.disk → logged.changes ≡ changes.now) }
+        ensures next { IfOk result (λ logged. D.honest logged.disk → logged.next ≡ pages_after self.pages new_count changes.now) }
         ensures count { IfOk result (λ logged. length logged.next ≡ new_count) }
-        ensures failures { MatchResult result (λ logged. D.failures logged.device ≡ D.failures self.device) (λ broken. Rises (D.failures self.device) (D.failures broken.disk)) }
+        ensures failures { MatchResult result (λ logged. D.failures logged.disk ≡ D.failures self.disk) (λ broken. CountsUp (D.failures self.disk) (D.failures broken.disk)) }
     {
-        let Journal { mut device, count } = self;
-        match write_log(&mut device, new_count, changes) {
+        let Journal { mut disk, count } = self;
+        match write_log(&mut disk, new_count, changes) {
             Ok(()) => Ok(Logged {
-                device,
+                disk,
                 count,
                 new_count,
             }),
-            Err(DeviceFault) => Err(Broken { disk: device }),
+            Err(DeviceFault) => Err(Broken { disk }),
         }
     }
 }

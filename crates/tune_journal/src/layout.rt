@@ -1,7 +1,8 @@
 // Where things stand in this archive's file.
 ghost use Rattle.std.specs.Prelude.{◌≡◌, ◌≤◌};
 ghost use Rattle.byteorder.specs.Endian.{big_bytes};
-ghost use Rattle.tune_journal.specs.Image.{page_place, entry_place};
+ghost use Rattle.tune_journal.specs.Image.{page_offset, entry_offset};
+ghost use Rattle.tune_journal.specs.Layout.{most_pages};
 
 use byteorder::{BigEndian, ByteOrder};
 
@@ -11,9 +12,9 @@ pub(crate) const BLOCK: usize = 4096;
 /// The first bytes of a file.
 pub(crate) const MAGIC: [u8; 8] = *b"ABCTUNE1";
 
-pub(crate) const MAGIC_PLACE: u64 = 0;
+pub(crate) const MAGIC_OFFSET: u64 = 0;
 
-pub(crate) const GATE_PLACE: u64 = 4096;
+pub(crate) const GATE_OFFSET: u64 = 4096;
 
 /// The gate's one value that says that the log holds; every other value says that it does not.
 pub(crate) const GATE_OPEN: u8 = 0xa7;
@@ -21,13 +22,13 @@ pub(crate) const GATE_OPEN: u8 = 0xa7;
 pub(crate) const GATE_CLOSED: u8 = 0x00;
 
 /// The descriptor of the log: the page count that it leads to, and the number of its entries.
-pub(crate) const NEW_COUNT_PLACE: u64 = 8192;
+pub(crate) const DESCRIPTOR_OFFSET: u64 = 8192;
 
-pub(crate) const ENTRY_COUNT_PLACE: u64 = 8196;
+pub(crate) const ENTRY_COUNT_OFFSET: u64 = 8196;
 
-pub(crate) const COUNT_PLACE: u64 = 12_288;
+pub(crate) const COUNT_OFFSET: u64 = 12_288;
 
-pub(crate) const PAGES_PLACE: u64 = 16_384;
+pub(crate) const PAGES_OFFSET: u64 = 16_384;
 
 /// The bytes of an entry of the log: the number of a page, and its image.
 pub(crate) const ENTRY_BYTES: usize = 4100;
@@ -38,18 +39,18 @@ pub(crate) const LEAST_BYTES: u64 = 20_480;
 /// The most pages of a file.
 pub(crate) const MOST_PAGES: u32 = 4_000_000;
 
-pub(crate) fn page_place(page: u32) -> u64
-    ensures { result ≡ page_place page }
+pub(crate) fn page_offset(page: u32) -> u64
+    ensures { result ≡ page_offset page }
 {
-    PAGES_PLACE + BLOCK as u64 * page as u64
+    PAGES_OFFSET + BLOCK as u64 * page as u64
 }
 
 /// The log stands behind `count` pages.
-pub(crate) fn entry_place(count: u32, entry: u32) -> u64
-    requires { (count ≤ 4000000) × (entry ≤ 4000000) }
-    ensures { result ≡ entry_place count entry }
+pub(crate) fn entry_offset(count: u32, entry: u32) -> u64
+    requires { (count ≤ most_pages) × (entry ≤ most_pages) }
+    ensures { result ≡ entry_offset count entry }
 {
-    page_place(count) + ENTRY_BYTES as u64 * entry as u64
+    page_offset(count) + ENTRY_BYTES as u64 * entry as u64
 }
 
 /// A number as it stands in the file.

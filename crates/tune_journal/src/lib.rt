@@ -8,16 +8,16 @@
 
 mod changes;
 mod commit;
-mod fault;
 mod journal;
 mod layout;
 mod look;
 mod make;
 mod open;
+mod open_fault;
 mod recover;
 mod states;
 
 pub use changes::{Changes, PageImage};
-pub use fault::{Broken, OpenFault, Refused};
 pub use journal::Journal;
+pub use open_fault::{Broken, OpenFault, Refused};
 pub use states::{Applied, Logged, Opened};

@@ -1,51 +1,47 @@
 // What opening finds in a file that a stop may have left.
 ghost use Rattle.std.specs.Prelude.{◌≡◌, ◌≤◌, ◌^◌, ◌+◌, ◌↔◌, IsTrue, length, OnOk, IfOk};
-ghost use Rattle.tune_disk.specs.Disk.{CountsFailure};
-ghost use Rattle.tune_journal.specs.Image.{window, number, entry_place, magic, gate_of};
+ghost use Rattle.tune_disk.specs.Disk.{Calls, Looks};
+ghost use Rattle.tune_journal.specs.Image.{window, number, entry_offset, gate_of};
 ghost use Rattle.tune_journal.specs.Opening.{Climbs, IsSynced, IsSyncedOrSame, Sees, SeesOpen, SeesClosed, IsBounded};
+ghost use Rattle.tune_journal.specs.Layout.{magic, magic_offset, magic_bytes, gate_open, least_length, most_pages};
 
 use crate::layout::{
-    COUNT_PLACE, ENTRY_COUNT_PLACE, GATE_OPEN, GATE_PLACE, LEAST_BYTES, MAGIC, MAGIC_PLACE,
-    MOST_PAGES, NEW_COUNT_PLACE, entry_place, page_place,
+    COUNT_OFFSET, DESCRIPTOR_OFFSET, ENTRY_COUNT_OFFSET, GATE_OFFSET, GATE_OPEN, LEAST_BYTES,
+    MAGIC, MAGIC_OFFSET, MOST_PAGES, entry_offset, page_offset,
 };
 use byteorder::{BigEndian, ByteOrder};
 use tune_disk::{DeviceFault, Disk};
 
 /// Syncs, and asks for the length.
-pub(crate) fn settle<D: Disk>(device: &mut D) -> Result<u64, DeviceFault>
-    ensures honest { D.honest device.new → D.honest device.old }
-    ensures ok { IfOk result (λ size. D.honest device.new → IsSynced (D.state device.old) (D.state device.new) × (size ≡ length (D.state device.old).seen)) }
-    ensures err { D.honest device.new → IsSyncedOrSame (D.state device.old) (D.state device.new) }
-    ensures failures { CountsFailure result (D.failures device.old) (D.failures device.new) }
+pub(crate) fn settle<D: Disk>(disk: &mut D) -> Result<u64, DeviceFault>
+    ensures ok { IfOk result (λ size. D.honest disk.new → IsSynced (D.state disk.old) (D.state disk.new) × (size ≡ length (D.state disk.old).seen)) }
+    ensures err { D.honest disk.new → IsSyncedOrSame (D.state disk.old) (D.state disk.new) }
+    ensures calls { Calls D.honest D.failures result disk.old disk.new }
 {
-    device.sync()?;
-    device.len()
+    disk.sync()?;
+    disk.len()
 }
 
-fn read_number<D: Disk>(device: &mut D, at: u64) -> Result<u32, DeviceFault>
+fn read_number<D: Disk>(disk: &mut D, at: u64) -> Result<u32, DeviceFault>
     requires { at + 4 ≤ 2 ^ 40 }
-    ensures honest { D.honest device.new → D.honest device.old }
-    ensures state { D.honest device.new → D.state device.new ≡ D.state device.old }
-    ensures number { IfOk result (λ n. D.honest device.new → at + 4 ≤ length (D.state device.old).seen → n ≡ number at (D.state device.old).seen) }
-    ensures failures { CountsFailure result (D.failures device.old) (D.failures device.new) }
+    ensures number { IfOk result (λ n. D.honest disk.new → at + 4 ≤ length (D.state disk.old).seen → n ≡ number at (D.state disk.old).seen) }
+    ensures looks { Looks D.honest D.failures D.state result disk.old disk.new }
 {
     let mut bytes = [0; 4];
-    device.read(at, &mut bytes)?;
+    disk.read(at, &mut bytes)?;
     Ok(BigEndian::read_u32(&bytes))
 }
 
 /// Do the entries of a log name pages below `count`, each above the last?
-fn check_log<D: Disk>(device: &mut D, count: u32, entries: u32) -> Result<bool, DeviceFault>
-    requires { (count ≤ 4000000) × (entries ≤ count) }
-    ensures honest { D.honest device.new → D.honest device.old }
-    ensures state { D.honest device.new → D.state device.new ≡ D.state device.old }
-    ensures climbs { IfOk result (λ yes. D.honest device.new → entry_place count entries ≤ length (D.state device.old).seen
-        → IsTrue yes ↔ Climbs count entries (D.state device.old).seen) }
-    ensures failures { CountsFailure result (D.failures device.old) (D.failures device.new) }
+fn check_log<D: Disk>(disk: &mut D, count: u32, entries: u32) -> Result<bool, DeviceFault>
+    requires { (count ≤ most_pages) × (entries ≤ count) }
+    ensures climbs { IfOk result (λ yes. D.honest disk.new → entry_offset count entries ≤ length (D.state disk.old).seen
+        → IsTrue yes ↔ Climbs count entries (D.state disk.old).seen) }
+    ensures looks { Looks D.honest D.failures D.state result disk.old disk.new }
 {
     let mut least = 0;
     for entry in 0..entries {
-        let page = read_number(device, entry_place(count, entry))?;
+        let page = read_number(disk, entry_offset(count, entry))?;
         if page < least || page >= count {
             return Ok(false);
         }
@@ -69,60 +65,52 @@ fn is_magic(bytes: &[u8]) -> bool
 }
 
 /// Is the magic at the front?
-fn read_magic<D: Disk>(device: &mut D) -> Result<bool, DeviceFault>
-    ensures honest { D.honest device.new → D.honest device.old }
-    ensures state { D.honest device.new → D.state device.new ≡ D.state device.old }
-    ensures magic { IfOk result (λ yes. D.honest device.new → 8 ≤ length (D.state device.old).seen → IsTrue yes ↔ (window 0 8 (D.state device.old).seen ≡ magic)) }
-    ensures failures { CountsFailure result (D.failures device.old) (D.failures device.new) }
+fn read_magic<D: Disk>(disk: &mut D) -> Result<bool, DeviceFault>
+    ensures magic { IfOk result (λ yes. D.honest disk.new → magic_bytes ≤ length (D.state disk.old).seen → IsTrue yes ↔ (window magic_offset magic_bytes (D.state disk.old).seen ≡ magic)) }
+    ensures looks { Looks D.honest D.failures D.state result disk.old disk.new }
 {
     let mut bytes = [0; 8];
-    device.read(MAGIC_PLACE, &mut bytes)?;
+    disk.read(MAGIC_OFFSET, &mut bytes)?;
     Ok(is_magic(&bytes))
 }
 
 /// Is the gate open?
-fn read_gate<D: Disk>(device: &mut D) -> Result<bool, DeviceFault>
-    ensures honest { D.honest device.new → D.honest device.old }
-    ensures state { D.honest device.new → D.state device.new ≡ D.state device.old }
-    ensures gate { IfOk result (λ yes. D.honest device.new → IsTrue yes ↔ (gate_of (D.state device.old).seen ≡ 167)) }
-    ensures failures { CountsFailure result (D.failures device.old) (D.failures device.new) }
+fn read_gate<D: Disk>(disk: &mut D) -> Result<bool, DeviceFault>
+    ensures gate { IfOk result (λ yes. D.honest disk.new → IsTrue yes ↔ (gate_of (D.state disk.old).seen ≡ gate_open)) }
+    ensures looks { Looks D.honest D.failures D.state result disk.old disk.new }
 {
     let mut bytes = [0];
-    device.read(GATE_PLACE, &mut bytes)?;
+    disk.read(GATE_OFFSET, &mut bytes)?;
     Ok(bytes[0] == GATE_OPEN)
 }
 
-fn look_closed<D: Disk>(device: &mut D, size: u64) -> Result<Found, DeviceFault>
-    ensures honest { D.honest device.new → D.honest device.old }
-    ensures state { D.honest device.new → D.state device.new ≡ D.state device.old }
-    ensures sees { IfOk result (λ found. D.honest device.new → size ≡ length (D.state device.old).seen → 20480 ≤ size → SeesClosed found (D.state device.old).seen) }
+fn look_closed<D: Disk>(disk: &mut D, size: u64) -> Result<Found, DeviceFault>
+    ensures sees { IfOk result (λ found. D.honest disk.new → size ≡ length (D.state disk.old).seen → least_length ≤ size → SeesClosed found (D.state disk.old).seen) }
     ensures bounded { IfOk result IsBounded }
-    ensures failures { CountsFailure result (D.failures device.old) (D.failures device.new) }
+    ensures looks { Looks D.honest D.failures D.state result disk.old disk.new }
 {
-    let count = read_number(device, COUNT_PLACE)?;
-    if count == 0 || count > MOST_PAGES || size < page_place(count) {
+    let count = read_number(disk, COUNT_OFFSET)?;
+    if count == 0 || count > MOST_PAGES || size < page_offset(count) {
         Ok(Found::Damaged)
     } else {
         Ok(Found::Closed(count))
     }
 }
 
-fn look_open<D: Disk>(device: &mut D, size: u64) -> Result<Found, DeviceFault>
-    ensures honest { D.honest device.new → D.honest device.old }
-    ensures state { D.honest device.new → D.state device.new ≡ D.state device.old }
-    ensures sees { IfOk result (λ found. D.honest device.new → size ≡ length (D.state device.old).seen → 20480 ≤ size → SeesOpen found (D.state device.old).seen) }
+fn look_open<D: Disk>(disk: &mut D, size: u64) -> Result<Found, DeviceFault>
+    ensures sees { IfOk result (λ found. D.honest disk.new → size ≡ length (D.state disk.old).seen → least_length ≤ size → SeesOpen found (D.state disk.old).seen) }
     ensures bounded { IfOk result IsBounded }
-    ensures failures { CountsFailure result (D.failures device.old) (D.failures device.new) }
+    ensures looks { Looks D.honest D.failures D.state result disk.old disk.new }
 {
-    let count = read_number(device, NEW_COUNT_PLACE)?;
-    let entries = read_number(device, ENTRY_COUNT_PLACE)?;
+    let count = read_number(disk, DESCRIPTOR_OFFSET)?;
+    let entries = read_number(disk, ENTRY_COUNT_OFFSET)?;
     if count > MOST_PAGES || entries == 0 || entries > count {
         return Ok(Found::Damaged);
     }
-    if size < entry_place(count, entries) {
+    if size < entry_offset(count, entries) {
         return Ok(Found::Damaged);
     }
-    if check_log(device, count, entries)? {
+    if check_log(disk, count, entries)? {
         Ok(Found::Open(count, entries))
     } else {
         Ok(Found::Damaged)
@@ -130,24 +118,23 @@ fn look_open<D: Disk>(device: &mut D, size: u64) -> Result<Found, DeviceFault>
 }
 
 /// Syncs, and looks at the front of the file and at its log. It writes nothing.
-pub(crate) fn look<D: Disk>(device: &mut D) -> Result<Found, DeviceFault>
-    ensures honest { D.honest device.new → D.honest device.old }
-    ensures synced { OnOk result (D.honest device.new → IsSynced (D.state device.old) (D.state device.new)) }
-    ensures state { D.honest device.new → IsSyncedOrSame (D.state device.old) (D.state device.new) }
-    ensures sees { IfOk result (λ found. D.honest device.new → Sees found (D.state device.old).seen) }
+pub(crate) fn look<D: Disk>(disk: &mut D) -> Result<Found, DeviceFault>
+    ensures synced { OnOk result (D.honest disk.new → IsSynced (D.state disk.old) (D.state disk.new)) }
+    ensures state { D.honest disk.new → IsSyncedOrSame (D.state disk.old) (D.state disk.new) }
+    ensures sees { IfOk result (λ found. D.honest disk.new → Sees found (D.state disk.old).seen) }
     ensures bounded { IfOk result IsBounded }
-    ensures failures { CountsFailure result (D.failures device.old) (D.failures device.new) }
+    ensures calls { Calls D.honest D.failures result disk.old disk.new }
 {
-    let size = settle(device)?;
-    if size < MAGIC.len() as u64 || !read_magic(device)? {
+    let size = settle(disk)?;
+    if size < MAGIC.len() as u64 || !read_magic(disk)? {
         return Ok(Found::NotArchive);
     }
     if size < LEAST_BYTES {
         return Ok(Found::Damaged);
     }
-    if read_gate(device)? {
-        look_open(device, size)
+    if read_gate(disk)? {
+        look_open(disk, size)
     } else {
-        look_closed(device, size)
+        look_closed(disk, size)
     }
 }

@@ -1,62 +1,61 @@
 // Making a journal of one page.
 ghost use Rattle.std.specs.Prelude.{◌≡◌, ◌<◌, [], ◌∷◌, length, OnOk, IfOk, IfErr, MatchResult};
-ghost use Rattle.tune_disk.specs.Disk.{CountsFailure, settled};
+ghost use Rattle.tune_disk.specs.Disk.{Calls, settled};
 ghost use Rattle.tune_disk.specs.Stops.{LeavesOnly, SinceThen};
-ghost use Rattle.tune_journal.specs.Image.{StandsFor, in_place};
+ghost use Rattle.tune_journal.specs.Image.{StandsFor, pages_of};
 ghost use Rattle.tune_journal.specs.Making.{IsCleared, IsLaid, IsEmptyFile, StandsForNoneOr};
 ghost use Rattle.tune_journal.specs.Opening.{StandsForNone};
 ghost use Rattle.tune_journal.specs.Phases.{WritesAndSyncs};
 ghost use Rattle.tune_journal.specs.Refusal.{IsUnmadeFor, IsMakeReason, CountsFailureIf};
 ghost use Rattle.tune_journal.specs.Rest.{IsAtRest};
+ghost use Rattle.tune_journal.specs.Layout.{block_bytes};
 
 use crate::changes::PageImage;
 use crate::commit::write_synced;
-use crate::fault::{OpenFault, Refused};
 use crate::journal::Journal;
 use crate::layout::{
-    BLOCK, COUNT_PLACE, GATE_PLACE, MAGIC, MAGIC_PLACE, NEW_COUNT_PLACE, PAGES_PLACE, number_bytes,
+    BLOCK, COUNT_OFFSET, DESCRIPTOR_OFFSET, GATE_OFFSET, MAGIC, MAGIC_OFFSET, PAGES_OFFSET,
+    number_bytes,
 };
 use crate::look::settle;
+use crate::open_fault::{OpenFault, Refused};
 use tune_disk::{DeviceFault, Disk};
 
 /// Writes a first block of zeros into an empty file.
-fn clear<D: Disk>(device: &mut D) -> Result<(), DeviceFault>
-    ensures honest { D.honest device.new → D.honest device.old }
-    ensures moments { D.honest device.new → (D.state device.old).now ≡ settled [] → SinceThen (D.state device.old) (D.state device.new) StandsForNone }
-    ensures cleared { OnOk result (D.honest device.new → (D.state device.old).seen ≡ [] → IsCleared (D.state device.new)) }
-    ensures failures { CountsFailure result (D.failures device.old) (D.failures device.new) }
+fn clear<D: Disk>(disk: &mut D) -> Result<(), DeviceFault>
+    ensures moments { D.honest disk.new → (D.state disk.old).now ≡ settled [] → SinceThen (D.state disk.old) (D.state disk.new) StandsForNone }
+    ensures cleared { OnOk result (D.honest disk.new → (D.state disk.old).seen ≡ [] → IsCleared (D.state disk.new)) }
+    ensures calls { Calls D.honest D.failures result disk.old disk.new }
 {
     let zeros = [0; BLOCK];
-    device.write_at(MAGIC_PLACE, &zeros)?;
-    device.sync()
+    disk.write_at(MAGIC_OFFSET, &zeros)?;
+    disk.sync()
 }
 
 /// Writes a closed gate, an empty descriptor, a count of one and the page.
-fn lay<D: Disk>(device: &mut D, first: &PageImage) -> Result<(), DeviceFault>
-    ensures honest { D.honest device.new → D.honest device.old }
-    ensures writes { D.honest device.new → WritesAndSyncs (λ i. i < 4096) result (D.state device.old) (D.state device.new) }
-    ensures laid { OnOk result (D.honest device.new → length (D.state device.old).seen ≡ 4096 → IsLaid first.now.bytes (D.state device.new).seen) }
-    ensures failures { CountsFailure result (D.failures device.old) (D.failures device.new) }
+fn lay<D: Disk>(disk: &mut D, first: &PageImage) -> Result<(), DeviceFault>
+    ensures writes { D.honest disk.new → WritesAndSyncs (λ i. i < block_bytes) result (D.state disk.old) (D.state disk.new) }
+    ensures laid { OnOk result (D.honest disk.new → length (D.state disk.old).seen ≡ block_bytes → IsLaid first.now.bytes (D.state disk.new).seen) }
+    ensures calls { Calls D.honest D.failures result disk.old disk.new }
 {
     let zeros = [0; BLOCK];
-    device.write_at(GATE_PLACE, &zeros)?;
-    device.write_at(NEW_COUNT_PLACE, &zeros)?;
-    device.write_at(COUNT_PLACE, &number_bytes(1))?;
-    write_synced(device, PAGES_PLACE, &first.bytes)
+    disk.write_at(GATE_OFFSET, &zeros)?;
+    disk.write_at(DESCRIPTOR_OFFSET, &zeros)?;
+    disk.write_at(COUNT_OFFSET, &number_bytes(1))?;
+    write_synced(disk, PAGES_OFFSET, &first.bytes)
 }
 
 /// Lays out an empty file. The magic comes last.
-pub(crate) fn lay_out<D: Disk>(device: &mut D, first: &PageImage) -> Result<(), DeviceFault>
-    ensures honest { D.honest device.new → D.honest device.old }
-    ensures moments { D.honest device.new → (D.state device.old).now ≡ settled [] → (D.state device.old).seen ≡ []
-        → SinceThen (D.state device.old) (D.state device.new) (StandsForNoneOr first.now.bytes) }
-    ensures rest { OnOk result (D.honest device.new → (D.state device.old).seen ≡ [] → IsAtRest 1 (D.state device.new)) }
-    ensures pages { OnOk result (D.honest device.new → (D.state device.old).seen ≡ [] → in_place 1 (D.state device.new).seen ≡ first.now.bytes ∷ []) }
-    ensures failures { CountsFailure result (D.failures device.old) (D.failures device.new) }
+pub(crate) fn lay_out<D: Disk>(disk: &mut D, first: &PageImage) -> Result<(), DeviceFault>
+    ensures moments { D.honest disk.new → (D.state disk.old).now ≡ settled [] → (D.state disk.old).seen ≡ []
+        → SinceThen (D.state disk.old) (D.state disk.new) (StandsForNoneOr first.now.bytes) }
+    ensures rest { OnOk result (D.honest disk.new → (D.state disk.old).seen ≡ [] → IsAtRest 1 (D.state disk.new)) }
+    ensures pages { OnOk result (D.honest disk.new → (D.state disk.old).seen ≡ [] → pages_of 1 (D.state disk.new).seen ≡ first.now.bytes ∷ []) }
+    ensures calls { Calls D.honest D.failures result disk.old disk.new }
 {
-    clear(device)?;
-    lay(device, first)?;
-    write_synced(device, MAGIC_PLACE, &MAGIC)
+    clear(disk)?;
+    lay(disk, first)?;
+    write_synced(disk, MAGIC_OFFSET, &MAGIC)
 }
 
 impl<D: Disk> Journal<D> {
@@ -64,38 +63,38 @@ impl<D: Disk> Journal<D> {
     ///
     /// # Errors
     ///
-    /// `NotEmpty` where the disk has a byte: nothing was written then. `Device` where the device failed: a stop then leaves
+    /// `NotEmpty` where the disk has a byte: nothing was written then. `Device` where the disk failed: a stop then leaves
     /// no journal, or this one.
     pub fn make(disk: D, first: &PageImage) -> Result<Journal<D>, Refused<D>>
-        ensures honest { MatchResult result (λ journal. D.honest journal.device → D.honest disk) (λ refused. D.honest refused.disk → D.honest disk) }
+        ensures honest { MatchResult result (λ journal. D.honest journal.disk → D.honest disk) (λ refused. D.honest refused.disk → D.honest disk) }
         // Where each file that a stop may leave at the start has no byte, a stop during the call leaves no journal or this one.
         ensures moments { MatchResult result
-            (λ journal. D.honest journal.device → LeavesOnly (D.state disk).now IsEmptyFile → SinceThen (D.state disk) (D.state journal.device) (StandsForNoneOr first.now.bytes))
+            (λ journal. D.honest journal.disk → LeavesOnly (D.state disk).now IsEmptyFile → SinceThen (D.state disk) (D.state journal.disk) (StandsForNoneOr first.now.bytes))
             (λ refused. D.honest refused.disk → LeavesOnly (D.state disk).now IsEmptyFile → SinceThen (D.state disk) (D.state refused.disk) (StandsForNoneOr first.now.bytes)) }
         // At `Ok` it leaves this one, whatever it might have left at the start.
-        ensures rest { IfOk result (λ journal. D.honest journal.device → LeavesOnly (D.state journal.device).now (StandsFor (first.now.bytes ∷ []))) }
-        ensures pages { IfOk result (λ journal. D.honest journal.device → journal.pages ≡ first.now.bytes ∷ []) }
+        ensures rest { IfOk result (λ journal. D.honest journal.disk → LeavesOnly (D.state journal.disk).now (StandsFor (first.now.bytes ∷ []))) }
+        ensures pages { IfOk result (λ journal. D.honest journal.disk → journal.pages ≡ first.now.bytes ∷ []) }
         ensures count { IfOk result (λ journal. length journal.pages ≡ 1) }
-        ensures empty { IfOk result (λ journal. D.honest journal.device → (D.state disk).seen ≡ []) }
+        ensures empty { IfOk result (λ journal. D.honest journal.disk → (D.state disk).seen ≡ []) }
         ensures refused { IfErr result (λ refused. D.honest refused.disk → IsUnmadeFor refused.why (D.state disk) (D.state refused.disk)) }
         ensures reason { IfErr result (λ refused. IsMakeReason refused.why) }
-        ensures failures { MatchResult result (λ journal. D.failures journal.device ≡ D.failures disk) (λ refused. CountsFailureIf refused.why (D.failures disk) (D.failures refused.disk)) }
+        ensures failures { MatchResult result (λ journal. D.failures journal.disk ≡ D.failures disk) (λ refused. CountsFailureIf refused.why (D.failures disk) (D.failures refused.disk)) }
     {
-        let mut device = disk;
-        match settle(&mut device) {
-            Ok(0) => match lay_out(&mut device, first) {
-                Ok(()) => Ok(Journal { device, count: 1 }),
+        let mut disk = disk;
+        match settle(&mut disk) {
+            Ok(0) => match lay_out(&mut disk, first) {
+                Ok(()) => Ok(Journal { disk, count: 1 }),
                 Err(DeviceFault) => Err(Refused {
-                    disk: device,
+                    disk,
                     why: OpenFault::Device,
                 }),
             },
             Ok(_) => Err(Refused {
-                disk: device,
+                disk,
                 why: OpenFault::NotEmpty,
             }),
             Err(DeviceFault) => Err(Refused {
-                disk: device,
+                disk,
                 why: OpenFault::Device,
             }),
         }

@@ -1,22 +1,22 @@
 // The states of a commit, one after another. Each owns the disk, so nothing else is written between two of them.
 ghost use Rattle.std.specs.Prelude.{◌≡◌, ◌<◌, All, length, MatchResult, IfOk};
-ghost use Rattle.tune_disk.specs.Disk.{Rises};
+ghost use Rattle.tune_disk.specs.Disk.{CountsUp};
 ghost use Rattle.tune_disk.specs.Stops.{LeavesOnly};
 ghost use Rattle.tune_journal.specs.Image.{StandsFor, StandsForEither};
 ghost use Rattle.tune_journal.specs.Moments.{Goes};
 
 use crate::changes::Changes;
 use crate::commit::{write_pages, write_synced};
-use crate::fault::Broken;
 use crate::journal::Journal;
-use crate::layout::{GATE_CLOSED, GATE_OPEN, GATE_PLACE};
+use crate::layout::{GATE_CLOSED, GATE_OFFSET, GATE_OPEN};
+use crate::open_fault::Broken;
 use std::marker::Model;
 use tune_disk::{DeviceFault, Disk};
 
 /// A commit whose log is on the disk, behind a closed gate: a stop leaves the pages from before it.
 #[derive(Drop)]
 pub struct Logged<D: Disk> {
-    pub(crate) device: D,
+    pub(crate) disk: D,
     pub(crate) count: u32,
     pub(crate) new_count: u32,
 }
@@ -28,15 +28,15 @@ impl<D: Disk> Model for Logged<D> {
 
     ghost coded = { staged_code D.code };
 
-    ghost view = { λ s. staged D.state s.device s.count s.new_count };
+    ghost view = { λ s. staged D.state s.disk s.count s.new_count };
 
-    ghost invariant = { λ s. IsSoundLogged D.honest D.state s.device s.count s.new_count };
+    ghost invariant = { λ s. IsSoundLogged D.honest D.state s.disk s.count s.new_count };
 }
 
 /// A commit whose gate is open: a stop leaves the pages from after it.
 #[derive(Drop)]
 pub struct Opened<D: Disk> {
-    pub(crate) device: D,
+    pub(crate) disk: D,
     pub(crate) new_count: u32,
 }
 
@@ -47,15 +47,15 @@ impl<D: Disk> Model for Opened<D> {
 
     ghost coded = { decided_code D.code };
 
-    ghost view = { λ s. decided D.state s.device s.new_count };
+    ghost view = { λ s. decided D.state s.disk s.new_count };
 
-    ghost invariant = { λ s. IsSoundOpened D.honest D.state s.device s.new_count };
+    ghost invariant = { λ s. IsSoundOpened D.honest D.state s.disk s.new_count };
 }
 
 /// A commit whose images are in their places: a stop leaves the pages from after it.
 #[derive(Drop)]
 pub struct Applied<D: Disk> {
-    pub(crate) device: D,
+    pub(crate) disk: D,
     pub(crate) new_count: u32,
 }
 
@@ -66,9 +66,9 @@ impl<D: Disk> Model for Applied<D> {
 
     ghost coded = { held_code D.code };
 
-    ghost view = { λ s. held D.state s.device s.new_count };
+    ghost view = { λ s. held D.state s.disk s.new_count };
 
-    ghost invariant = { λ s. IsSoundApplied D.honest D.state s.device s.new_count };
+    ghost invariant = { λ s. IsSoundApplied D.honest D.state s.disk s.new_count };
 }
 
 impl<D: Disk> Logged<D> {
@@ -76,26 +76,26 @@ impl<D: Disk> Logged<D> {
     ///
     /// # Errors
     ///
-    /// `Broken` where the device failed: its disk stands for the list before or after.
+    /// `Broken` where the disk failed: its disk stands for the list before or after.
     pub fn open_gate(self) -> Result<Opened<D>, Broken<D>>
         // A stop at any moment of the call leaves the pages from before or from after.
         ensures moments { MatchResult result
-            (λ opened. Goes D.honest D.state self.device opened.device (StandsForEither self.pages self.next))
-            (λ broken. Goes D.honest D.state self.device broken.disk (StandsForEither self.pages self.next)) }
-        ensures rest { IfOk result (λ opened. D.honest opened.device → LeavesOnly (D.state opened.device).now (StandsFor opened.pages)) }
-        ensures pages { IfOk result (λ opened. D.honest opened.device → opened.pages ≡ self.next) }
-        ensures changes { IfOk result (λ opened. D.honest opened.device → opened.changes ≡ self.changes) }
+            (λ opened. Goes D.honest D.state self.disk opened.disk (StandsForEither self.pages self.next))
+            (λ broken. Goes D.honest D.state self.disk broken.disk (StandsForEither self.pages self.next)) }
+        ensures rest { IfOk result (λ opened. D.honest opened.disk → LeavesOnly (D.state opened.disk).now (StandsFor opened.pages)) }
+        ensures pages { IfOk result (λ opened. D.honest opened.disk → opened.pages ≡ self.next) }
+        ensures changes { IfOk result (λ opened. D.honest opened.disk → opened.changes ≡ self.changes) }
         ensures count { IfOk result (λ opened. length opened.pages ≡ length self.next) }
-        ensures failures { MatchResult result (λ opened. D.failures opened.device ≡ D.failures self.device) (λ broken. Rises (D.failures self.device) (D.failures broken.disk)) }
+        ensures failures { MatchResult result (λ opened. D.failures opened.disk ≡ D.failures self.disk) (λ broken. CountsUp (D.failures self.disk) (D.failures broken.disk)) }
     {
         let Logged {
-            mut device,
+            mut disk,
             count: _,
             new_count,
         } = self;
-        match write_synced(&mut device, GATE_PLACE, &[GATE_OPEN]) {
-            Ok(()) => Ok(Opened { device, new_count }),
-            Err(DeviceFault) => Err(Broken { disk: device }),
+        match write_synced(&mut disk, GATE_OFFSET, &[GATE_OPEN]) {
+            Ok(()) => Ok(Opened { disk, new_count }),
+            Err(DeviceFault) => Err(Broken { disk }),
         }
     }
 }
@@ -105,25 +105,25 @@ impl<D: Disk> Opened<D> {
     ///
     /// # Errors
     ///
-    /// `Broken` where the device failed: its disk stands for the list after.
+    /// `Broken` where the disk failed: its disk stands for the list after.
     pub fn apply(self, changes: &Changes) -> Result<Applied<D>, Broken<D>>
         requires below { All (λ e. e.0 < length self.pages) changes.now }
-        requires log { D.honest self.device → changes.now ≡ self.changes }
+        requires log { D.honest self.disk → changes.now ≡ self.changes }
         ensures moments { MatchResult result
-            (λ applied. Goes D.honest D.state self.device applied.device (StandsFor self.pages))
-            (λ broken. Goes D.honest D.state self.device broken.disk (StandsFor self.pages)) }
-        ensures rest { IfOk result (λ applied. D.honest applied.device → LeavesOnly (D.state applied.device).now (StandsFor applied.pages)) }
-        ensures pages { IfOk result (λ applied. D.honest applied.device → applied.pages ≡ self.pages) }
+            (λ applied. Goes D.honest D.state self.disk applied.disk (StandsFor self.pages))
+            (λ broken. Goes D.honest D.state self.disk broken.disk (StandsFor self.pages)) }
+        ensures rest { IfOk result (λ applied. D.honest applied.disk → LeavesOnly (D.state applied.disk).now (StandsFor applied.pages)) }
+        ensures pages { IfOk result (λ applied. D.honest applied.disk → applied.pages ≡ self.pages) }
         ensures count { IfOk result (λ applied. length applied.pages ≡ length self.pages) }
-        ensures failures { MatchResult result (λ applied. D.failures applied.device ≡ D.failures self.device) (λ broken. Rises (D.failures self.device) (D.failures broken.disk)) }
+        ensures failures { MatchResult result (λ applied. D.failures applied.disk ≡ D.failures self.disk) (λ broken. CountsUp (D.failures self.disk) (D.failures broken.disk)) }
     {
         let Opened {
-            mut device,
+            mut disk,
             new_count,
         } = self;
-        match write_pages(&mut device, new_count, changes) {
-            Ok(()) => Ok(Applied { device, new_count }),
-            Err(DeviceFault) => Err(Broken { disk: device }),
+        match write_pages(&mut disk, new_count, changes) {
+            Ok(()) => Ok(Applied { disk, new_count }),
+            Err(DeviceFault) => Err(Broken { disk }),
         }
     }
 }
@@ -133,26 +133,26 @@ impl<D: Disk> Applied<D> {
     ///
     /// # Errors
     ///
-    /// `Broken` where the device failed: its disk stands for the list after.
+    /// `Broken` where the disk failed: its disk stands for the list after.
     pub fn close(self) -> Result<Journal<D>, Broken<D>>
         ensures moments { MatchResult result
-            (λ journal. Goes D.honest D.state self.device journal.device (StandsFor self.pages))
-            (λ broken. Goes D.honest D.state self.device broken.disk (StandsFor self.pages)) }
-        ensures rest { IfOk result (λ journal. D.honest journal.device → LeavesOnly (D.state journal.device).now (StandsFor journal.pages)) }
-        ensures pages { IfOk result (λ journal. D.honest journal.device → journal.pages ≡ self.pages) }
+            (λ journal. Goes D.honest D.state self.disk journal.disk (StandsFor self.pages))
+            (λ broken. Goes D.honest D.state self.disk broken.disk (StandsFor self.pages)) }
+        ensures rest { IfOk result (λ journal. D.honest journal.disk → LeavesOnly (D.state journal.disk).now (StandsFor journal.pages)) }
+        ensures pages { IfOk result (λ journal. D.honest journal.disk → journal.pages ≡ self.pages) }
         ensures count { IfOk result (λ journal. length journal.pages ≡ length self.pages) }
-        ensures failures { MatchResult result (λ journal. D.failures journal.device ≡ D.failures self.device) (λ broken. Rises (D.failures self.device) (D.failures broken.disk)) }
+        ensures failures { MatchResult result (λ journal. D.failures journal.disk ≡ D.failures self.disk) (λ broken. CountsUp (D.failures self.disk) (D.failures broken.disk)) }
     {
         let Applied {
-            mut device,
+            mut disk,
             new_count,
         } = self;
-        match write_synced(&mut device, GATE_PLACE, &[GATE_CLOSED]) {
+        match write_synced(&mut disk, GATE_OFFSET, &[GATE_CLOSED]) {
             Ok(()) => Ok(Journal {
-                device,
+                disk,
                 count: new_count,
             }),
-            Err(DeviceFault) => Err(Broken { disk: device }),
+            Err(DeviceFault) => Err(Broken { disk }),
         }
     }
 }

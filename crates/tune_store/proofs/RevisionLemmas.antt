@@ -14,7 +14,7 @@ use Rattle.tune_store.specs.State.{State, IsState, RisesFrom, greatest}
 use Rattle.tune_store.specs.Step.{Outcome, step, tune_at, with_tune, without, revised, with_texts, import_book, replace_tune, replace_book, delete_tune, show_tune}
 use Rattle.tune_store.specs.Revisions.{revision_of, HasTune, accepts, replaces, after, times_replaced, RaisesRevision, AcceptedReplaceRaises, OthersKeepRevision, RevisionCounts, AcceptedReplaceIsCurrent}
 use Rattle.tune_store.specs.declared.tune.Tune.{Tune}
-use Rattle.tune_store.specs.declared.tune.TheConstants.{LONGEST_TEXT, MOST_TUNES, GREATEST_NUMBER, GREATEST_REVISION}
+use Rattle.tune_store.specs.Limits.{longest_text, most_tunes, greatest_number, greatest_revision}
 use Rattle.tune_store.specs.declared.command.Command.{Command}
 use Rattle.tune_store.specs.declared.command.Command.TheVariants.{Import, Replace, Delete, Show, ExportAll}
 use Rattle.tune_store.specs.declared.command.Reply.{Reply}
@@ -101,17 +101,17 @@ book_texts longest (run ∷ runs) false true within = within
 book_within : (longest : ℕ) (book : List ℕ) → TextsWithin longest (book_answer longest book)
 book_within longest book = book_texts longest (tune_runs (lines_of book)) (ltb LONGEST_BOOK (length book)) (is_plain book) (runs_texts longest book _ refl)
 
-import_tests : (state : State) (texts : List (List ℕ)) (reply : Reply) (full spent : Bool) → ltb MOST_TUNES (length state.tunes + length texts) ≡ full → ltb GREATEST_NUMBER (greatest state.tunes + length texts) ≡ spent
-    → IsState state → AllByRecursion (IsTextWithin LONGEST_TEXT) texts → KeepsLimits (cond full (state, Err ArchiveFull) (cond spent (state, Err NumbersSpent) (with_texts state texts, Ok reply)))
+import_tests : (state : State) (texts : List (List ℕ)) (reply : Reply) (full spent : Bool) → ltb most_tunes (length state.tunes + length texts) ≡ full → ltb greatest_number (greatest state.tunes + length texts) ≡ spent
+    → IsState state → AllByRecursion (IsTextWithin longest_text) texts → KeepsLimits (cond full (state, Err ArchiveFull) (cond spent (state, Err NumbersSpent) (with_texts state texts, Ok reply)))
 import_tests state texts reply true spent room numbers is within = is
 import_tests state texts reply false true room numbers is within = is
 import_tests state texts reply false false room numbers is within = state_after_import state.tunes texts is within (ltb-false _ _ room) (ltb-false _ _ numbers)
 
-import_limits : (state : State) (texts : Texts) → IsState state → TextsWithin LONGEST_TEXT texts → KeepsLimits (import_book state texts)
+import_limits : (state : State) (texts : Texts) → IsState state → TextsWithin longest_text texts → KeepsLimits (import_book state texts)
 import_limits state (Err why) is within = is
-import_limits state (Ok texts) is within = import_tests state texts _ (ltb MOST_TUNES (length state.tunes + length texts)) (ltb GREATEST_NUMBER (greatest state.tunes + length texts)) refl refl is within
+import_limits state (Ok texts) is within = import_tests state texts _ (ltb most_tunes (length state.tunes + length texts)) (ltb greatest_number (greatest state.tunes + length texts)) refl refl is within
 
-replace_limits : (state : State) (number revision : ℕ) (texts : Texts) → IsState state → TextsWithin LONGEST_TEXT texts → KeepsLimits (replace_book state number revision texts)
+replace_limits : (state : State) (number revision : ℕ) (texts : Texts) → IsState state → TextsWithin longest_text texts → KeepsLimits (replace_book state number revision texts)
 replace_limits state number revision (Err why) is within = is
 replace_limits state number revision (Ok []) is within = is
 replace_limits state number revision (Ok (text ∷ [])) is within = state_after_text state.tunes number revision text (tune_at number state.tunes) is within.0
@@ -127,8 +127,8 @@ show_limits state number (Some tune) is = is
 
 -- a state within the limits stays within them
 pub step_keeps_limits : (state : State) (command : Command) → IsState state → IsState (step state command).0
-step_keeps_limits state (Import book) is = import_limits state (book_answer LONGEST_TEXT book) is (book_within LONGEST_TEXT book)
-step_keeps_limits state (Replace number revision book) is = replace_limits state number revision (book_answer LONGEST_TEXT book) is (book_within LONGEST_TEXT book)
+step_keeps_limits state (Import book) is = import_limits state (book_answer longest_text book) is (book_within longest_text book)
+step_keeps_limits state (Replace number revision book) is = replace_limits state number revision (book_answer longest_text book) is (book_within longest_text book)
 step_keeps_limits state (Delete number) is = delete_limits state number (tune_at number state.tunes) is
 step_keeps_limits state (Show number) is = show_limits state number (tune_at number state.tunes) is
 step_keeps_limits state ExportAll is = is
@@ -158,7 +158,7 @@ replace_tests state number named text tune true true found test accepted =
 
 replace_found : (state : State) (number named : ℕ) (text : List ℕ) (found : Option Tune) → tune_at number state.tunes ≡ found → RaisesOnOk number named state (replace_tune state number named text found)
 replace_found state number named text None e accepted = cc
-replace_found state number named text (Some tune) e accepted = replace_tests state number named text tune (eqb tune.revision named) (ltb tune.revision GREATEST_REVISION) e refl accepted
+replace_found state number named text (Some tune) e accepted = replace_tests state number named text tune (eqb tune.revision named) (ltb tune.revision greatest_revision) e refl accepted
 
 replace_raises : (state : State) (number named : ℕ) (texts : Texts) → RaisesOnOk number named state (replace_book state number named texts)
 replace_raises state number named (Err why) accepted = cc
@@ -168,7 +168,7 @@ replace_raises state number named (Ok (text ∷ next ∷ texts)) accepted = cc
 
 -- an accepted Replace names the current revision, and raises it by one
 pub accepted_replace_raises : (state : State) (number named : ℕ) (book : List ℕ) → AcceptedReplaceRaises state number named book
-accepted_replace_raises state number named book = replace_raises state number named (book_answer LONGEST_TEXT book)
+accepted_replace_raises state number named book = replace_raises state number named (book_answer longest_text book)
 
 -- ANY OTHER COMMAND
 refused_outcome : (old : State) (outcome : Outcome) → KeepsOnErr old outcome → IsFalse (is_ok outcome.1) → outcome.0 ≡ old
@@ -192,13 +192,13 @@ two_tests_leave number old new false false x y reply same there = ap revision sa
 import_leaves : (state : State) (number : ℕ) (texts : Texts) → HasTune number state → LeavesRevision number state (import_book state texts)
 import_leaves state number (Err why) was there = refl
 import_leaves state number (Ok texts) was there =
-    two_tests_leave number state (with_texts state texts) (ltb MOST_TUNES (length state.tunes + length texts)) (ltb GREATEST_NUMBER (greatest state.tunes + length texts)) _ _ _ (tune_at-append number state.tunes _ was) there
+    two_tests_leave number state (with_texts state texts) (ltb most_tunes (length state.tunes + length texts)) (ltb greatest_number (greatest state.tunes + length texts)) _ _ _ (tune_at-append number state.tunes _ was) there
 
 replace_found_leaves : (state : State) (number other named : ℕ) (text : List ℕ) (found : Option Tune) → (other ≡ number → ⊥) → tune_at other state.tunes ≡ found → LeavesRevision number state (replace_tune state other named text found)
 replace_found_leaves state number other named text None apart e there = refl
 replace_found_leaves state number other named text (Some tune) apart e there =
     let ne = λ (same : tune.number ≡ number). apart (sym (tune_at-number other state.tunes tune e) ∙ same) in
-    two_tests_leave number state record { tunes = with_tune (revised tune text) state.tunes } (not (eqb tune.revision named)) (not (ltb tune.revision GREATEST_REVISION)) _ _ _ (tune_at-with_tune_other number (revised tune text) state.tunes ne) there
+    two_tests_leave number state record { tunes = with_tune (revised tune text) state.tunes } (not (eqb tune.revision named)) (not (ltb tune.revision greatest_revision)) _ _ _ (tune_at-with_tune_other number (revised tune text) state.tunes ne) there
 
 replace_leaves : (state : State) (number other named : ℕ) (texts : Texts) → (other ≡ number → ⊥) → LeavesRevision number state (replace_book state other named texts)
 replace_leaves state number other named (Err why) apart there = refl
@@ -224,10 +224,10 @@ show_leaves state number other (Some tune) there = refl
 
 -- any other command leaves the revision of a tune that is there before and after it
 pub others_keep_revision : (state : State) (number : ℕ) (command : Command) → IsState state → OthersKeepRevision state number command
-others_keep_revision state number (Import book) is other was there = import_leaves state number (book_answer LONGEST_TEXT book) was there
+others_keep_revision state number (Import book) is other was there = import_leaves state number (book_answer longest_text book) was there
 others_keep_revision state number (Replace replaced named book) is other was there = elim (cases_Bool (eqb replaced number)) [
   | inl same ↦ let refused = rw same at other in ap (revision_of number) (refused_leaves state (Replace replaced named book) refused)
-  | inr differs ↦ replace_leaves state number replaced named (book_answer LONGEST_TEXT book) (eqb-false replaced number differs) there
+  | inr differs ↦ replace_leaves state number replaced named (book_answer longest_text book) (eqb-false replaced number differs) there
 ]
 others_keep_revision state number (Delete deleted) is other was there = delete_leaves state number deleted (tune_at deleted state.tunes) is there
 others_keep_revision state number (Show shown) is other was there = show_leaves state number shown (tune_at shown state.tunes) there

@@ -11,7 +11,7 @@ use Rattle.abc_fields.specs.Tunes.{IsTextWithin}
 use Rattle.tune_store.specs.State.{RisesFrom, greatest, IsTune, IsState}
 use Rattle.tune_store.specs.Step.{Outcome, tune_at, numbered, with_tune, without, revised, replace_tune}
 use Rattle.tune_store.specs.declared.tune.Tune.{Tune}
-use Rattle.tune_store.specs.declared.tune.TheConstants.{LONGEST_TEXT, MOST_TUNES, GREATEST_NUMBER, GREATEST_REVISION}
+use Rattle.tune_store.specs.Limits.{longest_text, most_tunes, greatest_number, greatest_revision}
 use Rattle.tune_store.specs.declared.command.Reply.TheVariants.{Replaced}
 use Rattle.tune_store.specs.declared.command.Refusal.TheVariants.{Stale, Worn}
 
@@ -73,14 +73,14 @@ rises-numbered : (low number : ℕ) (texts : List (List ℕ)) → low < number �
 rises-numbered low number [] l = tt
 rises-numbered low number (text ∷ texts) l = (l, rises-numbered number (number + 1) texts (omega arith))
 
-each-numbered : (number : ℕ) (texts : List (List ℕ)) → AllByRecursion (IsTextWithin LONGEST_TEXT) texts → AllByRecursion IsTune (numbered number texts)
+each-numbered : (number : ℕ) (texts : List (List ℕ)) → AllByRecursion (IsTextWithin longest_text) texts → AllByRecursion IsTune (numbered number texts)
 each-numbered number [] within = tt
 each-numbered number (text ∷ texts) within =
     (record { revised = omega arith; revision = omega arith; text = within.0.tune_text; fits = within.0.fits }, each-numbered (number + 1) texts within.1)
 
 -- new tunes of good texts keep the limits, where there is room for them
-pub state_after_import : (tunes : List Tune) (texts : List (List ℕ)) → IsState (record { tunes = tunes }) → AllByRecursion (IsTextWithin LONGEST_TEXT) texts
-    → length tunes + length texts ≤ MOST_TUNES → greatest tunes + length texts ≤ GREATEST_NUMBER → IsState (record { tunes = tunes ++ numbered (greatest tunes + 1) texts })
+pub state_after_import : (tunes : List Tune) (texts : List (List ℕ)) → IsState (record { tunes = tunes }) → AllByRecursion (IsTextWithin longest_text) texts
+    → length tunes + length texts ≤ most_tunes → greatest tunes + length texts ≤ greatest_number → IsState (record { tunes = tunes ++ numbered (greatest tunes + 1) texts })
 state_after_import tunes texts is within room numbers =
     let P : ℕ → Type 0 = λ n. RisesFrom n (numbered (greatest tunes + 1) texts) in
     let low : greatest tunes ≡ max 0 (greatest tunes) = omega arith in
@@ -92,7 +92,7 @@ state_after_import tunes texts is within room numbers =
       count = omega (arith, length-append tunes (numbered (greatest tunes + 1) texts), length-numbered (greatest tunes + 1) texts);
     }
   where
-    new_numbers_top : (tunes : List Tune) (texts : List (List ℕ)) → greatest tunes + length texts ≤ GREATEST_NUMBER → greatest tunes ≤ GREATEST_NUMBER → greatest (tunes ++ numbered (greatest tunes + 1) texts) ≤ GREATEST_NUMBER
+    new_numbers_top : (tunes : List Tune) (texts : List (List ℕ)) → greatest tunes + length texts ≤ greatest_number → greatest tunes ≤ greatest_number → greatest (tunes ++ numbered (greatest tunes + 1) texts) ≤ greatest_number
     new_numbers_top tunes [] numbers h = let e = greatest-append tunes [] in omega arith
     new_numbers_top tunes (text ∷ texts) numbers h =
         let e = greatest-append tunes (numbered (greatest tunes + 1) (text ∷ texts)) in
@@ -141,7 +141,7 @@ state_after_replace new tunes is state = record {
 }
 
 -- a good text in the place of a tune's, which has not the greatest revision, makes a good tune
-pub revised_is_tune : (tune : Tune) (text : List ℕ) → IsTextWithin LONGEST_TEXT text → tune.revision < GREATEST_REVISION → IsTune (revised tune text)
+pub revised_is_tune : (tune : Tune) (text : List ℕ) → IsTextWithin longest_text text → tune.revision < greatest_revision → IsTune (revised tune text)
 revised_is_tune tune text within less = record { revised = omega arith; revision = omega arith; text = within.tune_text; fits = within.fits }
 
 -- a replacement keeps the limits, where its text is good
@@ -149,18 +149,18 @@ revised_is_tune tune text within less = record { revised = omega arith; revision
 abbrev pub KeepsLimits : Outcome → Type 0
 KeepsLimits outcome = IsState outcome.0
 
-by_tests : (tune : Tune) (tunes : List Tune) (number : ℕ) (text : List ℕ) (stale young : Bool) → IsTextWithin LONGEST_TEXT text → ltb tune.revision GREATEST_REVISION ≡ young → IsState (record { tunes = tunes })
+by_tests : (tune : Tune) (tunes : List Tune) (number : ℕ) (text : List ℕ) (stale young : Bool) → IsTextWithin longest_text text → ltb tune.revision greatest_revision ≡ young → IsState (record { tunes = tunes })
     → KeepsLimits (cond stale (record { tunes = tunes }, Err (Stale tune.revision)) (cond (not young) (record { tunes = tunes }, Err Worn) (record { tunes = with_tune (revised tune text) tunes }, Ok (Replaced number (tune.revision + 1)))))
 by_tests tune tunes number text true young within y state = state
 by_tests tune tunes number text false false within y state = state
-by_tests tune tunes number text false true within y state = state_after_replace (revised tune text) tunes (revised_is_tune tune text within (ltb-true tune.revision GREATEST_REVISION y)) state
+by_tests tune tunes number text false true within y state = state_after_replace (revised tune text) tunes (revised_is_tune tune text within (ltb-true tune.revision greatest_revision y)) state
 
 -- a replacement keeps the limits, where its text is good
-pub state_after_text : (tunes : List Tune) (number revision : ℕ) (text : List ℕ) (found : Option Tune) → IsState (record { tunes = tunes }) → IsTextWithin LONGEST_TEXT text
+pub state_after_text : (tunes : List Tune) (number revision : ℕ) (text : List ℕ) (found : Option Tune) → IsState (record { tunes = tunes }) → IsTextWithin longest_text text
     → KeepsLimits (replace_tune (record { tunes = tunes }) number revision text found)
 state_after_text tunes number revision text None state within = state
 state_after_text tunes number revision text (Some tune) state within =
-    by_tests tune tunes number text (not (eqb tune.revision revision)) (ltb tune.revision GREATEST_REVISION) within refl state
+    by_tests tune tunes number text (not (eqb tune.revision revision)) (ltb tune.revision greatest_revision) within refl state
 
 -- the one of texts within a length is within it
 pub only_within : (longest : ℕ) (texts : List (List ℕ)) (text : List ℕ) → AllByRecursion (IsTextWithin longest) texts → texts ≡ text ∷ [] → IsTextWithin longest text

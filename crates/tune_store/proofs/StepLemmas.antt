@@ -9,7 +9,7 @@ use Rattle.tune_store.specs.Step.{Outcome, refusal_of, step, import_book, replac
 use Rattle.tune_store.specs.Answers.{Answers, open_at, stepped, no_memory, failed_before, failed_after, is_closed, passed}
 use Rattle.tune_store.specs.Stops.{Among}
 use Rattle.tune_store.specs.declared.tune.Tune.{Tune}
-use Rattle.tune_store.specs.declared.tune.TheConstants.{LONGEST_TEXT, MOST_TUNES, GREATEST_NUMBER, GREATEST_REVISION}
+use Rattle.tune_store.specs.Limits.{longest_text, most_tunes, greatest_number, greatest_revision}
 use Rattle.tune_store.specs.declared.command.Command.{Command}
 use Rattle.tune_store.specs.declared.command.Command.TheVariants.{Import, Replace, Delete, Show, ExportAll}
 use Rattle.tune_store.specs.declared.command.Reply.{Reply}
@@ -30,12 +30,12 @@ two_tests_keep old new false false x y reply refusal h = cc
 import_keeps : (old : State) (texts : Texts) → KeepsOnErr old (import_book old texts)
 import_keeps old (Err fault) refusal h = refl
 import_keeps old (Ok texts) refusal h =
-    two_tests_keep old _ (ltb MOST_TUNES (length old.tunes + length texts)) (ltb GREATEST_NUMBER (greatest old.tunes + length texts)) _ _ _ refusal h
+    two_tests_keep old _ (ltb most_tunes (length old.tunes + length texts)) (ltb greatest_number (greatest old.tunes + length texts)) _ _ _ refusal h
 
 replace_tune_keeps : (old : State) (number revision : ℕ) (text : List ℕ) (found : Option Tune) → KeepsOnErr old (replace_tune old number revision text found)
 replace_tune_keeps old number revision text None refusal h = refl
 replace_tune_keeps old number revision text (Some tune) refusal h =
-    two_tests_keep old _ (not (eqb tune.revision revision)) (not (ltb tune.revision GREATEST_REVISION)) _ _ _ refusal h
+    two_tests_keep old _ (not (eqb tune.revision revision)) (not (ltb tune.revision greatest_revision)) _ _ _ refusal h
 
 replace_texts_keep : (old : State) (number revision : ℕ) (texts : List (List ℕ)) → KeepsOnErr old (replace_texts old number revision texts)
 replace_texts_keep old number revision [] refusal h = refl
@@ -55,8 +55,8 @@ show_keeps old number None refusal h = refl
 show_keeps old number (Some tune) refusal h = cc
 
 pub refused_keeps : (old : State) (command : Command) → KeepsOnErr old (step old command)
-refused_keeps old (Import book) = import_keeps old (book_answer LONGEST_TEXT book)
-refused_keeps old (Replace number revision book) = replace_keeps old number revision (book_answer LONGEST_TEXT book)
+refused_keeps old (Import book) = import_keeps old (book_answer longest_text book)
+refused_keeps old (Replace number revision book) = replace_keeps old number revision (book_answer longest_text book)
 refused_keeps old (Delete number) = delete_keeps old number (tune_at number old.tunes)
 refused_keeps old ExportAll = λ refusal h. cc
 refused_keeps old (Show number) = show_keeps old number (tune_at number old.tunes)
@@ -86,13 +86,13 @@ two_tests_not_of_device old new false false x y reply not_x not_y refusal h of =
 import_not_of_device : (old : State) (texts : Texts) → NotOfDevice (import_book old texts)
 import_not_of_device old (Err fault) refusal h of = let same : refusal_of fault ≡ refusal = cc in book_fault_not_of_device fault (rw same of)
 import_not_of_device old (Ok texts) refusal h of =
-    two_tests_not_of_device old _ (ltb MOST_TUNES (length old.tunes + length texts)) (ltb GREATEST_NUMBER (greatest old.tunes + length texts)) _ _ _
+    two_tests_not_of_device old _ (ltb most_tunes (length old.tunes + length texts)) (ltb greatest_number (greatest old.tunes + length texts)) _ _ _
     (λ x. elim x [ inl e ↦ cc | inr e ↦ cc ]) (λ y. elim y [ inl e ↦ cc | inr e ↦ cc ]) refusal h of
 
 replace_tune_not_of_device : (old : State) (number revision : ℕ) (text : List ℕ) (found : Option Tune) → NotOfDevice (replace_tune old number revision text found)
 replace_tune_not_of_device old number revision text None refusal h of = elim of [ inl e ↦ cc | inr e ↦ cc ]
 replace_tune_not_of_device old number revision text (Some tune) refusal h of =
-    two_tests_not_of_device old _ (not (eqb tune.revision revision)) (not (ltb tune.revision GREATEST_REVISION)) _ _ _
+    two_tests_not_of_device old _ (not (eqb tune.revision revision)) (not (ltb tune.revision greatest_revision)) _ _ _
     (λ x. elim x [ inl e ↦ cc | inr e ↦ cc ]) (λ y. elim y [ inl e ↦ cc | inr e ↦ cc ]) refusal h of
 
 replace_texts_not_of_device : (old : State) (number revision : ℕ) (texts : List (List ℕ)) → NotOfDevice (replace_texts old number revision texts)
@@ -113,8 +113,8 @@ show_not_of_device old number None refusal h of = elim of [ inl e ↦ cc | inr e
 show_not_of_device old number (Some tune) refusal h of = cc
 
 step_not_of_device : (old : State) (command : Command) → NotOfDevice (step old command)
-step_not_of_device old (Import book) = import_not_of_device old (book_answer LONGEST_TEXT book)
-step_not_of_device old (Replace number revision book) = replace_not_of_device old number revision (book_answer LONGEST_TEXT book)
+step_not_of_device old (Import book) = import_not_of_device old (book_answer longest_text book)
+step_not_of_device old (Replace number revision book) = replace_not_of_device old number revision (book_answer longest_text book)
 step_not_of_device old (Delete number) = delete_not_of_device old number (tune_at number old.tunes)
 step_not_of_device old ExportAll = λ refusal h of. cc
 step_not_of_device old (Show number) = show_not_of_device old number (tune_at number old.tunes)

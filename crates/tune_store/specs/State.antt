@@ -3,7 +3,7 @@ use Rattle.std.specs.Prelude.{ℕ, ◌<◌, ◌≤◌, List, [], ◌∷◌, Bool
 use Rattle.std.specs.List.{AllByRecursion}
 use Rattle.abc_fields.specs.Tunes.{IsTuneText}
 use Rattle.tune_store.specs.declared.tune.Tune.{Tune}
-use Rattle.tune_store.specs.declared.tune.TheConstants.{LONGEST_TEXT, MOST_TUNES, GREATEST_NUMBER, GREATEST_REVISION}
+use Rattle.tune_store.specs.Limits.{longest_text, most_tunes, greatest_number, greatest_revision}
 
 -- tunes by rising number
 pub record State : Type 0 where
@@ -27,13 +27,13 @@ RisesFrom low (tune ∷ tunes) = (low < tune.number) × RisesFrom tune.number tu
 -- a tune within the limits
 pub record IsTune (tune : Tune) : Type 0 where
   pub revised : 0 < tune.revision
-  pub revision : tune.revision ≤ GREATEST_REVISION
+  pub revision : tune.revision ≤ greatest_revision
   pub text : IsTuneText tune.text
-  pub fits : length tune.text ≤ LONGEST_TEXT
+  pub fits : length tune.text ≤ longest_text
 
 -- a state within the limits
 pub record IsState (state : State) : Type 0 where
   pub rises : RisesFrom 0 state.tunes
-  pub numbers : greatest state.tunes ≤ GREATEST_NUMBER
+  pub numbers : greatest state.tunes ≤ greatest_number
   pub tunes : AllByRecursion IsTune state.tunes
-  pub count : length state.tunes ≤ MOST_TUNES
+  pub count : length state.tunes ≤ most_tunes

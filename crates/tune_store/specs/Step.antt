@@ -5,7 +5,7 @@ use Rattle.abc_fields.specs.declared.book.BookFault.{BookFault}
 use Rattle.abc_fields.specs.declared.book.BookFault.TheVariants as fault
 use Rattle.tune_books.specs.WrittenBooks.{written_book}
 use Rattle.tune_store.specs.declared.tune.Tune.{Tune}
-use Rattle.tune_store.specs.declared.tune.TheConstants.{LONGEST_TEXT, MOST_TUNES, GREATEST_NUMBER, GREATEST_REVISION}
+use Rattle.tune_store.specs.Limits.{longest_text, most_tunes, greatest_number, greatest_revision}
 use Rattle.tune_store.specs.State.{State, greatest}
 use Rattle.tune_store.specs.declared.command.Command.{Command}
 use Rattle.tune_store.specs.declared.command.Command.TheVariants.{Import, Replace, Delete, Show, ExportAll}
@@ -38,8 +38,8 @@ with_texts state texts = record { tunes = state.tunes ++ numbered (greatest stat
 -- the texts of a book: all of them are added, or none
 abbrev pub import_texts : State → List (List ℕ) → Outcome
 import_texts state texts =
-    if nat_lt MOST_TUNES (length state.tunes + length texts) then (state, Err ArchiveFull)
-    else if nat_lt GREATEST_NUMBER (greatest state.tunes + length texts) then (state, Err NumbersSpent)
+    if nat_lt most_tunes (length state.tunes + length texts) then (state, Err ArchiveFull)
+    else if nat_lt greatest_number (greatest state.tunes + length texts) then (state, Err NumbersSpent)
     else (with_texts state texts, Ok (Imported (greatest state.tunes + 1) (greatest state.tunes + length texts)))
 
 abbrev pub import_book : State → Texts → Outcome
@@ -72,7 +72,7 @@ abbrev pub replace_tune : State → ℕ → ℕ → List ℕ → Option Tune →
 replace_tune state number revision text None = (state, Err (Unknown number))
 replace_tune state number revision text (Some tune) =
     if not (tune.revision == revision) then (state, Err (Stale tune.revision))
-    else if not (nat_lt tune.revision GREATEST_REVISION) then (state, Err Worn)
+    else if not (nat_lt tune.revision greatest_revision) then (state, Err Worn)
     else (record { tunes = with_tune (revised tune text) state.tunes }, Ok (Replaced number (tune.revision + 1)))
 
 -- the texts of a book, which has to have one
@@ -102,8 +102,8 @@ exported tunes = written_book (map (λ tune. tune.number) tunes) (map (λ tune. 
 
 -- EACH COMMAND
 abbrev pub step : State → Command → Outcome
-step state (Import book) = import_book state (book_answer LONGEST_TEXT book)
-step state (Replace number revision book) = replace_book state number revision (book_answer LONGEST_TEXT book)
+step state (Import book) = import_book state (book_answer longest_text book)
+step state (Replace number revision book) = replace_book state number revision (book_answer longest_text book)
 step state (Delete number) = delete_tune state number (tune_at number state.tunes)
 step state (Show number) = show_tune state number (tune_at number state.tunes)
 step state ExportAll = (state, Ok (Exported (exported state.tunes)))

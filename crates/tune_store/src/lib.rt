@@ -3,12 +3,12 @@
 
 mod command;
 mod laws;
-mod list;
-mod store;
+mod list_archive;
 mod tune;
+mod tune_store;
 
 pub use command::{Command, Refusal, Reply};
 pub use laws::law_of_revisions;
-pub use list::ListArchive;
-pub use store::TuneStore;
+pub use list_archive::ListArchive;
 pub use tune::{GREATEST_NUMBER, GREATEST_REVISION, LONGEST_TEXT, MOST_TUNES, Tune};
+pub use tune_store::TuneStore;

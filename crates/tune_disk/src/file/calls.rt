@@ -1,6 +1,7 @@
-// The calls of the operating system that a disk over a file makes. Each function makes one call, over interruptions and parts, and keeps what it told.
+// The calls of the operating system that a disk over a file makes. Each function makes one call,
+// over interruptions and parts, and keeps what it told.
 ghost use Rattle.std.specs.Prelude.{◌≡◌, ◌+◌, ◌<◌, ◌≤◌, ◌^◌, ◌∷◌, ◌++◌, [], length, IfOk, OnOk, OnErr};
-ghost use Rattle.tune_disk.specs.FileTold.{IsToldRead, IsToldWrite};
+ghost use Rattle.tune_disk.specs.Inside.ToldMore.{IsToldRead, IsToldWrite};
 ghost use Rattle.tune_disk.specs.declared.file.told.Told.TheVariants.{Length, Broke, Synced};
 
 use super::told::{Told, tell_read, tell_write};
@@ -68,7 +69,8 @@ pub(super) fn write_all(
     done
 }
 
-/// Makes the bytes that were written stable, and with them the length: `fdatasync` leaves out only what reading them back does not need.
+/// Makes the bytes that were written stable, and with them the length: `fdatasync` leaves out only
+/// what reading them back does not need.
 pub(super) fn make_stable(file: &File, log: &mut Log<u64, Told>) -> io::Result<()>
     ensures ok { OnOk result (log.new.items ≡ log.old.items ++ (0, Synced) ∷ []) }
     ensures err { OnErr result (log.new.items ≡ log.old.items) }

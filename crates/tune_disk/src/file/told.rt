@@ -1,41 +1,41 @@
 // What a file of the operating system told, kept for clauses alone: it takes no memory.
 ghost use Rattle.std.specs.Prelude.{◌+◌, ◌≤◌, ◌^◌, length};
-ghost use Rattle.tune_disk.specs.FileTold.{IsToldRead, IsToldWrite};
+ghost use Rattle.tune_disk.specs.Inside.ToldMore.{IsToldRead, IsToldWrite};
 
 use http_server::Log;
 
-/// One thing that a file told of a place.
+/// One thing that a file told of an offset.
 #[derive(Clone, Copy, Debug, PartialEq, Eq)]
 pub(crate) enum Told {
     /// The file has so many bytes.
     Length(u64),
-    /// A read found this byte at the place.
+    /// A read found this byte at the offset.
     Byte(u8),
-    /// A read found no byte: the file ends at the place, or before it.
+    /// A read found no byte: the file ends at the offset, or before it.
     Ended,
     /// A write begins.
     Begun,
     /// It is to write this byte next.
     Put(u8),
-    /// It wrote its bytes from the place on.
+    /// It wrote its bytes from the offset on.
     Wrote,
-    /// A write of so many bytes from the place on failed.
+    /// A write of so many bytes from the offset on failed.
     Broke(u64),
     /// A sync ended well.
     Synced,
 }
 
-/// Tells that a read found these bytes from a place on.
+/// Tells that a read found these bytes from an offset on.
 pub(crate) fn tell_read(log: &mut Log<u64, Told>, at: u64, bytes: &[u8])
     requires { at + length bytes.now ≤ 2 ^ 40 }
     ensures { IsToldRead at (length bytes.now) bytes.now log.old.items log.new.items }
 {
-    for place in 0..bytes.len() {
-        *log = log.and(&(at + place as u64), &Told::Byte(bytes[place]));
+    for i in 0..bytes.len() {
+        *log = log.and(&(at + i as u64), &Told::Byte(bytes[i]));
     }
 }
 
-/// Tells that a write of these bytes from a place on ended well.
+/// Tells that a write of these bytes from an offset on ended well.
 pub(crate) fn tell_write(log: &mut Log<u64, Told>, at: u64, bytes: &[u8])
     ensures { IsToldWrite at bytes.now log.old.items log.new.items }
 {

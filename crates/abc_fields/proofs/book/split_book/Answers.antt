@@ -18,12 +18,15 @@ pub returns-then-is_empty-clause-refusal : goal.returns-then-is_empty-clause-ref
 returns-then-is_empty-clause-refusal c =
     let plain : is_plain c.args.book.now ≡ true = search rules in
     let none : length c.in_ok-tunes.tunes.items ≡ 0 = search rules in
-    inr (book_read c.args.longest c.args.book.now (omega arith) plain ∙ runs_none c.args.longest (tune_runs (lines_of c.args.book.now)) (c.in_ok-tunes.ensures ∙ ap (λ l. Ok l) (nil_from_length _ none)))
+    inr (book_read c.args.longest c.args.book.now (omega arith) plain
+    ∙ runs_none c.args.longest (tune_runs (lines_of c.args.book.now)) (c.in_ok-tunes.ensures ∙ ap (λ l. Ok l) (nil_from_length _ none)))
 
 pub returns-clause-texts : goal.returns-clause-texts
 returns-clause-texts c =
     let plain : is_plain c.args.book.now ≡ true = search rules in
-    book_read c.args.longest c.args.book.now (omega arith) plain ∙ runs_ok c.args.longest (tune_runs (lines_of c.args.book.now)) c.in_ok-tunes.tunes.items c.in_ok-tunes.ensures (λ e. eqb-false (vec_len c.in_ok-tunes.tunes) 0 (sym c.is_empty.ensures ∙ c.if-is_empty.false) (omega (arith, c.in_ok-tunes.tunes.ok.0)))
+    book_read c.args.longest c.args.book.now (omega arith) plain
+    ∙ runs_ok c.args.longest (tune_runs (lines_of c.args.book.now)) c.in_ok-tunes.tunes.items c.in_ok-tunes.ensures
+    (λ e. eqb-false (vec_len c.in_ok-tunes.tunes) 0 (sym c.is_empty.ensures ∙ c.if-is_empty.false) (omega (arith, c.in_ok-tunes.tunes.ok.0)))
 
 pub returns-clause-within : goal.returns-clause-within
 returns-clause-within c = texts_within c.args.longest c.args.book.now c.in_ok-tunes.tunes.items c.in_ok-tunes.ensures

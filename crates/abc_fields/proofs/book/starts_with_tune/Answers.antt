@@ -1,7 +1,7 @@
 use Rattle.std.proofs.Common.{◌≡◌, ap, sym, ◌∙◌, rules, true, false, refl}
 use Rattle.abc_fields.specs.Tunes.{is_empty_line}
 use Rattle.abc_fields.specs.Books.{begins_with_tune}
-use Rattle.abc_fields.proofs.LinePlaces.{spans_have_lines}
+use Rattle.abc_fields.proofs.LineOffsets.{spans_have_lines}
 use Rattle.abc_fields.proofs.BookLemmas.{contents}
 use Rattle.abc_fields.proofs.book.starts_with_tune.Goals as goal
 

@@ -4,8 +4,8 @@ use Rattle.std.proofs.lemmas.List.{append-nil}
 use Rattle.std.specs.Prelude.{⊤}
 use Rattle.abc_fields.specs.Lines.{Span}
 use Rattle.abc_fields.specs.Tunes.{tune_run}
-use Rattle.abc_fields.specs.OpenBooks.{open_answer}
-use Rattle.abc_fields.specs.declared.book.TheConstants.{LONGEST_BOOK}
+use Rattle.abc_fields.specs.Inside.OpenBooks.{open_answer}
+use Rattle.abc_fields.specs.Limits.{longest_book}
 use Rattle.abc_fields.proofs.BookLemmas.{contents, AllPlain, answer_at_start, spans_plain, refused_at}
 use Rattle.abc_fields.proofs.TextLengths.{book_limit}
 use Rattle.abc_fields.proofs.book.tunes_of.Goals as goal
@@ -15,7 +15,7 @@ loop-line-init c =
     let limit = c.min-limit.result in
     rw (c.into_iter-line-iterator.ensures.into_iter_gives, c.new-line-items.ensures.lines, c.new-tunes.ensures.items) record {
       plain = spans_plain c.args.book.now;
-      answer = answer_at_start limit c.args.book.now ∙ book_limit c.args.longest LONGEST_BOOK limit c.args.book.now c.min-limit.ensures c.requires;
+      answer = answer_at_start limit c.args.book.now ∙ book_limit c.args.longest longest_book limit c.args.book.now c.min-limit.ensures c.requires;
     }
 
 pub take_line-requires-clause-plain : goal.take_line-requires-clause-plain
@@ -27,7 +27,9 @@ pub returns-in_err-started : goal.returns-in_err-started
 returns-in_err-started c =
     let p = err_from_is_err_and c.from_residual.result c.from_residual.ensures.1 in
     let step = ap (λ spans. open_answer c.min-limit.result c.loop-line.tunes.items c.loop-line.started (contents spans)) c.in-Some.ensures.steps in
-    rw (p.1, p.2) (refused_at c.in_err-started.field-0.0 (λ rest. open_answer c.min-limit.result c.loop-line.tunes.items c.loop-line.started (c.in-Some.line.text.now ∷ rest)) (λ _. ⊤) (contents c.next.new.self) _ (sym c.loop-line.invariant.answer ∙ step) tt c.in_err-started.ensures)
+    rw (p.1, p.2) (refused_at c.in_err-started.field-0.0
+    (λ rest. open_answer c.min-limit.result c.loop-line.tunes.items c.loop-line.started (c.in-Some.line.text.now ∷ rest)) (λ _. ⊤)
+    (contents c.next.new.self) _ (sym c.loop-line.invariant.answer ∙ step) tt c.in_err-started.ensures)
 
 pub loop-line-preserved : goal.loop-line-preserved
 loop-line-preserved c =
@@ -42,7 +44,8 @@ pub returns-in_err-close_tune : goal.returns-in_err-close_tune
 returns-in_err-close_tune c =
     let p = err_from_is_err_and c.from_residual-in_err-close_tune.result c.from_residual-in_err-close_tune.ensures.1 in
     let done = ap (λ spans. open_answer c.min-limit.result c.loop-line.tunes.items c.loop-line.started (contents spans)) c.in-None.ensures.steps.0 in
-    rw (p.1, p.2) (refused_at c.in_err-close_tune.field-0.0 (open_answer c.min-limit.result c.loop-line.tunes.items c.loop-line.started) (λ rest. tune_run rest ≡ []) [] _ (sym c.loop-line.invariant.answer ∙ done) refl c.in_err-close_tune.ensures)
+    rw (p.1, p.2) (refused_at c.in_err-close_tune.field-0.0 (open_answer c.min-limit.result c.loop-line.tunes.items c.loop-line.started)
+    (λ rest. tune_run rest ≡ []) [] _ (sym c.loop-line.invariant.answer ∙ done) refl c.in_err-close_tune.ensures)
 
 pub returns : goal.returns
 returns c =

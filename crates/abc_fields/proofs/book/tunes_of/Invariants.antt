@@ -1,7 +1,7 @@
 use Rattle.std.proofs.Common.{◌≡◌}
 use Rattle.abc_fields.specs.Tunes.{tune_runs}
 use Rattle.abc_fields.specs.Books.{runs_answer}
-use Rattle.abc_fields.specs.OpenBooks.{open_answer}
+use Rattle.abc_fields.specs.Inside.OpenBooks.{open_answer}
 use Rattle.abc_fields.specs.Lines.{lines_of}
 use Rattle.abc_fields.proofs.BookLemmas.{contents, AllPlain}
 use Rattle.abc_fields.proofs.book.tunes_of.Given as goal

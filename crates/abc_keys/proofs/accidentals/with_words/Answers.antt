@@ -8,5 +8,6 @@ use Rattle.abc_keys.proofs.accidentals.with_words.Goals as goal
 pub returns : goal.returns
 returns c =
     fold_from_yields_List _ with_word c.args.signature c.fold.result c.fold.ensures.ran
-    (YieldsList-from_slice_split _ is_blank c.args.text.now c.split.ensures.rest c.split.ensures.done c.split.ensures.closure (λ x r q k. search (rules, tests)))
+    (YieldsList-from_slice_split _ is_blank c.args.text.now c.split.ensures.rest c.split.ensures.done c.split.ensures.closure
+    (λ x r q k. search (rules, tests)))
     (λ a x b q k. search (rules, tests))

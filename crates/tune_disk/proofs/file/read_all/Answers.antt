@@ -1,6 +1,6 @@
 use Rattle.std.proofs.Common.{rules}
 use Rattle.std.proofs.lemmas.List.{places}
-use Rattle.tune_disk.specs.FileTold.{IsToldRead}
+use Rattle.tune_disk.specs.Inside.ToldMore.{IsToldRead}
 use Rattle.tune_disk.proofs.Told.{read_join}
 use Rattle.tune_disk.proofs.file.read_all.Goals as goal
 

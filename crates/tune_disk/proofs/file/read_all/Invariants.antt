@@ -1,5 +1,5 @@
 use Rattle.std.proofs.Common.{◌≡◌, ◌-◌, ◌≤◌, length}
-use Rattle.tune_disk.specs.FileTold.{IsToldRead}
+use Rattle.tune_disk.specs.Inside.ToldMore.{IsToldRead}
 use Rattle.tune_disk.proofs.file.read_all.Given as goal
 
 abbrev pub invariant-loop-done : goal.invariant-loop-done

@@ -1,6 +1,6 @@
 use Rattle.std.proofs.Common.{◌∙◌, sym, subst}
 use Rattle.tune_disk.specs.Disk.{Medium, MayLeave}
-use Rattle.tune_disk.specs.Moments.{settled_leaves}
+use Rattle.tune_disk.proofs.Moments.{settled_leaves}
 use Rattle.tune_disk.proofs.Parts.{within_write, before_write}
 use Rattle.tune_disk.proofs.laws.law_of_stops.Goals as goal
 

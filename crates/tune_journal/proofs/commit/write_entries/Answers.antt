@@ -2,10 +2,11 @@ use Rattle.std.proofs.Common.{◌≡◌, ℕ, ◌<◌, ◌++◌, inl, ◌∙◌,
 use Rattle.byteorder.specs.Endian.{big_bytes}
 use Rattle.tune_disk.specs.Disk.{Written}
 use Rattle.tune_disk.specs.Moments.{spares_then, spares_write}
-use Rattle.tune_journal.specs.Image.{entry_bytes}
+use Rattle.tune_journal.specs.Image.{log_entry}
 use Rattle.tune_journal.proofs.Loops.{entries_more}
-use Rattle.tune_journal.proofs.Runs.{writes_ok}
+use Rattle.tune_journal.proofs.CallRuns.{writes_ok}
 use Rattle.tune_journal.proofs.commit.write_entries.Goals as goal
+use Rattle.tune_journal.specs.Layout.{entry_bytes}
 
 pub write_entry-requires : goal.write_entry-requires
 write_entry-requires g c = omega (arith, c.requires, c.loop-place.invariant.at, c.loop-place-test.true, c.len-place-end.ensures.len)
@@ -15,21 +16,21 @@ overflow_add-at g c = omega (arith, c.requires, c.loop-place.invariant.at, c.loo
 
 pub returns-in_err-write_entry-clause-spares : goal.returns-in_err-write_entry-clause-spares
 returns-in_err-write_entry-clause-spares g c = λ h.
-    spares_then _ _ _ _ (c.loop-place.invariant.spares (c.write_entry.ensures.honest h))
+    spares_then _ _ _ _ (c.loop-place.invariant.spares (c.write_entry.ensures.calls.was_honest h))
     (spares_write (λ i. i < c.args.base) _ _ c.write_entry.result _ _ (c.write_entry.ensures.write h) (λ i lt. inl (omega (arith, c.loop-place.invariant.at))))
 
 pub loop-place-preserved : goal.loop-place-preserved
 loop-place-preserved g c =
     let page : ℕ = c.page_at.result in
     let image : List ℕ = c.image_at.result.now.bytes in
-    let long : length (entry_bytes page image) ≡ 4100 = omega (arith, c.write_entry.ensures.size) in
+    let long : length (log_entry page image) ≡ entry_bytes = omega (arith, c.write_entry.ensures.size) in
     record {
       at = omega (arith, c.loop-place.invariant.at);
-      honest = λ h. c.loop-place.invariant.honest (c.write_entry.ensures.honest h);
-      spares = λ h. spares_then _ _ _ _ (c.loop-place.invariant.spares (c.write_entry.ensures.honest h))
+      honest = λ h. c.loop-place.invariant.honest (c.write_entry.ensures.calls.was_honest h);
+      spares = λ h. spares_then _ _ _ _ (c.loop-place.invariant.spares (c.write_entry.ensures.calls.was_honest h))
           (spares_write (λ i. i < c.args.base) _ _ c.write_entry.result _ _ (c.write_entry.ensures.write h) (λ i lt. inl (omega (arith, c.loop-place.invariant.at))));
       entries = λ h.
-          (let written : Written c.loop-place.at (entry_bytes page image) (g.D.Disk.state c.loop-place.device).seen (g.D.Disk.state c.write_entry.new.device).seen = writes_ok _ _ c.write_entry.result _ _ _ (c.in_ok-write_entry.was) (c.write_entry.ensures.write h) in
-          entries_more c.args.base c.loop-place.place c.args.changes.now _ _ _ (c.loop-place.invariant.entries (c.write_entry.ensures.honest h)) long (λ t. big_bytes 4 (c.page_at.ensures t) ++ c.image_at.ensures t) (subst (λ (n : ℕ). Written n (entry_bytes page image) (g.D.Disk.state c.loop-place.device).seen (g.D.Disk.state c.write_entry.new.device).seen) c.loop-place.invariant.at written));
-      failures = c.in_ok-write_entry.ensures.failures ∙ c.loop-place.invariant.failures;
+          (let written : Written c.loop-place.at (log_entry page image) (g.D.Disk.state c.loop-place.disk).seen (g.D.Disk.state c.write_entry.new.disk).seen = writes_ok _ _ c.write_entry.result _ _ _ (c.in_ok-write_entry.was) (c.write_entry.ensures.write h) in
+          entries_more c.args.base c.loop-place.place c.args.changes.now _ _ _ (c.loop-place.invariant.entries (c.write_entry.ensures.calls.was_honest h)) long (λ t. big_bytes 4 (c.page_at.ensures t) ++ c.image_at.ensures t) (subst (λ (n : ℕ). Written n (log_entry page image) (g.D.Disk.state c.loop-place.disk).seen (g.D.Disk.state c.write_entry.new.disk).seen) c.loop-place.invariant.at written));
+      failures = c.in_ok-write_entry.ensures.calls.counted ∙ c.loop-place.invariant.failures;
     }

@@ -2,17 +2,17 @@ use Rattle.std.proofs.lemmas.Result.{err_from_is_err_and}
 use Rattle.std.proofs.Common.{ℕ, subst, ap, sym, ◌∙◌, refl}
 use Rattle.tune_disk.specs.Moments.{spares_none}
 use Rattle.tune_disk.specs.Disk.{DiskState}
-use Rattle.tune_journal.specs.Image.{in_place}
+use Rattle.tune_journal.specs.Image.{pages_of}
 use Rattle.tune_journal.specs.Pages.{changed}
 use Rattle.tune_journal.proofs.Recovery.{entries_none, copy_spares, copy_image, within, low}
-use Rattle.tune_journal.proofs.Runs.{writes_ok}
+use Rattle.tune_journal.proofs.CallRuns.{writes_ok}
 use Rattle.tune_journal.proofs.recover.copy_entries.Goals as goal
 
 pub loop-entry-init : goal.loop-entry-init
 loop-entry-init g c = record {
   honest = λ h. h;
   spares = λ h has. spares_none _ _;
-  images = λ h has. ap (changed (in_place c.args.count (g.D.Disk.state c.args.device.now).seen)) (sym (entries_none c.args.count (g.D.Disk.state c.args.device.now).seen));
+  images = λ h has. ap (changed (pages_of c.args.count (g.D.Disk.state c.args.disk.now).seen)) (sym (entries_none c.args.count (g.D.Disk.state c.args.disk.now).seen));
   failures = refl;
 }
 
@@ -28,7 +28,7 @@ returns-in_err-copy_entry-clause-failures g c =
     let p = err_from_is_err_and c.from_residual.result c.from_residual.ensures.1 in
     rw p.1 (λ h has. (let old = c.copy_entry.ensures.honest h in
     let so_far = c.loop-entry.invariant.spares old has in
-    subst (λ (n : ℕ). Rattle.tune_disk.specs.Disk.Rises n (g.D.Disk.failures c.copy_entry.new.device)) c.loop-entry.invariant.failures
+    subst (λ (n : ℕ). Rattle.tune_disk.specs.Disk.CountsUp n (g.D.Disk.failures c.copy_entry.new.disk)) c.loop-entry.invariant.failures
     (c.in_err-copy_entry.ensures.failures h (within c.args.count c.args.entries c.loop-entry.entry _ _ has c.loop-entry-test.true so_far) (low c.args.count c.args.entries c.loop-entry.entry _ _ has c.loop-entry-test.true so_far))))
 
 pub loop-entry-preserved : goal.loop-entry-preserved
@@ -42,8 +42,8 @@ loop-entry-preserved g c = record {
   images = λ h has.
       (let old = c.copy_entry.ensures.honest h in
       let so_far = c.loop-entry.invariant.spares old has in
-      copy_image c.args.count c.args.entries c.loop-entry.entry _ _ has c.loop-entry-test.true so_far (g.D.Disk.state c.copy_entry.new.device)
-      (writes_ok _ _ c.copy_entry.result _ (g.D.Disk.state c.loop-entry.device) (g.D.Disk.state c.copy_entry.new.device) c.in_ok-copy_entry.was (c.copy_entry.ensures.copies h (within c.args.count c.args.entries c.loop-entry.entry _ _ has c.loop-entry-test.true so_far) (low c.args.count c.args.entries c.loop-entry.entry _ _ has c.loop-entry-test.true so_far)))
+      copy_image c.args.count c.args.entries c.loop-entry.entry _ _ has c.loop-entry-test.true so_far (g.D.Disk.state c.copy_entry.new.disk)
+      (writes_ok _ _ c.copy_entry.result _ (g.D.Disk.state c.loop-entry.disk) (g.D.Disk.state c.copy_entry.new.disk) c.in_ok-copy_entry.was (c.copy_entry.ensures.copies h (within c.args.count c.args.entries c.loop-entry.entry _ _ has c.loop-entry-test.true so_far) (low c.args.count c.args.entries c.loop-entry.entry _ _ has c.loop-entry-test.true so_far)))
       (c.loop-entry.invariant.images old has));
   failures = c.in_ok-copy_entry.ensures.ok ∙ c.loop-entry.invariant.failures;
 }

@@ -1,6 +1,7 @@
 use Rattle.std.proofs.Common.{◌≡◌, ℕ, List, take, get_or, sym, subst, arith}
 use Rattle.std.proofs.lemmas.List.{take_more, take_all}
-use Rattle.tune_disk.proofs.Told.{IsInHand, begun, in_hand_more, written_told}
+use Rattle.tune_disk.specs.Inside.ToldMore.{IsInHand}
+use Rattle.tune_disk.proofs.Told.{begun, in_hand_more, written_told}
 use Rattle.tune_disk.proofs.file.told.tell_write.Goals as goal
 
 pub loop-byte-init : goal.loop-byte-init

@@ -1,5 +1,5 @@
 use Rattle.std.proofs.Common.{take}
-use Rattle.tune_disk.proofs.Told.{IsInHand}
+use Rattle.tune_disk.specs.Inside.ToldMore.{IsInHand}
 use Rattle.tune_disk.proofs.file.told.tell_write.Given as goal
 
 abbrev pub invariant-loop-byte : goal.invariant-loop-byte

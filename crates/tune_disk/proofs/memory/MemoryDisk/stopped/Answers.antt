@@ -1,7 +1,8 @@
 use Rattle.std.proofs.Common.{◌≡◌, rules, ◌∙◌, sym, ap, subst, List, ℕ}
 use Rattle.tune_disk.specs.Disk.{DiskState, MayLeave}
-use Rattle.tune_disk.specs.Stays.{stable_stays}
-use Rattle.tune_disk.specs.Memory.{memory_state, memory_stays}
+use Rattle.tune_disk.proofs.Kept.{stable_stays}
+use Rattle.tune_disk.specs.Memory.{memory_state}
+use Rattle.tune_disk.specs.Inside.Stays.{memory_stays}
 use Rattle.tune_disk.proofs.Kept.{holds_then}
 use Rattle.tune_disk.proofs.memory.MemoryDisk.stopped.Goals as goal
 use Rattle.tune_disk.proofs.memory.MemoryDisk.stopped.Goals.{in-Lost+in_ok-file-in-Lost, in-Kept+in_ok-file-in-Kept}

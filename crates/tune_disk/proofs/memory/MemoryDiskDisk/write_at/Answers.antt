@@ -2,7 +2,13 @@ use Rattle.tune_disk.proofs.Kept.{write_kept, write_done}
 use Rattle.tune_disk.proofs.memory.MemoryDiskDisk.write_at.Goals as goal
 
 pub invariant_of-self : goal.invariant_of-self
-invariant_of-self c = record { replays = write_kept _ _ _ _ c.args.self.now.replays _ _ _ _ c.write_and_note-done.ensures.content c.write_and_note-done.ensures.content_err c.write_and_note-done.ensures.steps c.write_and_note-done.ensures.steps_err }
+invariant_of-self c =
+    let done = c.write_and_record-done.ensures in
+    record { replays = write_kept _ _ _ _ c.args.self.now.replays _ _ _ _ done.content done.content_err done.records done.records_err }
 
 pub returns-clause-write : goal.returns-clause-write
-returns-clause-write c = write_done c.args.self.now.first.items c.args.self.now.content.items c.args.self.now.steps.items _ c.args.self.now.replays c.args.at c.args.bytes.now c.write_and_note-done.new.content.items _ _ c.count.ensures.same c.write_and_note-done.ensures.steps c.write_and_note-done.ensures.steps_err
+returns-clause-write c =
+    let disk = c.args.self.now in
+    let done = c.write_and_record-done in
+    write_done disk.first.items disk.content.items disk.records.items _ disk.replays c.args.at c.args.bytes.now done.new.content.items _ _
+    c.count.ensures.same done.ensures.records done.ensures.records_err

@@ -6,7 +6,7 @@ use Rattle.std.proofs.lemmas.List.{length-map}
 use Rattle.std.proofs.lemmas.List.Sorted.{IsPartitionedBy-ltb}
 use Rattle.std.proofs.lemmas.Bool.{ltb-true, ltb-false}
 use Rattle.tune_journal.specs.declared.changes.ChangedPage.{ChangedPage}
-use Rattle.tune_journal.specs.ChangeList.{changed_page, AreBelow, AreAbove, Rises, FoundAt, MissingAt}
+use Rattle.tune_journal.specs.ChangeList.{changed_page, AreBelow, AreAbove, PagesRise, FoundAt, MissingAt}
 use Rattle.tune_journal.specs.Listed.{listed, change_in}
 use Rattle.tune_journal.proofs.ChangeLists.{above_from_first, in_listed, change_there}
 use Rattle.tune_journal.proofs.changes.Changes.search.Goals as goal
@@ -16,7 +16,7 @@ above_at low [] j d above lt = absurd (omega arith)
 above_at low (c ∷ cs) zero d above lt = above.0
 above_at low (c ∷ cs) (suc j) d above lt = above_at low cs j d above.1 (omega arith)
 
-no_higher : (items : List ChangedPage) (i j : ℕ) (d : ChangedPage) → Rises (listed items) → i ≤ j → j < length items → (get_or items i d).page ≤ (get_or items j d).page
+no_higher : (items : List ChangedPage) (i j : ℕ) (d : ChangedPage) → PagesRise (listed items) → i ≤ j → j < length items → (get_or items i d).page ≤ (get_or items j d).page
 no_higher [] i j d rises le lt = absurd (omega arith)
 no_higher (c ∷ cs) zero zero d rises le lt = omega arith
 no_higher (c ∷ cs) zero (suc j) d rises le lt = (let up = above_at c.page cs j d rises.0 (omega arith) in omega (arith, up))
@@ -38,7 +38,7 @@ least_from page (suc at) (c ∷ cs) higher lt = least_from page at cs (λ k d ge
 abbrev Parts : ℕ → ℕ → List ChangedPage → Type 0
 Parts page at items = IsPartitionPoint (λ c. ltb c.page page ≡ true) (λ c. ltb c.page page ≡ false) items at
 
-parted : (page at : ℕ) (items xs : List ChangedPage) → Rises (listed items) → xs ≡ items → (IsPartitionedBy (λ c. ltb c.page page) xs → Parts page at xs) → Parts page at items
+parted : (page at : ℕ) (items xs : List ChangedPage) → PagesRise (listed items) → xs ≡ items → (IsPartitionedBy (λ c. ltb c.page page) xs → Parts page at xs) → Parts page at items
 parted page at items xs rises is says =
     let sorted : IsPartitionedBy (λ c. ltb c.page page) items = IsPartitionedBy-ltb (λ c. c.page) items page (λ i j d le lt. no_higher items i j d rises le lt) in
     subst (Parts page at) is (says (subst (IsPartitionedBy (λ c. ltb c.page page)) (sym is) sorted))
@@ -52,7 +52,7 @@ found_from page at items x point lt is same =
       below = below_point page at items point.0;
     }
 
-missing_from : (page at : ℕ) (items : List ChangedPage) → Rises (listed items) → Parts page at items → at ≤ length items → (at < length items → changed_page (listed items) at ≢ page) → MissingAt page at (listed items)
+missing_from : (page at : ℕ) (items : List ChangedPage) → PagesRise (listed items) → Parts page at items → at ≤ length items → (at < length items → changed_page (listed items) at ≢ page) → MissingAt page at (listed items)
 missing_from page at items rises point le other = record {
   in_range = omega (arith, length-map items change_in);
   below = below_point page at items point.0;

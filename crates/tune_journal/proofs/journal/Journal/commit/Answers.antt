@@ -19,7 +19,7 @@ returns-in_err-open_gate-clause-moments g c =
     let state = g.D.Disk.state in
     let Q = StandsForEither c.args.self.pages (pages_after c.args.self.pages c.args.new_count c.args.changes.now) in
     let l = c.in_ok-log.field-0 in
-    let logging : Goes honest state c.args.self.device l.device Q = goes_as honest state _ _ _ _ c.in_ok-log.ensures.moments (λ h file s. inl s) in
+    let logging : Goes honest state c.args.self.disk l.disk Q = goes_as honest state _ _ _ _ c.in_ok-log.ensures.moments (λ h file s. inl s) in
     rw (p.1, p.2) (goes_then honest state _ _ _ Q logging
     (goes_as honest state _ _ _ Q c.in_err-open_gate.ensures.moments (λ h. (let old = c.in_err-open_gate.ensures.moments.before h in either_as _ _ _ _ (c.in_ok-log.ensures.pages old) (c.in_ok-log.ensures.next old)))))
 
@@ -37,8 +37,8 @@ returns-in_err-apply-clause-moments g c =
     let Q = StandsForEither c.args.self.pages (pages_after c.args.self.pages c.args.new_count c.args.changes.now) in
     let l = c.in_ok-log.field-0 in
     let o = c.in_ok-open_gate.field-0 in
-    let logging : Goes honest state c.args.self.device l.device Q = goes_as honest state _ _ _ _ c.in_ok-log.ensures.moments (λ h file s. inl s) in
-    let opening : Goes honest state c.args.self.device o.device Q = goes_then honest state _ _ _ Q logging
+    let logging : Goes honest state c.args.self.disk l.disk Q = goes_as honest state _ _ _ _ c.in_ok-log.ensures.moments (λ h file s. inl s) in
+    let opening : Goes honest state c.args.self.disk o.disk Q = goes_then honest state _ _ _ Q logging
     (goes_as honest state _ _ _ Q c.in_ok-open_gate.ensures.moments (λ h. (let old = c.in_ok-open_gate.ensures.moments.before h in either_as _ _ _ _ (c.in_ok-log.ensures.pages old) (c.in_ok-log.ensures.next old)))) in
     rw (p.1, p.2) (goes_then honest state _ _ _ Q opening
     (goes_as honest state _ _ _ Q c.in_err-apply.ensures.moments (λ h. (let at_gate = c.in_err-apply.ensures.moments.before h in
@@ -53,12 +53,12 @@ returns-clause-moments g c =
     let l = c.in_ok-log.field-0 in
     let o = c.in_ok-open_gate.field-0 in
     let a = c.in_ok-apply.field-0 in
-    let logging : Goes honest state c.args.self.device l.device Q = goes_as honest state _ _ _ _ c.in_ok-log.ensures.moments (λ h file s. inl s) in
-    let opening : Goes honest state c.args.self.device o.device Q = goes_then honest state _ _ _ Q logging
+    let logging : Goes honest state c.args.self.disk l.disk Q = goes_as honest state _ _ _ _ c.in_ok-log.ensures.moments (λ h file s. inl s) in
+    let opening : Goes honest state c.args.self.disk o.disk Q = goes_then honest state _ _ _ Q logging
     (goes_as honest state _ _ _ Q c.in_ok-open_gate.ensures.moments (λ h. (let old = c.in_ok-open_gate.ensures.moments.before h in either_as _ _ _ _ (c.in_ok-log.ensures.pages old) (c.in_ok-log.ensures.next old)))) in
-    let o_after = λ (h : honest o.device). c.in_ok-open_gate.ensures.pages h ∙ c.in_ok-log.ensures.next (c.in_ok-open_gate.ensures.moments.before h) in
-    let applying : Goes honest state c.args.self.device a.device Q = goes_then honest state _ _ _ Q opening (goes_as honest state _ _ _ Q c.in_ok-apply.ensures.moments (λ h. inr_as _ _ _ (o_after (c.in_ok-apply.ensures.moments.before h)))) in
-    let a_after = λ (h : honest a.device). c.in_ok-apply.ensures.pages h ∙ o_after (c.in_ok-apply.ensures.moments.before h) in
+    let o_after = λ (h : honest o.disk). c.in_ok-open_gate.ensures.pages h ∙ c.in_ok-log.ensures.next (c.in_ok-open_gate.ensures.moments.before h) in
+    let applying : Goes honest state c.args.self.disk a.disk Q = goes_then honest state _ _ _ Q opening (goes_as honest state _ _ _ Q c.in_ok-apply.ensures.moments (λ h. inr_as _ _ _ (o_after (c.in_ok-apply.ensures.moments.before h)))) in
+    let a_after = λ (h : honest a.disk). c.in_ok-apply.ensures.pages h ∙ o_after (c.in_ok-apply.ensures.moments.before h) in
     MatchResult-weaker c.close.result c.close.ensures.moments
     (λ j goes. goes_then honest state _ _ _ Q applying (goes_as honest state _ _ _ Q goes (λ h. inr_as _ _ _ (a_after (goes.before h)))))
     (λ b goes. goes_then honest state _ _ _ Q applying (goes_as honest state _ _ _ Q goes (λ h. inr_as _ _ _ (a_after (goes.before h)))))
@@ -68,8 +68,8 @@ returns-clause-pages g c =
     let honest = g.D.Disk.honest in
     let o = c.in_ok-open_gate.field-0 in
     let a = c.in_ok-apply.field-0 in
-    let o_after = λ (h : honest o.device). c.in_ok-open_gate.ensures.pages h ∙ c.in_ok-log.ensures.next (c.in_ok-open_gate.ensures.moments.before h) in
-    let a_after = λ (h : honest a.device). c.in_ok-apply.ensures.pages h ∙ o_after (c.in_ok-apply.ensures.moments.before h) in
+    let o_after = λ (h : honest o.disk). c.in_ok-open_gate.ensures.pages h ∙ c.in_ok-log.ensures.next (c.in_ok-open_gate.ensures.moments.before h) in
+    let a_after = λ (h : honest a.disk). c.in_ok-apply.ensures.pages h ∙ o_after (c.in_ok-apply.ensures.moments.before h) in
     ok_then c.close.result _ _ _ _ c.close.ensures.moments c.close.ensures.pages (λ j goes pages h. pages h ∙ a_after (goes.before h))
 
 pub returns-clause-rest : goal.returns-clause-rest

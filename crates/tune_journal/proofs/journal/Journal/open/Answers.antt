@@ -1,71 +1,71 @@
 use Rattle.std.proofs.Common.{subst}
-use Rattle.tune_journal.specs.Image.{StandsFor, in_place}
+use Rattle.tune_journal.specs.Image.{StandsFor, pages_of}
 use Rattle.tune_journal.proofs.Above.{stands_once}
 use Rattle.tune_journal.proofs.Openings.{synced_leaves, recovered_leaves, recovered_stands, keeps_either, sees_damaged, closed_rest, open_told, open_bounds}
 use Rattle.tune_journal.proofs.Rests.{rest_leaves, rest_stands}
 use Rattle.tune_journal.proofs.journal.Journal.open.Goals as goal
 
 pub returns-in-Ok-Closed-clause-leaves : goal.returns-in-Ok-Closed-clause-leaves
-returns-in-Ok-Closed-clause-leaves g c = λ h. synced_leaves _ _ (g.met.D.Disk.seen_may_stay c.args.disk (c.look.ensures.honest h)) (c.look.ensures.state h)
+returns-in-Ok-Closed-clause-leaves g c = λ h. synced_leaves _ _ (g.met.D.Disk.seen_may_stay c.args.disk (c.look.ensures.calls.was_honest h)) (c.look.ensures.state h)
 
 pub returns-in-Ok-Closed-clause-moments : goal.returns-in-Ok-Closed-clause-moments
-returns-in-Ok-Closed-clause-moments g c = λ h. keeps_either _ _ (g.met.D.Disk.seen_may_stay c.args.disk (c.look.ensures.honest h)) (returns-in-Ok-Closed-clause-leaves g c h)
+returns-in-Ok-Closed-clause-moments g c = λ h. keeps_either _ _ (g.met.D.Disk.seen_may_stay c.args.disk (c.look.ensures.calls.was_honest h)) (returns-in-Ok-Closed-clause-leaves g c h)
 
 pub returns-in-Ok-Damaged-clause-leaves : goal.returns-in-Ok-Damaged-clause-leaves
-returns-in-Ok-Damaged-clause-leaves g c = λ h. synced_leaves _ _ (g.met.D.Disk.seen_may_stay c.args.disk (c.look.ensures.honest h)) (c.look.ensures.state h)
+returns-in-Ok-Damaged-clause-leaves g c = λ h. synced_leaves _ _ (g.met.D.Disk.seen_may_stay c.args.disk (c.look.ensures.calls.was_honest h)) (c.look.ensures.state h)
 
 pub returns-in-Ok-Damaged-clause-moments : goal.returns-in-Ok-Damaged-clause-moments
-returns-in-Ok-Damaged-clause-moments g c = λ h. keeps_either _ _ (g.met.D.Disk.seen_may_stay c.args.disk (c.look.ensures.honest h)) (returns-in-Ok-Damaged-clause-leaves g c h)
+returns-in-Ok-Damaged-clause-moments g c = λ h. keeps_either _ _ (g.met.D.Disk.seen_may_stay c.args.disk (c.look.ensures.calls.was_honest h)) (returns-in-Ok-Damaged-clause-leaves g c h)
 
 pub returns-in-Ok-NotArchive-clause-leaves : goal.returns-in-Ok-NotArchive-clause-leaves
-returns-in-Ok-NotArchive-clause-leaves g c = λ h. synced_leaves _ _ (g.met.D.Disk.seen_may_stay c.args.disk (c.look.ensures.honest h)) (c.look.ensures.state h)
+returns-in-Ok-NotArchive-clause-leaves g c = λ h. synced_leaves _ _ (g.met.D.Disk.seen_may_stay c.args.disk (c.look.ensures.calls.was_honest h)) (c.look.ensures.state h)
 
 pub returns-in-Ok-NotArchive-clause-moments : goal.returns-in-Ok-NotArchive-clause-moments
-returns-in-Ok-NotArchive-clause-moments g c = λ h. keeps_either _ _ (g.met.D.Disk.seen_may_stay c.args.disk (c.look.ensures.honest h)) (returns-in-Ok-NotArchive-clause-leaves g c h)
+returns-in-Ok-NotArchive-clause-moments g c = λ h. keeps_either _ _ (g.met.D.Disk.seen_may_stay c.args.disk (c.look.ensures.calls.was_honest h)) (returns-in-Ok-NotArchive-clause-leaves g c h)
 
 pub returns-in-Err-clause-leaves : goal.returns-in-Err-clause-leaves
-returns-in-Err-clause-leaves g c = λ h. synced_leaves _ _ (g.met.D.Disk.seen_may_stay c.args.disk (c.look.ensures.honest h)) (c.look.ensures.state h)
+returns-in-Err-clause-leaves g c = λ h. synced_leaves _ _ (g.met.D.Disk.seen_may_stay c.args.disk (c.look.ensures.calls.was_honest h)) (c.look.ensures.state h)
 
 pub returns-in-Err-clause-moments : goal.returns-in-Err-clause-moments
-returns-in-Err-clause-moments g c = λ h. keeps_either _ _ (g.met.D.Disk.seen_may_stay c.args.disk (c.look.ensures.honest h)) (returns-in-Err-clause-leaves g c h)
+returns-in-Err-clause-moments g c = λ h. keeps_either _ _ (g.met.D.Disk.seen_may_stay c.args.disk (c.look.ensures.calls.was_honest h)) (returns-in-Err-clause-leaves g c h)
 
 pub returns-in-Ok-clause-leaves : goal.returns-in-Ok-clause-leaves
 returns-in-Ok-clause-leaves g c = λ h.
     (let goes = c.in-Ok.ensures.moments in
     let mid = goes.before h in
-    recovered_leaves (g.D.Disk.state c.args.disk) (g.D.Disk.state c.look.new.device) _ _ (g.met.D.Disk.seen_may_stay c.args.disk (c.look.ensures.honest mid)) (c.in-Ok-Open.ensures.synced mid) (g.met.D.Disk.seen_may_stay c.look.new.device mid) (goes.since h))
+    recovered_leaves (g.D.Disk.state c.args.disk) (g.D.Disk.state c.look.new.disk) _ _ (g.met.D.Disk.seen_may_stay c.args.disk (c.look.ensures.calls.was_honest mid)) (c.in-Ok-Open.ensures.synced mid) (g.met.D.Disk.seen_may_stay c.look.new.disk mid) (goes.since h))
 
 pub returns-in-Ok-clause-moments : goal.returns-in-Ok-clause-moments
-returns-in-Ok-clause-moments g c = λ h. keeps_either _ _ (g.met.D.Disk.seen_may_stay c.args.disk (c.look.ensures.honest (c.in-Ok.ensures.moments.before h))) (returns-in-Ok-clause-leaves g c h)
+returns-in-Ok-clause-moments g c = λ h. keeps_either _ _ (g.met.D.Disk.seen_may_stay c.args.disk (c.look.ensures.calls.was_honest (c.in-Ok.ensures.moments.before h))) (returns-in-Ok-clause-leaves g c h)
 
 pub returns-in-Err-finish-clause-leaves : goal.returns-in-Err-finish-clause-leaves
 returns-in-Err-finish-clause-leaves g c = λ h.
     (let goes = c.in-Err-finish.ensures.moments in
     let mid = goes.before h in
-    recovered_leaves (g.D.Disk.state c.args.disk) (g.D.Disk.state c.look.new.device) _ _ (g.met.D.Disk.seen_may_stay c.args.disk (c.look.ensures.honest mid)) (c.in-Ok-Open.ensures.synced mid) (g.met.D.Disk.seen_may_stay c.look.new.device mid) (goes.since h))
+    recovered_leaves (g.D.Disk.state c.args.disk) (g.D.Disk.state c.look.new.disk) _ _ (g.met.D.Disk.seen_may_stay c.args.disk (c.look.ensures.calls.was_honest mid)) (c.in-Ok-Open.ensures.synced mid) (g.met.D.Disk.seen_may_stay c.look.new.disk mid) (goes.since h))
 
 pub returns-in-Err-finish-clause-moments : goal.returns-in-Err-finish-clause-moments
-returns-in-Err-finish-clause-moments g c = λ h. keeps_either _ _ (g.met.D.Disk.seen_may_stay c.args.disk (c.look.ensures.honest (c.in-Err-finish.ensures.moments.before h))) (returns-in-Err-finish-clause-leaves g c h)
+returns-in-Err-finish-clause-moments g c = λ h. keeps_either _ _ (g.met.D.Disk.seen_may_stay c.args.disk (c.look.ensures.calls.was_honest (c.in-Err-finish.ensures.moments.before h))) (returns-in-Err-finish-clause-leaves g c h)
 
 pub returns-in-Ok-Closed-clause-pages : goal.returns-in-Ok-Closed-clause-pages
 returns-in-Ok-Closed-clause-pages g c = λ h.
-    (let s = g.D.Disk.state c.look.new.device in
+    (let s = g.D.Disk.state c.look.new.disk in
     let synced = c.in-Ok-Closed.ensures.synced h in
     let rest = closed_rest c.in-Ok-Closed.count c.in-Ok-Closed.field-0 (g.D.Disk.state c.args.disk) s c.in-Ok-Closed.field-0-is synced (c.in-Ok-Closed.ensures.sees h) in
-    subst (StandsFor (in_place c.in-Ok-Closed.count s.seen)) synced.seen (rest_stands c.in-Ok-Closed.count s rest))
+    subst (StandsFor (pages_of c.in-Ok-Closed.count s.seen)) synced.seen (rest_stands c.in-Ok-Closed.count s rest))
 
 pub returns-in-Ok-Closed-clause-only : goal.returns-in-Ok-Closed-clause-only
 returns-in-Ok-Closed-clause-only g c = λ h pages stands. stands_once pages _ (g.D.Disk.state c.args.disk).seen stands (returns-in-Ok-Closed-clause-pages g c h)
 
 pub returns-in-Ok-Closed-clause-rest : goal.returns-in-Ok-Closed-clause-rest
-returns-in-Ok-Closed-clause-rest g c = λ h. rest_leaves c.in-Ok-Closed.count (g.D.Disk.state c.look.new.device)
-    (closed_rest c.in-Ok-Closed.count c.in-Ok-Closed.field-0 (g.D.Disk.state c.args.disk) (g.D.Disk.state c.look.new.device) c.in-Ok-Closed.field-0-is (c.in-Ok-Closed.ensures.synced h) (c.in-Ok-Closed.ensures.sees h))
+returns-in-Ok-Closed-clause-rest g c = λ h. rest_leaves c.in-Ok-Closed.count (g.D.Disk.state c.look.new.disk)
+    (closed_rest c.in-Ok-Closed.count c.in-Ok-Closed.field-0 (g.D.Disk.state c.args.disk) (g.D.Disk.state c.look.new.disk) c.in-Ok-Closed.field-0-is (c.in-Ok-Closed.ensures.synced h) (c.in-Ok-Closed.ensures.sees h))
 
 pub returns-in-Ok-clause-pages : goal.returns-in-Ok-clause-pages
 returns-in-Ok-clause-pages g c = λ h.
     (let goes = c.in-Ok.ensures.moments in
     let mid = goes.before h in
-    recovered_stands (g.D.Disk.state c.args.disk) (g.D.Disk.state c.look.new.device) _ _ _ (c.in-Ok-Open.ensures.synced mid) (g.met.D.Disk.seen_may_stay c.look.new.device mid) (goes.since h) (c.in-Ok.ensures.pages h))
+    recovered_stands (g.D.Disk.state c.args.disk) (g.D.Disk.state c.look.new.disk) _ _ _ (c.in-Ok-Open.ensures.synced mid) (g.met.D.Disk.seen_may_stay c.look.new.disk mid) (goes.since h) (c.in-Ok.ensures.pages h))
 
 pub returns-in-Ok-clause-only : goal.returns-in-Ok-clause-only
 returns-in-Ok-clause-only g c = λ h pages stands. stands_once pages _ (g.D.Disk.state c.args.disk).seen stands (returns-in-Ok-clause-pages g c h)
@@ -76,7 +76,7 @@ returns-in-Ok-Damaged-clause-refused g c = λ h.
     (c.in-Ok-Damaged.ensures.synced h, sees.0, sees.1, sees.2))
 
 pub finish-requires-clause-few : goal.finish-requires-clause-few
-finish-requires-clause-few g c = open_bounds c.in-Ok-Open.new_count c.in-Ok-Open.entries c.in-Ok-Open.field-0 (g.D.Disk.state c.look.new.device) c.in-Ok-Open.field-0-is c.in-Ok-Open.ensures.bounded
+finish-requires-clause-few g c = open_bounds c.in-Ok-Open.new_count c.in-Ok-Open.entries c.in-Ok-Open.field-0 (g.D.Disk.state c.look.new.disk) c.in-Ok-Open.field-0-is c.in-Ok-Open.ensures.bounded
 
 pub finish-requires-clause-entries : goal.finish-requires-clause-entries
-finish-requires-clause-entries g c = λ h. open_told c.in-Ok-Open.new_count c.in-Ok-Open.entries c.in-Ok-Open.field-0 (g.D.Disk.state c.args.disk) (g.D.Disk.state c.look.new.device) c.in-Ok-Open.field-0-is (c.in-Ok-Open.ensures.synced h) (c.in-Ok-Open.ensures.sees h)
+finish-requires-clause-entries g c = λ h. open_told c.in-Ok-Open.new_count c.in-Ok-Open.entries c.in-Ok-Open.field-0 (g.D.Disk.state c.args.disk) (g.D.Disk.state c.look.new.disk) c.in-Ok-Open.field-0-is (c.in-Ok-Open.ensures.synced h) (c.in-Ok-Open.ensures.sees h)

@@ -1,0 +1,2 @@
+pub mod LineEndings
+pub mod OpenBooks

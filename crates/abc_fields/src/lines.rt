@@ -1,0 +1,116 @@
+// The lines of a text.
+ghost use Rattle.std.specs.Prelude.{◌≡◌, ℕ, ◌+◌, ◌^◌, ◌<◌, ◌≤◌, List, ◌∷◌, map, take, drop, length};
+ghost use Rattle.std.specs.Iterator.{YieldsFirstBy, item_count};
+ghost use Rattle.abc_fields.specs.Lines.{Piece, Span, Divides, SpansRise, SpansFollow, pieces_of};
+ghost use Rattle.abc_fields.specs.Lines.{spans_from, spans_of};
+ghost use Rattle.abc_fields.specs.LineView.{line_span};
+ghost use Rattle.abc_fields.specs.Inside.LineEndings.{ending_length};
+
+use memchr::memchr2;
+use std::marker::Model;
+
+/// A line of a text, without what ends it.
+#[derive(Clone, Copy, Debug)]
+pub struct Line<'a> {
+    /// The index of its first byte in the text.
+    pub from: usize,
+    /// The index past its last byte.
+    pub to: usize,
+    /// Its bytes.
+    pub text: &'a [u8],
+}
+
+/// The lines of a text, in order, as parts of it (ABC 2.1, 2.2): a line ends at a line feed, at a
+/// carriage return and a line feed, or at a carriage return alone, and the last line also at the
+/// text's end, where it has a byte. A clause sees the list of the lines that are left.
+#[derive(Drop)]
+pub struct Lines<'a> {
+    rest: &'a [u8],
+    at: usize,
+}
+
+impl<'a> Model for Lines<'a> {
+    ghost Value = { List Span };
+
+    ghost view = { λ lines. spans_from lines.at (pieces_of lines.rest.now) };
+
+    ghost invariant = { λ lines. lines.at + length lines.rest.now < 2 ^ 64 };
+}
+
+impl<'a> Lines<'a> {
+    /// The lines of `text`. A byte order mark at its front is a part of the first line.
+    ///
+    /// The law of lines stands beside it: a text is its pieces, one after another, each a content
+    /// and an ending; no other pieces divide it so; the lines are their contents, each the part of
+    /// the text from where it begins to where it ends, one after another.
+    pub fn new(text: &'a [u8]) -> Lines<'a>
+        ensures lines { result ≡ spans_of text.now }
+        ensures pieces { Divides (pieces_of text.now) text.now }
+        ensures no_other_pieces { (ps : List Piece) → Divides ps text.now
+            → ps ≡ pieces_of text.now }
+        ensures contents { map (λ s. s.bytes) (spans_of text.now)
+            ≡ map (λ p. p.content) (pieces_of text.now) }
+        ensures rising { SpansRise text.now 0 (spans_of text.now) }
+        ensures after_pieces { SpansFollow text.now (pieces_of text.now) }
+    {
+        Lines { rest: text, at: 0 }
+    }
+
+    /// A second reader of the lines that are left.
+    pub fn again(&self) -> Lines<'a>
+        ensures { result ≡ self.now }
+    {
+        Lines {
+            rest: self.rest,
+            at: self.at,
+        }
+    }
+}
+
+impl<'a> Iterator for Lines<'a> {
+    type Item = Line<'a>;
+
+    ghost next_gives = { YieldsFirstBy line_span (λ lines. lines) };
+
+    ghost remaining = { item_count (λ lines. lines) };
+
+    fn next(&mut self) -> Option<Line<'a>> {
+        if self.rest.is_empty() {
+            return None;
+        }
+        let (len, skip) = first_line(self.rest);
+        let from = self.at;
+        let text = &self.rest[..len];
+        self.rest = &self.rest[len + skip..];
+        self.at = from + len + skip;
+        Some(Line {
+            from,
+            to: from + len,
+            text,
+        })
+    }
+}
+
+// The length of the first line, and of what ends it.
+fn first_line(text: &[u8]) -> (usize, usize)
+    requires { 0 < length text.now }
+    ensures within { result.0 + result.1 ≤ length text.now }
+    ensures first { let content = take result.0 text.now in
+        let ending = take result.1 (drop result.0 text.now) in
+        pieces_of text.now ≡ record { content = content; ending = ending }
+        ∷ pieces_of (drop (result.0 + result.1) text.now) }
+{
+    match memchr2(b'\n', b'\r', text) {
+        None => (text.len(), 0),
+        Some(len) => (len, ending_len(&text[len..])),
+    }
+}
+
+// The length of the ending that a text begins with.
+fn ending_len(rest: &[u8]) -> usize
+    requires { 0 < length rest.now }
+    ensures value { result ≡ ending_length rest.now }
+    ensures within { result ≤ length rest.now }
+{
+    if rest.starts_with(b"\r\n") { 2 } else { 1 }
+}

@@ -1,0 +1,33 @@
+use Rattle.std.proofs.Common.{◌≡◌, ◌<◌, [], ◌∷◌, ◌++◌, length, ap, sym, ◌∙◌, arith, rules, length-append, append_assoc, vec_len}
+use Rattle.std.specs.Vec.{vec_capacity}
+use Rattle.std.specs.Vec.Iter.{into_iter_items}
+use Rattle.std.proofs.lemmas.List.{length_push}
+use Rattle.tune_store.specs.declared.tune.Tune.{Tune}
+use Rattle.tune_store.specs.Step.{numbered}
+use Rattle.tune_store.proofs.StateLemmas.{numbered_next, length-numbered}
+use Rattle.tune_store.proofs.list_archive.add_tunes.Goals as goal
+
+pub unwrap-requires : goal.unwrap-requires
+unwrap-requires c =
+    let kept = c.loop-text.invariant in
+    let step : into_iter_items c.loop-text.text-iterator ≡ c.in-Some.text ∷ into_iter_items c.next.new.self = c.in-Some.ensures.steps.0 in
+    let count = simp length-append at (ap length kept.left) in
+    let one = ap length step in
+    let size = simp length-append at (ap length kept.items) in
+    let added = length-numbered c.args.first c.loop-text.yielded in
+    let room : vec_len c.loop-text.tunes < vec_capacity c.loop-text.tunes = omega (arith, c.requires.room, kept.capacity, c.loop-text.tunes.ok.0, c.args.tunes.now.ok.0, c.args.texts.ok.0) in
+    search rules
+
+pub loop-text-preserved : goal.loop-text-preserved
+loop-text-preserved c =
+    let kept = c.loop-text.invariant in
+    let step : into_iter_items c.loop-text.text-iterator ≡ c.in-Some.text ∷ into_iter_items c.next.new.self = c.in-Some.ensures.steps.0 in
+    let tune : Tune = record { number = c.loop-text.number; revision = 1; text = c.in-Some.text } in
+    let pushed : c.push.new.self.items ≡ c.loop-text.tunes.items ++ tune ∷ [] = search rules in
+    record {
+      items = pushed ∙ ap (λ tunes. tunes ++ tune ∷ []) kept.items ∙ append_assoc c.args.tunes.now.items (numbered c.args.first c.loop-text.yielded) (tune ∷ [])
+          ∙ ap (λ more. c.args.tunes.now.items ++ more) (numbered_next c.args.first c.loop-text.number c.loop-text.yielded c.in-Some.text kept.number);
+      number = omega (arith, length_push c.loop-text.yielded c.in-Some.text, kept.number);
+      capacity = omega (arith, c.push.ensures.capacity, kept.capacity);
+      left = append_assoc c.loop-text.yielded (c.in-Some.text ∷ []) (into_iter_items c.next.new.self) ∙ ap (λ rest. c.loop-text.yielded ++ rest) (sym step) ∙ kept.left;
+    }

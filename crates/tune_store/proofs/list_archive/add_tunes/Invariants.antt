@@ -1,0 +1,13 @@
+use Rattle.std.proofs.Common.{◌≡◌, ◌+◌, ◌≤◌, ◌++◌, length}
+use Rattle.std.specs.Vec.{vec_capacity}
+use Rattle.std.specs.Vec.Iter.{into_iter_items}
+use Rattle.tune_store.specs.Step.{numbered}
+use Rattle.tune_store.proofs.list_archive.add_tunes.Given as goal
+
+abbrev pub invariant-loop-text : goal.invariant-loop-text
+invariant-loop-text l = record {
+  items : l.tunes.items ≡ l.fn.tunes.items ++ numbered l.first l.yielded;
+  number : l.number ≡ l.first + length l.yielded;
+  capacity : vec_capacity l.fn.tunes ≤ vec_capacity l.tunes;
+  left : l.yielded ++ into_iter_items l.text-iterator ≡ l.fn.texts.items;
+}
