@@ -1,6 +1,28 @@
 -- What reads take, one after another.
 use Rattle.std.proofs.Common.{
-  ◌≡◌, ℕ, ◌+◌, ◌<◌, Bool, true, false, not, eqb, List, [], ◌∷◌, ◌++◌, length, drop, Option, None, Some, refl, ap, sym, ◌∙◌, arith
+  ◌≡◌,
+  ℕ,
+  ◌+◌,
+  ◌<◌,
+  Bool,
+  true,
+  false,
+  not,
+  eqb,
+  List,
+  [],
+  ◌∷◌,
+  ◌++◌,
+  length,
+  drop,
+  Option,
+  None,
+  Some,
+  refl,
+  ap,
+  sym,
+  ◌∙◌,
+  arith,
 }
 use Rattle.std.specs.List.{list_all}
 use Rattle.std.specs.Io.KnownBytes.{Consumes, IsAtEnd}
@@ -93,7 +115,7 @@ line_long (Some xs) (Some ys) None line b l n h c d = absurd d
 line_long (Some xs) (Some ys) (Some zs) line b l n h c d =
     let e : xs ≡ line ++ b ∷ zs = c ∙ ap (λ r. line ++ r) d in
     let long : longest_line < length (before_feed xs) =
-        rw (e, before_inside line (b ∷ zs) h, n) (omega (arith, length-append line (b ∷ before_feed zs))) in
+    rw (e, before_inside line (b ∷ zs) h, n) (omega (arith, length-append line (b ∷ before_feed zs))) in
     (long, ap Some (sym (ap (drop (longest_line + 1)) e ∙ drop_past line b zs l)))
 
 pub inside_more : (line : List ℕ) (b : ℕ) → list_all is_inside line ≡ true → eqb b line_feed ≡ false → list_all is_inside (line ++ b ∷ []) ≡ true

@@ -1,16 +1,35 @@
 -- A script's turns, one after another, over a writer and a store of any kind.
 use Rattle.std.proofs.Common.{
-  ◌≡◌, ℕ, suc, List, [], ◌++◌, Option, None, Some, refl, ap, sym, ◌∙◌, subst, arith
+  ◌≡◌,
+  ℕ,
+  suc,
+  List,
+  [],
+  ◌++◌,
+  Option,
+  None,
+  Some,
+  refl,
+  ap,
+  sym,
+  ◌∙◌,
+  subst,
+  arith,
 }
 use Rattle.std.specs.Prelude.{IfSome, ⊤}
 use Rattle.std.specs.Io.KnownBytes.{Appends}
 use Rattle.std.specs.declared.io.Write.{Ghosts}
 use Rattle.std.proofs.lemmas.List.{append_assoc, append-nil}
 use Rattle.tune_store.specs.State.{State, Standing}
-use Rattle.tune_store.specs.declared.store.TuneStore as store
+use Rattle.tune_store.specs.declared.tune_store.TuneStore as store
 use Rattle.tune_scripts.specs.declared.runs.RunEnd.{RunEnd}
 use Rattle.tune_scripts.specs.declared.runs.RunEnd.TheVariants.{
-  Ended, LineBound, LongLine, ReaderFault, WriterFault, DeviceFault
+  Ended,
+  LineBound,
+  LongLine,
+  ReaderFault,
+  WriterFault,
+  DeviceFault,
 }
 use Rattle.tune_scripts.specs.declared.runs.RunEnd.TheVariants as run
 use Rattle.tune_scripts.specs.Scripts.{Script, line_bound}

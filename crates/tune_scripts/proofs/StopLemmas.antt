@@ -1,8 +1,9 @@
 -- What stops may have left of a store, over one call after another.
 use Rattle.std.proofs.Common.{ℕ, List, [], ◌∷◌, ◌++◌, refl, sym, subst, ◌⊎◌, inl, inr, arith}
 use Rattle.tune_store.specs.State.{State, Standing}
-use Rattle.tune_store.specs.Stops.{Among, StandsForOne, Passes}
-use Rattle.tune_store.specs.declared.store.TuneStore.{Ghosts}
+use Rattle.tune_store.specs.Stops.{Among, StandsForOne}
+use Rattle.tune_store.specs.Stores.{StorePasses}
+use Rattle.tune_store.specs.declared.tune_store.TuneStore.{Ghosts}
 
 among_left : (x : State) (a b : List State) → Among x a → Among x (a ++ b)
 among_left x [] b h = absurd h
@@ -26,10 +27,6 @@ stands_among : (P : List ℕ → State → Type 0) (x : State) (a : List State) 
 stands_among P x [] file h p = absurd h
 stands_among P x (y ∷ a) file (inl e) p = let Q : State → Type 0 = λ s. P file s in inl (subst Q e p)
 stands_among P x (y ∷ a) file (inr h) p = inr (stands_among P x a file h p)
-
--- the states that a store of this kind passed from one moment to another
-abbrev pub StorePasses : {S : Type 0} → Ghosts S → S → S → List State → Type 0
-StorePasses s old new = Passes s.honest s.sound s.standing s.moment s.left_since s.stands_for old new
 
 module _ {S : Type 0} (s : Ghosts S) where
   -- no call passes no state
@@ -62,8 +59,8 @@ module _ {S : Type 0} (s : Ghosts S) where
       → s.left_since mid since file ⊎ FitsOne mid b file → (s.left_since mid since file → s.left_since old since file ⊎ FitsOne old a file)
       → s.left_since old since file ⊎ FitsOne old (a ++ b) file
   left_before_or_all old mid a b since file m (inl left) f = elim (f left) [
-    inl before ↦ inl before |
-    inr h ↦ inr (stands_left s.stands_for ((s.standing old).state ∷ a) b file h)
+    | inl before ↦ inl before
+    | inr h ↦ inr (stands_left s.stands_for ((s.standing old).state ∷ a) b file h)
   ]
   left_before_or_all old mid a b since file m (inr h) f = inr (stands_for_all old mid a b file m h)
 

@@ -1,13 +1,39 @@
 -- What one line of a script, with its book, comes to.
 use Rattle.std.proofs.Common.{
-  ◌≡◌, ℕ, suc, ◌+◌, ◌<◌, ◌≤◌, Bool, true, false, cond, List, [], ◌∷◌, ◌++◌, length, drop, Option, None, Some,
-  Result, refl, ap, sym, ◌∙◌, subst, inl, inr, arith
+  ◌≡◌,
+  ℕ,
+  suc,
+  ◌+◌,
+  ◌<◌,
+  ◌≤◌,
+  Bool,
+  true,
+  false,
+  cond,
+  List,
+  [],
+  ◌∷◌,
+  ◌++◌,
+  length,
+  drop,
+  Option,
+  None,
+  Some,
+  Result,
+  refl,
+  ap,
+  sym,
+  ◌∙◌,
+  subst,
+  inl,
+  inr,
+  arith,
 }
 use Rattle.std.specs.Io.KnownBytes.{Appends, Consumes, IsAtEnd}
 use Rattle.std.proofs.lemmas.List.{append-nil, take_at, drop_at, length-append}
 use Rattle.std.proofs.lemmas.Bool.{le-ltb, lt-ltb}
 use Rattle.abc_fields.specs.Words.{words_of}
-use Rattle.abc_fields.specs.declared.book.TheConstants.{LONGEST_BOOK}
+use Rattle.abc_fields.specs.Limits.{longest_book}
 use Rattle.tune_store.specs.State.{State, Standing}
 use Rattle.tune_store.specs.Answers.{Answers, passed, stays_open}
 use Rattle.tune_store.specs.declared.command.Command.{Command}
@@ -21,9 +47,27 @@ use Rattle.tune_scripts.specs.ScriptLines.{meaning_of, command_of}
 use Rattle.tune_scripts.specs.InputLines.{before_feed, after_feed, has_feed}
 use Rattle.tune_scripts.specs.Replies.{answer_bytes, refusal_bytes, bad_line_bytes}
 use Rattle.tune_scripts.specs.Scripts.{
-  reading_of, reading_of_book, reading_of_meaning, reading_of_line, line_text, long_line, blank_line, bad_line, cut_book, long_book,
-  whole_command, Script, ended, device_fault, at_long_line, at_cut_book, after_blank_line, after_bad_line, after_long_book,
-  after_no_room, after_answer
+  reading_of,
+  reading_of_book,
+  reading_of_meaning,
+  reading_of_line,
+  line_text,
+  long_line,
+  blank_line,
+  bad_line,
+  cut_book,
+  long_book,
+  whole_command,
+  Script,
+  ended,
+  device_fault,
+  at_long_line,
+  at_cut_book,
+  after_blank_line,
+  after_bad_line,
+  after_long_book,
+  after_no_room,
+  after_answer,
 }
 use Rattle.tune_scripts.specs.Runs.{Work}
 use Rattle.tune_scripts.specs.Inside.Reads.{IsLineRead, TakesLine, LosesLongLine, IsCut}
@@ -84,7 +128,7 @@ turn_answered input rest left work c result r l (inr h) = turn_goes input rest l
 adds_bytes : (lines more : ℕ) (input rest bytes : List ℕ) (left : Option (List ℕ)) (work : Work) → left ≡ Some rest → IsQuiet work
     → Appends work.was work.now bytes
     → ((tail unread : List ℕ) (later : List State) (end : RunEnd) (last : Standing) → Script more work.before rest tail later end last unread
-      → Script lines work.before input (bytes ++ tail) later end last unread)
+    → Script lines work.before input (bytes ++ tail) later end last unread)
     → GoesOn lines more input left work
 adds_bytes lines more input rest bytes left work l quiet w f = record {
   rest = rest;
@@ -159,17 +203,17 @@ turn_long input left work result r l quiet (inr h) = rw h.0 (λ n. record {
 reads_cut : (book_use : BookUse) (len : ℕ) (rest : List ℕ) → length rest < len → reading_of_book book_use len rest ≡ cut_book
 reads_cut book_use len rest h = rw (lt-ltb (length rest) len h) refl
 
-reads_over : (book_use : BookUse) (len : ℕ) (got rest : List ℕ) → length got ≡ len → LONGEST_BOOK < len
+reads_over : (book_use : BookUse) (len : ℕ) (got rest : List ℕ) → length got ≡ len → longest_book < len
     → reading_of_book book_use len (got ++ rest) ≡ long_book rest
 reads_over book_use len got rest e h =
     let enough : len ≤ length (got ++ rest) = omega (arith, length-append got rest) in
-    rw (le-ltb (length (got ++ rest)) len enough, lt-ltb LONGEST_BOOK len h, drop_at got rest len e) refl
+    rw (le-ltb (length (got ++ rest)) len enough, lt-ltb longest_book len h, drop_at got rest len e) refl
 
-reads_whole : (book_use : BookUse) (len : ℕ) (got rest : List ℕ) → length got ≡ len → len ≤ LONGEST_BOOK
+reads_whole : (book_use : BookUse) (len : ℕ) (got rest : List ℕ) → length got ≡ len → len ≤ longest_book
     → reading_of_book book_use len (got ++ rest) ≡ whole_command (command_of book_use got) rest
 reads_whole book_use len got rest e h =
     let enough : len ≤ length (got ++ rest) = omega (arith, length-append got rest) in
-    rw (le-ltb (length (got ++ rest)) len enough, le-ltb LONGEST_BOOK len h, drop_at got rest len e, take_at got rest len e) refl
+    rw (le-ltb (length (got ++ rest)) len enough, le-ltb longest_book len h, drop_at got rest len e, take_at got rest len e) refl
 
 -- a book that the input's end cuts
 pub book_cut : (book_use : BookUse) (len : ℕ) (old new : Option (List ℕ)) (work : Work) (result : Option RunEnd) → IsCut old new len → IsQuiet work
@@ -180,7 +224,7 @@ book_cut book_use len (Some xs) new work result c quiet w =
 
 -- a book that is too long
 pub book_over : (book_use : BookUse) (len : ℕ) (old new : Option (List ℕ)) (work : Work) (result : Option RunEnd) (got : List ℕ)
-    → length got ≡ len → LONGEST_BOOK < len → Consumes old new got → IsQuiet work
+    → length got ≡ len → longest_book < len → Consumes old new got → IsQuiet work
     → WritesOut work.was work.now (refusal_bytes BookTooLong) None result → TurnsBook book_use len old new work result
 book_over book_use len None new work result got e h c quiet w = tt
 book_over book_use len (Some xs) None work result got e h c quiet w = absurd c
@@ -189,7 +233,7 @@ book_over book_use len (Some xs) (Some ys) work result got e h c quiet w = λ in
 
 -- a book for which there is no memory
 pub book_no_room : (book_use : BookUse) (len : ℕ) (old new : Option (List ℕ)) (work : Work) (result : Option RunEnd) (got : List ℕ)
-    → length got ≡ len → len ≤ LONGEST_BOOK → Consumes old new got → IsQuiet work
+    → length got ≡ len → len ≤ longest_book → Consumes old new got → IsQuiet work
     → WritesOut work.was work.now (refusal_bytes OutOfMemory) None result → TurnsBook book_use len old new work result
 book_no_room book_use len None new work result got e h c quiet w = tt
 book_no_room book_use len (Some xs) None work result got e h c quiet w = absurd c
@@ -199,7 +243,7 @@ book_no_room book_use len (Some xs) (Some ys) work result got e h c quiet w = λ
 
 -- a book that was read, and the command over it carried out
 pub book_whole : (book_use : BookUse) (len : ℕ) (old new : Option (List ℕ)) (work : Work) (result : Option RunEnd) (got : List ℕ)
-    → length got ≡ len → len ≤ LONGEST_BOOK → Consumes old new got → CarriesOut work (command_of book_use got) result
+    → length got ≡ len → len ≤ longest_book → Consumes old new got → CarriesOut work (command_of book_use got) result
     → TurnsBook book_use len old new work result
 book_whole book_use len None new work result got e h c w = tt
 book_whole book_use len (Some xs) None work result got e h c w = absurd c

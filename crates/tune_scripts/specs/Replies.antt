@@ -7,12 +7,27 @@ use Rattle.tune_books.specs.WrittenBooks.{written_tune}
 use Rattle.tune_store.specs.declared.tune.Tune.{Tune}
 use Rattle.tune_store.specs.declared.command.Reply.{Reply}
 use Rattle.tune_store.specs.declared.command.Reply.TheVariants.{
-  Imported, Replaced, Deleted, Shown, Exported
+  Imported,
+  Replaced,
+  Deleted,
+  Shown,
+  Exported,
 }
 use Rattle.tune_store.specs.declared.command.Refusal.{Refusal}
 use Rattle.tune_store.specs.declared.command.Refusal.TheVariants.{
-  BookTooLong, NotPlain, NoTune, BadTune, NotOne, Unknown, Stale, Worn, ArchiveFull, NumbersSpent,
-  OutOfMemory, Device, Closed
+  BookTooLong,
+  NotPlain,
+  NoTune,
+  BadTune,
+  NotOne,
+  Unknown,
+  Stale,
+  Worn,
+  ArchiveFull,
+  NumbersSpent,
+  OutOfMemory,
+  Device,
+  Closed,
 }
 
 -- the tune as a written book has it

@@ -3,11 +3,16 @@ use Rattle.std.specs.Prelude.{◌≡◌, ℕ, List, Option, Some, IfSome, ⊤}
 use Rattle.std.specs.Io.KnownBytes.{Appends}
 use Rattle.std.specs.declared.io.Write.{Ghosts}
 use Rattle.tune_store.specs.State.{State, Standing}
-use Rattle.tune_store.specs.Stops.{Passes}
-use Rattle.tune_store.specs.declared.store.TuneStore as store
+use Rattle.tune_store.specs.Stores.{StorePasses}
+use Rattle.tune_store.specs.declared.tune_store.TuneStore as store
 use Rattle.tune_scripts.specs.declared.runs.RunEnd.{RunEnd}
 use Rattle.tune_scripts.specs.declared.runs.RunEnd.TheVariants.{
-  Ended, LineBound, LongLine, ReaderFault, WriterFault, DeviceFault
+  Ended,
+  LineBound,
+  LongLine,
+  ReaderFault,
+  WriterFault,
+  DeviceFault,
 }
 use Rattle.tune_scripts.specs.declared.runs.RunEnd.TheVariants as run
 use Rattle.tune_scripts.specs.Scripts.{Script}
@@ -30,7 +35,7 @@ work_of W S old_writer new_writer old_store new_store = record {
   now = W.contents new_writer;
   before = S.standing old_store;
   after = S.standing new_store;
-  Stops = Passes S.honest S.sound S.standing S.moment S.left_since S.stands_for old_store new_store;
+  Stops = StorePasses S old_store new_store;
 }
 
 -- a claim that is made at the ends at which the output is known

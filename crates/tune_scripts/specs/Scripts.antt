@@ -1,13 +1,28 @@
 -- What a script means: its commands one by one, the bytes of their replies, how the run ends, and
 -- what it leaves of the input.
 use Rattle.std.specs.Prelude.{
-  ◌≡◌, ℕ, suc, ◌+◌, List, [], ◌∷◌, ◌++◌, length, take, drop, Bool, nat_lt, if◌then◌else◌, Result,
-  true, false
+  ◌≡◌,
+  ℕ,
+  suc,
+  ◌+◌,
+  List,
+  [],
+  ◌∷◌,
+  ◌++◌,
+  length,
+  take,
+  drop,
+  Bool,
+  nat_lt,
+  if◌then◌else◌,
+  Result,
+  true,
+  false,
 }
 use Rattle.std.specs.Io.BufRead.{strip_last}
 use Rattle.abc_fields.specs.Bytes.{carriage_return}
 use Rattle.abc_fields.specs.Words.{words_of}
-use Rattle.abc_fields.specs.declared.book.TheConstants.{LONGEST_BOOK}
+use Rattle.abc_fields.specs.Limits.{longest_book}
 use Rattle.tune_store.specs.State.{State, Standing}
 use Rattle.tune_store.specs.Answers.{Answers, passed, stays_open}
 use Rattle.tune_store.specs.declared.command.Command.{Command}
@@ -19,7 +34,10 @@ use Rattle.tune_scripts.specs.declared.script_lines.ScriptLine.TheVariants.{Blan
 use Rattle.tune_scripts.specs.declared.script_lines.BookUse.{BookUse}
 use Rattle.tune_scripts.specs.declared.runs.RunEnd.{RunEnd}
 use Rattle.tune_scripts.specs.declared.runs.RunEnd.TheVariants.{
-  Ended, LineBound, LongLine, DeviceFault
+  Ended,
+  LineBound,
+  LongLine,
+  DeviceFault,
 }
 use Rattle.tune_scripts.specs.Limits.{longest_line}
 use Rattle.tune_scripts.specs.ScriptLines.{meaning_of, command_of}
@@ -51,7 +69,7 @@ pub data Reading : Type 0 where
 abbrev pub reading_of_book : BookUse → ℕ → List ℕ → Reading
 reading_of_book book_use len rest =
     if nat_lt (length rest) len then cut_book
-    else if nat_lt LONGEST_BOOK len then long_book (drop len rest)
+    else if nat_lt longest_book len then long_book (drop len rest)
     else whole_command (command_of book_use (take len rest)) (drop len rest)
 
 abbrev pub reading_of_meaning : ScriptLine → List ℕ → Reading
@@ -116,4 +134,4 @@ pub data Script : ℕ → Standing → List ℕ → List ℕ → List State → 
       → reading_of input ≡ whole_command c rest → Answers s c answer mid → stays_open answer ≡ true
       → Script n mid rest out states end t unread
       → Script (suc n) s input (answer_bytes answer ++ out) (passed s.state c answer ++ states)
-        end t unread
+      end t unread

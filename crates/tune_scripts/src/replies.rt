@@ -3,7 +3,12 @@ ghost use Rattle.std.specs.Prelude.{◌≡◌, ◌≤◌, OnOk, length};
 ghost use Rattle.std.specs.Fmt.{decimal};
 ghost use Rattle.std.specs.Io.KnownBytes.{Appends};
 ghost use Rattle.tune_scripts.specs.Replies.{
-    reply_bytes, shown_bytes, exported_bytes, refusal_bytes, answer_bytes, bad_line_bytes,
+  reply_bytes,
+  shown_bytes,
+  exported_bytes,
+  refusal_bytes,
+  answer_bytes,
+  bad_line_bytes,
 };
 
 use abc_fields::TuneFault;
@@ -16,8 +21,7 @@ pub(crate) fn write_answer<W: Write>(
     writer: &mut W,
     answer: &Result<Reply, Refusal>,
 ) -> io::Result<()>
-    ensures {
-        OnOk result (Appends (W.contents writer.old) (W.contents writer.new) (answer_bytes answer.now)) }
+    ensures { OnOk result (Appends (W.contents writer.old) (W.contents writer.new) (answer_bytes answer.now)) }
 {
     match answer {
         Ok(reply) => write_reply(writer, reply)?,
@@ -28,16 +32,14 @@ pub(crate) fn write_answer<W: Write>(
 
 // WritesOut that a line is no command, and flushes it.
 pub(crate) fn write_bad_line<W: Write>(writer: &mut W) -> io::Result<()>
-    ensures {
-        OnOk result (Appends (W.contents writer.old) (W.contents writer.new) bad_line_bytes) }
+    ensures { OnOk result (Appends (W.contents writer.old) (W.contents writer.new) bad_line_bytes) }
 {
     writer.write_all(b"refused 30 BadLine\n")?;
     writer.flush()
 }
 
 fn write_reply<W: Write>(writer: &mut W, reply: &Reply) -> io::Result<()>
-    ensures {
-        OnOk result (Appends (W.contents writer.old) (W.contents writer.new) (reply_bytes reply.now)) }
+    ensures { OnOk result (Appends (W.contents writer.old) (W.contents writer.new) (reply_bytes reply.now)) }
 {
     match reply {
         Reply::Imported { first, last } => write!(writer, "ok import {first} {last}\n"),
@@ -51,8 +53,7 @@ fn write_reply<W: Write>(writer: &mut W, reply: &Reply) -> io::Result<()>
 }
 
 fn write_shown<W: Write>(writer: &mut W, tune: &Tune) -> io::Result<()>
-    ensures {
-        OnOk result (Appends (W.contents writer.old) (W.contents writer.new) (shown_bytes tune.now)) }
+    ensures { OnOk result (Appends (W.contents writer.old) (W.contents writer.new) (shown_bytes tune.now)) }
 {
     let number = tune.number;
     let revision = tune.revision;
@@ -63,8 +64,7 @@ fn write_shown<W: Write>(writer: &mut W, tune: &Tune) -> io::Result<()>
 }
 
 fn write_exported<W: Write>(writer: &mut W, book: &[u8]) -> io::Result<()>
-    ensures {
-        OnOk result (Appends (W.contents writer.old) (W.contents writer.new) (exported_bytes book.now)) }
+    ensures { OnOk result (Appends (W.contents writer.old) (W.contents writer.new) (exported_bytes book.now)) }
 {
     let len = book.len();
     write!(writer, "ok export {len}\n")?;
@@ -86,8 +86,7 @@ fn digits_of(number: u32) -> u64
 }
 
 fn write_refusal<W: Write>(writer: &mut W, refusal: Refusal) -> io::Result<()>
-    ensures {
-        OnOk result (Appends (W.contents writer.old) (W.contents writer.new) (refusal_bytes refusal)) }
+    ensures { OnOk result (Appends (W.contents writer.old) (W.contents writer.new) (refusal_bytes refusal)) }
 {
     match refusal {
         Refusal::NoTune => writer.write_all(b"refused 1 NoTune\n"),
@@ -107,8 +106,7 @@ fn write_refusal<W: Write>(writer: &mut W, refusal: Refusal) -> io::Result<()>
 }
 
 fn write_bad_tune<W: Write>(writer: &mut W, place: usize, fault: TuneFault) -> io::Result<()>
-    ensures {
-        let bytes = refusal_bytes (Refusal.BadTune place fault) in
+    ensures { let bytes = refusal_bytes (Refusal.BadTune place fault) in
         OnOk result (Appends (W.contents writer.old) (W.contents writer.new) bytes) }
 {
     match fault {

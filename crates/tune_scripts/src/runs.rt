@@ -6,7 +6,7 @@ ghost use Rattle.tune_scripts.specs.Scripts.{line_text};
 ghost use Rattle.tune_scripts.specs.Runs.{KnownAt, TellsScript, work_of};
 ghost use Rattle.tune_scripts.specs.Inside.Turns.{Turns, TurnsBook, WritesOut, CarriesOut, next_of};
 
-use crate::reading::{LineRead, BookRead, read_line, read_book};
+use crate::reading::{BookRead, LineRead, read_book, read_line};
 use crate::replies::{write_answer, write_bad_line};
 use crate::script_lines::{BookUse, LONGEST_LINE, ScriptLine, meaning};
 use abc_fields::LONGEST_BOOK;
@@ -50,8 +50,7 @@ pub fn run<R: Read, W: Write, S: TuneStore>(
     writer: &mut W,
     store: &mut S,
 ) -> RunEnd
-    ensures {
-        let work = work_of W.Write S.TuneStore writer.old writer.new store.old store.new in
+    ensures { let work = work_of W.Write S.TuneStore writer.old writer.new store.old store.new in
         KnownAt result
         (TellsScript most_lines (R.remaining reader.old) (R.remaining reader.new) work result) }
 {
@@ -73,8 +72,7 @@ fn turn<R: Read, W: Write, S: TuneStore>(
     line: &mut [u8],
 ) -> Option<RunEnd>
     requires { length line.old ≡ longest_line }
-    ensures {
-        let work = work_of W.Write S.TuneStore writer.old writer.new store.old store.new in
+    ensures { let work = work_of W.Write S.TuneStore writer.old writer.new store.old store.new in
         Turns (R.remaining reader.old) (R.remaining reader.new) work result }
 {
     match read_line(reader, line) {
@@ -114,8 +112,7 @@ fn with_book<R: Read, W: Write, S: TuneStore>(
     book_use: BookUse,
     len: u32,
 ) -> Option<RunEnd>
-    ensures {
-        let work = work_of W.Write S.TuneStore writer.old writer.new store.old store.new in
+    ensures { let work = work_of W.Write S.TuneStore writer.old writer.new store.old store.new in
         TurnsBook book_use len (R.remaining reader.old) (R.remaining reader.new) work result }
 {
     let len = len as usize;
@@ -135,8 +132,7 @@ fn carry_out<W: Write, S: TuneStore>(
     store: &mut S,
     command: &Command,
 ) -> Option<RunEnd>
-    ensures {
-        let work = work_of W.Write S.TuneStore writer.old writer.new store.old store.new in
+    ensures { let work = work_of W.Write S.TuneStore writer.old writer.new store.old store.new in
         CarriesOut work command.now result }
 {
     let answer = store.apply(command);
@@ -158,8 +154,7 @@ fn next_after(answer: &Result<Reply, Refusal>) -> Option<RunEnd>
 
 // Answers a command that does not reach the store.
 fn refuse<W: Write>(writer: &mut W, refusal: Refusal) -> Option<RunEnd>
-    ensures {
-        let bytes = answer_bytes (Err refusal) in
+    ensures { let bytes = answer_bytes (Err refusal) in
         WritesOut (W.contents writer.old) (W.contents writer.new) bytes None result }
 {
     match write_answer(writer, &Err(refusal)) {
@@ -170,8 +165,7 @@ fn refuse<W: Write>(writer: &mut W, refusal: Refusal) -> Option<RunEnd>
 
 // Answers a line that is no command, or a book that was cut.
 fn bad_line<W: Write>(writer: &mut W, next: Option<RunEnd>) -> Option<RunEnd>
-    ensures {
-        WritesOut (W.contents writer.old) (W.contents writer.new) bad_line_bytes next result }
+    ensures { WritesOut (W.contents writer.old) (W.contents writer.new) bad_line_bytes next result }
 {
     match write_bad_line(writer) {
         Ok(()) => next,

@@ -5,7 +5,7 @@ ghost use Rattle.abc_fields.specs.Words.{words_of};
 ghost use Rattle.tune_scripts.specs.Inside.FirstWords.{AreFirstFive};
 ghost use Rattle.tune_scripts.specs.ScriptLines.{meaning_of, number_of, command_of};
 
-use abc_fields::ByteText;
+use abc_fields::{ByteText, is_blank};
 use bstr::ByteSlice;
 use tune_store::Command;
 
@@ -76,7 +76,11 @@ fn first_words(
 )
     ensures { AreFirstFive (words_of line.now) result }
 {
-    let mut words = line.fields_with(is_blank);
+    let mut words = line.fields_with(
+        |c: char| -> bool
+            ensures { result ≡ is_blank c }
+        { is_blank(c) },
+    );
     (
         words.next(),
         words.next(),
@@ -84,13 +88,6 @@ fn first_words(
         words.next(),
         words.next(),
     )
-}
-
-// Whether a character is a space or a tab.
-fn is_blank(c: char) -> bool
-    ensures { result ≡ is_blank c }
-{
-    c == ' ' || c == '\t'
 }
 
 fn one_word(name: &[u8]) -> ScriptLine

@@ -14,6 +14,6 @@ AreFirstFive {A = A} words taken = MatchOption taken.0 (words ≡ [])
     (λ second. MatchOption taken.2 (words ≡ first.now ∷ second.now ∷ [])
     (λ third. MatchOption taken.3 (words ≡ first.now ∷ second.now ∷ third.now ∷ [])
     (λ fourth. MatchOption taken.4
-        (words ≡ first.now ∷ second.now ∷ third.now ∷ fourth.now ∷ [])
+    (words ≡ first.now ∷ second.now ∷ third.now ∷ fourth.now ∷ [])
     (λ fifth. (rest : List A)
-        × (words ≡ first.now ∷ second.now ∷ third.now ∷ fourth.now ∷ fifth.now ∷ rest))))))
+    × (words ≡ first.now ∷ second.now ∷ third.now ∷ fourth.now ∷ fifth.now ∷ rest))))))

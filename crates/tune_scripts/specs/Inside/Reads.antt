@@ -1,6 +1,22 @@
 -- What a read of a line or a book takes of the known bytes of a reader.
 use Rattle.std.specs.Prelude.{
-  ◌≡◌, ℕ, ◌+◌, ◌<◌, ◌≤◌, List, [], ◌∷◌, Bool, true, length, take, drop, Option, IfSome, ⊤, Some
+  ◌≡◌,
+  ℕ,
+  ◌+◌,
+  ◌<◌,
+  ◌≤◌,
+  List,
+  [],
+  ◌∷◌,
+  Bool,
+  true,
+  length,
+  take,
+  drop,
+  Option,
+  IfSome,
+  ⊤,
+  Some,
 }
 use Rattle.std.specs.Io.KnownBytes.{Consumes, IsAtEnd}
 use Rattle.tune_scripts.specs.Limits.{longest_line}
