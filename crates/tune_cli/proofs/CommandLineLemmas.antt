@@ -1,5 +1,5 @@
 -- The program's command line.
-use Rattle.std.proofs.Common.{◌≡◌, ap, ◌∙◌, false, true, Result, Ok, Err, codes}
+use Rattle.std.proofs.Common.{◌≡◌, ap, ◌∙◌, false, Result, Ok, Err, codes}
 use Rattle.std.specs.Prelude.{IfOk}
 use Rattle.clap.specs.declared.builder.command.Command.{Command}
 use Rattle.clap.specs.declared.builder.command.Command.TheViews.{out-Command}

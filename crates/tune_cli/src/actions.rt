@@ -16,11 +16,10 @@ use tune_store::ListArchive;
 
 /// What the words of the program ask for, its name being the first of them.
 ///
-/// The error is `Clap` where the words do not parse, where help or the version is asked for, and out
-/// of memory; it is `Missing` where they parse and have no subcommand.
+/// The error is `Clap` where the words do not parse, where help or the version is asked for, and
+/// out of memory; it is `Missing` where they parse and have no subcommand.
 pub fn action(alloc: Global, words: &[String]) -> Result<Action, WordsFault>
-    ensures subcommand {
-        let given = map string_bytes words.entry.now in
+    ensures subcommand { let given = map string_bytes words.entry.now in
         IfOk result (λ action. subcommand_in given ≡ Some (name_of action)) }
     ensures parsed { IfOk result (λ _. faults_in (map string_bytes words.entry.now) ≡ []) }
     ensures fault { IfErr result (FaultFits (map string_bytes words.entry.now)) }
@@ -49,9 +48,9 @@ fn command_line<'a>(alloc: Global) -> Result<Command<'a>, AllocError>
         .subcommand(list)
 }
 
-/// Prints why words ask for nothing, and gives the status: help and the version, on standard output,
-/// with 0; out of memory, there too, with 1; anything else on standard error, with 2, also where that
-/// cannot be written. The error is that of standard output.
+/// Prints why words ask for nothing, and gives the status: help and the version, on standard
+/// output, with 0; out of memory, there too, with 1; anything else on standard error, with 2, also
+/// where that cannot be written. The error is that of standard output.
 pub fn report<T: Print + Eprint>(rt: &T, fault: &WordsFault) -> io::Result<u8>
     ensures status { IfOk result (λ status. status ≡ status_of_fault fault.now) }
     ensures bad_words { status_of_fault fault.now ≡ 2 → IsOk result }
@@ -85,8 +84,7 @@ pub fn act<R: Read, W: Write, T: AllocGlobal>(
     reader: &mut R,
     writer: &mut W,
 ) -> u8
-    ensures {
-        Acts action.now (R.remaining reader.old) (R.remaining reader.new)
+    ensures { Acts action.now (R.remaining reader.old) (R.remaining reader.new)
         (W.contents writer.old) (W.contents writer.new) result }
 {
     match action {

@@ -1,40 +1,16 @@
 -- A script's turns, one after another, over a writer and a store of any kind.
-use Rattle.std.proofs.Common.{
-  ◌≡◌,
-  ℕ,
-  suc,
-  List,
-  [],
-  ◌++◌,
-  Option,
-  None,
-  Some,
-  refl,
-  ap,
-  sym,
-  ◌∙◌,
-  subst,
-  arith,
-}
+use Rattle.std.proofs.Common.{ℕ, suc, List, [], ◌++◌, Option, None, Some, refl, ap, ◌∙◌, subst}
 use Rattle.std.specs.Prelude.{IfSome, ⊤}
 use Rattle.std.specs.Io.KnownBytes.{Appends}
 use Rattle.std.specs.declared.io.Write.{Ghosts}
 use Rattle.std.proofs.lemmas.List.{append_assoc, append-nil}
-use Rattle.tune_store.specs.State.{State, Standing}
 use Rattle.tune_store.specs.declared.tune_store.TuneStore as store
 use Rattle.tune_scripts.specs.declared.runs.RunEnd.{RunEnd}
-use Rattle.tune_scripts.specs.declared.runs.RunEnd.TheVariants.{
-  Ended,
-  LineBound,
-  LongLine,
-  ReaderFault,
-  WriterFault,
-  DeviceFault,
-}
+use Rattle.tune_scripts.specs.declared.runs.RunEnd.TheVariants.{Ended, LineBound, LongLine, ReaderFault, WriterFault, DeviceFault}
 use Rattle.tune_scripts.specs.declared.runs.RunEnd.TheVariants as run
 use Rattle.tune_scripts.specs.Scripts.{Script, line_bound}
 use Rattle.tune_scripts.specs.Runs.{Work, work_of, KnownAt, RunsScript, TellsScript}
-use Rattle.tune_scripts.specs.Inside.Turns.{GoesOn, TurnOf, Turns}
+use Rattle.tune_scripts.specs.Inside.Turns.{GoesOn, Turns}
 use Rattle.tune_scripts.proofs.TurnLemmas.{IsQuiet, appends_none}
 use Rattle.tune_scripts.proofs.StopLemmas.{passes_none, passes_more}
 

@@ -1,41 +1,13 @@
 -- What one line of a script, with its book, comes to.
-use Rattle.std.proofs.Common.{
-  ◌≡◌,
-  ℕ,
-  suc,
-  ◌+◌,
-  ◌<◌,
-  ◌≤◌,
-  Bool,
-  true,
-  false,
-  cond,
-  List,
-  [],
-  ◌∷◌,
-  ◌++◌,
-  length,
-  drop,
-  Option,
-  None,
-  Some,
-  Result,
-  refl,
-  ap,
-  sym,
-  ◌∙◌,
-  subst,
-  inl,
-  inr,
-  arith,
-}
+use Rattle.std.proofs.Common.{◌≡◌, ℕ, suc, ◌+◌, ◌<◌, ◌≤◌, Bool, true, false, cond, List, [], ◌∷◌, ◌++◌, length, drop, Option, None, Some, refl, ap, sym}
+use Rattle.std.proofs.Common.{◌∙◌, subst, inl, inr, arith}
 use Rattle.std.specs.Io.KnownBytes.{Appends, Consumes, IsAtEnd}
 use Rattle.std.proofs.lemmas.List.{append-nil, take_at, drop_at, length-append}
 use Rattle.std.proofs.lemmas.Bool.{le-ltb, lt-ltb}
 use Rattle.abc_fields.specs.Words.{words_of}
 use Rattle.abc_fields.specs.Limits.{longest_book}
 use Rattle.tune_store.specs.State.{State, Standing}
-use Rattle.tune_store.specs.Answers.{Answers, passed, stays_open}
+use Rattle.tune_store.specs.Answers.{passed, stays_open}
 use Rattle.tune_store.specs.declared.command.Command.{Command}
 use Rattle.tune_store.specs.declared.command.Refusal.TheVariants.{BookTooLong, OutOfMemory}
 use Rattle.tune_scripts.specs.declared.script_lines.ScriptLine.{ScriptLine}
@@ -46,29 +18,9 @@ use Rattle.tune_scripts.specs.Limits.{longest_line}
 use Rattle.tune_scripts.specs.ScriptLines.{meaning_of, command_of}
 use Rattle.tune_scripts.specs.InputLines.{before_feed, after_feed, has_feed}
 use Rattle.tune_scripts.specs.Replies.{answer_bytes, refusal_bytes, bad_line_bytes}
-use Rattle.tune_scripts.specs.Scripts.{
-  reading_of,
-  reading_of_book,
-  reading_of_meaning,
-  reading_of_line,
-  line_text,
-  long_line,
-  blank_line,
-  bad_line,
-  cut_book,
-  long_book,
-  whole_command,
-  Script,
-  ended,
-  device_fault,
-  at_long_line,
-  at_cut_book,
-  after_blank_line,
-  after_bad_line,
-  after_long_book,
-  after_no_room,
-  after_answer,
-}
+use Rattle.tune_scripts.specs.Scripts.{reading_of, reading_of_book, reading_of_meaning, reading_of_line, line_text, long_line, blank_line, bad_line, cut_book}
+use Rattle.tune_scripts.specs.Scripts.{long_book, whole_command, Script, ended, device_fault, at_long_line, at_cut_book, after_blank_line, after_bad_line}
+use Rattle.tune_scripts.specs.Scripts.{after_long_book, after_no_room, after_answer}
 use Rattle.tune_scripts.specs.Runs.{Work}
 use Rattle.tune_scripts.specs.Inside.Reads.{IsLineRead, TakesLine, LosesLongLine, IsCut}
 use Rattle.tune_scripts.specs.Inside.Turns.{GoesOn, TurnOf, Turns, TurnsBook, WritesOut, AnswersCommand, CarriesOut}

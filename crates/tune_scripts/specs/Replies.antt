@@ -6,29 +6,13 @@ use Rattle.abc_fields.specs.declared.book.TuneFault.TheVariants.{NoKey, TooLong}
 use Rattle.tune_books.specs.WrittenBooks.{written_tune}
 use Rattle.tune_store.specs.declared.tune.Tune.{Tune}
 use Rattle.tune_store.specs.declared.command.Reply.{Reply}
-use Rattle.tune_store.specs.declared.command.Reply.TheVariants.{
-  Imported,
-  Replaced,
-  Deleted,
-  Shown,
-  Exported,
-}
+use Rattle.tune_store.specs.declared.command.Reply.TheVariants.{Imported, Replaced, Deleted, Shown}
+use Rattle.tune_store.specs.declared.command.Reply.TheVariants.{Exported}
 use Rattle.tune_store.specs.declared.command.Refusal.{Refusal}
-use Rattle.tune_store.specs.declared.command.Refusal.TheVariants.{
-  BookTooLong,
-  NotPlain,
-  NoTune,
-  BadTune,
-  NotOne,
-  Unknown,
-  Stale,
-  Worn,
-  ArchiveFull,
-  NumbersSpent,
-  OutOfMemory,
-  Device,
-  Closed,
-}
+use Rattle.tune_store.specs.declared.command.Refusal.TheVariants.{BookTooLong, NotPlain, NoTune}
+use Rattle.tune_store.specs.declared.command.Refusal.TheVariants.{BadTune, NotOne, Unknown, Stale}
+use Rattle.tune_store.specs.declared.command.Refusal.TheVariants.{Worn, ArchiveFull, NumbersSpent}
+use Rattle.tune_store.specs.declared.command.Refusal.TheVariants.{OutOfMemory, Device, Closed}
 
 -- the tune as a written book has it
 abbrev pub shown_tune : Tune → List ℕ

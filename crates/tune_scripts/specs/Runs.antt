@@ -6,14 +6,9 @@ use Rattle.tune_store.specs.State.{State, Standing}
 use Rattle.tune_store.specs.Stores.{StorePasses}
 use Rattle.tune_store.specs.declared.tune_store.TuneStore as store
 use Rattle.tune_scripts.specs.declared.runs.RunEnd.{RunEnd}
-use Rattle.tune_scripts.specs.declared.runs.RunEnd.TheVariants.{
-  Ended,
-  LineBound,
-  LongLine,
-  ReaderFault,
-  WriterFault,
-  DeviceFault,
-}
+use Rattle.tune_scripts.specs.declared.runs.RunEnd.TheVariants.{Ended, LineBound, LongLine}
+use Rattle.tune_scripts.specs.declared.runs.RunEnd.TheVariants.{ReaderFault, WriterFault}
+use Rattle.tune_scripts.specs.declared.runs.RunEnd.TheVariants.{DeviceFault}
 use Rattle.tune_scripts.specs.declared.runs.RunEnd.TheVariants as run
 use Rattle.tune_scripts.specs.Scripts.{Script}
 

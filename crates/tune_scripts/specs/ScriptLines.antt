@@ -1,23 +1,6 @@
 -- What the words of a script line ask for.
-use Rattle.std.specs.Prelude.{
-  ℕ,
-  List,
-  [],
-  ◌∷◌,
-  length,
-  codes,
-  ◌&&◌,
-  nat_lt,
-  nat_le,
-  ◌+◌,
-  ◌-◌,
-  ◌*◌,
-  if◌then◌else◌,
-  Option,
-  None,
-  Some,
-  slice_index,
-}
+use Rattle.std.specs.Prelude.{ℕ, List, [], ◌∷◌, length, codes, ◌&&◌, nat_lt, nat_le, ◌+◌, ◌-◌, ◌*◌}
+use Rattle.std.specs.Prelude.{if◌then◌else◌, Option, None, Some, slice_index}
 use Rattle.std.specs.List.{list_all}
 use Rattle.std.specs.Char.{is_ascii_digit}
 use Rattle.std.specs.Str.{bytes_eq}

@@ -1,24 +1,7 @@
 -- What a script means: its commands one by one, the bytes of their replies, how the run ends, and
 -- what it leaves of the input.
-use Rattle.std.specs.Prelude.{
-  ◌≡◌,
-  ℕ,
-  suc,
-  ◌+◌,
-  List,
-  [],
-  ◌∷◌,
-  ◌++◌,
-  length,
-  take,
-  drop,
-  Bool,
-  nat_lt,
-  if◌then◌else◌,
-  Result,
-  true,
-  false,
-}
+use Rattle.std.specs.Prelude.{◌≡◌, ℕ, suc, ◌+◌, List, [], ◌∷◌, ◌++◌, length, take, drop, Bool}
+use Rattle.std.specs.Prelude.{nat_lt, if◌then◌else◌, Result, true, false}
 use Rattle.std.specs.Io.BufRead.{strip_last}
 use Rattle.abc_fields.specs.Bytes.{carriage_return}
 use Rattle.abc_fields.specs.Words.{words_of}
@@ -33,12 +16,8 @@ use Rattle.tune_scripts.specs.declared.script_lines.ScriptLine.{ScriptLine}
 use Rattle.tune_scripts.specs.declared.script_lines.ScriptLine.TheVariants.{Blank, Bad, Whole, Book}
 use Rattle.tune_scripts.specs.declared.script_lines.BookUse.{BookUse}
 use Rattle.tune_scripts.specs.declared.runs.RunEnd.{RunEnd}
-use Rattle.tune_scripts.specs.declared.runs.RunEnd.TheVariants.{
-  Ended,
-  LineBound,
-  LongLine,
-  DeviceFault,
-}
+use Rattle.tune_scripts.specs.declared.runs.RunEnd.TheVariants.{Ended, LineBound, LongLine}
+use Rattle.tune_scripts.specs.declared.runs.RunEnd.TheVariants.{DeviceFault}
 use Rattle.tune_scripts.specs.Limits.{longest_line}
 use Rattle.tune_scripts.specs.ScriptLines.{meaning_of, command_of}
 use Rattle.tune_scripts.specs.InputLines.{before_feed, after_feed, has_feed}

@@ -1,27 +1,22 @@
-// WritesOut replies.
+// Writes replies.
 ghost use Rattle.std.specs.Prelude.{◌≡◌, ◌≤◌, OnOk, length};
 ghost use Rattle.std.specs.Fmt.{decimal};
 ghost use Rattle.std.specs.Io.KnownBytes.{Appends};
-ghost use Rattle.tune_scripts.specs.Replies.{
-  reply_bytes,
-  shown_bytes,
-  exported_bytes,
-  refusal_bytes,
-  answer_bytes,
-  bad_line_bytes,
-};
+ghost use Rattle.tune_scripts.specs.Replies.{reply_bytes, shown_bytes, exported_bytes};
+ghost use Rattle.tune_scripts.specs.Replies.{refusal_bytes, answer_bytes, bad_line_bytes};
 
 use abc_fields::TuneFault;
 use std::io;
 use std::io::Write;
 use tune_store::{Refusal, Reply, Tune};
 
-// WritesOut an answer, and flushes it.
+// Writes an answer, and flushes it.
 pub(crate) fn write_answer<W: Write>(
     writer: &mut W,
     answer: &Result<Reply, Refusal>,
 ) -> io::Result<()>
-    ensures { OnOk result (Appends (W.contents writer.old) (W.contents writer.new) (answer_bytes answer.now)) }
+    ensures { let bytes = answer_bytes answer.now in
+        OnOk result (Appends (W.contents writer.old) (W.contents writer.new) bytes) }
 {
     match answer {
         Ok(reply) => write_reply(writer, reply)?,
@@ -30,7 +25,7 @@ pub(crate) fn write_answer<W: Write>(
     writer.flush()
 }
 
-// WritesOut that a line is no command, and flushes it.
+// Writes that a line is no command, and flushes it.
 pub(crate) fn write_bad_line<W: Write>(writer: &mut W) -> io::Result<()>
     ensures { OnOk result (Appends (W.contents writer.old) (W.contents writer.new) bad_line_bytes) }
 {
@@ -39,7 +34,8 @@ pub(crate) fn write_bad_line<W: Write>(writer: &mut W) -> io::Result<()>
 }
 
 fn write_reply<W: Write>(writer: &mut W, reply: &Reply) -> io::Result<()>
-    ensures { OnOk result (Appends (W.contents writer.old) (W.contents writer.new) (reply_bytes reply.now)) }
+    ensures { let bytes = reply_bytes reply.now in
+        OnOk result (Appends (W.contents writer.old) (W.contents writer.new) bytes) }
 {
     match reply {
         Reply::Imported { first, last } => write!(writer, "ok import {first} {last}\n"),
@@ -53,7 +49,8 @@ fn write_reply<W: Write>(writer: &mut W, reply: &Reply) -> io::Result<()>
 }
 
 fn write_shown<W: Write>(writer: &mut W, tune: &Tune) -> io::Result<()>
-    ensures { OnOk result (Appends (W.contents writer.old) (W.contents writer.new) (shown_bytes tune.now)) }
+    ensures { let bytes = shown_bytes tune.now in
+        OnOk result (Appends (W.contents writer.old) (W.contents writer.new) bytes) }
 {
     let number = tune.number;
     let revision = tune.revision;
@@ -64,7 +61,8 @@ fn write_shown<W: Write>(writer: &mut W, tune: &Tune) -> io::Result<()>
 }
 
 fn write_exported<W: Write>(writer: &mut W, book: &[u8]) -> io::Result<()>
-    ensures { OnOk result (Appends (W.contents writer.old) (W.contents writer.new) (exported_bytes book.now)) }
+    ensures { let bytes = exported_bytes book.now in
+        OnOk result (Appends (W.contents writer.old) (W.contents writer.new) bytes) }
 {
     let len = book.len();
     write!(writer, "ok export {len}\n")?;
@@ -86,7 +84,8 @@ fn digits_of(number: u32) -> u64
 }
 
 fn write_refusal<W: Write>(writer: &mut W, refusal: Refusal) -> io::Result<()>
-    ensures { OnOk result (Appends (W.contents writer.old) (W.contents writer.new) (refusal_bytes refusal)) }
+    ensures { let bytes = refusal_bytes refusal in
+        OnOk result (Appends (W.contents writer.old) (W.contents writer.new) bytes) }
 {
     match refusal {
         Refusal::NoTune => writer.write_all(b"refused 1 NoTune\n"),

@@ -39,9 +39,9 @@ pub const MOST_LINES: u32 = 1_000_000;
 /// Carries out the commands of a script, and writes and flushes the reply to each before the next
 /// line is looked at.
 ///
-/// `reader` gives the script: a line, and directly after it the book that it asks for. Both are read
-/// in small pieces, so a reader that buffers serves well. `alloc` is for the books alone: where there
-/// is no memory for one, it is read and dropped, and the reply says so.
+/// `reader` gives the script: a line, and directly after it the book that it asks for. Both are
+/// read in small pieces, so a reader that buffers serves well. `alloc` is for the books alone:
+/// where there is no memory for one, it is read and dropped, and the reply says so.
 ///
 /// The clause speaks of a reader that tells its bytes. Standard input tells none.
 pub fn run<R: Read, W: Write, S: TuneStore>(

@@ -1,23 +1,6 @@
 -- What a read of a line or a book takes of the known bytes of a reader.
-use Rattle.std.specs.Prelude.{
-  ◌≡◌,
-  ℕ,
-  ◌+◌,
-  ◌<◌,
-  ◌≤◌,
-  List,
-  [],
-  ◌∷◌,
-  Bool,
-  true,
-  length,
-  take,
-  drop,
-  Option,
-  IfSome,
-  ⊤,
-  Some,
-}
+use Rattle.std.specs.Prelude.{◌≡◌, ℕ, ◌+◌, ◌<◌, ◌≤◌, List, [], ◌∷◌, Bool, true, length, take, drop}
+use Rattle.std.specs.Prelude.{Option, IfSome, ⊤, Some}
 use Rattle.std.specs.Io.KnownBytes.{Consumes, IsAtEnd}
 use Rattle.tune_scripts.specs.Limits.{longest_line}
 use Rattle.tune_scripts.specs.InputLines.{before_feed, after_feed, has_feed}

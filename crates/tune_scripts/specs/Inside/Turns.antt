@@ -1,18 +1,6 @@
 -- One line of a script, with its book: a turn of the run.
-use Rattle.std.specs.Prelude.{
-  ◌≡◌,
-  ℕ,
-  suc,
-  List,
-  ◌++◌,
-  ◌⊎◌,
-  Option,
-  None,
-  Some,
-  IfSome,
-  Result,
-  if◌then◌else◌,
-}
+use Rattle.std.specs.Prelude.{◌≡◌, ℕ, suc, List, ◌++◌, ◌⊎◌, Option, None, Some, IfSome, Result}
+use Rattle.std.specs.Prelude.{if◌then◌else◌}
 use Rattle.std.specs.Io.KnownBytes.{Appends}
 use Rattle.tune_store.specs.State.{State, Standing}
 use Rattle.tune_store.specs.Answers.{Answers, passed, stays_open}

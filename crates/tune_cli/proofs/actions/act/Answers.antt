@@ -23,7 +23,7 @@ returns g c =
     let end = c.run-end.result in
     let archive = c.run-end.new.store in
     let P : State → Type 0 = λ start. KnownAt end
-        (TellsScript most_lines input left (record (work_in_memory was now archive) { before = open_at start }) end) in
+    (TellsScript most_lines input left (record (work_in_memory was now archive) { before = open_at start }) end) in
     let output = known_by end _ _ (forgets_stops most_lines input left _ end) c.run-end.ensures in
     acts_list c.args.action.now input left was now c.status.result record {
       end = end;

@@ -25,7 +25,8 @@ returns c =
     let all = fields_of is_blank c.fields_with-words.result in
     let are_words : all ≡ words_of c.args.line.now = c.fields_with-words.ensures.fields is_blank (λ ch r h. h) ∙ fields_are_words c.args.line.now in
     subst (λ (words : List (List ℕ)). AreFirstFive words (c.next.result, c.next-2.result, c.next-3.result, c.next-4.result, c.next-5.result)) are_words
-    (AreFirstFive-taken all (fields_of is_blank c.next.new.self) (fields_of is_blank c.next-2.new.self) (fields_of is_blank c.next-3.new.self) (fields_of is_blank c.next-4.new.self) (fields_of is_blank c.next-5.new.self)
+    (AreFirstFive-taken all (fields_of is_blank c.next.new.self) (fields_of is_blank c.next-2.new.self)
+    (fields_of is_blank c.next-3.new.self) (fields_of is_blank c.next-4.new.self) (fields_of is_blank c.next-5.new.self)
     c.next.result c.next-2.result c.next-3.result c.next-4.result c.next-5.result
     (c.next.ensures.steps.1 is_blank (λ ch r h. h))
     (c.next-2.ensures.steps.1 is_blank (λ ch r h. h))
