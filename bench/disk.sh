@@ -1,7 +1,8 @@
 #!/usr/bin/env bash
 # Usage: bench/disk.sh [FOLDER [RUNS [ROUNDS]]]
-# Times a disk over a file against the same calls from C: 1,000 rounds of one write of 4,096 bytes and one sync, on a new file in the folder, 10 runs of each by
-# turns. Prints the milliseconds of each run, then the least and the middle of each and what part the program takes of the C program's.
+# Times a disk over a file against the same calls from C: 1,000 rounds of one write of 4,096 bytes
+# and one sync, on a new file in the folder, 10 runs of each by turns. Prints the milliseconds of
+# each run, then the least and the middle of each and how the program's compares with C's.
 set -u
 root=$(CDPATH='' cd -- "$(dirname -- "$0")/.." && pwd) || exit 1
 folder=${1:-$root/bench/work}
@@ -9,19 +10,23 @@ runs=${2:-10}
 rounds=${3:-1000}
 program=$root/crates/bench_disk/out/bench_disk
 work=$root/bench/work
-[ -x "$program" ] || { echo "no program at $program: build it by 'rt run -- pages 5' in crates/bench_disk" >&2; exit 1; }
+if [ ! -x "$program" ]; then
+    echo "no program at $program: build it by 'rt run -- pages 5' in crates/bench_disk" >&2
+    exit 1
+fi
 mkdir -p "$work" "$folder" || exit 1
 cc -O2 -o "$work/disk_c" "$root/bench/disk.c" || exit 1
 export LC_ALL=C
 
 # Prints the milliseconds of one run.
 timed() {
-    local start end length
+    local start end length wanted
+    wanted=$(((rounds < 256 ? rounds : 256) * 4096))
     rm -f "$folder/bench_disk.pages"
     start=$(date +%s%N)
     length=$("$1" "$folder/bench_disk.pages" "$rounds") || { echo "$1 failed" >&2; exit 1; }
     end=$(date +%s%N)
-    [ "$length" = $(((rounds < 256 ? rounds : 256) * 4096)) ] || { echo "$1: a length of $length" >&2; exit 1; }
+    [ "$length" = "$wanted" ] || { echo "$1: a length of $length" >&2; exit 1; }
     echo $(((end - start) / 1000)) | awk '{ printf "%.2f\n", $1 / 1000 }'
 }
 
@@ -42,8 +47,11 @@ done
 rm -f "$folder/bench_disk.pages"
 paste <(sort -n "$work/disk_ours") <(sort -n "$work/disk_c_times") | awk '
     { ours[NR] = $1; there[NR] = $2 }
+    function compared(name, i) {
+        form = "%s: bench_disk %.2f ms, C %.2f ms, ratio %.3f\n"
+        printf form, name, ours[i], there[i], ours[i] / there[i]
+    }
     END {
-        middle = int((NR + 1) / 2)
-        printf "least: bench_disk %.2f ms, C %.2f ms, ratio %.3f\n", ours[1], there[1], ours[1] / there[1]
-        printf "middle: bench_disk %.2f ms, C %.2f ms, ratio %.3f\n", ours[middle], there[middle], ours[middle] / there[middle]
+        compared("least", 1)
+        compared("middle", int((NR + 1) / 2))
     }'

@@ -25,6 +25,10 @@ use Rattle.abc_fields.specs.declared.book.TuneFault.TheVariants.{NoKey, TooLong}
 abbrev pub contents : List Span → List (List ℕ)
 contents spans = map (λ s. s.bytes) spans
 
+-- the answer in the middle of a book, where the lines of these spans are left
+abbrev pub answer_left : ℕ → List (List ℕ) → Option (List ℕ × Bool) → List Span → Texts
+answer_left longest done started spans = open_answer longest done started (contents spans)
+
 -- each of these lines is plain
 abbrev pub AllPlain : List (List ℕ) → Type 0
 AllPlain lines = AllByRecursion (λ line. has_no_ending line ≡ true) lines

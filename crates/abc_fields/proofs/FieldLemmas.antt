@@ -1,10 +1,10 @@
 -- How a line adds to what a header says.
-use Rattle.std.proofs.Common.{◌≡◌, ℕ, zero, suc, ◌≤◌, true, false, eqb, List, [], ◌∷◌, ◌++◌, length, map, take, Option, None, Some, refl, ap, sym, ◌∙◌, arith}
+use Rattle.std.proofs.Common.{◌≡◌, ℕ, zero, suc, ◌≤◌, true, false, List, [], ◌∷◌, ◌++◌, length, map, take, Option, None, Some, refl, ap, sym, ◌∙◌, arith}
 use Rattle.std.proofs.Common.{inl, ⊎_elim}
-use Rattle.std.specs.Prelude.{slice_get, codes, unwrap_or}
+use Rattle.std.specs.Prelude.{slice_get}
 use Rattle.std.specs.List.{filter, AllByRecursion}
 use Rattle.std.specs.Option.{option_or}
-use Rattle.std.proofs.lemmas.Bool.{eqb-true, and_parts, cases_Bool}
+use Rattle.std.proofs.lemmas.Bool.{cases_Bool}
 use Rattle.std.proofs.lemmas.List.{append-nil, append_assoc, take_all, take-append-le, map-append}
 use Rattle.std.proofs.lemmas.List.Elements.{filter-append}
 use Rattle.abc_fields.specs.Bytes.{line_feed, begins_with}
@@ -12,7 +12,7 @@ use Rattle.abc_fields.specs.Tunes.{is_key_line, has_key, joined, IsTuneLine, IsT
 use Rattle.abc_fields.specs.Lines.{lines_of}
 use Rattle.abc_fields.proofs.LineLaw.{pieces_of_line}
 use Rattle.abc_fields.specs.Values.{field_value}
-use Rattle.abc_fields.specs.Fields.{header_of, values_of, has_bytes, non_empty, non_empty_values, key_text_of, HeaderEndsWithKey}
+use Rattle.abc_fields.specs.Fields.{header_of, values_of, has_bytes, non_empty, non_empty_values, first_key, key_text_of, HeaderEndsWithKey}
 
 -- the first titles of enough are those
 pub enough_titles : (n : ℕ) (titles more : List (List ℕ)) → length titles ≡ n → titles ≡ take n (titles ++ more)
@@ -63,11 +63,6 @@ or_assoc : (a b c : Option (List ℕ)) → option_or (option_or a b) c ≡ optio
 or_assoc None b c = refl
 or_assoc (Some x) b c = refl
 
--- where nothing more comes, the value so far stays
-pub or_none : (a : Option (List ℕ)) → option_or a None ≡ a
-or_none None = refl
-or_none (Some x) = refl
-
 -- the first value goes on with a line
 pub first_step : (so_far : Option (List ℕ)) (name line : List ℕ) (lines : List (List ℕ))
     → option_or (option_or so_far (slice_get (non_empty_values name (line ∷ [])) 0)) (slice_get (non_empty_values name lines) 0)
@@ -78,43 +73,20 @@ first_step so_far name line lines =
     (sym (ap (λ l. slice_get l 0) (non_empty_values-append name (line ∷ []) lines)
     ∙ first-append (non_empty_values name (line ∷ [])) (non_empty_values name lines)))
 
--- a line of one name is none of another
-other_name : (a b : ℕ) (line : List ℕ) → eqb b a ≡ false → begins_with line (a ∷ 58 ∷ []) ≡ true → begins_with line (b ∷ 58 ∷ []) ≡ false
-other_name a b [] apart is = cc
-other_name a b (byte ∷ line) apart is =
-    let same : a ≡ byte = eqb-true a byte (and_parts (eqb a byte) _ is).0 in
-    let other : eqb b byte ≡ false = rw (← same) apart in
-    rw other refl
-
--- a line that gives the key is neither a title nor a rhythm
-pub key_is_no_title : (line : List ℕ) → is_key_line line ≡ true → begins_with line (codes "T:") ≡ false
-key_is_no_title line is = other_name 75 84 line refl is
-
-pub key_is_no_rhythm : (line : List ℕ) → is_key_line line ≡ true → begins_with line (codes "R:") ≡ false
-key_is_no_rhythm line is = other_name 75 82 line refl is
-
--- where the line is of this name, or is not
-pub one_value : (name line : List ℕ) → begins_with line name ≡ true → values_of name (line ∷ []) ≡ field_value line ∷ []
-one_value name line is = rw is refl
-
-pub no_value : (name line : List ℕ) → begins_with line name ≡ false → values_of name (line ∷ []) ≡ []
-no_value name line is = rw is refl
-
 -- a line that does not give the key stands in the header, before the header of the later lines
 pub header_more : (line : List ℕ) (lines : List (List ℕ)) → is_key_line line ≡ false → header_of (line ∷ lines) ≡ line ∷ header_of lines
 header_more line lines other = rw other refl
 
 -- such a line has no value of a key
-pub key_later : (line : List ℕ) (lines : List (List ℕ)) → is_key_line line ≡ false → values_of (codes "K:") (line ∷ lines) ≡ values_of (codes "K:") lines
+pub key_later : (line : List ℕ) (lines : List (List ℕ)) → is_key_line line ≡ false → first_key (line ∷ lines) ≡ first_key lines
 key_later line lines other = rw other refl
 
 -- the value of a line that gives the key comes first
-pub key_here : (line : List ℕ) (lines : List (List ℕ)) → is_key_line line ≡ true
-    → unwrap_or (slice_get (values_of (codes "K:") (line ∷ lines)) 0) [] ≡ field_value line
+pub key_here : (line : List ℕ) (lines : List (List ℕ)) → is_key_line line ≡ true → first_key (line ∷ lines) ≡ field_value line
 key_here line lines is = rw is refl
 
 -- where a line gives the key, the header ends with the first such line
-pub header_ends : (lines : List (List ℕ)) → has_key lines ≡ true → HeaderEndsWithKey lines (unwrap_or (slice_get (values_of (codes "K:") lines) 0) [])
+pub header_ends : (lines : List (List ℕ)) → has_key lines ≡ true → HeaderEndsWithKey lines (first_key lines)
 header_ends [] keyed = cc
 header_ends (line ∷ lines) keyed = ⊎_elim
     (λ is. record { before = []; line = line; header = rw is refl; none_before = refl; gives_key = is; value = sym (key_here line lines is) })
@@ -126,7 +98,7 @@ header_ends (line ∷ lines) keyed = ⊎_elim
       header = ap (λ ls. line ∷ ls) later.header ∙ sym (header_more line lines other);
       none_before = rw other later.none_before;
       gives_key = later.gives_key;
-      value = later.value ∙ ap (λ values. unwrap_or (slice_get values 0) []) (sym (key_later line lines other));
+      value = later.value ∙ sym (key_later line lines other);
     })
     (cases_Bool (is_key_line line))
 

@@ -42,9 +42,13 @@ titles_of text = take most_titles (header_values (codes "T:") text)
 abbrev pub rhythm_of : List ℕ → Option (List ℕ)
 rhythm_of text = slice_get (header_values (codes "R:") text) 0
 
+-- the value of the first of these lines that gives the key, where one does
+abbrev pub first_key : List (List ℕ) → List ℕ
+first_key lines = unwrap_or (slice_get (values_of (codes "K:") lines) 0) []
+
 -- the value of the first line that gives the key (ABC 2.1, 3.1.14), which a tune text has
 abbrev pub key_text_of : List ℕ → List ℕ
-key_text_of text = unwrap_or (slice_get (values_of (codes "K:") (lines_of text)) 0) []
+key_text_of text = first_key (lines_of text)
 
 -- the header of these lines ends with the first line that gives the key, and this is its value
 pub record HeaderEndsWithKey (lines : List (List ℕ)) (key : List ℕ) : Type 0 where

@@ -37,9 +37,8 @@ pub fn is_comment(line: &[u8]) -> bool
 }
 
 /// Whether the line after this one lies within a part between a line that begins with `%%begin` and
-/// the next that begins with `%%end`;
-/// `inside` says whether this one does (this archive's profile of ABC 2.1, 11). A part has no parts
-/// within it.
+/// the next that begins with `%%end`; `inside` says whether this one does (this archive's profile
+/// of ABC 2.1, 11). A part has no parts within it.
 pub fn in_part_after(inside: bool, line: &[u8]) -> bool
     ensures { result ≡ in_part_after inside line.now }
 {

@@ -19,7 +19,7 @@ impl Model for ByteText {
 }
 
 impl ByteText {
-    /// A copy of the bytes. The error is out of memory.
+    /// A copy of the bytes. Its only error is out of memory.
     pub fn copy_of(alloc: Global, bytes: &[u8]) -> Result<ByteText, AllocError>
         ensures { IfOk result (λ text. text ≡ bytes.now) }
     {
@@ -76,7 +76,7 @@ impl TuneText {
         self.text.as_slice()
     }
 
-    /// A copy of the text. The error is out of memory.
+    /// A copy of the text. Its only error is out of memory.
     pub fn copy(&self, alloc: Global) -> Result<TuneText, AllocError>
         ensures { IfOk result (λ text. text ≡ self.now) }
     {

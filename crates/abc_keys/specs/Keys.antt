@@ -1,5 +1,5 @@
 -- What a key text says (ABC 2.1, 3.1.14; own profile where the standard is silent).
-use Rattle.std.specs.Prelude.{◌≡◌, ℕ, ◌||◌, not, if◌then◌else◌, Bool, true, false, List, [], ◌∷◌}
+use Rattle.std.specs.Prelude.{◌≡◌, ℕ, ◌||◌, not, if◌then◌else◌, Bool, true, List, [], ◌∷◌}
 use Rattle.std.specs.Prelude.{◌++◌, codes, nat_eq, Option, Some, None, drop}
 use Rattle.std.specs.List.{prefix_len, take_while}
 use Rattle.std.specs.Cmp.Lexicographic.{pointwise}

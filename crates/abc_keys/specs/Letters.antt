@@ -1,5 +1,5 @@
 -- Which bytes name letters and accidentals, and what accidentals add (ABC 2.1, 4.1 and 4.2).
-use Rattle.std.specs.Prelude.{ℕ, ◌==◌, if◌then◌else◌, Bool, List, codes, Option, Some, None, ℤ, pos}
+use Rattle.std.specs.Prelude.{ℕ, if◌then◌else◌, List, codes, Option, Some, None, ℤ, pos}
 use Rattle.std.specs.Prelude.{negsuc}
 use Rattle.abc_fields.specs.Bytes.{is_one_of}
 use Rattle.abc_keys.specs.declared.letters.Letter.{Letter}

@@ -1,4 +1,4 @@
-// Scales, and their places on the line of fifths.
+// Scales, and how far along the line of fifths they lie.
 ghost use Rattle.std.specs.Prelude.{◌≡◌, ◌≤ℤ◌, pos, negsuc, IfSome};
 ghost use Rattle.abc_keys.specs.ScaleTable.{listed_count};
 ghost use Rattle.abc_keys.specs.Inside.Fifths.{tonic_fifths, sign_fifths, mode_fifths};

@@ -1,5 +1,6 @@
-//! The program `bench_disk`, by which a disk over a file is timed: `bench_disk FILE ROUNDS` writes 4,096 bytes at a place that moves on over 256 pages, and
-//! syncs, so many times, and prints how long the file then is.
+//! The program `bench_disk`, by which a disk over a file is timed: `bench_disk FILE ROUNDS` writes
+//! 4,096 bytes at an offset that moves on over 256 pages, and syncs, so many times, and prints how
+//! long the file then is.
 #![tactic(auto)]
 
 use std::process::ExitCode;

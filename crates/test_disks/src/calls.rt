@@ -7,7 +7,7 @@ pub(crate) fn write<D: Disk>(disk: &mut D, at: u32, bytes: &[u8; 4]) -> Result<(
     disk.write_at(at as u64, bytes)
 }
 
-/// Eight bytes from a place on.
+/// Eight bytes from an offset on.
 pub(crate) fn eight<D: Disk>(disk: &mut D, at: u32) -> Result<[u8; 8], DeviceFault> {
     let mut bytes = [0xee; 8];
     match disk.read(at as u64, &mut bytes) {

@@ -68,7 +68,8 @@ fn a_blown_fuse_fails_each_call(rt: HostRuntime) -> Result<(), Fail> {
 
 #[test]
 fn one_fault_at_each_call(rt: HostRuntime) -> Result<(), Fail> {
-    // What stands there in the end, by the call that failed: without the first write, without the second, or with both; and what is stable.
+    // What stands there in the end, by the call that failed: without the first write, without the
+    // second, or with both; and what is stable.
     let ends: [(&[u8], &[u8]); 7] = [
         (b"efghcd", b"01abcd"),
         (b"efgh", b"0123"),
@@ -82,11 +83,11 @@ fn one_fault_at_each_call(rt: HostRuntime) -> Result<(), Fail> {
         let mut disk = OneFault::new(started(&rt)?, call);
         let answered = run(&mut disk);
         for place in 0..6 {
-            // Where the first write failed, the read and the last length tell so.
-            let told = call == 1 && (place == 2 || place == 5);
+            // Where the first write failed, the read and the last length show it.
+            let shows_it = call == 1 && (place == 2 || place == 5);
             assert_eq!(rt;
                 answered[place],
-                place as u64 != call && !told,
+                place as u64 != call && !shows_it,
                 "call {place} with a fault at {call}"
             );
         }

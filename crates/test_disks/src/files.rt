@@ -7,7 +7,7 @@ use std::process::Abort;
 use std::test::Fail;
 use tune_disk::{DeviceFault, Disk, FileDisk};
 
-// The bytes of a disk at a place are these, also where the buffer held others.
+// The bytes of a disk at an offset are these, also where the buffer held others.
 fn shows<D: Disk>(
     rt: &impl Abort,
     disk: &mut D,
@@ -150,9 +150,9 @@ fn needs_leave_to_write(rt: HostRuntime) -> Result<(), Fail> {
     Ok(())
 }
 
-// `/dev/full` takes no byte and has no sync, and no memory is at the place 0.
+// `/dev/full` takes no byte and has no sync, and no memory is at the address 0.
 #[test]
-fn answers_faults_of_the_device(rt: HostRuntime) -> Result<(), Fail> {
+fn answers_faults_of_the_system(rt: HostRuntime) -> Result<(), Fail> {
     let mut full = FileDisk::open(&rt, "/dev/full")?;
     assert_eq!(rt; full.write_at(0, b"x"), Err(DeviceFault));
     assert_eq!(rt; full.sync(), Err(DeviceFault));

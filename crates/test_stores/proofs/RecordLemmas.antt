@@ -1,9 +1,10 @@
 -- Records with one more entry.
-use Rattle.std.proofs.Common.{◌≡◌, ℕ, ◌≤◌, List, [], ◌∷◌, ◌++◌, length, sym, subst, ap, ◌∙◌, arith, inl, inr, ◌⊎◌, length-append}
+use Rattle.std.proofs.Common.{◌≡◌, ℕ, ◌≤◌, List, [], ◌∷◌, ◌++◌, length, sym, ap, ◌∙◌, arith, inl, inr, ◌⊎◌, length-append}
 use Rattle.std.proofs.lemmas.Bool.{cases_lt}
 use Rattle.std.proofs.lemmas.List.{get_or_append_left, get_or_push}
 use Rattle.tune_store.specs.State.{State}
 use Rattle.tune_store.specs.Stops.{Among, StandsForOne}
+use Rattle.tune_store.proofs.StopLemmas.{stands_among}
 use Rattle.test_stores.specs.Record.{LeftSince, IsOfCount, EndsAt, last_place}
 
 -- RECORDS
@@ -12,7 +13,8 @@ ends_push : (entries : List ℕ) (number : ℕ) (state : State) → length state
 ends_push entries number state e = get_or_push entries number 0 _ (omega (arith, length-append entries (number ∷ []))) ∙ sym e
 
 -- a file of a record with one more entry is one of the record, or of the entry
-left_push : (entries : List ℕ) (number since : ℕ) (file : List ℕ) → LeftSince (entries ++ number ∷ []) since file → LeftSince entries since file ⊎ (file ≡ number ∷ [])
+left_push : (entries : List ℕ) (number since : ℕ) (file : List ℕ) → LeftSince (entries ++ number ∷ []) since file
+    → LeftSince entries since file ⊎ (file ≡ number ∷ [])
 left_push entries number since file left = elim (cases_lt left.place (length entries)) [
   | inl before ↦
       let same = get_or_append_left entries (number ∷ []) 0 left.place before in
@@ -23,19 +25,16 @@ left_push entries number since file left = elim (cases_lt left.place (length ent
       inr (left.entry ∙ ap (λ entry. entry ∷ []) (get_or_push entries number 0 left.place last))
 ]
 
--- a file that stands for a state stands for one of the states that it is among
-pub stands_among : (stands_for : List ℕ → State → Type 0) (state : State) (states : List State) (file : List ℕ) → stands_for file state → Among state states → StandsForOne stands_for states file
-stands_among stands_for state [] file stands among = among
-stands_among stands_for state (other ∷ others) file stands among = elim among [
-  | inl same ↦ inl (subst (λ one. stands_for file one) same stands)
-  | inr later ↦ inr (stands_among stands_for state others file stands later)
-]
-
 -- a record with more entries has the files that it had
 left_before_push : (entries more : List ℕ) (since : ℕ) (file : List ℕ) → LeftSince entries since file → LeftSince (entries ++ more) since file
 left_before_push entries more since file left =
     let within = left.within in
-    record { place = left.place; from = left.from; within = omega (arith, length-append entries more); entry = left.entry ∙ ap (λ entry. entry ∷ []) (sym (get_or_append_left entries more 0 left.place left.within)) }
+    record {
+      place = left.place;
+      from = left.from;
+      within = omega (arith, length-append entries more);
+      entry = left.entry ∙ ap (λ entry. entry ∷ []) (sym (get_or_append_left entries more 0 left.place left.within));
+    }
 
 -- what a record owes where its store goes from a state to another by these
 pub record Goes (entries later : List ℕ) (old new : State) (states : List State) : Type 0 where
@@ -46,7 +45,8 @@ pub record Goes (entries later : List ℕ) (old new : State) (states : List Stat
   pub leaves : (since : ℕ) (file : List ℕ) → LeftSince later since file → LeftSince entries since file ⊎ StandsForOne IsOfCount (old ∷ states) file
 
 -- a record with how many tunes there are as one more entry
-pub pushes : (entries later : List ℕ) (old new : State) (states : List State) (number : ℕ) → Among new (old ∷ states) → length new.tunes ≡ number → later ≡ entries ++ number ∷ [] → Goes entries later old new states
+pub pushes : (entries later : List ℕ) (old new : State) (states : List State) (number : ℕ) → Among new (old ∷ states) → length new.tunes ≡ number
+    → later ≡ entries ++ number ∷ [] → Goes entries later old new states
 pushes entries later old new states number among e pushed = rw pushed (record {
   reaches = among;
   stays_sound = λ sound. ends_push entries number new e;
@@ -54,6 +54,6 @@ pushes entries later old new states number among e pushed = rw pushed (record {
   is_later = omega (arith, length-append entries (number ∷ []));
   leaves = λ since file left. elim (left_push entries number since file left) [
     | inl before ↦ inl before
-    | inr one ↦ inr (stands_among IsOfCount new (old ∷ states) file (one ∙ ap (λ entry. entry ∷ []) (sym e)) among)
+    | inr one ↦ inr (stands_among IsOfCount new (old ∷ states) file among (one ∙ ap (λ entry. entry ∷ []) (sym e)))
   ];
 })

@@ -1,6 +1,5 @@
 -- A record of what a device has held: a file of one number in each entry.
 use Rattle.std.specs.Prelude.{◌≡◌, ℕ, ◌-◌, ◌<◌, ◌≤◌, List, [], ◌∷◌, length, slice_index}
-use Rattle.std.proofs.Common.{ap, ◌∙◌, arith}
 use Rattle.tune_store.specs.State.{State}
 
 -- the place of the last entry
@@ -21,11 +20,3 @@ IsOfCount file state = file ≡ length state.tunes ∷ []
 -- the last entry is how many tunes the state has
 abbrev pub EndsAt : List ℕ → State → Type 0
 EndsAt entries state = slice_index entries (last_place entries) ≡ length state.tunes
-
--- a file of the last entry stands for the state
-pub settles : (entries : List ℕ) (state : State) (file : List ℕ) → EndsAt entries state → LeftSince entries (last_place entries) file → IsOfCount file state
-settles entries state file ends left =
-    let from = left.from in
-    let within = left.within in
-    let last : left.place ≡ last_place entries = omega arith in
-    left.entry ∙ ap (λ place. slice_index entries place ∷ []) last ∙ ap (λ number. number ∷ []) ends

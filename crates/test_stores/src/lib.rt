@@ -1,5 +1,5 @@
-//! A store that is not in memory alone: it keeps a record of what a device held, and so shows that what the trait of stores says of
-//! stops can be met by a store whose stops leave something.
+//! A store that is not in memory alone: it keeps a record of what a device held, and so shows that
+//! what the trait of stores says of stops can be met by a store whose stops leave something.
 #![tactic(auto)]
 
 mod any_store;

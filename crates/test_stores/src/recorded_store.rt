@@ -1,13 +1,15 @@
 // A store whose stops leave something.
 ghost use Rattle.std.specs.Prelude.{◌≡◌, ◌+◌, ◌<◌, ◌≤◌, [], ◌∷◌, ◌++◌, false, IfOk, vec_len};
 ghost use Rattle.std.specs.Vec.{vec_capacity};
-ghost use Rattle.test_stores.specs.Record.{LeftSince, IsOfCount, EndsAt, last_place, settles};
+ghost use Rattle.test_stores.specs.Record.{LeftSince, IsOfCount, EndsAt, last_place};
+ghost use Rattle.test_stores.specs.Inside.Settling.{settles};
 
 use std::alloc::{AllocError, Global};
 use tune_store::{Command, ListArchive, Refusal, Reply, TuneStore};
 
-/// A fake store: an archive in memory, and the record of a device that holds one number, how many tunes there are.
-/// Each accepted command writes it, and each entry is a file that a stop may have left: the last now, the others earlier.
+/// A fake store: an archive in memory, and the record of a device that holds one number, how many
+/// tunes there are. Each accepted command writes it, and each entry is a file that a stop may have
+/// left: the last now, the others earlier.
 #[derive(Drop)]
 pub struct RecordedStore {
     archive: ListArchive,
@@ -15,9 +17,10 @@ pub struct RecordedStore {
 }
 
 impl RecordedStore {
-    /// A store without a tune, whose record begins with that. The error is want of memory.
+    /// A store without a tune, whose record begins with that. The error is out of memory.
     pub fn new(alloc: Global) -> Result<RecordedStore, AllocError>
-        ensures standing { IfOk result (λ store. ⟦<RecordedStore as TuneStore>⟧.standing store ≡ record { state = record { tunes = [] }; closed = false }) }
+        ensures standing { IfOk result (λ store. ⟦<RecordedStore as TuneStore>⟧.standing store
+            ≡ record { state = record { tunes = [] }; closed = false }) }
         ensures entries { IfOk result (λ store. store.entries.items ≡ 0 ∷ []) }
         ensures sound { IfOk result (λ store. ⟦<RecordedStore as TuneStore>⟧.sound store) }
     {
@@ -48,7 +51,8 @@ impl TuneStore for RecordedStore {
 
     ghost stands_for = { IsOfCount };
 
-    ghost settled = { λ store file sound honest is_open left. settles store.entries.items store.archive file sound left };
+    ghost settled = { λ store file sound honest is_open left.
+        settles store.entries.items store.archive file sound left };
 
     fn apply(&mut self, command: &Command) -> Result<Reply, Refusal> {
         self.entries.reserve(1)?;

@@ -1,4 +1,5 @@
--- What a written book is, byte for byte: a line that says which abc this is, and the tunes, each after an empty line (ABC 2.1, 2.1 and 2.2).
+-- What a written book is, byte for byte: a line that says which abc this is, and the tunes, each
+-- after an empty line (ABC 2.1, 2.1 and 2.2).
 use Rattle.std.specs.Prelude.{ℕ, List, [], ◌∷◌, ◌++◌, codes, decimal}
 
 -- the line by which a reader knows the file (ABC 2.1, 2.1)
@@ -9,11 +10,13 @@ book_header = codes "%abc-2.1\n"
 abbrev pub written_tune : ℕ → List ℕ → List ℕ
 written_tune number text = codes "X:" ++ decimal number ++ codes "\n" ++ text
 
--- the tunes of these numbers and texts, in order, each after an empty line; what one list has beyond the end of the other is not written
+-- the tunes of these numbers and texts, in order, each after an empty line; what one list has
+-- beyond the end of the other is not written
 abbrev pub written_tunes : List ℕ → List (List ℕ) → List ℕ
 written_tunes [] texts = []
 written_tunes (number ∷ numbers) [] = []
-written_tunes (number ∷ numbers) (text ∷ texts) = (codes "\n" ++ written_tune number text) ++ written_tunes numbers texts
+written_tunes (number ∷ numbers) (text ∷ texts) =
+    (codes "\n" ++ written_tune number text) ++ written_tunes numbers texts
 
 -- a book: its first line, and its tunes
 abbrev pub written_book : List ℕ → List (List ℕ) → List ℕ

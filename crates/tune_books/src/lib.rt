@@ -1,9 +1,9 @@
 //! Writes ABC books: a line that says which abc this is, and the tunes, each after an empty line.
 //!
-//! The form is that of the abc music standard 2.1, sections 2.1 and 2.2, with this archive's profile where the
-//! standard is silent.
+//! The form is that of the abc music standard 2.1, sections 2.1 and 2.2, with this archive's
+//! profile where the standard is silent.
 #![tactic(auto)]
 
-mod writer;
+mod book_writer;
 
-pub use writer::{BookWriter, write_book};
+pub use book_writer::{BookWriter, write_book};

@@ -1,33 +1,6 @@
 -- What a disk in memory stands for after a write or a sync.
-use Rattle.std.proofs.Common.{
-  ◌≡◌,
-  inl,
-  ℕ,
-  List,
-  [],
-  ◌∷◌,
-  ◌++◌,
-  length,
-  take,
-  get_or,
-  refl,
-  sym,
-  ◌∙◌,
-  ap,
-  subst,
-  Result,
-  Ok,
-  Err,
-  is_ok,
-  IfOk,
-  OnOk,
-  OnErr,
-  Vec,
-  Global,
-  ◌<◌,
-  ◌+◌,
-  arith,
-}
+use Rattle.std.proofs.Common.{◌≡◌, inl, ℕ, List, [], ◌∷◌, ◌++◌, length, take, get_or, refl, sym, ◌∙◌, ap, subst, Result, Ok, Err, is_ok, IfOk, OnOk, OnErr, Vec}
+use Rattle.std.proofs.Common.{Global, ◌<◌, ◌+◌, arith}
 use Rattle.std.proofs.lemmas.List.{take_more}
 use Rattle.tune_disk.specs.Bytes.{put}
 use Rattle.tune_disk.specs.Disk.{Medium, DiskState, MayLeave, Written, GoesTo, Writes, Syncs, fresh, touched}

@@ -9,7 +9,8 @@ part_reaches part_at zero at n long from to = longer_after at n long
 part_reaches part_at (suc part) at zero long from to = absurd (omega arith)
 part_reaches part_at (suc part) at (suc n) long from to = omega arith
 
-pub within_write : (m : Medium) (at n part_at part : ℕ) → IsPart part_at part at n → (file : List ℕ) → MayLeave (touched part_at part m) file → MayLeave (touched at n m) file
+pub within_write : (m : Medium) (at n part_at part : ℕ) → IsPart part_at part at n → (file : List ℕ)
+    → MayLeave (touched part_at part m) file → MayLeave (touched at n m) file
 within_write m at n part_at part within file left = record {
   no_shorter = left.no_shorter;
   no_longer = omega (arith, left.no_longer, part_reaches part_at part at n m.reach within.0 within.1);

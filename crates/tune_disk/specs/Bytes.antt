@@ -1,17 +1,5 @@
 -- Writes over the bytes of a file.
-use Rattle.std.specs.Prelude.{
-  ℕ,
-  ◌+◌,
-  ◌-◌,
-  List,
-  [],
-  ◌∷◌,
-  ◌++◌,
-  length,
-  take,
-  drop,
-  replicate,
-}
+use Rattle.std.specs.Prelude.{ℕ, ◌+◌, ◌-◌, List, [], ◌∷◌, ◌++◌, length, take, drop, replicate}
 
 -- the file with zeros behind it, up to this length
 abbrev pub filled : ℕ → List ℕ → List ℕ

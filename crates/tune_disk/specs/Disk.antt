@@ -1,25 +1,7 @@
 -- A disk as contracts see it: what a read gives, and which files a stop (a crash or power loss) may
 -- leave.
-use Rattle.std.specs.Prelude.{
-  ◌≡◌,
-  ◌⊎◌,
-  ℕ,
-  zero,
-  suc,
-  ◌+◌,
-  ◌-◌,
-  ◌^◌,
-  ◌<◌,
-  ◌≤◌,
-  max,
-  List,
-  [],
-  ◌∷◌,
-  length,
-  slice_index,
-  Result,
-  MatchResult,
-}
+use Rattle.std.specs.Prelude.{◌≡◌, ◌⊎◌, ℕ, zero, suc, ◌+◌, ◌-◌, ◌^◌, ◌<◌, ◌≤◌, max, List, [], ◌∷◌}
+use Rattle.std.specs.Prelude.{length, slice_index, Result, MatchResult}
 
 -- What may be on the disk: what the last sync left, the ranges written since as (offset, length),
 -- and the greatest length since.

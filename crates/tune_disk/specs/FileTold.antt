@@ -1,30 +1,10 @@
 -- What a file of the operating system told, one answer after another, and what it then stands for.
-use Rattle.std.specs.Prelude.{
-  ◌≡◌,
-  ℕ,
-  ◌+◌,
-  ◌≤◌,
-  List,
-  [],
-  ◌∷◌,
-  ◌++◌,
-  length,
-  slice_index,
-  get_or,
-}
+use Rattle.std.specs.Prelude.{◌≡◌, ℕ, ◌+◌, ◌≤◌, List, [], ◌∷◌, ◌++◌, length, slice_index, get_or}
 use Rattle.tune_disk.specs.Bytes.{put}
 use Rattle.tune_disk.specs.Disk.{DiskState, Torn, touched, settled, fresh}
 use Rattle.tune_disk.specs.declared.file.told.Told.{Told}
-use Rattle.tune_disk.specs.declared.file.told.Told.TheVariants.{
-  Length,
-  Byte,
-  Ended,
-  Begun,
-  Put,
-  Wrote,
-  Broke,
-  Synced,
-}
+use Rattle.tune_disk.specs.declared.file.told.Told.TheVariants.{Length, Byte, Ended, Begun, Put}
+use Rattle.tune_disk.specs.declared.file.told.Told.TheVariants.{Wrote, Broke, Synced}
 
 -- What nothing that a file tells says of it.
 pub record History : Type 0 where

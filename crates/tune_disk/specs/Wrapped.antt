@@ -1,18 +1,5 @@
 -- Disks that fail some calls of the disk within them.
-use Rattle.std.specs.Prelude.{
-  ◌≡◌,
-  ℕ,
-  zero,
-  suc,
-  ◌+◌,
-  ◌-◌,
-  ◌<◌,
-  Option,
-  Some,
-  None,
-  Result,
-  IsErr,
-}
+use Rattle.std.specs.Prelude.{◌≡◌, ℕ, zero, suc, ◌+◌, ◌-◌, ◌<◌, Option, Some, None, Result, IsErr}
 use Rattle.tune_disk.specs.Disk.{DiskState, CountsFailure}
 
 -- a disk behind a fuse: how many calls pass yet, and how often the fuse itself has failed

@@ -42,7 +42,8 @@ pub trait Disk: Drop {
     /// were to stand.
     fn write_at(&mut self, at: u64, bytes: &[u8]) -> Result<(), DeviceFault>
         requires { at + length bytes.now ≤ 2 ^ 40 }
-        ensures write { honest self.new → Writes at bytes.now result (state self.old) (state self.new) }
+        ensures write { honest self.new
+            → Writes at bytes.now result (state self.old) (state self.new) }
         ensures calls { Calls honest failures result self.old self.new };
 
     /// Makes what was written stable: a stop then leaves just that. After a fault nothing is more
@@ -52,5 +53,6 @@ pub trait Disk: Drop {
         ensures calls { Calls honest failures result self.old self.new };
 
     /// What a read gives is one of the files that a stop may leave.
-    ghost seen_may_stay: { (disk : Self) → honest disk → MayLeave (state disk).now (state disk).seen };
+    ghost seen_may_stay: { (disk : Self) → honest disk
+        → MayLeave (state disk).now (state disk).seen };
 }

@@ -1,19 +1,6 @@
 // A disk over a file of the operating system.
-ghost use Rattle.std.specs.Prelude.{
-  ◌≡◌,
-  ◌≢◌,
-  ◌+◌,
-  ◌^◌,
-  ◌≤◌,
-  length,
-  [],
-  IfOk,
-  OnOk,
-  OnErr,
-  IfSome,
-  IsErr,
-  MatchResult,
-};
+ghost use Rattle.std.specs.Prelude.{◌≡◌, ◌≢◌, ◌+◌, ◌^◌, ◌≤◌, length, [], IfOk, OnOk, OnErr, IfSome};
+ghost use Rattle.std.specs.Prelude.{IsErr, MatchResult};
 ghost use Rattle.std.specs.Path.{path_parent};
 ghost use Rattle.tune_disk.specs.Disk.{CountsFailure};
 ghost use Rattle.tune_disk.specs.Inside.ToldMore.{IsToldRead, IsToldMore};
@@ -45,8 +32,8 @@ pub struct FileDisk {
 impl FileDisk {
     ghost use Rattle.tune_disk.specs.FileDisk.{HasJustOpened};
 
-    /// The file at this path, as it is. A fault where there is none, or where it may not be read and
-    /// written.
+    /// The file at this path, as it is. A fault where there is none, or where it may not be read
+    /// and written.
     pub fn open<R: Files<File = File>, P: AsPath>(rt: &R, path: P) -> Result<FileDisk, DeviceFault>
         ensures { IfOk result HasJustOpened }
     {
@@ -152,7 +139,8 @@ fn counted<T: Drop>(done: io::Result<T>, failed: &mut u64) -> Result<T, DeviceFa
 // Reads until all the bytes are there; past the end of the file they are zeros.
 fn read_all(file: &File, log: &mut Log<u64, Told>, at: u64, into: &mut [u8]) -> io::Result<()>
     requires { at + length into.old ≤ 2 ^ 40 }
-    ensures ok { OnOk result (IsToldRead at (length into.new) into.new log.old.items log.new.items) }
+    ensures ok { OnOk result
+        (IsToldRead at (length into.new) into.new log.old.items log.new.items) }
     ensures err { OnErr result (IsToldMore log.old.items log.new.items) }
 {
     let size = into.len();

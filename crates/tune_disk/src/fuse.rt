@@ -24,7 +24,8 @@ impl<D: Disk> Model for FuseDisk<D> {
 
     ghost coded = { fused_code D.code };
 
-    ghost view = { λ fuse. record { disk = fuse.disk; calls_left = fuse.calls_left; failed = fuse.failed } };
+    ghost view = { λ fuse.
+        record { disk = fuse.disk; calls_left = fuse.calls_left; failed = fuse.failed } };
 }
 
 impl<D: Disk> FuseDisk<D> {
@@ -78,8 +79,10 @@ impl<D: Disk> Disk for FuseDisk<D> {
     ghost seen_may_stay = { λ fuse. D.Disk.seen_may_stay fuse.disk };
 
     fn len(&mut self) -> Result<u64, DeviceFault>
-        ensures len { IfOk result (λ n. D.honest self.new.disk → n ≡ length (D.state self.old.disk).seen) }
-        ensures looks { Looks (fused_honest D.honest) (fused_failures D.failures) (fused_state D.state)
+        ensures len { IfOk result (λ n. D.honest self.new.disk
+            → n ≡ length (D.state self.old.disk).seen) }
+        ensures looks { Looks
+            (fused_honest D.honest) (fused_failures D.failures) (fused_state D.state)
             result self.old self.new }
         ensures burns { Burns D.failures result self.old self.new }
     {
@@ -89,8 +92,10 @@ impl<D: Disk> Disk for FuseDisk<D> {
 
     fn read(&mut self, at: u64, into: &mut [u8]) -> Result<(), DeviceFault>
         requires { at + length into.old ≤ 2 ^ 40 }
-        ensures read { OnOk result (D.honest self.new.disk → Shows (D.state self.old.disk).seen at into.new) }
-        ensures looks { Looks (fused_honest D.honest) (fused_failures D.failures) (fused_state D.state)
+        ensures read { OnOk result (D.honest self.new.disk
+            → Shows (D.state self.old.disk).seen at into.new) }
+        ensures looks { Looks
+            (fused_honest D.honest) (fused_failures D.failures) (fused_state D.state)
             result self.old self.new }
         ensures burns { Burns D.failures result self.old self.new }
     {
@@ -102,7 +107,8 @@ impl<D: Disk> Disk for FuseDisk<D> {
         requires { at + length bytes.now ≤ 2 ^ 40 }
         ensures write { D.honest self.new.disk
             → Writes at bytes.now result (D.state self.old.disk) (D.state self.new.disk) }
-        ensures calls { Calls (fused_honest D.honest) (fused_failures D.failures) result self.old self.new }
+        ensures calls { Calls
+            (fused_honest D.honest) (fused_failures D.failures) result self.old self.new }
         ensures burns { Burns D.failures result self.old self.new }
     {
         // A blown fuse writes nothing.
@@ -111,8 +117,10 @@ impl<D: Disk> Disk for FuseDisk<D> {
     }
 
     fn sync(&mut self) -> Result<(), DeviceFault>
-        ensures sync { D.honest self.new.disk → Syncs result (D.state self.old.disk) (D.state self.new.disk) }
-        ensures calls { Calls (fused_honest D.honest) (fused_failures D.failures) result self.old self.new }
+        ensures sync { D.honest self.new.disk
+            → Syncs result (D.state self.old.disk) (D.state self.new.disk) }
+        ensures calls { Calls
+            (fused_honest D.honest) (fused_failures D.failures) result self.old self.new }
         ensures burns { Burns D.failures result self.old self.new }
     {
         spend(&mut self.calls_left, &mut self.failed)?;

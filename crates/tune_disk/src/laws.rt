@@ -1,14 +1,7 @@
 // What stops may leave, in the subject's own words.
 ghost use Rattle.std.specs.Prelude.{◌≡◌, ◌<◌, ◌≤◌, ℕ, List, length, slice_index};
-ghost use Rattle.tune_disk.specs.Disk.{
-  Medium,
-  DiskState,
-  MayLeave,
-  GoesTo,
-  Untouched,
-  settled,
-  touched,
-};
+ghost use Rattle.tune_disk.specs.Disk.{Medium, DiskState, MayLeave, GoesTo, Untouched, settled};
+ghost use Rattle.tune_disk.specs.Disk.{touched};
 ghost use Rattle.tune_disk.specs.Stops.{LeavesOnly, IsPart};
 
 use crate::Disk;
@@ -28,8 +21,9 @@ pub fn law_of_stops<D: Disk>(disk: &D)
     ensures before_write { (m : Medium) (at n : ℕ) → LeavesOnly m (MayLeave (touched at n m)) }
     // What a stop may leave agrees with the stable content at each byte that no write since has
     // touched, and is no shorter.
-    ensures untouched { (m : Medium) (file : List ℕ) → MayLeave m file → (i : ℕ) → i < length m.stable
-        → Untouched m.written i → slice_index file i ≡ slice_index m.stable i }
+    ensures untouched { (m : Medium) (file : List ℕ) → MayLeave m file
+        → (i : ℕ) → i < length m.stable → Untouched m.written i
+        → slice_index file i ≡ slice_index m.stable i }
     ensures no_shorter { (m : Medium) → LeavesOnly m (λ file. length m.stable ≤ length file) }
 {
     let _ = disk;

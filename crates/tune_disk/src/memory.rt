@@ -1,22 +1,6 @@
 // A disk in memory, which keeps a record of its writes and syncs.
-ghost use Rattle.std.specs.Prelude.{
-  ◌≡◌,
-  ◌∷◌,
-  ◌++◌,
-  [],
-  ◌<◌,
-  ◌≤◌,
-  ◌^◌,
-  ◌+◌,
-  IfOk,
-  OnOk,
-  OnErr,
-  IsOk,
-  is_ok,
-  length,
-  take,
-  drop,
-};
+ghost use Rattle.std.specs.Prelude.{◌≡◌, ◌∷◌, ◌++◌, [], ◌<◌, ◌≤◌, ◌^◌, ◌+◌, IfOk, OnOk, OnErr};
+ghost use Rattle.std.specs.Prelude.{IsOk, is_ok, length, take, drop};
 ghost use Rattle.tune_disk.specs.Disk.{Written, Writes, Shows, CountsFailure};
 ghost use Rattle.tune_disk.specs.Bytes.{filled};
 ghost use Rattle.tune_disk.specs.Records.{state_of};
@@ -95,7 +79,8 @@ impl MemoryDisk {
     /// One of the files that a stop may leave now, as a disk that holds just that. An error comes
     /// out of memory alone.
     pub fn stopped(&self, choice: StopChoice) -> Result<MemoryDisk, AllocError>
-        ensures file { IfOk result (λ disk. MayLeave (memory_state self.now).now (memory_state disk).seen) }
+        ensures file { IfOk result (λ disk.
+            MayLeave (memory_state self.now).now (memory_state disk).seen) }
         ensures fresh { IfOk result (λ disk. memory_state disk ≡ fresh (memory_state disk).seen) }
         ensures lost { IfOk result (λ disk. choice ≡ StopChoice.Lost
             → (memory_state disk).seen ≡ (memory_state self.now).now.stable) }
@@ -162,9 +147,11 @@ impl Disk for MemoryDisk {
     // A fault changes nothing.
     fn write_at(&mut self, at: u64, bytes: &[u8]) -> Result<(), DeviceFault>
         requires { at + length bytes.now ≤ 2 ^ 40 }
-        ensures write { Writes at bytes.now result (memory_state self.old) (memory_state self.new) }
+        ensures write { Writes
+            at bytes.now result (memory_state self.old) (memory_state self.new) }
         ensures err { OnErr result (memory_state self.new ≡ memory_state self.old) }
-        ensures failures { CountsFailure result (memory_failures self.old) (memory_failures self.new) }
+        ensures counted { CountsFailure
+            result (memory_failures self.old) (memory_failures self.new) }
     {
         let done = write_and_record(self.alloc, &mut self.content, &mut self.records, at, bytes);
         count(done, &mut self.failed)

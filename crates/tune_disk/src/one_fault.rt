@@ -1,14 +1,8 @@
 // A disk of which one call fails.
 ghost use Rattle.std.specs.Prelude.{◌≡◌, ◌+◌, ◌≤◌, ◌^◌, ◌↔◌, Some, IsErr, IfOk, OnOk, length};
 ghost use Rattle.tune_disk.specs.Disk.{CountsFailure, Calls, Looks, Shows, Writes, Syncs};
-ghost use Rattle.tune_disk.specs.Wrapped.{
-  FailsOnce,
-  faults_past,
-  one_call_on,
-  faulted_state,
-  faulted_honest,
-  faulted_failures,
-};
+ghost use Rattle.tune_disk.specs.Wrapped.{FailsOnce, faults_past, one_call_on, faulted_state};
+ghost use Rattle.tune_disk.specs.Wrapped.{faulted_honest, faulted_failures};
 
 use crate::{DeviceFault, Disk};
 use std::marker::Model;
@@ -59,7 +53,8 @@ impl<D: Disk> OneFault<D> {
 
 // Counts one call, which fails where its turn has come.
 fn count_down(calls_before: &mut Option<u64>) -> Result<(), DeviceFault>
-    ensures counted { CountsFailure result (faults_past calls_before.old) (faults_past calls_before.new) }
+    ensures counted { CountsFailure
+        result (faults_past calls_before.old) (faults_past calls_before.new) }
     ensures due { IsErr result ↔ (calls_before.old ≡ Some 0) }
     ensures before { calls_before.new ≡ one_call_on calls_before.old }
 {
@@ -86,8 +81,10 @@ impl<D: Disk> Disk for OneFault<D> {
     ghost seen_may_stay = { λ fault. D.Disk.seen_may_stay fault.disk };
 
     fn len(&mut self) -> Result<u64, DeviceFault>
-        ensures len { IfOk result (λ n. D.honest self.new.disk → n ≡ length (D.state self.old.disk).seen) }
-        ensures looks { Looks (faulted_honest D.honest) (faulted_failures D.failures) (faulted_state D.state)
+        ensures len { IfOk result (λ n. D.honest self.new.disk
+            → n ≡ length (D.state self.old.disk).seen) }
+        ensures looks { Looks
+            (faulted_honest D.honest) (faulted_failures D.failures) (faulted_state D.state)
             result self.old self.new }
         ensures once { FailsOnce D.failures result self.old self.new }
     {
@@ -97,8 +94,10 @@ impl<D: Disk> Disk for OneFault<D> {
 
     fn read(&mut self, at: u64, into: &mut [u8]) -> Result<(), DeviceFault>
         requires { at + length into.old ≤ 2 ^ 40 }
-        ensures read { OnOk result (D.honest self.new.disk → Shows (D.state self.old.disk).seen at into.new) }
-        ensures looks { Looks (faulted_honest D.honest) (faulted_failures D.failures) (faulted_state D.state)
+        ensures read { OnOk result (D.honest self.new.disk
+            → Shows (D.state self.old.disk).seen at into.new) }
+        ensures looks { Looks
+            (faulted_honest D.honest) (faulted_failures D.failures) (faulted_state D.state)
             result self.old self.new }
         ensures once { FailsOnce D.failures result self.old self.new }
     {
@@ -110,7 +109,8 @@ impl<D: Disk> Disk for OneFault<D> {
         requires { at + length bytes.now ≤ 2 ^ 40 }
         ensures write { D.honest self.new.disk
             → Writes at bytes.now result (D.state self.old.disk) (D.state self.new.disk) }
-        ensures calls { Calls (faulted_honest D.honest) (faulted_failures D.failures) result self.old self.new }
+        ensures calls { Calls
+            (faulted_honest D.honest) (faulted_failures D.failures) result self.old self.new }
         ensures once { FailsOnce D.failures result self.old self.new }
     {
         // The call that fails writes nothing.
@@ -119,8 +119,10 @@ impl<D: Disk> Disk for OneFault<D> {
     }
 
     fn sync(&mut self) -> Result<(), DeviceFault>
-        ensures sync { D.honest self.new.disk → Syncs result (D.state self.old.disk) (D.state self.new.disk) }
-        ensures calls { Calls (faulted_honest D.honest) (faulted_failures D.failures) result self.old self.new }
+        ensures sync { D.honest self.new.disk
+            → Syncs result (D.state self.old.disk) (D.state self.new.disk) }
+        ensures calls { Calls
+            (faulted_honest D.honest) (faulted_failures D.failures) result self.old self.new }
         ensures once { FailsOnce D.failures result self.old self.new }
     {
         count_down(&mut self.calls_before)?;

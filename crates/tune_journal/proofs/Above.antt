@@ -1,4 +1,4 @@
--- For the crates above: calls that take a disk, one after another, what an opening keeps, and what changes make of a page.
+-- For the crates above: what an opening keeps, and what changes make of a page.
 use Rattle.std.proofs.Common.{◌≡◌, ◌≢◌, inl, inr, ℕ, ◌-◌, ◌<◌, ◌≤◌, List, [], ◌∷◌, ◌++◌, length, get_or, map, replicate, set, Some, None, refl, sym, ◌∙◌, ap, subst, arith, length-append}
 use Rattle.std.proofs.lemmas.List.{get_or-set_same, get_or-set_other, get_or_append_left, length-set, length-replicate}
 use Rattle.std.specs.List.Sorted.{IsStrictlyIncreasing}
@@ -6,24 +6,15 @@ use Rattle.std.proofs.lemmas.Bool.Decides.{nat_tests}
 use Rattle.std.proofs.lemmas.Bool.{cases_eq}
 use Rattle.tune_disk.specs.Disk.{DiskState, MayLeave}
 use Rattle.tune_disk.specs.Stops.{LeavesOnly, SinceThen}
-use Rattle.tune_disk.specs.Moments.{since_then, since_weaker}
-use Rattle.tune_journal.specs.ChangeList.{image_of, AreAbove, PagesRise}
+use Rattle.tune_disk.proofs.Moments.{since_weaker}
+use Rattle.tune_journal.specs.ChangeList.{image_of}
 use Rattle.tune_journal.specs.Image.{StandsFor, gate_of}
+use Rattle.tune_journal.specs.Inside.ChangeOrder.{AreAbove, PagesRise}
+use Rattle.tune_journal.specs.Layout.{gate_open}
+use Rattle.tune_journal.specs.Moments.{LeftOrSame}
 use Rattle.tune_journal.specs.Pages.{page_at, changed, pages_after}
 use Rattle.tune_journal.proofs.ChangeLists.{rises_from_increasing, image_of_none}
 use Rattle.tune_journal.proofs.Changed.{length-changed}
-use Rattle.tune_journal.specs.Moments.{Goes, LeftOrSame}
-use Rattle.tune_journal.specs.Layout.{gate_open}
-
-module _ {D : Type 0} (honest : D → Type 0) (state : D → DiskState) where
-  pub goes_then : (a b c : D) (P : List ℕ → Type 0) → Goes honest state a b P → Goes honest state b c P → Goes honest state a c P
-  goes_then a b c P s t = record {
-    before = λ h. s.before (t.before h);
-    since = λ h. since_then P (state a) (state b) (state c) (s.since (t.before h)) (t.since h);
-  }
-
-  pub goes_as : (a b : D) (P Q : List ℕ → Type 0) → Goes honest state a b P → (honest b → (c : List ℕ) → P c → Q c) → Goes honest state a b Q
-  goes_as a b P Q s so = record { before = s.before; since = λ h. since_weaker P Q (so h) (state a) (state b) (s.since h) }
 
 -- A file stands for one list of pages at most.
 pub stands_once : (a b : List (List ℕ)) (file : List ℕ) → StandsFor a file → StandsFor b file → a ≡ b

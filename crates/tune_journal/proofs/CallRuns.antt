@@ -1,9 +1,10 @@
 -- Runs of writes that end with a sync.
 use Rattle.std.proofs.Common.{◌≡◌, ℕ, List, [], ◌∷◌, length, get_or, sym, ◌∙◌, ap, subst, arith, Result, Ok, Err, OnOk}
 use Rattle.tune_disk.specs.Disk.{DiskState, Written, Writes, Syncs, settled}
-use Rattle.tune_disk.specs.Stops.{Spares, SinceThen, Agrees}
-use Rattle.tune_disk.specs.Moments.{since_now, spares_then, spares_fewer, spares_write, spares_since, since_then, settled_leaves}
-use Rattle.tune_journal.specs.Phases.{Settles, WritesAndSyncs, IsOutside}
+use Rattle.tune_disk.specs.Inside.Spares.{Spares, Agrees}
+use Rattle.tune_disk.specs.Stops.{SinceThen}
+use Rattle.tune_disk.proofs.Moments.{since_now, spares_then, spares_fewer, spares_write, spares_since, since_then, settled_leaves}
+use Rattle.tune_journal.specs.Inside.Phases.{Settles, WritesAndSyncs, IsOutside}
 
 pub writes_fewer : {T E : Type 0} (Kept Fewer : ℕ → Type 0) (r : Result T E) (a b : DiskState) → ((i : ℕ) → Fewer i → Kept i) → WritesAndSyncs Kept r a b → WritesAndSyncs Fewer r a b
 writes_fewer Kept Fewer (Ok t) a b f w = record { mid = w.mid; spares = spares_fewer Kept Fewer a w.mid f w.spares; seen = w.seen; goes = w.goes }

@@ -9,8 +9,9 @@ use Rattle.std.proofs.lemmas.Map.Keys.{sorted_head, sorted_tail, sorted_from_str
 use Rattle.std.proofs.lemmas.Bool.{cases_order}
 use Rattle.std.proofs.lemmas.Bool.Decides.{nat_tests}
 use Rattle.tune_journal.specs.declared.changes.ChangedPage.{ChangedPage}
-use Rattle.tune_journal.specs.Listed.{change_in, listed}
-use Rattle.tune_journal.specs.ChangeList.{IsChangeList, with_change, image_of, change_at, changed_page, AreBelow, AreAbove, PagesRise, FoundAt, MissingAt}
+use Rattle.tune_journal.specs.ChangeList.{with_change, image_of, change_at, changed_page}
+use Rattle.tune_journal.specs.Inside.ChangeOrder.{IsChangeList, AreBelow, AreAbove, PagesRise, FoundAt, MissingAt}
+use Rattle.tune_journal.specs.Inside.Listed.{change_in, listed}
 use Rattle.tune_journal.specs.Layout.{block_bytes}
 
 abbrev Change : Type 0

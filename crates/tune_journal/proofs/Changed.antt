@@ -2,8 +2,8 @@
 use Rattle.std.proofs.Common.{◌≡◌, ◌≢◌, inl, inr, ℕ, zero, suc, ◌<◌, List, [], ◌∷◌, length, get_or, set, refl, sym, ◌∙◌, ap, arith}
 use Rattle.std.proofs.lemmas.List.{same_lists, get_or-set_same, get_or-set_other, length-set}
 use Rattle.std.proofs.lemmas.Bool.{cases_eq}
-use Rattle.tune_journal.specs.Pages.{changed}
 use Rattle.tune_journal.specs.ChangeList.{change_at}
+use Rattle.tune_journal.specs.Pages.{changed}
 
 -- no entry names this page
 abbrev pub Unnamed : List (ℕ × List ℕ) → ℕ → Type 0

@@ -7,18 +7,17 @@ use Rattle.std.proofs.lemmas.List.Elements.{All-get_or, All-tail}
 use Rattle.std.proofs.lemmas.Bool.{cases_eq, cases_lt}
 use Rattle.byteorder.specs.Numbers.{big_number-reads_back}
 use Rattle.tune_disk.specs.Disk.{DiskState, Written, Shows}
-use Rattle.tune_disk.specs.Stops.{Agrees}
-use Rattle.tune_disk.specs.Bytes.{written_long}
-use Rattle.tune_journal.specs.Image.{window, number, page_offset, entry_offset, pages_of, entries, count_of, new_count_of, log_of, gate_of, IsLog, IsHeaded, HasPageCount, HasLog, StandsFor, StandsForEither, entry_count_of}
-use Rattle.tune_journal.specs.Pages.{changed}
+use Rattle.tune_disk.specs.Inside.Spares.{Agrees}
+use Rattle.tune_disk.proofs.Writes.{written_long}
 use Rattle.tune_journal.specs.ChangeList.{change_at}
-use Rattle.tune_journal.specs.Phases.{KeepsBoth, IsNoLog, IsOutside, IsInNoPage, HoldsEntries, HoldsDescriptor, Settles}
-use Rattle.tune_journal.specs.Pages.{NamesAll}
-use Rattle.tune_journal.specs.Rest.{IsAtRest, IsLogged, IsOpened, IsApplied}
+use Rattle.tune_journal.specs.Image.{window, number, page_offset, entry_offset, pages_of, entries, count_of, new_count_of, log_of, gate_of, IsLog, IsHeaded, HasPageCount, HasLog, StandsFor, StandsForEither, entry_count_of}
+use Rattle.tune_journal.specs.Inside.Phases.{KeepsBoth, IsNoLog, IsOutside, IsInNoPage, HoldsEntries, HoldsDescriptor, Settles}
+use Rattle.tune_journal.specs.Inside.Rest.{IsAtRest, IsLogged, IsOpened, IsApplied}
+use Rattle.tune_journal.specs.Layout.{block_bytes, gate_offset, gate_open, descriptor_offset, entry_count_offset, count_offset, pages_offset, entry_bytes, most_pages}
+use Rattle.tune_journal.specs.Pages.{changed, NamesAll}
 use Rattle.tune_journal.proofs.Windows.{same_window, front_window, back_window, shows_window}
 use Rattle.tune_journal.proofs.Changed.{Unnamed, changed_same, changed-changed}
 use Rattle.tune_journal.proofs.CallRuns.{settles_settled, settles_agrees}
-use Rattle.tune_journal.specs.Layout.{block_bytes, gate_offset, gate_open, descriptor_offset, entry_count_offset, count_offset, pages_offset, entry_bytes, most_pages}
 
 pub number_same : (at : ℕ) (file other : List ℕ) → window at 4 other ≡ window at 4 file → number at other ≡ number at file
 unfolding number

@@ -7,13 +7,13 @@ use Rattle.std.specs.List.Sorted.{IsStrictlyIncreasing}
 use Rattle.std.proofs.lemmas.List.FromFn.{length-map-range_with_len, get_or-map-range_with_len}
 use Rattle.std.proofs.lemmas.Bool.{cases_eq, cases_lt}
 use Rattle.tune_disk.specs.Disk.{Written}
-use Rattle.tune_disk.specs.Bytes.{written_long}
-use Rattle.tune_journal.specs.Image.{window, pages_of, page_offset}
-use Rattle.tune_journal.specs.Pages.{changed}
+use Rattle.tune_disk.proofs.Writes.{written_long}
 use Rattle.tune_journal.specs.ChangeList.{change_at}
-use Rattle.tune_journal.specs.Phases.{HoldsEntries, IsInNoPage, IsNoLog, IsOutside}
-use Rattle.tune_journal.proofs.Windows.{written_window, written_other}
+use Rattle.tune_journal.specs.Image.{window, pages_of, page_offset}
+use Rattle.tune_journal.specs.Inside.Phases.{HoldsEntries, IsInNoPage, IsNoLog, IsOutside}
 use Rattle.tune_journal.specs.Layout.{block_bytes, descriptor_offset, entry_bytes}
+use Rattle.tune_journal.specs.Pages.{changed}
+use Rattle.tune_journal.proofs.Windows.{written_window, written_other}
 
 -- one entry more
 pub entries_more : (base i : ℕ) (log : List (ℕ × List ℕ)) (bytes old new : List ℕ) → HoldsEntries base log i old → length bytes ≡ entry_bytes

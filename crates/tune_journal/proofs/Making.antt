@@ -4,18 +4,20 @@ use Rattle.byteorder.specs.Endian.{big_bytes}
 use Rattle.std.proofs.lemmas.List.{same_lists}
 use Rattle.std.proofs.lemmas.Bool.{cases_eq}
 use Rattle.tune_disk.specs.Disk.{DiskState, MayLeave, Written, Writes, settled, touched, GoesTo}
-use Rattle.tune_disk.specs.Stops.{Agrees, SinceThen, LeavesOnly}
-use Rattle.tune_disk.specs.Moments.{since_same}
-use Rattle.tune_disk.specs.Bytes.{written_long, length_after_some}
-use Rattle.tune_journal.specs.Image.{window, gate_of, count_of, pages_of, HasPageCount, StandsFor}
-use Rattle.tune_journal.specs.Opening.{StandsForNone}
-use Rattle.tune_journal.specs.Making.{IsCleared, IsLaid, StandsForNoneOr}
-use Rattle.tune_journal.specs.Phases.{IsOutside, Settles}
-use Rattle.tune_journal.specs.Rest.{IsAtRest}
+use Rattle.tune_disk.specs.Inside.Spares.{Agrees}
+use Rattle.tune_disk.specs.Stops.{SinceThen, LeavesOnly}
+use Rattle.tune_disk.proofs.Moments.{since_same}
+use Rattle.tune_disk.proofs.Writes.{written_long}
+use Rattle.tune_disk.specs.Inside.Overwrites.{length_after_some}
+use Rattle.tune_journal.specs.Image.{window, gate_of, count_of, pages_of, HasPageCount, StandsFor, StandsForNone}
+use Rattle.tune_journal.specs.Inside.Laying.{IsCleared, IsLaid}
+use Rattle.tune_journal.specs.Inside.Phases.{IsOutside, Settles}
+use Rattle.tune_journal.specs.Inside.Rest.{IsAtRest}
+use Rattle.tune_journal.specs.Layout.{magic, block_bytes, magic_offset, magic_bytes, gate_offset, descriptor_offset, count_offset, pages_offset, least_length}
+use Rattle.tune_journal.specs.Making.{StandsForNoneOr}
 use Rattle.tune_journal.proofs.Windows.{get_or-window, written_window, written_other}
 use Rattle.tune_journal.proofs.Frame.{agree_number, agree_pages_of, stands_closed, pages_of_at, length-pages_of, number_is}
 use Rattle.tune_journal.proofs.CallRuns.{settles_settled, settles_agrees}
-use Rattle.tune_journal.specs.Layout.{magic, block_bytes, magic_offset, magic_bytes, gate_offset, descriptor_offset, count_offset, pages_offset, least_length}
 
 -- lists of numbers are equal or not
 list_cases : (xs ys : List ℕ) → (xs ≡ ys) ⊎ (xs ≢ ys)

@@ -2,14 +2,15 @@
 use Rattle.std.proofs.Common.{◌≡◌, inl, inr, ℕ, ◌<◌, ◌≤◌, List, [], length, sym, ◌∙◌, ap, subst, arith, Result, Ok}
 use Rattle.tune_disk.specs.Disk.{DiskState, MayLeave, settled}
 use Rattle.tune_disk.specs.Stops.{LeavesOnly, SinceThen}
-use Rattle.tune_disk.specs.Moments.{since_same, since_sync, since_then, since_weaker}
+use Rattle.tune_disk.proofs.Moments.{since_same, since_sync, since_then, since_weaker}
 use Rattle.tune_journal.specs.Image.{StandsFor, StandsForEither, IsHeaded, HasPageCount, entry_offset, gate_of, count_of, log_of, pages_of, entry_count_of, new_count_of}
-use Rattle.tune_journal.specs.Pages.{changed}
-use Rattle.tune_journal.specs.Opening.{IsSynced, IsSyncedOrSame, HasEntries, Sees, IsBounded}
+use Rattle.tune_journal.specs.Inside.Looking.{IsSyncedOrSame, HasEntries, Sees, IsBounded}
+use Rattle.tune_journal.specs.Inside.Rest.{IsAtRest, IsOpened}
 use Rattle.tune_journal.specs.Moments.{KeepsEither, LeftOrSame}
+use Rattle.tune_journal.specs.Pages.{changed}
+use Rattle.tune_journal.specs.Refusal.{IsSynced}
 use Rattle.tune_journal.specs.declared.look.Found.{Found}
 use Rattle.tune_journal.specs.declared.look.Found.TheVariants.{Damaged, Closed, Open}
-use Rattle.tune_journal.specs.Rest.{IsAtRest, IsOpened}
 use Rattle.tune_journal.proofs.Frame.{entries_at, length-entries, length-pages_of}
 use Rattle.tune_journal.proofs.Above.{stands_once}
 use Rattle.tune_journal.proofs.Changed.{length-changed}

@@ -3,17 +3,17 @@ use Rattle.std.proofs.Common.{◌≡◌, ◌⊎◌, ◌↔◌, Bool, true, false
 use Rattle.std.proofs.lemmas.List.{length-map}
 use Rattle.std.proofs.lemmas.List.FromFn.{map-range_with_len_more}
 use Rattle.tune_disk.specs.Disk.{DiskState, Written, Writes}
-use Rattle.tune_disk.specs.Stops.{Agrees, Spares}
-use Rattle.tune_disk.specs.Moments.{spares_then, spares_write}
-use Rattle.tune_journal.specs.Image.{window, number, page_offset, entry_offset, pages_of, entries, IsLog, HasLog, entry_count_of}
-use Rattle.tune_journal.specs.Pages.{changed}
+use Rattle.tune_disk.specs.Inside.Spares.{Agrees, Spares}
+use Rattle.tune_disk.proofs.Moments.{spares_then, spares_write}
 use Rattle.tune_journal.specs.ChangeList.{change_at}
-use Rattle.tune_journal.specs.Phases.{IsInNoPage}
-use Rattle.tune_journal.specs.Opening.{HasEntries, Climbs, least_of}
+use Rattle.tune_journal.specs.Image.{window, number, page_offset, entry_offset, pages_of, entries, IsLog, HasLog, entry_count_of}
+use Rattle.tune_journal.specs.Inside.Looking.{HasEntries, HasEntry, Climbs, least_of}
+use Rattle.tune_journal.specs.Inside.Phases.{IsInNoPage}
+use Rattle.tune_journal.specs.Layout.{block_bytes, entry_count_offset, least_length, most_pages}
+use Rattle.tune_journal.specs.Pages.{changed}
 use Rattle.tune_journal.proofs.Windows.{length-window}
 use Rattle.tune_journal.proofs.Loops.{image_more, changed-push, outside_page}
 use Rattle.tune_journal.proofs.Frame.{agree_number, agree_window, entries_at, length-entries, in_no_page}
-use Rattle.tune_journal.specs.Layout.{block_bytes, entry_count_offset, least_length, most_pages}
 
 pub spares_agrees : (Kept : ℕ → Type 0) (a b : DiskState) → Spares Kept a b → Agrees Kept a.seen b.seen
 spares_agrees Kept a b s = record { longer = s.longer; same = λ i lt kept. s.seen i kept }
@@ -55,6 +55,9 @@ module _ (m k i : ℕ) (start now : DiskState) (has : HasEntries m k start.seen)
 
   pub low : number (entry_offset m i) now.seen < m
   low = omega (arith, page_same, has.below i lt)
+
+  pub has_entry : HasEntry m i now.seen
+  has_entry = record { long = within; below = low }
 
   pub image_size : length (window (entry_offset m i + 4) block_bytes now.seen) ≡ block_bytes
   image_size = length-window (entry_offset m i + 4) block_bytes now.seen (omega (arith, within))

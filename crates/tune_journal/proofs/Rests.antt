@@ -1,14 +1,15 @@
 -- What a stop leaves between the parts of a commit.
 use Rattle.std.proofs.Common.{◌≡◌, ℕ, List, refl, sym, subst, arith}
 use Rattle.tune_disk.specs.Disk.{DiskState, MayLeave, settled}
-use Rattle.tune_disk.specs.Stops.{Agrees, LeavesOnly}
-use Rattle.tune_disk.specs.Moments.{settled_leaves}
+use Rattle.tune_disk.specs.Inside.Spares.{Agrees}
+use Rattle.tune_disk.specs.Stops.{LeavesOnly}
+use Rattle.tune_disk.proofs.Moments.{settled_leaves}
 use Rattle.tune_journal.specs.Image.{StandsFor, pages_of, log_of, entries, entry_count_of}
-use Rattle.tune_journal.specs.Pages.{changed}
-use Rattle.tune_journal.specs.Phases.{KeepsBoth, IsOutside}
-use Rattle.tune_journal.specs.Rest.{IsAtRest, IsOpened, IsApplied}
-use Rattle.tune_journal.proofs.Frame.{stands_closed, stands_applying, stands_closing, log_same}
+use Rattle.tune_journal.specs.Inside.Phases.{KeepsBoth, IsOutside}
+use Rattle.tune_journal.specs.Inside.Rest.{IsAtRest, IsOpened, IsApplied}
 use Rattle.tune_journal.specs.Layout.{gate_offset}
+use Rattle.tune_journal.specs.Pages.{changed}
+use Rattle.tune_journal.proofs.Frame.{stands_closed, stands_applying, stands_closing, log_same}
 
 -- a stop over a settled disk leaves its file
 settled_only : (P : List ℕ → Type 0) (s : DiskState) → s.now ≡ settled s.seen → P s.seen → LeavesOnly s.now P

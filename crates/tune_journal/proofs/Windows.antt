@@ -2,7 +2,7 @@
 use Rattle.std.proofs.Common.{◌≡◌, ◌⊎◌, inl, inr, ℕ, ◌+◌, ◌<◌, ◌≤◌, List, ◌++◌, length, get_or, take, drop, sym, ◌∙◌, ap, arith}
 use Rattle.std.proofs.lemmas.List.{ext_get_or, get_or-take, get_or-drop, length-take, length-drop, take_at, drop_at, take-take, drop-drop, drop-take}
 use Rattle.tune_disk.specs.Disk.{Written, Shows}
-use Rattle.tune_disk.specs.Bytes.{written_long}
+use Rattle.tune_disk.proofs.Writes.{written_long}
 use Rattle.tune_journal.specs.Image.{window}
 
 pub length-window : (at n : ℕ) (file : List ℕ) → at + n ≤ length file → length (window at n file) ≡ n

@@ -4,12 +4,12 @@
 --   8192   the page count that the log leads to, and at 8196 the number of the log's entries
 --   12288  the page count
 --   16384  the pages of 4,096 bytes, and behind m of them the log, in entries of 4,100 bytes: the number of a page, and its image
-use Rattle.std.specs.Prelude.{◌≡◌, ◌≢◌, ◌⊎◌, ℕ, ◌+◌, ◌*◌, ◌<◌, ◌≤◌, List, ◌++◌, length, take, drop, map, slice_index, All}
-use Rattle.byteorder.specs.Endian.{big_number, big_bytes}
+use Rattle.std.specs.Prelude.{◌≡◌, ◌≢◌, ◌⊎◌, ℕ, ◌+◌, ◌*◌, ◌<◌, ◌≤◌, List, length, take, drop, map, slice_index, All}
+use Rattle.byteorder.specs.Endian.{big_number}
 use Rattle.std.specs.List.{range_with_len}
+use Rattle.tune_journal.specs.Layout.{block_bytes, magic, magic_offset, magic_bytes, gate_offset, gate_open, descriptor_offset, entry_count_offset, count_offset, pages_offset, entry_bytes, least_length, most_pages}
 use Rattle.tune_journal.specs.Pages.{changed}
 use Rattle.std.specs.List.Sorted.{IsStrictlyIncreasing}
-use Rattle.tune_journal.specs.Layout.{block_bytes, magic, magic_offset, magic_bytes, gate_offset, gate_open, descriptor_offset, entry_count_offset, count_offset, pages_offset, entry_bytes, least_length, most_pages}
 
 -- the n bytes from there on
 abbrev pub window : ℕ → ℕ → List ℕ → List ℕ
@@ -26,10 +26,6 @@ page_offset page = pages_offset + block_bytes * page
 -- entry i of the log behind m pages
 abbrev pub entry_offset : ℕ → ℕ → ℕ
 entry_offset m i = pages_offset + block_bytes * m + entry_bytes * i
-
--- as it stands in the log
-abbrev pub log_entry : ℕ → List ℕ → List ℕ
-log_entry page image = big_bytes 4 page ++ image
 
 -- the first n pages, each in its place
 unfoldable pub pages_of : ℕ → List ℕ → List (List ℕ)
@@ -84,3 +80,7 @@ pub record StandsFor (pages : List (List ℕ)) (file : List ℕ) : Type 0 where
 -- before or after
 abbrev pub StandsForEither : List (List ℕ) → List (List ℕ) → List ℕ → Type 0
 StandsForEither before after file = StandsFor before file ⊎ StandsFor after file
+
+-- this file stands for no pages
+abbrev pub StandsForNone : List ℕ → Type 0
+StandsForNone file = (pages : List (List ℕ)) → StandsFor pages file → ⊥

@@ -1,11 +1,15 @@
 -- Why a file is not opened.
 use Rattle.std.specs.Prelude.{◌≡◌, ◌≢◌, ℕ, ◌<◌, ◌≤◌, length}
-use Rattle.tune_disk.specs.Disk.{DiskState, CountsUp}
-use Rattle.tune_journal.specs.Image.{window}
-use Rattle.tune_journal.specs.Opening.{IsSynced, StandsForNone}
+use Rattle.tune_disk.specs.Disk.{DiskState, GoesTo, settled, CountsUp}
+use Rattle.tune_journal.specs.Image.{window, StandsForNone}
+use Rattle.tune_journal.specs.Layout.{magic, magic_offset, magic_bytes}
 use Rattle.tune_journal.specs.declared.open_fault.OpenFault.{OpenFault}
 use Rattle.tune_journal.specs.declared.open_fault.OpenFault.TheVariants.{NotArchive, Damaged, NotEmpty, OutOfMemory, Device}
-use Rattle.tune_journal.specs.Layout.{magic, magic_offset, magic_bytes}
+
+-- a sync, and nothing else
+pub record IsSynced (old new : DiskState) : Type 0 where
+  pub seen : new.seen ≡ old.seen
+  pub goes : GoesTo (settled old.seen) old new
 
 -- Where the file is at fault nothing was written.
 abbrev pub IsRefusedFor : OpenFault → DiskState → DiskState → Type 0

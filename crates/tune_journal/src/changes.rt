@@ -1,7 +1,8 @@
 // Pages that change.
 ghost use Rattle.std.specs.Prelude.{◌≡◌, ◌<◌, ◌==◌, [], length, map, All, OnOk, OnErr, IsOk, IsSome, IfOk, IfErr, option_map};
 ghost use Rattle.std.specs.List.Sorted.{IsStrictlyIncreasing};
-ghost use Rattle.tune_journal.specs.ChangeList.{with_change, image_of, change_at, changed_page, FoundAt, MissingAt};
+ghost use Rattle.tune_journal.specs.ChangeList.{with_change, image_of, change_at, changed_page};
+ghost use Rattle.tune_journal.specs.Inside.ChangeOrder.{FoundAt, MissingAt};
 ghost use Rattle.tune_journal.specs.Layout.{block_bytes};
 
 use std::alloc::{AllocError, Global};
@@ -30,11 +31,10 @@ pub struct Changes {
 
 impl Model for Changes {
     ghost use Rattle.std.specs.Prelude.{ℕ, List};
-    ghost use Rattle.tune_journal.specs.ChangeList.{IsChangeList};
+    ghost use Rattle.tune_journal.specs.Inside.ChangeOrder.{IsChangeList};
+    ghost use Rattle.tune_journal.specs.Inside.Listed.{listed};
 
     ghost Value = { List (ℕ × List ℕ) };
-
-    ghost use Rattle.tune_journal.specs.Listed.{listed};
 
     ghost view = { λ c. listed c.changed.items };
 

@@ -2,12 +2,11 @@
 ghost use Rattle.std.specs.Prelude.{◌≡◌, ◌<◌, ◌≤◌, ◌^◌, ◌+◌, ◌*◌, ◌++◌, ℕ, All, length, OnOk};
 ghost use Rattle.byteorder.specs.Endian.{big_bytes};
 ghost use Rattle.tune_disk.specs.Disk.{Writes, Written, Calls};
-ghost use Rattle.tune_disk.specs.Stops.{Spares};
-ghost use Rattle.tune_journal.specs.Image.{log_entry, count_of};
-ghost use Rattle.tune_journal.specs.Image.{IsLog, number, page_offset, entry_offset, pages_of};
-ghost use Rattle.tune_journal.specs.Pages.{changed};
-ghost use Rattle.tune_journal.specs.Phases.{WritesAndSyncs, IsNoLog, IsOutside, IsInNoPage, HoldsEntries, HoldsDescriptor, KeepsBoth};
+ghost use Rattle.tune_disk.specs.Inside.Spares.{Spares};
+ghost use Rattle.tune_journal.specs.Image.{count_of, IsLog, number, page_offset, entry_offset, pages_of};
+ghost use Rattle.tune_journal.specs.Inside.Phases.{log_entry, WritesAndSyncs, IsNoLog, IsOutside, IsInNoPage, HoldsEntries, HoldsDescriptor, KeepsBoth};
 ghost use Rattle.tune_journal.specs.Layout.{block_bytes, entry_bytes, most_pages};
+ghost use Rattle.tune_journal.specs.Pages.{changed};
 
 use crate::changes::{Changes, PageImage};
 use crate::layout::{COUNT_OFFSET, DESCRIPTOR_OFFSET, ENTRY_BYTES, number_bytes, page_offset};

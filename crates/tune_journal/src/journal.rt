@@ -1,11 +1,11 @@
 // A journal, and the commit that changes it.
-ghost use Rattle.std.specs.Prelude.{◌≡◌, ◌<◌, ◌≤◌, All, length, MatchResult, IfOk, OnOk};
-ghost use Rattle.tune_disk.specs.Disk.{CountsUp, Looks};
-ghost use Rattle.tune_disk.specs.Stops.{LeavesOnly};
+ghost use Rattle.std.specs.Prelude.{◌≡◌, ◌<◌, ◌≤◌, All, length, IfOk, OnOk};
+ghost use Rattle.tune_disk.specs.Disk.{Calls, Looks};
+ghost use Rattle.tune_disk.specs.Stops.{LeavesOnly, SinceThen};
+ghost use Rattle.tune_journal.specs.Held.{disk_of, disk_of_log};
 ghost use Rattle.tune_journal.specs.Image.{StandsFor, StandsForEither};
-ghost use Rattle.tune_journal.specs.Moments.{Goes};
-ghost use Rattle.tune_journal.specs.Pages.{NamesAll, page_at, pages_after};
 ghost use Rattle.tune_journal.specs.Layout.{most_pages};
+ghost use Rattle.tune_journal.specs.Pages.{NamesAll, page_at, pages_after};
 
 use crate::changes::{Changes, PageImage};
 use crate::commit::write_log;
@@ -23,7 +23,8 @@ pub struct Journal<D: Disk> {
 }
 
 impl<D: Disk> Model for Journal<D> {
-    ghost use Rattle.tune_journal.specs.Held.{Held, held_code, held, IsSound};
+    ghost use Rattle.tune_journal.specs.Held.{Held};
+    ghost use Rattle.tune_journal.specs.Inside.Seen.{held_code, held, IsSound};
 
     ghost Value = { Held D };
 
@@ -81,14 +82,14 @@ impl<D: Disk> Journal<D> {
         requires below { All (λ e. e.0 < new_count) changes.now }
         requires names { NamesAll (length self.pages) new_count changes.now }
         // A stop at any moment of the call leaves the pages from before it or those from after it.
-        ensures moments { MatchResult result
-            (λ journal. Goes D.honest D.state self.disk journal.disk (StandsForEither self.pages (pages_after self.pages new_count changes.now)))
-            (λ broken. Goes D.honest D.state self.disk broken.disk (StandsForEither self.pages (pages_after self.pages new_count changes.now))) }
+        ensures moments { let next = pages_after self.pages new_count changes.now in
+            D.honest (disk_of result)
+            → SinceThen (D.state self.disk) (D.state (disk_of result)) (StandsForEither self.pages next) }
         // At `Ok` it leaves those from after it alone.
         ensures rest { IfOk result (λ journal. D.honest journal.disk → LeavesOnly (D.state journal.disk).now (StandsFor (pages_after self.pages new_count changes.now))) }
         ensures pages { IfOk result (λ journal. D.honest journal.disk → journal.pages ≡ pages_after self.pages new_count changes.now) }
         ensures count { IfOk result (λ journal. length journal.pages ≡ new_count) }
-        ensures failures { MatchResult result (λ journal. D.failures journal.disk ≡ D.failures self.disk) (λ broken. CountsUp (D.failures self.disk) (D.failures broken.disk)) }
+        ensures calls { Calls D.honest D.failures result self.disk (disk_of result) }
     {
         self.log(new_count, changes)?
             .open_gate()?
@@ -107,15 +108,14 @@ impl<D: Disk> Journal<D> {
         requires some { 0 < length changes.now }
         requires below { All (λ e. e.0 < new_count) changes.now }
         requires names { NamesAll (length self.pages) new_count changes.now }
-        ensures moments { MatchResult result
-            (λ logged. Goes D.honest D.state self.disk logged.disk (StandsFor self.pages))
-            (λ broken. Goes D.honest D.state self.disk broken.disk (StandsFor self.pages)) }
+        ensures moments { D.honest (disk_of_log result)
+            → SinceThen (D.state self.disk) (D.state (disk_of_log result)) (StandsFor self.pages) }
         ensures rest { IfOk result (λ logged. D.honest logged.disk → LeavesOnly (D.state logged.disk).now (StandsFor logged.pages)) }
         ensures pages { IfOk result (λ logged. D.honest logged.disk → logged.pages ≡ self.pages) }
         ensures changes { IfOk result (λ logged. D.honest logged.disk → logged.changes ≡ changes.now) }
         ensures next { IfOk result (λ logged. D.honest logged.disk → logged.next ≡ pages_after self.pages new_count changes.now) }
         ensures count { IfOk result (λ logged. length logged.next ≡ new_count) }
-        ensures failures { MatchResult result (λ logged. D.failures logged.disk ≡ D.failures self.disk) (λ broken. CountsUp (D.failures self.disk) (D.failures broken.disk)) }
+        ensures calls { Calls D.honest D.failures result self.disk (disk_of_log result) }
     {
         let Journal { mut disk, count } = self;
         match write_log(&mut disk, new_count, changes) {

@@ -2,8 +2,9 @@
 ghost use Rattle.std.specs.Prelude.{◌≡◌, ◌≤◌, ◌^◌, ◌+◌, ◌↔◌, IsTrue, length, OnOk, IfOk};
 ghost use Rattle.tune_disk.specs.Disk.{Calls, Looks};
 ghost use Rattle.tune_journal.specs.Image.{window, number, entry_offset, gate_of};
-ghost use Rattle.tune_journal.specs.Opening.{Climbs, IsSynced, IsSyncedOrSame, Sees, SeesOpen, SeesClosed, IsBounded};
+ghost use Rattle.tune_journal.specs.Inside.Looking.{Climbs, IsSyncedOrSame, Sees, SeesOpen, SeesClosed, IsBounded};
 ghost use Rattle.tune_journal.specs.Layout.{magic, magic_offset, magic_bytes, gate_open, least_length, most_pages};
+ghost use Rattle.tune_journal.specs.Refusal.{IsSynced};
 
 use crate::layout::{
     COUNT_OFFSET, DESCRIPTOR_OFFSET, ENTRY_COUNT_OFFSET, GATE_OFFSET, GATE_OPEN, LEAST_BYTES,

@@ -2,13 +2,14 @@
 ghost use Rattle.std.specs.Prelude.{◌≡◌, ◌<◌, [], ◌∷◌, length, OnOk, IfOk, IfErr, MatchResult};
 ghost use Rattle.tune_disk.specs.Disk.{Calls, settled};
 ghost use Rattle.tune_disk.specs.Stops.{LeavesOnly, SinceThen};
-ghost use Rattle.tune_journal.specs.Image.{StandsFor, pages_of};
-ghost use Rattle.tune_journal.specs.Making.{IsCleared, IsLaid, IsEmptyFile, StandsForNoneOr};
-ghost use Rattle.tune_journal.specs.Opening.{StandsForNone};
-ghost use Rattle.tune_journal.specs.Phases.{WritesAndSyncs};
-ghost use Rattle.tune_journal.specs.Refusal.{IsUnmadeFor, IsMakeReason, CountsFailureIf};
-ghost use Rattle.tune_journal.specs.Rest.{IsAtRest};
+ghost use Rattle.tune_journal.specs.Held.{disk_of_opening};
+ghost use Rattle.tune_journal.specs.Image.{StandsFor, pages_of, StandsForNone};
+ghost use Rattle.tune_journal.specs.Inside.Laying.{IsCleared, IsLaid};
+ghost use Rattle.tune_journal.specs.Inside.Phases.{WritesAndSyncs};
+ghost use Rattle.tune_journal.specs.Inside.Rest.{IsAtRest};
 ghost use Rattle.tune_journal.specs.Layout.{block_bytes};
+ghost use Rattle.tune_journal.specs.Making.{IsEmptyFile, StandsForNoneOr};
+ghost use Rattle.tune_journal.specs.Refusal.{IsUnmadeFor, IsMakeReason, CountsFailureIf};
 
 use crate::changes::PageImage;
 use crate::commit::write_synced;
@@ -66,11 +67,11 @@ impl<D: Disk> Journal<D> {
     /// `NotEmpty` where the disk has a byte: nothing was written then. `Device` where the disk failed: a stop then leaves
     /// no journal, or this one.
     pub fn make(disk: D, first: &PageImage) -> Result<Journal<D>, Refused<D>>
-        ensures honest { MatchResult result (λ journal. D.honest journal.disk → D.honest disk) (λ refused. D.honest refused.disk → D.honest disk) }
+        ensures honest { D.honest (disk_of_opening result) → D.honest disk }
         // Where each file that a stop may leave at the start has no byte, a stop during the call leaves no journal or this one.
-        ensures moments { MatchResult result
-            (λ journal. D.honest journal.disk → LeavesOnly (D.state disk).now IsEmptyFile → SinceThen (D.state disk) (D.state journal.disk) (StandsForNoneOr first.now.bytes))
-            (λ refused. D.honest refused.disk → LeavesOnly (D.state disk).now IsEmptyFile → SinceThen (D.state disk) (D.state refused.disk) (StandsForNoneOr first.now.bytes)) }
+        ensures moments { let old = D.state disk in let new = D.state (disk_of_opening result) in
+            D.honest (disk_of_opening result) → LeavesOnly old.now IsEmptyFile
+            → SinceThen old new (StandsForNoneOr first.now.bytes) }
         // At `Ok` it leaves this one, whatever it might have left at the start.
         ensures rest { IfOk result (λ journal. D.honest journal.disk → LeavesOnly (D.state journal.disk).now (StandsFor (first.now.bytes ∷ []))) }
         ensures pages { IfOk result (λ journal. D.honest journal.disk → journal.pages ≡ first.now.bytes ∷ []) }

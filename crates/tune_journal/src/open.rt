@@ -1,10 +1,10 @@
 // Opening a file that a stop may have left.
 ghost use Rattle.std.specs.Prelude.{◌≡◌, ◌≤◌, ℕ, List, length, IfOk, IfErr, MatchResult};
-ghost use Rattle.tune_disk.specs.Disk.{CountsUp};
 ghost use Rattle.tune_disk.specs.Stops.{LeavesOnly, SinceThen};
+ghost use Rattle.tune_journal.specs.Held.{disk_of, disk_of_opening};
 ghost use Rattle.tune_journal.specs.Image.{StandsFor};
+ghost use Rattle.tune_journal.specs.Inside.Phases.{CallsIf};
 ghost use Rattle.tune_journal.specs.Moments.{KeepsEither, LeftOrSame};
-ghost use Rattle.tune_journal.specs.Moments.{Goes};
 ghost use Rattle.tune_journal.specs.Refusal.{IsRefusedFor, IsOpenReason, CountsFailureWhere};
 
 use crate::journal::Journal;
@@ -19,12 +19,10 @@ impl<D: Disk> Opened<D> {
     pub(crate) fn recover(self, entries: u32) -> Result<Applied<D>, Broken<D>>
         requires few { entries ≤ length self.pages }
         requires entries { D.honest self.disk → length self.changes ≡ entries }
-        ensures moments { MatchResult result
-            (λ applied. Goes D.honest D.state self.disk applied.disk (StandsFor self.pages))
-            (λ broken. Goes D.honest D.state self.disk broken.disk (StandsFor self.pages)) }
+        ensures moments { D.honest (disk_of result)
+            → SinceThen (D.state self.disk) (D.state (disk_of result)) (StandsFor self.pages) }
         ensures pages { IfOk result (λ applied. D.honest applied.disk → applied.pages ≡ self.pages) }
-        ensures failures { MatchResult result (λ applied. D.failures applied.disk ≡ D.failures self.disk)
-            (λ broken. D.honest broken.disk → CountsUp (D.failures self.disk) (D.failures broken.disk)) }
+        ensures calls { CallsIf D.honest D.failures result self.disk (disk_of result) (Unit {0}) }
     {
         let Opened {
             mut disk,
@@ -40,13 +38,11 @@ impl<D: Disk> Opened<D> {
     pub(crate) fn finish(self, entries: u32) -> Result<Journal<D>, Broken<D>>
         requires few { entries ≤ length self.pages }
         requires entries { D.honest self.disk → length self.changes ≡ entries }
-        ensures moments { MatchResult result
-            (λ journal. Goes D.honest D.state self.disk journal.disk (StandsFor self.pages))
-            (λ broken. Goes D.honest D.state self.disk broken.disk (StandsFor self.pages)) }
+        ensures moments { D.honest (disk_of result)
+            → SinceThen (D.state self.disk) (D.state (disk_of result)) (StandsFor self.pages) }
         ensures pages { IfOk result (λ journal. D.honest journal.disk → journal.pages ≡ self.pages) }
         ensures rest { IfOk result (λ journal. D.honest journal.disk → LeavesOnly (D.state journal.disk).now (StandsFor journal.pages)) }
-        ensures failures { MatchResult result (λ journal. D.failures journal.disk ≡ D.failures self.disk)
-            (λ broken. D.honest broken.disk → CountsUp (D.failures self.disk) (D.failures broken.disk)) }
+        ensures calls { CallsIf D.honest D.failures result self.disk (disk_of result) (Unit {0}) }
     {
         self.recover(entries)?.close()
     }
@@ -61,15 +57,13 @@ impl<D: Disk> Journal<D> {
     /// pages: nothing was written then. `Device` where the disk failed; on a disk that answers a second read otherwise
     /// than the first, without a failure too.
     pub fn open(disk: D) -> Result<Journal<D>, Refused<D>>
-        ensures honest { MatchResult result (λ journal. D.honest journal.disk → D.honest disk) (λ refused. D.honest refused.disk → D.honest disk) }
+        ensures honest { D.honest (disk_of_opening result) → D.honest disk }
         // A stop at any moment of the call leaves a file that it might have left at the start, or one for the pages of the disk's content,
-        ensures leaves { MatchResult result
-            (λ journal. D.honest journal.disk → SinceThen (D.state disk) (D.state journal.disk) (LeftOrSame (D.state disk)))
-            (λ refused. D.honest refused.disk → SinceThen (D.state disk) (D.state refused.disk) (LeftOrSame (D.state disk))) }
+        ensures leaves { let old = D.state disk in let new = D.state (disk_of_opening result) in
+            D.honest (disk_of_opening result) → SinceThen old new (LeftOrSame old) }
         // and so one for the pages before or after, where all that it might have left stood for these.
-        ensures moments { MatchResult result
-            (λ journal. D.honest journal.disk → KeepsEither (D.state disk) (D.state journal.disk))
-            (λ refused. D.honest refused.disk → KeepsEither (D.state disk) (D.state refused.disk)) }
+        ensures moments { let new = D.state (disk_of_opening result) in
+            D.honest (disk_of_opening result) → KeepsEither (D.state disk) new }
         ensures pages { IfOk result (λ journal. D.honest journal.disk → StandsFor journal.pages (D.state disk).seen) }
         ensures only { IfOk result (λ journal. D.honest journal.disk → (pages : List (List ℕ)) → StandsFor pages (D.state disk).seen → pages ≡ journal.pages) }
         ensures rest { IfOk result (λ journal. D.honest journal.disk → LeavesOnly (D.state journal.disk).now (StandsFor journal.pages)) }

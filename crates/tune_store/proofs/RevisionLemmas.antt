@@ -1,18 +1,15 @@
--- The law of revisions, and what each command keeps.
-use Rattle.std.proofs.Common.{◌≡◌, ℕ, ◌+◌, ◌≤◌, Bool, true, false, not, cond, eqb, ltb, List, [], ◌∷◌, ◌++◌, length, Option, Some, None, Ok, Err, refl, ap, sym, subst, ◌∙◌, arith, add-zero, inl, inr}
+-- The law of revisions.
+use Rattle.std.proofs.Common.{◌≡◌, ℕ, ◌+◌, Bool, true, false, not, cond, eqb, ltb, List, [], ◌∷◌, length, Option, Some, None, Ok, Err, refl, ap, sym}
+use Rattle.std.proofs.Common.{subst, ◌∙◌, arith, add-zero, inl, inr}
 use Rattle.std.specs.Prelude.{IsSome, IsTrue, IsFalse, is_ok, is_some}
 use Rattle.std.specs.Option.{option_map}
-use Rattle.std.specs.List.{AllByRecursion}
-use Rattle.std.proofs.lemmas.Bool.{ne_eqb, eq-eqb, eqb-true, eqb-false, ltb-false, cases_Bool, and_parts}
-use Rattle.abc_fields.specs.Lines.{lines_of}
-use Rattle.abc_fields.specs.Tunes.{tune_runs, IsTextWithin}
-use Rattle.abc_fields.specs.Books.{Texts, runs_answer, book_of_runs, book_answer, is_plain}
-use Rattle.abc_fields.specs.declared.book.TheConstants.{LONGEST_BOOK}
-use Rattle.abc_fields.specs.declared.book.BookFault.TheVariants as fault
-use Rattle.abc_fields.proofs.BookLemmas.{TextsWithin, texts_within}
-use Rattle.tune_store.specs.State.{State, IsState, RisesFrom, greatest}
-use Rattle.tune_store.specs.Step.{Outcome, step, tune_at, with_tune, without, revised, with_texts, import_book, replace_tune, replace_book, delete_tune, show_tune}
-use Rattle.tune_store.specs.Revisions.{revision_of, HasTune, accepts, replaces, after, times_replaced, RaisesRevision, AcceptedReplaceRaises, OthersKeepRevision, RevisionCounts, AcceptedReplaceIsCurrent}
+use Rattle.std.proofs.lemmas.Bool.{eqb-true, eqb-false, cases_Bool, and_parts}
+use Rattle.abc_fields.specs.Books.{Texts, book_answer}
+use Rattle.tune_store.specs.State.{State, IsState, greatest}
+use Rattle.tune_store.specs.Step.{Outcome, step, tune_at, with_tune, without, revised, with_texts, import_book, replace_tune, replace_book, delete_tune}
+use Rattle.tune_store.specs.Step.{show_tune}
+use Rattle.tune_store.specs.Revisions.{revision_of, HasTune, accepts, replaces, after, times_replaced, RaisesRevision, AcceptedReplaceRaises}
+use Rattle.tune_store.specs.Revisions.{OthersKeepRevision, RevisionCounts, AcceptedReplaceIsCurrent}
 use Rattle.tune_store.specs.declared.tune.Tune.{Tune}
 use Rattle.tune_store.specs.Limits.{longest_text, most_tunes, greatest_number, greatest_revision}
 use Rattle.tune_store.specs.declared.command.Command.{Command}
@@ -20,122 +17,16 @@ use Rattle.tune_store.specs.declared.command.Command.TheVariants.{Import, Replac
 use Rattle.tune_store.specs.declared.command.Reply.{Reply}
 use Rattle.tune_store.specs.declared.command.Reply.TheVariants.{Replaced}
 use Rattle.tune_store.specs.declared.command.Refusal.{Refusal}
-use Rattle.tune_store.specs.declared.command.Refusal.TheVariants.{ArchiveFull, NumbersSpent, Stale, Worn}
-use Rattle.tune_store.proofs.StateLemmas.{KeepsLimits, state_after_import, state_after_text, state_after_delete}
+use Rattle.tune_store.specs.declared.command.Refusal.TheVariants.{Stale, Worn}
 use Rattle.tune_store.proofs.StepLemmas.{KeepsOnErr, refused_keeps}
-
--- THE TUNE OF A NUMBER
--- the tune of a number has the number
-tune_at-number : (number : ℕ) (tunes : List Tune) (tune : Tune) → tune_at number tunes ≡ Some tune → tune.number ≡ number
-tune_at-number number [] tune h = cc
-tune_at-number number (first ∷ tunes) tune h = elim (cases_Bool (eqb first.number number)) [
-  | inl same ↦ let found = rw same at h in let e : first ≡ tune = cc in ap (λ (t : Tune). t.number) (sym e) ∙ eqb-true first.number number same
-  | inr other ↦ let found = rw other at h in tune_at-number number tunes tune found
-]
-
--- a tune in the place of the one of its number is the tune of the number
-tune_at-with_tune_same : (new : Tune) (tunes : List Tune) → IsSome (tune_at new.number tunes) → tune_at new.number (with_tune new tunes) ≡ Some new
-tune_at-with_tune_same new [] h = cc
-tune_at-with_tune_same new (first ∷ tunes) h = elim (cases_Bool (eqb first.number new.number)) [
-  | inl same ↦ let own = eq-eqb new.number new.number refl in rw (same, own) refl
-  | inr other ↦ let found = rw other at h in rw (other, other) (tune_at-with_tune_same new tunes found)
-]
-
--- and for any other number the tune is as it was
-tune_at-with_tune_other : (number : ℕ) (new : Tune) (tunes : List Tune) → (new.number ≡ number → ⊥) → tune_at number (with_tune new tunes) ≡ tune_at number tunes
-tune_at-with_tune_other number new [] ne = refl
-tune_at-with_tune_other number new (first ∷ tunes) ne = elim (cases_Bool (eqb first.number new.number)) [
-  | inl same ↦
-      let e : first.number ≡ new.number = eqb-true first.number new.number same in
-      let apart = ne_eqb new.number number ne in
-      let apart_first = ne_eqb first.number number (λ h. ne (sym e ∙ h)) in
-      rw (same, apart, apart_first) refl
-  | inr other ↦ rw other (ap (λ found. cond (eqb first.number number) (Some first) found) (tune_at-with_tune_other number new tunes ne))
-]
-
--- a tune stays where more come after it
-tune_at-append : (number : ℕ) (tunes more : List Tune) → IsSome (tune_at number tunes) → tune_at number (tunes ++ more) ≡ tune_at number tunes
-tune_at-append number [] more h = cc
-tune_at-append number (first ∷ tunes) more h = elim (cases_Bool (eqb first.number number)) [
-  | inl same ↦ rw same refl
-  | inr other ↦ let found = rw other at h in rw other (tune_at-append number tunes more found)
-]
-
--- a tune less, the tunes of other numbers are as they were
-tune_at-without_other : (number other : ℕ) (tunes : List Tune) → (other ≡ number → ⊥) → tune_at number (without other tunes) ≡ tune_at number tunes
-tune_at-without_other number other [] ne = refl
-tune_at-without_other number other (first ∷ tunes) ne = elim (cases_Bool (eqb first.number other)) [
-  | inl same ↦ let apart = ne_eqb first.number number (λ h. ne (sym (eqb-true first.number other same) ∙ h)) in rw (same, apart) refl
-  | inr differs ↦ rw differs (ap (λ found. cond (eqb first.number number) (Some first) found) (tune_at-without_other number other tunes ne))
-]
-
--- where numbers rise from this one, no tune has it
-tune_at-below : (low number : ℕ) (tunes : List Tune) → number ≤ low → RisesFrom low tunes → tune_at number tunes ≡ None
-tune_at-below low number [] le rises = refl
-tune_at-below low number (first ∷ tunes) le rises =
-    let above = rises.0 in
-    let apart = ne_eqb first.number number (λ same. omega arith) in
-    rw apart (tune_at-below first.number number tunes (omega arith) rises.1)
-
--- a tune that is taken out is not there
-tune_at-without_same : (low number : ℕ) (tunes : List Tune) → RisesFrom low tunes → tune_at number (without number tunes) ≡ None
-tune_at-without_same low number [] rises = refl
-tune_at-without_same low number (first ∷ tunes) rises = elim (cases_Bool (eqb first.number number)) [
-  | inl same ↦ let e = eqb-true first.number number same in rw same (tune_at-below first.number number tunes (omega arith) rises.1)
-  | inr other ↦ rw (other, other) (tune_at-without_same first.number number tunes rises.1)
-]
-
--- EACH COMMAND KEEPS THE LIMITS
--- the texts of runs of lines are within the length, where there are any
-runs_texts : (longest : ℕ) (book : List ℕ) (answer : Texts) → runs_answer longest 1 (tune_runs (lines_of book)) ≡ answer → TextsWithin longest answer
-runs_texts longest book (Ok texts) e = texts_within longest book texts e
-runs_texts longest book (Err why) e = tt
-
-book_texts : (longest : ℕ) (runs : List (List (List ℕ))) (long plain : Bool) → TextsWithin longest (runs_answer longest 1 runs) → TextsWithin longest (cond long (Err fault.BookTooLong) (cond (not plain) (Err fault.NotPlain) (book_of_runs longest runs)))
-book_texts longest runs true plain within = tt
-book_texts longest runs false false within = tt
-book_texts longest [] false true within = tt
-book_texts longest (run ∷ runs) false true within = within
-
--- the texts of a book are tune texts within the length
-book_within : (longest : ℕ) (book : List ℕ) → TextsWithin longest (book_answer longest book)
-book_within longest book = book_texts longest (tune_runs (lines_of book)) (ltb LONGEST_BOOK (length book)) (is_plain book) (runs_texts longest book _ refl)
-
-import_tests : (state : State) (texts : List (List ℕ)) (reply : Reply) (full spent : Bool) → ltb most_tunes (length state.tunes + length texts) ≡ full → ltb greatest_number (greatest state.tunes + length texts) ≡ spent
-    → IsState state → AllByRecursion (IsTextWithin longest_text) texts → KeepsLimits (cond full (state, Err ArchiveFull) (cond spent (state, Err NumbersSpent) (with_texts state texts, Ok reply)))
-import_tests state texts reply true spent room numbers is within = is
-import_tests state texts reply false true room numbers is within = is
-import_tests state texts reply false false room numbers is within = state_after_import state.tunes texts is within (ltb-false _ _ room) (ltb-false _ _ numbers)
-
-import_limits : (state : State) (texts : Texts) → IsState state → TextsWithin longest_text texts → KeepsLimits (import_book state texts)
-import_limits state (Err why) is within = is
-import_limits state (Ok texts) is within = import_tests state texts _ (ltb most_tunes (length state.tunes + length texts)) (ltb greatest_number (greatest state.tunes + length texts)) refl refl is within
-
-replace_limits : (state : State) (number revision : ℕ) (texts : Texts) → IsState state → TextsWithin longest_text texts → KeepsLimits (replace_book state number revision texts)
-replace_limits state number revision (Err why) is within = is
-replace_limits state number revision (Ok []) is within = is
-replace_limits state number revision (Ok (text ∷ [])) is within = state_after_text state.tunes number revision text (tune_at number state.tunes) is within.0
-replace_limits state number revision (Ok (text ∷ next ∷ texts)) is within = is
-
-delete_limits : (state : State) (number : ℕ) (found : Option Tune) → IsState state → KeepsLimits (delete_tune state number found)
-delete_limits state number None is = is
-delete_limits state number (Some tune) is = state_after_delete number state.tunes is
-
-show_limits : (state : State) (number : ℕ) (found : Option Tune) → IsState state → KeepsLimits (show_tune state number found)
-show_limits state number None is = is
-show_limits state number (Some tune) is = is
-
--- a state within the limits stays within them
-pub step_keeps_limits : (state : State) (command : Command) → IsState state → IsState (step state command).0
-step_keeps_limits state (Import book) is = import_limits state (book_answer longest_text book) is (book_within longest_text book)
-step_keeps_limits state (Replace number revision book) is = replace_limits state number revision (book_answer longest_text book) is (book_within longest_text book)
-step_keeps_limits state (Delete number) is = delete_limits state number (tune_at number state.tunes) is
-step_keeps_limits state (Show number) is = show_limits state number (tune_at number state.tunes) is
-step_keeps_limits state ExportAll is = is
+use Rattle.tune_store.proofs.LimitLemmas.{step_keeps_limits}
+use Rattle.tune_store.proofs.PlaceLemmas.{tune_at-number, tune_at-with_tune_same, tune_at-with_tune_other, tune_at-append, tune_at-without_other}
+use Rattle.tune_store.proofs.PlaceLemmas.{tune_at-without_same}
 
 -- AN ACCEPTED REPLACE
 -- the tune in the place of the one of a number is the tune of the number
-tune_at-with_tune : (number : ℕ) (new : Tune) (tunes : List Tune) → new.number ≡ number → IsSome (tune_at number tunes) → tune_at number (with_tune new tunes) ≡ Some new
+tune_at-with_tune : (number : ℕ) (new : Tune) (tunes : List Tune) → new.number ≡ number → IsSome (tune_at number tunes)
+    → tune_at number (with_tune new tunes) ≡ Some new
 tune_at-with_tune number new tunes e =
     let P : ℕ → Type 0 = λ n. IsSome (tune_at n tunes) → tune_at n (with_tune new tunes) ≡ Some new in subst P e (tune_at-with_tune_same new tunes)
 
@@ -147,8 +38,11 @@ RaisesOnOk number revision old outcome = IsTrue (is_ok outcome.1) → RaisesRevi
 abbrev revision : Option Tune → Option ℕ
 revision found = option_map (λ tune. tune.revision) found
 
-replace_tests : (state : State) (number named : ℕ) (text : List ℕ) (tune : Tune) (current young : Bool) → tune_at number state.tunes ≡ Some tune → eqb tune.revision named ≡ current
-    → RaisesOnOk number named state (cond (not current) (state, Err (Stale tune.revision)) (cond (not young) (state, Err Worn) (record { tunes = with_tune (revised tune text) state.tunes }, Ok (Replaced number (tune.revision + 1)))))
+replace_tests : (state : State) (number named : ℕ) (text : List ℕ) (tune : Tune) (current young : Bool) → tune_at number state.tunes ≡ Some tune
+    → eqb tune.revision named ≡ current
+    → RaisesOnOk number named state
+    (cond (not current) (state, Err (Stale tune.revision))
+    (cond (not young) (state, Err Worn) (record { tunes = with_tune (revised tune text) state.tunes }, Ok (Replaced number (tune.revision + 1)))))
 replace_tests state number named text tune false young found test accepted = cc
 replace_tests state number named text tune true false found test accepted = cc
 replace_tests state number named text tune true true found test accepted =
@@ -156,9 +50,11 @@ replace_tests state number named text tune true true found test accepted =
     let later = tune_at-with_tune number (revised tune text) state.tunes (tune_at-number number state.tunes tune found) (ap is_some found) in
     record { named = ap revision found ∙ ap (λ r. Some r) e; raised = ap revision later ∙ ap (λ r. Some (r + 1)) e }
 
-replace_found : (state : State) (number named : ℕ) (text : List ℕ) (found : Option Tune) → tune_at number state.tunes ≡ found → RaisesOnOk number named state (replace_tune state number named text found)
+replace_found : (state : State) (number named : ℕ) (text : List ℕ) (found : Option Tune) → tune_at number state.tunes ≡ found
+    → RaisesOnOk number named state (replace_tune state number named text found)
 replace_found state number named text None e accepted = cc
-replace_found state number named text (Some tune) e accepted = replace_tests state number named text tune (eqb tune.revision named) (ltb tune.revision greatest_revision) e refl accepted
+replace_found state number named text (Some tune) e accepted =
+    replace_tests state number named text tune (eqb tune.revision named) (ltb tune.revision greatest_revision) e refl accepted
 
 replace_raises : (state : State) (number named : ℕ) (texts : Texts) → RaisesOnOk number named state (replace_book state number named texts)
 replace_raises state number named (Err why) accepted = cc
@@ -184,7 +80,8 @@ abbrev LeavesRevision : ℕ → State → Outcome → Type 0
 LeavesRevision number old outcome = HasTune number outcome.0 → revision_of number outcome.0 ≡ revision_of number old
 
 -- an outcome by two tests, of which each refuses
-two_tests_leave : (number : ℕ) (old new : State) (a b : Bool) (x y : Refusal) (reply : Reply) → tune_at number new.tunes ≡ tune_at number old.tunes → LeavesRevision number old (cond a (old, Err x) (cond b (old, Err y) (new, Ok reply)))
+two_tests_leave : (number : ℕ) (old new : State) (a b : Bool) (x y : Refusal) (reply : Reply) → tune_at number new.tunes ≡ tune_at number old.tunes
+    → LeavesRevision number old (cond a (old, Err x) (cond b (old, Err y) (new, Ok reply)))
 two_tests_leave number old new true b x y reply same there = refl
 two_tests_leave number old new false true x y reply same there = refl
 two_tests_leave number old new false false x y reply same there = ap revision same
@@ -192,18 +89,23 @@ two_tests_leave number old new false false x y reply same there = ap revision sa
 import_leaves : (state : State) (number : ℕ) (texts : Texts) → HasTune number state → LeavesRevision number state (import_book state texts)
 import_leaves state number (Err why) was there = refl
 import_leaves state number (Ok texts) was there =
-    two_tests_leave number state (with_texts state texts) (ltb most_tunes (length state.tunes + length texts)) (ltb greatest_number (greatest state.tunes + length texts)) _ _ _ (tune_at-append number state.tunes _ was) there
+    two_tests_leave number state (with_texts state texts) (ltb most_tunes (length state.tunes + length texts))
+    (ltb greatest_number (greatest state.tunes + length texts)) _ _ _ (tune_at-append number state.tunes _ was) there
 
-replace_found_leaves : (state : State) (number other named : ℕ) (text : List ℕ) (found : Option Tune) → (other ≡ number → ⊥) → tune_at other state.tunes ≡ found → LeavesRevision number state (replace_tune state other named text found)
+replace_found_leaves : (state : State) (number other named : ℕ) (text : List ℕ) (found : Option Tune) → (other ≡ number → ⊥) → tune_at other state.tunes ≡ found
+    → LeavesRevision number state (replace_tune state other named text found)
 replace_found_leaves state number other named text None apart e there = refl
 replace_found_leaves state number other named text (Some tune) apart e there =
     let ne = λ (same : tune.number ≡ number). apart (sym (tune_at-number other state.tunes tune e) ∙ same) in
-    two_tests_leave number state record { tunes = with_tune (revised tune text) state.tunes } (not (eqb tune.revision named)) (not (ltb tune.revision greatest_revision)) _ _ _ (tune_at-with_tune_other number (revised tune text) state.tunes ne) there
+    two_tests_leave number state record { tunes = with_tune (revised tune text) state.tunes } (not (eqb tune.revision named))
+    (not (ltb tune.revision greatest_revision)) _ _ _ (tune_at-with_tune_other number (revised tune text) state.tunes ne) there
 
-replace_leaves : (state : State) (number other named : ℕ) (texts : Texts) → (other ≡ number → ⊥) → LeavesRevision number state (replace_book state other named texts)
+replace_leaves : (state : State) (number other named : ℕ) (texts : Texts) → (other ≡ number → ⊥)
+    → LeavesRevision number state (replace_book state other named texts)
 replace_leaves state number other named (Err why) apart there = refl
 replace_leaves state number other named (Ok []) apart there = refl
-replace_leaves state number other named (Ok (text ∷ [])) apart there = replace_found_leaves state number other named text (tune_at other state.tunes) apart refl there
+replace_leaves state number other named (Ok (text ∷ [])) apart there =
+    replace_found_leaves state number other named text (tune_at other state.tunes) apart refl there
 replace_leaves state number other named (Ok (text ∷ next ∷ texts)) apart there = refl
 
 delete_leaves : (state : State) (number other : ℕ) (found : Option Tune) → IsState state → LeavesRevision number state (delete_tune state other found)
@@ -243,12 +145,14 @@ tune_is_there number revision state has = found (tune_at number state.tunes) has
     found (Some tune) e = refl
 
 -- an accepted Replace raises the revision that the tune has
-replaced_counts : (state : State) (number current : ℕ) (command : Command) → IsTrue (replaces number state command) → revision_of number state ≡ Some current → revision_of number (step state command).0 ≡ Some (current + 1)
+replaced_counts : (state : State) (number current : ℕ) (command : Command) → IsTrue (replaces number state command) → revision_of number state ≡ Some current
+    → revision_of number (step state command).0 ≡ Some (current + 1)
 replaced_counts state number current (Replace replaced named book) accepted has =
     let parts = and_parts (eqb replaced number) (accepts state (Replace replaced named book)) accepted in
     let e : replaced ≡ number = eqb-true replaced number parts.0 in
     let P : ℕ → Type 0 = λ n. RaisesRevision n named state (step state (Replace replaced named book)).0 in
-    let raises : RaisesRevision number named state (step state (Replace replaced named book)).0 = subst P e (accepted_replace_raises state replaced named book parts.1) in
+    let raises : RaisesRevision number named state (step state (Replace replaced named book)).0 =
+    subst P e (accepted_replace_raises state replaced named book parts.1) in
     let same : named ≡ current = cc (raises.named, has) in
     raises.raised ∙ ap (λ r. Some (r + 1)) same
 replaced_counts state number current (Import book) accepted has = cc
@@ -256,7 +160,8 @@ replaced_counts state number current (Delete deleted) accepted has = cc
 replaced_counts state number current (Show shown) accepted has = cc
 replaced_counts state number current ExportAll accepted has = cc
 
-step_counts : (state : State) (number current : ℕ) (command : Command) → IsState state → revision_of number state ≡ Some current → HasTune number (step state command).0
+step_counts : (state : State) (number current : ℕ) (command : Command) → IsState state → revision_of number state ≡ Some current
+    → HasTune number (step state command).0
     → revision_of number (step state command).0 ≡ Some (current + cond (replaces number state command) 1 0)
 step_counts state number current command is has stays = elim (cases_Bool (replaces number state command)) [
   | inl replaced ↦ rw replaced (replaced_counts state number current command replaced has)
@@ -269,11 +174,13 @@ revision_counts state number current [] is has stays = rw add-zero has
 revision_counts state number current (command ∷ commands) is has stays =
     let next = step_counts state number current command is has stays.0 in
     let counted = revision_counts (step state command).0 number _ commands (step_keeps_limits state command is) next stays.1 in
-    let same : current + cond (replaces number state command) 1 0 + times_replaced number (step state command).0 commands ≡ current + (cond (replaces number state command) 1 0 + times_replaced number (step state command).0 commands) = omega arith in
+    let same : current + cond (replaces number state command) 1 0 + times_replaced number (step state command).0 commands
+    ≡ current + (cond (replaces number state command) 1 0 + times_replaced number (step state command).0 commands) = omega arith in
     counted ∙ ap (λ r. Some r) same
 
 -- so a Replace that names a revision of before is accepted only where no accepted one came since
-pub accepted_replace_is_current : (state : State) (number current : ℕ) (commands : List Command) (book : List ℕ) → IsState state → AcceptedReplaceIsCurrent state number current commands book
+pub accepted_replace_is_current : (state : State) (number current : ℕ) (commands : List Command) (book : List ℕ) → IsState state
+    → AcceptedReplaceIsCurrent state number current commands book
 accepted_replace_is_current state number current commands book is has stays accepted =
     let raises = accepted_replace_raises (after state commands) number current book accepted in
     let counted = revision_counts state number current commands is has stays in

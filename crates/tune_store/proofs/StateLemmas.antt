@@ -1,20 +1,17 @@
--- Lists of tunes by rising number.
-use Rattle.std.proofs.Common.{◌≡◌, ℕ, zero, suc, ◌+◌, ◌<◌, ◌≤◌, max, Bool, true, false, not, cond, eqb, ltb, List, [], ◌∷◌, ◌++◌, length, take, drop, get_or, Option, Some, None, Ok, Err, refl, ap, sym, subst, ◌∙◌, arith, add-zero, inl, inr, length-append}
-use Rattle.std.proofs.Math.ListN.{set}
-use Rattle.std.specs.List.{AllByRecursion, AllWithin}
-use Rattle.std.specs.Cmp.{ranked}
-use Rattle.std.specs.Ordering.{ordering_index, nat_cmp}
-use Rattle.std.specs.declared.cmp.Ordering.TheVariants.{Less, Greater}
-use Rattle.std.proofs.lemmas.Bool.Decides.{nat_tests}
-use Rattle.std.proofs.lemmas.Bool.{ne_eqb, eq-eqb, eqb-true, ltb-true, cases_lt, cases_Bool}
+-- What a command makes of a list of tunes by rising number, and its limits.
+use Rattle.std.proofs.Common.{◌≡◌, ℕ, zero, suc, ◌+◌, ◌<◌, ◌≤◌, max, Bool, true, false, not, cond, eqb, ltb, List, [], ◌∷◌, ◌++◌, length, get_or}
+use Rattle.std.proofs.Common.{Option, Some, None, Ok, Err, refl, ap, sym, subst, ◌∙◌, arith, add-zero, inl, inr, length-append}
+use Rattle.std.specs.List.{AllByRecursion}
+use Rattle.std.proofs.lemmas.Bool.{eqb-true, ltb-true, cases_Bool}
 use Rattle.abc_fields.specs.Tunes.{IsTextWithin}
 use Rattle.tune_store.specs.State.{RisesFrom, greatest, IsTune, IsState}
-use Rattle.tune_store.specs.Step.{Outcome, tune_at, numbered, with_tune, without, revised, replace_tune}
+use Rattle.tune_store.specs.Step.{Outcome, numbered, with_tune, without, revised, replace_tune}
 use Rattle.tune_store.specs.declared.tune.Tune.{Tune}
 use Rattle.tune_store.specs.Limits.{longest_text, most_tunes, greatest_number, greatest_revision}
 use Rattle.tune_store.specs.declared.command.Reply.TheVariants.{Replaced}
 use Rattle.tune_store.specs.declared.command.Refusal.TheVariants.{Stale, Worn}
 
+-- RISING NUMBERS
 -- the last number is the greatest
 pub greatest_last : (low : ℕ) (tunes : List Tune) (n : ℕ) (d : Tune) → RisesFrom low tunes → n + 1 ≡ length tunes → greatest tunes ≡ (get_or tunes n d).number
 greatest_last low [] n d rises l = absurd (omega arith)
@@ -45,7 +42,8 @@ each-append [] more each later = later
 each-append (tune ∷ tunes) more each later = (each.0, each-append tunes more each.1 later)
 
 -- NEW TUNES
-numbered-push : (number : ℕ) (texts : List (List ℕ)) (text : List ℕ) → numbered number (texts ++ text ∷ []) ≡ numbered number texts ++ record { number = number + length texts; revision = 1; text = text } ∷ []
+numbered-push : (number : ℕ) (texts : List (List ℕ)) (text : List ℕ)
+    → numbered number (texts ++ text ∷ []) ≡ numbered number texts ++ record { number = number + length texts; revision = 1; text = text } ∷ []
 numbered-push number [] text = rw add-zero refl
 numbered-push number (first ∷ texts) text =
     let place : number + 1 + length texts ≡ number + length (first ∷ texts) = omega arith in
@@ -53,8 +51,10 @@ numbered-push number (first ∷ texts) text =
     (numbered-push (number + 1) texts text ∙ ap (λ n. numbered (number + 1) texts ++ record { number = n; revision = 1; text = text } ∷ []) place)
 
 -- the next of new tunes goes to their end
-pub numbered_next : (first number : ℕ) (texts : List (List ℕ)) (text : List ℕ) → number ≡ first + length texts → numbered first texts ++ record { number = number; revision = 1; text = text } ∷ [] ≡ numbered first (texts ++ text ∷ [])
-numbered_next first number texts text e = sym (numbered-push first texts text ∙ ap (λ n. numbered first texts ++ record { number = n; revision = 1; text = text } ∷ []) (sym e))
+pub numbered_next : (first number : ℕ) (texts : List (List ℕ)) (text : List ℕ) → number ≡ first + length texts
+    → numbered first texts ++ record { number = number; revision = 1; text = text } ∷ [] ≡ numbered first (texts ++ text ∷ [])
+numbered_next first number texts text e =
+    sym (numbered-push first texts text ∙ ap (λ n. numbered first texts ++ record { number = n; revision = 1; text = text } ∷ []) (sym e))
 
 pub length-numbered : (number : ℕ) (texts : List (List ℕ)) → length (numbered number texts) ≡ length texts
 length-numbered number [] = refl
@@ -80,7 +80,8 @@ each-numbered number (text ∷ texts) within =
 
 -- new tunes of good texts keep the limits, where there is room for them
 pub state_after_import : (tunes : List Tune) (texts : List (List ℕ)) → IsState (record { tunes = tunes }) → AllByRecursion (IsTextWithin longest_text) texts
-    → length tunes + length texts ≤ most_tunes → greatest tunes + length texts ≤ greatest_number → IsState (record { tunes = tunes ++ numbered (greatest tunes + 1) texts })
+    → length tunes + length texts ≤ most_tunes → greatest tunes + length texts ≤ greatest_number
+    → IsState (record { tunes = tunes ++ numbered (greatest tunes + 1) texts })
 state_after_import tunes texts is within room numbers =
     let P : ℕ → Type 0 = λ n. RisesFrom n (numbered (greatest tunes + 1) texts) in
     let low : greatest tunes ≡ max 0 (greatest tunes) = omega arith in
@@ -92,7 +93,8 @@ state_after_import tunes texts is within room numbers =
       count = omega (arith, length-append tunes (numbered (greatest tunes + 1) texts), length-numbered (greatest tunes + 1) texts);
     }
   where
-    new_numbers_top : (tunes : List Tune) (texts : List (List ℕ)) → greatest tunes + length texts ≤ greatest_number → greatest tunes ≤ greatest_number → greatest (tunes ++ numbered (greatest tunes + 1) texts) ≤ greatest_number
+    new_numbers_top : (tunes : List Tune) (texts : List (List ℕ)) → greatest tunes + length texts ≤ greatest_number → greatest tunes ≤ greatest_number
+        → greatest (tunes ++ numbered (greatest tunes + 1) texts) ≤ greatest_number
     new_numbers_top tunes [] numbers h = let e = greatest-append tunes [] in omega arith
     new_numbers_top tunes (text ∷ texts) numbers h =
         let e = greatest-append tunes (numbered (greatest tunes + 1) (text ∷ texts)) in
@@ -144,26 +146,31 @@ state_after_replace new tunes is state = record {
 pub revised_is_tune : (tune : Tune) (text : List ℕ) → IsTextWithin longest_text text → tune.revision < greatest_revision → IsTune (revised tune text)
 revised_is_tune tune text within less = record { revised = omega arith; revision = omega arith; text = within.tune_text; fits = within.fits }
 
--- a replacement keeps the limits, where its text is good
 -- an outcome whose state keeps the limits
 abbrev pub KeepsLimits : Outcome → Type 0
 KeepsLimits outcome = IsState outcome.0
 
-by_tests : (tune : Tune) (tunes : List Tune) (number : ℕ) (text : List ℕ) (stale young : Bool) → IsTextWithin longest_text text → ltb tune.revision greatest_revision ≡ young → IsState (record { tunes = tunes })
-    → KeepsLimits (cond stale (record { tunes = tunes }, Err (Stale tune.revision)) (cond (not young) (record { tunes = tunes }, Err Worn) (record { tunes = with_tune (revised tune text) tunes }, Ok (Replaced number (tune.revision + 1)))))
+by_tests : (tune : Tune) (tunes : List Tune) (number : ℕ) (text : List ℕ) (stale young : Bool) → IsTextWithin longest_text text
+    → ltb tune.revision greatest_revision ≡ young → IsState (record { tunes = tunes })
+    → KeepsLimits (cond stale (record { tunes = tunes }, Err (Stale tune.revision))
+    (cond (not young) (record { tunes = tunes }, Err Worn)
+    (record { tunes = with_tune (revised tune text) tunes }, Ok (Replaced number (tune.revision + 1)))))
 by_tests tune tunes number text true young within y state = state
 by_tests tune tunes number text false false within y state = state
-by_tests tune tunes number text false true within y state = state_after_replace (revised tune text) tunes (revised_is_tune tune text within (ltb-true tune.revision greatest_revision y)) state
+by_tests tune tunes number text false true within y state =
+    state_after_replace (revised tune text) tunes (revised_is_tune tune text within (ltb-true tune.revision greatest_revision y)) state
 
 -- a replacement keeps the limits, where its text is good
-pub state_after_text : (tunes : List Tune) (number revision : ℕ) (text : List ℕ) (found : Option Tune) → IsState (record { tunes = tunes }) → IsTextWithin longest_text text
+pub state_after_text : (tunes : List Tune) (number revision : ℕ) (text : List ℕ) (found : Option Tune) → IsState (record { tunes = tunes })
+    → IsTextWithin longest_text text
     → KeepsLimits (replace_tune (record { tunes = tunes }) number revision text found)
 state_after_text tunes number revision text None state within = state
 state_after_text tunes number revision text (Some tune) state within =
     by_tests tune tunes number text (not (eqb tune.revision revision)) (ltb tune.revision greatest_revision) within refl state
 
 -- the one of texts within a length is within it
-pub only_within : (longest : ℕ) (texts : List (List ℕ)) (text : List ℕ) → AllByRecursion (IsTextWithin longest) texts → texts ≡ text ∷ [] → IsTextWithin longest text
+pub only_within : (longest : ℕ) (texts : List (List ℕ)) (text : List ℕ) → AllByRecursion (IsTextWithin longest) texts → texts ≡ text ∷ []
+    → IsTextWithin longest text
 only_within longest texts text each e = let P : List (List ℕ) → Type 0 = λ ts. AllByRecursion (IsTextWithin longest) ts in (subst P e each).0
 
 -- A TUNE LESS
@@ -207,65 +214,3 @@ state_after_delete number tunes state = record {
   tunes = each-without number tunes state.tunes;
   count = omega (arith, length-without number tunes, state.count);
 }
-
--- LOOK-UPS
--- each number is above what the list rises from
-above : (low : ℕ) (tunes : List Tune) (n : ℕ) (d : Tune) → RisesFrom low tunes → n < length tunes → low < (get_or tunes n d).number
-above low [] n d rises l = absurd (omega arith)
-above low (tune ∷ tunes) zero d rises l = rises.0
-above low (tune ∷ tunes) (suc n) d rises l = let later = above tune.number tunes n d rises.1 (omega arith) in let first = rises.0 in omega arith
-
--- numbers rise with the place
-pub ordered : (low : ℕ) (tunes : List Tune) (i j : ℕ) (d : Tune) → RisesFrom low tunes → i ≤ j → j < length tunes → (get_or tunes i d).number ≤ (get_or tunes j d).number
-ordered low [] i j d rises h l = absurd (omega arith)
-ordered low (tune ∷ tunes) zero zero d rises h l = omega arith
-ordered low (tune ∷ tunes) zero (suc j) d rises h l = let later = above tune.number tunes j d rises.1 (omega arith) in omega arith
-ordered low (tune ∷ tunes) (suc i) zero d rises h l = absurd (omega arith)
-ordered low (tune ∷ tunes) (suc i) (suc j) d rises h l = ordered tune.number tunes i j d rises.1 (omega arith) (omega arith)
-
--- the tune at a place is the tune of its number
-pub tune_at-place : (low number : ℕ) (tunes : List Tune) (n : ℕ) (d : Tune) → RisesFrom low tunes → n < length tunes → (get_or tunes n d).number ≡ number → tune_at number tunes ≡ Some (get_or tunes n d)
-tune_at-place low number [] n d rises l e = absurd (omega arith)
-tune_at-place low number (tune ∷ tunes) zero d rises l e = let same = eq-eqb tune.number number e in rw same refl
-tune_at-place low number (tune ∷ tunes) (suc n) d rises l e =
-    let later = above tune.number tunes n d rises.1 (omega arith) in
-    let other = ne_eqb tune.number number (λ same. omega arith) in
-    rw other (tune_at-place tune.number number tunes n d rises.1 (omega arith) e)
-
--- a tune goes to its place
-pub with_tune-place : (low : ℕ) (new : Tune) (tunes : List Tune) (n : ℕ) (d : Tune) → RisesFrom low tunes → n < length tunes → (get_or tunes n d).number ≡ new.number → with_tune new tunes ≡ set tunes n new
-with_tune-place low new [] n d rises l e = absurd (omega arith)
-with_tune-place low new (tune ∷ tunes) zero d rises l e = let same = eq-eqb tune.number new.number e in rw same refl
-with_tune-place low new (tune ∷ tunes) (suc n) d rises l e =
-    let later = above tune.number tunes n d rises.1 (omega arith) in
-    let other = ne_eqb tune.number new.number (λ same. omega arith) in
-    rw other (ap (λ ts. tune ∷ ts) (with_tune-place tune.number new tunes n d rises.1 (omega arith) e))
-
--- a tune is taken out at its place
-pub without-place : (low number : ℕ) (tunes : List Tune) (n : ℕ) (d : Tune) → RisesFrom low tunes → n < length tunes → (get_or tunes n d).number ≡ number → without number tunes ≡ take n tunes ++ drop (suc n) tunes
-without-place low number [] n d rises l e = absurd (omega arith)
-without-place low number (tune ∷ tunes) zero d rises l e = let same = eq-eqb tune.number number e in rw same refl
-without-place low number (tune ∷ tunes) (suc n) d rises l e =
-    let later = above tune.number tunes n d rises.1 (omega arith) in
-    let other = ne_eqb tune.number number (λ same. omega arith) in
-    rw other (ap (λ ts. tune ∷ ts) (without-place tune.number number tunes n d rises.1 (omega arith) e))
-
--- a number that no tune has
-pub tune_at-none : (number : ℕ) (tunes : List Tune) → ((n : ℕ) (d : Tune) → n < length tunes → (get_or tunes n d).number ≡ number → ⊥) → tune_at number tunes ≡ None
-tune_at-none number [] h = refl
-tune_at-none number (tune ∷ tunes) h =
-    let other = ne_eqb tune.number number (h 0 tune (omega arith)) in
-    rw other (tune_at-none number tunes (λ n d l. h (suc n) d (omega arith)))
-
--- BINARY SEARCH
--- the answer of a comparison with one number rises with the other
-pub cmp_rises : (x y number : ℕ) → x ≤ y → ordering_index (nat_cmp x number) ≤ ordering_index (nat_cmp y number)
-cmp_rises x y number le = grind (arith, nat_tests)
-
--- where all numbers are less below a place, and greater from it on, none is equal
-pub no_place : (number : ℕ) (tunes : List Tune) (place : ℕ) → AllWithin (λ tune. nat_cmp tune.number number ≡ Less) tunes 0 place → AllWithin (λ tune. nat_cmp tune.number number ≡ Greater) tunes place (length tunes)
-    → (n : ℕ) (d : Tune) → n < length tunes → (get_or tunes n d).number ≡ number → ⊥
-no_place number tunes place less greater n d l e = elim (cases_lt n place) [
-  | inl below ↦ let lower : (get_or tunes n d).number < number = ranked _ _ _ (sym (less n d (omega arith) below)) in omega arith
-  | inr from ↦ let higher : number < (get_or tunes n d).number = ranked _ _ _ (sym (greater n d from l)) in omega arith
-]

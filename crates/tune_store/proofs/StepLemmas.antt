@@ -1,20 +1,22 @@
 -- Answers by the step.
-use Rattle.std.proofs.Common.{◌≡◌, ℕ, ◌+◌, Bool, true, false, not, cond, eqb, ltb, List, [], ◌∷◌, length, Option, Some, None, Result, Ok, Err, refl, sym, ap, ◌∙◌, inl, inr, ◌⊎◌}
-use Rattle.std.specs.Prelude.{◌≢◌, ◌↔◌, IfErr}
+use Rattle.std.proofs.Common.{◌≡◌, ℕ, ◌+◌, Bool, true, false, not, cond, eqb, ltb, List, [], ◌∷◌, length, Option, Some, None, Result, Ok, Err, refl, sym, ap}
+use Rattle.std.proofs.Common.{◌∙◌, inl, inr, ◌⊎◌, arith}
+use Rattle.std.specs.Prelude.{◌≢◌, ◌↔◌, IfErr, ⊤}
 use Rattle.abc_fields.specs.Books.{Texts, book_answer}
 use Rattle.abc_fields.specs.declared.book.BookFault.{BookFault}
 use Rattle.abc_fields.specs.declared.book.BookFault.TheVariants as fault
 use Rattle.tune_store.specs.State.{State, Standing, greatest}
 use Rattle.tune_store.specs.Step.{Outcome, refusal_of, step, import_book, replace_book, replace_texts, replace_tune, delete_tune, show_tune, tune_at}
 use Rattle.tune_store.specs.Answers.{Answers, open_at, stepped, no_memory, failed_before, failed_after, is_closed, passed}
-use Rattle.tune_store.specs.Stops.{Among}
+use Rattle.tune_store.specs.Stops.{Among, Passes}
+use Rattle.tune_store.specs.Inside.Lists.{state_of, StaysOrGives}
 use Rattle.tune_store.specs.declared.tune.Tune.{Tune}
 use Rattle.tune_store.specs.Limits.{longest_text, most_tunes, greatest_number, greatest_revision}
 use Rattle.tune_store.specs.declared.command.Command.{Command}
 use Rattle.tune_store.specs.declared.command.Command.TheVariants.{Import, Replace, Delete, Show, ExportAll}
 use Rattle.tune_store.specs.declared.command.Reply.{Reply}
 use Rattle.tune_store.specs.declared.command.Refusal.{Refusal}
-use Rattle.tune_store.specs.declared.command.Refusal.TheVariants.{OutOfMemory, Device, Closed}
+use Rattle.tune_store.specs.declared.command.Refusal.TheVariants.{Device, Closed}
 
 -- A REFUSED COMMAND CHANGES NOTHING
 -- where the answer is a refusal, the state is this one
@@ -78,7 +80,8 @@ abbrev NotOfDevice : Outcome → Type 0
 NotOfDevice outcome = (refusal : Refusal) → outcome.1 ≡ Err refusal → IsOfDevice refusal → ⊥
 
 -- an outcome by two tests, of which each refuses for no device
-two_tests_not_of_device : (old new : State) (a b : Bool) (x y : Refusal) (reply : Reply) → (IsOfDevice x → ⊥) → (IsOfDevice y → ⊥) → NotOfDevice (cond a (old, Err x) (cond b (old, Err y) (new, Ok reply)))
+two_tests_not_of_device : (old new : State) (a b : Bool) (x y : Refusal) (reply : Reply) → (IsOfDevice x → ⊥) → (IsOfDevice y → ⊥)
+    → NotOfDevice (cond a (old, Err x) (cond b (old, Err y) (new, Ok reply)))
 two_tests_not_of_device old new true b x y reply not_x not_y refusal h of = let same : x ≡ refusal = cc in not_x (rw same of)
 two_tests_not_of_device old new false true x y reply not_x not_y refusal h of = let same : y ≡ refusal = cc in not_y (rw same of)
 two_tests_not_of_device old new false false x y reply not_x not_y refusal h of = cc
@@ -89,7 +92,8 @@ import_not_of_device old (Ok texts) refusal h of =
     two_tests_not_of_device old _ (ltb most_tunes (length old.tunes + length texts)) (ltb greatest_number (greatest old.tunes + length texts)) _ _ _
     (λ x. elim x [ inl e ↦ cc | inr e ↦ cc ]) (λ y. elim y [ inl e ↦ cc | inr e ↦ cc ]) refusal h of
 
-replace_tune_not_of_device : (old : State) (number revision : ℕ) (text : List ℕ) (found : Option Tune) → NotOfDevice (replace_tune old number revision text found)
+replace_tune_not_of_device : (old : State) (number revision : ℕ) (text : List ℕ) (found : Option Tune)
+    → NotOfDevice (replace_tune old number revision text found)
 replace_tune_not_of_device old number revision text None refusal h of = elim of [ inl e ↦ cc | inr e ↦ cc ]
 replace_tune_not_of_device old number revision text (Some tune) refusal h of =
     two_tests_not_of_device old _ (not (eqb tune.revision revision)) (not (ltb tune.revision greatest_revision)) _ _ _
@@ -97,7 +101,8 @@ replace_tune_not_of_device old number revision text (Some tune) refusal h of =
 
 replace_texts_not_of_device : (old : State) (number revision : ℕ) (texts : List (List ℕ)) → NotOfDevice (replace_texts old number revision texts)
 replace_texts_not_of_device old number revision [] refusal h of = elim of [ inl e ↦ cc | inr e ↦ cc ]
-replace_texts_not_of_device old number revision (text ∷ []) refusal h of = replace_tune_not_of_device old number revision text (tune_at number old.tunes) refusal h of
+replace_texts_not_of_device old number revision (text ∷ []) refusal h of =
+    replace_tune_not_of_device old number revision text (tune_at number old.tunes) refusal h of
 replace_texts_not_of_device old number revision (text ∷ next ∷ texts) refusal h of = elim of [ inl e ↦ cc | inr e ↦ cc ]
 
 replace_not_of_device : (old : State) (number revision : ℕ) (texts : Texts) → NotOfDevice (replace_book old number revision texts)
@@ -121,42 +126,68 @@ step_not_of_device old (Show number) = show_not_of_device old number (tune_at nu
 
 -- WHAT AN ANSWER SAYS OF THE STORE
 -- after each refusal but that of a device that failed, the store stands for what it stood for
-pub refused_stays : (old new : Standing) (command : Command) (answer : Result Reply Refusal) → Answers old command answer new → IfErr answer (λ refusal. refusal ≢ Device → new ≡ old)
+pub refused_stays : (old new : Standing) (command : Command) (answer : Result Reply Refusal) → Answers old command answer new
+    → IfErr answer (λ refusal. refusal ≢ Device → new ≡ old)
 refused_stays _ _ _ _ (stepped old new command (Ok reply) e) = tt
-refused_stays _ _ _ _ (stepped old new command (Err refusal) e) = λ other. ap open_at (sym (ap (λ (o : Outcome). o.0) e) ∙ refused_keeps old command refusal (ap (λ (o : Outcome). o.1) e))
+refused_stays _ _ _ _ (stepped old new command (Err refusal) e) =
+    λ other. ap open_at (sym (ap (λ (o : Outcome). o.0) e) ∙ refused_keeps old command refusal (ap (λ (o : Outcome). o.1) e))
 refused_stays _ _ _ _ (no_memory old command) = λ other. refl
 refused_stays _ _ _ _ (failed_before old command) = λ other. absurd (other refl)
 refused_stays _ _ _ _ (failed_after old command) = λ other. absurd (other refl)
 refused_stays _ _ _ _ (is_closed old command) = λ other. refl
 
 -- a store whose device failed in a call is closed after it
-pub failing_closes : (old new : Standing) (command : Command) (answer : Result Reply Refusal) → Answers old command answer new → answer ≡ Err Device → new.closed ≡ true
-failing_closes _ _ _ _ (stepped old new command answer e) failed = absurd (step_not_of_device old command Device (ap (λ (o : Outcome). o.1) e ∙ failed) (inl refl))
+pub failing_closes : (old new : Standing) (command : Command) (answer : Result Reply Refusal) → Answers old command answer new → answer ≡ Err Device
+    → new.closed ≡ true
+failing_closes _ _ _ _ (stepped old new command answer e) failed =
+    absurd (step_not_of_device old command Device (ap (λ (o : Outcome). o.1) e ∙ failed) (inl refl))
 failing_closes _ _ _ _ (no_memory old command) failed = cc
 failing_closes _ _ _ _ (failed_before old command) failed = refl
 failing_closes _ _ _ _ (failed_after old command) failed = refl
 failing_closes _ _ _ _ (is_closed old command) failed = refl
 
 -- a store answers that it is closed exactly where it is
-pub closed_answers : (old new : Standing) (command : Command) (answer : Result Reply Refusal) → Answers old command answer new → (answer ≡ Err Closed) ↔ (old.closed ≡ true)
-closed_answers _ _ _ _ (stepped old new command answer e) = (λ h. absurd (step_not_of_device old command Closed (ap (λ (o : Outcome). o.1) e ∙ h) (inr refl)), λ h. cc)
+pub closed_answers : (old new : Standing) (command : Command) (answer : Result Reply Refusal) → Answers old command answer new
+    → (answer ≡ Err Closed) ↔ (old.closed ≡ true)
+closed_answers _ _ _ _ (stepped old new command answer e) =
+    (λ h. absurd (step_not_of_device old command Closed (ap (λ (o : Outcome). o.1) e ∙ h) (inr refl)), λ h. cc)
 closed_answers _ _ _ _ (no_memory old command) = (λ h. cc, λ h. cc)
 closed_answers _ _ _ _ (failed_before old command) = (λ h. cc, λ h. cc)
 closed_answers _ _ _ _ (failed_after old command) = (λ h. cc, λ h. cc)
 closed_answers _ _ _ _ (is_closed old command) = (λ h. refl, λ h. refl)
 
 -- the state after an answer is the state before, or one that the command went on to
-pub answers_reach : (old new : Standing) (command : Command) (answer : Result Reply Refusal) → Answers old command answer new → Among new.state (old.state ∷ passed old.state command answer)
+pub answers_reach : (old new : Standing) (command : Command) (answer : Result Reply Refusal) → Answers old command answer new
+    → Among new.state (old.state ∷ passed old.state command answer)
 answers_reach _ _ _ _ (stepped old new command (Ok reply) e) = inr (inl (sym (ap (λ (o : Outcome). o.0) e)))
-answers_reach _ _ _ _ (stepped old new command (Err refusal) e) = inl (sym (ap (λ (o : Outcome). o.0) e) ∙ refused_keeps old command refusal (ap (λ (o : Outcome). o.1) e))
+answers_reach _ _ _ _ (stepped old new command (Err refusal) e) =
+    inl (sym (ap (λ (o : Outcome). o.0) e) ∙ refused_keeps old command refusal (ap (λ (o : Outcome). o.1) e))
 answers_reach _ _ _ _ (no_memory old command) = inl refl
 answers_reach _ _ _ _ (failed_before old command) = inl refl
 answers_reach _ _ _ _ (failed_after old command) = inr (inl refl)
 answers_reach _ _ _ _ (is_closed old command) = inl refl
 
 -- A STORE IN MEMORY
--- memory was refused and nothing changed, or the answer is that of the plain list
-pub in_memory : (old new : List Tune) (command : Command) (answer : Result Reply Refusal) → ((answer ≡ Err OutOfMemory) × (new ≡ old)) ⊎ (step (record { tunes = old }) command ≡ (record { tunes = new }, answer))
-    → Answers (open_at (record { tunes = old })) command answer (open_at (record { tunes = new }))
-in_memory old new command answer (inl h) = rw (h.0, h.1) (no_memory (record { tunes = old }) command)
-in_memory old new command answer (inr h) = stepped (record { tunes = old }) (record { tunes = new }) command answer h
+-- it is out of memory and stays, or its answer is that of the plain list
+pub in_memory : (old new : List Tune) (command : Command) (answer : Result Reply Refusal)
+    → StaysOrGives old new answer (step (state_of old) command) → Answers (open_at (state_of old)) command answer (open_at (state_of new))
+in_memory old new command answer (inl h) = rw (h.0, h.1) (no_memory (state_of old) command)
+in_memory old new command answer (inr h) = stepped (state_of old) (state_of new) command answer h
+
+-- it has no device that fails
+pub never_fails : (old new : State) (command : Command) (answer : Result Reply Refusal)
+    → Answers (open_at old) command answer (open_at new) → answer ≡ Err Device → ⊥
+never_fails old new command answer answers failed = let closed : false ≡ true = failing_closes _ _ _ _ answers failed in cc
+
+-- it passes the states of its answer, and no stop leaves any of them
+pub passes_in_memory : (old new : State) (command : Command) (answer : Result Reply Refusal)
+    → Answers (open_at old) command answer (open_at new)
+    → Passes {S = State} (λ _. ⊤) (λ _. ⊤) open_at (λ _. 0) (λ _ _ _. ⊥) (λ _ _. ⊥) old new (passed old command answer)
+passes_in_memory old new command answer answers = record {
+  reaches = answers_reach _ _ _ _ answers;
+  was_honest = λ honest. honest;
+  stays_sound = λ sound. sound;
+  later = omega arith;
+  keeps = λ honest since file left. left;
+  leaves = λ sound honest since file early left. absurd left;
+}

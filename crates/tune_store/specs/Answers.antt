@@ -7,23 +7,30 @@ use Rattle.tune_store.specs.declared.command.Reply.{Reply}
 use Rattle.tune_store.specs.declared.command.Refusal.{Refusal}
 use Rattle.tune_store.specs.declared.command.Refusal.TheVariants.{OutOfMemory, Device, Closed}
 
+-- an open store of this state
 abbrev pub open_at : State → Standing
 open_at state = record { state = state; closed = false }
 
+-- a closed one
 abbrev pub closed_at : State → Standing
 closed_at state = record { state = state; closed = true }
 
 -- what a store stood for, a command, its answer, and what the store stands for then
 pub data Answers : Standing → Command → Result Reply Refusal → Standing → Type 0 where
   -- the answer and the state are those of the plain list
-  stepped : (old new : State) (command : Command) (answer : Result Reply Refusal) → step old command ≡ (new, answer) → Answers (open_at old) command answer (open_at new)
-  -- memory was refused, and nothing changed
-  no_memory : (old : State) (command : Command) → Answers (open_at old) command (Err OutOfMemory) (open_at old)
+  stepped : (old new : State) (command : Command) (answer : Result Reply Refusal)
+      → step old command ≡ (new, answer) → Answers (open_at old) command answer (open_at new)
+  -- out of memory, and nothing changed
+  no_memory : (old : State) (command : Command)
+      → Answers (open_at old) command (Err OutOfMemory) (open_at old)
   -- the device failed: the command did not take place, or it did
-  failed_before : (old : State) (command : Command) → Answers (open_at old) command (Err Device) (closed_at old)
-  failed_after : (old : State) (command : Command) → Answers (open_at old) command (Err Device) (closed_at (step old command).0)
+  failed_before : (old : State) (command : Command)
+      → Answers (open_at old) command (Err Device) (closed_at old)
+  failed_after : (old : State) (command : Command)
+      → Answers (open_at old) command (Err Device) (closed_at (step old command).0)
   -- the device failed in an earlier call
-  is_closed : (old : State) (command : Command) → Answers (closed_at old) command (Err Closed) (closed_at old)
+  is_closed : (old : State) (command : Command)
+      → Answers (closed_at old) command (Err Closed) (closed_at old)
 
 -- the states that a command may have gone on to, by its answer
 abbrev pub passed : State → Command → Result Reply Refusal → List State

@@ -5,3 +5,4 @@ pub mod Answers
 pub mod Stops
 pub mod Revisions
 pub mod Stores
+pub mod Inside

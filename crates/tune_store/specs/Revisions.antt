@@ -1,5 +1,6 @@
 -- The law of revisions: what commands, one after another, make of the revision of a tune.
-use Rattle.std.specs.Prelude.{◌≡◌, ℕ, ◌+◌, List, [], ◌∷◌, Bool, false, ◌&&◌, ◌==◌, if◌then◌else◌, IsTrue, IsFalse, Option, Some, IsSome, is_ok, ⊤}
+use Rattle.std.specs.Prelude.{◌≡◌, ℕ, ◌+◌, List, [], ◌∷◌, Bool, false, ◌&&◌, ◌==◌, if◌then◌else◌}
+use Rattle.std.specs.Prelude.{IsTrue, IsFalse, Option, Some, IsSome, is_ok, ⊤}
 use Rattle.std.specs.Option.{option_map}
 use Rattle.tune_store.specs.State.{State}
 use Rattle.tune_store.specs.Step.{step, tune_at}
@@ -38,12 +39,15 @@ after state (command ∷ commands) = after (step state command).0 commands
 -- the tune of a number is there after each of the commands
 abbrev pub Stays : ℕ → State → List Command → Type 0
 Stays number state [] = ⊤
-Stays number state (command ∷ commands) = HasTune number (step state command).0 × Stays number (step state command).0 commands
+Stays number state (command ∷ commands) =
+    HasTune number (step state command).0 × Stays number (step state command).0 commands
 
 -- how many of the commands are accepted Replaces of the tune of a number
 abbrev pub times_replaced : ℕ → State → List Command → ℕ
 times_replaced number state [] = 0
-times_replaced number state (command ∷ commands) = (if replaces number state command then 1 else 0) + times_replaced number (step state command).0 commands
+times_replaced number state (command ∷ commands) =
+    (if replaces number state command then 1 else 0)
+    + times_replaced number (step state command).0 commands
 
 -- THE LAW
 -- a tune has the revision before, and the next one after
@@ -54,19 +58,28 @@ pub record RaisesRevision (number revision : ℕ) (old new : State) : Type 0 whe
 -- an accepted Replace names the current revision of its tune, and raises it by one
 abbrev pub AcceptedReplaceRaises : State → ℕ → ℕ → List ℕ → Type 0
 AcceptedReplaceRaises state number revision book =
-    IsTrue (accepts state (Replace number revision book)) → RaisesRevision number revision state (step state (Replace number revision book)).0
+    let command = Replace number revision book in
+    IsTrue (accepts state command) → RaisesRevision number revision state (step state command).0
 
 -- any other command leaves the revision of a tune that is there before and after it
 abbrev pub OthersKeepRevision : State → ℕ → Command → Type 0
 OthersKeepRevision state number command =
-    IsFalse (replaces number state command) → HasTune number state → HasTune number (step state command).0 → revision_of number (step state command).0 ≡ revision_of number state
+    let new = (step state command).0 in
+    IsFalse (replaces number state command) → HasTune number state → HasTune number new
+    → revision_of number new ≡ revision_of number state
 
--- while a tune stays, its revision rises by one with each accepted Replace of it, and by nothing else
+-- while a tune stays, its revision rises by one with each accepted Replace of it, and by nothing
+-- else
 abbrev pub RevisionCounts : State → ℕ → ℕ → List Command → Type 0
 RevisionCounts state number revision commands =
-    revision_of number state ≡ Some revision → Stays number state commands → revision_of number (after state commands) ≡ Some (revision + times_replaced number state commands)
+    revision_of number state ≡ Some revision → Stays number state commands
+    → revision_of number (after state commands)
+    ≡ Some (revision + times_replaced number state commands)
 
--- while a tune stays, a Replace that names a revision that it had is accepted only where no accepted Replace of it came since
+-- while a tune stays, a Replace that names a revision that it had is accepted only where no
+-- accepted Replace of it came since
 abbrev pub AcceptedReplaceIsCurrent : State → ℕ → ℕ → List Command → List ℕ → Type 0
 AcceptedReplaceIsCurrent state number revision commands book =
-    revision_of number state ≡ Some revision → Stays number state commands → IsTrue (accepts (after state commands) (Replace number revision book)) → times_replaced number state commands ≡ 0
+    revision_of number state ≡ Some revision → Stays number state commands
+    → IsTrue (accepts (after state commands) (Replace number revision book))
+    → times_replaced number state commands ≡ 0

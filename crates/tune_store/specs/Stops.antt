@@ -10,22 +10,26 @@ Among state (other ∷ others) = (state ≡ other) ⊎ Among state others
 -- a file stands for one of these states
 abbrev pub StandsForOne : (List ℕ → State → Type 0) → List State → List ℕ → Type 0
 StandsForOne stands_for [] file = ⊥
-StandsForOne stands_for (state ∷ states) file = stands_for file state ⊎ StandsForOne stands_for states file
+StandsForOne stands_for (state ∷ states) file =
+    stands_for file state ⊎ StandsForOne stands_for states file
 
 -- the count of failures rose, or stood at the greatest that it can have
 abbrev pub HasFailed : ℕ → ℕ → Type 0
 HasFailed old new = (old < new) ⊎ (2 ^ 64 - 1 ≤ old)
 
 -- From `old` to `new` a store passed these states.
-pub record Passes {S : Type 0} (honest sound : S → Type 0) (standing : S → Standing) (moment : S → ℕ) (left_since : S → ℕ → List ℕ → Type 0) (stands_for : List ℕ → State → Type 0)
+pub record Passes {S : Type 0} (honest sound : S → Type 0) (standing : S → Standing)
+    (moment : S → ℕ) (left_since : S → ℕ → List ℕ → Type 0) (stands_for : List ℕ → State → Type 0)
     (old new : S) (states : List State) : Type 0 where
   -- it stands for one of them now, or for the state that it stood for
   pub reaches : Among (standing new).state ((standing old).state ∷ states)
   pub was_honest : honest new → honest old
   pub stays_sound : sound old → sound new
   pub later : moment old ≤ moment new
-  -- what a stop might have left by then, it might still have left: nothing of the device's past is taken back
-  pub keeps : honest new → (since : ℕ) (file : List ℕ) → left_since old since file → left_since new since file
+  -- what a stop might have left by then, it might still have left: no past is taken back
+  pub keeps : honest new → (since : ℕ) (file : List ℕ)
+      → left_since old since file → left_since new since file
   -- beside that it may have left files that stand for one of them, or for the state before, alone
-  pub leaves : sound old → honest new → (since : ℕ) (file : List ℕ) → since ≤ moment old → left_since new since file
+  pub leaves : sound old → honest new
+      → (since : ℕ) (file : List ℕ) → since ≤ moment old → left_since new since file
       → left_since old since file ⊎ StandsForOne stands_for ((standing old).state ∷ states) file

@@ -7,9 +7,11 @@ use thiserror::Error;
 /// One change of an archive, or one question.
 #[derive(Debug, Drop)]
 pub enum Command {
-    /// Adds the tunes of this book, in order, from the number after the greatest on, or from 1 in an empty archive: all of them or none.
+    /// Adds the tunes of this book, in order, from the number after the greatest on, or from 1 in
+    /// an empty archive: all of them or none.
     Import(ByteText),
-    /// Puts the one tune of this book in the place of the tune of this number, where this is its revision.
+    /// Puts the one tune of this book in the place of the tune of this number, where this is its
+    /// revision.
     Replace {
         number: u32,
         revision: u32,
@@ -68,7 +70,7 @@ pub enum Refusal {
     /// The book has more bytes than `abc_fields::LONGEST_BOOK`.
     #[error("the book is too long")]
     BookTooLong,
-    /// Memory was refused in this call.
+    /// Memory ran out in this call.
     #[error("out of memory")]
     OutOfMemory,
     /// The device failed in this call. It then holds the archive before the command, or after it.
@@ -77,7 +79,8 @@ pub enum Refusal {
     /// The device failed in an earlier call.
     #[error("the archive is closed")]
     Closed,
-    /// The book has a carriage return, begins with a byte order mark, or its first line that is not empty does not begin with `X:`.
+    /// The book has a carriage return, begins with a byte order mark, or its first line that is not
+    /// empty does not begin with `X:`.
     #[error("the book is not plain")]
     NotPlain,
 }

@@ -1,12 +1,16 @@
 // An archive in memory.
-ghost use Rattle.std.specs.Prelude.{◌≡◌, ◌≢◌, ℕ, ◌+◌, ◌^◌, ◌<◌, ◌≤◌, ◌⊎◌, List, [], ◌∷◌, ◌++◌, length, false, None, Some, Ok, Err, IfOk, IfErr, IfNone, IfSome, vec_len, slice_index_or};
+ghost use Rattle.std.specs.Prelude.{◌≡◌, ◌≢◌, ℕ, ◌+◌, ◌^◌, ◌<◌, ◌≤◌, ◌⊎◌, List, [], ◌∷◌, ◌++◌};
+ghost use Rattle.std.specs.Prelude.{length, false, None, Some, Ok, Err, IfOk, IfErr, IfNone};
+ghost use Rattle.std.specs.Prelude.{IfSome, vec_len, slice_index_or};
 ghost use Rattle.std.specs.List.{AllByRecursion};
 ghost use Rattle.std.specs.Vec.{vec_capacity};
 ghost use Rattle.abc_fields.specs.Books.{book_answer};
 ghost use Rattle.tune_store.specs.declared.tune.Tune.{Tune};
 ghost use Rattle.tune_store.specs.Limits.{longest_text};
 ghost use Rattle.tune_store.specs.State.{State, IsState, IsTune, RisesFrom, greatest};
-ghost use Rattle.tune_store.specs.Step.{numbered, tune_at, import_book, replace_book, replace_tune, delete_tune, show_tune, exported};
+ghost use Rattle.tune_store.specs.Step.{step, numbered, tune_at, import_book, replace_book};
+ghost use Rattle.tune_store.specs.Step.{replace_tune, delete_tune, show_tune, exported};
+ghost use Rattle.tune_store.specs.Inside.Lists.{state_of, StaysOrGives};
 
 use crate::command::{Command, Refusal, Reply};
 use crate::tune::{GREATEST_NUMBER, GREATEST_REVISION, LONGEST_TEXT, MOST_TUNES, Tune};
@@ -58,32 +62,36 @@ impl TuneStore for ListArchive {
     ghost settled = { λ archive file sound honest is_open left. left };
 
     fn apply(&mut self, command: &Command) -> Result<Reply, Refusal> {
-        match command {
-            Command::Import(book) => import(self.alloc, &mut self.tunes, book.as_slice()),
-            Command::Replace {
-                number,
-                revision,
-                book,
-            } => replace(
-                self.alloc,
-                &mut self.tunes,
-                *number,
-                *revision,
-                book.as_slice(),
-            ),
-            Command::Delete(number) => delete(&mut self.tunes, *number),
-            Command::Show(number) => show(self.alloc, self.tunes.as_slice(), *number),
-            Command::ExportAll => export(self.alloc, self.tunes.as_slice()),
-        }
+        answer(self.alloc, &mut self.tunes, command)
+    }
+}
+
+// One command over the tunes.
+fn answer(alloc: Global, tunes: &mut Vec<Tune>, command: &Command) -> Result<Reply, Refusal>
+    requires { IsState (state_of tunes.old.items) }
+    ensures state { IsState (state_of tunes.new.items) }
+    ensures answer { StaysOrGives tunes.old.items tunes.new.items result
+        (step (state_of tunes.old.items) command.now) }
+{
+    match command {
+        Command::Import(book) => import(alloc, tunes, book.as_slice()),
+        Command::Replace {
+            number,
+            revision,
+            book,
+        } => replace(alloc, tunes, *number, *revision, book.as_slice()),
+        Command::Delete(number) => delete(tunes, *number),
+        Command::Show(number) => show(alloc, tunes, *number),
+        Command::ExportAll => export(alloc, tunes),
     }
 }
 
 // Adds the tunes of a book.
 fn import(alloc: Global, tunes: &mut Vec<Tune>, book: &[u8]) -> Result<Reply, Refusal>
-    requires { IsState (record { tunes = tunes.old.items }) }
-    ensures state { IsState (record { tunes = tunes.new.items }) }
-    ensures answer { ((result ≡ Err Refusal.OutOfMemory) × (tunes.new.items ≡ tunes.old.items))
-        ⊎ (import_book (record { tunes = tunes.old.items }) (book_answer longest_text book.now) ≡ (record { tunes = tunes.new.items }, result)) }
+    requires { IsState (state_of tunes.old.items) }
+    ensures state { IsState (state_of tunes.new.items) }
+    ensures answer { StaysOrGives tunes.old.items tunes.new.items result
+        (import_book (state_of tunes.old.items) (book_answer longest_text book.now)) }
 {
     let texts = split_book(alloc, book, LONGEST_TEXT)?;
     let count = texts.len();
@@ -138,10 +146,11 @@ fn replace(
     revision: u32,
     book: &[u8],
 ) -> Result<Reply, Refusal>
-    requires { IsState (record { tunes = tunes.old.items }) }
-    ensures state { IsState (record { tunes = tunes.new.items }) }
-    ensures answer { ((result ≡ Err Refusal.OutOfMemory) × (tunes.new.items ≡ tunes.old.items))
-        ⊎ (replace_book (record { tunes = tunes.old.items }) number revision (book_answer longest_text book.now) ≡ (record { tunes = tunes.new.items }, result)) }
+    requires { IsState (state_of tunes.old.items) }
+    ensures state { IsState (state_of tunes.new.items) }
+    ensures answer { StaysOrGives tunes.old.items tunes.new.items result
+        (replace_book (state_of tunes.old.items) number revision
+        (book_answer longest_text book.now)) }
 {
     let texts = split_book(alloc, book, LONGEST_TEXT)?;
     let text = only_text(texts)?;
@@ -151,7 +160,8 @@ fn replace(
 // The one text of a book.
 fn only_text(mut texts: Vec<TuneText>) -> Result<TuneText, Refusal>
     ensures one { IfOk result (λ text. texts.items ≡ text ∷ []) }
-    ensures count { IfErr result (λ refusal. (refusal ≡ Refusal.NotOne (vec_len texts)) × (vec_len texts ≢ 1)) }
+    ensures count { IfErr result (λ refusal.
+        (refusal ≡ Refusal.NotOne (vec_len texts)) × (vec_len texts ≢ 1)) }
 {
     let count = texts.len();
     match texts.pop() {
@@ -169,7 +179,8 @@ fn replace_text(
 ) -> Result<Reply, Refusal>
     requires rises { RisesFrom 0 tunes.old.items }
     requires each { AllByRecursion IsTune tunes.old.items }
-    ensures { replace_tune (record { tunes = tunes.old.items }) number revision text (tune_at number tunes.old.items) ≡ (record { tunes = tunes.new.items }, result) }
+    ensures { replace_tune (state_of tunes.old.items) number revision text
+        (tune_at number tunes.old.items) ≡ (state_of tunes.new.items, result) }
 {
     let Some(place) = place_of(tunes, number) else {
         return Err(Refusal::Unknown { number });
@@ -192,9 +203,10 @@ fn replace_text(
 
 // Takes out a tune.
 fn delete(tunes: &mut Vec<Tune>, number: u32) -> Result<Reply, Refusal>
-    requires { IsState (record { tunes = tunes.old.items }) }
-    ensures state { IsState (record { tunes = tunes.new.items }) }
-    ensures answer { delete_tune (record { tunes = tunes.old.items }) number (tune_at number tunes.old.items) ≡ (record { tunes = tunes.new.items }, result) }
+    requires { IsState (state_of tunes.old.items) }
+    ensures state { IsState (state_of tunes.new.items) }
+    ensures answer { delete_tune (state_of tunes.old.items) number
+        (tune_at number tunes.old.items) ≡ (state_of tunes.new.items, result) }
 {
     let Some(place) = place_of(tunes, number) else {
         return Err(Refusal::Unknown { number });
@@ -207,7 +219,8 @@ fn delete(tunes: &mut Vec<Tune>, number: u32) -> Result<Reply, Refusal>
 fn show(alloc: Global, tunes: &[Tune], number: u32) -> Result<Reply, Refusal>
     requires { RisesFrom 0 tunes.now }
     ensures { (result ≡ Err Refusal.OutOfMemory)
-        ⊎ (show_tune (record { tunes = tunes.now }) number (tune_at number tunes.now) ≡ (record { tunes = tunes.now }, result)) }
+        ⊎ (show_tune (state_of tunes.now) number (tune_at number tunes.now)
+        ≡ (state_of tunes.now, result)) }
 {
     let Some(place) = place_of(tunes, number) else {
         return Err(Refusal::Unknown { number });
@@ -217,13 +230,14 @@ fn show(alloc: Global, tunes: &[Tune], number: u32) -> Result<Reply, Refusal>
 
 // The written book of all tunes.
 fn export(alloc: Global, tunes: &[Tune]) -> Result<Reply, Refusal>
-    ensures { (result ≡ Err Refusal.OutOfMemory) ⊎ (result ≡ Ok (Reply.Exported (exported tunes.now))) }
+    ensures { (result ≡ Err Refusal.OutOfMemory)
+        ⊎ (result ≡ Ok (Reply.Exported (exported tunes.now))) }
 {
     let mut book = BookWriter::new(alloc)?;
     for tune in tunes {
         book = book.with_tune(tune.number, &tune.text)?;
     }
-    Ok(Reply::Exported(book.into_text()))
+    Ok(Reply::Exported(book.into_book()))
 }
 
 // The place of the tune of a number.
@@ -231,7 +245,9 @@ fn place_of(tunes: &[Tune], number: u32) -> Option<usize>
     requires { RisesFrom 0 tunes.now }
     ensures none { IfNone result (tune_at number tunes.now ≡ None) }
     ensures within { IfSome result (λ place. place < length tunes.now) }
-    ensures found { IfSome result (λ place. (d : Tune) → (tune_at number tunes.now ≡ Some (slice_index_or tunes.now place d)) × ((slice_index_or tunes.now place d).number ≡ number)) }
+    ensures found { IfSome result (λ place. (d : Tune) →
+        (tune_at number tunes.now ≡ Some (slice_index_or tunes.now place d))
+        × ((slice_index_or tunes.now place d).number ≡ number)) }
 {
     match tunes.binary_search_by_key(&number, |tune| tune.number) {
         Ok(place) => Some(place),

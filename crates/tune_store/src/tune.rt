@@ -28,7 +28,7 @@ pub struct Tune {
 }
 
 impl Tune {
-    /// A copy of the tune. The error is want of memory.
+    /// A copy of the tune. The error is out of memory.
     pub fn copy(&self, alloc: Global) -> Result<Tune, AllocError>
         ensures { IfOk result (λ tune. tune ≡ self.now) }
     {

@@ -6,7 +6,8 @@ ghost use Rattle.tune_store.specs.Stops.{Passes, HasFailed};
 
 use crate::command::{Command, Refusal, Reply};
 
-/// A store of tunes: a plain list of them in meaning, in memory or on a device that may fail, or stop in mid-write.
+/// A store of tunes: a plain list of them in meaning, in memory or on a device that may fail, or
+/// stop in mid-write.
 pub trait TuneStore {
     /// The list that the store stands for, and whether it is closed.
     ghost standing: { Self → Standing };
@@ -14,7 +15,8 @@ pub trait TuneStore {
     /// Its device has answered as a device does, in every call so far.
     ghost honest: { Self → Type 0 } = { λ _. ⊤ };
 
-    /// What the store relies on in itself: where its device is honest and it is open, each file that a stop leaves now stands for its state.
+    /// What the store relies on in itself: where its device is honest and it is open, each file
+    /// that a stop leaves now stands for its state.
     ghost sound: { Self → Type 0 } = { λ _. ⊤ };
 
     /// How often its device failed.
@@ -29,17 +31,22 @@ pub trait TuneStore {
     /// Whether a file stands for a state.
     ghost stands_for: { List ℕ → State → Type 0 } = { λ _ _. ⊥ };
 
-    /// Carries out a command, or refuses it. The refusals are those of the command, `OutOfMemory`, `Device` where the device failed, and
-    /// `Closed` where it failed before. After each but `Device` the store is as it was.
+    /// Carries out a command, or refuses it. The refusals are those of the command, `OutOfMemory`,
+    /// `Device` where the device failed, and `Closed` where it failed before. After each but
+    /// `Device` the store is as it was.
     fn apply(&mut self, command: &Command) -> Result<Reply, Refusal>
         ensures answer { Answers (standing self.old) command.now result (standing self.new) }
-        ensures refused { IfErr result (λ refusal. refusal ≢ Refusal.Device → standing self.new ≡ standing self.old) }
+        ensures refused { IfErr result (λ refusal.
+            refusal ≢ Refusal.Device → standing self.new ≡ standing self.old) }
         ensures closes { IsErrOf result Refusal.Device → (standing self.new).closed ≡ true }
         ensures closed { IsErrOf result Refusal.Closed ↔ ((standing self.old).closed ≡ true) }
-        ensures stops { Passes honest sound standing moment left_since stands_for self.old self.new (passed (standing self.old).state command.now result) }
-        ensures cause { honest self.new → IsErrOf result Refusal.Device → HasFailed (failures self.old) (failures self.new) };
+        ensures stops { Passes honest sound standing moment left_since stands_for
+            self.old self.new (passed (standing self.old).state command.now result) }
+        ensures cause { honest self.new → IsErrOf result Refusal.Device
+            → HasFailed (failures self.old) (failures self.new) };
 
     /// Where the store is open, a stop now leaves its state.
-    ghost settled: { (store : Self) (file : List ℕ) → sound store → honest store → (standing store).closed ≡ false
-        → left_since store (moment store) file → stands_for file (standing store).state };
+    ghost settled: { (store : Self) (file : List ℕ) → sound store → honest store
+        → (standing store).closed ≡ false → left_since store (moment store) file
+        → stands_for file (standing store).state };
 }

@@ -3,29 +3,14 @@ use Rattle.std.specs.Prelude.{ℕ, List, [], ◌∷◌, length}
 use Rattle.std.proofs.Common.{◌∙◌, arith}
 use Rattle.tune_disk.specs.Disk.{Medium, MayLeave, Torn, touched}
 use Rattle.tune_disk.specs.FileDisk.{file_history, file_state, FileIsHonest}
-use Rattle.tune_disk.specs.FileTold.{
-  History,
-  Course,
-  told,
-  course,
-  at_opening,
-  AnswerFits,
-  AnswersFit,
-}
+use Rattle.tune_disk.specs.FileTold.{History, Course, told, course, at_opening, AnswerFits}
+use Rattle.tune_disk.specs.FileTold.{AnswersFit}
 use Rattle.tune_disk.specs.Inside.Overwrites.{length_after_rises, put_written}
 use Rattle.tune_disk.specs.Inside.Stays.{written_stays, settled_stays}
 use Rattle.tune_disk.specs.declared.file.FileDisk.{FileDisk}
 use Rattle.tune_disk.specs.declared.file.told.Told.{Told}
-use Rattle.tune_disk.specs.declared.file.told.Told.TheVariants.{
-  Length,
-  Byte,
-  Ended,
-  Begun,
-  Put,
-  Wrote,
-  Broke,
-  Synced,
-}
+use Rattle.tune_disk.specs.declared.file.told.Told.TheVariants.{Length, Byte, Ended, Begun, Put}
+use Rattle.tune_disk.specs.declared.file.told.Told.TheVariants.{Wrote, Broke, Synced}
 
 torn_stays : (m : Medium) (at n : ℕ) (old new : List ℕ) → MayLeave m old → Torn at n old new
     → MayLeave (touched at n m) new

@@ -1,6 +1,7 @@
 // The calls of the operating system that a disk over a file makes. Each function makes one call,
 // over interruptions and parts, and keeps what it told.
-ghost use Rattle.std.specs.Prelude.{◌≡◌, ◌+◌, ◌<◌, ◌≤◌, ◌^◌, ◌∷◌, ◌++◌, [], length, IfOk, OnOk, OnErr};
+ghost use Rattle.std.specs.Prelude.{◌≡◌, ◌+◌, ◌<◌, ◌≤◌, ◌^◌, ◌∷◌, ◌++◌, [], length, IfOk, OnOk};
+ghost use Rattle.std.specs.Prelude.{OnErr};
 ghost use Rattle.tune_disk.specs.Inside.ToldMore.{IsToldRead, IsToldWrite};
 ghost use Rattle.tune_disk.specs.declared.file.told.Told.TheVariants.{Length, Broke, Synced};
 
@@ -59,7 +60,8 @@ pub(super) fn write_all(
     bytes: &[u8],
 ) -> io::Result<()>
     ensures ok { OnOk result (IsToldWrite at bytes.now log.old.items log.new.items) }
-    ensures err { OnErr result (log.new.items ≡ log.old.items ++ (at, Broke (length bytes.now)) ∷ []) }
+    ensures err { OnErr result
+        (log.new.items ≡ log.old.items ++ (at, Broke (length bytes.now)) ∷ []) }
 {
     let done = file.write_all_at(bytes, at);
     match done {

@@ -1,8 +1,8 @@
-use Rattle.std.proofs.Common.{true, ◌≡◌, ◌∙◌, ◌++◌, [], take, ap, sym, false}
-use Rattle.std.specs.Prelude.{codes, slice_get, option_copied, unwrap_or}
+use Rattle.std.proofs.Common.{true, ◌≡◌, ◌∙◌, ◌++◌, take, ap, sym, false}
+use Rattle.std.specs.Prelude.{codes, slice_get, option_copied}
 use Rattle.std.specs.Option.{option_or}
 use Rattle.abc_fields.specs.Tunes.{is_key_line}
-use Rattle.abc_fields.specs.Fields.{header_of, values_of, non_empty_values, key_text_of}
+use Rattle.abc_fields.specs.Fields.{header_of, non_empty_values, first_key, key_text_of}
 use Rattle.abc_fields.specs.Limits.{most_titles}
 use Rattle.abc_fields.proofs.BookLemmas.{contents}
 use Rattle.abc_fields.proofs.FieldLemmas.{few_taken, titles_step, first_step, header_more, key_here, key_later, tune_key}
@@ -22,23 +22,19 @@ loop-line-preserved c =
       rhythm = rw c.take_line.ensures.rhythm (first_step (option_copied old.rhythm) (codes "R:") line (header_of rest))
           ∙ ap (λ lines. option_or (option_copied old.rhythm) (slice_get (non_empty_values (codes "R:") lines) 0)) (sym header) ∙ c.loop-line.invariant.rhythm;
       no_key = rw c.take_line.ensures.key c.loop-line.invariant.no_key;
-      key =
-          ap (λ values. unwrap_or (slice_get values 0) [])
-          (sym (ap (λ spans. values_of (codes "K:") (contents spans)) c.in-Some.ensures.steps ∙ key_later line rest other)) ∙ c.loop-line.invariant.key;
+      key = sym (ap (λ spans. first_key (contents spans)) c.in-Some.ensures.steps ∙ key_later line rest other) ∙ c.loop-line.invariant.key;
     }
 
 pub returns-then-is_key_line-clause-key_line : goal.returns-then-is_key_line-clause-key_line
 returns-then-is_key_line-clause-key_line c =
     let line = c.in-Some.line.text.now in
     let is : is_key_line line ≡ true = sym c.is_key_line.ensures ∙ c.if-is_key_line.true in
-    let first =
-    ap (λ spans. unwrap_or (slice_get (values_of (codes "K:") (contents spans)) 0) []) c.in-Some.ensures.steps
-    ∙ key_here line (contents c.next.new.self) is in
+    let first = ap (λ spans. first_key (contents spans)) c.in-Some.ensures.steps ∙ key_here line (contents c.next.new.self) is in
     let value : c.field_value-found.result.now ≡ key_text_of c.args.text.now = c.field_value-found.ensures ∙ sym first ∙ c.loop-line.invariant.key in
     rw value (tune_key c.args.text.now c.bytes.ensures.tune_text)
 
 pub returns-clause-key_line : goal.returns-clause-key_line
 returns-clause-key_line c =
-    let none = ap (λ spans. unwrap_or (slice_get (values_of (codes "K:") (contents spans)) 0) []) c.in-None.ensures.steps.0 in
+    let none = ap (λ spans. first_key (contents spans)) c.in-None.ensures.steps.0 in
     let value : c.loop-line.found.key.now ≡ key_text_of c.args.text.now = c.loop-line.invariant.no_key ∙ sym none ∙ c.loop-line.invariant.key in
     rw value (tune_key c.args.text.now c.bytes.ensures.tune_text)

@@ -1,7 +1,7 @@
 use Rattle.std.proofs.Common.{◌≡◌, ◌≤◌, ◌++◌, [], length, take}
-use Rattle.std.specs.Prelude.{codes, slice_get, option_copied, unwrap_or}
+use Rattle.std.specs.Prelude.{codes, slice_get, option_copied}
 use Rattle.std.specs.Option.{option_or}
-use Rattle.abc_fields.specs.Fields.{header_of, values_of, non_empty_values, titles_of, rhythm_of, key_text_of}
+use Rattle.abc_fields.specs.Fields.{header_of, non_empty_values, titles_of, rhythm_of, first_key, key_text_of}
 use Rattle.abc_fields.specs.Limits.{most_titles}
 use Rattle.abc_fields.proofs.BookLemmas.{contents}
 use Rattle.abc_fields.proofs.header.fields.Given as goal
@@ -12,5 +12,5 @@ invariant-loop-line l = record {
   titles : take most_titles (l.found.titles ++ non_empty_values (codes "T:") (header_of (contents l.line-iterator))) ≡ titles_of l.text;
   rhythm : option_or (option_copied l.found.rhythm) (slice_get (non_empty_values (codes "R:") (header_of (contents l.line-iterator))) 0) ≡ rhythm_of l.text;
   no_key : l.found.key.now ≡ [];
-  key : unwrap_or (slice_get (values_of (codes "K:") (contents l.line-iterator)) 0) [] ≡ key_text_of l.text;
+  key : first_key (contents l.line-iterator) ≡ key_text_of l.text;
 }

@@ -1,4 +1,4 @@
-use Rattle.std.proofs.Common.{◌≡◌, ◌∙◌, ◌+◌, ◌-◌, sym, arith, length, take, drop, true, false}
+use Rattle.std.proofs.Common.{◌≡◌, ◌∙◌, ◌+◌, sym, arith, take, true, false}
 use Rattle.abc_fields.specs.Values.{uncommented}
 use Rattle.abc_fields.proofs.CommentLaw.{is_uncommented, rest_whole, read_on_to, read_comment, read_escaped, read_whole, escapes, escaped_at}
 use Rattle.abc_fields.proofs.values.without_comment.Goals as goal

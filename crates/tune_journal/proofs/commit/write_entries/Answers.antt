@@ -1,12 +1,12 @@
 use Rattle.std.proofs.Common.{◌≡◌, ℕ, ◌<◌, ◌++◌, inl, ◌∙◌, List, length, arith, subst}
 use Rattle.byteorder.specs.Endian.{big_bytes}
 use Rattle.tune_disk.specs.Disk.{Written}
-use Rattle.tune_disk.specs.Moments.{spares_then, spares_write}
-use Rattle.tune_journal.specs.Image.{log_entry}
+use Rattle.tune_disk.proofs.Moments.{spares_then, spares_write}
+use Rattle.tune_journal.specs.Inside.Phases.{log_entry}
+use Rattle.tune_journal.specs.Layout.{entry_bytes}
 use Rattle.tune_journal.proofs.Loops.{entries_more}
 use Rattle.tune_journal.proofs.CallRuns.{writes_ok}
 use Rattle.tune_journal.proofs.commit.write_entries.Goals as goal
-use Rattle.tune_journal.specs.Layout.{entry_bytes}
 
 pub write_entry-requires : goal.write_entry-requires
 write_entry-requires g c = omega (arith, c.requires, c.loop-place.invariant.at, c.loop-place-test.true, c.len-place-end.ensures.len)

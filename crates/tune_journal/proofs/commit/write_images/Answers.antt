@@ -1,13 +1,13 @@
 use Rattle.std.proofs.Common.{ℕ, ◌<◌, ◌≤◌, sym, ◌∙◌, ap, length, List, set, take, arith}
 use Rattle.tune_disk.specs.Disk.{Written}
-use Rattle.tune_disk.specs.Moments.{spares_then, spares_write}
+use Rattle.tune_disk.proofs.Moments.{spares_then, spares_write}
 use Rattle.tune_journal.specs.Image.{pages_of, page_offset}
+use Rattle.tune_journal.specs.Inside.Phases.{IsInNoPage}
+use Rattle.tune_journal.specs.Layout.{most_pages}
 use Rattle.tune_journal.specs.Pages.{changed}
-use Rattle.tune_journal.specs.Phases.{IsInNoPage}
 use Rattle.tune_journal.proofs.Loops.{image_more, changed-push, outside_image, take_entry, entry_below}
 use Rattle.tune_journal.proofs.CallRuns.{writes_ok}
 use Rattle.tune_journal.proofs.commit.write_images.Goals as goal
-use Rattle.tune_journal.specs.Layout.{most_pages}
 
 pub write_image-requires : goal.write_image-requires
 write_image-requires g c = entry_below c.args.changes.now most_pages c.loop-place.place c.page_at.result c.requires (omega (arith, c.loop-place-test.true, c.len-place-end.ensures.len)) c.page_at.ensures

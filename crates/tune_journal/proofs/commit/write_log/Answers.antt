@@ -1,15 +1,15 @@
 use Rattle.std.proofs.Common.{◌≡◌, ℕ, ◌<◌, ◌∙◌, ◌++◌, ap, length, subst, arith}
 use Rattle.byteorder.specs.Endian.{big_bytes}
 use Rattle.std.proofs.lemmas.Result.{on_ok_weaker, err_from_is_err_and}
-use Rattle.tune_disk.specs.Moments.{spares_fewer}
-use Rattle.tune_disk.specs.Bytes.{written_long}
+use Rattle.tune_disk.proofs.Moments.{spares_fewer}
+use Rattle.tune_disk.proofs.Writes.{written_long}
 use Rattle.tune_journal.specs.Image.{window, entry_offset}
-use Rattle.tune_journal.specs.Phases.{IsNoLog, IsOutside, HoldsEntries}
+use Rattle.tune_journal.specs.Inside.Phases.{IsNoLog, IsOutside, HoldsEntries}
+use Rattle.tune_journal.specs.Layout.{descriptor_offset}
 use Rattle.tune_journal.proofs.CallRuns.{writes_fewer, writes_after}
 use Rattle.tune_journal.proofs.Loops.{entries_kept, below_log, off_descriptor, rising_few}
 use Rattle.tune_journal.proofs.Windows.{written_window}
 use Rattle.tune_journal.proofs.commit.write_log.Goals as goal
-use Rattle.tune_journal.specs.Layout.{descriptor_offset}
 
 pub overflow_cast-entries : goal.overflow_cast-entries
 overflow_cast-entries g c = omega (arith, c.requires.count, c.len-entries.ensures.len, rising_few c.args.new_count c.args.changes.now c.len-entries.ensures.rising c.requires.some c.requires.below)

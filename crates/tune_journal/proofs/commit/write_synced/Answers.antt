@@ -1,6 +1,6 @@
 use Rattle.std.proofs.lemmas.Result.{err_from_is_err_and}
-use Rattle.tune_disk.specs.Moments.{spares_write}
-use Rattle.tune_journal.specs.Phases.{IsOutside}
+use Rattle.tune_disk.proofs.Moments.{spares_write}
+use Rattle.tune_journal.specs.Inside.Phases.{IsOutside}
 use Rattle.tune_journal.proofs.CallRuns.{write_then_sync}
 use Rattle.tune_journal.proofs.commit.write_synced.Goals as goal
 

@@ -1,6 +1,6 @@
 use Rattle.std.proofs.Common.{◌≡◌, ◌≤◌, length}
 use Rattle.tune_journal.specs.Image.{entry_offset}
-use Rattle.tune_journal.specs.Opening.{Climbs, least_of}
+use Rattle.tune_journal.specs.Inside.Looking.{Climbs, least_of}
 use Rattle.tune_journal.proofs.look.check_log.Given as goal
 
 abbrev pub invariant-loop-entry : goal.invariant-loop-entry

@@ -1,7 +1,7 @@
 use Rattle.std.proofs.Common.{◌≡◌, ◌↔◌, ◌≤◌, ℕ, IsTrue, length, sym, ◌∙◌, subst, arith}
 use Rattle.tune_disk.specs.Disk.{DiskState}
 use Rattle.tune_journal.specs.Image.{entry_offset, HasLog, entry_count_of, new_count_of}
-use Rattle.tune_journal.specs.Opening.{Climbs}
+use Rattle.tune_journal.specs.Inside.Looking.{Climbs}
 use Rattle.tune_journal.proofs.Recovery.{second_number, tested, has_log, log_climbs, not_log, true_gives, false_gives}
 use Rattle.tune_journal.proofs.look.look_open.Goals as goal
 

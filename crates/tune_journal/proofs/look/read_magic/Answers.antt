@@ -1,8 +1,8 @@
 use Rattle.std.proofs.Common.{◌≡◌, ℕ, List, length, ap, ◌∙◌, subst, arith, rules, IsTrue, ◌↔◌}
 use Rattle.tune_journal.specs.Image.{window}
+use Rattle.tune_journal.specs.Layout.{magic, magic_offset, magic_bytes}
 use Rattle.tune_journal.proofs.Windows.{shows_window}
 use Rattle.tune_journal.proofs.look.read_magic.Goals as goal
-use Rattle.tune_journal.specs.Layout.{magic, magic_offset, magic_bytes}
 
 pub returns-clause-magic : goal.returns-clause-magic
 returns-clause-magic g c = λ h long.

@@ -1,6 +1,6 @@
 use Rattle.std.proofs.Common.{rules}
-use Rattle.tune_disk.specs.Moments.{since_sync}
-use Rattle.tune_journal.specs.Opening.{StandsForNone}
+use Rattle.tune_disk.proofs.Moments.{since_sync}
+use Rattle.tune_journal.specs.Image.{StandsForNone}
 use Rattle.tune_journal.proofs.Making.{cleared_since}
 use Rattle.tune_journal.proofs.make.clear.Goals as goal
 

@@ -1,13 +1,14 @@
 use Rattle.std.proofs.Common.{◌<◌, arith}
-use Rattle.tune_disk.specs.Moments.{since_then, since_weaker}
-use Rattle.tune_journal.specs.Opening.{StandsForNone}
-use Rattle.tune_journal.specs.Making.{StandsForNoneOr, IsCleared, IsLaid}
-use Rattle.tune_journal.specs.Phases.{IsOutside}
+use Rattle.tune_disk.proofs.Moments.{since_then, since_weaker}
+use Rattle.tune_journal.specs.Image.{StandsForNone}
+use Rattle.tune_journal.specs.Inside.Laying.{IsCleared, IsLaid}
+use Rattle.tune_journal.specs.Inside.Phases.{IsOutside}
+use Rattle.tune_journal.specs.Layout.{magic, block_bytes, magic_offset, magic_bytes}
+use Rattle.tune_journal.specs.Making.{StandsForNoneOr}
 use Rattle.tune_journal.proofs.CallRuns.{run_since, settles_settled, ok_pair}
 use Rattle.tune_journal.proofs.Windows.{written_window}
 use Rattle.tune_journal.proofs.Making.{laying, titling, titled_after, none_either}
 use Rattle.tune_journal.proofs.make.lay_out.Goals as goal
-use Rattle.tune_journal.specs.Layout.{magic, block_bytes, magic_offset, magic_bytes}
 
 pub returns-clause-moments : goal.returns-clause-moments
 returns-clause-moments g c = λ h rest empty.

@@ -1,9 +1,9 @@
 use Rattle.std.proofs.Common.{◌≡◌}
-use Rattle.tune_disk.specs.Stops.{Spares}
+use Rattle.tune_disk.specs.Inside.Spares.{Spares}
 use Rattle.tune_journal.specs.Image.{entries, pages_of}
+use Rattle.tune_journal.specs.Inside.Looking.{HasEntries}
+use Rattle.tune_journal.specs.Inside.Phases.{IsInNoPage}
 use Rattle.tune_journal.specs.Pages.{changed}
-use Rattle.tune_journal.specs.Phases.{IsInNoPage}
-use Rattle.tune_journal.specs.Opening.{HasEntries}
 use Rattle.tune_journal.proofs.recover.copy_entries.Given as goal
 
 abbrev pub invariant-loop-entry : goal.invariant-loop-entry

@@ -1,13 +1,13 @@
 use Rattle.std.proofs.Common.{◌≡◌, ℕ, inr, sym, ◌∙◌, ap, length, subst, arith}
 use Rattle.std.proofs.lemmas.Result.{on_ok_weaker, err_from_is_err_and}
-use Rattle.tune_disk.specs.Moments.{spares_fewer}
+use Rattle.tune_disk.proofs.Moments.{spares_fewer}
 use Rattle.tune_journal.specs.Image.{window, entries}
-use Rattle.tune_journal.specs.Phases.{KeepsBoth, IsInNoPage, IsOutside}
+use Rattle.tune_journal.specs.Inside.Phases.{KeepsBoth, IsInNoPage, IsOutside}
+use Rattle.tune_journal.specs.Layout.{count_offset}
 use Rattle.tune_journal.proofs.CallRuns.{writes_fewer, writes_after}
 use Rattle.tune_journal.proofs.Windows.{written_window}
 use Rattle.tune_journal.proofs.Frame.{number_is, agree_pages_of, written_agrees}
 use Rattle.tune_journal.proofs.recover.copy_log.Goals as goal
-use Rattle.tune_journal.specs.Layout.{count_offset}
 
 pub returns-clause-writes : goal.returns-clause-writes
 returns-clause-writes g c = λ h has.

@@ -15,7 +15,8 @@ unwrap-requires c =
     let one = ap length step in
     let size = simp length-append at (ap length kept.items) in
     let added = length-numbered c.args.first c.loop-text.yielded in
-    let room : vec_len c.loop-text.tunes < vec_capacity c.loop-text.tunes = omega (arith, c.requires.room, kept.capacity, c.loop-text.tunes.ok.0, c.args.tunes.now.ok.0, c.args.texts.ok.0) in
+    let room : vec_len c.loop-text.tunes < vec_capacity c.loop-text.tunes =
+    omega (arith, c.requires.room, kept.capacity, c.loop-text.tunes.ok.0, c.args.tunes.now.ok.0, c.args.texts.ok.0) in
     search rules
 
 pub loop-text-preserved : goal.loop-text-preserved
@@ -29,5 +30,7 @@ loop-text-preserved c =
           ∙ ap (λ more. c.args.tunes.now.items ++ more) (numbered_next c.args.first c.loop-text.number c.loop-text.yielded c.in-Some.text kept.number);
       number = omega (arith, length_push c.loop-text.yielded c.in-Some.text, kept.number);
       capacity = omega (arith, c.push.ensures.capacity, kept.capacity);
-      left = append_assoc c.loop-text.yielded (c.in-Some.text ∷ []) (into_iter_items c.next.new.self) ∙ ap (λ rest. c.loop-text.yielded ++ rest) (sym step) ∙ kept.left;
+      left =
+          append_assoc c.loop-text.yielded (c.in-Some.text ∷ []) (into_iter_items c.next.new.self) ∙ ap (λ rest. c.loop-text.yielded ++ rest) (sym step)
+          ∙ kept.left;
     }

@@ -11,10 +11,16 @@ pub loop-byte-preserved : goal.loop-byte-preserved
 loop-byte-preserved c =
     let bytes = c.args.bytes.now in
     let i = c.loop-byte.byte-index in
-    subst (λ (l : List ℕ). IsInHand l c.args.log.now.items c.and-in-loop-byte.result.items) (sym (take_more bytes i 0 c.loop-byte-test.true))
-    (in_hand_more c.args.at (get_or bytes i 0) (take i bytes) c.args.log.now.items c.loop-byte.log.items c.and-in-loop-byte.result.items c.loop-byte.invariant c.and-in-loop-byte.ensures)
+    let first = c.args.log.now.items in
+    let one = c.and-in-loop-byte in
+    subst (λ (l : List ℕ). IsInHand l first one.result.items) (sym (take_more bytes i 0 c.loop-byte-test.true))
+    (in_hand_more c.args.at (get_or bytes i 0) (take i bytes) first c.loop-byte.log.items one.result.items c.loop-byte.invariant one.ensures)
 
 pub returns : goal.returns
 returns c =
-    let all : take c.loop-byte.byte-index c.args.bytes.now ≡ c.args.bytes.now = take_all c.loop-byte.byte-index c.args.bytes.now (omega (arith, c.loop-byte-test.false)) in
-    written_told c.args.at c.args.bytes.now c.args.log.now.items c.loop-byte.log.items c.and-2.result.items (subst (λ (l : List ℕ). IsInHand l c.args.log.now.items c.loop-byte.log.items) all c.loop-byte.invariant) c.and-2.ensures
+    let bytes = c.args.bytes.now in
+    let first = c.args.log.now.items in
+    let done = c.loop-byte in
+    let all : take done.byte-index bytes ≡ bytes = take_all done.byte-index bytes (omega (arith, c.loop-byte-test.false)) in
+    let in_hand = subst (λ (l : List ℕ). IsInHand l first done.log.items) all done.invariant in
+    written_told c.args.at bytes first done.log.items c.and-2.result.items in_hand c.and-2.ensures

@@ -1,9 +1,8 @@
-use Rattle.std.proofs.Common.{◌≡◌, rules, ◌∙◌, sym, ap, subst, List, ℕ}
+use Rattle.std.proofs.Common.{◌≡◌, rules, ◌∙◌, sym, ap, subst}
 use Rattle.tune_disk.specs.Disk.{DiskState, MayLeave}
-use Rattle.tune_disk.proofs.Kept.{stable_stays}
-use Rattle.tune_disk.specs.Memory.{memory_state}
 use Rattle.tune_disk.specs.Inside.Stays.{memory_stays}
-use Rattle.tune_disk.proofs.Kept.{holds_then}
+use Rattle.tune_disk.specs.Memory.{memory_state}
+use Rattle.tune_disk.proofs.Kept.{stable_stays, holds_then}
 use Rattle.tune_disk.proofs.memory.MemoryDisk.stopped.Goals as goal
 use Rattle.tune_disk.proofs.memory.MemoryDisk.stopped.Goals.{in-Lost+in_ok-file-in-Lost, in-Kept+in_ok-file-in-Kept}
 
@@ -11,8 +10,10 @@ pub returns-clause-file : goal.returns-clause-file
 returns-clause-file c =
     let s = memory_state c.args.self.now in
     let stays = memory_stays c.args.self.now in
-    let from : MayLeave s.now c.match-choice.file.items = elim c.match-choice.branch [
-      | in-Lost+in_ok-file-in-Lost w ↦ (let is : c.match-choice.file.items ≡ s.now.stable = search rules in subst (λ (l : List ℕ). MayLeave s.now l) (sym is) (stable_stays _ _ stays))
-      | in-Kept+in_ok-file-in-Kept w ↦ (let is : c.match-choice.file.items ≡ s.seen = search rules in subst (λ (l : List ℕ). MayLeave s.now l) (sym is) stays)
+    let file = c.match-choice.file.items in
+    let left : MayLeave s.now file = elim c.match-choice.branch [
+      | in-Lost+in_ok-file-in-Lost w ↦ (let is : file ≡ s.now.stable = search rules in subst (MayLeave s.now) (sym is) (stable_stays _ _ stays))
+      | in-Kept+in_ok-file-in-Kept w ↦ (let is : file ≡ s.seen = search rules in subst (MayLeave s.now) (sym is) stays)
     ] in
-    holds_then c.from_bytes.result _ _ c.from_bytes.ensures (λ d is. subst (λ (l : List ℕ). MayLeave s.now l) (sym (ap (λ (t : DiskState). t.seen) is ∙ c.deref-2.ensures.value)) from)
+    holds_then c.from_bytes.result _ _ c.from_bytes.ensures
+    (λ d is. subst (MayLeave s.now) (sym (ap (λ (t : DiskState). t.seen) is ∙ c.deref-2.ensures.value)) left)

@@ -3,11 +3,12 @@ use Rattle.std.specs.List.{insert}
 use Rattle.std.proofs.lemmas.Bool.{false≢true}
 use Rattle.tune_journal.specs.declared.changes.ChangedPage.{ChangedPage}
 use Rattle.tune_journal.specs.declared.changes.PageImage.{PageImage}
-use Rattle.tune_journal.specs.ChangeList.{with_change, FoundAt, MissingAt}
-use Rattle.tune_journal.specs.Listed.{listed}
+use Rattle.tune_journal.specs.ChangeList.{with_change}
+use Rattle.tune_journal.specs.Inside.ChangeOrder.{FoundAt, MissingAt}
+use Rattle.tune_journal.specs.Inside.Listed.{listed}
+use Rattle.tune_journal.specs.Layout.{block_bytes}
 use Rattle.tune_journal.proofs.ChangeLists.{listed_replaced, listed_inserted, image_of_missing, keeps_order}
 use Rattle.tune_journal.proofs.changes.Changes.put.Goals as goal
-use Rattle.tune_journal.specs.Layout.{block_bytes}
 
 with_inserted : (page at : ℕ) (old new : List ChangedPage) (x : ChangedPage) (image : PageImage) → MissingAt page at (listed old) → new ≡ insert old at x → x.image.value ≡ image → x.page ≡ page
     → listed new ≡ with_change page image.bytes (listed old)

@@ -6,8 +6,9 @@ use Rattle.std.proofs.lemmas.List.{length-map}
 use Rattle.std.proofs.lemmas.List.Sorted.{IsPartitionedBy-ltb}
 use Rattle.std.proofs.lemmas.Bool.{ltb-true, ltb-false}
 use Rattle.tune_journal.specs.declared.changes.ChangedPage.{ChangedPage}
-use Rattle.tune_journal.specs.ChangeList.{changed_page, AreBelow, AreAbove, PagesRise, FoundAt, MissingAt}
-use Rattle.tune_journal.specs.Listed.{listed, change_in}
+use Rattle.tune_journal.specs.ChangeList.{changed_page}
+use Rattle.tune_journal.specs.Inside.ChangeOrder.{AreBelow, AreAbove, PagesRise, FoundAt, MissingAt}
+use Rattle.tune_journal.specs.Inside.Listed.{listed, change_in}
 use Rattle.tune_journal.proofs.ChangeLists.{above_from_first, in_listed, change_there}
 use Rattle.tune_journal.proofs.changes.Changes.search.Goals as goal
 

@@ -1,8 +1,7 @@
 use Rattle.std.proofs.Common.{◌≡◌, ◌≤◌, ◌∙◌, ap, sym, subst, length, arith, ℕ}
 use Rattle.tune_journal.specs.Image.{StandsFor, pages_of, log_of}
-use Rattle.tune_journal.specs.Pages.{changed}
-use Rattle.tune_journal.specs.Phases.{IsNoLog}
-use Rattle.tune_journal.specs.Pages.{NamesAll}
+use Rattle.tune_journal.specs.Inside.Phases.{IsNoLog}
+use Rattle.tune_journal.specs.Pages.{changed, NamesAll}
 use Rattle.tune_journal.proofs.CallRuns.{run_since}
 use Rattle.tune_journal.proofs.Rests.{rest_leaves}
 use Rattle.tune_journal.proofs.Changed.{length-changed}
@@ -24,11 +23,8 @@ pub returns-in-Ok-clause-moments : goal.returns-in-Ok-clause-moments
 returns-in-Ok-clause-moments g c =
     let size : length c.args.self.pages ≡ c.self.inside.count = ap (λ s. length s.pages) (sym c.self.view_is) ∙ length-pages_of c.self.inside.count (g.D.Disk.state c.self.inside.disk).seen in
     let grows : c.self.inside.count ≤ c.args.new_count = omega (arith, c.requires.grows, size) in
-    rw (← c.self.view_is) (record {
-      before = c.write_log.ensures.calls.was_honest;
-      since = λ h. (let rest = c.self.invariant.rest (c.write_log.ensures.calls.was_honest h) in
-          run_since (StandsFor (pages_of c.self.inside.count (g.D.Disk.state c.self.inside.disk).seen)) (IsNoLog c.args.new_count) c.write_log.result _ _ rest.settled (c.write_log.ensures.writes h) (stands_logging c.self.inside.count c.args.new_count _ rest grows));
-    })
+    rw (← c.self.view_is) (λ h. (let rest = c.self.invariant.rest (c.write_log.ensures.calls.was_honest h) in
+    run_since (StandsFor (pages_of c.self.inside.count (g.D.Disk.state c.self.inside.disk).seen)) (IsNoLog c.args.new_count) c.write_log.result _ _ rest.settled (c.write_log.ensures.writes h) (stands_logging c.self.inside.count c.args.new_count _ rest grows)))
 
 pub returns-in-Ok-clause-rest : goal.returns-in-Ok-clause-rest
 returns-in-Ok-clause-rest g c =
@@ -66,8 +62,5 @@ pub returns-in-Err-clause-moments : goal.returns-in-Err-clause-moments
 returns-in-Err-clause-moments g c =
     let size : length c.args.self.pages ≡ c.self.inside.count = ap (λ s. length s.pages) (sym c.self.view_is) ∙ length-pages_of c.self.inside.count (g.D.Disk.state c.self.inside.disk).seen in
     let grows : c.self.inside.count ≤ c.args.new_count = omega (arith, c.requires.grows, size) in
-    rw (← c.self.view_is) (record {
-      before = c.write_log.ensures.calls.was_honest;
-      since = λ h. (let rest = c.self.invariant.rest (c.write_log.ensures.calls.was_honest h) in
-          run_since (StandsFor (pages_of c.self.inside.count (g.D.Disk.state c.self.inside.disk).seen)) (IsNoLog c.args.new_count) c.write_log.result _ _ rest.settled (c.write_log.ensures.writes h) (stands_logging c.self.inside.count c.args.new_count _ rest grows));
-    })
+    rw (← c.self.view_is) (λ h. (let rest = c.self.invariant.rest (c.write_log.ensures.calls.was_honest h) in
+    run_since (StandsFor (pages_of c.self.inside.count (g.D.Disk.state c.self.inside.disk).seen)) (IsNoLog c.args.new_count) c.write_log.result _ _ rest.settled (c.write_log.ensures.writes h) (stands_logging c.self.inside.count c.args.new_count _ rest grows)))

@@ -1,7 +1,7 @@
 use Rattle.std.proofs.Common.{◌∙◌, List, ℕ, ap, subst}
 use Rattle.tune_disk.specs.Disk.{settled}
 use Rattle.tune_disk.specs.Stops.{LeavesOnly}
-use Rattle.tune_disk.specs.Moments.{since_then}
+use Rattle.tune_disk.proofs.Moments.{since_then}
 use Rattle.tune_journal.specs.Image.{StandsFor}
 use Rattle.tune_journal.specs.Making.{StandsForNoneOr}
 use Rattle.tune_journal.proofs.Rests.{rest_leaves}

@@ -31,21 +31,19 @@ returns-in-Err-clause-moments g c = λ h. keeps_either _ _ (g.met.D.Disk.seen_ma
 
 pub returns-in-Ok-clause-leaves : goal.returns-in-Ok-clause-leaves
 returns-in-Ok-clause-leaves g c = λ h.
-    (let goes = c.in-Ok.ensures.moments in
-    let mid = goes.before h in
-    recovered_leaves (g.D.Disk.state c.args.disk) (g.D.Disk.state c.look.new.disk) _ _ (g.met.D.Disk.seen_may_stay c.args.disk (c.look.ensures.calls.was_honest mid)) (c.in-Ok-Open.ensures.synced mid) (g.met.D.Disk.seen_may_stay c.look.new.disk mid) (goes.since h))
+    (let mid = c.in-Ok.ensures.calls.was_honest h in
+    recovered_leaves (g.D.Disk.state c.args.disk) (g.D.Disk.state c.look.new.disk) _ _ (g.met.D.Disk.seen_may_stay c.args.disk (c.look.ensures.calls.was_honest mid)) (c.in-Ok-Open.ensures.synced mid) (g.met.D.Disk.seen_may_stay c.look.new.disk mid) (c.in-Ok.ensures.moments h))
 
 pub returns-in-Ok-clause-moments : goal.returns-in-Ok-clause-moments
-returns-in-Ok-clause-moments g c = λ h. keeps_either _ _ (g.met.D.Disk.seen_may_stay c.args.disk (c.look.ensures.calls.was_honest (c.in-Ok.ensures.moments.before h))) (returns-in-Ok-clause-leaves g c h)
+returns-in-Ok-clause-moments g c = λ h. keeps_either _ _ (g.met.D.Disk.seen_may_stay c.args.disk (c.look.ensures.calls.was_honest (c.in-Ok.ensures.calls.was_honest h))) (returns-in-Ok-clause-leaves g c h)
 
 pub returns-in-Err-finish-clause-leaves : goal.returns-in-Err-finish-clause-leaves
 returns-in-Err-finish-clause-leaves g c = λ h.
-    (let goes = c.in-Err-finish.ensures.moments in
-    let mid = goes.before h in
-    recovered_leaves (g.D.Disk.state c.args.disk) (g.D.Disk.state c.look.new.disk) _ _ (g.met.D.Disk.seen_may_stay c.args.disk (c.look.ensures.calls.was_honest mid)) (c.in-Ok-Open.ensures.synced mid) (g.met.D.Disk.seen_may_stay c.look.new.disk mid) (goes.since h))
+    (let mid = c.in-Err-finish.ensures.calls.was_honest h in
+    recovered_leaves (g.D.Disk.state c.args.disk) (g.D.Disk.state c.look.new.disk) _ _ (g.met.D.Disk.seen_may_stay c.args.disk (c.look.ensures.calls.was_honest mid)) (c.in-Ok-Open.ensures.synced mid) (g.met.D.Disk.seen_may_stay c.look.new.disk mid) (c.in-Err-finish.ensures.moments h))
 
 pub returns-in-Err-finish-clause-moments : goal.returns-in-Err-finish-clause-moments
-returns-in-Err-finish-clause-moments g c = λ h. keeps_either _ _ (g.met.D.Disk.seen_may_stay c.args.disk (c.look.ensures.calls.was_honest (c.in-Err-finish.ensures.moments.before h))) (returns-in-Err-finish-clause-leaves g c h)
+returns-in-Err-finish-clause-moments g c = λ h. keeps_either _ _ (g.met.D.Disk.seen_may_stay c.args.disk (c.look.ensures.calls.was_honest (c.in-Err-finish.ensures.calls.was_honest h))) (returns-in-Err-finish-clause-leaves g c h)
 
 pub returns-in-Ok-Closed-clause-pages : goal.returns-in-Ok-Closed-clause-pages
 returns-in-Ok-Closed-clause-pages g c = λ h.
@@ -63,9 +61,8 @@ returns-in-Ok-Closed-clause-rest g c = λ h. rest_leaves c.in-Ok-Closed.count (g
 
 pub returns-in-Ok-clause-pages : goal.returns-in-Ok-clause-pages
 returns-in-Ok-clause-pages g c = λ h.
-    (let goes = c.in-Ok.ensures.moments in
-    let mid = goes.before h in
-    recovered_stands (g.D.Disk.state c.args.disk) (g.D.Disk.state c.look.new.disk) _ _ _ (c.in-Ok-Open.ensures.synced mid) (g.met.D.Disk.seen_may_stay c.look.new.disk mid) (goes.since h) (c.in-Ok.ensures.pages h))
+    (let mid = c.in-Ok.ensures.calls.was_honest h in
+    recovered_stands (g.D.Disk.state c.args.disk) (g.D.Disk.state c.look.new.disk) _ _ _ (c.in-Ok-Open.ensures.synced mid) (g.met.D.Disk.seen_may_stay c.look.new.disk mid) (c.in-Ok.ensures.moments h) (c.in-Ok.ensures.pages h))
 
 pub returns-in-Ok-clause-only : goal.returns-in-Ok-clause-only
 returns-in-Ok-clause-only g c = λ h pages stands. stands_once pages _ (g.D.Disk.state c.args.disk).seen stands (returns-in-Ok-clause-pages g c h)

@@ -1,0 +1,71 @@
+// Writes the tunes of a book, one after another.
+ghost use Rattle.std.specs.Prelude.{◌≡◌, ℕ, List, ◌++◌, codes, length, IfOk};
+ghost use Rattle.tune_books.specs.WrittenBooks.{book_header, written_tune, written_book};
+
+use abc_fields::{ByteText, TuneText};
+use std::alloc::{AllocError, Global};
+use std::io::Write;
+use std::marker::Model;
+
+/// A book as far as it is written: the line `%abc-2.1`, and then, for each tune, an empty line, its
+/// `X:` line and its text (ABC 2.1, sections 2.1 and 2.2; this archive's profile). A clause sees
+/// the list of its bytes.
+#[derive(Debug, Drop)]
+pub struct BookWriter {
+    bytes: Vec<u8>,
+}
+
+impl Model for BookWriter {
+    ghost Value = { List ℕ };
+
+    ghost view = { λ w. w.bytes.items };
+}
+
+impl BookWriter {
+    /// A book without tunes: the line `%abc-2.1`, by which a reader knows the file (ABC 2.1,
+    /// section 2.1). The error is out of memory.
+    pub fn new(alloc: Global) -> Result<BookWriter, AllocError>
+        ensures { IfOk result (λ writer. writer ≡ book_header) }
+    {
+        let bytes = Vec::from_slice(alloc, b"%abc-2.1\n")?;
+        Ok(BookWriter { bytes })
+    }
+
+    /// The book with one more tune at its end: an empty line, the line `X:` with the number, and
+    /// the text (ABC 2.1, section 2.2.1; this archive's profile). The error is out of memory, and
+    /// what was written is dropped then.
+    pub fn with_tune(self, number: u32, text: &TuneText) -> Result<BookWriter, AllocError>
+        ensures { IfOk result (λ writer.
+            writer ≡ self ++ (codes "\n" ++ written_tune number text.now)) }
+    {
+        let BookWriter { mut bytes } = self;
+        write!(bytes, "\nX:{number}\n").map_err(|_| AllocError)?;
+        bytes.extend_from_slice(text.bytes())?;
+        Ok(BookWriter { bytes })
+    }
+
+    /// The bytes of the book. It takes no memory.
+    pub fn into_book(self) -> ByteText
+        ensures { result ≡ self }
+    {
+        let BookWriter { bytes } = self;
+        ByteText::from_vec(bytes)
+    }
+}
+
+/// The book of these tunes, in order: each text follows the number at its place (ABC 2.1, sections
+/// 2.1 and 2.2; this archive's profile). The error is out of memory.
+pub fn write_book(
+    alloc: Global,
+    numbers: &[u32],
+    texts: &[TuneText],
+) -> Result<ByteText, AllocError>
+    requires { length numbers.now ≡ length texts.now }
+    ensures { IfOk result (λ book. book ≡ written_book numbers.now texts.now) }
+{
+    let mut writer = BookWriter::new(alloc)?;
+    for (i, text) in texts.iter().enumerate() {
+        writer = writer.with_tune(numbers[i], text)?;
+    }
+    Ok(writer.into_book())
+}

@@ -1,0 +1,17 @@
+-- What the calls of an archive in memory give, over its list of tunes.
+use Rattle.std.specs.Prelude.{◌≡◌, ◌⊎◌, List, Result, Err}
+use Rattle.tune_store.specs.State.{State}
+use Rattle.tune_store.specs.Step.{Outcome}
+use Rattle.tune_store.specs.declared.tune.Tune.{Tune}
+use Rattle.tune_store.specs.declared.command.Reply.{Reply}
+use Rattle.tune_store.specs.declared.command.Refusal.{Refusal}
+use Rattle.tune_store.specs.declared.command.Refusal.TheVariants.{OutOfMemory}
+
+-- the state of a list of tunes
+abbrev pub state_of : List Tune → State
+state_of tunes = record { tunes = tunes }
+
+-- out of memory, and the tunes stay; or the new tunes and the answer are those of an outcome
+abbrev pub StaysOrGives : List Tune → List Tune → Result Reply Refusal → Outcome → Type 0
+StaysOrGives old new answer outcome =
+    ((answer ≡ Err OutOfMemory) × (new ≡ old)) ⊎ (outcome ≡ (state_of new, answer))
