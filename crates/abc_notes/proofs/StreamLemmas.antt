@@ -1,4 +1,4 @@
--- Streams of events: what is told first, and what is left.
+-- Streams of events: which event comes first, and what is left.
 use Rattle.std.proofs.Common.{◌≡◌, ℕ, ◌+◌, List, [], ◌∷◌, ◌++◌, Bool, true, false, Option, Some, None, refl, sym, ap, ◌∙◌, append_assoc, not, ◌&&◌, subst}
 use Rattle.std.specs.Prelude.{is_some}
 use Rattle.std.specs.Iterator.{YieldsFirstBy}
@@ -56,8 +56,8 @@ pub chord_step : (base : ℕ) (first go : Bool) (spans later : List ItemSpan) (s
     → events_of event ≡ plain_events base first span.kind span → go ≡ (first && not (is_note span.kind))
     → chord_events base first spans ≡ events_of event ++ chord_events base go later
 unfolding chord_events
-chord_step base first go spans later span event is told goes =
-    ap (chord_events base first) is ∙ (λ i. sym told i ++ chord_events base (sym goes i) later)
+chord_step base first go spans later span event is meant goes =
+    ap (chord_events base first) is ∙ (λ i. sym meant i ++ chord_events base (sym goes i) later)
 
 pub chord_end : (base : ℕ) (first : Bool) (spans : List ItemSpan) → spans ≡ [] → chord_events base first spans ≡ []
 unfolding chord_events
@@ -92,15 +92,15 @@ pub line_step : (base : ℕ) (spans later : List ItemSpan) (span : ItemSpan) (ev
     → events_of event ++ chord ≡ item_events base span.kind span
     → line_events base spans ≡ events_of event ++ (chord ++ line_events base later)
 unfolding line_events
-line_step base spans later span event chord is told =
-    ap (line_events base) is ∙ ap (λ events. events ++ line_events base later) (sym told) ∙ append_assoc (events_of event) chord (line_events base later)
+line_step base spans later span event chord is meant =
+    ap (line_events base) is ∙ ap (λ events. events ++ line_events base later) (sym meant) ∙ append_assoc (events_of event) chord (line_events base later)
 
 -- an item of a line that is no chord
 pub plain_step : (base : ℕ) (spans later : List ItemSpan) (span : ItemSpan) (event : Option CodeEvent) → spans ≡ span ∷ later
     → events_of event ≡ item_events base span.kind span
     → line_events base spans ≡ events_of event ++ line_events base later
 unfolding line_events
-plain_step base spans later span event is told = ap (line_events base) is ∙ ap (λ events. events ++ line_events base later) (sym told)
+plain_step base spans later span event is meant = ap (line_events base) is ∙ ap (λ events. events ++ line_events base later) (sym meant)
 
 pub line_end : (base : ℕ) (spans : List ItemSpan) → spans ≡ [] → line_events base spans ≡ []
 unfolding line_events
@@ -130,9 +130,9 @@ pub body_step : (in_part inside : Bool) (lines later : List Line) (line : Line) 
     → events_of event ++ music ≡ line_meaning in_part line → inside ≡ in_part_after in_part line.bytes
     → body_events in_part lines ≡ events_of event ++ (music ++ body_events inside later)
 unfolding body_events
-body_step in_part inside lines later line event music is told goes =
+body_step in_part inside lines later line event music is meant goes =
     ap (body_events in_part) is
-    ∙ (λ i. sym told i ++ body_events (sym goes i) later)
+    ∙ (λ i. sym meant i ++ body_events (sym goes i) later)
     ∙ append_assoc (events_of event) music (body_events inside later)
 
 pub body_end : (in_part : Bool) (lines : List Line) → lines ≡ [] → body_events in_part lines ≡ []
