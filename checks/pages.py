@@ -31,6 +31,7 @@ LINK = re.compile(r'\[([^\]]*)\]\(([^()\s]+)\)')
 CLAUSES = re.compile(r'\[`([\w:]+)`\]\(([^()\s]+\.rt)\)((?:,?(?: and)? `\w+`)*)')
 DEFINITION = re.compile(r'\[`(\w+)`\]\(([^()\s]+\.antt)\)')
 FENCE = '```'
+NEW_LINE = '\n'
 
 faults = []
 
@@ -125,6 +126,11 @@ class Page:
             if not self.in_code[number - 1]:
                 yield number, line
 
+    def text(self):
+        """The text of the page, with an empty line for each line of a block of code."""
+        return NEW_LINE.join(
+            '' if code else line for line, code in zip(self.lines, self.in_code))
+
     def headings(self):
         return [(number, line) for number, line in self.text_lines() if line.startswith('#')]
 
@@ -170,16 +176,16 @@ def check_length(page):
 
 
 def check_links(page, pages):
-    for number, line in page.text_lines():
-        for _, link in LINK.findall(re.sub(r'`[^`]*`', '', line)):
-            if link.startswith(('http:', 'https:')):
-                continue
-            path, _, anchor = link.partition('#')
-            target = page.target(path) if path else page.path
-            if not exists(target):
-                fault(f'{page.path}:{number}', f'no {target}')
-            elif anchor and anchor not in pages[target].anchors():
-                fault(f'{page.path}:{number}', f'no heading {anchor} in {target}')
+    for link in LINK.finditer(page.text()):
+        if link[2].startswith(('http:', 'https:')):
+            continue
+        where = f'{page.path}:{page.text().count(NEW_LINE, 0, link.start()) + 1}'
+        path, _, anchor = link[2].partition('#')
+        target = page.target(path) if path else page.path
+        if not exists(target):
+            fault(where, f'no {target}')
+        elif anchor and anchor not in pages[target].anchors():
+            fault(where, f'no heading {anchor} in {target}')
 
 
 def check_spans(page, names, file_names):

@@ -40,7 +40,7 @@ begin() {
     ln -s "$root/examples" examples
 }
 
-# Notes what is wrong in this case; the first counts.
+# Keeps what is wrong in this case; the first counts.
 wrong() {
     [ -n "$why" ] || why=$1
 }

@@ -5,7 +5,7 @@ use std::cell::RefCell;
 use std::fmt::Display;
 use std::io;
 use std::test::Fail;
-use tune_cli::{Action, WordsFault, action, tell};
+use tune_cli::{Action, WordsFault, action, report};
 
 fn words(alloc: Global, words: &[&str]) -> Result<Vec<String>, Fail> {
     let mut list = Vec::new(alloc);
@@ -45,6 +45,14 @@ fn reads_the_words_of_the_program(rt: HostRuntime) -> Result<(), Fail> {
     assert_eq!(&rt;
         fault(rt.alloc(), &["tunes", "list", "-h"])?,
         Some(ErrorKind::DisplayHelp)
+    );
+    assert_eq!(&rt;
+        fault(rt.alloc(), &["tunes", "--version"])?,
+        Some(ErrorKind::DisplayVersion)
+    );
+    assert_eq!(&rt;
+        fault(rt.alloc(), &["tunes", "list", "--version"])?,
+        Some(ErrorKind::UnknownArgument)
     );
     Ok(())
 }
@@ -104,14 +112,14 @@ impl Eprint for Screen {
     }
 }
 
-// The status that is told for these words, and whether something was printed on either stream.
-fn told(alloc: Global, given: &[&str]) -> Result<(u8, bool, bool), Fail> {
+// The status that is given for these words, and whether something was printed on either stream.
+fn reported(alloc: Global, given: &[&str]) -> Result<(u8, bool, bool), Fail> {
     let words = words(alloc, given)?;
     let screen = Screen::new(alloc);
     match action(alloc, words.as_slice()) {
         Ok(_) => Err(Fail::from("an action")),
         Err(fault) => {
-            let status = tell(&screen, &fault)?;
+            let status = report(&screen, &fault)?;
             let Screen {
                 alloc: _,
                 output,
@@ -125,16 +133,16 @@ fn told(alloc: Global, given: &[&str]) -> Result<(u8, bool, bool), Fail> {
 }
 
 #[test]
-fn tells_why_words_ask_for_nothing(rt: HostRuntime) -> Result<(), Fail> {
-    assert_eq!(&rt; told(rt.alloc(), &["tunes", "--help"])?, (0, true, false));
+fn reports_why_words_ask_for_nothing(rt: HostRuntime) -> Result<(), Fail> {
+    assert_eq!(&rt; reported(rt.alloc(), &["tunes", "--help"])?, (0, true, false));
     assert_eq!(&rt;
-        told(rt.alloc(), &["tunes", "list", "--help"])?,
+        reported(rt.alloc(), &["tunes", "list", "--help"])?,
         (0, true, false)
     );
-    assert_eq!(&rt; told(rt.alloc(), &["tunes"])?, (2, false, true));
-    assert_eq!(&rt; told(rt.alloc(), &["tunes", "lists"])?, (2, false, true));
+    assert_eq!(&rt; reported(rt.alloc(), &["tunes"])?, (2, false, true));
+    assert_eq!(&rt; reported(rt.alloc(), &["tunes", "lists"])?, (2, false, true));
     assert_eq!(&rt;
-        told(rt.alloc(), &["tunes", "list", "more"])?,
+        reported(rt.alloc(), &["tunes", "list", "more"])?,
         (2, false, true)
     );
     Ok(())

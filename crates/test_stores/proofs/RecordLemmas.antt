@@ -1,9 +1,10 @@
 -- Records with one more entry.
-use Rattle.std.proofs.Common.{◌≡◌, ℕ, ◌≤◌, List, [], ◌∷◌, ◌++◌, length, sym, subst, ap, ◌∙◌, arith, inl, inr, ◌⊎◌, length-append}
+use Rattle.std.proofs.Common.{◌≡◌, ℕ, ◌≤◌, List, [], ◌∷◌, ◌++◌, length, sym, ap, ◌∙◌, arith, inl, inr, ◌⊎◌, length-append}
 use Rattle.std.proofs.lemmas.Bool.{cases_lt}
 use Rattle.std.proofs.lemmas.List.{get_or_append_left, get_or_push}
 use Rattle.tune_store.specs.State.{State}
 use Rattle.tune_store.specs.Stops.{Among, StandsForOne}
+use Rattle.tune_store.proofs.StopLemmas.{stands_among}
 use Rattle.test_stores.specs.Record.{LeftSince, IsOfCount, EndsAt, last_place}
 
 -- RECORDS
@@ -22,15 +23,6 @@ left_push entries number since file left = elim (cases_lt left.place (length ent
       let within = left.within in
       let last : length entries ≡ left.place = omega (arith, length-append entries (number ∷ [])) in
       inr (left.entry ∙ ap (λ entry. entry ∷ []) (get_or_push entries number 0 left.place last))
-]
-
--- a file that stands for a state stands for one of the states that it is among
-pub stands_among : (stands_for : List ℕ → State → Type 0) (state : State) (states : List State) (file : List ℕ) → stands_for file state → Among state states
-    → StandsForOne stands_for states file
-stands_among stands_for state [] file stands among = among
-stands_among stands_for state (other ∷ others) file stands among = elim among [
-  | inl same ↦ inl (subst (λ one. stands_for file one) same stands)
-  | inr later ↦ inr (stands_among stands_for state others file stands later)
 ]
 
 -- a record with more entries has the files that it had
@@ -62,6 +54,6 @@ pushes entries later old new states number among e pushed = rw pushed (record {
   is_later = omega (arith, length-append entries (number ∷ []));
   leaves = λ since file left. elim (left_push entries number since file left) [
     | inl before ↦ inl before
-    | inr one ↦ inr (stands_among IsOfCount new (old ∷ states) file (one ∙ ap (λ entry. entry ∷ []) (sym e)) among)
+    | inr one ↦ inr (stands_among IsOfCount new (old ∷ states) file among (one ∙ ap (λ entry. entry ∷ []) (sym e)))
   ];
 })

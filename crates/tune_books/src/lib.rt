@@ -4,6 +4,6 @@
 //! profile where the standard is silent.
 #![tactic(auto)]
 
-mod writer;
+mod book_writer;
 
-pub use writer::{BookWriter, write_book};
+pub use book_writer::{BookWriter, write_book};

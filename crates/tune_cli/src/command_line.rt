@@ -2,6 +2,9 @@
 use clap::Error;
 use std::alloc::AllocError;
 
+/// The version of the program: `tunes --version` prints it.
+pub const VERSION: &str = "0.1.0";
+
 /// What the program is asked to do.
 #[derive(Clone, Copy, Debug, PartialEq, Eq)]
 pub enum Action {
@@ -12,16 +15,17 @@ pub enum Action {
 /// Why words ask for nothing.
 #[derive(Drop)]
 pub enum WordsFault {
-    /// The words do not parse, help was asked for, or memory was refused: the error tells which, and has a text to print.
+    /// The words do not parse, help or the version was asked for, or out of memory: the error tells
+    /// which, and has a text to print.
     Clap(Error),
     /// They parse, and have no subcommand.
     Missing,
 }
 
 impl From<AllocError> for WordsFault {
-    ghost use Rattle.tune_cli.specs.CommandLine.{IsWantOfMemory};
+    ghost use Rattle.tune_cli.specs.Inside.Faults.{IsOutOfMemory};
 
-    ghost from_gives = { λ _ fault. IsWantOfMemory fault };
+    ghost from_gives = { λ _ fault. IsOutOfMemory fault };
 
     fn from(e: AllocError) -> WordsFault {
         WordsFault::Clap(Error::from(e))

@@ -1,4 +1,5 @@
 pub mod Above
+mod Applying
 mod Chain
 mod CallRuns
 mod ChangeLists

@@ -1,11 +1,8 @@
--- What contracts see of a journal and of the states of a commit: a disk, and the lists of pages that stand on it.
-use Rattle.std.specs.Prelude.{ℕ, ◌≤◌, List, refl}
-use Rattle.std.specs.Coded.{Coded, code_by, coded×, coded_list, coded_ℕ}
-use Rattle.tune_disk.specs.Disk.{DiskState}
-use Rattle.tune_journal.specs.Image.{pages_of, log_of}
-use Rattle.tune_journal.specs.Pages.{changed}
-use Rattle.tune_journal.specs.Rest.{IsAtRest, IsLogged, IsOpened, IsApplied}
-use Rattle.tune_journal.specs.Layout.{most_pages}
+-- What contracts see of a journal and of the states of a commit: a disk, and the lists of pages
+-- that stand on it.
+use Rattle.std.specs.Prelude.{ℕ, List, Result, Ok, Err}
+use Rattle.tune_journal.specs.declared.open_fault.Broken.{Broken}
+use Rattle.tune_journal.specs.declared.open_fault.Refused.{Refused}
 
 -- a list of pages on a disk
 pub record Held (D : Type 0) : Type 0 where
@@ -19,68 +16,28 @@ pub record Staged (D : Type 0) : Type 0 where
   pub changes : List (ℕ × List ℕ)
   pub next : List (List ℕ)
 
--- a list of pages that is decided, and the changes that are still to be put in their places
+-- a list of pages that is decided, and the changes whose images are still to be put at their offsets
 pub record Decided (D : Type 0) : Type 0 where
   pub disk : D
   pub pages : List (List ℕ)
   pub changes : List (ℕ × List ℕ)
 
-module _ {D : Type 0} where
-  -- each is stored as the tuple of its fields
-  abbrev pub held_code : Coded D → Coded (Held D)
-  held_code code =
-      code_by (D × List (List ℕ)) (coded× code (coded_list (coded_list coded_ℕ))) (λ h. (h.disk, h.pages)) (λ p. record { disk = p.0; pages = p.1 }) (λ _. refl)
+-- The disk that a call answers, in a journal or on its own.
+abbrev pub disk_of : {D : Type 0} → Result (Held D) (Broken D) → D
+disk_of (Ok held) = held.disk
+disk_of (Err broken) = broken.disk
 
-  abbrev pub decided_code : Coded D → Coded (Decided D)
-  decided_code code =
-      code_by (D × (List (List ℕ) × List (ℕ × List ℕ))) (coded× code (coded× (coded_list (coded_list coded_ℕ)) (coded_list (coded× coded_ℕ (coded_list coded_ℕ)))))
-      (λ h. (h.disk, (h.pages, h.changes))) (λ p. record { disk = p.0; pages = p.1.0; changes = p.1.1 }) (λ _. refl)
+-- the same of an answer of `log`
+abbrev pub disk_of_log : {D : Type 0} → Result (Staged D) (Broken D) → D
+disk_of_log (Ok staged) = staged.disk
+disk_of_log (Err broken) = broken.disk
 
-  abbrev pub staged_code : Coded D → Coded (Staged D)
-  staged_code code =
-      code_by (D × (List (List ℕ) × (List (ℕ × List ℕ) × List (List ℕ)))) (coded× code (coded× (coded_list (coded_list coded_ℕ)) (coded× (coded_list (coded× coded_ℕ (coded_list coded_ℕ))) (coded_list (coded_list coded_ℕ)))))
-      (λ h. (h.disk, (h.pages, (h.changes, h.next)))) (λ p. record { disk = p.0; pages = p.1.0; changes = p.1.1.0; next = p.1.1.1 }) (λ _. refl)
+-- of `open_gate`
+abbrev pub disk_of_gate : {D : Type 0} → Result (Decided D) (Broken D) → D
+disk_of_gate (Ok decided) = decided.disk
+disk_of_gate (Err broken) = broken.disk
 
-  module _ (state : D → DiskState) where
-    -- the first n pages of the disk
-    abbrev pub held : D → ℕ → Held D
-    held disk n = record { disk = disk; pages = pages_of n (state disk).seen }
-
-    -- the first n pages, and what the log makes of the first m
-    abbrev pub staged : D → ℕ → ℕ → Staged D
-    staged disk n m = record {
-      disk = disk;
-      pages = pages_of n (state disk).seen;
-      changes = log_of (state disk).seen;
-      next = changed (pages_of m (state disk).seen) (log_of (state disk).seen);
-    }
-
-    -- what the log makes of the first m pages
-    abbrev pub decided : D → ℕ → Decided D
-    decided disk m = record {
-      disk = disk;
-      pages = changed (pages_of m (state disk).seen) (log_of (state disk).seen);
-      changes = log_of (state disk).seen;
-    }
-
-  -- A count is in bounds whatever the disk answered; the rest is told of an honest disk alone.
-  module _ (honest : D → Type 0) (state : D → DiskState) where
-    pub record IsSound (disk : D) (n : ℕ) : Type 0 where
-      pub least : 1 ≤ n
-      pub most : n ≤ most_pages
-      pub rest : honest disk → IsAtRest n (state disk)
-
-    pub record IsSoundLogged (disk : D) (n m : ℕ) : Type 0 where
-      pub least : 1 ≤ m
-      pub most : m ≤ most_pages
-      pub logged : honest disk → IsLogged n m (state disk)
-
-    pub record IsSoundOpened (disk : D) (m : ℕ) : Type 0 where
-      pub least : 1 ≤ m
-      pub most : m ≤ most_pages
-      pub opened : honest disk → IsOpened m (state disk)
-
-    pub record IsSoundApplied (disk : D) (m : ℕ) : Type 0 where
-      pub least : 1 ≤ m
-      pub most : m ≤ most_pages
-      pub applied : honest disk → IsApplied m (state disk)
+-- of `make` and `open`
+abbrev pub disk_of_opening : {D : Type 0} → Result (Held D) (Refused D) → D
+disk_of_opening (Ok held) = held.disk
+disk_of_opening (Err refused) = refused.disk

@@ -1,12 +1,9 @@
 pub mod ChangeList
 pub mod Held
 pub mod Image
+pub mod Inside
 pub mod Layout
-pub mod Listed
 pub mod Making
 pub mod Moments
-pub mod Opening
 pub mod Pages
-pub mod Phases
 pub mod Refusal
-pub mod Rest

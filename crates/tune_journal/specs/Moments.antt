@@ -4,15 +4,18 @@ use Rattle.tune_disk.specs.Disk.{DiskState, MayLeave}
 use Rattle.tune_disk.specs.Stops.{SinceThen, LeavesOnly}
 use Rattle.tune_journal.specs.Image.{StandsFor, StandsForEither}
 
--- What a call that takes a disk did with it: since the call began, a stop leaves files of this kind alone.
-pub record Goes {D : Type 0} (honest : D → Type 0) (state : D → DiskState) (old new : D) (P : List ℕ → Type 0) : Type 0 where
-  pub before : honest new → honest old
-  pub since : honest new → SinceThen (state old) (state new) P
+-- A stop over this disk leaves these pages alone, if the disk is honest.
+abbrev pub LeavesPages : {D : Type 0} → (D → Type 0) → (D → DiskState) → D → List (List ℕ) → Type 0
+LeavesPages honest state disk pages = honest disk → LeavesOnly (state disk).now (StandsFor pages)
 
--- Where each file that a stop may leave at first stands for one of two lists of pages, so does each since then.
+-- Where each file that a stop may leave at first stands for one of two lists of pages, so does each
+-- since then.
 abbrev pub KeepsEither : DiskState → DiskState → Type 0
-KeepsEither old new = (a b : List (List ℕ)) → LeavesOnly old.now (StandsForEither a b) → SinceThen old new (StandsForEither a b)
+KeepsEither old new = (a b : List (List ℕ)) → LeavesOnly old.now (StandsForEither a b)
+    → SinceThen old new (StandsForEither a b)
 
--- A stop might have left this file at first, or it stands for the pages that a read would have given then.
+-- A stop might have left this file at first, or it stands for the pages that a read would have
+-- given then.
 abbrev pub LeftOrSame : DiskState → List ℕ → Type 0
-LeftOrSame old file = MayLeave old.now file ⊎ ((pages : List (List ℕ)) × StandsFor pages old.seen × StandsFor pages file)
+LeftOrSame old file = MayLeave old.now file
+    ⊎ ((pages : List (List ℕ)) × StandsFor pages old.seen × StandsFor pages file)

@@ -1,27 +1,28 @@
-// Recovery: the images of a log are copied to their places.
+// Recovery: the images of a log are copied into their pages.
 ghost use Rattle.std.specs.Prelude.{◌≡◌, ◌<◌, ◌≤◌, ◌+◌, length, OnOk};
-ghost use Rattle.tune_disk.specs.Disk.{Writes, CountsFailure};
-ghost use Rattle.tune_disk.specs.Stops.{Spares};
-ghost use Rattle.tune_journal.specs.Image.{window, number, page_offset, entry_offset, entries as entries_in, pages_of, count_of};
-ghost use Rattle.tune_journal.specs.Pages.{changed};
-ghost use Rattle.tune_journal.specs.Opening.{HasEntries};
-ghost use Rattle.tune_journal.specs.Phases.{WritesAndSyncs, KeepsBoth, IsInNoPage};
+ghost use Rattle.tune_disk.specs.Disk.{Writes};
+ghost use Rattle.tune_disk.specs.Inside.Spares.{Spares};
+ghost use Rattle.tune_journal.specs.Image.{window, number, page_offset, entry_offset};
+ghost use Rattle.tune_journal.specs.Image.{entries as entries_in, pages_of, count_of};
+ghost use Rattle.tune_journal.specs.Inside.Looking.{HasEntries, HasEntry};
+ghost use Rattle.tune_journal.specs.Inside.Phases.{WritesAndSyncs, KeepsBoth, IsInNoPage, CallsIf};
 ghost use Rattle.tune_journal.specs.Layout.{block_bytes, most_pages};
+ghost use Rattle.tune_journal.specs.Pages.{changed};
 
 use crate::commit::write_synced;
 use crate::layout::{COUNT_OFFSET, ENTRY_BYTES, entry_offset, number_bytes, page_offset};
 use byteorder::{BigEndian, ByteOrder};
 use tune_disk::{DeviceFault, Disk};
 
-/// Copies the image of an entry to its place.
+/// Copies the image of an entry into its page.
 fn copy_entry<D: Disk>(disk: &mut D, count: u32, entry: u32) -> Result<(), DeviceFault>
     requires { (count ≤ most_pages) × (entry < count) }
-    ensures honest { D.honest disk.new → D.honest disk.old }
-    ensures copies { D.honest disk.new → entry_offset count (entry + 1) ≤ length (D.state disk.old).seen → number (entry_offset count entry) (D.state disk.old).seen < count
-        → Writes (page_offset (number (entry_offset count entry) (D.state disk.old).seen)) (window (entry_offset count entry + 4) block_bytes (D.state disk.old).seen) result (D.state disk.old) (D.state disk.new) }
-    ensures ok { OnOk result (D.failures disk.new ≡ D.failures disk.old) }
-    ensures failures { D.honest disk.new → entry_offset count (entry + 1) ≤ length (D.state disk.old).seen → number (entry_offset count entry) (D.state disk.old).seen < count
-        → CountsFailure result (D.failures disk.old) (D.failures disk.new) }
+    ensures copies { let old = D.state disk.old in let at = entry_offset count entry in
+        D.honest disk.new → HasEntry count entry old.seen
+        → Writes (page_offset (number at old.seen)) (window (at + 4) block_bytes old.seen)
+        result old (D.state disk.new) }
+    ensures calls { CallsIf D.honest D.failures result disk.old disk.new
+        (HasEntry count entry (D.state disk.old).seen) }
 {
     let mut bytes = [0; ENTRY_BYTES];
     disk.read(entry_offset(count, entry), &mut bytes)?;
@@ -33,16 +34,18 @@ fn copy_entry<D: Disk>(disk: &mut D, count: u32, entry: u32) -> Result<(), Devic
     disk.write_at(page_offset(page), &bytes[4..])
 }
 
-/// Copies the images of the first entries to their places.
+/// Copies the images of the first entries into their pages.
 fn copy_entries<D: Disk>(disk: &mut D, count: u32, entries: u32) -> Result<(), DeviceFault>
     requires { (count ≤ most_pages) × (entries ≤ count) }
-    ensures honest { D.honest disk.new → D.honest disk.old }
-    ensures spares { D.honest disk.new → HasEntries count entries (D.state disk.old).seen
-        → Spares (IsInNoPage (entries_in count entries (D.state disk.old).seen)) (D.state disk.old) (D.state disk.new) }
-    ensures images { OnOk result (D.honest disk.new → HasEntries count entries (D.state disk.old).seen
-        → pages_of count (D.state disk.new).seen ≡ changed (pages_of count (D.state disk.old).seen) (entries_in count entries (D.state disk.old).seen)) }
-    ensures ok { OnOk result (D.failures disk.new ≡ D.failures disk.old) }
-    ensures failures { D.honest disk.new → HasEntries count entries (D.state disk.old).seen → CountsFailure result (D.failures disk.old) (D.failures disk.new) }
+    ensures spares { let old = D.state disk.old in let new = D.state disk.new in
+        D.honest disk.new → HasEntries count entries old.seen
+        → Spares (IsInNoPage (entries_in count entries old.seen)) old new }
+    ensures images { let old = D.state disk.old in let new = D.state disk.new in
+        let log = entries_in count entries old.seen in
+        OnOk result (D.honest disk.new → HasEntries count entries old.seen
+        → pages_of count new.seen ≡ changed (pages_of count old.seen) log) }
+    ensures calls { CallsIf D.honest D.failures result disk.old disk.new
+        (HasEntries count entries (D.state disk.old).seen) }
 {
     for entry in 0..entries {
         copy_entry(disk, count, entry)?;
@@ -50,17 +53,19 @@ fn copy_entries<D: Disk>(disk: &mut D, count: u32, entries: u32) -> Result<(), D
     Ok(())
 }
 
-/// Copies a log to its places, and syncs.
+/// Copies a log into its pages, and syncs.
 pub(crate) fn copy_log<D: Disk>(disk: &mut D, count: u32, entries: u32) -> Result<(), DeviceFault>
     requires { (count ≤ most_pages) × (entries ≤ count) }
-    ensures honest { D.honest disk.new → D.honest disk.old }
-    ensures writes { D.honest disk.new → HasEntries count entries (D.state disk.old).seen
-        → WritesAndSyncs (KeepsBoth (entries_in count entries (D.state disk.old).seen)) result (D.state disk.old) (D.state disk.new) }
-    ensures images { OnOk result (D.honest disk.new → HasEntries count entries (D.state disk.old).seen
-        → pages_of count (D.state disk.new).seen ≡ changed (pages_of count (D.state disk.old).seen) (entries_in count entries (D.state disk.old).seen)) }
+    ensures writes { let old = D.state disk.old in let new = D.state disk.new in
+        D.honest disk.new → HasEntries count entries old.seen
+        → WritesAndSyncs (KeepsBoth (entries_in count entries old.seen)) result old new }
+    ensures images { let old = D.state disk.old in let new = D.state disk.new in
+        let log = entries_in count entries old.seen in
+        OnOk result (D.honest disk.new → HasEntries count entries old.seen
+        → pages_of count new.seen ≡ changed (pages_of count old.seen) log) }
     ensures count { OnOk result (D.honest disk.new → count_of (D.state disk.new).seen ≡ count) }
-    ensures ok { OnOk result (D.failures disk.new ≡ D.failures disk.old) }
-    ensures failures { D.honest disk.new → HasEntries count entries (D.state disk.old).seen → CountsFailure result (D.failures disk.old) (D.failures disk.new) }
+    ensures calls { CallsIf D.honest D.failures result disk.old disk.new
+        (HasEntries count entries (D.state disk.old).seen) }
 {
     copy_entries(disk, count, entries)?;
     write_synced(disk, COUNT_OFFSET, &number_bytes(count))

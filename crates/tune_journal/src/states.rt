@@ -1,9 +1,11 @@
-// The states of a commit, one after another. Each owns the disk, so nothing else is written between two of them.
-ghost use Rattle.std.specs.Prelude.{◌≡◌, ◌<◌, All, length, MatchResult, IfOk};
-ghost use Rattle.tune_disk.specs.Disk.{CountsUp};
-ghost use Rattle.tune_disk.specs.Stops.{LeavesOnly};
+// The states of a commit, one after another. Each owns the disk, so nothing else is written between
+// two of them.
+ghost use Rattle.std.specs.Prelude.{◌≡◌, ◌<◌, All, length, IfOk};
+ghost use Rattle.tune_disk.specs.Disk.{Calls};
+ghost use Rattle.tune_disk.specs.Stops.{SinceThen};
+ghost use Rattle.tune_journal.specs.Held.{disk_of, disk_of_gate};
 ghost use Rattle.tune_journal.specs.Image.{StandsFor, StandsForEither};
-ghost use Rattle.tune_journal.specs.Moments.{Goes};
+ghost use Rattle.tune_journal.specs.Moments.{LeavesPages};
 
 use crate::changes::Changes;
 use crate::commit::{write_pages, write_synced};
@@ -22,7 +24,8 @@ pub struct Logged<D: Disk> {
 }
 
 impl<D: Disk> Model for Logged<D> {
-    ghost use Rattle.tune_journal.specs.Held.{Staged, staged_code, staged, IsSoundLogged};
+    ghost use Rattle.tune_journal.specs.Held.{Staged};
+    ghost use Rattle.tune_journal.specs.Inside.Seen.{staged_code, staged, IsSoundLogged};
 
     ghost Value = { Staged D };
 
@@ -41,7 +44,8 @@ pub struct Opened<D: Disk> {
 }
 
 impl<D: Disk> Model for Opened<D> {
-    ghost use Rattle.tune_journal.specs.Held.{Decided, decided_code, decided, IsSoundOpened};
+    ghost use Rattle.tune_journal.specs.Held.{Decided};
+    ghost use Rattle.tune_journal.specs.Inside.Seen.{decided_code, decided, IsSoundOpened};
 
     ghost Value = { Decided D };
 
@@ -52,7 +56,7 @@ impl<D: Disk> Model for Opened<D> {
     ghost invariant = { λ s. IsSoundOpened D.honest D.state s.disk s.new_count };
 }
 
-/// A commit whose images are in their places: a stop leaves the pages from after it.
+/// A commit whose images are in their pages: a stop leaves the pages from after it.
 #[derive(Drop)]
 pub struct Applied<D: Disk> {
     pub(crate) disk: D,
@@ -60,7 +64,8 @@ pub struct Applied<D: Disk> {
 }
 
 impl<D: Disk> Model for Applied<D> {
-    ghost use Rattle.tune_journal.specs.Held.{Held, held_code, held, IsSoundApplied};
+    ghost use Rattle.tune_journal.specs.Held.{Held};
+    ghost use Rattle.tune_journal.specs.Inside.Seen.{held_code, held, IsSoundApplied};
 
     ghost Value = { Held D };
 
@@ -79,14 +84,16 @@ impl<D: Disk> Logged<D> {
     /// `Broken` where the disk failed: its disk stands for the list before or after.
     pub fn open_gate(self) -> Result<Opened<D>, Broken<D>>
         // A stop at any moment of the call leaves the pages from before or from after.
-        ensures moments { MatchResult result
-            (λ opened. Goes D.honest D.state self.disk opened.disk (StandsForEither self.pages self.next))
-            (λ broken. Goes D.honest D.state self.disk broken.disk (StandsForEither self.pages self.next)) }
-        ensures rest { IfOk result (λ opened. D.honest opened.disk → LeavesOnly (D.state opened.disk).now (StandsFor opened.pages)) }
+        ensures moments { let old = D.state self.disk in let new = D.state (disk_of_gate result) in
+            D.honest (disk_of_gate result)
+            → SinceThen old new (StandsForEither self.pages self.next) }
+        ensures rest { IfOk result (λ opened.
+            LeavesPages D.honest D.state opened.disk opened.pages) }
         ensures pages { IfOk result (λ opened. D.honest opened.disk → opened.pages ≡ self.next) }
-        ensures changes { IfOk result (λ opened. D.honest opened.disk → opened.changes ≡ self.changes) }
+        ensures changes { IfOk result (λ opened. D.honest opened.disk
+            → opened.changes ≡ self.changes) }
         ensures count { IfOk result (λ opened. length opened.pages ≡ length self.next) }
-        ensures failures { MatchResult result (λ opened. D.failures opened.disk ≡ D.failures self.disk) (λ broken. CountsUp (D.failures self.disk) (D.failures broken.disk)) }
+        ensures calls { Calls D.honest D.failures result self.disk (disk_of_gate result) }
     {
         let Logged {
             mut disk,
@@ -101,7 +108,8 @@ impl<D: Disk> Logged<D> {
 }
 
 impl<D: Disk> Opened<D> {
-    /// The third part of a commit: writes the images of the log, which holds these changes, to their places, and the count.
+    /// The third part of a commit: writes the images of the log, which holds these changes, to
+    /// their pages, and the count.
     ///
     /// # Errors
     ///
@@ -109,13 +117,14 @@ impl<D: Disk> Opened<D> {
     pub fn apply(self, changes: &Changes) -> Result<Applied<D>, Broken<D>>
         requires below { All (λ e. e.0 < length self.pages) changes.now }
         requires log { D.honest self.disk → changes.now ≡ self.changes }
-        ensures moments { MatchResult result
-            (λ applied. Goes D.honest D.state self.disk applied.disk (StandsFor self.pages))
-            (λ broken. Goes D.honest D.state self.disk broken.disk (StandsFor self.pages)) }
-        ensures rest { IfOk result (λ applied. D.honest applied.disk → LeavesOnly (D.state applied.disk).now (StandsFor applied.pages)) }
-        ensures pages { IfOk result (λ applied. D.honest applied.disk → applied.pages ≡ self.pages) }
+        ensures moments { D.honest (disk_of result)
+            → SinceThen (D.state self.disk) (D.state (disk_of result)) (StandsFor self.pages) }
+        ensures rest { IfOk result (λ applied.
+            LeavesPages D.honest D.state applied.disk applied.pages) }
+        ensures pages { IfOk result (λ applied. D.honest applied.disk
+            → applied.pages ≡ self.pages) }
         ensures count { IfOk result (λ applied. length applied.pages ≡ length self.pages) }
-        ensures failures { MatchResult result (λ applied. D.failures applied.disk ≡ D.failures self.disk) (λ broken. CountsUp (D.failures self.disk) (D.failures broken.disk)) }
+        ensures calls { Calls D.honest D.failures result self.disk (disk_of result) }
     {
         let Opened {
             mut disk,
@@ -135,13 +144,14 @@ impl<D: Disk> Applied<D> {
     ///
     /// `Broken` where the disk failed: its disk stands for the list after.
     pub fn close(self) -> Result<Journal<D>, Broken<D>>
-        ensures moments { MatchResult result
-            (λ journal. Goes D.honest D.state self.disk journal.disk (StandsFor self.pages))
-            (λ broken. Goes D.honest D.state self.disk broken.disk (StandsFor self.pages)) }
-        ensures rest { IfOk result (λ journal. D.honest journal.disk → LeavesOnly (D.state journal.disk).now (StandsFor journal.pages)) }
-        ensures pages { IfOk result (λ journal. D.honest journal.disk → journal.pages ≡ self.pages) }
+        ensures moments { D.honest (disk_of result)
+            → SinceThen (D.state self.disk) (D.state (disk_of result)) (StandsFor self.pages) }
+        ensures rest { IfOk result (λ journal.
+            LeavesPages D.honest D.state journal.disk journal.pages) }
+        ensures pages { IfOk result (λ journal. D.honest journal.disk
+            → journal.pages ≡ self.pages) }
         ensures count { IfOk result (λ journal. length journal.pages ≡ length self.pages) }
-        ensures failures { MatchResult result (λ journal. D.failures journal.disk ≡ D.failures self.disk) (λ broken. CountsUp (D.failures self.disk) (D.failures broken.disk)) }
+        ensures calls { Calls D.honest D.failures result self.disk (disk_of result) }
     {
         let Applied {
             mut disk,

@@ -1,5 +1,6 @@
 pub mod Decimals
 pub mod ReadLemmas
 pub mod TakenFields
-pub mod ScriptLemmas
+pub mod TurnLemmas
 pub mod StopLemmas
+pub mod RunLemmas

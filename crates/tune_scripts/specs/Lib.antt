@@ -1,6 +1,7 @@
-pub mod FirstWords
+pub mod Limits
 pub mod ScriptLines
-pub mod Reads
+pub mod InputLines
 pub mod Replies
 pub mod Scripts
-pub mod Turns
+pub mod Runs
+pub mod Inside

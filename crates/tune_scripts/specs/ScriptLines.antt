@@ -1,15 +1,16 @@
 -- What the words of a script line ask for.
-use Rattle.std.specs.Prelude.{ℕ, List, [], ◌∷◌, length, codes, ◌&&◌, nat_lt, nat_le, ◌+◌, ◌-◌, ◌*◌, if◌then◌else◌, Option, None, Some, slice_index}
+use Rattle.std.specs.Prelude.{ℕ, List, [], ◌∷◌, length, codes, ◌&&◌, nat_lt, nat_le, ◌+◌, ◌-◌, ◌*◌}
+use Rattle.std.specs.Prelude.{if◌then◌else◌, Option, None, Some, slice_index}
 use Rattle.std.specs.List.{list_all}
 use Rattle.std.specs.Char.{is_ascii_digit}
 use Rattle.std.specs.Str.{bytes_eq}
 use Rattle.tune_store.specs.declared.command.Command.{Command}
 use Rattle.tune_store.specs.declared.command.Command.TheVariants as of
-use Rattle.tune_scripts.specs.declared.script_line.TheConstants.{MOST_DIGITS}
-use Rattle.tune_scripts.specs.declared.script_line.ScriptLine.{ScriptLine}
-use Rattle.tune_scripts.specs.declared.script_line.ScriptLine.TheVariants.{Blank, Bad, Whole, Book}
-use Rattle.tune_scripts.specs.declared.script_line.BookUse.{BookUse}
-use Rattle.tune_scripts.specs.declared.script_line.BookUse.TheVariants as book
+use Rattle.tune_scripts.specs.declared.script_lines.ScriptLine.{ScriptLine}
+use Rattle.tune_scripts.specs.declared.script_lines.ScriptLine.TheVariants.{Blank, Bad, Whole, Book}
+use Rattle.tune_scripts.specs.declared.script_lines.BookUse.{BookUse}
+use Rattle.tune_scripts.specs.declared.script_lines.BookUse.TheVariants as book
+use Rattle.tune_scripts.specs.Limits.{most_digits}
 
 -- the digit 0
 abbrev pub zero_digit : ℕ
@@ -22,12 +23,14 @@ value_from value (digit ∷ digits) = value_from (value * 10 + (digit - zero_dig
 
 -- a number: decimal digits, of which the first may be zeros
 abbrev pub number_of : List ℕ → Option ℕ
-number_of word = if nat_lt 0 (length word) && nat_le (length word) MOST_DIGITS && list_all is_ascii_digit word then Some (value_from 0 word) else None
+number_of word =
+    if nat_lt 0 (length word) && nat_le (length word) most_digits && list_all is_ascii_digit word
+    then Some (value_from 0 word) else None
 
--- the command over a book
+-- the command over a book of these bytes
 abbrev pub command_of : BookUse → List ℕ → Command
-command_of book.Import text = of.Import text
-command_of (book.Replace number revision) text = of.Replace number revision text
+command_of book.Import bytes = of.Import bytes
+command_of (book.Replace number revision) bytes = of.Replace number revision bytes
 
 -- a command of one word: `export`
 abbrev pub meaning_of_name : List ℕ → ScriptLine
@@ -56,5 +59,6 @@ meaning_of (name ∷ []) = meaning_of_name name
 meaning_of (name ∷ word ∷ []) = meaning_of_number name (number_of word)
 meaning_of (name ∷ word ∷ next ∷ []) = Bad
 meaning_of (name ∷ number ∷ revision ∷ length ∷ []) =
-    if bytes_eq name (codes "replace") then replace_of (number_of number) (number_of revision) (number_of length) else Bad
+    if bytes_eq name (codes "replace")
+    then replace_of (number_of number) (number_of revision) (number_of length) else Bad
 meaning_of (name ∷ number ∷ revision ∷ length ∷ more ∷ rest) = Bad

@@ -3,9 +3,9 @@
 #![tactic(auto)]
 
 mod reading;
-mod reply;
+mod replies;
 mod runs;
-mod script_line;
+mod script_lines;
 
 pub use runs::{MOST_LINES, RunEnd, run};
-pub use script_line::LONGEST_LINE;
+pub use script_lines::LONGEST_LINE;

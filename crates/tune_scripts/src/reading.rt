@@ -1,8 +1,9 @@
-// Reads lines and texts of a script.
+// Reads the lines and books of a script.
 ghost use Rattle.std.specs.Prelude.{ℕ, ◌≡◌, ◌≤◌, ◌<◌, take, length};
-ghost use Rattle.tune_scripts.specs.Reads.{ReadsByte, ReadsLine, ReadsText};
+ghost use Rattle.tune_scripts.specs.Limits.{longest_line};
+ghost use Rattle.tune_scripts.specs.Inside.Reads.{ReadsByte, ReadsLine, ReadsBook};
 
-use crate::script_line::LONGEST_LINE;
+use crate::script_lines::LONGEST_LINE;
 use abc_fields::ByteText;
 use std::alloc::Global;
 use std::io::Read;
@@ -39,7 +40,7 @@ pub(crate) enum LineRead {
 
 // Reads a line up to its line feed, which it does not keep.
 pub(crate) fn read_line<R: Read>(reader: &mut R, line: &mut [u8]) -> LineRead
-    requires { length line.old ≡ LONGEST_LINE }
+    requires { length line.old ≡ longest_line }
     ensures { ReadsLine (R.remaining reader.old) (R.remaining reader.new) line.new result }
 {
     for n in 0..LONGEST_LINE + 1 {
@@ -55,10 +56,10 @@ pub(crate) fn read_line<R: Read>(reader: &mut R, line: &mut [u8]) -> LineRead
     LineRead::Long
 }
 
-/// What a read of a text gave.
-pub(crate) enum TextRead {
+/// What a read of a book gave.
+pub(crate) enum BookRead {
     Whole(ByteText),
-    /// It was read and not kept: it was not wanted, or memory for it was refused.
+    /// It was read and not kept: it was not wanted, or there was no memory for it.
     Dropped,
     /// The input ends within it.
     Cut,
@@ -67,36 +68,36 @@ pub(crate) enum TextRead {
 
 const CHUNK: usize = 4_096;
 
-// Reads a text of this length, and keeps it where it is wanted.
-pub(crate) fn read_text<R: Read>(
+// Reads a book of this length, and keeps it where it is wanted.
+pub(crate) fn read_book<R: Read>(
     alloc: Global,
     reader: &mut R,
     len: usize,
     is_wanted: bool,
-) -> TextRead
-    ensures { ReadsText (R.remaining reader.old) (R.remaining reader.new) len is_wanted result }
+) -> BookRead
+    ensures { ReadsBook (R.remaining reader.old) (R.remaining reader.new) len is_wanted result }
 {
-    let mut text = Vec::new(alloc);
-    let mut has_room = is_wanted && text.reserve_exact(len).is_ok();
+    let mut book = Vec::new(alloc);
+    let mut has_room = is_wanted && book.reserve_exact(len).is_ok();
     let mut chunk = [0u8; CHUNK];
     let mut left = len;
     while left > 0 {
         let most = left.min(CHUNK);
         let piece = &mut chunk[..most];
         match reader.read(piece) {
-            Err(_) => return TextRead::Fault,
-            Ok(0) => return TextRead::Cut,
+            Err(_) => return BookRead::Fault,
+            Ok(0) => return BookRead::Cut,
             Ok(n) => {
                 left -= n;
                 if has_room {
-                    has_room = text.extend_from_slice(&piece[..n]).is_ok();
+                    has_room = book.extend_from_slice(&piece[..n]).is_ok();
                 }
             }
         }
     }
     if has_room {
-        TextRead::Whole(ByteText::from_vec(text))
+        BookRead::Whole(ByteText::from_vec(book))
     } else {
-        TextRead::Dropped
+        BookRead::Dropped
     }
 }

@@ -1,13 +1,14 @@
 // Runs a script.
 ghost use Rattle.std.specs.Prelude.{◌≡◌, length, None, Err};
-ghost use Rattle.tune_store.specs.Stops.{Passes};
+ghost use Rattle.tune_scripts.specs.Limits.{longest_line, most_lines};
 ghost use Rattle.tune_scripts.specs.Replies.{answer_bytes, bad_line_bytes};
-ghost use Rattle.tune_scripts.specs.Scripts.{Told, TellsScript, line_text};
-ghost use Rattle.tune_scripts.specs.Turns.{Turns, TurnsText, Writes, CarriesOut, next_of};
+ghost use Rattle.tune_scripts.specs.Scripts.{line_text};
+ghost use Rattle.tune_scripts.specs.Runs.{KnownAt, TellsScript, work_of};
+ghost use Rattle.tune_scripts.specs.Inside.Turns.{Turns, TurnsBook, WritesOut, CarriesOut, next_of};
 
-use crate::reading::{LineRead, TextRead, read_line, read_text};
-use crate::reply::{write_answer, write_bad_line};
-use crate::script_line::{BookUse, LONGEST_LINE, ScriptLine, meaning};
+use crate::reading::{BookRead, LineRead, read_book, read_line};
+use crate::replies::{write_answer, write_bad_line};
+use crate::script_lines::{BookUse, LONGEST_LINE, ScriptLine, meaning};
 use abc_fields::LONGEST_BOOK;
 use std::alloc::Global;
 use std::io::{Read, Write};
@@ -28,26 +29,30 @@ pub enum RunEnd {
     WriterFault,
     /// A command was answered that the device failed, in it or before.
     DeviceFault,
-    /// Memory was refused before the first line, so that nothing was read.
+    /// Out of memory before the first line, so that nothing was read.
     OutOfMemory,
 }
 
 /// How many lines of a script are read at most (this archive's script language).
 pub const MOST_LINES: u32 = 1_000_000;
 
-/// Carries out the commands of a script, and writes and flushes the reply to each before the next line is looked at.
+/// Carries out the commands of a script, and writes and flushes the reply to each before the next
+/// line is looked at.
 ///
-/// `reader` gives the script: a line, and directly after it the text that it asks for. Both are read in small pieces, so
-/// a reader that buffers serves well. `alloc` is for the texts alone: where memory for one is refused, the text is read
-/// and dropped, and the reply says so.
+/// `reader` gives the script: a line, and directly after it the book that it asks for. Both are
+/// read in small pieces, so a reader that buffers serves well. `alloc` is for the books alone:
+/// where there is no memory for one, it is read and dropped, and the reply says so.
+///
+/// The clause speaks of a reader that tells its bytes. Standard input tells none.
 pub fn run<R: Read, W: Write, S: TuneStore>(
     alloc: Global,
     reader: &mut R,
     writer: &mut W,
     store: &mut S,
 ) -> RunEnd
-    ensures { Told result (TellsScript MOST_LINES (R.remaining reader.old) (R.remaining reader.new) (W.contents writer.old) (W.contents writer.new) (S.standing store.old) result (S.standing store.new)
-        (Passes S.honest S.sound S.standing S.moment S.left_since S.stands_for store.old store.new)) }
+    ensures { let work = work_of W.Write S.TuneStore writer.old writer.new store.old store.new in
+        KnownAt result
+        (TellsScript most_lines (R.remaining reader.old) (R.remaining reader.new) work result) }
 {
     let mut line = [0u8; LONGEST_LINE];
     for lines in 0..MOST_LINES {
@@ -58,7 +63,7 @@ pub fn run<R: Read, W: Write, S: TuneStore>(
     RunEnd::LineBound
 }
 
-// One line of a script, with its text.
+// One line of a script, with its book.
 fn turn<R: Read, W: Write, S: TuneStore>(
     alloc: Global,
     reader: &mut R,
@@ -66,9 +71,9 @@ fn turn<R: Read, W: Write, S: TuneStore>(
     store: &mut S,
     line: &mut [u8],
 ) -> Option<RunEnd>
-    requires { length line.old ≡ LONGEST_LINE }
-    ensures { Turns (R.remaining reader.old) (R.remaining reader.new) (W.contents writer.old) (W.contents writer.new) (S.standing store.old) (S.standing store.new)
-        (Passes S.honest S.sound S.standing S.moment S.left_since S.stands_for store.old store.new) result }
+    requires { length line.old ≡ longest_line }
+    ensures { let work = work_of W.Write S.TuneStore writer.old writer.new store.old store.new in
+        Turns (R.remaining reader.old) (R.remaining reader.new) work result }
 {
     match read_line(reader, line) {
         LineRead::Fault => Some(RunEnd::ReaderFault),
@@ -107,17 +112,17 @@ fn with_book<R: Read, W: Write, S: TuneStore>(
     book_use: BookUse,
     len: u32,
 ) -> Option<RunEnd>
-    ensures { TurnsText book_use len (R.remaining reader.old) (R.remaining reader.new) (W.contents writer.old) (W.contents writer.new) (S.standing store.old) (S.standing store.new)
-        (Passes S.honest S.sound S.standing S.moment S.left_since S.stands_for store.old store.new) result }
+    ensures { let work = work_of W.Write S.TuneStore writer.old writer.new store.old store.new in
+        TurnsBook book_use len (R.remaining reader.old) (R.remaining reader.new) work result }
 {
     let len = len as usize;
     let is_wanted = len <= LONGEST_BOOK;
-    match read_text(alloc, reader, len, is_wanted) {
-        TextRead::Fault => Some(RunEnd::ReaderFault),
-        TextRead::Cut => bad_line(writer, Some(RunEnd::Ended)),
-        TextRead::Dropped if is_wanted => refuse(writer, Refusal::OutOfMemory),
-        TextRead::Dropped => refuse(writer, Refusal::BookTooLong),
-        TextRead::Whole(book) => carry_out(writer, store, &book_use.command(book)),
+    match read_book(alloc, reader, len, is_wanted) {
+        BookRead::Fault => Some(RunEnd::ReaderFault),
+        BookRead::Cut => bad_line(writer, Some(RunEnd::Ended)),
+        BookRead::Dropped if is_wanted => refuse(writer, Refusal::OutOfMemory),
+        BookRead::Dropped => refuse(writer, Refusal::BookTooLong),
+        BookRead::Whole(book) => carry_out(writer, store, &book_use.command(book)),
     }
 }
 
@@ -127,8 +132,8 @@ fn carry_out<W: Write, S: TuneStore>(
     store: &mut S,
     command: &Command,
 ) -> Option<RunEnd>
-    ensures { CarriesOut (W.contents writer.old) (W.contents writer.new) (S.standing store.old) (S.standing store.new)
-        (Passes S.honest S.sound S.standing S.moment S.left_since S.stands_for store.old store.new) command.now result }
+    ensures { let work = work_of W.Write S.TuneStore writer.old writer.new store.old store.new in
+        CarriesOut work command.now result }
 {
     let answer = store.apply(command);
     match write_answer(writer, &answer) {
@@ -149,7 +154,8 @@ fn next_after(answer: &Result<Reply, Refusal>) -> Option<RunEnd>
 
 // Answers a command that does not reach the store.
 fn refuse<W: Write>(writer: &mut W, refusal: Refusal) -> Option<RunEnd>
-    ensures { Writes (W.contents writer.old) (W.contents writer.new) (answer_bytes (Err refusal)) None result }
+    ensures { let bytes = answer_bytes (Err refusal) in
+        WritesOut (W.contents writer.old) (W.contents writer.new) bytes None result }
 {
     match write_answer(writer, &Err(refusal)) {
         Ok(()) => None,
@@ -157,9 +163,9 @@ fn refuse<W: Write>(writer: &mut W, refusal: Refusal) -> Option<RunEnd>
     }
 }
 
-// Answers a line that is no command, or a text that was cut.
+// Answers a line that is no command, or a book that was cut.
 fn bad_line<W: Write>(writer: &mut W, next: Option<RunEnd>) -> Option<RunEnd>
-    ensures { Writes (W.contents writer.old) (W.contents writer.new) bad_line_bytes next result }
+    ensures { WritesOut (W.contents writer.old) (W.contents writer.new) bad_line_bytes next result }
 {
     match write_bad_line(writer) {
         Ok(()) => next,

@@ -1,3 +1,6 @@
 pub mod StateLemmas
+pub mod PlaceLemmas
 pub mod StepLemmas
+pub mod LimitLemmas
 pub mod RevisionLemmas
+pub mod StopLemmas

@@ -1,17 +1,11 @@
--- The law of revisions, and what each command keeps.
-use Rattle.std.proofs.Common.{◌≡◌, ℕ, ◌+◌, ◌≤◌, Bool, true, false, not, cond, eqb, ltb, List, [], ◌∷◌, ◌++◌, length, Option, Some, None, Ok, Err, refl, ap, sym}
+-- The law of revisions.
+use Rattle.std.proofs.Common.{◌≡◌, ℕ, ◌+◌, Bool, true, false, not, cond, eqb, ltb, List, [], ◌∷◌, length, Option, Some, None, Ok, Err, refl, ap, sym}
 use Rattle.std.proofs.Common.{subst, ◌∙◌, arith, add-zero, inl, inr}
 use Rattle.std.specs.Prelude.{IsSome, IsTrue, IsFalse, is_ok, is_some}
 use Rattle.std.specs.Option.{option_map}
-use Rattle.std.specs.List.{AllByRecursion}
-use Rattle.std.proofs.lemmas.Bool.{ne_eqb, eq-eqb, eqb-true, eqb-false, ltb-false, cases_Bool, and_parts}
-use Rattle.abc_fields.specs.Lines.{lines_of}
-use Rattle.abc_fields.specs.Tunes.{tune_runs, IsTextWithin}
-use Rattle.abc_fields.specs.Books.{Texts, runs_answer, book_of_runs, book_answer, is_plain}
-use Rattle.abc_fields.specs.Limits.{longest_book}
-use Rattle.abc_fields.specs.declared.book.BookFault.TheVariants as fault
-use Rattle.abc_fields.proofs.BookLemmas.{TextsWithin, texts_within}
-use Rattle.tune_store.specs.State.{State, IsState, RisesFrom, greatest}
+use Rattle.std.proofs.lemmas.Bool.{eqb-true, eqb-false, cases_Bool, and_parts}
+use Rattle.abc_fields.specs.Books.{Texts, book_answer}
+use Rattle.tune_store.specs.State.{State, IsState, greatest}
 use Rattle.tune_store.specs.Step.{Outcome, step, tune_at, with_tune, without, revised, with_texts, import_book, replace_tune, replace_book, delete_tune}
 use Rattle.tune_store.specs.Step.{show_tune}
 use Rattle.tune_store.specs.Revisions.{revision_of, HasTune, accepts, replaces, after, times_replaced, RaisesRevision, AcceptedReplaceRaises}
@@ -23,126 +17,11 @@ use Rattle.tune_store.specs.declared.command.Command.TheVariants.{Import, Replac
 use Rattle.tune_store.specs.declared.command.Reply.{Reply}
 use Rattle.tune_store.specs.declared.command.Reply.TheVariants.{Replaced}
 use Rattle.tune_store.specs.declared.command.Refusal.{Refusal}
-use Rattle.tune_store.specs.declared.command.Refusal.TheVariants.{ArchiveFull, NumbersSpent, Stale, Worn}
-use Rattle.tune_store.proofs.StateLemmas.{KeepsLimits, state_after_import, state_after_text, state_after_delete}
+use Rattle.tune_store.specs.declared.command.Refusal.TheVariants.{Stale, Worn}
 use Rattle.tune_store.proofs.StepLemmas.{KeepsOnErr, refused_keeps}
-
--- THE TUNE OF A NUMBER
--- the tune of a number has the number
-tune_at-number : (number : ℕ) (tunes : List Tune) (tune : Tune) → tune_at number tunes ≡ Some tune → tune.number ≡ number
-tune_at-number number [] tune h = cc
-tune_at-number number (first ∷ tunes) tune h = elim (cases_Bool (eqb first.number number)) [
-  | inl same ↦ let found = rw same at h in let e : first ≡ tune = cc in ap (λ (t : Tune). t.number) (sym e) ∙ eqb-true first.number number same
-  | inr other ↦ let found = rw other at h in tune_at-number number tunes tune found
-]
-
--- a tune in the place of the one of its number is the tune of the number
-tune_at-with_tune_same : (new : Tune) (tunes : List Tune) → IsSome (tune_at new.number tunes) → tune_at new.number (with_tune new tunes) ≡ Some new
-tune_at-with_tune_same new [] h = cc
-tune_at-with_tune_same new (first ∷ tunes) h = elim (cases_Bool (eqb first.number new.number)) [
-  | inl same ↦ let own = eq-eqb new.number new.number refl in rw (same, own) refl
-  | inr other ↦ let found = rw other at h in rw (other, other) (tune_at-with_tune_same new tunes found)
-]
-
--- and for any other number the tune is as it was
-tune_at-with_tune_other : (number : ℕ) (new : Tune) (tunes : List Tune) → (new.number ≡ number → ⊥)
-    → tune_at number (with_tune new tunes) ≡ tune_at number tunes
-tune_at-with_tune_other number new [] ne = refl
-tune_at-with_tune_other number new (first ∷ tunes) ne = elim (cases_Bool (eqb first.number new.number)) [
-  | inl same ↦
-      let e : first.number ≡ new.number = eqb-true first.number new.number same in
-      let apart = ne_eqb new.number number ne in
-      let apart_first = ne_eqb first.number number (λ h. ne (sym e ∙ h)) in
-      rw (same, apart, apart_first) refl
-  | inr other ↦ rw other (ap (λ found. cond (eqb first.number number) (Some first) found) (tune_at-with_tune_other number new tunes ne))
-]
-
--- a tune stays where more come after it
-tune_at-append : (number : ℕ) (tunes more : List Tune) → IsSome (tune_at number tunes) → tune_at number (tunes ++ more) ≡ tune_at number tunes
-tune_at-append number [] more h = cc
-tune_at-append number (first ∷ tunes) more h = elim (cases_Bool (eqb first.number number)) [
-  | inl same ↦ rw same refl
-  | inr other ↦ let found = rw other at h in rw other (tune_at-append number tunes more found)
-]
-
--- a tune less, the tunes of other numbers are as they were
-tune_at-without_other : (number other : ℕ) (tunes : List Tune) → (other ≡ number → ⊥) → tune_at number (without other tunes) ≡ tune_at number tunes
-tune_at-without_other number other [] ne = refl
-tune_at-without_other number other (first ∷ tunes) ne = elim (cases_Bool (eqb first.number other)) [
-  | inl same ↦ let apart = ne_eqb first.number number (λ h. ne (sym (eqb-true first.number other same) ∙ h)) in rw (same, apart) refl
-  | inr differs ↦ rw differs (ap (λ found. cond (eqb first.number number) (Some first) found) (tune_at-without_other number other tunes ne))
-]
-
--- where numbers rise from this one, no tune has it
-tune_at-below : (low number : ℕ) (tunes : List Tune) → number ≤ low → RisesFrom low tunes → tune_at number tunes ≡ None
-tune_at-below low number [] le rises = refl
-tune_at-below low number (first ∷ tunes) le rises =
-    let above = rises.0 in
-    let apart = ne_eqb first.number number (λ same. omega arith) in
-    rw apart (tune_at-below first.number number tunes (omega arith) rises.1)
-
--- a tune that is taken out is not there
-tune_at-without_same : (low number : ℕ) (tunes : List Tune) → RisesFrom low tunes → tune_at number (without number tunes) ≡ None
-tune_at-without_same low number [] rises = refl
-tune_at-without_same low number (first ∷ tunes) rises = elim (cases_Bool (eqb first.number number)) [
-  | inl same ↦ let e = eqb-true first.number number same in rw same (tune_at-below first.number number tunes (omega arith) rises.1)
-  | inr other ↦ rw (other, other) (tune_at-without_same first.number number tunes rises.1)
-]
-
--- EACH COMMAND KEEPS THE LIMITS
--- the texts of runs of lines are within the length, where there are any
-runs_texts : (longest : ℕ) (book : List ℕ) (answer : Texts) → runs_answer longest 1 (tune_runs (lines_of book)) ≡ answer → TextsWithin longest answer
-runs_texts longest book (Ok texts) e = texts_within longest book texts e
-runs_texts longest book (Err why) e = tt
-
-book_texts : (longest : ℕ) (runs : List (List (List ℕ))) (long plain : Bool) → TextsWithin longest (runs_answer longest 1 runs)
-    → TextsWithin longest (cond long (Err fault.BookTooLong) (cond (not plain) (Err fault.NotPlain) (book_of_runs longest runs)))
-book_texts longest runs true plain within = tt
-book_texts longest runs false false within = tt
-book_texts longest [] false true within = tt
-book_texts longest (run ∷ runs) false true within = within
-
--- the texts of a book are tune texts within the length
-book_within : (longest : ℕ) (book : List ℕ) → TextsWithin longest (book_answer longest book)
-book_within longest book = book_texts longest (tune_runs (lines_of book)) (ltb longest_book (length book)) (is_plain book) (runs_texts longest book _ refl)
-
-import_tests : (state : State) (texts : List (List ℕ)) (reply : Reply) (full spent : Bool) → ltb most_tunes (length state.tunes + length texts) ≡ full
-    → ltb greatest_number (greatest state.tunes + length texts) ≡ spent
-    → IsState state → AllByRecursion (IsTextWithin longest_text) texts
-    → KeepsLimits (cond full (state, Err ArchiveFull) (cond spent (state, Err NumbersSpent) (with_texts state texts, Ok reply)))
-import_tests state texts reply true spent room numbers is within = is
-import_tests state texts reply false true room numbers is within = is
-import_tests state texts reply false false room numbers is within = state_after_import state.tunes texts is within (ltb-false _ _ room) (ltb-false _ _ numbers)
-
-import_limits : (state : State) (texts : Texts) → IsState state → TextsWithin longest_text texts → KeepsLimits (import_book state texts)
-import_limits state (Err why) is within = is
-import_limits state (Ok texts) is within =
-    import_tests state texts _ (ltb most_tunes (length state.tunes + length texts))
-    (ltb greatest_number (greatest state.tunes + length texts)) refl refl is within
-
-replace_limits : (state : State) (number revision : ℕ) (texts : Texts) → IsState state → TextsWithin longest_text texts
-    → KeepsLimits (replace_book state number revision texts)
-replace_limits state number revision (Err why) is within = is
-replace_limits state number revision (Ok []) is within = is
-replace_limits state number revision (Ok (text ∷ [])) is within = state_after_text state.tunes number revision text (tune_at number state.tunes) is within.0
-replace_limits state number revision (Ok (text ∷ next ∷ texts)) is within = is
-
-delete_limits : (state : State) (number : ℕ) (found : Option Tune) → IsState state → KeepsLimits (delete_tune state number found)
-delete_limits state number None is = is
-delete_limits state number (Some tune) is = state_after_delete number state.tunes is
-
-show_limits : (state : State) (number : ℕ) (found : Option Tune) → IsState state → KeepsLimits (show_tune state number found)
-show_limits state number None is = is
-show_limits state number (Some tune) is = is
-
--- a state within the limits stays within them
-pub step_keeps_limits : (state : State) (command : Command) → IsState state → IsState (step state command).0
-step_keeps_limits state (Import book) is = import_limits state (book_answer longest_text book) is (book_within longest_text book)
-step_keeps_limits state (Replace number revision book) is =
-    replace_limits state number revision (book_answer longest_text book) is (book_within longest_text book)
-step_keeps_limits state (Delete number) is = delete_limits state number (tune_at number state.tunes) is
-step_keeps_limits state (Show number) is = show_limits state number (tune_at number state.tunes) is
-step_keeps_limits state ExportAll is = is
+use Rattle.tune_store.proofs.LimitLemmas.{step_keeps_limits}
+use Rattle.tune_store.proofs.PlaceLemmas.{tune_at-number, tune_at-with_tune_same, tune_at-with_tune_other, tune_at-append, tune_at-without_other}
+use Rattle.tune_store.proofs.PlaceLemmas.{tune_at-without_same}
 
 -- AN ACCEPTED REPLACE
 -- the tune in the place of the one of a number is the tune of the number
@@ -159,6 +38,7 @@ RaisesOnOk number revision old outcome = IsTrue (is_ok outcome.1) → RaisesRevi
 abbrev revision : Option Tune → Option ℕ
 revision found = option_map (λ tune. tune.revision) found
 
+-- of a replacement's two tests the first lets only the current revision through
 replace_tests : (state : State) (number named : ℕ) (text : List ℕ) (tune : Tune) (current young : Bool) → tune_at number state.tunes ≡ Some tune
     → eqb tune.revision named ≡ current
     → RaisesOnOk number named state
@@ -171,12 +51,14 @@ replace_tests state number named text tune true true found test accepted =
     let later = tune_at-with_tune number (revised tune text) state.tunes (tune_at-number number state.tunes tune found) (ap is_some found) in
     record { named = ap revision found ∙ ap (λ r. Some r) e; raised = ap revision later ∙ ap (λ r. Some (r + 1)) e }
 
+-- a replacement of the tune that was found raises its revision, where it is accepted
 replace_found : (state : State) (number named : ℕ) (text : List ℕ) (found : Option Tune) → tune_at number state.tunes ≡ found
     → RaisesOnOk number named state (replace_tune state number named text found)
 replace_found state number named text None e accepted = cc
 replace_found state number named text (Some tune) e accepted =
     replace_tests state number named text tune (eqb tune.revision named) (ltb tune.revision greatest_revision) e refl accepted
 
+-- so does one by the texts of a book
 replace_raises : (state : State) (number named : ℕ) (texts : Texts) → RaisesOnOk number named state (replace_book state number named texts)
 replace_raises state number named (Err why) accepted = cc
 replace_raises state number named (Ok []) accepted = cc
@@ -188,6 +70,7 @@ pub accepted_replace_raises : (state : State) (number named : ℕ) (book : List 
 accepted_replace_raises state number named book = replace_raises state number named (book_answer longest_text book)
 
 -- ANY OTHER COMMAND
+-- an outcome that is a refusal leaves the state
 refused_outcome : (old : State) (outcome : Outcome) → KeepsOnErr old outcome → IsFalse (is_ok outcome.1) → outcome.0 ≡ old
 refused_outcome old (new, Ok reply) keeps refused = cc
 refused_outcome old (new, Err refusal) keeps refused = keeps refusal refl
@@ -207,12 +90,14 @@ two_tests_leave number old new true b x y reply same there = refl
 two_tests_leave number old new false true x y reply same there = refl
 two_tests_leave number old new false false x y reply same there = ap revision same
 
+-- an import leaves the revision of a tune that was there
 import_leaves : (state : State) (number : ℕ) (texts : Texts) → HasTune number state → LeavesRevision number state (import_book state texts)
 import_leaves state number (Err why) was there = refl
 import_leaves state number (Ok texts) was there =
     two_tests_leave number state (with_texts state texts) (ltb most_tunes (length state.tunes + length texts))
     (ltb greatest_number (greatest state.tunes + length texts)) _ _ _ (tune_at-append number state.tunes _ was) there
 
+-- a replacement of another tune that was found leaves it
 replace_found_leaves : (state : State) (number other named : ℕ) (text : List ℕ) (found : Option Tune) → (other ≡ number → ⊥) → tune_at other state.tunes ≡ found
     → LeavesRevision number state (replace_tune state other named text found)
 replace_found_leaves state number other named text None apart e there = refl
@@ -221,6 +106,7 @@ replace_found_leaves state number other named text (Some tune) apart e there =
     two_tests_leave number state record { tunes = with_tune (revised tune text) state.tunes } (not (eqb tune.revision named))
     (not (ltb tune.revision greatest_revision)) _ _ _ (tune_at-with_tune_other number (revised tune text) state.tunes ne) there
 
+-- so does one by the texts of a book
 replace_leaves : (state : State) (number other named : ℕ) (texts : Texts) → (other ≡ number → ⊥)
     → LeavesRevision number state (replace_book state other named texts)
 replace_leaves state number other named (Err why) apart there = refl
@@ -229,6 +115,7 @@ replace_leaves state number other named (Ok (text ∷ [])) apart there =
     replace_found_leaves state number other named text (tune_at other state.tunes) apart refl there
 replace_leaves state number other named (Ok (text ∷ next ∷ texts)) apart there = refl
 
+-- a deletion leaves it where the tune is there after it
 delete_leaves : (state : State) (number other : ℕ) (found : Option Tune) → IsState state → LeavesRevision number state (delete_tune state other found)
 delete_leaves state number other None is there = refl
 delete_leaves state number other (Some tune) is there = elim (cases_Bool (eqb other number)) [
@@ -241,6 +128,7 @@ delete_leaves state number other (Some tune) is there = elim (cases_Bool (eqb ot
   | inr differs ↦ ap revision (tune_at-without_other number other state.tunes (eqb-false other number differs))
 ]
 
+-- a look at a tune leaves it
 show_leaves : (state : State) (number other : ℕ) (found : Option Tune) → LeavesRevision number state (show_tune state other found)
 show_leaves state number other None there = refl
 show_leaves state number other (Some tune) there = refl
@@ -281,6 +169,7 @@ replaced_counts state number current (Delete deleted) accepted has = cc
 replaced_counts state number current (Show shown) accepted has = cc
 replaced_counts state number current ExportAll accepted has = cc
 
+-- one command raises the revision by one, or leaves it
 step_counts : (state : State) (number current : ℕ) (command : Command) → IsState state → revision_of number state ≡ Some current
     → HasTune number (step state command).0
     → revision_of number (step state command).0 ≡ Some (current + cond (replaces number state command) 1 0)

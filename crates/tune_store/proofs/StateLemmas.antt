@@ -1,21 +1,17 @@
--- Lists of tunes by rising number.
-use Rattle.std.proofs.Common.{◌≡◌, ℕ, zero, suc, ◌+◌, ◌<◌, ◌≤◌, max, Bool, true, false, not, cond, eqb, ltb, List, [], ◌∷◌, ◌++◌, length, take, drop, get_or}
+-- What a command makes of a list of tunes by rising number, and its limits.
+use Rattle.std.proofs.Common.{◌≡◌, ℕ, zero, suc, ◌+◌, ◌<◌, ◌≤◌, max, Bool, true, false, not, cond, eqb, ltb, List, [], ◌∷◌, ◌++◌, length, get_or}
 use Rattle.std.proofs.Common.{Option, Some, None, Ok, Err, refl, ap, sym, subst, ◌∙◌, arith, add-zero, inl, inr, length-append}
-use Rattle.std.proofs.Math.ListN.{set}
-use Rattle.std.specs.List.{AllByRecursion, AllWithin}
-use Rattle.std.specs.Cmp.{ranked}
-use Rattle.std.specs.Ordering.{ordering_index, nat_cmp}
-use Rattle.std.specs.declared.cmp.Ordering.TheVariants.{Less, Greater}
-use Rattle.std.proofs.lemmas.Bool.Decides.{nat_tests}
-use Rattle.std.proofs.lemmas.Bool.{ne_eqb, eq-eqb, eqb-true, ltb-true, cases_lt, cases_Bool}
+use Rattle.std.specs.List.{AllByRecursion}
+use Rattle.std.proofs.lemmas.Bool.{eqb-true, ltb-true, cases_Bool}
 use Rattle.abc_fields.specs.Tunes.{IsTextWithin}
 use Rattle.tune_store.specs.State.{RisesFrom, greatest, IsTune, IsState}
-use Rattle.tune_store.specs.Step.{Outcome, tune_at, numbered, with_tune, without, revised, replace_tune}
+use Rattle.tune_store.specs.Step.{Outcome, numbered, with_tune, without, revised, replace_tune}
 use Rattle.tune_store.specs.declared.tune.Tune.{Tune}
 use Rattle.tune_store.specs.Limits.{longest_text, most_tunes, greatest_number, greatest_revision}
 use Rattle.tune_store.specs.declared.command.Reply.TheVariants.{Replaced}
 use Rattle.tune_store.specs.declared.command.Refusal.TheVariants.{Stale, Worn}
 
+-- RISING NUMBERS
 -- the last number is the greatest
 pub greatest_last : (low : ℕ) (tunes : List Tune) (n : ℕ) (d : Tune) → RisesFrom low tunes → n + 1 ≡ length tunes → greatest tunes ≡ (get_or tunes n d).number
 greatest_last low [] n d rises l = absurd (omega arith)
@@ -27,6 +23,7 @@ greatest_last low (tune ∷ next ∷ tunes) (suc n) d rises l =
     let top : max tune.number (greatest (next ∷ tunes)) ≡ greatest (next ∷ tunes) = omega arith in
     top ∙ later
 
+-- the greatest number of two lists is the greater of theirs
 pub greatest-append : (tunes more : List Tune) → greatest (tunes ++ more) ≡ max (greatest tunes) (greatest more)
 greatest-append [] more = omega arith
 greatest-append (tune ∷ tunes) more = let e = greatest-append tunes more in omega arith
@@ -41,11 +38,13 @@ rises-append low (tune ∷ tunes) more rises later =
     let same : max low (max tune.number (greatest tunes)) ≡ max tune.number (greatest tunes) = omega arith in
     (rises.0, rises-append tune.number tunes more rises.1 (subst P same later))
 
+-- what holds of the tunes of two lists holds of all
 each-append : (tunes more : List Tune) → AllByRecursion IsTune tunes → AllByRecursion IsTune more → AllByRecursion IsTune (tunes ++ more)
 each-append [] more each later = later
 each-append (tune ∷ tunes) more each later = (each.0, each-append tunes more each.1 later)
 
 -- NEW TUNES
+-- one text more makes one tune more, with the next number
 numbered-push : (number : ℕ) (texts : List (List ℕ)) (text : List ℕ)
     → numbered number (texts ++ text ∷ []) ≡ numbered number texts ++ record { number = number + length texts; revision = 1; text = text } ∷ []
 numbered-push number [] text = rw add-zero refl
@@ -60,23 +59,22 @@ pub numbered_next : (first number : ℕ) (texts : List (List ℕ)) (text : List 
 numbered_next first number texts text e =
     sym (numbered-push first texts text ∙ ap (λ n. numbered first texts ++ record { number = n; revision = 1; text = text } ∷ []) (sym e))
 
+-- there are as many new tunes as texts
 pub length-numbered : (number : ℕ) (texts : List (List ℕ)) → length (numbered number texts) ≡ length texts
 length-numbered number [] = refl
 length-numbered number (text ∷ texts) = let e = length-numbered (number + 1) texts in omega arith
 
+-- the last of new numbers is the greatest
 pub greatest-numbered : (number : ℕ) (text : List ℕ) (texts : List (List ℕ)) → greatest (numbered number (text ∷ texts)) ≡ number + length texts
 greatest-numbered number text [] = omega arith
 greatest-numbered number text (next ∷ texts) = let e = greatest-numbered (number + 1) next texts in omega arith
 
--- new numbers from this one on are not above the last of them
-greatest-numbered-le : (number : ℕ) (texts : List (List ℕ)) → greatest (numbered number texts) ≤ number + length texts
-greatest-numbered-le number [] = omega arith
-greatest-numbered-le number (text ∷ texts) = let e = greatest-numbered number text texts in omega arith
-
+-- new numbers rise
 rises-numbered : (low number : ℕ) (texts : List (List ℕ)) → low < number → RisesFrom low (numbered number texts)
 rises-numbered low number [] l = tt
 rises-numbered low number (text ∷ texts) l = (l, rises-numbered number (number + 1) texts (omega arith))
 
+-- new tunes of good texts are good tunes
 each-numbered : (number : ℕ) (texts : List (List ℕ)) → AllByRecursion (IsTextWithin longest_text) texts → AllByRecursion IsTune (numbered number texts)
 each-numbered number [] within = tt
 each-numbered number (text ∷ texts) within =
@@ -106,6 +104,7 @@ state_after_import tunes texts is within room numbers =
         omega arith
 
 -- A TUNE IN THE PLACE OF ANOTHER
+-- the numbers still rise
 rises-with_tune : (new : Tune) (low : ℕ) (tunes : List Tune) → RisesFrom low tunes → RisesFrom low (with_tune new tunes)
 rises-with_tune new low [] rises = tt
 rises-with_tune new low (tune ∷ tunes) rises = elim (cases_Bool (eqb tune.number new.number)) [
@@ -116,6 +115,7 @@ rises-with_tune new low (tune ∷ tunes) rises = elim (cases_Bool (eqb tune.numb
   | inr other ↦ rw other (rises.0, rises-with_tune new tune.number tunes rises.1)
 ]
 
+-- the greatest number stays
 greatest-with_tune : (new : Tune) (tunes : List Tune) → greatest (with_tune new tunes) ≡ greatest tunes
 greatest-with_tune new [] = refl
 greatest-with_tune new (tune ∷ tunes) = elim (cases_Bool (eqb tune.number new.number)) [
@@ -123,6 +123,7 @@ greatest-with_tune new (tune ∷ tunes) = elim (cases_Bool (eqb tune.number new.
   | inr other ↦ rw other (ap (λ n. max tune.number n) (greatest-with_tune new tunes))
 ]
 
+-- there are as many tunes as before
 length-with_tune : (new : Tune) (tunes : List Tune) → length (with_tune new tunes) ≡ length tunes
 length-with_tune new [] = refl
 length-with_tune new (tune ∷ tunes) = elim (cases_Bool (eqb tune.number new.number)) [
@@ -130,6 +131,7 @@ length-with_tune new (tune ∷ tunes) = elim (cases_Bool (eqb tune.number new.nu
   | inr other ↦ rw other (ap (λ n. suc n) (length-with_tune new tunes))
 ]
 
+-- and good tunes all
 each-with_tune : (new : Tune) (tunes : List Tune) → IsTune new → AllByRecursion IsTune tunes → AllByRecursion IsTune (with_tune new tunes)
 each-with_tune new [] is each = tt
 each-with_tune new (tune ∷ tunes) is each = elim (cases_Bool (eqb tune.number new.number)) [
@@ -150,11 +152,11 @@ state_after_replace new tunes is state = record {
 pub revised_is_tune : (tune : Tune) (text : List ℕ) → IsTextWithin longest_text text → tune.revision < greatest_revision → IsTune (revised tune text)
 revised_is_tune tune text within less = record { revised = omega arith; revision = omega arith; text = within.tune_text; fits = within.fits }
 
--- a replacement keeps the limits, where its text is good
 -- an outcome whose state keeps the limits
 abbrev pub KeepsLimits : Outcome → Type 0
 KeepsLimits outcome = IsState outcome.0
 
+-- of a replacement's two tests the second lets only a tune through that has not the greatest revision
 by_tests : (tune : Tune) (tunes : List Tune) (number : ℕ) (text : List ℕ) (stale young : Bool) → IsTextWithin longest_text text
     → ltb tune.revision greatest_revision ≡ young → IsState (record { tunes = tunes })
     → KeepsLimits (cond stale (record { tunes = tunes }, Err (Stale tune.revision))
@@ -179,10 +181,12 @@ pub only_within : (longest : ℕ) (texts : List (List ℕ)) (text : List ℕ) �
 only_within longest texts text each e = let P : List (List ℕ) → Type 0 = λ ts. AllByRecursion (IsTextWithin longest) ts in (subst P e each).0
 
 -- A TUNE LESS
+-- numbers above one are above a lower one
 rises-lower : (low high : ℕ) (tunes : List Tune) → low ≤ high → RisesFrom high tunes → RisesFrom low tunes
 rises-lower low high [] le rises = tt
 rises-lower low high (tune ∷ tunes) le rises = let first = rises.0 in (omega arith, rises.1)
 
+-- the numbers still rise
 rises-without : (number low : ℕ) (tunes : List Tune) → RisesFrom low tunes → RisesFrom low (without number tunes)
 rises-without number low [] rises = tt
 rises-without number low (tune ∷ tunes) rises = elim (cases_Bool (eqb tune.number number)) [
@@ -190,6 +194,7 @@ rises-without number low (tune ∷ tunes) rises = elim (cases_Bool (eqb tune.num
   | inr other ↦ rw other (rises.0, rises-without number tune.number tunes rises.1)
 ]
 
+-- the greatest number does not rise
 greatest-without : (number : ℕ) (tunes : List Tune) → greatest (without number tunes) ≤ greatest tunes
 greatest-without number [] = omega arith
 greatest-without number (tune ∷ tunes) = elim (cases_Bool (eqb tune.number number)) [
@@ -197,6 +202,7 @@ greatest-without number (tune ∷ tunes) = elim (cases_Bool (eqb tune.number num
   | inr other ↦ let later = greatest-without number tunes in rw other (omega arith)
 ]
 
+-- there are no more tunes than before
 length-without : (number : ℕ) (tunes : List Tune) → length (without number tunes) ≤ length tunes
 length-without number [] = omega arith
 length-without number (tune ∷ tunes) = elim (cases_Bool (eqb tune.number number)) [
@@ -204,6 +210,7 @@ length-without number (tune ∷ tunes) = elim (cases_Bool (eqb tune.number numbe
   | inr other ↦ let later = length-without number tunes in rw other (omega arith)
 ]
 
+-- and good tunes all
 each-without : (number : ℕ) (tunes : List Tune) → AllByRecursion IsTune tunes → AllByRecursion IsTune (without number tunes)
 each-without number [] each = tt
 each-without number (tune ∷ tunes) each = elim (cases_Bool (eqb tune.number number)) [
@@ -219,71 +226,3 @@ state_after_delete number tunes state = record {
   tunes = each-without number tunes state.tunes;
   count = omega (arith, length-without number tunes, state.count);
 }
-
--- LOOK-UPS
--- each number is above what the list rises from
-above : (low : ℕ) (tunes : List Tune) (n : ℕ) (d : Tune) → RisesFrom low tunes → n < length tunes → low < (get_or tunes n d).number
-above low [] n d rises l = absurd (omega arith)
-above low (tune ∷ tunes) zero d rises l = rises.0
-above low (tune ∷ tunes) (suc n) d rises l = let later = above tune.number tunes n d rises.1 (omega arith) in let first = rises.0 in omega arith
-
--- numbers rise with the place
-pub ordered : (low : ℕ) (tunes : List Tune) (i j : ℕ) (d : Tune) → RisesFrom low tunes → i ≤ j → j < length tunes
-    → (get_or tunes i d).number ≤ (get_or tunes j d).number
-ordered low [] i j d rises h l = absurd (omega arith)
-ordered low (tune ∷ tunes) zero zero d rises h l = omega arith
-ordered low (tune ∷ tunes) zero (suc j) d rises h l = let later = above tune.number tunes j d rises.1 (omega arith) in omega arith
-ordered low (tune ∷ tunes) (suc i) zero d rises h l = absurd (omega arith)
-ordered low (tune ∷ tunes) (suc i) (suc j) d rises h l = ordered tune.number tunes i j d rises.1 (omega arith) (omega arith)
-
--- the tune at a place is the tune of its number
-pub tune_at-place : (low number : ℕ) (tunes : List Tune) (n : ℕ) (d : Tune) → RisesFrom low tunes → n < length tunes → (get_or tunes n d).number ≡ number
-    → tune_at number tunes ≡ Some (get_or tunes n d)
-tune_at-place low number [] n d rises l e = absurd (omega arith)
-tune_at-place low number (tune ∷ tunes) zero d rises l e = let same = eq-eqb tune.number number e in rw same refl
-tune_at-place low number (tune ∷ tunes) (suc n) d rises l e =
-    let later = above tune.number tunes n d rises.1 (omega arith) in
-    let other = ne_eqb tune.number number (λ same. omega arith) in
-    rw other (tune_at-place tune.number number tunes n d rises.1 (omega arith) e)
-
--- a tune goes to its place
-pub with_tune-place : (low : ℕ) (new : Tune) (tunes : List Tune) (n : ℕ) (d : Tune) → RisesFrom low tunes → n < length tunes
-    → (get_or tunes n d).number ≡ new.number → with_tune new tunes ≡ set tunes n new
-with_tune-place low new [] n d rises l e = absurd (omega arith)
-with_tune-place low new (tune ∷ tunes) zero d rises l e = let same = eq-eqb tune.number new.number e in rw same refl
-with_tune-place low new (tune ∷ tunes) (suc n) d rises l e =
-    let later = above tune.number tunes n d rises.1 (omega arith) in
-    let other = ne_eqb tune.number new.number (λ same. omega arith) in
-    rw other (ap (λ ts. tune ∷ ts) (with_tune-place tune.number new tunes n d rises.1 (omega arith) e))
-
--- a tune is taken out at its place
-pub without-place : (low number : ℕ) (tunes : List Tune) (n : ℕ) (d : Tune) → RisesFrom low tunes → n < length tunes → (get_or tunes n d).number ≡ number
-    → without number tunes ≡ take n tunes ++ drop (suc n) tunes
-without-place low number [] n d rises l e = absurd (omega arith)
-without-place low number (tune ∷ tunes) zero d rises l e = let same = eq-eqb tune.number number e in rw same refl
-without-place low number (tune ∷ tunes) (suc n) d rises l e =
-    let later = above tune.number tunes n d rises.1 (omega arith) in
-    let other = ne_eqb tune.number number (λ same. omega arith) in
-    rw other (ap (λ ts. tune ∷ ts) (without-place tune.number number tunes n d rises.1 (omega arith) e))
-
--- a number that no tune has
-pub tune_at-none : (number : ℕ) (tunes : List Tune) → ((n : ℕ) (d : Tune) → n < length tunes → (get_or tunes n d).number ≡ number → ⊥)
-    → tune_at number tunes ≡ None
-tune_at-none number [] h = refl
-tune_at-none number (tune ∷ tunes) h =
-    let other = ne_eqb tune.number number (h 0 tune (omega arith)) in
-    rw other (tune_at-none number tunes (λ n d l. h (suc n) d (omega arith)))
-
--- BINARY SEARCH
--- the answer of a comparison with one number rises with the other
-pub cmp_rises : (x y number : ℕ) → x ≤ y → ordering_index (nat_cmp x number) ≤ ordering_index (nat_cmp y number)
-cmp_rises x y number le = grind (arith, nat_tests)
-
--- where all numbers are less below a place, and greater from it on, none is equal
-pub no_place : (number : ℕ) (tunes : List Tune) (place : ℕ) → AllWithin (λ tune. nat_cmp tune.number number ≡ Less) tunes 0 place
-    → AllWithin (λ tune. nat_cmp tune.number number ≡ Greater) tunes place (length tunes)
-    → (n : ℕ) (d : Tune) → n < length tunes → (get_or tunes n d).number ≡ number → ⊥
-no_place number tunes place less greater n d l e = elim (cases_lt n place) [
-  | inl below ↦ let lower : (get_or tunes n d).number < number = ranked _ _ _ (sym (less n d (omega arith) below)) in omega arith
-  | inr from ↦ let higher : number < (get_or tunes n d).number = ranked _ _ _ (sym (greater n d from l)) in omega arith
-]

@@ -1,11 +1,12 @@
-//! The program `tunes`, which keeps tunes in ABC notation: `tunes list` runs the script of standard input on an empty archive in memory.
+//! The program `tunes`, which keeps tunes in ABC notation: `tunes list` runs the script of standard
+//! input on an empty archive in memory.
 #![tactic(auto)]
 
 use std::io::{BufReader, BufWriter};
 use std::process::ExitCode;
 use std::rt::Runtime;
 use std::{env, io};
-use tune_cli::{Action, act, action, tell};
+use tune_cli::{Action, act, action, report};
 
 /// How many bytes are read at once, and how many of a reply are written at once.
 const BUFFER: usize = 65_536;
@@ -23,7 +24,8 @@ fn main(rt: HostRuntime) -> io::Result<ExitCode> {
                 FAILED
             }
             io::ErrorKind::InvalidData => {
-                eprintln!(&rt; "tunes: a word of the command is not UTF-8")?;
+                // The status tells it also where standard error cannot be written.
+                let _ = eprintln!(&rt; "tunes: a word of the command is not UTF-8");
                 BAD_WORDS
             }
             _ => return Err(error),
@@ -37,7 +39,7 @@ fn start<R: Runtime + AllocGlobal>(rt: &R) -> io::Result<u8> {
     let words: Vec<String> = env::args(rt)?.collect(rt.alloc())?;
     match action(rt.alloc(), words.as_slice()) {
         Ok(action) => perform(rt, &action),
-        Err(fault) => tell(rt, &fault),
+        Err(fault) => report(rt, &fault),
     }
 }
 

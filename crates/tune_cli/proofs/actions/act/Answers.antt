@@ -1,17 +1,17 @@
 use Rattle.std.proofs.Common.{List, Option, ℕ, subst}
-use Rattle.std.specs.Prelude.{⊤}
 use Rattle.tune_store.specs.State.{State}
 use Rattle.tune_store.specs.Answers.{open_at}
-use Rattle.tune_scripts.specs.declared.runs.TheConstants.{MOST_LINES}
+use Rattle.tune_scripts.specs.Limits.{most_lines}
+use Rattle.tune_scripts.specs.Runs.{KnownAt, TellsScript}
+use Rattle.tune_scripts.proofs.RunLemmas.{known_by, forgets_stops}
 use Rattle.tune_cli.specs.declared.command_line.Action.{Action}
 use Rattle.tune_cli.specs.declared.command_line.Action.TheVariants as action
-use Rattle.tune_cli.specs.Acts.{Acts, ListsScript}
-use Rattle.tune_scripts.specs.Scripts.{Told, TellsScript}
-use Rattle.tune_scripts.proofs.ScriptLemmas.{told_by, tells_output}
+use Rattle.tune_cli.specs.Acts.{Acts, ListsScript, work_in_memory}
 use Rattle.tune_cli.proofs.actions.act.Goals as goal
 
 -- each action is to run a script
-acts_list : (action : Action) (input left was now : Option (List ℕ)) (status : ℕ) → ListsScript input left was now status → Acts action input left was now status
+acts_list : (action : Action) (input left was now : Option (List ℕ)) (status : ℕ)
+    → ListsScript input left was now status → Acts action input left was now status
 acts_list action.List input left was now status lists = lists
 
 pub returns : goal.returns
@@ -20,10 +20,14 @@ returns g c =
     let left = g.R.Read.remaining c.run-end.new.reader in
     let was = g.W.Write.contents c.args.writer.now in
     let now = g.W.Write.contents c.run-end.new.writer in
-    let P : State → Type 0 = λ start. Told c.run-end.result (TellsScript MOST_LINES input left was now (open_at start) c.run-end.result (open_at c.run-end.new.store) (λ _. ⊤)) in
+    let end = c.run-end.result in
+    let archive = c.run-end.new.store in
+    let P : State → Type 0 = λ start. KnownAt end
+    (TellsScript most_lines input left (record (work_in_memory was now archive) { before = open_at start }) end) in
+    let output = known_by end _ _ (forgets_stops most_lines input left _ end) c.run-end.ensures in
     acts_list c.args.action.now input left was now c.status.result record {
-      end = c.run-end.result;
-      state = c.run-end.new.store;
+      end = end;
+      state = archive;
       ends = c.status.ensures;
-      output = subst P c.new-archive.ensures (told_by c.run-end.result _ _ (tells_output MOST_LINES input left was now _ c.run-end.result _ _) c.run-end.ensures);
+      output = subst P c.new-archive.ensures output;
     }

@@ -1,10 +1,10 @@
 use Rattle.std.proofs.lemmas.Result.{err_from_is_err_and}
 use Rattle.std.proofs.Common.{ℕ, subst, ap, sym, ◌∙◌, refl}
-use Rattle.tune_disk.specs.Moments.{spares_none}
-use Rattle.tune_disk.specs.Disk.{DiskState}
+use Rattle.tune_disk.proofs.Moments.{spares_none}
+use Rattle.tune_disk.specs.Disk.{CountsUp}
 use Rattle.tune_journal.specs.Image.{pages_of}
 use Rattle.tune_journal.specs.Pages.{changed}
-use Rattle.tune_journal.proofs.Recovery.{entries_none, copy_spares, copy_image, within, low}
+use Rattle.tune_journal.proofs.Recovery.{entries_none, copy_spares, copy_image, has_entry}
 use Rattle.tune_journal.proofs.CallRuns.{writes_ok}
 use Rattle.tune_journal.proofs.recover.copy_entries.Goals as goal
 
@@ -12,38 +12,46 @@ pub loop-entry-init : goal.loop-entry-init
 loop-entry-init g c = record {
   honest = λ h. h;
   spares = λ h has. spares_none _ _;
-  images = λ h has. ap (changed (pages_of c.args.count (g.D.Disk.state c.args.disk.now).seen)) (sym (entries_none c.args.count (g.D.Disk.state c.args.disk.now).seen));
+  images =
+      λ h has. ap (changed (pages_of c.args.count (g.D.Disk.state c.args.disk.now).seen))
+      (sym (entries_none c.args.count (g.D.Disk.state c.args.disk.now).seen));
   failures = refl;
 }
 
 pub returns-in_err-copy_entry-clause-spares : goal.returns-in_err-copy_entry-clause-spares
 returns-in_err-copy_entry-clause-spares g c = λ h has.
-    (let old = c.copy_entry.ensures.honest h in
+    (let old = c.copy_entry.ensures.calls.was_honest h in
     let so_far = c.loop-entry.invariant.spares old has in
     copy_spares c.args.count c.args.entries c.loop-entry.entry _ _ has c.loop-entry-test.true so_far c.copy_entry.result _
-    (c.copy_entry.ensures.copies h (within c.args.count c.args.entries c.loop-entry.entry _ _ has c.loop-entry-test.true so_far) (low c.args.count c.args.entries c.loop-entry.entry _ _ has c.loop-entry-test.true so_far)))
+    (c.copy_entry.ensures.copies h (has_entry c.args.count c.args.entries c.loop-entry.entry _ _ has c.loop-entry-test.true so_far)))
 
-pub returns-in_err-copy_entry-clause-failures : goal.returns-in_err-copy_entry-clause-failures
-returns-in_err-copy_entry-clause-failures g c =
+pub returns-in_err-copy_entry-clause-calls : goal.returns-in_err-copy_entry-clause-calls
+returns-in_err-copy_entry-clause-calls g c =
     let p = err_from_is_err_and c.from_residual.result c.from_residual.ensures.1 in
-    rw p.1 (λ h has. (let old = c.copy_entry.ensures.honest h in
-    let so_far = c.loop-entry.invariant.spares old has in
-    subst (λ (n : ℕ). Rattle.tune_disk.specs.Disk.CountsUp n (g.D.Disk.failures c.copy_entry.new.disk)) c.loop-entry.invariant.failures
-    (c.in_err-copy_entry.ensures.failures h (within c.args.count c.args.entries c.loop-entry.entry _ _ has c.loop-entry-test.true so_far) (low c.args.count c.args.entries c.loop-entry.entry _ _ has c.loop-entry-test.true so_far))))
+    rw p.1 (record {
+      was_honest = λ h. c.loop-entry.invariant.honest (c.copy_entry.ensures.calls.was_honest h);
+      ok = tt;
+      counted = λ h has.
+          (let so_far = c.loop-entry.invariant.spares (c.copy_entry.ensures.calls.was_honest h) has in
+          subst (λ (n : ℕ). CountsUp n (g.D.Disk.failures c.copy_entry.new.disk)) c.loop-entry.invariant.failures
+          (c.in_err-copy_entry.ensures.calls.counted h
+          (has_entry c.args.count c.args.entries c.loop-entry.entry _ _ has c.loop-entry-test.true so_far)));
+    })
 
 pub loop-entry-preserved : goal.loop-entry-preserved
 loop-entry-preserved g c = record {
-  honest = λ h. c.loop-entry.invariant.honest (c.copy_entry.ensures.honest h);
+  honest = λ h. c.loop-entry.invariant.honest (c.copy_entry.ensures.calls.was_honest h);
   spares = λ h has.
-      (let old = c.copy_entry.ensures.honest h in
+      (let old = c.copy_entry.ensures.calls.was_honest h in
       let so_far = c.loop-entry.invariant.spares old has in
       copy_spares c.args.count c.args.entries c.loop-entry.entry _ _ has c.loop-entry-test.true so_far c.copy_entry.result _
-      (c.copy_entry.ensures.copies h (within c.args.count c.args.entries c.loop-entry.entry _ _ has c.loop-entry-test.true so_far) (low c.args.count c.args.entries c.loop-entry.entry _ _ has c.loop-entry-test.true so_far)));
+      (c.copy_entry.ensures.copies h (has_entry c.args.count c.args.entries c.loop-entry.entry _ _ has c.loop-entry-test.true so_far)));
   images = λ h has.
-      (let old = c.copy_entry.ensures.honest h in
+      (let old = c.copy_entry.ensures.calls.was_honest h in
       let so_far = c.loop-entry.invariant.spares old has in
       copy_image c.args.count c.args.entries c.loop-entry.entry _ _ has c.loop-entry-test.true so_far (g.D.Disk.state c.copy_entry.new.disk)
-      (writes_ok _ _ c.copy_entry.result _ (g.D.Disk.state c.loop-entry.disk) (g.D.Disk.state c.copy_entry.new.disk) c.in_ok-copy_entry.was (c.copy_entry.ensures.copies h (within c.args.count c.args.entries c.loop-entry.entry _ _ has c.loop-entry-test.true so_far) (low c.args.count c.args.entries c.loop-entry.entry _ _ has c.loop-entry-test.true so_far)))
+      (writes_ok _ _ c.copy_entry.result _ (g.D.Disk.state c.loop-entry.disk) (g.D.Disk.state c.copy_entry.new.disk) c.in_ok-copy_entry.was
+      (c.copy_entry.ensures.copies h (has_entry c.args.count c.args.entries c.loop-entry.entry _ _ has c.loop-entry-test.true so_far)))
       (c.loop-entry.invariant.images old has));
-  failures = c.in_ok-copy_entry.ensures.ok ∙ c.loop-entry.invariant.failures;
+  failures = c.in_ok-copy_entry.ensures.calls.ok ∙ c.loop-entry.invariant.failures;
 }

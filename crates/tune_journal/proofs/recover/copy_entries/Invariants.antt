@@ -1,9 +1,9 @@
 use Rattle.std.proofs.Common.{◌≡◌}
-use Rattle.tune_disk.specs.Stops.{Spares}
+use Rattle.tune_disk.specs.Inside.Spares.{Spares}
 use Rattle.tune_journal.specs.Image.{entries, pages_of}
+use Rattle.tune_journal.specs.Inside.Looking.{HasEntries}
+use Rattle.tune_journal.specs.Inside.Phases.{IsInNoPage}
 use Rattle.tune_journal.specs.Pages.{changed}
-use Rattle.tune_journal.specs.Phases.{IsInNoPage}
-use Rattle.tune_journal.specs.Opening.{HasEntries}
 use Rattle.tune_journal.proofs.recover.copy_entries.Given as goal
 
 abbrev pub invariant-loop-entry : goal.invariant-loop-entry
@@ -12,6 +12,7 @@ invariant-loop-entry g l = record {
   spares : g.D.Disk.honest l.disk → HasEntries l.count l.entries (g.D.Disk.state l.initial.disk).seen
       → Spares (IsInNoPage (entries l.count l.entries (g.D.Disk.state l.initial.disk).seen)) (g.D.Disk.state l.initial.disk) (g.D.Disk.state l.disk);
   images : g.D.Disk.honest l.disk → HasEntries l.count l.entries (g.D.Disk.state l.initial.disk).seen
-      → pages_of l.count (g.D.Disk.state l.disk).seen ≡ changed (pages_of l.count (g.D.Disk.state l.initial.disk).seen) (entries l.count l.entry (g.D.Disk.state l.initial.disk).seen);
+      → pages_of l.count (g.D.Disk.state l.disk).seen
+      ≡ changed (pages_of l.count (g.D.Disk.state l.initial.disk).seen) (entries l.count l.entry (g.D.Disk.state l.initial.disk).seen);
   failures : g.D.Disk.failures l.disk ≡ g.D.Disk.failures l.initial.disk;
 }

@@ -20,4 +20,5 @@ pub returns-in-Byte : goal.returns-in-Byte
 returns-in-Byte g c =
     let v = c.loop-n.invariant in
     let size = length-take-le c.loop-n.n c.loop-n.line v.within in
-    line_long _ _ _ (take c.loop-n.n c.loop-n.line) c.in-Byte.field-0 (omega arith) (ne_eqb c.in-Byte.field-0 10 (λ e. omega arith)) v.inside v.taken c.in-Byte.ensures
+    let no_feed = ne_eqb c.in-Byte.field-0 10 (λ e. omega arith) in
+    line_long _ _ _ (take c.loop-n.n c.loop-n.line) c.in-Byte.field-0 (omega arith) no_feed v.inside v.taken c.in-Byte.ensures

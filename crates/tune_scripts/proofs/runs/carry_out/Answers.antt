@@ -2,4 +2,10 @@ use Rattle.std.proofs.Common.{inr}
 use Rattle.tune_scripts.proofs.runs.carry_out.Goals as goal
 
 pub returns-in-Ok : goal.returns-in-Ok
-returns-in-Ok g c = inr (c.apply-answer.result, c.next_after.ensures, c.apply-answer.ensures.answer, c.apply-answer.ensures.stops, c.in-Ok.ensures)
+returns-in-Ok g c = inr (record {
+  answer = c.apply-answer.result;
+  next = c.next_after.ensures;
+  answers = c.apply-answer.ensures.answer;
+  stops = c.apply-answer.ensures.stops;
+  written = c.in-Ok.ensures;
+})

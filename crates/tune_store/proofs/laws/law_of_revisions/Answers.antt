@@ -1,5 +1,6 @@
-use Rattle.tune_store.proofs.RevisionLemmas.{accepted_replace_raises, others_keep_revision, revision_counts, accepted_replace_is_current, step_keeps_limits}
+use Rattle.tune_store.proofs.RevisionLemmas.{accepted_replace_raises, others_keep_revision, revision_counts, accepted_replace_is_current}
 use Rattle.tune_store.proofs.RevisionLemmas.{refused_leaves}
+use Rattle.tune_store.proofs.LimitLemmas.{step_keeps_limits}
 use Rattle.tune_store.proofs.laws.law_of_revisions.Goals as goal
 
 pub returns-clause-replaced : goal.returns-clause-replaced

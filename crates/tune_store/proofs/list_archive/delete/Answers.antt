@@ -1,6 +1,7 @@
 use Rattle.std.proofs.Common.{◌≡◌, sym, ◌∙◌, add-one, refl}
 use Rattle.tune_store.specs.Step.{without}
-use Rattle.tune_store.proofs.StateLemmas.{state_after_delete, without-place}
+use Rattle.tune_store.proofs.StateLemmas.{state_after_delete}
+use Rattle.tune_store.proofs.PlaceLemmas.{without-place}
 use Rattle.tune_store.proofs.list_archive.delete.Goals as goal
 
 removed : (c : goal.After-drop-remove) → c.remove.new.self.items ≡ without c.args.number c.args.tunes.now.items

@@ -2,7 +2,7 @@ use Rattle.std.proofs.Common.{rules, sym, ℕ}
 use Rattle.std.specs.Cmp.{ranked}
 use Rattle.std.proofs.lemmas.Fn.{always_returns_same}
 use Rattle.tune_store.specs.declared.tune.Tune.{Tune}
-use Rattle.tune_store.proofs.StateLemmas.{tune_at-place, tune_at-none, ordered, cmp_rises, no_place}
+use Rattle.tune_store.proofs.PlaceLemmas.{tune_at-place, tune_at-none, ordered, cmp_rises, no_place}
 use Rattle.tune_store.proofs.list_archive.place_of.Goals as goal
 
 pub returns-in-Ok-clause-found : goal.returns-in-Ok-clause-found

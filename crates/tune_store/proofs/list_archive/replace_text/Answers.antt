@@ -3,7 +3,7 @@ use Rattle.std.proofs.lemmas.Bool.{eq-eqb, lt-ltb}
 use Rattle.tune_store.specs.declared.tune.Tune.{Tune}
 use Rattle.tune_store.specs.Limits.{greatest_revision}
 use Rattle.tune_store.specs.Step.{revised, tune_at}
-use Rattle.tune_store.proofs.StateLemmas.{with_tune-place}
+use Rattle.tune_store.proofs.PlaceLemmas.{with_tune-place}
 use Rattle.tune_store.proofs.list_archive.replace_text.Goals as goal
 
 pub returns : goal.returns

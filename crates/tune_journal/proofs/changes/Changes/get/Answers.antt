@@ -1,7 +1,8 @@
 use Rattle.std.proofs.Common.{ℕ, List, Some, sym, ◌∙◌, ap, subst}
 use Rattle.tune_journal.specs.declared.changes.PageImage.{PageImage}
-use Rattle.tune_journal.specs.ChangeList.{image_of, FoundAt}
-use Rattle.tune_journal.specs.Listed.{listed}
+use Rattle.tune_journal.specs.ChangeList.{image_of}
+use Rattle.tune_journal.specs.Inside.ChangeOrder.{FoundAt}
+use Rattle.tune_journal.specs.Inside.Listed.{listed}
 use Rattle.tune_journal.proofs.ChangeLists.{image_of_found, image_of_missing, change_there}
 use Rattle.tune_journal.proofs.changes.Changes.get.Goals as goal
 

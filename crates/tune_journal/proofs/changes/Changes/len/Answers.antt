@@ -1,9 +1,10 @@
 use Rattle.std.proofs.Common.{ℕ, List, map, subst}
 use Rattle.std.specs.List.Sorted.{IsStrictlyIncreasing}
-use Rattle.tune_journal.specs.Listed.{listed}
+use Rattle.tune_journal.specs.Inside.Listed.{listed}
 use Rattle.tune_journal.proofs.ChangeLists.{increasing_from_rises}
 use Rattle.tune_journal.proofs.changes.Changes.len.Goals as goal
 
 pub returns-clause-rising : goal.returns-clause-rising
 returns-clause-rising c =
-    subst (λ (l : List (ℕ × List ℕ)). IsStrictlyIncreasing (map (λ d. d.0) l)) c.self.view_is (increasing_from_rises (listed c.self.inside.changed.items) c.self.invariant.rising)
+    subst (λ (l : List (ℕ × List ℕ)). IsStrictlyIncreasing (map (λ d. d.0) l)) c.self.view_is
+    (increasing_from_rises (listed c.self.inside.changed.items) c.self.invariant.rising)

@@ -1,19 +1,18 @@
 use Rattle.std.proofs.Common.{◌∙◌}
-use Rattle.std.proofs.lemmas.Result.{MatchResult-weaker}
+use Rattle.tune_disk.proofs.Moments.{since_then, since_weaker}
 use Rattle.tune_journal.specs.Image.{StandsFor}
-use Rattle.tune_journal.proofs.Above.{goes_as, goes_then}
-use Rattle.tune_journal.proofs.Chain.{stands_as, ok_then}
+use Rattle.tune_journal.proofs.Chain.{stands_as, ok_held}
 use Rattle.tune_journal.proofs.states.Opened.finish.Goals as goal
 
 pub returns-clause-moments : goal.returns-clause-moments
-returns-clause-moments g c =
-    let honest = g.D.Disk.honest in
-    let state = g.D.Disk.state in
-    let Q = StandsFor c.args.self.pages in
-    MatchResult-weaker c.close.result c.close.ensures.moments
-    (λ j goes. goes_then honest state _ _ _ Q c.in_ok-recover.ensures.moments (goes_as honest state _ _ _ Q goes (λ h. stands_as _ _ (c.in_ok-recover.ensures.pages (goes.before h)))))
-    (λ b goes. goes_then honest state _ _ _ Q c.in_ok-recover.ensures.moments (goes_as honest state _ _ _ Q goes (λ h. stands_as _ _ (c.in_ok-recover.ensures.pages (goes.before h)))))
+returns-clause-moments g c = λ h.
+    (let pages = c.args.self.pages in
+    let mid = c.close.ensures.calls.was_honest h in
+    since_then (StandsFor pages) _ _ _ (c.in_ok-recover.ensures.moments mid)
+    (since_weaker _ (StandsFor pages) (stands_as _ pages (c.in_ok-recover.ensures.pages mid)) _ _ (c.close.ensures.moments h)))
 
 pub returns-clause-pages : goal.returns-clause-pages
 returns-clause-pages g c =
-    ok_then c.close.result _ _ _ _ c.close.ensures.moments c.close.ensures.pages (λ j goes pages h. pages h ∙ c.in_ok-recover.ensures.pages (goes.before h))
+    let honest = g.D.Disk.honest in
+    ok_held c.close.result (λ d. honest d → honest c.in_ok-recover.field-0.disk) _ _ c.close.ensures.calls.was_honest c.close.ensures.pages
+    (λ j back pages h. pages h ∙ c.in_ok-recover.ensures.pages (back h))

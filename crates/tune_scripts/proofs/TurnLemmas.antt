@@ -1,0 +1,264 @@
+-- What one line of a script, with its book, comes to.
+use Rattle.std.proofs.Common.{◌≡◌, ℕ, suc, ◌+◌, ◌<◌, ◌≤◌, Bool, true, false, cond, List, [], ◌∷◌, ◌++◌, length, drop, Option, None, Some, refl, ap, sym}
+use Rattle.std.proofs.Common.{◌∙◌, subst, inl, inr, arith}
+use Rattle.std.specs.Io.KnownBytes.{Appends, Consumes, IsAtEnd}
+use Rattle.std.proofs.lemmas.List.{append-nil, take_at, drop_at, length-append}
+use Rattle.std.proofs.lemmas.Bool.{le-ltb, lt-ltb}
+use Rattle.abc_fields.specs.Words.{words_of}
+use Rattle.abc_fields.specs.Limits.{longest_book}
+use Rattle.tune_store.specs.State.{State, Standing}
+use Rattle.tune_store.specs.Answers.{passed, stays_open}
+use Rattle.tune_store.specs.declared.command.Command.{Command}
+use Rattle.tune_store.specs.declared.command.Refusal.TheVariants.{BookTooLong, OutOfMemory}
+use Rattle.tune_scripts.specs.declared.script_lines.ScriptLine.{ScriptLine}
+use Rattle.tune_scripts.specs.declared.script_lines.BookUse.{BookUse}
+use Rattle.tune_scripts.specs.declared.runs.RunEnd.{RunEnd}
+use Rattle.tune_scripts.specs.declared.runs.RunEnd.TheVariants.{Ended, LongLine, DeviceFault}
+use Rattle.tune_scripts.specs.Limits.{longest_line}
+use Rattle.tune_scripts.specs.ScriptLines.{meaning_of, command_of}
+use Rattle.tune_scripts.specs.InputLines.{before_feed, after_feed, has_feed}
+use Rattle.tune_scripts.specs.Replies.{answer_bytes, refusal_bytes, bad_line_bytes}
+use Rattle.tune_scripts.specs.Scripts.{reading_of, reading_of_book, reading_of_meaning, reading_of_line, line_text, long_line, blank_line, bad_line, cut_book}
+use Rattle.tune_scripts.specs.Scripts.{long_book, whole_command, Script, ended, device_fault, at_long_line, at_cut_book, after_blank_line, after_bad_line}
+use Rattle.tune_scripts.specs.Scripts.{after_long_book, after_no_room, after_answer}
+use Rattle.tune_scripts.specs.Runs.{Work}
+use Rattle.tune_scripts.specs.Inside.Reads.{IsLineRead, TakesLine, LosesLongLine, IsCut}
+use Rattle.tune_scripts.specs.Inside.Turns.{GoesOn, TurnOf, Turns, TurnsBook, WritesOut, AnswersCommand, CarriesOut}
+
+pub appends_none : (a : Option (List ℕ)) → Appends a a []
+appends_none None = tt
+appends_none (Some xs) = sym (append-nil xs)
+
+-- the store was left alone
+pub record IsQuiet (work : Work) : Type 0 where
+  pub same : work.before ≡ work.after
+  pub stops : work.Stops []
+
+-- what starts where the store stood starts where it stands
+starts_where : {n : ℕ} {rest out unread : List ℕ} {states : List State} {end : RunEnd} {last : Standing} (work : Work) → IsQuiet work
+    → Script n work.after rest out states end last unread → Script n work.before rest out states end last unread
+starts_where {n = n} {rest = rest} {out = out} {unread = unread} {states = states} {end = end} {last = last} work quiet k =
+    subst (λ s. Script n s rest out states end last unread) (sym quiet.same) k
+
+-- what ends where the store stood ends where it stands
+ends_where : {n : ℕ} {input out unread : List ℕ} {states : List State} {end : RunEnd} (work : Work) → IsQuiet work
+    → Script n work.before input out states end work.before unread → Script n work.before input out states end work.after unread
+ends_where {n = n} {input = input} {out = out} {unread = unread} {states = states} {end = end} work quiet k =
+    subst (λ s. Script n work.before input out states end s unread) quiet.same k
+
+-- ONE TURN
+-- after a command, by whether its answer lets the run go on
+turn_goes : (input rest : List ℕ) (left : Option (List ℕ)) (work : Work) (c : Command) (result : Option RunEnd)
+    (h : AnswersCommand work c result) (b : Bool) → reading_of input ≡ whole_command c rest → left ≡ Some rest
+    → stays_open h.answer ≡ b → result ≡ cond b None (Some DeviceFault) → TurnOf input left work result
+turn_goes input rest left work c result h true r l o e = rw e (λ n. record {
+  rest = rest;
+  out = answer_bytes h.answer;
+  states = passed work.before.state c h.answer;
+  leaves = l;
+  written = h.written;
+  stops = h.stops;
+  onward = λ tail unread later end last k. after_answer n work.before work.after last input rest tail unread later end c h.answer r h.answers o k;
+})
+turn_goes input rest left work c result h false r l o e = rw e (λ n. record {
+  unread = rest;
+  out = answer_bytes h.answer;
+  states = passed work.before.state c h.answer;
+  leaves = l;
+  written = h.written;
+  stops = h.stops;
+  script = device_fault n work.before work.after input rest c h.answer r h.answers o;
+})
+
+-- after a command
+pub turn_answered : (input rest : List ℕ) (left : Option (List ℕ)) (work : Work) (c : Command) (result : Option RunEnd)
+    → reading_of input ≡ whole_command c rest → left ≡ Some rest → CarriesOut work c result → TurnOf input left work result
+turn_answered input rest left work c result r l (inl fault) = rw fault tt
+turn_answered input rest left work c result r l (inr h) = turn_goes input rest left work c result h (stays_open h.answer) r l refl h.next
+
+-- what a turn adds that leaves the store alone: these bytes, and no state
+adds_bytes : (lines more : ℕ) (input rest bytes : List ℕ) (left : Option (List ℕ)) (work : Work) → left ≡ Some rest → IsQuiet work
+    → Appends work.was work.now bytes
+    → ((tail unread : List ℕ) (later : List State) (end : RunEnd) (last : Standing) → Script more work.before rest tail later end last unread
+    → Script lines work.before input (bytes ++ tail) later end last unread)
+    → GoesOn lines more input left work
+adds_bytes lines more input rest bytes left work l quiet w f = record {
+  rest = rest;
+  out = bytes;
+  states = [];
+  leaves = l;
+  written = w;
+  stops = quiet.stops;
+  onward = λ tail unread later end last k. f tail unread later end last (starts_where work quiet k);
+}
+
+-- after a line without a word
+pub turn_blank : (input rest : List ℕ) (left : Option (List ℕ)) (work : Work) → reading_of input ≡ blank_line rest → left ≡ Some rest
+    → IsQuiet work → Appends work.was work.now [] → TurnOf input left work None
+turn_blank input rest left work r l quiet w = λ n. adds_bytes (suc n) n input rest [] left work l quiet w
+    (λ tail unread later end last k. after_blank_line n work.before last input rest tail unread later end r k)
+
+-- after a bad line
+pub turn_bad : (input rest : List ℕ) (left : Option (List ℕ)) (work : Work) (result : Option RunEnd) → reading_of input ≡ bad_line rest
+    → left ≡ Some rest → IsQuiet work → WritesOut work.was work.now bad_line_bytes None result → TurnOf input left work result
+turn_bad input rest left work result r l quiet (inl fault) = rw fault tt
+turn_bad input rest left work result r l quiet (inr h) = rw h.0 (λ n. adds_bytes (suc n) n input rest bad_line_bytes left work l quiet h.1
+    (λ tail unread later end last k. after_bad_line n work.before last input rest tail unread later end r k))
+
+-- after a book for which there is no memory
+turn_no_room : (input rest : List ℕ) (left : Option (List ℕ)) (work : Work) (book_use : BookUse) (book : List ℕ) (result : Option RunEnd)
+    → reading_of input ≡ whole_command (command_of book_use book) rest → left ≡ Some rest → IsQuiet work
+    → WritesOut work.was work.now (refusal_bytes OutOfMemory) None result → TurnOf input left work result
+turn_no_room input rest left work book_use book result r l quiet (inl fault) = rw fault tt
+turn_no_room input rest left work book_use book result r l quiet (inr h) =
+    rw h.0 (λ n. adds_bytes (suc n) n input rest (refusal_bytes OutOfMemory) left work l quiet h.1
+    (λ tail unread later end last k. after_no_room n work.before last input rest tail unread later end book_use book r k))
+
+-- after a book that is too long
+turn_over : (input rest : List ℕ) (left : Option (List ℕ)) (work : Work) (result : Option RunEnd) → reading_of input ≡ long_book rest
+    → left ≡ Some rest → IsQuiet work → WritesOut work.was work.now (refusal_bytes BookTooLong) None result → TurnOf input left work result
+turn_over input rest left work result r l quiet (inl fault) = rw fault tt
+turn_over input rest left work result r l quiet (inr h) =
+    rw h.0 (λ n. adds_bytes (suc n) n input rest (refusal_bytes BookTooLong) left work l quiet h.1
+    (λ tail unread later end last k. after_long_book n work.before last input rest tail unread later end r k))
+
+-- after a book that was cut
+turn_cut : (input : List ℕ) (left : Option (List ℕ)) (work : Work) (result : Option RunEnd) → reading_of input ≡ cut_book → left ≡ Some []
+    → IsQuiet work → WritesOut work.was work.now bad_line_bytes (Some Ended) result → TurnOf input left work result
+turn_cut input left work result r l quiet (inl fault) = rw fault tt
+turn_cut input left work result r l quiet (inr h) = rw h.0 (λ n. record {
+  unread = [];
+  out = bad_line_bytes;
+  states = [];
+  leaves = l;
+  written = h.1;
+  stops = quiet.stops;
+  script = ends_where work quiet (at_cut_book n work.before input r);
+})
+
+-- after a line that is too long
+turn_long : (input : List ℕ) (left : Option (List ℕ)) (work : Work) (result : Option RunEnd) → reading_of input ≡ long_line
+    → left ≡ Some (drop (longest_line + 1) input) → IsQuiet work → WritesOut work.was work.now bad_line_bytes (Some LongLine) result
+    → TurnOf input left work result
+turn_long input left work result r l quiet (inl fault) = rw fault tt
+turn_long input left work result r l quiet (inr h) = rw h.0 (λ n. record {
+  unread = drop (longest_line + 1) input;
+  out = bad_line_bytes;
+  states = [];
+  leaves = l;
+  written = h.1;
+  stops = quiet.stops;
+  script = ends_where work quiet (at_long_line n work.before input r);
+})
+
+-- BOOKS
+reads_cut : (book_use : BookUse) (len : ℕ) (rest : List ℕ) → length rest < len → reading_of_book book_use len rest ≡ cut_book
+reads_cut book_use len rest h = rw (lt-ltb (length rest) len h) refl
+
+reads_over : (book_use : BookUse) (len : ℕ) (got rest : List ℕ) → length got ≡ len → longest_book < len
+    → reading_of_book book_use len (got ++ rest) ≡ long_book rest
+reads_over book_use len got rest e h =
+    let enough : len ≤ length (got ++ rest) = omega (arith, length-append got rest) in
+    rw (le-ltb (length (got ++ rest)) len enough, lt-ltb longest_book len h, drop_at got rest len e) refl
+
+reads_whole : (book_use : BookUse) (len : ℕ) (got rest : List ℕ) → length got ≡ len → len ≤ longest_book
+    → reading_of_book book_use len (got ++ rest) ≡ whole_command (command_of book_use got) rest
+reads_whole book_use len got rest e h =
+    let enough : len ≤ length (got ++ rest) = omega (arith, length-append got rest) in
+    rw (le-ltb (length (got ++ rest)) len enough, le-ltb longest_book len h, drop_at got rest len e, take_at got rest len e) refl
+
+-- a book that the input's end cuts
+pub book_cut : (book_use : BookUse) (len : ℕ) (old new : Option (List ℕ)) (work : Work) (result : Option RunEnd) → IsCut old new len → IsQuiet work
+    → WritesOut work.was work.now bad_line_bytes (Some Ended) result → TurnsBook book_use len old new work result
+book_cut book_use len None new work result c quiet w = tt
+book_cut book_use len (Some xs) new work result c quiet w =
+    λ input r. turn_cut input new work result (r ∙ reads_cut book_use len xs c.0) c.1 quiet w
+
+-- a book that is too long
+pub book_over : (book_use : BookUse) (len : ℕ) (old new : Option (List ℕ)) (work : Work) (result : Option RunEnd) (got : List ℕ)
+    → length got ≡ len → longest_book < len → Consumes old new got → IsQuiet work
+    → WritesOut work.was work.now (refusal_bytes BookTooLong) None result → TurnsBook book_use len old new work result
+book_over book_use len None new work result got e h c quiet w = tt
+book_over book_use len (Some xs) None work result got e h c quiet w = absurd c
+book_over book_use len (Some xs) (Some ys) work result got e h c quiet w = λ input r.
+    turn_over input ys (Some ys) work result (r ∙ ap (reading_of_book book_use len) c ∙ reads_over book_use len got ys e h) refl quiet w
+
+-- a book for which there is no memory
+pub book_no_room : (book_use : BookUse) (len : ℕ) (old new : Option (List ℕ)) (work : Work) (result : Option RunEnd) (got : List ℕ)
+    → length got ≡ len → len ≤ longest_book → Consumes old new got → IsQuiet work
+    → WritesOut work.was work.now (refusal_bytes OutOfMemory) None result → TurnsBook book_use len old new work result
+book_no_room book_use len None new work result got e h c quiet w = tt
+book_no_room book_use len (Some xs) None work result got e h c quiet w = absurd c
+book_no_room book_use len (Some xs) (Some ys) work result got e h c quiet w = λ input r.
+    let reads = r ∙ ap (reading_of_book book_use len) c ∙ reads_whole book_use len got ys e h in
+    turn_no_room input ys (Some ys) work book_use got result reads refl quiet w
+
+-- a book that was read, and the command over it carried out
+pub book_whole : (book_use : BookUse) (len : ℕ) (old new : Option (List ℕ)) (work : Work) (result : Option RunEnd) (got : List ℕ)
+    → length got ≡ len → len ≤ longest_book → Consumes old new got → CarriesOut work (command_of book_use got) result
+    → TurnsBook book_use len old new work result
+book_whole book_use len None new work result got e h c w = tt
+book_whole book_use len (Some xs) None work result got e h c w = absurd c
+book_whole book_use len (Some xs) (Some ys) work result got e h c w = λ input r.
+    let reads = r ∙ ap (reading_of_book book_use len) c ∙ reads_whole book_use len got ys e h in
+    turn_answered input ys (Some ys) work (command_of book_use got) result reads refl w
+
+-- LINES
+reading_by_parts : (input : List ℕ) → 0 < length input
+    → reading_of input ≡ reading_of_line (before_feed input) (has_feed input) (after_feed input)
+reading_by_parts [] h = absurd (omega arith)
+reading_by_parts (b ∷ bs) h = refl
+
+parts_short : (line rest : List ℕ) (fed : Bool) → length line ≤ longest_line
+    → reading_of_line line fed rest ≡ reading_of_meaning (meaning_of (words_of (line_text fed line))) rest
+parts_short line rest fed h = rw (le-ltb longest_line (length line) h) refl
+
+reading_line : (input line rest : List ℕ) (fed : Bool) (m : ScriptLine) → IsLineRead input line rest fed → length line ≤ longest_line
+    → meaning_of (words_of (line_text fed line)) ≡ m → reading_of input ≡ reading_of_meaning m rest
+reading_line input line rest fed m h l e =
+    reading_by_parts input h.some
+    ∙ ap (λ x. reading_of_line x (has_feed input) (after_feed input)) h.bytes
+    ∙ ap (λ x. reading_of_line line x (after_feed input)) h.feed
+    ∙ ap (λ x. reading_of_line line fed x) h.after
+    ∙ parts_short line rest fed l
+    ∙ ap (λ x. reading_of_meaning x rest) e
+
+reading_long : (input : List ℕ) → longest_line < length (before_feed input) → reading_of input ≡ long_line
+reading_long [] h = absurd (omega arith)
+reading_long (b ∷ bs) h = rw (lt-ltb longest_line (length (before_feed (b ∷ bs))) h) refl
+
+-- a line was read, and what follows is a turn for each rest
+pub from_line : (old mid new : Option (List ℕ)) (work : Work) (result : Option RunEnd) (line : List ℕ) (fed : Bool) (m : ScriptLine)
+    → TakesLine old mid line fed → length line ≤ longest_line → meaning_of (words_of (line_text fed line)) ≡ m
+    → ((input rest : List ℕ) → reading_of input ≡ reading_of_meaning m rest → mid ≡ Some rest → TurnOf input new work result)
+    → Turns old new work result
+from_line None mid new work result line fed m h l e f = tt
+from_line (Some xs) mid new work result line fed m h l e f = f xs h.0 (reading_line xs line h.0 fed m h.2 l e) h.1
+
+-- a line that is too long was met
+pub from_long : (old new : Option (List ℕ)) (work : Work) (result : Option RunEnd) → LosesLongLine old new → IsQuiet work
+    → WritesOut work.was work.now bad_line_bytes (Some LongLine) result → Turns old new work result
+from_long None new work result h quiet w = tt
+from_long (Some xs) new work result h quiet w = turn_long xs new work result (reading_long xs h.0) h.1 quiet w
+
+-- the input was at its end
+pub from_end : (old new : Option (List ℕ)) (work : Work) → IsAtEnd old → Consumes old new [] → IsQuiet work → Appends work.was work.now []
+    → Turns old new work (Some Ended)
+from_end None new work h k quiet w = tt
+from_end (Some xs) None work h k quiet w = absurd k
+from_end (Some xs) (Some ys) work h k quiet w = λ n. record {
+  unread = [];
+  out = [];
+  states = [];
+  leaves = ap Some (sym k ∙ h);
+  written = w;
+  stops = quiet.stops;
+  script = ends_where work quiet (ended n work.before xs (ap reading_of h));
+}
+
+-- a line that asks for a book was read, and then the book
+pub from_book : (book_use : BookUse) (len : ℕ) (rest input : List ℕ) (mid new : Option (List ℕ)) (work : Work) (result : Option RunEnd)
+    → TurnsBook book_use len mid new work result → mid ≡ Some rest → reading_of input ≡ reading_of_book book_use len rest
+    → TurnOf input new work result
+from_book book_use len rest input mid new work result h e r =
+    let Q : Option (List ℕ) → Type 0 = λ m. TurnsBook book_use len m new work result in subst Q e h input r

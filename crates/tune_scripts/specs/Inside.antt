@@ -1,0 +1,3 @@
+pub mod FirstWords
+pub mod Reads
+pub mod Turns

@@ -1,0 +1,66 @@
+-- One line of a script, with its book: a turn of the run.
+use Rattle.std.specs.Prelude.{◌≡◌, ℕ, suc, List, ◌++◌, ◌⊎◌, Option, None, Some, IfSome, Result}
+use Rattle.std.specs.Prelude.{if◌then◌else◌}
+use Rattle.std.specs.Io.KnownBytes.{Appends}
+use Rattle.tune_store.specs.State.{State, Standing}
+use Rattle.tune_store.specs.Answers.{Answers, passed, stays_open}
+use Rattle.tune_store.specs.declared.command.Command.{Command}
+use Rattle.tune_store.specs.declared.command.Reply.{Reply}
+use Rattle.tune_store.specs.declared.command.Refusal.{Refusal}
+use Rattle.tune_scripts.specs.declared.script_lines.BookUse.{BookUse}
+use Rattle.tune_scripts.specs.declared.runs.RunEnd.{RunEnd}
+use Rattle.tune_scripts.specs.declared.runs.RunEnd.TheVariants.{WriterFault, DeviceFault}
+use Rattle.tune_scripts.specs.Replies.{answer_bytes}
+use Rattle.tune_scripts.specs.Scripts.{reading_of, reading_of_book, Script}
+use Rattle.tune_scripts.specs.Runs.{Work, KnownAt, RunsScript}
+
+-- A part of a run, with at most so many lines at its beginning and so many at its end: whatever the
+-- rest of the input comes to, the whole comes to this part and then that.
+pub record GoesOn (lines more : ℕ) (input : List ℕ) (left : Option (List ℕ)) (work : Work)
+    : Type 0 where
+  pub rest : List ℕ
+  pub out : List ℕ
+  pub states : List State
+  pub leaves : left ≡ Some rest
+  pub written : Appends work.was work.now out
+  pub stops : work.Stops states
+  pub onward : (tail unread : List ℕ) (later : List State) (end : RunEnd) (last : Standing)
+      → Script more work.after rest tail later end last unread
+      → Script lines work.before input (out ++ tail) (states ++ later) end last unread
+
+-- a turn: the run goes on with a line less, or ends here
+abbrev pub TurnOf : List ℕ → Option (List ℕ) → Work → Option RunEnd → Type 0
+TurnOf input left work None = (n : ℕ) → GoesOn (suc n) n input left work
+TurnOf input left work (Some end) = KnownAt end ((n : ℕ) → RunsScript (suc n) input left work end)
+
+-- the same of a reader that tells its bytes
+abbrev pub Turns : Option (List ℕ) → Option (List ℕ) → Work → Option RunEnd → Type 0
+Turns old new work result = IfSome old (λ input. TurnOf input new work result)
+
+-- the same after a line that asks for a book of this use and length
+abbrev pub TurnsBook : BookUse → ℕ → Option (List ℕ) → Option (List ℕ) → Work → Option RunEnd
+    → Type 0
+TurnsBook book_use len old new work result = IfSome old (λ rest. (input : List ℕ)
+    → reading_of input ≡ reading_of_book book_use len rest → TurnOf input new work result)
+
+-- the writer failed, or these bytes were written and the run goes on so
+abbrev pub WritesOut : Option (List ℕ) → Option (List ℕ) → List ℕ → Option RunEnd → Option RunEnd
+    → Type 0
+WritesOut was now bytes next result =
+    (result ≡ Some WriterFault) ⊎ ((result ≡ next) × Appends was now bytes)
+
+-- how a run goes on after an answer
+abbrev pub next_of : Result Reply Refusal → Option RunEnd
+next_of answer = if stays_open answer then None else Some DeviceFault
+
+-- a command was answered, and the run goes on so
+pub record AnswersCommand (work : Work) (c : Command) (result : Option RunEnd) : Type 0 where
+  pub answer : Result Reply Refusal
+  pub next : result ≡ next_of answer
+  pub answers : Answers work.before c answer work.after
+  pub stops : work.Stops (passed work.before.state c answer)
+  pub written : Appends work.was work.now (answer_bytes answer)
+
+-- the writer failed, or the command was answered
+abbrev pub CarriesOut : Work → Command → Option RunEnd → Type 0
+CarriesOut work c result = (result ≡ Some WriterFault) ⊎ AnswersCommand work c result

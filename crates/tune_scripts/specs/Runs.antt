@@ -1,0 +1,60 @@
+-- Runs of scripts, over a reader, a writer and a store of any kind.
+use Rattle.std.specs.Prelude.{◌≡◌, ℕ, List, Option, Some, IfSome, ⊤}
+use Rattle.std.specs.Io.KnownBytes.{Appends}
+use Rattle.std.specs.declared.io.Write.{Ghosts}
+use Rattle.tune_store.specs.State.{State, Standing}
+use Rattle.tune_store.specs.Stores.{StorePasses}
+use Rattle.tune_store.specs.declared.tune_store.TuneStore as store
+use Rattle.tune_scripts.specs.declared.runs.RunEnd.{RunEnd}
+use Rattle.tune_scripts.specs.declared.runs.RunEnd.TheVariants.{Ended, LineBound, LongLine}
+use Rattle.tune_scripts.specs.declared.runs.RunEnd.TheVariants.{ReaderFault, WriterFault}
+use Rattle.tune_scripts.specs.declared.runs.RunEnd.TheVariants.{DeviceFault}
+use Rattle.tune_scripts.specs.declared.runs.RunEnd.TheVariants as run
+use Rattle.tune_scripts.specs.Scripts.{Script}
+
+-- The work of a run, or of a part of it.
+pub record Work : Type 1 where
+  -- the bytes of the output before and after it, where the writer tells them
+  pub was : Option (List ℕ)
+  pub now : Option (List ℕ)
+  -- what the store stands for before and after it
+  pub before : Standing
+  pub after : Standing
+  -- what stops may leave of the store, by the states that it passed
+  pub Stops : List State → Type 0
+
+-- the work between two moments of a writer and a store
+abbrev pub work_of : {W S : Type 0} → Ghosts W → store.Ghosts S → W → W → S → S → Work
+work_of W S old_writer new_writer old_store new_store = record {
+  was = W.contents old_writer;
+  now = W.contents new_writer;
+  before = S.standing old_store;
+  after = S.standing new_store;
+  Stops = StorePasses S old_store new_store;
+}
+
+-- a claim that is made at the ends at which the output is known
+abbrev pub KnownAt : RunEnd → Type 0 → Type 0
+KnownAt Ended P = P
+KnownAt LineBound P = P
+KnownAt LongLine P = P
+KnownAt DeviceFault P = P
+KnownAt ReaderFault P = ⊤
+KnownAt WriterFault P = ⊤
+KnownAt run.OutOfMemory P = ⊤
+
+-- A run wrote what the script of this input writes, left unread what the script leaves, and stops
+-- leave of the store what the states allow that the script passes.
+pub record RunsScript (lines : ℕ) (input : List ℕ) (left : Option (List ℕ)) (work : Work)
+    (end : RunEnd) : Type 0 where
+  pub unread : List ℕ
+  pub out : List ℕ
+  pub states : List State
+  pub leaves : left ≡ Some unread
+  pub written : Appends work.was work.now out
+  pub stops : work.Stops states
+  pub script : Script lines work.before input out states end work.after unread
+
+-- the same of a reader that tells its bytes, by what is left of them before and after the run
+abbrev pub TellsScript : ℕ → Option (List ℕ) → Option (List ℕ) → Work → RunEnd → Type 0
+TellsScript lines old new work end = IfSome old (λ input. RunsScript lines input new work end)

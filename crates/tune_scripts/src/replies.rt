@@ -1,0 +1,115 @@
+// Writes replies.
+ghost use Rattle.std.specs.Prelude.{◌≡◌, ◌≤◌, OnOk, length};
+ghost use Rattle.std.specs.Fmt.{decimal};
+ghost use Rattle.std.specs.Io.KnownBytes.{Appends};
+ghost use Rattle.tune_scripts.specs.Replies.{reply_bytes, shown_bytes, exported_bytes};
+ghost use Rattle.tune_scripts.specs.Replies.{refusal_bytes, answer_bytes, bad_line_bytes};
+
+use abc_fields::TuneFault;
+use std::io;
+use std::io::Write;
+use tune_store::{Refusal, Reply, Tune};
+
+// Writes an answer, and flushes it.
+pub(crate) fn write_answer<W: Write>(
+    writer: &mut W,
+    answer: &Result<Reply, Refusal>,
+) -> io::Result<()>
+    ensures { let bytes = answer_bytes answer.now in
+        OnOk result (Appends (W.contents writer.old) (W.contents writer.new) bytes) }
+{
+    match answer {
+        Ok(reply) => write_reply(writer, reply)?,
+        Err(refusal) => write_refusal(writer, *refusal)?,
+    }
+    writer.flush()
+}
+
+// Writes that a line is no command, and flushes it.
+pub(crate) fn write_bad_line<W: Write>(writer: &mut W) -> io::Result<()>
+    ensures { OnOk result (Appends (W.contents writer.old) (W.contents writer.new) bad_line_bytes) }
+{
+    writer.write_all(b"refused 30 BadLine\n")?;
+    writer.flush()
+}
+
+fn write_reply<W: Write>(writer: &mut W, reply: &Reply) -> io::Result<()>
+    ensures { let bytes = reply_bytes reply.now in
+        OnOk result (Appends (W.contents writer.old) (W.contents writer.new) bytes) }
+{
+    match reply {
+        Reply::Imported { first, last } => write!(writer, "ok import {first} {last}\n"),
+        Reply::Replaced { number, revision } => {
+            write!(writer, "ok replace {number} {revision}\n")
+        }
+        Reply::Deleted { number } => write!(writer, "ok delete {number}\n"),
+        Reply::Shown(tune) => write_shown(writer, tune),
+        Reply::Exported(book) => write_exported(writer, book.as_slice()),
+    }
+}
+
+fn write_shown<W: Write>(writer: &mut W, tune: &Tune) -> io::Result<()>
+    ensures { let bytes = shown_bytes tune.now in
+        OnOk result (Appends (W.contents writer.old) (W.contents writer.new) bytes) }
+{
+    let number = tune.number;
+    let revision = tune.revision;
+    let text = tune.text.bytes();
+    let len = text.len() as u64 + digits_of(number) + "X:\n".len() as u64;
+    write!(writer, "ok show {number} {revision} {len}\nX:{number}\n")?;
+    writer.write_all(text)
+}
+
+fn write_exported<W: Write>(writer: &mut W, book: &[u8]) -> io::Result<()>
+    ensures { let bytes = exported_bytes book.now in
+        OnOk result (Appends (W.contents writer.old) (W.contents writer.new) bytes) }
+{
+    let len = book.len();
+    write!(writer, "ok export {len}\n")?;
+    writer.write_all(book)
+}
+
+// How many digits a number has.
+fn digits_of(number: u32) -> u64
+    ensures value { result ≡ length (decimal number) }
+    ensures bound { result ≤ 10 }
+{
+    let mut rest = number;
+    let mut digits = 1;
+    while rest >= 10 {
+        rest /= 10;
+        digits += 1;
+    }
+    digits
+}
+
+fn write_refusal<W: Write>(writer: &mut W, refusal: Refusal) -> io::Result<()>
+    ensures { let bytes = refusal_bytes refusal in
+        OnOk result (Appends (W.contents writer.old) (W.contents writer.new) bytes) }
+{
+    match refusal {
+        Refusal::NoTune => writer.write_all(b"refused 1 NoTune\n"),
+        Refusal::BadTune { place, fault } => write_bad_tune(writer, place, fault),
+        Refusal::NotOne { count } => write!(writer, "refused 3 NotOne {count}\n"),
+        Refusal::Unknown { number } => write!(writer, "refused 4 Unknown {number}\n"),
+        Refusal::Stale { revision } => write!(writer, "refused 5 Stale {revision}\n"),
+        Refusal::Worn => writer.write_all(b"refused 6 Worn\n"),
+        Refusal::ArchiveFull => writer.write_all(b"refused 9 ArchiveFull\n"),
+        Refusal::NumbersSpent => writer.write_all(b"refused 10 NumbersSpent\n"),
+        Refusal::BookTooLong => writer.write_all(b"refused 19 BookTooLong\n"),
+        Refusal::OutOfMemory => writer.write_all(b"refused 21 OutOfMemory\n"),
+        Refusal::Device => writer.write_all(b"refused 22 Device\n"),
+        Refusal::Closed => writer.write_all(b"refused 23 Closed\n"),
+        Refusal::NotPlain => writer.write_all(b"refused 24 NotPlain\n"),
+    }
+}
+
+fn write_bad_tune<W: Write>(writer: &mut W, place: usize, fault: TuneFault) -> io::Result<()>
+    ensures { let bytes = refusal_bytes (Refusal.BadTune place fault) in
+        OnOk result (Appends (W.contents writer.old) (W.contents writer.new) bytes) }
+{
+    match fault {
+        TuneFault::NoKey => write!(writer, "refused 2 BadTune {place} NoKey\n"),
+        TuneFault::TooLong => write!(writer, "refused 2 BadTune {place} TooLong\n"),
+    }
+}

@@ -1,0 +1,82 @@
+-- Each command keeps the limits.
+use Rattle.std.proofs.Common.{◌≡◌, ℕ, ◌+◌, Bool, true, false, not, cond, ltb, List, [], ◌∷◌, length, Option, Some, None, Ok, Err, refl}
+use Rattle.std.specs.List.{AllByRecursion}
+use Rattle.std.proofs.lemmas.Bool.{ltb-false}
+use Rattle.abc_fields.specs.Lines.{lines_of}
+use Rattle.abc_fields.specs.Tunes.{tune_runs, IsTextWithin}
+use Rattle.abc_fields.specs.Books.{Texts, runs_answer, book_of_runs, book_answer, is_plain}
+use Rattle.abc_fields.specs.Limits.{longest_book}
+use Rattle.abc_fields.specs.declared.book.BookFault.TheVariants as fault
+use Rattle.abc_fields.proofs.BookLemmas.{TextsWithin, texts_within}
+use Rattle.tune_store.specs.State.{State, IsState, greatest}
+use Rattle.tune_store.specs.Step.{step, tune_at, with_texts, import_book, replace_book, delete_tune}
+use Rattle.tune_store.specs.Step.{show_tune}
+use Rattle.tune_store.specs.declared.tune.Tune.{Tune}
+use Rattle.tune_store.specs.Limits.{longest_text, most_tunes, greatest_number}
+use Rattle.tune_store.specs.declared.command.Command.{Command}
+use Rattle.tune_store.specs.declared.command.Command.TheVariants.{Import, Replace, Delete, Show, ExportAll}
+use Rattle.tune_store.specs.declared.command.Reply.{Reply}
+use Rattle.tune_store.specs.declared.command.Refusal.TheVariants.{ArchiveFull, NumbersSpent}
+use Rattle.tune_store.proofs.StateLemmas.{KeepsLimits, state_after_import, state_after_text, state_after_delete}
+
+-- THE TEXTS OF A BOOK
+-- the texts of runs of lines are within the length, where there are any
+runs_texts : (longest : ℕ) (book : List ℕ) (answer : Texts) → runs_answer longest 1 (tune_runs (lines_of book)) ≡ answer → TextsWithin longest answer
+runs_texts longest book (Ok texts) e = texts_within longest book texts e
+runs_texts longest book (Err why) e = tt
+
+-- a book is refused as a whole, or its texts are those of its runs
+book_texts : (longest : ℕ) (runs : List (List (List ℕ))) (long plain : Bool) → TextsWithin longest (runs_answer longest 1 runs)
+    → TextsWithin longest (cond long (Err fault.BookTooLong) (cond (not plain) (Err fault.NotPlain) (book_of_runs longest runs)))
+book_texts longest runs true plain within = tt
+book_texts longest runs false false within = tt
+book_texts longest [] false true within = tt
+book_texts longest (run ∷ runs) false true within = within
+
+-- the texts of a book are tune texts within the length
+book_within : (longest : ℕ) (book : List ℕ) → TextsWithin longest (book_answer longest book)
+book_within longest book = book_texts longest (tune_runs (lines_of book)) (ltb longest_book (length book)) (is_plain book) (runs_texts longest book _ refl)
+
+-- EACH COMMAND
+-- the two tests of an import let only texts through for which there is room
+import_tests : (state : State) (texts : List (List ℕ)) (reply : Reply) (full spent : Bool) → ltb most_tunes (length state.tunes + length texts) ≡ full
+    → ltb greatest_number (greatest state.tunes + length texts) ≡ spent
+    → IsState state → AllByRecursion (IsTextWithin longest_text) texts
+    → KeepsLimits (cond full (state, Err ArchiveFull) (cond spent (state, Err NumbersSpent) (with_texts state texts, Ok reply)))
+import_tests state texts reply true spent room numbers is within = is
+import_tests state texts reply false true room numbers is within = is
+import_tests state texts reply false false room numbers is within = state_after_import state.tunes texts is within (ltb-false _ _ room) (ltb-false _ _ numbers)
+
+-- an import keeps the limits, where the texts of its book are within the length
+import_limits : (state : State) (texts : Texts) → IsState state → TextsWithin longest_text texts → KeepsLimits (import_book state texts)
+import_limits state (Err why) is within = is
+import_limits state (Ok texts) is within =
+    import_tests state texts _ (ltb most_tunes (length state.tunes + length texts))
+    (ltb greatest_number (greatest state.tunes + length texts)) refl refl is within
+
+-- so does a replacement
+replace_limits : (state : State) (number revision : ℕ) (texts : Texts) → IsState state → TextsWithin longest_text texts
+    → KeepsLimits (replace_book state number revision texts)
+replace_limits state number revision (Err why) is within = is
+replace_limits state number revision (Ok []) is within = is
+replace_limits state number revision (Ok (text ∷ [])) is within = state_after_text state.tunes number revision text (tune_at number state.tunes) is within.0
+replace_limits state number revision (Ok (text ∷ next ∷ texts)) is within = is
+
+-- and a deletion
+delete_limits : (state : State) (number : ℕ) (found : Option Tune) → IsState state → KeepsLimits (delete_tune state number found)
+delete_limits state number None is = is
+delete_limits state number (Some tune) is = state_after_delete number state.tunes is
+
+-- and a look at a tune
+show_limits : (state : State) (number : ℕ) (found : Option Tune) → IsState state → KeepsLimits (show_tune state number found)
+show_limits state number None is = is
+show_limits state number (Some tune) is = is
+
+-- a state within the limits stays within them
+pub step_keeps_limits : (state : State) (command : Command) → IsState state → IsState (step state command).0
+step_keeps_limits state (Import book) is = import_limits state (book_answer longest_text book) is (book_within longest_text book)
+step_keeps_limits state (Replace number revision book) is =
+    replace_limits state number revision (book_answer longest_text book) is (book_within longest_text book)
+step_keeps_limits state (Delete number) is = delete_limits state number (tune_at number state.tunes) is
+step_keeps_limits state (Show number) is = show_limits state number (tune_at number state.tunes) is
+step_keeps_limits state ExportAll is = is
