@@ -5,7 +5,9 @@ use Rattle.tune_journal.specs.Pages.{changed, NamesAll}
 use Rattle.tune_journal.proofs.CallRuns.{run_since}
 use Rattle.tune_journal.proofs.Rests.{rest_leaves}
 use Rattle.tune_journal.proofs.Changed.{length-changed}
-use Rattle.tune_journal.proofs.Frame.{stands_logging, logged_after, after_same, length-pages_of}
+use Rattle.tune_journal.proofs.AfterParts.{logged_after, after_same}
+use Rattle.tune_journal.proofs.Agreeing.{length-pages_of}
+use Rattle.tune_journal.proofs.Standing.{stands_logging}
 use Rattle.tune_journal.proofs.journal.Journal.log.Goals as goal
 
 pub invariant_of-result : goal.invariant_of-result

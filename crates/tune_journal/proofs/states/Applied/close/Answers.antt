@@ -4,7 +4,9 @@ use Rattle.tune_journal.specs.Inside.Phases.{IsOutside}
 use Rattle.tune_journal.specs.Layout.{gate_offset}
 use Rattle.tune_journal.proofs.CallRuns.{run_since}
 use Rattle.tune_journal.proofs.Rests.{rest_leaves}
-use Rattle.tune_journal.proofs.Frame.{stands_closing, closed_after, gate_written, length-pages_of}
+use Rattle.tune_journal.proofs.AfterParts.{closed_after}
+use Rattle.tune_journal.proofs.Agreeing.{gate_written, length-pages_of}
+use Rattle.tune_journal.proofs.Standing.{stands_closing}
 use Rattle.tune_journal.proofs.states.Applied.close.Goals as goal
 
 pub invariant_of-result : goal.invariant_of-result

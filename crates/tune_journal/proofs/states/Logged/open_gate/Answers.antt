@@ -7,7 +7,9 @@ use Rattle.tune_journal.specs.Pages.{changed}
 use Rattle.tune_journal.proofs.CallRuns.{run_since}
 use Rattle.tune_journal.proofs.Rests.{opened_leaves}
 use Rattle.tune_journal.proofs.Changed.{length-changed}
-use Rattle.tune_journal.proofs.Frame.{stands_opening, opened_after, gate_written, length-pages_of}
+use Rattle.tune_journal.proofs.AfterParts.{opened_after}
+use Rattle.tune_journal.proofs.Agreeing.{gate_written, length-pages_of}
+use Rattle.tune_journal.proofs.Standing.{stands_opening}
 use Rattle.tune_journal.proofs.states.Logged.open_gate.Goals as goal
 
 pub invariant_of-result : goal.invariant_of-result
