@@ -40,8 +40,8 @@ pub(crate) fn hand_back<D: Disk>(disk: D, why: OpenFault) -> Refused<D>
     Refused { disk, why }
 }
 
-/// The disk of a journal on which a call of a commit failed. It stands for the pages from before the
-/// commit or for those from after it, and is to be opened again.
+/// The disk of a journal on which a call of a commit failed. It stands for the pages from before
+/// the commit or for those from after it, and is to be opened again.
 #[derive(Drop)]
 pub struct Broken<D: Disk> {
     /// The disk of the journal.
