@@ -9,6 +9,7 @@ mod Changed
 mod Loops
 mod Making
 mod Openings
+mod PartsSince
 mod Recovery
 mod Rests
 mod Standing
