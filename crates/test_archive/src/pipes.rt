@@ -4,8 +4,8 @@ use std::io;
 use std::io::{Read, Write};
 use std::process::Abort;
 use std::test::Fail;
-use tune_store::{Command, ListArchive, Refusal, Reply, TuneStore};
 use tune_cli::{Action, RunEnd, act, run};
+use tune_store::{Command, ListArchive, Refusal, Reply, TuneStore};
 
 // Gives its text byte by byte, and no byte of a line before as many replies were flushed as there are lines before it.
 #[derive(Drop)]
