@@ -1,4 +1,4 @@
--- Images that are put in their places behind an open gate: those of a commit, or those of the log.
+-- Images that are put into their pages behind an open gate: those of a commit, or those of the log.
 use Rattle.std.proofs.Common.{◌≡◌, ℕ, List, length, sym, ◌∙◌, ap, subst, Result}
 use Rattle.tune_disk.specs.Disk.{DiskState}
 use Rattle.tune_disk.specs.Stops.{SinceThen}

@@ -1,5 +1,6 @@
--- What files stand for that agree with a file but for some places.
-use Rattle.std.proofs.Common.{◌≡◌, ◌≢◌, ◌⊎◌, inl, inr, ℕ, suc, ◌+◌, ◌-◌, ◌*◌, ◌^◌, ◌<◌, ◌≤◌, List, [], ◌∷◌, ◌++◌, length, get_or, take, drop, replicate, All, refl, sym, ◌∙◌, ap, subst, arith}
+-- What files stand for that agree with a file but for some bytes.
+use Rattle.std.proofs.Common.{◌≡◌, ◌≢◌, ◌⊎◌, inl, inr, ℕ, suc, ◌+◌, ◌-◌, ◌*◌, ◌^◌, ◌<◌, ◌≤◌, List, [], ◌∷◌, ◌++◌, length, get_or, take, drop, replicate, All}
+use Rattle.std.proofs.Common.{refl, sym, ◌∙◌, ap, subst, arith}
 use Rattle.byteorder.specs.Endian.{big_bytes, big_number}
 use Rattle.std.proofs.lemmas.List.{take-take, drop-take, drop-drop, same_lists, get_or_default, length-append, length-replicate, get_or_append_left}
 use Rattle.std.proofs.lemmas.List.FromFn.{length-map-range_with_len, get_or-map-range_with_len}
@@ -10,10 +11,12 @@ use Rattle.tune_disk.specs.Disk.{DiskState, Written, Shows}
 use Rattle.tune_disk.specs.Inside.Spares.{Agrees}
 use Rattle.tune_disk.proofs.Writes.{written_long}
 use Rattle.tune_journal.specs.ChangeList.{change_at}
-use Rattle.tune_journal.specs.Image.{window, number, page_offset, entry_offset, pages_of, entries, count_of, new_count_of, log_of, gate_of, IsLog, IsHeaded, HasPageCount, HasLog, StandsFor, StandsForEither, entry_count_of}
+use Rattle.tune_journal.specs.Image.{window, number, page_offset, entry_offset, pages_of, entries, count_of, new_count_of, log_of, gate_of, IsLog, IsHeaded}
+use Rattle.tune_journal.specs.Image.{HasPageCount, HasLog, StandsFor, StandsForEither, entry_count_of}
 use Rattle.tune_journal.specs.Inside.Phases.{KeepsBoth, IsNoLog, IsOutside, IsInNoPage, HoldsEntries, HoldsDescriptor, Settles}
 use Rattle.tune_journal.specs.Inside.Rest.{IsAtRest, IsLogged, IsOpened, IsApplied}
-use Rattle.tune_journal.specs.Layout.{block_bytes, gate_offset, gate_open, descriptor_offset, entry_count_offset, count_offset, pages_offset, entry_bytes, most_pages}
+use Rattle.tune_journal.specs.Layout.{block_bytes, gate_offset, gate_open, descriptor_offset, entry_count_offset, count_offset, pages_offset, entry_bytes}
+use Rattle.tune_journal.specs.Layout.{most_pages}
 use Rattle.tune_journal.specs.Pages.{changed, NamesAll}
 use Rattle.tune_journal.proofs.Windows.{same_window, front_window, back_window, shows_window}
 use Rattle.tune_journal.proofs.Changed.{Unnamed, changed_same, changed-changed}
@@ -34,7 +37,8 @@ module _ (Kept : ℕ → Type 0) (f c : List ℕ) (agrees : Agrees Kept f c) whe
   pub agree_number : (at : ℕ) → at + 4 ≤ length f → ((i : ℕ) → at ≤ i → i < at + 4 → Kept i) → number at c ≡ number at f
   agree_number at long kept = number_same at f c (agree_window at 4 long kept)
 
-  pub agree_page : (n p : ℕ) (d : List ℕ) → p < n → page_offset n ≤ length f → ((i : ℕ) → page_offset p ≤ i → i < page_offset p + block_bytes → Kept i) → get_or (pages_of n c) p d ≡ get_or (pages_of n f) p d
+  pub agree_page : (n p : ℕ) (d : List ℕ) → p < n → page_offset n ≤ length f → ((i : ℕ) → page_offset p ≤ i → i < page_offset p + block_bytes → Kept i)
+      → get_or (pages_of n c) p d ≡ get_or (pages_of n f) p d
   unfolding pages_of
   agree_page n p d lt long kept =
       get_or-map-range_with_len (λ q. window (page_offset q) block_bytes c) 0 n p p d lt (omega arith)
@@ -53,17 +57,20 @@ pub length-entries : (m k : ℕ) (f : List ℕ) → length (entries m k f) ≡ k
 unfolding entries
 length-entries m k f = length-map-range_with_len (λ i. (number (entry_offset m i) f, window (entry_offset m i + 4) block_bytes f)) 0 k
 
-pub entries_at : (m k i : ℕ) (f : List ℕ) (d : ℕ × List ℕ) → i < k → get_or (entries m k f) i d ≡ (number (entry_offset m i) f, window (entry_offset m i + 4) block_bytes f)
+pub entries_at : (m k i : ℕ) (f : List ℕ) (d : ℕ × List ℕ) → i < k
+    → get_or (entries m k f) i d ≡ (number (entry_offset m i) f, window (entry_offset m i + 4) block_bytes f)
 unfolding entries
 entries_at m k i f d lt = get_or-map-range_with_len (λ i. (number (entry_offset m i) f, window (entry_offset m i + 4) block_bytes f)) 0 k i i d lt (omega arith)
 
 module _ (Kept : ℕ → Type 0) (f c : List ℕ) (agrees : Agrees Kept f c) where
   pub agree_pages_of : (n : ℕ) → page_offset n ≤ length f → ((i : ℕ) → pages_offset ≤ i → i < page_offset n → Kept i) → pages_of n c ≡ pages_of n f
   agree_pages_of n long kept = same_lists (pages_of n c) (pages_of n f) (length-pages_of n c ∙ sym (length-pages_of n f))
-      (λ p d lt. agree_page Kept f c agrees n p d (omega (arith, length-pages_of n c)) long (λ i le lt'. kept i (omega arith) (omega (arith, lt, length-pages_of n c))))
+      (λ p d lt. agree_page Kept f c agrees n p d (omega (arith, length-pages_of n c)) long
+      (λ i le lt'. kept i (omega arith) (omega (arith, lt, length-pages_of n c))))
 
   pub agree_entries : (m k : ℕ) → entry_offset m k ≤ length f → ((i : ℕ) → entry_offset m 0 ≤ i → i < entry_offset m k → Kept i) → entries m k c ≡ entries m k f
-  agree_entries m k long kept = same_lists (entries m k c) (entries m k f) (length-entries m k c ∙ sym (length-entries m k f)) (λ i d lt. each i d (omega (arith, length-entries m k c)))
+  agree_entries m k long kept =
+      same_lists (entries m k c) (entries m k f) (length-entries m k c ∙ sym (length-entries m k f)) (λ i d lt. each i d (omega (arith, length-entries m k c)))
     where
       each : (i : ℕ) (d : ℕ × List ℕ) → i < k → get_or (entries m k c) i d ≡ get_or (entries m k f) i d
       each i d lt =
@@ -91,14 +98,16 @@ module _ (Kept : ℕ → Type 0) (f c : List ℕ) (agrees : Agrees Kept f c) whe
   }
 
 -- Pages and counts as a file's gate has them.
-pub stands_closed : (n : ℕ) (f c : List ℕ) → IsHeaded c → gate_of c ≢ gate_open → count_of c ≡ n → HasPageCount n c → pages_of n c ≡ pages_of n f → StandsFor (pages_of n f) c
+pub stands_closed : (n : ℕ) (f c : List ℕ) → IsHeaded c → gate_of c ≢ gate_open → count_of c ≡ n → HasPageCount n c → pages_of n c ≡ pages_of n f
+    → StandsFor (pages_of n f) c
 stands_closed n f c headed shut count has pages = record {
   headed = headed;
   is_closed = λ _. (subst (λ (m : ℕ). HasPageCount m c) (sym count) has, sym pages ∙ ap (λ (m : ℕ). pages_of m c) (sym count));
   is_open = λ is. absurd (shut is);
 }
 
-stands_open : (pages : List (List ℕ)) (m k : ℕ) (c : List ℕ) → IsHeaded c → gate_of c ≡ gate_open → new_count_of c ≡ m → entry_count_of c ≡ k → HasLog m k c → pages ≡ changed (pages_of m c) (entries m k c) → StandsFor pages c
+stands_open : (pages : List (List ℕ)) (m k : ℕ) (c : List ℕ) → IsHeaded c → gate_of c ≡ gate_open → new_count_of c ≡ m → entry_count_of c ≡ k → HasLog m k c
+    → pages ≡ changed (pages_of m c) (entries m k c) → StandsFor pages c
 stands_open pages m k c headed is new_count size has are = record {
   headed = headed;
   is_closed = λ shut. absurd (shut is);
@@ -120,7 +129,8 @@ stands_logging n m s rest le c agrees =
     (agree_pages_of (IsNoLog m) f c agrees n rest.pages.long (λ i le' lt. inr (omega arith, omega arith)))
 
 -- while the gate is opened
-pub stands_opening : (n m : ℕ) (s : DiskState) → IsLogged n m s → (c : List ℕ) → Agrees (IsOutside gate_offset 1) s.seen c → StandsForEither (pages_of n s.seen) (changed (pages_of m s.seen) (log_of s.seen)) c
+pub stands_opening : (n m : ℕ) (s : DiskState) → IsLogged n m s → (c : List ℕ) → Agrees (IsOutside gate_offset 1) s.seen c
+    → StandsForEither (pages_of n s.seen) (changed (pages_of m s.seen) (log_of s.seen)) c
 stands_opening n m s logged c agrees = elim (cases_eq (gate_of c) gate_open) [
   | inl is ↦ inr (stands_open _ m k c headed is
       (agree_number (IsOutside gate_offset 1) f c agrees descriptor_offset (omega (arith, rest.headed.long)) (λ i le lt. inr (omega arith)) ∙ logged.new_count)
@@ -146,9 +156,11 @@ stands_opening n m s logged c agrees = elim (cases_eq (gate_of c) gate_open) [
     headed = agree_headed (IsOutside gate_offset 1) s.seen c agrees logged.rest.headed (λ i lt. inl (omega arith))
 
     log_is : log_of s.seen ≡ entries m (entry_count_of s.seen) c
-    log_is = ap (λ (m' : ℕ). entries m' (entry_count_of s.seen) s.seen) logged.new_count ∙ sym (agree_entries (IsOutside gate_offset 1) s.seen c agrees m (entry_count_of s.seen) logged.log.long (λ i le lt. inr (omega arith)))
+    log_is =
+        ap (λ (m' : ℕ). entries m' (entry_count_of s.seen) s.seen) logged.new_count
+        ∙ sym (agree_entries (IsOutside gate_offset 1) s.seen c agrees m (entry_count_of s.seen) logged.log.long (λ i le lt. inr (omega arith)))
 
--- places in front of the pages and behind m of them are in no page that a log below m names
+-- offsets in front of the pages and behind m of them are in no page that a log below m names
 pub in_no_page : (m i : ℕ) (log : List (ℕ × List ℕ)) → All (λ e. e.0 < m) log → (i < pages_offset) ⊎ (page_offset m ≤ i) → IsInNoPage log i
 in_no_page m i [] below out = tt
 in_no_page m i (e ∷ log) below out = (apart out, in_no_page m i log (All-tail (λ (x : ℕ × List ℕ). x.0 < m) e log below) out)
@@ -189,10 +201,13 @@ module _ (m : ℕ) (s : DiskState) (opened : IsOpened m s) (c : List ℕ) (agree
   applying_gate = agree_gate Kept s.seen c agrees opened.headed (off gate_offset (inl (omega arith)) (inl (omega arith))) ∙ opened.gate
 
   applying_new_count : new_count_of c ≡ m
-  applying_new_count = agree_number Kept s.seen c agrees descriptor_offset (omega (arith, opened.headed.long)) (λ i le lt. off i (inl (omega arith)) (inl (omega arith))) ∙ opened.new_count
+  applying_new_count =
+      agree_number Kept s.seen c agrees descriptor_offset (omega (arith, opened.headed.long)) (λ i le lt. off i (inl (omega arith)) (inl (omega arith)))
+      ∙ opened.new_count
 
   applying_size : entry_count_of c ≡ entry_count_of s.seen
-  applying_size = agree_number Kept s.seen c agrees entry_count_offset (omega (arith, opened.headed.long)) (λ i le lt. off i (inl (omega arith)) (inl (omega arith)))
+  applying_size =
+      agree_number Kept s.seen c agrees entry_count_offset (omega (arith, opened.headed.long)) (λ i le lt. off i (inl (omega arith)) (inl (omega arith)))
 
   behind : (i : ℕ) → entry_offset m 0 ≤ i → Kept i
   behind i le = off i (inr (omega arith)) (inr (omega arith))
@@ -209,9 +224,10 @@ module _ (m : ℕ) (s : DiskState) (opened : IsOpened m s) (c : List ℕ) (agree
       (λ p d lt un. agree_page Kept s.seen c agrees m p d (omega (arith, length-pages_of m c)) opened.log.count.long
       (λ i le lt'. (unnamed_outside p i log un le lt', inr (omega arith))))
 
-  -- while the images are put in their places
+  -- while the images are put into their pages
   pub stands_applying : StandsFor (changed (pages_of m s.seen) log) c
-  stands_applying = stands_open (changed (pages_of m s.seen) log) m (entry_count_of s.seen) c applying_headed applying_gate applying_new_count applying_size applying_log
+  stands_applying =
+      stands_open (changed (pages_of m s.seen) log) m (entry_count_of s.seen) c applying_headed applying_gate applying_new_count applying_size applying_log
       (sym applying_pages ∙ ap (changed (pages_of m c)) (sym applying_entries))
 
 pub log_same : (m : ℕ) (f : List ℕ) → new_count_of f ≡ m → log_of f ≡ entries m (entry_count_of f) f
@@ -221,7 +237,8 @@ log_same m f is = ap (λ (m' : ℕ). entries m' (entry_count_of f) f) is
 pub stands_closing : (m : ℕ) (s : DiskState) → IsApplied m s → (c : List ℕ) → Agrees (IsOutside gate_offset 1) s.seen c → StandsFor (pages_of m s.seen) c
 stands_closing m s applied c agrees = elim (cases_eq (gate_of c) gate_open) [
   | inl is ↦ stands_open (pages_of m s.seen) m (entry_count_of s.seen) c headed is
-      (agree_number (IsOutside gate_offset 1) s.seen c agrees descriptor_offset (omega (arith, opened.headed.long)) (λ i le lt. inr (omega arith)) ∙ opened.new_count)
+      (agree_number (IsOutside gate_offset 1) s.seen c agrees descriptor_offset (omega (arith, opened.headed.long)) (λ i le lt. inr (omega arith))
+      ∙ opened.new_count)
       (agree_number (IsOutside gate_offset 1) s.seen c agrees entry_count_offset (omega (arith, opened.headed.long)) (λ i le lt. inr (omega arith)))
       (agree_log (IsOutside gate_offset 1) s.seen c agrees m (entry_count_of s.seen) opened.log (λ i le lt. inr (omega arith)))
       (applied.pages ∙ (λ t. changed (sym pages t) (log_is t)))
@@ -241,27 +258,34 @@ stands_closing m s applied c agrees = elim (cases_eq (gate_of c) gate_open) [
     pages = agree_pages_of (IsOutside gate_offset 1) s.seen c agrees m applied.opened.log.count.long (λ i le lt. inr (omega arith))
 
     log_is : log_of s.seen ≡ entries m (entry_count_of s.seen) c
-    log_is = log_same m s.seen applied.opened.new_count ∙ sym (agree_entries (IsOutside gate_offset 1) s.seen c agrees m (entry_count_of s.seen) applied.opened.log.long (λ i le lt. inr (omega arith)))
+    log_is =
+        log_same m s.seen applied.opened.new_count
+        ∙ sym (agree_entries (IsOutside gate_offset 1) s.seen c agrees m (entry_count_of s.seen) applied.opened.log.long (λ i le lt. inr (omega arith)))
 
 -- the states after each part
 
 -- what stands in the log is what was written there
-pub entries_written : (m : ℕ) (log : List (ℕ × List ℕ)) (f : List ℕ) → m ≤ most_pages → All (λ e. e.0 < m) log → HoldsEntries (entry_offset m 0) log (length log) f → entries m (length log) f ≡ log
-entries_written m log f most below held = same_lists (entries m (length log) f) log (length-entries m (length log) f) (λ i d lt. each i d (omega (arith, length-entries m (length log) f)))
+pub entries_written : (m : ℕ) (log : List (ℕ × List ℕ)) (f : List ℕ) → m ≤ most_pages → All (λ e. e.0 < m) log
+    → HoldsEntries (entry_offset m 0) log (length log) f → entries m (length log) f ≡ log
+entries_written m log f most below held =
+    same_lists (entries m (length log) f) log (length-entries m (length log) f) (λ i d lt. each i d (omega (arith, length-entries m (length log) f)))
   where
     each : (i : ℕ) (d : ℕ × List ℕ) → i < length log → get_or (entries m (length log) f) i d ≡ get_or log i d
     each i d lt =
         let h = held i lt in
         let e : ℕ × List ℕ = change_at log i in
         let at : entry_offset m 0 + entry_bytes * i ≡ entry_offset m i = omega arith in
-        let both : window (entry_offset m i) entry_bytes f ≡ big_bytes 4 e.0 ++ e.1 = subst (λ (a : ℕ). window a entry_bytes f ≡ big_bytes 4 e.0 ++ e.1) at h.0 in
+        let both : window (entry_offset m i) entry_bytes f ≡ big_bytes 4 e.0 ++ e.1 =
+        subst (λ (a : ℕ). window a entry_bytes f ≡ big_bytes 4 e.0 ++ e.1) at h.0 in
         let low : e.0 < m = All-get_or (λ (x : ℕ × List ℕ). x.0 < m) log i (0, []) lt below in
-        let page : number (entry_offset m i) f ≡ e.0 = number_is (entry_offset m i) e.0 f (omega arith) (front_window (entry_offset m i) 4 block_bytes f (big_bytes 4 e.0) e.1 both refl) in
+        let page : number (entry_offset m i) f ≡ e.0 =
+        number_is (entry_offset m i) e.0 f (omega arith) (front_window (entry_offset m i) 4 block_bytes f (big_bytes 4 e.0) e.1 both refl) in
         let image : window (entry_offset m i + 4) block_bytes f ≡ e.1 = back_window (entry_offset m i) 4 block_bytes f (big_bytes 4 e.0) e.1 both refl in
         entries_at m (length log) i f d lt ∙ (λ t. (page t, image t)) ∙ get_or_default log i (0, []) d lt
 
 module _ (n m : ℕ) (old new : DiskState) (log : List (ℕ × List ℕ)) (rest : IsAtRest n old) (le : n ≤ m) (most : m ≤ most_pages) (is_log : IsLog m log)
-    (ran : Settles (IsNoLog m) old new) (held : HoldsEntries (entry_offset m 0) log (length log) new.seen) (descriptor : HoldsDescriptor m (length log) new.seen) where
+    (ran : Settles (IsNoLog m) old new) (held : HoldsEntries (entry_offset m 0) log (length log) new.seen) (descriptor : HoldsDescriptor m
+    (length log) new.seen) where
   agrees : Agrees (IsNoLog m) old.seen new.seen
   agrees = settles_agrees (IsNoLog m) old new ran
 
@@ -273,15 +297,21 @@ module _ (n m : ℕ) (old new : DiskState) (log : List (ℕ × List ℕ)) (rest 
     settled = settles_settled (IsNoLog m) old new ran;
     headed = agree_headed (IsNoLog m) old.seen new.seen agrees rest.headed (λ i lt. inl (omega arith));
     gate = λ is. rest.gate (sym (agree_gate (IsNoLog m) old.seen new.seen agrees rest.headed (inl (omega arith))) ∙ is);
-    count = agree_number (IsNoLog m) old.seen new.seen agrees count_offset (omega (arith, rest.headed.long)) (λ i le' lt. inr (omega arith, omega arith)) ∙ rest.count;
+    count =
+        agree_number (IsNoLog m) old.seen new.seen agrees count_offset (omega (arith, rest.headed.long)) (λ i le' lt. inr (omega arith, omega arith))
+        ∙ rest.count;
     pages = agree_count (IsNoLog m) old.seen new.seen agrees n rest.pages;
   }
 
   new_count : new_count_of new.seen ≡ m
-  new_count = number_is descriptor_offset m new.seen (omega arith) (front_window descriptor_offset 4 4 new.seen (big_bytes 4 m) (big_bytes 4 (length log)) descriptor.0 refl)
+  new_count =
+      number_is descriptor_offset m new.seen (omega arith)
+      (front_window descriptor_offset 4 4 new.seen (big_bytes 4 m) (big_bytes 4 (length log)) descriptor.0 refl)
 
   size : entry_count_of new.seen ≡ length log
-  size = number_is entry_count_offset (length log) new.seen (omega (arith, is_log.few)) (back_window descriptor_offset 4 4 new.seen (big_bytes 4 m) (big_bytes 4 (length log)) descriptor.0 refl)
+  size =
+      number_is entry_count_offset (length log) new.seen (omega (arith, is_log.few))
+      (back_window descriptor_offset 4 4 new.seen (big_bytes 4 m) (big_bytes 4 (length log)) descriptor.0 refl)
 
   logged_entries : entries m (length log) new.seen ≡ log
   logged_entries = entries_written m log new.seen most is_log.below held
@@ -310,8 +340,11 @@ opened_after n m old new logged ran is =
     let Kept = IsOutside gate_offset 1 in
     let agrees = settles_agrees Kept old new ran in
     let k : ℕ = entry_count_of old.seen in
-    let size : entry_count_of new.seen ≡ k = agree_number Kept old.seen new.seen agrees entry_count_offset (omega (arith, logged.rest.headed.long)) (λ i le lt. inr (omega arith)) in
-    let new_count : new_count_of new.seen ≡ m = agree_number Kept old.seen new.seen agrees descriptor_offset (omega (arith, logged.rest.headed.long)) (λ i le lt. inr (omega arith)) ∙ logged.new_count in
+    let size : entry_count_of new.seen ≡ k =
+    agree_number Kept old.seen new.seen agrees entry_count_offset (omega (arith, logged.rest.headed.long)) (λ i le lt. inr (omega arith)) in
+    let new_count : new_count_of new.seen ≡ m =
+    agree_number Kept old.seen new.seen agrees descriptor_offset (omega (arith, logged.rest.headed.long)) (λ i le lt. inr (omega arith))
+    ∙ logged.new_count in
     let same : entries m k new.seen ≡ entries m k old.seen = agree_entries Kept old.seen new.seen agrees m k logged.log.long (λ i le lt. inr (omega arith)) in (
       record {
         settled = settles_settled Kept old new ran;
@@ -324,14 +357,16 @@ opened_after n m old new logged ran is =
       agree_pages_of Kept old.seen new.seen agrees m logged.log.count.long (λ i le lt. inr (omega arith)),
     )
 
-pub applied_after : (m : ℕ) (old new : DiskState) → (opened : IsOpened m old) → Settles (KeepsBoth (entries m (entry_count_of old.seen) old.seen)) old new → count_of new.seen ≡ m
+pub applied_after : (m : ℕ) (old new : DiskState) → (opened : IsOpened m old) → Settles (KeepsBoth (entries m (entry_count_of old.seen) old.seen)) old new
+    → count_of new.seen ≡ m
     → pages_of m new.seen ≡ changed (pages_of m old.seen) (log_of old.seen) → IsApplied m new
 applied_after m old new opened ran count pages =
     let Kept = KeepsBoth (entries m (entry_count_of old.seen) old.seen) in
     let agrees = settles_agrees Kept old new ran in
     let new_count = applying_new_count m old opened new.seen agrees in
     let size = applying_size m old opened new.seen agrees in
-    let same : log_of new.seen ≡ log_of old.seen = (λ t. entries (new_count t) (size t) new.seen) ∙ applying_entries m old opened new.seen agrees ∙ sym (log_same m old.seen opened.new_count) in
+    let same : log_of new.seen ≡ log_of old.seen =
+    (λ t. entries (new_count t) (size t) new.seen) ∙ applying_entries m old opened new.seen agrees ∙ sym (log_same m old.seen opened.new_count) in
     record {
       opened = record {
         settled = settles_settled Kept old new ran;
@@ -344,7 +379,8 @@ applied_after m old new opened ran count pages =
       pages = pages ∙ sym (changed-changed (pages_of m old.seen) (log_of old.seen)) ∙ (λ t. changed (sym pages t) (sym same t));
     }
 
-pub closed_after : (m : ℕ) (old new : DiskState) → IsApplied m old → Settles (IsOutside gate_offset 1) old new → gate_of new.seen ≡ 0 → IsAtRest m new × (pages_of m new.seen ≡ pages_of m old.seen)
+pub closed_after : (m : ℕ) (old new : DiskState) → IsApplied m old → Settles (IsOutside gate_offset 1) old new → gate_of new.seen ≡ 0
+    → IsAtRest m new × (pages_of m new.seen ≡ pages_of m old.seen)
 closed_after m old new applied ran is =
     let Kept = IsOutside gate_offset 1 in
     let agrees = settles_agrees Kept old new ran in
@@ -362,7 +398,7 @@ closed_after m old new applied ran is =
 pub written_agrees : (at : ℕ) (bytes old new : List ℕ) → 0 < length bytes → Written at bytes old new → Agrees (IsOutside at (length bytes)) old new
 written_agrees at bytes old new some w = record { longer = omega (arith, written_long at bytes old new w some); same = λ i lt out. w.outside i out }
 
--- new pages are all named, so what stood in their places does not count
+-- new pages are all named, so what stood at their offsets does not count
 pub after_same : (n m : ℕ) (old new : List ℕ) (log : List (ℕ × List ℕ)) → n ≤ m → NamesAll n m log → pages_of n new ≡ pages_of n old
     → changed (pages_of m new) log ≡ changed (pages_of n old ++ replicate (m - length (pages_of n old)) []) log
 after_same n m old new log le names same = changed_same (pages_of m new) (before ++ replicate (m - length before) []) log sizes each
@@ -379,7 +415,8 @@ after_same n m old new log le names same = changed_same (pages_of m new) (before
     front : (p : ℕ) (d : List ℕ) → p < n → get_or (pages_of m new) p d ≡ get_or (pages_of n old) p d
     front p d lt = pages_of_at m p new d (omega arith) ∙ sym (pages_of_at n p new d lt) ∙ ap (λ (l : List (List ℕ)). get_or l p d) same
 
-    each : (p : ℕ) (d : List ℕ) → p < length (pages_of m new) → Unnamed log p → get_or (pages_of m new) p d ≡ get_or (before ++ replicate (m - length before) []) p d
+    each : (p : ℕ) (d : List ℕ) → p < length (pages_of m new) → Unnamed log p
+        → get_or (pages_of m new) p d ≡ get_or (before ++ replicate (m - length before) []) p d
     each p d lt un = elim (cases_lt p n) [
       | inl low ↦ front p d low ∙ sym (get_or_append_left before (replicate (m - length before) []) d p (omega (arith, size)))
       | inr high ↦ (let it = names p high (omega (arith, length-pages_of m new)) in absurd (un it.0 it.1 it.2))
@@ -388,18 +425,26 @@ after_same n m old new log le names same = changed_same (pages_of m new) (before
 pub gate_written : (gate : ℕ) (old new : List ℕ) → Written gate_offset (gate ∷ []) old new → gate_of new ≡ gate
 gate_written gate old new w = w.inside 0 (omega arith)
 
-pub number_shown : (at n : ℕ) (bytes file : List ℕ) → length bytes ≡ 4 → Shows file at bytes → at + 4 ≤ length file → n ≡ big_number 4 bytes → n ≡ number at file
+pub number_shown : (at n : ℕ) (bytes file : List ℕ) → length bytes ≡ 4 → Shows file at bytes → at + 4 ≤ length file → n ≡ big_number 4 bytes
+    → n ≡ number at file
 unfolding number
-number_shown at n bytes file size shows long is = is ∙ ap (big_number 4) (shows_window at bytes file shows (omega arith) ∙ ap (λ (k : ℕ). window at k file) size)
+number_shown at n bytes file size shows long is =
+    is ∙ ap (big_number 4) (shows_window at bytes file shows (omega arith) ∙ ap (λ (k : ℕ). window at k file) size)
 
 -- an entry that was read, by its parts
-pub entry_shown : (at : ℕ) (bytes file : List ℕ) → length bytes ≡ entry_bytes → Shows file at bytes → at + entry_bytes ≤ length file → bytes ≡ window at (4 + block_bytes) file
+pub entry_shown : (at : ℕ) (bytes file : List ℕ) → length bytes ≡ entry_bytes → Shows file at bytes → at + entry_bytes ≤ length file
+    → bytes ≡ window at (4 + block_bytes) file
 entry_shown at bytes file size shows long = shows_window at bytes file shows (omega arith) ∙ ap (λ (k : ℕ). window at k file) size
 
-pub number_of_entry : (at n : ℕ) (bytes file : List ℕ) → length bytes ≡ entry_bytes → Shows file at bytes → at + entry_bytes ≤ length file → n ≡ big_number 4 (take 4 bytes) → n ≡ number at file
+pub number_of_entry : (at n : ℕ) (bytes file : List ℕ) → length bytes ≡ entry_bytes → Shows file at bytes → at + entry_bytes ≤ length file
+    → n ≡ big_number 4 (take 4 bytes) → n ≡ number at file
 unfolding number
-number_of_entry at n bytes file size shows long is = is ∙ ap (big_number 4) (ap (λ (l : List ℕ). take 4 l) (entry_shown at bytes file size shows long) ∙ take-take 4 (4 + block_bytes) (drop at file) (omega arith))
+number_of_entry at n bytes file size shows long is =
+    is ∙ ap (big_number 4)
+    (ap (λ (l : List ℕ). take 4 l) (entry_shown at bytes file size shows long) ∙ take-take 4 (4 + block_bytes) (drop at file) (omega arith))
 
-pub image_of_entry : (at : ℕ) (bytes file : List ℕ) → length bytes ≡ entry_bytes → Shows file at bytes → at + entry_bytes ≤ length file → drop 4 bytes ≡ window (at + 4) block_bytes file
+pub image_of_entry : (at : ℕ) (bytes file : List ℕ) → length bytes ≡ entry_bytes → Shows file at bytes → at + entry_bytes ≤ length file
+    → drop 4 bytes ≡ window (at + 4) block_bytes file
 image_of_entry at bytes file size shows long =
-    ap (λ (l : List ℕ). drop 4 l) (entry_shown at bytes file size shows long) ∙ drop-take 4 block_bytes (drop at file) ∙ ap (λ (l : List ℕ). take block_bytes l) (drop-drop 4 at file)
+    ap (λ (l : List ℕ). drop 4 l) (entry_shown at bytes file size shows long) ∙ drop-take 4 block_bytes (drop at file)
+    ∙ ap (λ (l : List ℕ). take block_bytes l) (drop-drop 4 at file)

@@ -47,12 +47,14 @@ import_tests state texts reply true spent room numbers is within = is
 import_tests state texts reply false true room numbers is within = is
 import_tests state texts reply false false room numbers is within = state_after_import state.tunes texts is within (ltb-false _ _ room) (ltb-false _ _ numbers)
 
+-- an import keeps the limits, where the texts of its book are within the length
 import_limits : (state : State) (texts : Texts) → IsState state → TextsWithin longest_text texts → KeepsLimits (import_book state texts)
 import_limits state (Err why) is within = is
 import_limits state (Ok texts) is within =
     import_tests state texts _ (ltb most_tunes (length state.tunes + length texts))
     (ltb greatest_number (greatest state.tunes + length texts)) refl refl is within
 
+-- so does a replacement
 replace_limits : (state : State) (number revision : ℕ) (texts : Texts) → IsState state → TextsWithin longest_text texts
     → KeepsLimits (replace_book state number revision texts)
 replace_limits state number revision (Err why) is within = is
@@ -60,10 +62,12 @@ replace_limits state number revision (Ok []) is within = is
 replace_limits state number revision (Ok (text ∷ [])) is within = state_after_text state.tunes number revision text (tune_at number state.tunes) is within.0
 replace_limits state number revision (Ok (text ∷ next ∷ texts)) is within = is
 
+-- and a deletion
 delete_limits : (state : State) (number : ℕ) (found : Option Tune) → IsState state → KeepsLimits (delete_tune state number found)
 delete_limits state number None is = is
 delete_limits state number (Some tune) is = state_after_delete number state.tunes is
 
+-- and a look at a tune
 show_limits : (state : State) (number : ℕ) (found : Option Tune) → IsState state → KeepsLimits (show_tune state number found)
 show_limits state number None is = is
 show_limits state number (Some tune) is = is

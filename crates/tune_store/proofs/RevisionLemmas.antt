@@ -38,6 +38,7 @@ RaisesOnOk number revision old outcome = IsTrue (is_ok outcome.1) → RaisesRevi
 abbrev revision : Option Tune → Option ℕ
 revision found = option_map (λ tune. tune.revision) found
 
+-- of a replacement's two tests the first lets only the current revision through
 replace_tests : (state : State) (number named : ℕ) (text : List ℕ) (tune : Tune) (current young : Bool) → tune_at number state.tunes ≡ Some tune
     → eqb tune.revision named ≡ current
     → RaisesOnOk number named state
@@ -50,12 +51,14 @@ replace_tests state number named text tune true true found test accepted =
     let later = tune_at-with_tune number (revised tune text) state.tunes (tune_at-number number state.tunes tune found) (ap is_some found) in
     record { named = ap revision found ∙ ap (λ r. Some r) e; raised = ap revision later ∙ ap (λ r. Some (r + 1)) e }
 
+-- a replacement of the tune that was found raises its revision, where it is accepted
 replace_found : (state : State) (number named : ℕ) (text : List ℕ) (found : Option Tune) → tune_at number state.tunes ≡ found
     → RaisesOnOk number named state (replace_tune state number named text found)
 replace_found state number named text None e accepted = cc
 replace_found state number named text (Some tune) e accepted =
     replace_tests state number named text tune (eqb tune.revision named) (ltb tune.revision greatest_revision) e refl accepted
 
+-- so does one by the texts of a book
 replace_raises : (state : State) (number named : ℕ) (texts : Texts) → RaisesOnOk number named state (replace_book state number named texts)
 replace_raises state number named (Err why) accepted = cc
 replace_raises state number named (Ok []) accepted = cc
@@ -67,6 +70,7 @@ pub accepted_replace_raises : (state : State) (number named : ℕ) (book : List 
 accepted_replace_raises state number named book = replace_raises state number named (book_answer longest_text book)
 
 -- ANY OTHER COMMAND
+-- an outcome that is a refusal leaves the state
 refused_outcome : (old : State) (outcome : Outcome) → KeepsOnErr old outcome → IsFalse (is_ok outcome.1) → outcome.0 ≡ old
 refused_outcome old (new, Ok reply) keeps refused = cc
 refused_outcome old (new, Err refusal) keeps refused = keeps refusal refl
@@ -86,12 +90,14 @@ two_tests_leave number old new true b x y reply same there = refl
 two_tests_leave number old new false true x y reply same there = refl
 two_tests_leave number old new false false x y reply same there = ap revision same
 
+-- an import leaves the revision of a tune that was there
 import_leaves : (state : State) (number : ℕ) (texts : Texts) → HasTune number state → LeavesRevision number state (import_book state texts)
 import_leaves state number (Err why) was there = refl
 import_leaves state number (Ok texts) was there =
     two_tests_leave number state (with_texts state texts) (ltb most_tunes (length state.tunes + length texts))
     (ltb greatest_number (greatest state.tunes + length texts)) _ _ _ (tune_at-append number state.tunes _ was) there
 
+-- a replacement of another tune that was found leaves it
 replace_found_leaves : (state : State) (number other named : ℕ) (text : List ℕ) (found : Option Tune) → (other ≡ number → ⊥) → tune_at other state.tunes ≡ found
     → LeavesRevision number state (replace_tune state other named text found)
 replace_found_leaves state number other named text None apart e there = refl
@@ -100,6 +106,7 @@ replace_found_leaves state number other named text (Some tune) apart e there =
     two_tests_leave number state record { tunes = with_tune (revised tune text) state.tunes } (not (eqb tune.revision named))
     (not (ltb tune.revision greatest_revision)) _ _ _ (tune_at-with_tune_other number (revised tune text) state.tunes ne) there
 
+-- so does one by the texts of a book
 replace_leaves : (state : State) (number other named : ℕ) (texts : Texts) → (other ≡ number → ⊥)
     → LeavesRevision number state (replace_book state other named texts)
 replace_leaves state number other named (Err why) apart there = refl
@@ -108,6 +115,7 @@ replace_leaves state number other named (Ok (text ∷ [])) apart there =
     replace_found_leaves state number other named text (tune_at other state.tunes) apart refl there
 replace_leaves state number other named (Ok (text ∷ next ∷ texts)) apart there = refl
 
+-- a deletion leaves it where the tune is there after it
 delete_leaves : (state : State) (number other : ℕ) (found : Option Tune) → IsState state → LeavesRevision number state (delete_tune state other found)
 delete_leaves state number other None is there = refl
 delete_leaves state number other (Some tune) is there = elim (cases_Bool (eqb other number)) [
@@ -120,6 +128,7 @@ delete_leaves state number other (Some tune) is there = elim (cases_Bool (eqb ot
   | inr differs ↦ ap revision (tune_at-without_other number other state.tunes (eqb-false other number differs))
 ]
 
+-- a look at a tune leaves it
 show_leaves : (state : State) (number other : ℕ) (found : Option Tune) → LeavesRevision number state (show_tune state other found)
 show_leaves state number other None there = refl
 show_leaves state number other (Some tune) there = refl
@@ -160,6 +169,7 @@ replaced_counts state number current (Delete deleted) accepted has = cc
 replaced_counts state number current (Show shown) accepted has = cc
 replaced_counts state number current ExportAll accepted has = cc
 
+-- one command raises the revision by one, or leaves it
 step_counts : (state : State) (number current : ℕ) (command : Command) → IsState state → revision_of number state ≡ Some current
     → HasTune number (step state command).0
     → revision_of number (step state command).0 ≡ Some (current + cond (replaces number state command) 1 0)

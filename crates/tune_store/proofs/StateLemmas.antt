@@ -23,6 +23,7 @@ greatest_last low (tune ∷ next ∷ tunes) (suc n) d rises l =
     let top : max tune.number (greatest (next ∷ tunes)) ≡ greatest (next ∷ tunes) = omega arith in
     top ∙ later
 
+-- the greatest number of two lists is the greater of theirs
 pub greatest-append : (tunes more : List Tune) → greatest (tunes ++ more) ≡ max (greatest tunes) (greatest more)
 greatest-append [] more = omega arith
 greatest-append (tune ∷ tunes) more = let e = greatest-append tunes more in omega arith
@@ -37,11 +38,13 @@ rises-append low (tune ∷ tunes) more rises later =
     let same : max low (max tune.number (greatest tunes)) ≡ max tune.number (greatest tunes) = omega arith in
     (rises.0, rises-append tune.number tunes more rises.1 (subst P same later))
 
+-- what holds of the tunes of two lists holds of all
 each-append : (tunes more : List Tune) → AllByRecursion IsTune tunes → AllByRecursion IsTune more → AllByRecursion IsTune (tunes ++ more)
 each-append [] more each later = later
 each-append (tune ∷ tunes) more each later = (each.0, each-append tunes more each.1 later)
 
 -- NEW TUNES
+-- one text more makes one tune more, with the next number
 numbered-push : (number : ℕ) (texts : List (List ℕ)) (text : List ℕ)
     → numbered number (texts ++ text ∷ []) ≡ numbered number texts ++ record { number = number + length texts; revision = 1; text = text } ∷ []
 numbered-push number [] text = rw add-zero refl
@@ -56,23 +59,22 @@ pub numbered_next : (first number : ℕ) (texts : List (List ℕ)) (text : List 
 numbered_next first number texts text e =
     sym (numbered-push first texts text ∙ ap (λ n. numbered first texts ++ record { number = n; revision = 1; text = text } ∷ []) (sym e))
 
+-- there are as many new tunes as texts
 pub length-numbered : (number : ℕ) (texts : List (List ℕ)) → length (numbered number texts) ≡ length texts
 length-numbered number [] = refl
 length-numbered number (text ∷ texts) = let e = length-numbered (number + 1) texts in omega arith
 
+-- the last of new numbers is the greatest
 pub greatest-numbered : (number : ℕ) (text : List ℕ) (texts : List (List ℕ)) → greatest (numbered number (text ∷ texts)) ≡ number + length texts
 greatest-numbered number text [] = omega arith
 greatest-numbered number text (next ∷ texts) = let e = greatest-numbered (number + 1) next texts in omega arith
 
--- new numbers from this one on are not above the last of them
-greatest-numbered-le : (number : ℕ) (texts : List (List ℕ)) → greatest (numbered number texts) ≤ number + length texts
-greatest-numbered-le number [] = omega arith
-greatest-numbered-le number (text ∷ texts) = let e = greatest-numbered number text texts in omega arith
-
+-- new numbers rise
 rises-numbered : (low number : ℕ) (texts : List (List ℕ)) → low < number → RisesFrom low (numbered number texts)
 rises-numbered low number [] l = tt
 rises-numbered low number (text ∷ texts) l = (l, rises-numbered number (number + 1) texts (omega arith))
 
+-- new tunes of good texts are good tunes
 each-numbered : (number : ℕ) (texts : List (List ℕ)) → AllByRecursion (IsTextWithin longest_text) texts → AllByRecursion IsTune (numbered number texts)
 each-numbered number [] within = tt
 each-numbered number (text ∷ texts) within =
@@ -102,6 +104,7 @@ state_after_import tunes texts is within room numbers =
         omega arith
 
 -- A TUNE IN THE PLACE OF ANOTHER
+-- the numbers still rise
 rises-with_tune : (new : Tune) (low : ℕ) (tunes : List Tune) → RisesFrom low tunes → RisesFrom low (with_tune new tunes)
 rises-with_tune new low [] rises = tt
 rises-with_tune new low (tune ∷ tunes) rises = elim (cases_Bool (eqb tune.number new.number)) [
@@ -112,6 +115,7 @@ rises-with_tune new low (tune ∷ tunes) rises = elim (cases_Bool (eqb tune.numb
   | inr other ↦ rw other (rises.0, rises-with_tune new tune.number tunes rises.1)
 ]
 
+-- the greatest number stays
 greatest-with_tune : (new : Tune) (tunes : List Tune) → greatest (with_tune new tunes) ≡ greatest tunes
 greatest-with_tune new [] = refl
 greatest-with_tune new (tune ∷ tunes) = elim (cases_Bool (eqb tune.number new.number)) [
@@ -119,6 +123,7 @@ greatest-with_tune new (tune ∷ tunes) = elim (cases_Bool (eqb tune.number new.
   | inr other ↦ rw other (ap (λ n. max tune.number n) (greatest-with_tune new tunes))
 ]
 
+-- there are as many tunes as before
 length-with_tune : (new : Tune) (tunes : List Tune) → length (with_tune new tunes) ≡ length tunes
 length-with_tune new [] = refl
 length-with_tune new (tune ∷ tunes) = elim (cases_Bool (eqb tune.number new.number)) [
@@ -126,6 +131,7 @@ length-with_tune new (tune ∷ tunes) = elim (cases_Bool (eqb tune.number new.nu
   | inr other ↦ rw other (ap (λ n. suc n) (length-with_tune new tunes))
 ]
 
+-- and good tunes all
 each-with_tune : (new : Tune) (tunes : List Tune) → IsTune new → AllByRecursion IsTune tunes → AllByRecursion IsTune (with_tune new tunes)
 each-with_tune new [] is each = tt
 each-with_tune new (tune ∷ tunes) is each = elim (cases_Bool (eqb tune.number new.number)) [
@@ -150,6 +156,7 @@ revised_is_tune tune text within less = record { revised = omega arith; revision
 abbrev pub KeepsLimits : Outcome → Type 0
 KeepsLimits outcome = IsState outcome.0
 
+-- of a replacement's two tests the second lets only a tune through that has not the greatest revision
 by_tests : (tune : Tune) (tunes : List Tune) (number : ℕ) (text : List ℕ) (stale young : Bool) → IsTextWithin longest_text text
     → ltb tune.revision greatest_revision ≡ young → IsState (record { tunes = tunes })
     → KeepsLimits (cond stale (record { tunes = tunes }, Err (Stale tune.revision))
@@ -174,10 +181,12 @@ pub only_within : (longest : ℕ) (texts : List (List ℕ)) (text : List ℕ) �
 only_within longest texts text each e = let P : List (List ℕ) → Type 0 = λ ts. AllByRecursion (IsTextWithin longest) ts in (subst P e each).0
 
 -- A TUNE LESS
+-- numbers above one are above a lower one
 rises-lower : (low high : ℕ) (tunes : List Tune) → low ≤ high → RisesFrom high tunes → RisesFrom low tunes
 rises-lower low high [] le rises = tt
 rises-lower low high (tune ∷ tunes) le rises = let first = rises.0 in (omega arith, rises.1)
 
+-- the numbers still rise
 rises-without : (number low : ℕ) (tunes : List Tune) → RisesFrom low tunes → RisesFrom low (without number tunes)
 rises-without number low [] rises = tt
 rises-without number low (tune ∷ tunes) rises = elim (cases_Bool (eqb tune.number number)) [
@@ -185,6 +194,7 @@ rises-without number low (tune ∷ tunes) rises = elim (cases_Bool (eqb tune.num
   | inr other ↦ rw other (rises.0, rises-without number tune.number tunes rises.1)
 ]
 
+-- the greatest number does not rise
 greatest-without : (number : ℕ) (tunes : List Tune) → greatest (without number tunes) ≤ greatest tunes
 greatest-without number [] = omega arith
 greatest-without number (tune ∷ tunes) = elim (cases_Bool (eqb tune.number number)) [
@@ -192,6 +202,7 @@ greatest-without number (tune ∷ tunes) = elim (cases_Bool (eqb tune.number num
   | inr other ↦ let later = greatest-without number tunes in rw other (omega arith)
 ]
 
+-- there are no more tunes than before
 length-without : (number : ℕ) (tunes : List Tune) → length (without number tunes) ≤ length tunes
 length-without number [] = omega arith
 length-without number (tune ∷ tunes) = elim (cases_Bool (eqb tune.number number)) [
@@ -199,6 +210,7 @@ length-without number (tune ∷ tunes) = elim (cases_Bool (eqb tune.number numbe
   | inr other ↦ let later = length-without number tunes in rw other (omega arith)
 ]
 
+-- and good tunes all
 each-without : (number : ℕ) (tunes : List Tune) → AllByRecursion IsTune tunes → AllByRecursion IsTune (without number tunes)
 each-without number [] each = tt
 each-without number (tune ∷ tunes) each = elim (cases_Bool (eqb tune.number number)) [

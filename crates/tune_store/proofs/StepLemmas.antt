@@ -29,33 +29,40 @@ two_tests_keep old new true b x y reply refusal h = refl
 two_tests_keep old new false true x y reply refusal h = refl
 two_tests_keep old new false false x y reply refusal h = cc
 
+-- an import that is refused keeps the state
 import_keeps : (old : State) (texts : Texts) → KeepsOnErr old (import_book old texts)
 import_keeps old (Err fault) refusal h = refl
 import_keeps old (Ok texts) refusal h =
     two_tests_keep old _ (ltb most_tunes (length old.tunes + length texts)) (ltb greatest_number (greatest old.tunes + length texts)) _ _ _ refusal h
 
+-- so does a replacement, of the tune that was found
 replace_tune_keeps : (old : State) (number revision : ℕ) (text : List ℕ) (found : Option Tune) → KeepsOnErr old (replace_tune old number revision text found)
 replace_tune_keeps old number revision text None refusal h = refl
 replace_tune_keeps old number revision text (Some tune) refusal h =
     two_tests_keep old _ (not (eqb tune.revision revision)) (not (ltb tune.revision greatest_revision)) _ _ _ refusal h
 
+-- by the texts of a book
 replace_texts_keep : (old : State) (number revision : ℕ) (texts : List (List ℕ)) → KeepsOnErr old (replace_texts old number revision texts)
 replace_texts_keep old number revision [] refusal h = refl
 replace_texts_keep old number revision (text ∷ []) refusal h = replace_tune_keeps old number revision text (tune_at number old.tunes) refusal h
 replace_texts_keep old number revision (text ∷ next ∷ texts) refusal h = refl
 
+-- or by a book that has none
 replace_keeps : (old : State) (number revision : ℕ) (texts : Texts) → KeepsOnErr old (replace_book old number revision texts)
 replace_keeps old number revision (Err fault) refusal h = refl
 replace_keeps old number revision (Ok texts) refusal h = replace_texts_keep old number revision texts refusal h
 
+-- and a deletion
 delete_keeps : (old : State) (number : ℕ) (found : Option Tune) → KeepsOnErr old (delete_tune old number found)
 delete_keeps old number None refusal h = refl
 delete_keeps old number (Some tune) refusal h = cc
 
+-- and a look at a tune
 show_keeps : (old : State) (number : ℕ) (found : Option Tune) → KeepsOnErr old (show_tune old number found)
 show_keeps old number None refusal h = refl
 show_keeps old number (Some tune) refusal h = cc
 
+-- a command that is refused keeps the state
 pub refused_keeps : (old : State) (command : Command) → KeepsOnErr old (step old command)
 refused_keeps old (Import book) = import_keeps old (book_answer longest_text book)
 refused_keeps old (Replace number revision book) = replace_keeps old number revision (book_answer longest_text book)
@@ -68,6 +75,7 @@ refused_keeps old (Show number) = show_keeps old number (tune_at number old.tune
 abbrev pub IsOfDevice : Refusal → Type 0
 IsOfDevice refusal = (refusal ≡ Device) ⊎ (refusal ≡ Closed)
 
+-- no fault of a book is one of the device
 book_fault_not_of_device : (fault : BookFault) → IsOfDevice (refusal_of fault) → ⊥
 book_fault_not_of_device fault.BookTooLong h = elim h [ inl e ↦ cc | inr e ↦ cc ]
 book_fault_not_of_device fault.NotPlain h = elim h [ inl e ↦ cc | inr e ↦ cc ]
@@ -86,12 +94,14 @@ two_tests_not_of_device old new true b x y reply not_x not_y refusal h of = let 
 two_tests_not_of_device old new false true x y reply not_x not_y refusal h of = let same : y ≡ refusal = cc in not_y (rw same of)
 two_tests_not_of_device old new false false x y reply not_x not_y refusal h of = cc
 
+-- an import is refused for no device
 import_not_of_device : (old : State) (texts : Texts) → NotOfDevice (import_book old texts)
 import_not_of_device old (Err fault) refusal h of = let same : refusal_of fault ≡ refusal = cc in book_fault_not_of_device fault (rw same of)
 import_not_of_device old (Ok texts) refusal h of =
     two_tests_not_of_device old _ (ltb most_tunes (length old.tunes + length texts)) (ltb greatest_number (greatest old.tunes + length texts)) _ _ _
     (λ x. elim x [ inl e ↦ cc | inr e ↦ cc ]) (λ y. elim y [ inl e ↦ cc | inr e ↦ cc ]) refusal h of
 
+-- so is a replacement, of the tune that was found
 replace_tune_not_of_device : (old : State) (number revision : ℕ) (text : List ℕ) (found : Option Tune)
     → NotOfDevice (replace_tune old number revision text found)
 replace_tune_not_of_device old number revision text None refusal h of = elim of [ inl e ↦ cc | inr e ↦ cc ]
@@ -99,24 +109,29 @@ replace_tune_not_of_device old number revision text (Some tune) refusal h of =
     two_tests_not_of_device old _ (not (eqb tune.revision revision)) (not (ltb tune.revision greatest_revision)) _ _ _
     (λ x. elim x [ inl e ↦ cc | inr e ↦ cc ]) (λ y. elim y [ inl e ↦ cc | inr e ↦ cc ]) refusal h of
 
+-- by the texts of a book
 replace_texts_not_of_device : (old : State) (number revision : ℕ) (texts : List (List ℕ)) → NotOfDevice (replace_texts old number revision texts)
 replace_texts_not_of_device old number revision [] refusal h of = elim of [ inl e ↦ cc | inr e ↦ cc ]
 replace_texts_not_of_device old number revision (text ∷ []) refusal h of =
     replace_tune_not_of_device old number revision text (tune_at number old.tunes) refusal h of
 replace_texts_not_of_device old number revision (text ∷ next ∷ texts) refusal h of = elim of [ inl e ↦ cc | inr e ↦ cc ]
 
+-- or by a book that has none
 replace_not_of_device : (old : State) (number revision : ℕ) (texts : Texts) → NotOfDevice (replace_book old number revision texts)
 replace_not_of_device old number revision (Err fault) refusal h of = let same : refusal_of fault ≡ refusal = cc in book_fault_not_of_device fault (rw same of)
 replace_not_of_device old number revision (Ok texts) refusal h of = replace_texts_not_of_device old number revision texts refusal h of
 
+-- and a deletion
 delete_not_of_device : (old : State) (number : ℕ) (found : Option Tune) → NotOfDevice (delete_tune old number found)
 delete_not_of_device old number None refusal h of = elim of [ inl e ↦ cc | inr e ↦ cc ]
 delete_not_of_device old number (Some tune) refusal h of = cc
 
+-- and a look at a tune
 show_not_of_device : (old : State) (number : ℕ) (found : Option Tune) → NotOfDevice (show_tune old number found)
 show_not_of_device old number None refusal h of = elim of [ inl e ↦ cc | inr e ↦ cc ]
 show_not_of_device old number (Some tune) refusal h of = cc
 
+-- no command is refused for the device
 step_not_of_device : (old : State) (command : Command) → NotOfDevice (step old command)
 step_not_of_device old (Import book) = import_not_of_device old (book_answer longest_text book)
 step_not_of_device old (Replace number revision book) = replace_not_of_device old number revision (book_answer longest_text book)

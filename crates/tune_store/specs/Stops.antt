@@ -23,6 +23,7 @@ pub record Passes {S : Type 0} (honest sound : S → Type 0) (standing : S → S
     (old new : S) (states : List State) : Type 0 where
   -- it stands for one of them now, or for the state that it stood for
   pub reaches : Among (standing new).state ((standing old).state ∷ states)
+  -- whether its device was honest is known only after it answered
   pub was_honest : honest new → honest old
   pub stays_sound : sound old → sound new
   pub later : moment old ≤ moment new

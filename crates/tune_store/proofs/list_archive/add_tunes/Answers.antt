@@ -10,9 +10,9 @@ use Rattle.tune_store.proofs.list_archive.add_tunes.Goals as goal
 pub unwrap-requires : goal.unwrap-requires
 unwrap-requires c =
     let kept = c.loop-text.invariant in
-    let step : into_iter_items c.loop-text.text-iterator ≡ c.in-Some.text ∷ into_iter_items c.next.new.self = c.in-Some.ensures.steps.0 in
+    let taken : into_iter_items c.loop-text.text-iterator ≡ c.in-Some.text ∷ into_iter_items c.next.new.self = c.in-Some.ensures.steps.0 in
     let count = simp length-append at (ap length kept.left) in
-    let one = ap length step in
+    let one = ap length taken in
     let size = simp length-append at (ap length kept.items) in
     let added = length-numbered c.args.first c.loop-text.yielded in
     let room : vec_len c.loop-text.tunes < vec_capacity c.loop-text.tunes =
@@ -22,7 +22,7 @@ unwrap-requires c =
 pub loop-text-preserved : goal.loop-text-preserved
 loop-text-preserved c =
     let kept = c.loop-text.invariant in
-    let step : into_iter_items c.loop-text.text-iterator ≡ c.in-Some.text ∷ into_iter_items c.next.new.self = c.in-Some.ensures.steps.0 in
+    let taken : into_iter_items c.loop-text.text-iterator ≡ c.in-Some.text ∷ into_iter_items c.next.new.self = c.in-Some.ensures.steps.0 in
     let tune : Tune = record { number = c.loop-text.number; revision = 1; text = c.in-Some.text } in
     let pushed : c.push.new.self.items ≡ c.loop-text.tunes.items ++ tune ∷ [] = search rules in
     record {
@@ -31,6 +31,6 @@ loop-text-preserved c =
       number = omega (arith, length_push c.loop-text.yielded c.in-Some.text, kept.number);
       capacity = omega (arith, c.push.ensures.capacity, kept.capacity);
       left =
-          append_assoc c.loop-text.yielded (c.in-Some.text ∷ []) (into_iter_items c.next.new.self) ∙ ap (λ rest. c.loop-text.yielded ++ rest) (sym step)
+          append_assoc c.loop-text.yielded (c.in-Some.text ∷ []) (into_iter_items c.next.new.self) ∙ ap (λ rest. c.loop-text.yielded ++ rest) (sym taken)
           ∙ kept.left;
     }
