@@ -66,7 +66,8 @@ fn book_of_tunes(alloc: Global, tunes: usize) -> Result<Vec<u8>, AllocError> {
     Ok(book)
 }
 
-// A script that imports a tune, has this line with four million and one letters, and shows the tune.
+// A script that imports a tune, has this line with four million and one letters, and shows the
+// tune.
 fn with_letters(alloc: Global, line: &[u8]) -> Result<Vec<u8>, Fail> {
     let mut script = Vec::new(alloc);
     add_book(&mut script, "import", TUNE)?;
@@ -226,7 +227,8 @@ fn exports_as_many_tunes_as_it_may_hold(rt: HostRuntime) -> Result<(), Fail> {
         book_of_tunes(rt.alloc(), 20_000)?.as_slice(),
     )?;
     script.extend_from_slice(b"export\n")?;
-    // Nine tunes of 9 bytes with their empty lines, 90 of 10, 900 of 11, 9,000 of 12 and 10,001 of 13.
+    // With their empty lines nine tunes have 9 bytes, 90 have 10, 900 have 11, 9,000 have 12 and
+    // 10,001 have 13.
     let mut wanted = Vec::new(rt.alloc());
     wanted.extend_from_slice(b"ok import 1 20000\nok export 248903\n%abc-2.1\n")?;
     for number in 1..20_001_u32 {

@@ -7,7 +7,8 @@ use std::test::Fail;
 use tune_cli::{Action, RunEnd, act, run};
 use tune_store::{Command, ListArchive, Refusal, Reply, TuneStore};
 
-// Gives its text byte by byte, and no byte of a line before as many replies were flushed as there are lines before it.
+// Gives its bytes one by one, and notices where it is asked for a byte of a line before as many
+// replies were flushed as there are lines before it.
 #[derive(Drop)]
 struct AskingReader<'a> {
     text: &'a [u8],

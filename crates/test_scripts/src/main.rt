@@ -2,8 +2,8 @@
 //! compares what it comes to with what is written beside it.
 //!
 //! `data/cases` has a line for each script: its NAME, and how its run ends. NAME.script is the
-//! script, and NAME.replies has the bytes of its replies. The program prints a line for each script,
-//! and how many came out as written; where one did not, it ends with status 1.
+//! script, and NAME.replies has the bytes of its replies. The program prints a line for each, and
+//! how many came out as written; where one did not, it ends with status 1.
 #![tactic(auto)]
 
 mod cases;
