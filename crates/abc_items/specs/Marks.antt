@@ -1,7 +1,7 @@
 -- The bytes that the table of items names.
 use Rattle.std.specs.Prelude.{ℕ, ◌==◌, Bool, not, List, codes}
 use Rattle.std.specs.List.{list_all}
-use Rattle.abc_keys.specs.Letters.{is_one_of}
+use Rattle.abc_fields.specs.Bytes.{colon, is_one_of}
 
 -- MARKS
 -- `"`
@@ -35,10 +35,6 @@ closing_bracket = 93
 -- `(`
 abbrev pub opening_parenthesis : ℕ
 opening_parenthesis = 40
-
--- `:`
-abbrev pub colon : ℕ
-colon = 58
 
 -- `|`
 abbrev pub bar_mark : ℕ

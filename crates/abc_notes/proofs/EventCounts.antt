@@ -1,26 +1,28 @@
 -- A text tells no more events than it has bytes.
 use Rattle.std.proofs.Common.{◌≡◌, ℕ, ◌+◌, ◌-◌, ◌≤◌, Bool, true, false, cond, List, [], ◌∷◌, length, take, drop, ap, arith}
 use Rattle.std.specs.Prelude.{codes, not, ◌&&◌, ◌||◌}
-use Rattle.std.proofs.lemmas.List.{length-append, length-drop, length-take, length-take-le}
+use Rattle.std.proofs.lemmas.List.{length-append, length-drop, length-take}
 use Rattle.std.proofs.lemmas.Bool.{cond_both}
 use Rattle.abc_fields.specs.LineKinds.{is_field_line, is_continuation, is_comment, in_part_after}
-use Rattle.abc_fields.specs.Lines.{Span as Line, IsSpan, SpansRise, spans_of as lines_of}
+use Rattle.abc_fields.specs.Lines.{Span as Line, SpansRise, spans_of as lines_of}
 use Rattle.abc_fields.specs.Tunes.{is_key_line}
 use Rattle.abc_fields.specs.Values.{uncommented}
 use Rattle.abc_fields.proofs.CommentLaw.{is_uncommented}
 use Rattle.abc_fields.proofs.LineLaw.{spans_rise}
-use Rattle.abc_keys.specs.Letters.{is_one_of}
+use Rattle.abc_fields.specs.Bytes.{is_one_of}
 use Rattle.abc_keys.specs.Keys.{key_of_text, signature_of}
 use Rattle.abc_items.specs.declared.kinds.Kind.{Kind}
 use Rattle.abc_items.specs.declared.kinds.Kind.TheVariants as kind
-use Rattle.abc_items.specs.Spans.{Span, spans_of, SpansFill}
-use Rattle.abc_items.proofs.Places.{spans_fill}
+use Rattle.abc_items.specs.ItemSpans.{ItemSpan, item_spans_of, ItemSpansFill}
+use Rattle.abc_items.proofs.ItemSpans.{spans_fill}
+use Rattle.abc_notes.proofs.TextParts.{line_long}
 use Rattle.abc_notes.specs.Events.{Event, change}
-use Rattle.abc_notes.specs.Music.{is_note, plain_events, chord_events, inside_of, inline_events, item_events, line_events, music_events, body_line_events, line_tells, body_events, events_after_header, tune_events}
+use Rattle.abc_notes.specs.Music.{is_note, plain_events, chord_events, inside_of, inline_events, item_events, line_events, music_events, body_line_events}
+use Rattle.abc_notes.specs.Music.{line_meaning, body_events, events_after_header, tune_events}
 
 -- ITEMS
 -- an item that is no chord and no field tells at most one event
-plain_few : (base : ℕ) (counts : Bool) (k : Kind) (span : Span) → length (plain_events base counts k span) ≤ 1
+plain_few : (base : ℕ) (counts : Bool) (k : Kind) (span : ItemSpan) → length (plain_events base counts k span) ≤ 1
 unfolding plain_events
 plain_few base counts kind.Note span = omega arith
 plain_few base counts kind.Bar span = omega arith
@@ -33,7 +35,8 @@ plain_few base counts kind.Tuplet span = omega arith
 plain_few base counts kind.Other span = omega arith
 
 -- items from here to the text's end that tell one event each
-chord_few : (base : ℕ) (first : Bool) (text : List ℕ) (at : ℕ) (spans : List Span) → SpansFill text at spans → length (chord_events base first spans) + at ≤ length text
+chord_few : (base : ℕ) (first : Bool) (text : List ℕ) (at : ℕ) (spans : List ItemSpan) → ItemSpansFill text at spans
+    → length (chord_events base first spans) + at ≤ length text
 unfolding chord_events
 chord_few base first text at [] fill = omega arith
 chord_few base first text at (span ∷ spans) (placed, later) =
@@ -60,10 +63,14 @@ inside_short : (text : List ℕ) → length (inside_of text) ≤ length text
 inside_short text = omega (arith, length-take (length text - 2) (drop 1 text), length-drop 1 text)
 
 -- an item with a byte tells no more events than it has bytes
-item_few : (base : ℕ) (k : Kind) (span : Span) → 1 ≤ length span.bytes → length (item_events base k span) ≤ length span.bytes
+item_few : (base : ℕ) (k : Kind) (span : ItemSpan) → 1 ≤ length span.bytes → length (item_events base k span) ≤ length span.bytes
 unfolding item_events
 item_few base kind.Chord span some =
-    omega (arith, chord_few (base + span.from + 1) true (inside_of span.bytes) 0 (spans_of (inside_of span.bytes)) (spans_fill (inside_of span.bytes)), inside_short span.bytes)
+    omega (
+      arith,
+      chord_few (base + span.from + 1) true (inside_of span.bytes) 0 (item_spans_of (inside_of span.bytes)) (spans_fill (inside_of span.bytes)),
+      inside_short span.bytes,
+    )
 item_few base kind.InlineField span some = omega (arith, inline_few span.bytes)
 item_few base kind.Note span some = omega (arith, plain_few base true kind.Note span)
 item_few base kind.Bar span some = omega (arith, plain_few base true kind.Bar span)
@@ -75,7 +82,7 @@ item_few base kind.Other span some = omega (arith, plain_few base true kind.Othe
 
 -- LINES
 -- items from here to the text's end tell no more events than there are bytes from here on
-line_few : (base : ℕ) (text : List ℕ) (at : ℕ) (spans : List Span) → SpansFill text at spans → length (line_events base spans) + at ≤ length text
+line_few : (base : ℕ) (text : List ℕ) (at : ℕ) (spans : List ItemSpan) → ItemSpansFill text at spans → length (line_events base spans) + at ≤ length text
 unfolding line_events
 line_few base text at [] fill = omega arith
 line_few base text at (span ∷ spans) (placed, later) =
@@ -84,8 +91,8 @@ line_few base text at (span ∷ spans) (placed, later) =
     omega (arith, length-append (item_events base span.kind span) (line_events base spans), placed.ends, placed.begins)
 
 -- a text tells no more events than it has bytes
-pub items_few : (base : ℕ) (text : List ℕ) → length (line_events base (spans_of text)) ≤ length text
-items_few base text = omega (arith, line_few base text 0 (spans_of text) (spans_fill text))
+pub items_few : (base : ℕ) (text : List ℕ) → length (line_events base (item_spans_of text)) ≤ length text
+items_few base text = omega (arith, line_few base text 0 (item_spans_of text) (spans_fill text))
 
 -- a line without its comment is no longer
 uncommented_short : (line : List ℕ) → length (uncommented line) ≤ length line
@@ -113,15 +120,9 @@ body_line_few base line =
     (λ music. music_few base line))
 
 -- a line within a part tells nothing
-tells_few : (in_part : Bool) (line : Line) → length (line_tells in_part line) ≤ length line.bytes
+tells_few : (in_part : Bool) (line : Line) → length (line_meaning in_part line) ≤ length line.bytes
 tells_few true line = omega arith
 tells_few false line = body_line_few line.from line.bytes
-
--- a line is as long as its places say
-line_long : (text : List ℕ) (low : ℕ) (line : Line) → IsSpan text low line → length line.bytes + line.from ≡ line.to
-line_long text low line placed =
-    let rest : line.to - line.from ≤ length (drop line.from text) = omega (arith, length-drop line.from text, placed.ordered, placed.within) in
-    omega (arith, length-take-le (line.to - line.from) (drop line.from text) rest, ap length placed.part, placed.ordered)
 
 -- lines from here on tell no more events than there are bytes from here on
 body_few : (in_part : Bool) (text : List ℕ) (low : ℕ) (lines : List Line) → SpansRise text low lines → length (body_events in_part lines) ≤ length text - low
@@ -131,10 +132,11 @@ body_few in_part text low (line ∷ lines) (placed, later) =
     let go = in_part_after in_part line.bytes in
     let told = tells_few in_part line in
     let rest = body_few go text (line.to + 1) lines later in
-    omega (arith, length-append (line_tells in_part line) (body_events go lines), line_long text low line placed, placed.above, placed.within)
+    omega (arith, length-append (line_meaning in_part line) (body_events go lines), line_long text low line placed, placed.above, placed.within)
 
 -- and so do those after the header
-after_header_few : (in_part : Bool) (text : List ℕ) (low : ℕ) (lines : List Line) → SpansRise text low lines → length (events_after_header in_part lines) ≤ length text - low
+after_header_few : (in_part : Bool) (text : List ℕ) (low : ℕ) (lines : List Line) → SpansRise text low lines
+    → length (events_after_header in_part lines) ≤ length text - low
 unfolding events_after_header
 after_header_few in_part text low [] rise = omega arith
 after_header_few in_part text low (line ∷ lines) (placed, later) =

@@ -1,5 +1,6 @@
 -- Incipits: the steps between the first notes of a tune that count (own profile).
-use Rattle.std.specs.Prelude.{ℕ, List, [], ◌∷◌, ◌++◌, map, filter, take, Option, Some, None, ℤ, ◌+ℤ◌, ◌-ℤ◌}
+use Rattle.std.specs.Prelude.{ℕ, List, [], ◌∷◌, ◌++◌, map, filter, take, Option, Some, None, ℤ}
+use Rattle.std.specs.Prelude.{◌+ℤ◌, ◌-ℤ◌}
 use Rattle.abc_keys.specs.Signatures.{no_accidentals}
 use Rattle.abc_notes.specs.Pitches.{SoundedNote, sounded_notes}
 use Rattle.abc_notes.specs.Music.{tune_events, tune_signature, music_events}

@@ -1,0 +1,4 @@
+pub mod EventView
+pub mod BarTables
+pub mod Bounds
+pub mod Kept
