@@ -45,7 +45,8 @@ pub record Goes (entries later : List ℕ) (old new : State) (states : List Stat
   pub leaves : (since : ℕ) (file : List ℕ) → LeftSince later since file → LeftSince entries since file ⊎ StandsForOne IsOfCount (old ∷ states) file
 
 -- a record with how many tunes there are as one more entry
-pub pushes : (entries later : List ℕ) (old new : State) (states : List State) (number : ℕ) → Among new (old ∷ states) → (IsState old → IsState new) → length new.tunes ≡ number
+pub pushes : (entries later : List ℕ) (old new : State) (states : List State) (number : ℕ) → Among new (old ∷ states)
+    → (IsState old → IsState new) → length new.tunes ≡ number
     → later ≡ entries ++ number ∷ [] → Goes entries later old new states
 pushes entries later old new states number among limits e pushed = rw pushed (record {
   reaches = among;

@@ -1,6 +1,7 @@
-//! Two fake stores that are not in memory alone. One keeps a record of what a device held, and shows
-//! that what the trait of stores says of stops can be met by a store whose stops leave something.
-//! The other writes to any disk, and shows that the trait can be met over a disk that fails.
+//! Two fake stores that are not in memory alone. One keeps a record of what a device held, and
+//! shows that what the trait of stores says of stops can be met by a store whose stops leave
+//! something. The other writes to any disk, and shows that the trait can be met over a disk that
+//! fails.
 #![tactic(auto)]
 
 mod any_store;

@@ -6,6 +6,7 @@ use Rattle.tune_disk.specs.Stops.{SinceThen}
 use Rattle.tune_disk.proofs.Moments.{since_now, spares_then, spares_fewer, spares_write, spares_since, since_then, settled_leaves}
 use Rattle.tune_journal.specs.Inside.Phases.{Settles, WritesAndSyncs, IsOutside}
 
+-- Fewer bytes are kept, or more writes were made.
 pub writes_fewer : {T E : Type 0} (Kept Fewer : ℕ → Type 0) (r : Result T E) (a b : DiskState) → ((i : ℕ) → Fewer i → Kept i) → WritesAndSyncs Kept r a b
     → WritesAndSyncs Fewer r a b
 writes_fewer Kept Fewer (Ok t) a b f w = record { mid = w.mid; spares = spares_fewer Kept Fewer a w.mid f w.spares; seen = w.seen; goes = w.goes }
@@ -56,6 +57,7 @@ run_since P Kept (Ok t) a b rest w so =
       first = since_now P a w.mid upto;
     })
 
+-- Answers of calls.
 pub writes_ok : {T E : Type 0} (at : ℕ) (bytes : List ℕ) (r : Result T E) (t : T) (a b : DiskState) → r ≡ Ok t → Writes at bytes r a b
     → Written at bytes a.seen b.seen
 writes_ok at bytes (Ok u) t a b is w = w.0

@@ -17,10 +17,13 @@ use Rattle.tune_journal.specs.Inside.Rest.{IsAtRest}
 use Rattle.tune_journal.specs.Layout.{magic, block_bytes, magic_offset, magic_bytes, gate_offset, descriptor_offset, count_offset, pages_offset, least_length}
 use Rattle.tune_journal.specs.Making.{StandsForNoneOr}
 use Rattle.tune_journal.proofs.Windows.{get_or-window, written_window, written_other}
-use Rattle.tune_journal.proofs.Frame.{agree_number, agree_pages_of, stands_closed, pages_of_at, length-pages_of, number_is}
+use Rattle.tune_journal.proofs.Agreeing.{agree_number, agree_pages_of, pages_of_at, length-pages_of, number_is}
+use Rattle.tune_journal.proofs.Standing.{stands_closed}
 use Rattle.tune_journal.specs.Refusal.{IsSynced}
 use Rattle.tune_journal.proofs.Openings.{synced_since}
 use Rattle.tune_journal.proofs.CallRuns.{settles_settled, settles_agrees}
+
+-- Files that stand for nothing.
 
 -- lists of numbers are equal or not
 list_cases : (xs ys : List ℕ) → (xs ≡ ys) ⊎ (xs ≢ ys)
@@ -45,6 +48,7 @@ other_none c is_zero pages s =
     let letter : get_or (window magic_offset magic_bytes c) 0 0 ≡ 65 = ap (λ (l : List ℕ). get_or l 0 0) s.headed.magic in
     omega (arith, first, letter, is_zero)
 
+-- The first block, and what is laid behind it.
 pub cleared_since : {T E : Type 0} (bytes : List ℕ) (r : Result T E) (a b : DiskState) → length bytes ≡ block_bytes → a.now ≡ settled [] → Writes 0 bytes r a b
     → SinceThen a b StandsForNone
 cleared_since {T} {E} bytes r a b size rest w = by_cases r w
@@ -84,6 +88,7 @@ one_page first f is = same_lists (pages_of 1 f) (first ∷ []) (length-pages_of 
     at zero d lt = here d
     at (suc p) d lt = absurd (omega arith)
 
+-- The magic.
 module _ (first f c : List ℕ) (laid : IsLaid first f) (agrees : Agrees (IsOutside magic_offset magic_bytes) f c) where
   titled_count : count_of c ≡ 1
   titled_count =
@@ -126,6 +131,7 @@ titled_after first old new laid ran is =
       titled_pages first old.seen new.seen laid agrees ∙ one_page first old.seen laid.page,
     )
 
+-- The four writes of a layout.
 pub laid_after : (first zeros one old a b c d : List ℕ) → length old ≡ block_bytes → length zeros ≡ block_bytes → get_or zeros 0 0 ≡ 0 → one ≡ big_bytes 4 1
     → length first ≡ block_bytes
     → Written gate_offset zeros old a → Written descriptor_offset zeros a b → Written count_offset one b c → Written pages_offset first c d → IsLaid first d
@@ -146,6 +152,7 @@ laid_after first zeros one old a b c d old_size zeros_size zero_is one_is first_
       long = omega (arith, written_long pages_offset first c d wd (omega arith));
     }
 
+-- An empty file.
 pub empty_leaves : (s : DiskState) → MayLeave s.now s.seen → LeavesOnly s.now (λ c. c ≡ []) → s.seen ≡ []
 empty_leaves s stays only = only s.seen stays
 

@@ -12,7 +12,7 @@ use Rattle.tune_journal.specs.Pages.{changed}
 use Rattle.tune_journal.specs.Refusal.{IsSynced}
 use Rattle.tune_journal.specs.declared.look.Found.{Found}
 use Rattle.tune_journal.specs.declared.look.Found.TheVariants.{Damaged, Closed, Open}
-use Rattle.tune_journal.proofs.Frame.{entries_at, length-entries, length-pages_of}
+use Rattle.tune_journal.proofs.Agreeing.{entries_at, length-entries, length-pages_of}
 use Rattle.tune_journal.proofs.Above.{stands_once}
 use Rattle.tune_journal.proofs.Changed.{length-changed}
 

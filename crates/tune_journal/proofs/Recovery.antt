@@ -14,8 +14,10 @@ use Rattle.tune_journal.specs.Layout.{block_bytes, entry_count_offset, least_len
 use Rattle.tune_journal.specs.Pages.{changed}
 use Rattle.tune_journal.proofs.Windows.{length-window}
 use Rattle.tune_journal.proofs.Loops.{image_more, changed-push, outside_page}
-use Rattle.tune_journal.proofs.Frame.{agree_number, agree_window, entries_at, length-entries, in_no_page}
+use Rattle.tune_journal.proofs.Agreeing.{agree_number, agree_window, entries_at, length-entries}
+use Rattle.tune_journal.proofs.Standing.{in_no_page}
 
+-- The entries of a log, one more at a time.
 pub spares_agrees : (Kept : ℕ → Type 0) (a b : DiskState) → Spares Kept a b → Agrees Kept a.seen b.seen
 spares_agrees Kept a b s = record { longer = s.longer; same = λ i lt kept. s.seen i kept }
 
@@ -33,6 +35,7 @@ all_below m k f has i d lt =
     let low : i < k = omega (arith, length-entries m k f) in
     subst (λ (e : ℕ × List ℕ). e.0 < m) (sym (entries_at m k i f d low)) (has.below i low)
 
+-- One of them, while those before it are in their pages.
 module _ (m k i : ℕ) (start now : DiskState) (has : HasEntries m k start.seen) (lt : i < k)
     (so_far : Spares (IsInNoPage (entries m k start.seen)) start now) where
   abbrev log : List (ℕ × List ℕ)
@@ -94,6 +97,7 @@ module _ (m k i : ℕ) (start now : DiskState) (has : HasEntries m k start.seen)
       (number (entry_offset m i) start.seen, window (entry_offset m i + 4) block_bytes start.seen))
       ∙ ap (changed (pages_of m start.seen)) (sym (entries_more m i start.seen))
 
+-- What the test of a log comes to.
 numbers_at : (xs : List (ℕ × List ℕ)) (i : ℕ) → get_or (map (λ e. e.0) xs) i 0 ≡ (get_or xs i (0, [])).0
 numbers_at [] i = refl
 numbers_at (x ∷ xs) zero = refl
@@ -143,6 +147,8 @@ module _ (m k : ℕ) (f : List ℕ) where
             subst (λ (x : ℕ). get_or (map (λ e. e.0) (entries m k f)) x 0 ≡ number (entry_offset m (suc i)) f)
                 (sym same) (number_at (suc i) lt),
           ))
+
+-- What a look found of the log.
 
 -- the second number of a descriptor, on a disk that a read left as it was
 pub second_number : (a b : DiskState) (n : ℕ) → b ≡ a → least_length ≤ length a.seen → (entry_count_offset + 4 ≤ length b.seen → n ≡ entry_count_of b.seen)

@@ -9,7 +9,7 @@ use Rattle.tune_journal.specs.Inside.Phases.{KeepsBoth, IsOutside}
 use Rattle.tune_journal.specs.Inside.Rest.{IsAtRest, IsOpened, IsApplied}
 use Rattle.tune_journal.specs.Layout.{gate_offset}
 use Rattle.tune_journal.specs.Pages.{changed}
-use Rattle.tune_journal.proofs.Frame.{stands_closed, stands_applying, stands_closing, log_same}
+use Rattle.tune_journal.proofs.Standing.{stands_closed, stands_applying, stands_closing, log_same}
 
 -- a stop over a settled disk leaves its file
 settled_only : (P : List ℕ → Type 0) (s : DiskState) → s.now ≡ settled s.seen → P s.seen → LeavesOnly s.now P

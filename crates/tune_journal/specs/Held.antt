@@ -16,7 +16,8 @@ pub record Staged (D : Type 0) : Type 0 where
   pub changes : List (ℕ × List ℕ)
   pub next : List (List ℕ)
 
--- a list of pages that is decided, and the changes whose images are still to be put at their offsets
+-- a list of pages that is decided, and the changes whose images are still to be put at their
+-- offsets
 pub record Decided (D : Type 0) : Type 0 where
   pub disk : D
   pub pages : List (List ℕ)

@@ -82,8 +82,8 @@ pub record HasLog (m k : ℕ) (file : List ℕ) : Type 0 where
   pub long : entry_offset m k ≤ length file
   pub log : IsLog m (entries m k file)
 
--- Behind a closed gate the pages stand at their offsets; behind an open one so they do, but for those
--- that the log names.
+-- Behind a closed gate the pages stand at their offsets; behind an open one so they do, but for
+-- those that the log names.
 pub record StandsFor (pages : List (List ℕ)) (file : List ℕ) : Type 0 where
   pub headed : IsHeaded file
   pub is_closed : gate_of file ≢ gate_open

@@ -15,6 +15,7 @@ use crate::changes::{Changes, PageImage};
 use crate::layout::{COUNT_OFFSET, DESCRIPTOR_OFFSET, ENTRY_BYTES, number_bytes, page_offset};
 use tune_disk::{DeviceFault, Disk};
 
+/// An entry of the log.
 fn entry_of(page: u32, image: &PageImage) -> [u8; 4100]
     ensures { result ≡ log_entry page image.now.bytes }
 {
@@ -24,6 +25,7 @@ fn entry_of(page: u32, image: &PageImage) -> [u8; 4100]
     entry
 }
 
+/// The descriptor of a log.
 fn descriptor_of(new_count: u32, entries: u32) -> [u8; 8]
     ensures { result ≡ big_bytes 4 new_count ++ big_bytes 4 entries }
 {
@@ -33,6 +35,7 @@ fn descriptor_of(new_count: u32, entries: u32) -> [u8; 8]
     descriptor
 }
 
+/// Writes an entry of the log.
 fn write_entry<D: Disk>(
     disk: &mut D,
     at: u64,
@@ -48,6 +51,7 @@ fn write_entry<D: Disk>(
     disk.write_at(at, &entry_of(page, image))
 }
 
+/// Writes an image into its page.
 fn write_image<D: Disk>(disk: &mut D, page: u32, image: &PageImage) -> Result<(), DeviceFault>
     requires { page < most_pages }
     ensures size { length image.now.bytes ≡ block_bytes }
@@ -58,6 +62,7 @@ fn write_image<D: Disk>(disk: &mut D, page: u32, image: &PageImage) -> Result<()
     disk.write_at(page_offset(page), &image.bytes)
 }
 
+/// Writes all entries of a log, one behind another.
 fn write_entries<D: Disk>(disk: &mut D, base: u64, changes: &Changes) -> Result<(), DeviceFault>
     requires { base + entry_bytes * length changes.now ≤ 2 ^ 40 }
     ensures spares { D.honest disk.new
@@ -74,6 +79,7 @@ fn write_entries<D: Disk>(disk: &mut D, base: u64, changes: &Changes) -> Result<
     Ok(())
 }
 
+/// Writes all images into their pages.
 fn write_images<D: Disk>(disk: &mut D, changes: &Changes) -> Result<(), DeviceFault>
     requires { All (λ e. e.0 < most_pages) changes.now }
     ensures spares { D.honest disk.new

@@ -9,7 +9,7 @@ ghost use Rattle.tune_journal.specs.Layout.{least_length, most_pages};
 ghost use Rattle.tune_journal.specs.Refusal.{IsSynced};
 
 use crate::layout::{
-    COUNT_OFFSET, DESCRIPTOR_OFFSET, ENTRY_COUNT_OFFSET, GATE_OFFSET, GATE_OPEN, LEAST_BYTES,
+    COUNT_OFFSET, DESCRIPTOR_OFFSET, ENTRY_COUNT_OFFSET, GATE_OFFSET, GATE_OPEN, LEAST_LENGTH,
     MAGIC, MAGIC_OFFSET, MOST_PAGES, entry_offset, page_offset,
 };
 use byteorder::{BigEndian, ByteOrder};
@@ -143,7 +143,7 @@ pub(crate) fn look<D: Disk>(disk: &mut D) -> Result<Found, DeviceFault>
     if size < MAGIC.len() as u64 || !read_magic(disk)? {
         return Ok(Found::NotArchive);
     }
-    if size < LEAST_BYTES {
+    if size < LEAST_LENGTH {
         return Ok(Found::Damaged);
     }
     if read_gate(disk)? {

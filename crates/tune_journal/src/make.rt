@@ -16,7 +16,7 @@ use crate::changes::PageImage;
 use crate::commit::write_synced;
 use crate::journal::Journal;
 use crate::layout::{
-    BLOCK, COUNT_OFFSET, DESCRIPTOR_OFFSET, GATE_OFFSET, MAGIC, MAGIC_OFFSET, PAGES_OFFSET,
+    BLOCK_BYTES, COUNT_OFFSET, DESCRIPTOR_OFFSET, GATE_OFFSET, MAGIC, MAGIC_OFFSET, PAGES_OFFSET,
     number_bytes,
 };
 use crate::look::settle;
@@ -31,7 +31,7 @@ fn clear<D: Disk>(disk: &mut D) -> Result<(), DeviceFault>
         → (D.state disk.old).seen ≡ [] → IsCleared (D.state disk.new)) }
     ensures calls { Calls D.honest D.failures result disk.old disk.new }
 {
-    let zeros = [0; BLOCK];
+    let zeros = [0; BLOCK_BYTES];
     disk.write_at(MAGIC_OFFSET, &zeros)?;
     disk.sync()
 }
@@ -45,7 +45,7 @@ fn lay<D: Disk>(disk: &mut D, first: &PageImage) -> Result<(), DeviceFault>
         → length old.seen ≡ block_bytes → IsLaid first.now.bytes new.seen) }
     ensures calls { Calls D.honest D.failures result disk.old disk.new }
 {
-    let zeros = [0; BLOCK];
+    let zeros = [0; BLOCK_BYTES];
     disk.write_at(GATE_OFFSET, &zeros)?;
     disk.write_at(DESCRIPTOR_OFFSET, &zeros)?;
     disk.write_at(COUNT_OFFSET, &number_bytes(1))?;

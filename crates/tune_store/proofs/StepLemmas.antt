@@ -1,5 +1,6 @@
 -- Answers by the step.
-use Rattle.std.proofs.Common.{◌≡◌, ℕ, ◌+◌, Bool, true, false, not, cond, eqb, ltb, List, [], ◌∷◌, length, Option, Some, None, Result, Ok, Err, refl, sym, ap, subst}
+use Rattle.std.proofs.Common.{subst}
+use Rattle.std.proofs.Common.{◌≡◌, ℕ, ◌+◌, Bool, true, false, not, cond, eqb, ltb, List, [], ◌∷◌, length, Option, Some, None, Result, Ok, Err, refl, sym, ap}
 use Rattle.std.proofs.Common.{◌∙◌, inl, inr, ◌⊎◌, arith}
 use Rattle.std.specs.Prelude.{◌≢◌, ◌↔◌, IfErr, ⊤}
 use Rattle.abc_fields.specs.Books.{Texts, book_answer}
@@ -219,7 +220,8 @@ refused_stays _ _ _ _ (is_closed old command) = λ other. refl
 pub refused_where : (H : Type 0) (old new : Standing) (command : Command) (answer : Result Reply Refusal) → Answers old command answer new
     → IfErr answer (λ refusal. refusal ≢ Device → H → new.state ≡ old.state)
 refused_where H old new command (Ok reply) answers = tt
-refused_where H old new command (Err refusal) answers = λ other honest. ap (λ (s : Standing). s.state) (refused_stays old new command (Err refusal) answers other)
+refused_where H old new command (Err refusal) answers = λ other honest.
+    ap (λ (s : Standing). s.state) (refused_stays old new command (Err refusal) answers other)
 
 -- each refusal is one that may come to the command
 pub answers_name : (old new : Standing) (command : Command) (answer : Result Reply Refusal) → Answers old command answer new

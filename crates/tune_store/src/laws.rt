@@ -15,8 +15,8 @@ ghost use Rattle.tune_store.specs.declared.command.Reply.{Reply};
 /// - `replaced`: an accepted `Replace` names the current revision of its tune, and raises it by
 ///   one.
 /// - `others`: no other command changes the revision of a tune that is there before and after it.
-/// - `counted`: so, while a tune stays (no `Delete` of it is accepted), its revision rises by one with each accepted `Replace` of
-///   it, and by nothing else.
+/// - `counted`: so, while a tune stays (no `Delete` of it is accepted), its revision rises by one
+///   with each accepted `Replace` of it, and by nothing else.
 /// - `current`: so, while a tune stays, a `Replace` that names the revision that the tune had
 ///   before a run is accepted after it only if no accepted `Replace` of the tune is in the run. No
 ///   two accepted ones name the same revision.

@@ -6,7 +6,7 @@ use Rattle.tune_journal.specs.Inside.Phases.{KeepsBoth, IsInNoPage, IsOutside}
 use Rattle.tune_journal.specs.Layout.{count_offset}
 use Rattle.tune_journal.proofs.CallRuns.{writes_fewer, writes_after}
 use Rattle.tune_journal.proofs.Windows.{written_window}
-use Rattle.tune_journal.proofs.Frame.{number_is, agree_pages_of, written_agrees}
+use Rattle.tune_journal.proofs.Agreeing.{number_is, agree_pages_of, written_agrees}
 use Rattle.tune_journal.proofs.commit.write_pages.Goals as goal
 
 pub returns-clause-writes : goal.returns-clause-writes

@@ -12,7 +12,8 @@ returns-in-Some g c = λ honest.
     let one : most_lines - c.loop-lines.lines ≡ suc (most_lines - (c.loop-lines.lines + 1)) = omega arith in
     so_far_end g.W.Write g.S.TuneStore c.args.writer.now c.loop-lines.writer c.turn.new.writer c.args.store.now c.loop-lines.store c.turn.new.store
     most_lines (most_lines - (c.loop-lines.lines + 1)) (g.R.Read.remaining c.args.reader.now) (g.R.Read.remaining c.loop-lines.reader)
-    (g.R.Read.remaining c.turn.new.reader) c.in-Some.end (rw one at (c.loop-lines.invariant (c.in-Some.ensures.was_honest honest))) (c.in-Some.ensures.turns honest)
+    (g.R.Read.remaining c.turn.new.reader) c.in-Some.end
+    (rw one at (c.loop-lines.invariant (c.in-Some.ensures.was_honest honest))) (c.in-Some.ensures.turns honest)
 
 pub loop-lines-preserved : goal.loop-lines-preserved
 loop-lines-preserved g c = λ honest.

@@ -13,7 +13,8 @@ pub returns-clause-stops : goal.returns-clause-stops
 returns-clause-stops c =
     let states = passed c.args.self.now.archive c.args.command.now (Ok c.in_ok-reply.reply) in
     let pushed = c.add_entry.ensures.entries ∙ ap (λ (entries : List ℕ). entries ++ c.len.result ∷ []) c.reserve.ensures.items in
-    let goes = pushes c.args.self.now.entries.items _ _ _ states c.len.result (c.in_ok-reply.ensures.stops.reaches tt) c.in_ok-reply.ensures.stops.stays_sound (sym c.len.ensures) pushed in
+    let archive = c.in_ok-reply.ensures.stops in
+    let goes = pushes c.args.self.now.entries.items _ _ _ states c.len.result (archive.reaches tt) archive.stays_sound (sym c.len.ensures) pushed in
     record {
       reaches = λ honest. goes.reaches;
       was_honest = λ honest. honest;

@@ -3,7 +3,7 @@ use Rattle.tune_disk.specs.Stops.{LeavesOnly}
 use Rattle.tune_journal.specs.Image.{StandsFor}
 use Rattle.tune_journal.specs.Making.{StandsForNoneOr}
 use Rattle.tune_journal.proofs.Rests.{rest_leaves}
-use Rattle.tune_journal.proofs.Frame.{length-pages_of}
+use Rattle.tune_journal.proofs.Agreeing.{length-pages_of}
 use Rattle.tune_journal.proofs.Openings.{synced_since}
 use Rattle.tune_journal.proofs.Making.{making_since, empty_none, nothing_in}
 use Rattle.tune_journal.proofs.journal.Journal.make.Goals as goal
