@@ -1,19 +1,24 @@
 #!/usr/bin/env bash
 # Usage: bench/reading.sh [EXECUTABLE]
-# Times the reading of 20,000 tunes (3.8 MB), layer by layer, by the program `bench_reading`. A line is a layer, the milliseconds of one pass over all tunes
-# (those of 21 passes less those of 1 pass, by 20), and what a pass came to.
+# Times the reading of 20,000 tunes (3.8 MB), layer by layer, by the program `bench_reading`. A line
+# is a layer, the milliseconds of one pass over all tunes (those of 21 passes less those of 1 pass,
+# by 20), and what a pass came to.
 set -u
 root=$(CDPATH='' cd -- "$(dirname -- "$0")/.." && pwd) || exit 1
 program=${1:-$root/crates/bench_reading/out/bench_reading}
 work=$root/bench/work
-[ -x "$program" ] || { echo "no program at $program: build it by 'rt run' in crates/bench_reading" >&2; exit 1; }
+[ -x "$program" ] || {
+    echo "no program at $program: build it by 'rt run' in crates/bench_reading" >&2
+    exit 1
+}
 mkdir -p "$work" || exit 1
 export LC_ALL=C
 
 awk 'BEGIN {
     split("G D Em Ador Bb F#m C Edor AMix Dmin", keys, " ")
     for (n = 1; n <= 20000; n++) {
-        printf "X:%d\nT:Tune %05d\nC:Traditional\nO:Ireland\nR:reel\nM:4/4\nL:1/8\nK:%s\n", n, n, keys[n % 10 + 1]
+        printf "X:%d\nT:Tune %05d\nC:Traditional\nO:Ireland\nR:reel\nM:4/4\nL:1/8\nK:%s\n",
+            n, n, keys[n % 10 + 1]
         for (i = 0; i < 6; i++) printf "GABc dedB|c2ec B2dB|\n"
         print ""
     }
@@ -36,7 +41,8 @@ for layer in split fields keys notes steps; do
         'BEGIN { printf "%-8s %8.2f ms  %s\n", layer, spent / 20 / 1000000, total }'
 done
 
-# Hostile tunes of 64,000 bytes of music. Each is read in the time of its length, but for the last: there the bar is read again for notes far off.
+# Hostile tunes of 64,000 bytes of music. Each is read in the time of its length, but for the last:
+# there the bar is read again for notes far off.
 hostile() {
     awk -v what="$1" 'BEGIN {
         printf "X:1\nK:C\n"

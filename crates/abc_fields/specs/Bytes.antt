@@ -2,6 +2,7 @@
 use Rattle.std.specs.Prelude.{ℕ, List, [], ◌∷◌, Bool, false, ◌==◌, ◌||◌, nat_eq}
 use Rattle.std.specs.List.{starts_with, list_all, list_any}
 
+-- BYTES BY NAME
 abbrev pub tab : ℕ
 tab = 9
 
@@ -27,6 +28,7 @@ backslash = 92
 abbrev pub byte_order_mark : List ℕ
 byte_order_mark = 0xEF ∷ 0xBB ∷ 0xBF ∷ []
 
+-- TESTS
 -- a space or a tab: no other byte is blank (own profile)
 abbrev pub is_blank : ℕ → Bool
 is_blank byte = byte == space || byte == tab

@@ -30,11 +30,11 @@ non_empty values = filter has_bytes values
 abbrev pub non_empty_values : List ℕ → List (List ℕ) → List (List ℕ)
 non_empty_values name lines = non_empty (values_of name lines)
 
--- the same of the header of a text
+-- the same for the header of a text
 abbrev pub header_values : List ℕ → List ℕ → List (List ℕ)
 header_values name text = non_empty_values name (header_of (lines_of text))
 
--- the titles, of which the first eight count (ABC 2.1, 3.1.2; own profile)
+-- the titles: the first ones count, as many as the limit says (ABC 2.1, 3.1.2; own profile)
 abbrev pub titles_of : List ℕ → List (List ℕ)
 titles_of text = take most_titles (header_values (codes "T:") text)
 

@@ -17,10 +17,11 @@ is_continuation line = begins_with line (codes "+:")
 abbrev pub is_comment : List ℕ → Bool
 is_comment line = begins_with line (codes "%")
 
--- a line that begins a part of another kind, as typeset text, and one that ends it
+-- a line that begins a part of another kind, as typeset text
 abbrev pub begins_part : List ℕ → Bool
 begins_part line = begins_with line (codes "%%begin")
 
+-- a line that ends such a part
 abbrev pub ends_part_line : List ℕ → Bool
 ends_part_line line = begins_with line (codes "%%end")
 

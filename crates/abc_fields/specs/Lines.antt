@@ -84,6 +84,7 @@ pub record IsPiece (p : Piece) (later : List Piece) : Type 0 where
   pub content : has_no_ending p.content ≡ true
   pub ending : IsEnding p.ending (text_of later) ⊎ IsUnended p later
 
+-- pieces, each before those that follow it
 abbrev pub ArePieces : List Piece → Type 0
 ArePieces [] = ⊤
 ArePieces (p ∷ ps) = IsPiece p ps × ArePieces ps
@@ -100,7 +101,7 @@ pub record Span : Type 0 where
   pub to : ℕ
   pub bytes : List ℕ
 
--- the lines of pieces, of which the first begins here
+-- the lines of pieces, of which the first begins at this index
 abbrev pub spans_from : ℕ → List Piece → List Span
 spans_from at [] = []
 spans_from at (p ∷ ps) =
@@ -111,15 +112,15 @@ spans_from at (p ∷ ps) =
 abbrev pub spans_of : List ℕ → List Span
 spans_of text = spans_from 0 (pieces_of text)
 
--- a line is the part of the text from where it begins to where it ends, and begins nowhere below
--- this
+-- a line is the part of the text from where it begins to where it ends, and does not begin before
+-- this index
 pub record IsSpan (text : List ℕ) (low : ℕ) (s : Span) : Type 0 where
   pub above : low ≤ s.from
   pub ordered : s.from ≤ s.to
   pub within : s.to ≤ length text
   pub part : slice_range text s.from s.to ≡ s.bytes
 
--- each span begins after the one before it ends
+-- each line is a part of the text, and begins after the one before it ends
 abbrev pub SpansRise : List ℕ → ℕ → List Span → Type 0
 SpansRise text low [] = ⊤
 SpansRise text low (s ∷ ss) = IsSpan text low s × SpansRise text (s.to + 1) ss

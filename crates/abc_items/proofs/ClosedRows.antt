@@ -1,21 +1,23 @@
 -- The rows that end at a closing mark: quoted texts, decorations and grace notes, inline fields, and chords.
-use Rattle.std.proofs.Common.{◌≡◌, ℕ, zero, suc, ◌+◌, ◌<◌, ◌≤◌, Bool, true, false, not, ◌&&◌, cond, eqb, nat_lt, List, [], ◌∷◌, ◌++◌, length, take, drop, Option, Some, None, refl, ap, sym, ◌∙◌, arith}
+use Rattle.std.proofs.Common.{◌≡◌, ℕ, zero, suc, ◌+◌, ◌<◌, ◌≤◌, Bool, true, false, not, ◌&&◌, cond, eqb, nat_lt, List, [], ◌∷◌, ◌++◌, length, take, drop}
+use Rattle.std.proofs.Common.{Option, Some, None, refl, ap, sym, ◌∙◌, arith}
 use Rattle.std.specs.List.{prefix_len, list_all}
 use Rattle.std.specs.Char.{is_ascii_alphabetic, is_ascii_digit}
 use Rattle.std.proofs.lemmas.Bool.{eqb-true, eq-eqb, ltb-true, lt-ltb}
 use Rattle.std.proofs.lemmas.List.{length-take-le, append_assoc, length-append}
 use Rattle.std.proofs.lemmas.List.Sums.{prefix_len-le-length}
-use Rattle.abc_keys.specs.Keys.{begins}
-use Rattle.abc_items.specs.Marks.{closing_bracket, is_chord_byte, is_closing_bracket, has_no, colon, opening_bracket}
+use Rattle.abc_fields.specs.Bytes.{colon, begins}
+use Rattle.abc_items.specs.Marks.{closing_bracket, is_chord_byte, is_closing_bracket, has_no, opening_bracket}
 use Rattle.abc_items.specs.Grammar.{IsRun, IsEnclosed, IsInlineField, IsChord}
 use Rattle.abc_items.specs.Rows.{up_to, longer, enclosed, inline_field, chord}
-use Rattle.abc_items.proofs.Runs.{front_is_run, run_is_longest}
+use Rattle.abc_items.proofs.ByteRuns.{front_is_run, run_is_longest}
 use Rattle.abc_items.proofs.ClosingMarks.{FindsMark, search_finds, search_passes}
 use Rattle.abc_items.proofs.RowLengths.{IsOfRow, GivesEach, closed_line, closed_length}
 
 -- TWO MARKS
 -- the row gives two marks and what is between them their length
-enclosed_line : (opening closing : ℕ) (inside rest : List ℕ) → has_no closing inside ≡ true → enclosed opening closing (opening ∷ (inside ++ (closing ∷ rest))) ≡ Some (length inside + 2)
+enclosed_line : (opening closing : ℕ) (inside rest : List ℕ) → has_no closing inside ≡ true
+    → enclosed opening closing (opening ∷ (inside ++ (closing ∷ rest))) ≡ Some (length inside + 2)
 unfolding enclosed
 enclosed_line opening closing inside rest plain =
     let two : (length inside + 1) + 1 ≡ length inside + 2 = omega arith in
@@ -64,7 +66,8 @@ field_gives text rest is =
     ap inline_field line ∙ field_line is.name is.value rest is.letter is.plain ∙ ap Some (sym long)
 
 -- by the first three bytes, and by what the search finds after them
-field_cases : (first name third : ℕ) (text : List ℕ) (x y z : Bool) (found : Option ℕ) → eqb first opening_bracket ≡ x → is_ascii_alphabetic name ≡ y → eqb third colon ≡ z
+field_cases : (first name third : ℕ) (text : List ℕ) (x y z : Bool) (found : Option ℕ) → eqb first opening_bracket ≡ x → is_ascii_alphabetic name ≡ y
+    → eqb third colon ≡ z
     → FindsMark closing_bracket text found → IsOfRow (λ t r. IsInlineField t) (first ∷ name ∷ third ∷ text) (cond (x && y && z) (longer 3 found) None)
 field_cases first name third text false y z found p q r finds = tt
 field_cases first name third text true false z found p q r finds = tt
@@ -76,7 +79,8 @@ field_cases first name third text true true true (Some n) p q r finds =
       value = finds.inside;
       letter = q;
       plain = finds.plain;
-      whole = ap (λ k. take k (first ∷ name ∷ third ∷ text)) three ∙ (λ i. eqb-true first opening_bracket p i ∷ name ∷ eqb-true third colon r i ∷ finds.whole i);
+      whole =
+          ap (λ k. take k (first ∷ name ∷ third ∷ text)) three ∙ (λ i. eqb-true first opening_bracket p i ∷ name ∷ eqb-true third colon r i ∷ finds.whole i);
     }
 
 -- each length that the row gives is that of an inline field
@@ -85,7 +89,9 @@ unfolding inline_field
 field_is [] = tt
 field_is (first ∷ []) = tt
 field_is (first ∷ name ∷ []) = tt
-field_is (first ∷ name ∷ third ∷ text) = field_cases first name third text (eqb first opening_bracket) (is_ascii_alphabetic name) (eqb third colon) (up_to closing_bracket text) refl refl refl (search_finds closing_bracket text)
+field_is (first ∷ name ∷ third ∷ text) =
+    field_cases first name third text (eqb first opening_bracket) (is_ascii_alphabetic name) (eqb third colon) (up_to closing_bracket text) refl refl refl
+    (search_finds closing_bracket text)
 
 -- CHORDS
 -- the closing bracket stands after the inside
@@ -114,7 +120,8 @@ chord_line inside rest plain some no_digit =
     let line = inside ++ (closing_bracket ∷ rest) in
     let long : prefix_len is_chord_byte line ≡ length inside = run_is_longest is_chord_byte inside (closing_bracket ∷ rest) run in
     chord_tests (nat_lt 0 (prefix_len is_chord_byte line)) (begins is_ascii_digit line) (begins is_closing_bracket (drop (prefix_len is_chord_byte line) line))
-    (prefix_len is_chord_byte line) (length inside) (lt-ltb 0 (prefix_len is_chord_byte line) (omega arith)) (digit_of_inside inside (closing_bracket ∷ rest) some ∙ no_digit)
+    (prefix_len is_chord_byte line) (length inside) (lt-ltb 0 (prefix_len is_chord_byte line) (omega arith))
+    (digit_of_inside inside (closing_bracket ∷ rest) some ∙ no_digit)
     (ap (λ k. begins is_closing_bracket (drop k line)) long ∙ closing_after inside rest) long
 
 -- each chord has the length that the row gives
@@ -137,7 +144,8 @@ front_begins p (suc n) [] other = refl
 front_begins p (suc n) (byte ∷ text) other = other
 
 -- by the tests of the row
-chord_cases : (byte : ℕ) (text : List ℕ) (w x y z : Bool) → eqb byte opening_bracket ≡ w → nat_lt 0 (prefix_len is_chord_byte text) ≡ x → begins is_ascii_digit text ≡ y
+chord_cases : (byte : ℕ) (text : List ℕ) (w x y z : Bool) → eqb byte opening_bracket ≡ w → nat_lt 0 (prefix_len is_chord_byte text) ≡ x
+    → begins is_ascii_digit text ≡ y
     → begins is_closing_bracket (drop (prefix_len is_chord_byte text) text) ≡ z
     → IsOfRow (λ t r. IsChord t) (byte ∷ text) (cond (w && x && not y && z) (Some (prefix_len is_chord_byte text + 2)) None)
 chord_cases byte text false x y z p q r s = tt

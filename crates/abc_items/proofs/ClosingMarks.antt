@@ -1,5 +1,6 @@
 -- What a search for a closing mark finds.
-use Rattle.std.proofs.Common.{◌≡◌, ℕ, zero, suc, ◌+◌, ◌<◌, Bool, true, false, not, ◌||◌, cond, eqb, List, [], ◌∷◌, ◌++◌, length, take, drop, get_or, Option, Some, None, refl, ap, sym, ◌∙◌, arith, inl, inr}
+use Rattle.std.proofs.Common.{◌≡◌, ℕ, zero, suc, ◌+◌, ◌<◌, Bool, true, false, not, ◌||◌, cond, eqb, List, [], ◌∷◌, ◌++◌, length, take, drop, get_or, Option}
+use Rattle.std.proofs.Common.{Some, None, refl, ap, sym, ◌∙◌, arith, inl, inr}
 use Rattle.std.specs.Prelude.{⊤}
 use Rattle.std.specs.Option.{is_some, unwrap_or}
 use Rattle.memchr.specs.Find.{IsFirstByte, is_byte, is_byte3}
@@ -9,14 +10,15 @@ use Rattle.std.proofs.lemmas.Bool.{eqb-true, eq-eqb, and_parts, and_from, not-tr
 use Rattle.abc_items.specs.Marks.{closing_brace, closing_bracket, has_no, is_chord_byte, bar_mark, opening_bracket}
 use Rattle.abc_items.specs.Rows.{up_to, longer}
 use Rattle.abc_items.specs.declared.rows.Misses.{Misses}
-use Rattle.abc_items.specs.Misses.{AreMissing}
+use Rattle.abc_items.specs.Inside.Misses.{AreMissing}
 
--- no byte below this place is the mark
+-- no byte below this index is the mark
 abbrev pub NoneBelow : ℕ → List ℕ → ℕ → Type 0
 NoneBelow mark text n = (j : ℕ) → j < n → eqb (get_or text j 0) mark ≡ true → ⊥
 
 -- the first byte that is the mark is where the search ends
-pub up_to_first : (mark : ℕ) (text : List ℕ) (n : ℕ) → NoneBelow mark text n → n < length text → eqb (get_or text n 0) mark ≡ true → up_to mark text ≡ Some (n + 1)
+pub up_to_first : (mark : ℕ) (text : List ℕ) (n : ℕ) → NoneBelow mark text n → n < length text → eqb (get_or text n 0) mark ≡ true
+    → up_to mark text ≡ Some (n + 1)
 up_to_first mark [] n none within here = absurd (omega arith)
 up_to_first mark (byte ∷ text) zero none within here = rw here refl
 up_to_first mark (byte ∷ text) (suc n) none within here =
@@ -84,7 +86,8 @@ FindsMark mark text None = ⊤
 FindsMark mark text (Some n) = IsClosed mark text n
 
 -- one byte before a text that was searched
-finds_more : (mark byte : ℕ) (text : List ℕ) (c : Bool) (found : Option ℕ) → eqb byte mark ≡ c → FindsMark mark text found → FindsMark mark (byte ∷ text) (cond c (Some 1) (longer 1 found))
+finds_more : (mark byte : ℕ) (text : List ℕ) (c : Bool) (found : Option ℕ) → eqb byte mark ≡ c → FindsMark mark text found
+    → FindsMark mark (byte ∷ text) (cond c (Some 1) (longer 1 found))
 finds_more mark byte text true found same finds = record { inside = []; plain = refl; whole = ap (λ b. b ∷ []) (eqb-true byte mark same) }
 finds_more mark byte text false None same finds = tt
 finds_more mark byte text false (Some n) same finds =
@@ -106,7 +109,8 @@ search_is mark text None none = up_to_nowhere mark text (λ j low. none j (omega
 search_is mark text (Some n) here = up_to_first mark text n (λ j low. here.0.before j (omega arith) low) here.0.high here.1
 
 -- where a search finds nothing, the mark is missing
-pub none_is_missing : (mark : ℕ) (text : List ℕ) (found : Option ℕ) (none : Bool) → is_some found ≡ not none → found ≡ up_to mark text → none ≡ true → has_no mark text ≡ true
+pub none_is_missing : (mark : ℕ) (text : List ℕ) (found : Option ℕ) (none : Bool) → is_some found ≡ not none → found ≡ up_to mark text → none ≡ true
+    → has_no mark text ≡ true
 none_is_missing mark text None none is value true_is = not_found_missing mark text (sym value)
 none_is_missing mark text (Some n) none is value true_is = let no : true ≡ not none = is in absurd (cc (ap not true_is))
 
@@ -122,12 +126,15 @@ chord_byte_is : (byte : ℕ) → is_chord_byte byte ≡ not (is_byte3 opening_br
 chord_byte_is byte = chord_test (eqb byte opening_bracket) (eqb byte closing_bracket) (eqb byte bar_mark)
 
 -- the inside of a chord is searched to the first such byte
-pub chord_search_is : (text : List ℕ) (found : Option ℕ) → IsFirstByte (is_byte3 opening_bracket closing_bracket bar_mark) text found → prefix_len is_chord_byte text ≡ unwrap_or found (length text)
+pub chord_search_is : (text : List ℕ) (found : Option ℕ) → IsFirstByte (is_byte3 opening_bracket closing_bracket bar_mark) text found
+    → prefix_len is_chord_byte text ≡ unwrap_or found (length text)
 chord_search_is text None none = prefix_len_is is_chord_byte text (length text) 0 (omega arith)
-    (λ k low. chord_byte_is (get_or text k 0) ∙ ap not (false_from_ne_true (is_byte3 opening_bracket closing_bracket bar_mark (get_or text k 0)) (none k (omega arith) low)))
+    (λ k low. chord_byte_is (get_or text k 0)
+    ∙ ap not (false_from_ne_true (is_byte3 opening_bracket closing_bracket bar_mark (get_or text k 0)) (none k (omega arith) low)))
     (λ past. absurd (omega arith))
 chord_search_is text (Some n) here = prefix_len_is is_chord_byte text n 0 (omega (arith, here.0.high))
-    (λ k low. chord_byte_is (get_or text k 0) ∙ ap not (false_from_ne_true (is_byte3 opening_bracket closing_bracket bar_mark (get_or text k 0)) (here.0.before k (omega arith) low)))
+    (λ k low. chord_byte_is (get_or text k 0)
+    ∙ ap not (false_from_ne_true (is_byte3 opening_bracket closing_bracket bar_mark (get_or text k 0)) (here.0.before k (omega arith) low)))
     (λ _. chord_byte_is (get_or text n 0) ∙ ap not here.1)
 
 -- what is remembered of a text holds of its rest

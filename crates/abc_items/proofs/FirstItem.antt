@@ -1,8 +1,11 @@
 -- The first row that fits is the item at the front of a line, and there is no other.
-use Rattle.std.proofs.Common.{◌≡◌, ◌⊎◌, ℕ, zero, suc, ◌+◌, ◌<◌, ◌≤◌, Bool, true, false, ◌||◌, cond, eqb, List, [], ◌∷◌, ◌++◌, length, take, drop, Option, Some, None, refl, ap, sym, ◌∙◌, arith, inl, inr, subst}
+use Rattle.std.proofs.Common.{◌≡◌, ◌⊎◌, ℕ, zero, suc, ◌+◌, ◌<◌, ◌≤◌, Bool, true, false, ◌||◌, cond, eqb, List, [], ◌∷◌, ◌++◌, length, take, drop, Option, Some}
+use Rattle.std.proofs.Common.{None, refl, ap, sym, ◌∙◌, arith, inl, inr, subst}
 use Rattle.std.proofs.lemmas.Bool.{eqb-true, eq-eqb, cases_order}
 use Rattle.std.proofs.lemmas.List.{take-append-drop}
-use Rattle.abc_items.specs.Marks.{bar_mark, closing_brace, colon, exclamation_mark, opening_brace, opening_bracket, opening_parenthesis, plus_sign, quotation_mark}
+use Rattle.abc_fields.specs.Bytes.{colon}
+use Rattle.abc_items.specs.Marks.{bar_mark, closing_brace, exclamation_mark, opening_brace, opening_bracket, opening_parenthesis, plus_sign}
+use Rattle.abc_items.specs.Marks.{quotation_mark}
 use Rattle.abc_items.specs.declared.kinds.Front.{Front}
 use Rattle.abc_items.specs.declared.kinds.Kind.{Kind}
 use Rattle.abc_items.specs.declared.kinds.Kind.TheVariants.{Quoted, Decoration, Grace, InlineField, Chord, Tuplet, Note, Bar, Other}
@@ -64,12 +67,14 @@ one_row kind None line item tells after = record {
 }
 
 -- both forms of a decoration
-neither : (line : List ℕ) → Tells (λ t r. IsEnclosed exclamation_mark exclamation_mark t) line None → Tells (λ t r. IsEnclosed plus_sign plus_sign t) line None → Tells (Fits Decoration) line None
+neither : (line : List ℕ) → Tells (λ t r. IsEnclosed exclamation_mark exclamation_mark t) line None → Tells (λ t r. IsEnclosed plus_sign plus_sign t) line None
+    → Tells (Fits Decoration) line None
 neither line exclaimed added text rest whole (inl f) = exclaimed text rest whole f
 neither line exclaimed added text rest whole (inr f) = added text rest whole f
 
 -- a decoration in either marks, before the rows after it
-two_rows : (found also : Option ℕ) (line : List ℕ) (item : Front) → Tells (λ t r. IsEnclosed exclamation_mark exclamation_mark t) line found → Tells (λ t r. IsEnclosed plus_sign plus_sign t) line also
+two_rows : (found also : Option ℕ) (line : List ℕ) (item : Front) → Tells (λ t r. IsEnclosed exclamation_mark exclamation_mark t) line found
+    → Tells (λ t r. IsEnclosed plus_sign plus_sign t) line also
     → IsFirstFrom 2 line item → IsFirstFrom 1 line (or_else Decoration found (or_else Decoration also item))
 two_rows (Some n) also line item exclaimed added after = record { fits = inl exclaimed; later = omega arith; first = λ other low high. absurd (omega arith) }
 two_rows None (Some n) line item exclaimed added after = record { fits = inr added; later = omega arith; first = λ other low high. absurd (omega arith) }
@@ -96,14 +101,18 @@ only_bar_before line none kind low high =
     subst P (sym (same_kind kind Bar seven)) none
 
 -- the last two rows take one byte
-one_byte : (byte : ℕ) (text : List ℕ) (x y : Bool) → eqb byte bar_mark ≡ x → eqb byte colon ≡ y → IsFirstFrom 7 (byte ∷ text) (front (cond (x || (y || false)) Bar Other) 1)
-one_byte byte text true y p q = record { fits = inl (ap (λ b. b ∷ []) (eqb-true byte bar_mark p)); later = omega arith; first = λ other low high. absurd (omega arith) }
-one_byte byte text false true p q = record { fits = inr (ap (λ b. b ∷ []) (eqb-true byte colon q)); later = omega arith; first = λ other low high. absurd (omega arith) }
+one_byte : (byte : ℕ) (text : List ℕ) (x y : Bool) → eqb byte bar_mark ≡ x → eqb byte colon ≡ y
+    → IsFirstFrom 7 (byte ∷ text) (front (cond (x || (y || false)) Bar Other) 1)
+one_byte byte text true y p q =
+    record { fits = inl (ap (λ b. b ∷ []) (eqb-true byte bar_mark p)); later = omega arith; first = λ other low high. absurd (omega arith) }
+one_byte byte text false true p q =
+    record { fits = inr (ap (λ b. b ∷ []) (eqb-true byte colon q)); later = omega arith; first = λ other low high. absurd (omega arith) }
 one_byte byte text false false p q = record { fits = (byte, refl); later = omega arith; first = only_bar_before (byte ∷ text) (no_bar byte text p q) }
 
 -- the rows of two marks, with their lengths
 enclosed_tells : (opening closing : ℕ) (line : List ℕ) → Tells (λ t r. IsEnclosed opening closing t) line (enclosed opening closing line)
-enclosed_tells opening closing = row_tells (λ t r. IsEnclosed opening closing t) (enclosed opening closing) (enclosed_gives opening closing) (enclosed_is opening closing)
+enclosed_tells opening closing =
+    row_tells (λ t r. IsEnclosed opening closing t) (enclosed opening closing) (enclosed_gives opening closing) (enclosed_is opening closing)
 
 -- the item at the front of a line is of the first row that fits
 first_item_first : (byte : ℕ) (text : List ℕ) → IsFirstFrom 0 (byte ∷ text) (first_item (byte ∷ text))
@@ -111,7 +120,8 @@ unfolding first_item
 first_item_first byte text =
     let line = byte ∷ text in
     one_row Quoted (enclosed quotation_mark quotation_mark line) line _ (enclosed_tells quotation_mark quotation_mark line)
-    (two_rows (enclosed exclamation_mark exclamation_mark line) (enclosed plus_sign plus_sign line) line _ (enclosed_tells exclamation_mark exclamation_mark line) (enclosed_tells plus_sign plus_sign line)
+    (two_rows (enclosed exclamation_mark exclamation_mark line) (enclosed plus_sign plus_sign line) line _
+    (enclosed_tells exclamation_mark exclamation_mark line) (enclosed_tells plus_sign plus_sign line)
     (one_row Grace (enclosed opening_brace closing_brace line) line _ (enclosed_tells opening_brace closing_brace line)
     (one_row InlineField (inline_field line) line _ (row_tells (Fits InlineField) inline_field field_gives field_is line)
     (one_row Chord (chord line) line _ (row_tells (Fits Chord) chord chord_gives chord_is line)
@@ -120,7 +130,8 @@ first_item_first byte text =
     (one_byte byte text (eqb byte bar_mark) (eqb byte colon) refl refl)))))))
 
 -- the front of a line is an item
-pub first_item_is : (byte : ℕ) (text : List ℕ) → IsItem (first_item (byte ∷ text)).kind (take (first_item (byte ∷ text)).length (byte ∷ text)) (drop (first_item (byte ∷ text)).length (byte ∷ text))
+pub first_item_is : (byte : ℕ) (text : List ℕ)
+    → IsItem (first_item (byte ∷ text)).kind (take (first_item (byte ∷ text)).length (byte ∷ text)) (drop (first_item (byte ∷ text)).length (byte ∷ text))
 first_item_is byte text =
     let first = first_item_first byte text in
     let n = (first_item (byte ∷ text)).length in
@@ -153,7 +164,8 @@ item_has_byte Other text rest f = some_of text f.0 [] f.1
 
 -- THERE IS NO OTHER ITEM
 -- no line begins with two bytes that differ
-clash : (a b : ℕ) (text rest other later inside also : List ℕ) → (eqb a b ≡ false) → text ≡ a ∷ inside → other ≡ b ∷ also → text ++ rest ≡ other ++ later → text ≡ other
+clash : (a b : ℕ) (text rest other later inside also : List ℕ) → (eqb a b ≡ false) → text ≡ a ∷ inside → other ≡ b ∷ also → text ++ rest ≡ other ++ later
+    → text ≡ other
 clash a b text rest other later inside also apart is that same =
     let heads : a ∷ (inside ++ rest) ≡ b ∷ (also ++ later) = ap (λ t. t ++ rest) (sym is) ∙ same ∙ ap (λ t. t ++ later) that in
     let equal : a ≡ b = cc in
@@ -164,10 +176,13 @@ clash a b text rest other later inside also apart is that same =
 one_byte_each : (byte also : ℕ) (text rest other later : List ℕ) → text ≡ byte ∷ [] → other ≡ also ∷ [] → text ++ rest ≡ other ++ later → text ≡ other
 one_byte_each byte also text rest other later is that same = same_front text rest other later (ap length is ∙ sym (ap length that)) same
 
--- a decoration is in one form, and ends at one place
+-- a decoration is in one form, and ends at one byte
 one_decoration : (text rest other later : List ℕ) → Fits Decoration text rest → Fits Decoration other later → text ++ rest ≡ other ++ later → text ≡ other
-one_decoration text rest other later (inl f) (inl g) same = one_text_of (λ t r. IsEnclosed exclamation_mark exclamation_mark t) (enclosed exclamation_mark exclamation_mark) (enclosed_gives exclamation_mark exclamation_mark) text rest other later f g same
-one_decoration text rest other later (inr f) (inr g) same = one_text_of (λ t r. IsEnclosed plus_sign plus_sign t) (enclosed plus_sign plus_sign) (enclosed_gives plus_sign plus_sign) text rest other later f g same
+one_decoration text rest other later (inl f) (inl g) same =
+    one_text_of (λ t r. IsEnclosed exclamation_mark exclamation_mark t) (enclosed exclamation_mark exclamation_mark)
+    (enclosed_gives exclamation_mark exclamation_mark) text rest other later f g same
+one_decoration text rest other later (inr f) (inr g) same =
+    one_text_of (λ t r. IsEnclosed plus_sign plus_sign t) (enclosed plus_sign plus_sign) (enclosed_gives plus_sign plus_sign) text rest other later f g same
 one_decoration text rest other later (inl f) (inr g) same = clash exclamation_mark plus_sign text rest other later _ _ refl f.whole g.whole same
 one_decoration text rest other later (inr f) (inl g) same = clash plus_sign exclamation_mark text rest other later _ _ refl f.whole g.whole same
 

@@ -1,13 +1,14 @@
 -- The items of a text are items by the table, one after another, and no others are.
 use Rattle.std.proofs.Common.{◌≡◌, ℕ, zero, suc, ◌+◌, ◌-◌, ◌<◌, List, [], ◌∷◌, ◌++◌, length, take, drop, refl, ap, sym, ◌∙◌, arith, subst}
 use Rattle.std.proofs.lemmas.List.{append_cancel_left, length-append, take-append-drop}
-use Rattle.abc_items.specs.Grammar.{Token, text_of, IsItem, EachIsItem, AreItems}
+use Rattle.abc_items.specs.Grammar.{ItemText, text_of_items, IsItem, EachIsItem, AreItems}
 use Rattle.abc_items.specs.Rows.{first_item, items_after, items_of}
 use Rattle.abc_items.proofs.FirstItem.{first_item_is, item_has_byte, one_item}
 
 -- THE ITEMS OF A TEXT
 -- an item before the items of the rest
-more_items : (item : Token) (rest : List ℕ) (items : List Token) → IsItem item.kind item.text rest → AreItems items rest → AreItems (item ∷ items) (item.text ++ rest)
+more_items : (item : ItemText) (rest : List ℕ) (items : List ItemText) → IsItem item.kind item.text rest → AreItems items rest
+    → AreItems (item ∷ items) (item.text ++ rest)
 more_items item rest items is are =
     let P : List ℕ → Type 0 = λ r. IsItem item.kind item.text r in
     record { whole = ap (λ r. item.text ++ r) are.whole; each = (subst P (sym are.whole) is, are.each) }
@@ -26,10 +27,12 @@ taken_some (suc n) text some = omega arith
 pub first_item_some : (byte : ℕ) (text : List ℕ) → 0 < (first_item (byte ∷ text)).length
 first_item_some byte text =
     let item = first_item (byte ∷ text) in
-    taken_some item.length (byte ∷ text) (item_has_byte item.kind (take item.length (byte ∷ text)) (drop item.length (byte ∷ text)) (first_item_is byte text).fits)
+    taken_some item.length (byte ∷ text)
+    (item_has_byte item.kind (take item.length (byte ∷ text)) (drop item.length (byte ∷ text)) (first_item_is byte text).fits)
 
 -- after the bytes that are skipped come items
-first_and_more : (byte : ℕ) (text : List ℕ) → AreItems (items_after ((first_item (byte ∷ text)).length - 1) text) (drop ((first_item (byte ∷ text)).length - 1) text)
+first_and_more : (byte : ℕ) (text : List ℕ)
+    → AreItems (items_after ((first_item (byte ∷ text)).length - 1) text) (drop ((first_item (byte ∷ text)).length - 1) text)
     → AreItems (items_after 0 (byte ∷ text)) (byte ∷ text)
 first_and_more byte text are =
     let item = first_item (byte ∷ text) in
@@ -53,28 +56,29 @@ items_are text = items_after_are 0 text
 
 -- NO OTHER ITEMS
 -- items have bytes
-no_items : (item : Token) (items : List Token) → EachIsItem (item ∷ items) → [] ≡ text_of (item ∷ items) → ⊥
+no_items : (item : ItemText) (items : List ItemText) → EachIsItem (item ∷ items) → [] ≡ text_of_items (item ∷ items) → ⊥
 no_items item items are same =
-    let some = item_has_byte item.kind item.text (text_of items) are.0.fits in
-    let long : 0 ≡ length item.text + length (text_of items) = ap length same ∙ length-append item.text (text_of items) in
+    let some = item_has_byte item.kind item.text (text_of_items items) are.0.fits in
+    let long : 0 ≡ length item.text + length (text_of_items items) = ap length same ∙ length-append item.text (text_of_items items) in
     omega arith
 
 -- items of one kind and one text are the same
-same_tokens : (item also : Token) → item.kind ≡ also.kind → item.text ≡ also.text → item ≡ also
-same_tokens item also kinds texts = λ i. record { kind = kinds i; text = texts i }
+same_item_texts : (item also : ItemText) → item.kind ≡ also.kind → item.text ≡ also.text → item ≡ also
+same_item_texts item also kinds texts = λ i. record { kind = kinds i; text = texts i }
 
 -- items of one text are the same, one after another
-same_items : (items others : List Token) → EachIsItem items → EachIsItem others → text_of items ≡ text_of others → items ≡ others
+same_items : (items others : List ItemText) → EachIsItem items → EachIsItem others → text_of_items items ≡ text_of_items others → items ≡ others
 same_items [] [] are those same = refl
 same_items [] (also ∷ others) are those same = absurd (no_items also others those same)
 same_items (item ∷ items) [] are those same = absurd (no_items item items are (sym same))
 same_items (item ∷ items) (also ∷ others) are those same =
-    let one = one_item item.kind also.kind item.text (text_of items) also.text (text_of others) are.0 those.0 same in
-    let rest : text_of items ≡ text_of others = append_cancel_left also.text (text_of items) (text_of others) (ap (λ t. t ++ text_of items) (sym one.texts) ∙ same) in
-    λ i. same_tokens item also one.kinds one.texts i ∷ same_items items others are.1 those.1 rest i
+    let one = one_item item.kind also.kind item.text (text_of_items items) also.text (text_of_items others) are.0 those.0 same in
+    let rest : text_of_items items ≡ text_of_items others =
+    append_cancel_left also.text (text_of_items items) (text_of_items others) (ap (λ t. t ++ text_of_items items) (sym one.texts) ∙ same) in
+    λ i. same_item_texts item also one.kinds one.texts i ∷ same_items items others are.1 those.1 rest i
 
 -- a text has no other items
-pub items_unique : (text : List ℕ) (items : List Token) → AreItems items text → items ≡ items_of text
+pub items_unique : (text : List ℕ) (items : List ItemText) → AreItems items text → items ≡ items_of text
 items_unique text items are = let those = items_are text in same_items items (items_of text) are.each those.each (are.whole ∙ sym those.whole)
 
 -- ONE STEP
@@ -86,7 +90,9 @@ skipped (suc skip) (byte ∷ text) = skipped skip text
 
 -- the items of a text with a byte: the first one, and those of the rest
 pub items_step : (byte : ℕ) (text : List ℕ)
-    → items_of (byte ∷ text) ≡ record { kind = (first_item (byte ∷ text)).kind; text = take (first_item (byte ∷ text)).length (byte ∷ text) } ∷ items_of (drop (first_item (byte ∷ text)).length (byte ∷ text))
+    → items_of (byte ∷ text)
+    ≡ record { kind = (first_item (byte ∷ text)).kind; text = take (first_item (byte ∷ text)).length (byte ∷ text) } ∷ items_of
+    (drop (first_item (byte ∷ text)).length (byte ∷ text))
 items_step byte text =
     let item = first_item (byte ∷ text) in
     let past = drop_past item.length byte text (first_item_some byte text) in

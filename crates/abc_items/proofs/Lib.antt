@@ -1,4 +1,4 @@
-pub mod Runs
+pub mod ByteRuns
 pub mod ClosingMarks
 pub mod RowLengths
 pub mod ClosedRows
@@ -8,4 +8,4 @@ pub mod FirstItem
 pub mod PlainItems
 pub mod ItemLaw
 pub mod PlainBytes
-pub mod Places
+pub mod ItemSpans

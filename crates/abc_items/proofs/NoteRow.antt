@@ -1,5 +1,6 @@
 -- The row of notes.
-use Rattle.std.proofs.Common.{◌≡◌, ℕ, suc, ◌+◌, Bool, true, false, cond, eqb, List, [], ◌∷◌, ◌++◌, length, take, drop, Option, Some, None, refl, ap, sym, ◌∙◌, arith, inl, inr, subst}
+use Rattle.std.proofs.Common.{◌≡◌, ℕ, suc, ◌+◌, Bool, true, false, cond, eqb, List, [], ◌∷◌, ◌++◌, length, take, drop, Option, Some, None, refl, ap, sym, ◌∙◌}
+use Rattle.std.proofs.Common.{arith, inl, inr, subst}
 use Rattle.std.specs.List.{prefix_len}
 use Rattle.std.specs.Option.{option_map, unwrap_or, is_some}
 use Rattle.std.proofs.lemmas.Bool.{eqb-true, cases_Bool}
@@ -8,12 +9,13 @@ use Rattle.std.proofs.Math.Seq.{take-append-add, drop-append-add, drop-append_se
 use Rattle.abc_keys.specs.declared.letters.Accidental.{Accidental}
 use Rattle.abc_keys.specs.declared.letters.Accidental.TheVariants.{DoubleFlat, Flat, Natural, Sharp, DoubleSharp}
 use Rattle.abc_keys.specs.declared.letters.Letter.{Letter}
-use Rattle.abc_keys.specs.Letters.{is_one_of, accidental_of, doubled, letter_of}
-use Rattle.abc_keys.specs.Keys.{begins}
+use Rattle.abc_fields.specs.Bytes.{is_one_of}
+use Rattle.abc_keys.specs.Letters.{accidental_of, doubled, letter_of}
+use Rattle.abc_fields.specs.Bytes.{begins}
 use Rattle.abc_items.specs.Marks.{is_octave_mark, flat_sign, natural_sign, sharp_sign}
 use Rattle.abc_items.specs.Grammar.{IsRun, IsNote, spelling_of}
 use Rattle.abc_items.specs.Rows.{own_accidental, is_note_name, note}
-use Rattle.abc_items.proofs.Runs.{front_is_run, run_is_longest}
+use Rattle.abc_items.proofs.ByteRuns.{front_is_run, run_is_longest}
 use Rattle.abc_items.proofs.RowLengths.{IsOfRow, GivesEach}
 
 -- A LETTER IS NO SIGN
@@ -26,7 +28,8 @@ other_byte byte sign letter none named = elim (cases_Bool (eqb byte sign)) [
 
 -- a byte that names a letter is no accidental
 no_sign : (byte : ℕ) (letter : Letter) → letter_of byte ≡ Some letter → accidental_of byte ≡ None
-no_sign byte letter named = rw (other_byte byte sharp_sign letter refl named, other_byte byte flat_sign letter refl named, other_byte byte natural_sign letter refl named) refl
+no_sign byte letter named =
+    rw (other_byte byte sharp_sign letter refl named, other_byte byte flat_sign letter refl named, other_byte byte natural_sign letter refl named) refl
 
 -- a byte that names a letter doubles no accidental
 no_double : (byte : ℕ) (letter : Letter) (accidental : Accidental) → letter_of byte ≡ Some letter → doubled accidental byte ≡ None
@@ -37,7 +40,8 @@ no_double byte letter Natural named = refl
 no_double byte letter DoubleSharp named = refl
 
 -- the accidental before a letter is the one that is spelled
-accidental_before : (own : Option Accidental) (name : ℕ) (letter : Letter) (tail : List ℕ) → letter_of name ≡ Some letter → own_accidental (spelling_of own ++ (name ∷ tail)) ≡ own
+accidental_before : (own : Option Accidental) (name : ℕ) (letter : Letter) (tail : List ℕ) → letter_of name ≡ Some letter
+    → own_accidental (spelling_of own ++ (name ∷ tail)) ≡ own
 accidental_before None name letter [] named = no_sign name letter named
 accidental_before None name letter (byte ∷ tail) named = ap (option_map (λ a. unwrap_or (doubled a byte) a)) (no_sign name letter named)
 accidental_before (Some DoubleFlat) name letter tail named = refl
@@ -53,7 +57,8 @@ test_notes true n m p same = ap Some same
 test_notes false n m p same = absurd (cc)
 
 -- a note's length, where its accidental is known
-note_after : (own : Option Accidental) (name : ℕ) (letter : Letter) (tail : List ℕ) → own_accidental (spelling_of own ++ (name ∷ tail)) ≡ own → letter_of name ≡ Some letter
+note_after : (own : Option Accidental) (name : ℕ) (letter : Letter) (tail : List ℕ) → own_accidental (spelling_of own ++ (name ∷ tail)) ≡ own
+    → letter_of name ≡ Some letter
     → note (spelling_of own ++ (name ∷ tail)) ≡ Some (length (spelling_of own) + 1 + prefix_len is_octave_mark tail)
 unfolding note
 note_after own name letter tail is named =
@@ -61,7 +66,8 @@ note_after own name letter tail is named =
     let at : drop (length (spelling_of own)) line ≡ name ∷ tail = drop-append_seam (spelling_of own) (name ∷ tail) in
     let past : drop (length (spelling_of own) + 1) line ≡ tail = drop-append-add (spelling_of own) (name ∷ tail) 1 in
     let before : length (spelling_of (own_accidental line)) ≡ length (spelling_of own) = ap (λ o. length (spelling_of o)) is in
-    let begin : begins is_note_name (drop (length (spelling_of (own_accidental line))) line) ≡ true = ap (λ k. begins is_note_name (drop k line)) before ∙ ap (begins is_note_name) at ∙ ap is_some named in
+    let begin : begins is_note_name (drop (length (spelling_of (own_accidental line))) line) ≡ true =
+    ap (λ k. begins is_note_name (drop k line)) before ∙ ap (begins is_note_name) at ∙ ap is_some named in
     test_notes (begins is_note_name (drop (length (spelling_of (own_accidental line))) line))
     (length (spelling_of (own_accidental line)) + 1 + prefix_len is_octave_mark (drop (length (spelling_of (own_accidental line)) + 1) line))
     (length (spelling_of own) + 1 + prefix_len is_octave_mark tail) begin
@@ -105,7 +111,8 @@ natural_spelled [] = refl
 natural_spelled (byte ∷ text) = refl
 
 -- the same of a byte that is no accidental
-other_spelled : (byte : ℕ) (text : List ℕ) → eqb byte sharp_sign ≡ false → eqb byte flat_sign ≡ false → eqb byte natural_sign ≡ false → BeginsAsSpelled (byte ∷ text)
+other_spelled : (byte : ℕ) (text : List ℕ) → eqb byte sharp_sign ≡ false → eqb byte flat_sign ≡ false → eqb byte natural_sign ≡ false
+    → BeginsAsSpelled (byte ∷ text)
 other_spelled byte [] p q r = rw (p, q, r) refl
 other_spelled byte (second ∷ text) p q r = rw (p, q, r) refl
 
@@ -142,7 +149,8 @@ named_at [] begin = absurd (cc)
 named_at (byte ∷ tail) begin = named_by byte tail (letter_of byte) refl begin
 
 -- a note of plain parts, at the front of its line
-note_of_parts : (own : Option Accidental) (name : ℕ) (letter : Letter) (tail : List ℕ) (n m : ℕ) → letter_of name ≡ Some letter → m ≡ prefix_len is_octave_mark tail
+note_of_parts : (own : Option Accidental) (name : ℕ) (letter : Letter) (tail : List ℕ) (n m : ℕ) → letter_of name ≡ Some letter
+    → m ≡ prefix_len is_octave_mark tail
     → n ≡ length (spelling_of own) + suc m → IsNote (take n (spelling_of own ++ (name ∷ tail))) (drop n (spelling_of own ++ (name ∷ tail)))
 note_of_parts own name letter tail n m named marks sum =
     let line = spelling_of own ++ (name ∷ tail) in
@@ -155,7 +163,8 @@ note_of_parts own name letter tail n m named marks sum =
 
 -- where the test of the row passes, the length is that of a note
 note_found : (line : List ℕ) → begins is_note_name (drop (length (spelling_of (own_accidental line))) line) ≡ true
-    → IsOfRow IsNote line (Some (length (spelling_of (own_accidental line)) + 1 + prefix_len is_octave_mark (drop (length (spelling_of (own_accidental line)) + 1) line)))
+    → IsOfRow IsNote line
+    (Some (length (spelling_of (own_accidental line)) + 1 + prefix_len is_octave_mark (drop (length (spelling_of (own_accidental line)) + 1) line)))
 note_found line begin =
     let own = own_accidental line in
     let before = length (spelling_of own) in
@@ -172,7 +181,9 @@ note_found line begin =
 
 -- by the test of the row
 note_cases : (line : List ℕ) (x : Bool) → begins is_note_name (drop (length (spelling_of (own_accidental line))) line) ≡ x
-    → IsOfRow IsNote line (cond x (Some (length (spelling_of (own_accidental line)) + 1 + prefix_len is_octave_mark (drop (length (spelling_of (own_accidental line)) + 1) line))) None)
+    → IsOfRow IsNote line
+    (cond x (Some (length (spelling_of (own_accidental line)) + 1 + prefix_len is_octave_mark (drop (length (spelling_of (own_accidental line)) + 1) line)))
+    None)
 note_cases line true begin = note_found line begin
 note_cases line false begin = tt
 

@@ -1,5 +1,6 @@
 -- A first item of one byte, told by the text.
-use Rattle.std.proofs.Common.{◌≡◌, ℕ, zero, suc, ◌+◌, ◌<◌, ◌≤◌, List, [], ◌∷◌, length, take, Bool, true, false, Some, None, drop, ◌-◌, slice_index, refl, sym, ap, ◌∙◌, arith, subst}
+use Rattle.std.proofs.Common.{◌≡◌, ℕ, zero, suc, ◌+◌, ◌<◌, ◌≤◌, List, [], ◌∷◌, length, take, Bool, true, false, Some, None, drop, ◌-◌, slice_index, refl, sym}
+use Rattle.std.proofs.Common.{ap, ◌∙◌, arith, subst}
 use Rattle.std.specs.Prelude.{◌==◌, ◌&&◌, not, if◌then◌else◌, is_some, IfSome}
 use Rattle.std.specs.List.{prefix_len}
 use Rattle.std.proofs.Math.Seq.{take-length}
@@ -7,21 +8,23 @@ use Rattle.std.proofs.lemmas.Bool.{true≢false}
 use Rattle.std.proofs.lemmas.Bool.Decides.{nat_tests}
 use Rattle.std.proofs.lemmas.List.{length-take-le}
 use Rattle.std.proofs.lemmas.List.Sums.{prefix_len-le-length}
-use Rattle.abc_keys.specs.Keys.{begins}
+use Rattle.abc_fields.specs.Bytes.{begins}
 use Rattle.abc_items.specs.declared.kinds.Front.{Front}
 use Rattle.abc_items.specs.declared.kinds.Kind.TheVariants.{Note, Bar, Other}
 use Rattle.abc_items.specs.Marks.{is_bar, is_octave_mark}
-use Rattle.abc_items.specs.Rows.{is_note_name, front, first_item, items_of, begins_longer_row, plain_front}
-use Rattle.abc_items.specs.Spans.{spans_from}
-use Rattle.abc_items.specs.Plain.{is_plain_byte, alone, begin_plain}
+use Rattle.abc_items.specs.Rows.{is_note_name, front, first_item, items_of}
+use Rattle.abc_items.specs.ItemSpans.{item_spans_from}
+use Rattle.abc_items.specs.Plain.{begins_longer_row, is_plain_byte, begin_plain}
+use Rattle.abc_items.specs.Inside.PlainFronts.{lone_kind, plain_front, alone}
 use Rattle.abc_items.proofs.ItemLaw.{first_item_some, items_step}
 use Rattle.abc_items.proofs.PlainItems.{plain_item}
 
 -- an item that begins with a plain byte ends within its text
 plain_front_within : (byte : ℕ) (text : List ℕ) → (plain_front byte text).length ≤ length (byte ∷ text)
-plain_front_within byte text = by_name (is_note_name byte) (front (if is_bar byte then Bar else Other) 1) refl
+plain_front_within byte text = by_name (is_note_name byte) (front (lone_kind byte) 1) refl
   where
-    by_name : (name : Bool) (other : Front) → other.length ≡ 1 → (if name then front Note (1 + prefix_len is_octave_mark text) else other).length ≤ length (byte ∷ text)
+    by_name : (name : Bool) (other : Front) → other.length ≡ 1
+        → (if name then front Note (1 + prefix_len is_octave_mark text) else other).length ≤ length (byte ∷ text)
     by_name true other one = omega (arith, prefix_len-le-length is_octave_mark text)
     by_name false other one = omega (arith, one)
 
@@ -39,10 +42,10 @@ one_byte byte (suc n) text some within = by_row (begins_longer_row byte) within
     by_row false within = let more = within refl in ap (λ bytes. suc bytes == 1) (length-take-le n text (omega (arith, more)))
 
 -- items that begin with a plain byte alone
-pub plain_begins : (at : ℕ) (text : List ℕ) → begin_plain (spans_from at (items_of text)) ≡ (begins is_plain_byte text && (first_item text).length == 1)
+pub plain_begins : (at : ℕ) (text : List ℕ) → begin_plain (item_spans_from at (items_of text)) ≡ (begins is_plain_byte text && (first_item text).length == 1)
 plain_begins at [] = refl
 plain_begins at (byte ∷ text) =
-    ap (λ items. begin_plain (spans_from at items)) (items_step byte text)
+    ap (λ items. begin_plain (item_spans_from at items)) (items_step byte text)
     ∙ one_byte byte (first_item (byte ∷ text)).length text (first_item_some byte text) (plain_within byte text)
 
 -- A BYTE BEFORE A REST
@@ -79,7 +82,10 @@ pub alone_tells : (bytes : List ℕ) → 0 < length bytes
 alone_tells [] some = absurd (omega arith)
 alone_tells (byte ∷ rest) some =
     let long : length (byte ∷ rest) - 1 ≡ length rest = omega arith in
-    let P : List ℕ → Type 0 = λ r. IfSome (alone byte r) (λ kind. front kind 1 ≡ first_item (byte ∷ rest)) × (is_some (alone byte r) ≡ (is_plain_byte byte && (first_item (byte ∷ rest)).length == 1)) in
+    let P : List ℕ → Type 0 =
+    λ r. IfSome (alone byte r) (λ kind. front kind 1 ≡ first_item (byte ∷ rest))
+    × (is_some (alone byte r) ≡ (is_plain_byte byte && (first_item (byte ∷ rest)).length == 1)) in
     subst P (sym (ap (λ n. take n rest) long ∙ take-length rest))
-    (alone_by (is_note_name byte) (begins_longer_row byte) (begins is_octave_mark rest) (is_bar byte) (prefix_len is_octave_mark rest) (first_item (byte ∷ rest))
+    (alone_by (is_note_name byte) (begins_longer_row byte) (begins is_octave_mark rest) (is_bar byte) (prefix_len is_octave_mark rest)
+    (first_item (byte ∷ rest))
     (name_is_plain byte) (marks_some rest) (marks_none rest) (plain_item byte rest))

@@ -6,24 +6,27 @@ use Rattle.std.proofs.Math.Seq.{take-length}
 use Rattle.std.proofs.lemmas.Bool.Decides.{nat_tests}
 use Rattle.abc_keys.specs.Letters.{accidental_of}
 use Rattle.abc_items.specs.declared.kinds.Front.{Front}
-use Rattle.abc_items.specs.declared.kinds.Kind.TheVariants.{Note, Bar, Other}
-use Rattle.abc_items.specs.Marks.{is_bar, is_octave_mark}
-use Rattle.abc_items.specs.Rows.{own_accidental, is_note_name, enclosed, inline_field, chord, tuplet, note, front, or_else, first_item, begins_longer_row, plain_front}
+use Rattle.abc_items.specs.declared.kinds.Kind.TheVariants.{Note}
+use Rattle.abc_items.specs.Marks.{quotation_mark, exclamation_mark, plus_sign, opening_brace, closing_brace, opening_bracket, opening_parenthesis, sharp_sign}
+use Rattle.abc_items.specs.Marks.{flat_sign, natural_sign, is_octave_mark}
+use Rattle.abc_items.specs.Rows.{own_accidental, is_note_name, enclosed, inline_field, chord, tuplet, note, front, or_else, first_item}
+use Rattle.abc_items.specs.Plain.{begins_longer_row}
+use Rattle.abc_items.specs.Inside.PlainFronts.{lone_kind, plain_front}
 
--- the byte is none of those
-record IsPlain (byte : ℕ) : Type 0 where
-  quotation : (byte == 34) ≡ false
-  exclamation : (byte == 33) ≡ false
-  plus : (byte == 43) ≡ false
-  brace : (byte == 123) ≡ false
-  bracket : (byte == 91) ≡ false
-  parenthesis : (byte == 40) ≡ false
-  sharp : (byte == 94) ≡ false
-  flat : (byte == 95) ≡ false
-  natural : (byte == 61) ≡ false
+-- the byte is none of the marks that begin the longer rows
+record LacksRowMarks (byte : ℕ) : Type 0 where
+  quotation : (byte == quotation_mark) ≡ false
+  exclamation : (byte == exclamation_mark) ≡ false
+  plus : (byte == plus_sign) ≡ false
+  brace : (byte == opening_brace) ≡ false
+  bracket : (byte == opening_bracket) ≡ false
+  parenthesis : (byte == opening_parenthesis) ≡ false
+  sharp : (byte == sharp_sign) ≡ false
+  flat : (byte == flat_sign) ≡ false
+  natural : (byte == natural_sign) ≡ false
 
-is_plain : (byte : ℕ) → begins_longer_row byte ≡ false → IsPlain byte
-is_plain byte plain = record {
+lacks_row_marks : (byte : ℕ) → begins_longer_row byte ≡ false → LacksRowMarks byte
+lacks_row_marks byte plain = record {
   quotation = grind (arith, nat_tests);
   exclamation = grind (arith, nat_tests);
   plus = grind (arith, nat_tests);
@@ -35,10 +38,10 @@ is_plain byte plain = record {
   natural = grind (arith, nat_tests);
 }
 
-no_accidental : (byte : ℕ) → IsPlain byte → accidental_of byte ≡ None
+no_accidental : (byte : ℕ) → LacksRowMarks byte → accidental_of byte ≡ None
 no_accidental byte plain = rw (plain.sharp, plain.flat, plain.natural) refl
 
-no_own_accidental : (byte : ℕ) (text : List ℕ) → IsPlain byte → own_accidental (byte ∷ text) ≡ None
+no_own_accidental : (byte : ℕ) (text : List ℕ) → LacksRowMarks byte → own_accidental (byte ∷ text) ≡ None
 no_own_accidental byte [] plain = no_accidental byte plain
 no_own_accidental byte (second ∷ text) plain = rw (no_accidental byte plain) refl
 
@@ -46,39 +49,40 @@ no_enclosed : (mark closing byte : ℕ) (text : List ℕ) → (byte == mark) ≡
 unfolding enclosed
 no_enclosed mark closing byte text differs = rw differs refl
 
-no_inline_field : (byte : ℕ) (text : List ℕ) → IsPlain byte → inline_field (byte ∷ text) ≡ None
+no_inline_field : (byte : ℕ) (text : List ℕ) → LacksRowMarks byte → inline_field (byte ∷ text) ≡ None
 unfolding inline_field
 no_inline_field byte [] plain = refl
 no_inline_field byte (name ∷ []) plain = refl
 no_inline_field byte (name ∷ third ∷ text) plain = rw plain.bracket refl
 
-no_chord : (byte : ℕ) (text : List ℕ) → IsPlain byte → chord (byte ∷ text) ≡ None
+no_chord : (byte : ℕ) (text : List ℕ) → LacksRowMarks byte → chord (byte ∷ text) ≡ None
 unfolding chord
 no_chord byte text plain = rw plain.bracket refl
 
-no_tuplet : (byte : ℕ) (text : List ℕ) → IsPlain byte → tuplet (byte ∷ text) ≡ None
+no_tuplet : (byte : ℕ) (text : List ℕ) → LacksRowMarks byte → tuplet (byte ∷ text) ≡ None
 unfolding tuplet
 no_tuplet byte text plain = rw plain.parenthesis refl
 
-plain_note : (byte : ℕ) (text : List ℕ) → IsPlain byte → note (byte ∷ text) ≡ (if is_note_name byte then Some (1 + prefix_len is_octave_mark text) else None)
+plain_note : (byte : ℕ) (text : List ℕ) → LacksRowMarks byte
+    → note (byte ∷ text) ≡ (if is_note_name byte then Some (1 + prefix_len is_octave_mark text) else None)
 unfolding note
 plain_note byte text plain = rw (no_own_accidental byte text plain) refl
 
 pub plain_item : (byte : ℕ) (text : List ℕ) → begins_longer_row byte ≡ false → first_item (byte ∷ text) ≡ plain_front byte text
 unfolding first_item
 plain_item byte text other =
-    let plain = is_plain byte other in
+    let plain = lacks_row_marks byte other in
     rw (
-      no_enclosed 34 34 byte text plain.quotation,
-      no_enclosed 33 33 byte text plain.exclamation,
-      no_enclosed 43 43 byte text plain.plus,
-      no_enclosed 123 125 byte text plain.brace,
+      no_enclosed quotation_mark quotation_mark byte text plain.quotation,
+      no_enclosed exclamation_mark exclamation_mark byte text plain.exclamation,
+      no_enclosed plus_sign plus_sign byte text plain.plus,
+      no_enclosed opening_brace closing_brace byte text plain.brace,
       no_inline_field byte text plain,
       no_chord byte text plain,
       no_tuplet byte text plain,
       plain_note byte text plain,
     )
-    (by_name (is_note_name byte) (1 + prefix_len is_octave_mark text) (front (if is_bar byte then Bar else Other) 1))
+    (by_name (is_note_name byte) (1 + prefix_len is_octave_mark text) (front (lone_kind byte) 1))
   where
     by_name : (name : Bool) (bytes : ℕ) (other : Front) → or_else Note (if name then Some bytes else None) other ≡ (if name then front Note bytes else other)
     by_name true bytes other = refl

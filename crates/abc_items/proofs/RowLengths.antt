@@ -23,13 +23,15 @@ Tells fits line None = (text rest : List ℕ) → text ++ rest ≡ line → fits
 Tells fits line (Some n) = fits (take n line) (drop n line)
 
 -- by whether the row gives a length
-tells_at : (fits : Texts) (row : List ℕ → Option ℕ) (line : List ℕ) (found : Option ℕ) → row line ≡ found → GivesEach fits row → IsOfRow fits line found → Tells fits line found
+tells_at : (fits : Texts) (row : List ℕ → Option ℕ) (line : List ℕ) (found : Option ℕ) → row line ≡ found → GivesEach fits row → IsOfRow fits line found
+    → Tells fits line found
 tells_at fits row line (Some n) is gives sound = sound
 tells_at fits row line None is gives sound = λ text rest whole f.
     let some : row line ≡ Some (length text) = ap row (sym whole) ∙ gives text rest f in absurd (cc)
 
 -- a row that gives each of its texts the length that it has, and no other length, tells its texts
-pub row_tells : (fits : Texts) (row : List ℕ → Option ℕ) → GivesEach fits row → ((line : List ℕ) → IsOfRow fits line (row line)) → (line : List ℕ) → Tells fits line (row line)
+pub row_tells : (fits : Texts) (row : List ℕ → Option ℕ) → GivesEach fits row → ((line : List ℕ) → IsOfRow fits line (row line)) → (line : List ℕ)
+    → Tells fits line (row line)
 row_tells fits row gives sound line = tells_at fits row line (row line) refl gives (sound line)
 
 -- two fronts of a line that are equally long are the same
@@ -38,7 +40,8 @@ same_front text rest other later long same =
     sym (take-append_seam text rest) ∙ (λ i. take (long i) (same i)) ∙ take-append_seam other later
 
 -- a row has at most one text at the front of a line
-pub one_text_of : (fits : Texts) (row : List ℕ → Option ℕ) → GivesEach fits row → (text rest other later : List ℕ) → fits text rest → fits other later → text ++ rest ≡ other ++ later → text ≡ other
+pub one_text_of : (fits : Texts) (row : List ℕ → Option ℕ) → GivesEach fits row → (text rest other later : List ℕ) → fits text rest → fits other later
+    → text ++ rest ≡ other ++ later → text ≡ other
 one_text_of fits row gives text rest other later f g same =
     let here : row (text ++ rest) ≡ Some (length text) = gives text rest f in
     let there : row (other ++ later) ≡ Some (length other) = gives other later g in
@@ -48,7 +51,8 @@ one_text_of fits row gives text rest other later f g same =
 
 -- A TEXT IN MARKS
 -- the line that a text in marks begins
-pub closed_line : (opening closing : ℕ) (text inside rest : List ℕ) → text ≡ opening ∷ (inside ++ closing ∷ []) → text ++ rest ≡ opening ∷ (inside ++ (closing ∷ rest))
+pub closed_line : (opening closing : ℕ) (text inside rest : List ℕ) → text ≡ opening ∷ (inside ++ closing ∷ [])
+    → text ++ rest ≡ opening ∷ (inside ++ (closing ∷ rest))
 closed_line opening closing text inside rest is = ap (λ t. t ++ rest) is ∙ ap (λ t. opening ∷ t) (append_assoc inside (closing ∷ []) rest)
 
 -- the length of a text in marks

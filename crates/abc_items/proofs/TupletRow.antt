@@ -1,16 +1,17 @@
 -- The row of tuplets.
-use Rattle.std.proofs.Common.{◌≡◌, ℕ, zero, suc, ◌+◌, ◌<◌, ◌≤◌, Bool, true, false, ◌&&◌, cond, eqb, nat_lt, List, [], ◌∷◌, ◌++◌, length, take, drop, Some, None, refl, ap, sym, ◌∙◌, arith, inl, inr, subst}
+use Rattle.std.proofs.Common.{◌≡◌, ℕ, zero, suc, ◌+◌, ◌<◌, ◌≤◌, Bool, true, false, ◌&&◌, cond, eqb, nat_lt, List, [], ◌∷◌, ◌++◌, length, take, drop, Some}
+use Rattle.std.proofs.Common.{None, refl, ap, sym, ◌∙◌, arith, inl, inr, subst}
 use Rattle.std.specs.List.{prefix_len}
 use Rattle.std.specs.Char.{is_ascii_digit}
 use Rattle.std.proofs.lemmas.Bool.{eqb-true, ltb-true, lt-ltb, cases_Bool}
 use Rattle.std.proofs.lemmas.List.{length-take-le, append_assoc, length-append, drop-drop}
 use Rattle.std.proofs.lemmas.List.Sums.{prefix_len-le-length}
 use Rattle.std.proofs.Math.Seq.{take-add, drop-append_seam}
-use Rattle.abc_keys.specs.Keys.{begins}
-use Rattle.abc_items.specs.Marks.{is_colon, colon, opening_parenthesis}
+use Rattle.abc_fields.specs.Bytes.{colon, begins}
+use Rattle.abc_items.specs.Marks.{is_colon, opening_parenthesis}
 use Rattle.abc_items.specs.Grammar.{IsRun, AreColonParts, IsTuplet}
 use Rattle.abc_items.specs.Rows.{colon_part, colon_parts, tuplet}
-use Rattle.abc_items.proofs.Runs.{front_is_run, run_is_longest, run_before}
+use Rattle.abc_items.proofs.ByteRuns.{front_is_run, run_is_longest, run_before}
 use Rattle.abc_items.proofs.RowLengths.{IsOfRow, GivesEach}
 
 -- COLONS AND DIGITS
@@ -25,7 +26,8 @@ no_parts zero text none = refl
 no_parts (suc most) text none = rw (no_part text none) (omega (arith, no_parts most text none))
 
 -- a colon, digits, and what follows them
-one_part : (most : ℕ) (digits tail : List ℕ) → IsRun is_ascii_digit digits tail → colon_parts (suc most) (colon ∷ (digits ++ tail)) ≡ (1 + length digits) + colon_parts most tail
+one_part : (most : ℕ) (digits tail : List ℕ) → IsRun is_ascii_digit digits tail
+    → colon_parts (suc most) (colon ∷ (digits ++ tail)) ≡ (1 + length digits) + colon_parts most tail
 one_part most digits tail run =
     let one : 1 + length digits ≡ suc (length digits) = omega arith in
     let rest : drop (1 + length digits) (colon ∷ (digits ++ tail)) ≡ tail = ap (λ k. drop k (colon ∷ (digits ++ tail))) one ∙ drop-append_seam digits tail in
@@ -51,7 +53,8 @@ empty_parts most n text none other =
 
 -- a first part, and the parts after it
 more_parts : (most byte : ℕ) (text : List ℕ) (k j : ℕ) → eqb byte colon ≡ true → IsRun is_ascii_digit (take k text) (drop k text)
-    → AreColonParts most (take j (drop k text)) (drop j (drop k text)) → AreColonParts (suc most) (take ((1 + k) + j) (byte ∷ text)) (drop ((1 + k) + j) (byte ∷ text))
+    → AreColonParts most (take j (drop k text)) (drop j (drop k text))
+    → AreColonParts (suc most) (take ((1 + k) + j) (byte ∷ text)) (drop ((1 + k) + j) (byte ∷ text))
 more_parts most byte text k j same run parts =
     let all : (1 + k) + j ≡ suc (k + j) = omega arith in
     let front : take ((1 + k) + j) (byte ∷ text) ≡ colon ∷ (take k text ++ take j (drop k text)) =
@@ -62,7 +65,8 @@ more_parts most byte text k j same run parts =
     subst P (sym rest) (inr (take k text, take j (drop k text), run_there, parts, front))
 
 -- a part at the front, and the parts after it
-next_parts : (most byte : ℕ) (text : List ℕ) → eqb byte colon ≡ true → ((line : List ℕ) → AreColonParts most (take (colon_parts most line) line) (drop (colon_parts most line) line))
+next_parts : (most byte : ℕ) (text : List ℕ) → eqb byte colon ≡ true
+    → ((line : List ℕ) → AreColonParts most (take (colon_parts most line) line) (drop (colon_parts most line) line))
     → AreColonParts (suc most) (take (colon_parts (suc most) (byte ∷ text)) (byte ∷ text)) (drop (colon_parts (suc most) (byte ∷ text)) (byte ∷ text))
 next_parts most byte text same later =
     let k = prefix_len is_ascii_digit text in
@@ -103,7 +107,8 @@ tuplet_line digits later rest some run parts =
 -- each tuplet has the length that the row gives
 pub tuplet_gives : GivesEach IsTuplet tuplet
 tuplet_gives text rest is =
-    let line : text ++ rest ≡ opening_parenthesis ∷ (is.digits ++ (is.later ++ rest)) = ap (λ t. t ++ rest) is.whole ∙ ap (λ t. opening_parenthesis ∷ t) (append_assoc is.digits is.later rest) in
+    let line : text ++ rest ≡ opening_parenthesis ∷ (is.digits ++ (is.later ++ rest)) =
+    ap (λ t. t ++ rest) is.whole ∙ ap (λ t. opening_parenthesis ∷ t) (append_assoc is.digits is.later rest) in
     let long : length text ≡ suc (length is.digits + length is.later) = ap length is.whole ∙ simp length-append refl in
     let sum : 1 + length is.digits + length is.later ≡ length text = omega arith in
     ap tuplet line ∙ tuplet_line is.digits is.later rest is.some is.run is.parts ∙ ap Some sum

@@ -1,23 +1,29 @@
--- The items of a music line, as the table of items says them: row by row, and the first row that fits.
--- The rows are those of ABC 2.1, 3.2 and 4.1 to 4.19. That the first row counts, and that what is unclosed fits no row but the last, is own profile.
-use Rattle.std.specs.Prelude.{◌≡◌, ◌⊎◌, ℕ, zero, suc, ◌<◌, Bool, true, false, List, [], ◌∷◌, ◌++◌, length, codes, Option, Some, None, ⊤}
+-- The items of a music line, as the table of items says them: row by row, and the first row that
+-- fits. The rows are those of ABC 2.1, 3.2 and 4.1 to 4.19. That the first row counts, and that
+-- what is unclosed fits no row but the last, is own profile.
+use Rattle.std.specs.Prelude.{◌≡◌, ◌⊎◌, ℕ, zero, suc, ◌<◌, Bool, true, false, List, [], ◌∷◌, ◌++◌}
+use Rattle.std.specs.Prelude.{length, codes, Option, Some, None, ⊤}
 use Rattle.std.specs.List.{list_all}
 use Rattle.std.specs.Char.{is_ascii_alphabetic, is_ascii_digit}
 use Rattle.abc_keys.specs.declared.letters.Accidental.{Accidental}
 use Rattle.abc_keys.specs.declared.letters.Letter.{Letter}
 use Rattle.abc_keys.specs.Letters.{letter_of, spelling}
-use Rattle.abc_keys.specs.Keys.{begins}
+use Rattle.abc_fields.specs.Bytes.{colon, begins}
 use Rattle.abc_items.specs.declared.kinds.Kind.{Kind}
-use Rattle.abc_items.specs.declared.kinds.Kind.TheVariants.{Quoted, Decoration, Grace, InlineField, Chord, Tuplet, Note, Bar, Other}
-use Rattle.abc_items.specs.Marks.{quotation_mark, exclamation_mark, plus_sign, opening_brace, closing_brace, opening_bracket, closing_bracket, opening_parenthesis, colon, is_colon, is_octave_mark, is_chord_byte, has_no}
+use Rattle.abc_items.specs.declared.kinds.Kind.TheVariants.{Quoted, Decoration, Grace, InlineField}
+use Rattle.abc_items.specs.declared.kinds.Kind.TheVariants.{Chord, Tuplet, Note, Bar, Other}
+use Rattle.abc_items.specs.Marks.{quotation_mark, exclamation_mark, plus_sign, opening_brace}
+use Rattle.abc_items.specs.Marks.{closing_brace, opening_bracket, closing_bracket}
+use Rattle.abc_items.specs.Marks.{opening_parenthesis, is_colon, is_octave_mark}
+use Rattle.abc_items.specs.Marks.{is_chord_byte, has_no}
 
 -- bytes that pass, as many as there are: this rest begins with no further one
 pub record IsRun (passes : ℕ → Bool) (run rest : List ℕ) : Type 0 where
   pub all : list_all passes run ≡ true
   pub ends : begins passes rest ≡ false
 
--- THE ROWS, EACH BY ITSELF
--- an opening mark, bytes other than the closing mark, or none, and the closing mark (ABC 2.1, 4.12, 4.14, 4.18 and 4.19)
+-- THE ROWS, EACH BY ITSELF an opening mark, bytes other than the closing mark, or none, and the
+-- closing mark (ABC 2.1, 4.12, 4.14, 4.18 and 4.19)
 pub record IsEnclosed (opening closing : ℕ) (text : List ℕ) : Type 0 where
   pub inside : List ℕ
   pub plain : has_no closing inside ≡ true
@@ -31,7 +37,8 @@ pub record IsInlineField (text : List ℕ) : Type 0 where
   pub plain : has_no closing_bracket value ≡ true
   pub whole : text ≡ opening_bracket ∷ name ∷ colon ∷ (value ++ closing_bracket ∷ [])
 
--- `[`, one or more bytes that are none of `[`, `]` and `|`, of which the first is no digit, and `]` (ABC 2.1, 4.17)
+-- `[`, one or more bytes that are none of `[`, `]` and `|`, of which the first is no digit, and `]`
+-- (ABC 2.1, 4.17)
 pub record IsChord (text : List ℕ) : Type 0 where
   pub inside : List ℕ
   pub plain : list_all is_chord_byte inside ≡ true
@@ -44,7 +51,9 @@ abbrev pub AreColonParts : ℕ → List ℕ → List ℕ → Type 0
 AreColonParts zero text rest = text ≡ []
 AreColonParts (suc most) text rest =
     ((text ≡ []) × (begins is_colon rest ≡ false))
-    ⊎ ((digits : List ℕ) × (later : List ℕ) × IsRun is_ascii_digit digits (later ++ rest) × AreColonParts most later rest × (text ≡ colon ∷ (digits ++ later)))
+    ⊎ ((digits : List ℕ) × (later : List ℕ)
+    × IsRun is_ascii_digit digits (later ++ rest) × AreColonParts most later rest
+    × (text ≡ colon ∷ (digits ++ later)))
 
 -- `(` and digits, then at most two colons, each with the digits after it (ABC 2.1, 4.13)
 pub record IsTuplet (text rest : List ℕ) : Type 0 where
@@ -60,7 +69,8 @@ abbrev pub spelling_of : Option Accidental → List ℕ
 spelling_of None = []
 spelling_of (Some accidental) = spelling accidental
 
--- an accidental or none, a byte that names a letter, and octave marks, as many as there are (ABC 2.1, 4.1 and 4.2)
+-- an accidental or none, a byte that names a letter, and octave marks, as many as there are (ABC
+-- 2.1, 4.1 and 4.2)
 pub record IsNote (text rest : List ℕ) : Type 0 where
   pub own : Option Accidental
   pub name : ℕ
@@ -73,7 +83,8 @@ pub record IsNote (text rest : List ℕ) : Type 0 where
 -- the text is of the row, where this rest of the line follows it
 abbrev pub Fits : Kind → List ℕ → List ℕ → Type 0
 Fits Quoted text rest = IsEnclosed quotation_mark quotation_mark text
-Fits Decoration text rest = IsEnclosed exclamation_mark exclamation_mark text ⊎ IsEnclosed plus_sign plus_sign text
+Fits Decoration text rest =
+    IsEnclosed exclamation_mark exclamation_mark text ⊎ IsEnclosed plus_sign plus_sign text
 Fits Grace text rest = IsEnclosed opening_brace closing_brace text
 Fits InlineField text rest = IsInlineField text
 Fits Chord text rest = IsChord text
@@ -83,7 +94,7 @@ Fits Bar text rest = (text ≡ codes "|") ⊎ (text ≡ codes ":")
 Fits Other text rest = (byte : ℕ) × (text ≡ byte ∷ [])
 
 -- THE FIRST ROW THAT FITS
--- the place of a row in the table
+-- where a row stands in the table
 abbrev pub rank : Kind → ℕ
 rank Quoted = 0
 rank Decoration = 1
@@ -106,21 +117,21 @@ pub record IsItem (kind : Kind) (text rest : List ℕ) : Type 0 where
 
 -- THE ITEMS OF A LINE
 -- what an item is, and its bytes
-pub record Token : Type 0 where
+pub record ItemText : Type 0 where
   pub kind : Kind
   pub text : List ℕ
 
 -- the texts of items, one after another
-abbrev pub text_of : List Token → List ℕ
-text_of [] = []
-text_of (item ∷ items) = item.text ++ text_of items
+abbrev pub text_of_items : List ItemText → List ℕ
+text_of_items [] = []
+text_of_items (item ∷ items) = item.text ++ text_of_items items
 
 -- each is an item before the texts of those that follow it
-abbrev pub EachIsItem : List Token → Type 0
+abbrev pub EachIsItem : List ItemText → Type 0
 EachIsItem [] = ⊤
-EachIsItem (item ∷ items) = IsItem item.kind item.text (text_of items) × EachIsItem items
+EachIsItem (item ∷ items) = IsItem item.kind item.text (text_of_items items) × EachIsItem items
 
 -- these items, one after another, are the line
-pub record AreItems (items : List Token) (line : List ℕ) : Type 0 where
-  pub whole : text_of items ≡ line
+pub record AreItems (items : List ItemText) (line : List ℕ) : Type 0 where
+  pub whole : text_of_items items ≡ line
   pub each : EachIsItem items

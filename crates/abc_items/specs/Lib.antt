@@ -1,7 +1,7 @@
 pub mod Marks
 pub mod Grammar
 pub mod Rows
-pub mod Spans
-pub mod Misses
+pub mod ItemSpans
 pub mod ItemView
 pub mod Plain
+pub mod Inside

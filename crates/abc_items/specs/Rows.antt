@@ -1,16 +1,21 @@
 -- The item at the front of a line, row by row as a length, and the items of a line.
-use Rattle.std.specs.Prelude.{ℕ, zero, suc, ◌+◌, ◌-◌, ◌==◌, ◌&&◌, not, nat_lt, codes, if◌then◌else◌, Bool, List, [], ◌∷◌, Option, Some, None, take, drop, length}
+use Rattle.std.specs.Prelude.{ℕ, zero, suc, ◌+◌, ◌-◌, ◌==◌, ◌&&◌, not, nat_lt, if◌then◌else◌, Bool}
+use Rattle.std.specs.Prelude.{List, [], ◌∷◌, Option, Some, None, take, drop, length}
 use Rattle.std.specs.List.{prefix_len}
 use Rattle.std.specs.Option.{option_map, is_some, unwrap_or}
 use Rattle.std.specs.Char.{is_ascii_alphabetic, is_ascii_digit}
 use Rattle.abc_keys.specs.declared.letters.Accidental.{Accidental}
-use Rattle.abc_keys.specs.Letters.{is_one_of, accidental_of, doubled, letter_of}
-use Rattle.abc_keys.specs.Keys.{begins}
+use Rattle.abc_keys.specs.Letters.{accidental_of, doubled, letter_of}
+use Rattle.abc_fields.specs.Bytes.{colon, begins}
 use Rattle.abc_items.specs.declared.kinds.Kind.{Kind}
-use Rattle.abc_items.specs.declared.kinds.Kind.TheVariants.{Quoted, Decoration, Grace, InlineField, Chord, Tuplet, Note, Bar, Other}
+use Rattle.abc_items.specs.declared.kinds.Kind.TheVariants.{Quoted, Decoration, Grace, InlineField}
+use Rattle.abc_items.specs.declared.kinds.Kind.TheVariants.{Chord, Tuplet, Note, Bar, Other}
 use Rattle.abc_items.specs.declared.kinds.Front.{Front}
-use Rattle.abc_items.specs.Marks.{quotation_mark, exclamation_mark, plus_sign, opening_brace, closing_brace, opening_bracket, closing_bracket, opening_parenthesis, colon, is_closing_bracket, is_bar, is_octave_mark, is_chord_byte}
-use Rattle.abc_items.specs.Grammar.{Token, spelling_of}
+use Rattle.abc_items.specs.Marks.{quotation_mark, exclamation_mark, plus_sign, opening_brace}
+use Rattle.abc_items.specs.Marks.{closing_brace, opening_bracket, closing_bracket}
+use Rattle.abc_items.specs.Marks.{opening_parenthesis, is_closing_bracket, is_bar}
+use Rattle.abc_items.specs.Marks.{is_octave_mark, is_chord_byte}
+use Rattle.abc_items.specs.Grammar.{ItemText, spelling_of}
 
 -- THE ROWS: HOW MANY BYTES AT THE FRONT OF A TEXT ARE OF THE ROW, IF SOME ARE
 -- so many bytes more, if there is a length
@@ -25,12 +30,15 @@ up_to closing (byte ∷ text) = if byte == closing then Some 1 else longer 1 (up
 -- a text in two marks
 unfoldable pub enclosed : ℕ → ℕ → List ℕ → Option ℕ
 enclosed opening closing [] = None
-enclosed opening closing (byte ∷ text) = if byte == opening then longer 1 (up_to closing text) else None
+enclosed opening closing (byte ∷ text) =
+    if byte == opening then longer 1 (up_to closing text) else None
 
 -- an inline field
 unfoldable pub inline_field : List ℕ → Option ℕ
 inline_field (first ∷ name ∷ third ∷ text) =
-    if first == opening_bracket && is_ascii_alphabetic name && third == colon then longer 3 (up_to closing_bracket text) else None
+    if first == opening_bracket && is_ascii_alphabetic name && third == colon
+    then longer 3 (up_to closing_bracket text)
+    else None
 inline_field _ = None
 
 -- a chord: the longest run of bytes that may stand in one, if the closing bracket follows it
@@ -38,7 +46,9 @@ unfoldable pub chord : List ℕ → Option ℕ
 chord [] = None
 chord (byte ∷ text) =
     let inside = prefix_len is_chord_byte text in
-    if byte == opening_bracket && nat_lt 0 inside && not (begins is_ascii_digit text) && begins is_closing_bracket (drop inside text) then Some (inside + 2)
+    if byte == opening_bracket && nat_lt 0 inside && not (begins is_ascii_digit text)
+    && begins is_closing_bracket (drop inside text)
+    then Some (inside + 2)
     else None
 
 -- a colon and the digits after it, or nothing
@@ -49,20 +59,25 @@ colon_part (byte ∷ text) = if byte == colon then 1 + prefix_len is_ascii_digit
 -- the same up to so many times
 abbrev pub colon_parts : ℕ → List ℕ → ℕ
 colon_parts zero text = 0
-colon_parts (suc most) text = let first = colon_part text in first + colon_parts most (drop first text)
+colon_parts (suc most) text =
+    let first = colon_part text in first + colon_parts most (drop first text)
 
 -- a tuplet
 unfoldable pub tuplet : List ℕ → Option ℕ
 tuplet [] = None
 tuplet (byte ∷ text) =
     let digits = prefix_len is_ascii_digit text in
-    if byte == opening_parenthesis && nat_lt 0 digits then Some (1 + digits + colon_parts 2 (drop digits text)) else None
+    if byte == opening_parenthesis && nat_lt 0 digits
+    then Some (1 + digits + colon_parts 2 (drop digits text))
+    else None
 
 -- the accidental that a text begins with: one of two bytes before one of one byte
 abbrev pub own_accidental : List ℕ → Option Accidental
 own_accidental [] = None
 own_accidental (first ∷ []) = accidental_of first
-own_accidental (first ∷ second ∷ text) = option_map (λ accidental. unwrap_or (doubled accidental second) accidental) (accidental_of first)
+own_accidental (first ∷ second ∷ text) =
+    option_map (λ accidental. unwrap_or (doubled accidental second) accidental)
+    (accidental_of first)
 
 -- a byte that names a letter
 abbrev pub is_note_name : ℕ → Bool
@@ -72,7 +87,9 @@ is_note_name byte = is_some (letter_of byte)
 unfoldable pub note : List ℕ → Option ℕ
 note text =
     let before = length (spelling_of (own_accidental text)) in
-    if begins is_note_name (drop before text) then Some (before + 1 + prefix_len is_octave_mark (drop (before + 1) text)) else None
+    if begins is_note_name (drop before text)
+    then Some (before + 1 + prefix_len is_octave_mark (drop (before + 1) text))
+    else None
 
 -- THE FIRST ROW THAT FITS
 abbrev pub front : Kind → ℕ → Front
@@ -96,25 +113,16 @@ first_item text =
     (or_else Note (note text)
     (front (if begins is_bar text then Bar else Other) 1))))))))
 
--- the bytes that begin the rows of more than a letter with its octave marks, or one byte
-abbrev pub begins_longer_row : ℕ → Bool
-begins_longer_row byte = is_one_of (codes "\"!+{[(^=_") byte
-
--- what any other byte begins
-abbrev pub plain_front : ℕ → List ℕ → Front
-plain_front byte text =
-    if is_note_name byte then front Note (1 + prefix_len is_octave_mark text)
-    else front (if is_bar byte then Bar else Other) 1
-
 -- THE ITEMS OF A TEXT
 -- byte by byte, of which so many are still bytes of the item before
-abbrev pub items_after : ℕ → List ℕ → List Token
+abbrev pub items_after : ℕ → List ℕ → List ItemText
 items_after skip [] = []
 items_after zero (byte ∷ text) =
     let item = first_item (byte ∷ text) in
-    record { kind = item.kind; text = take item.length (byte ∷ text) } ∷ items_after (item.length - 1) text
+    record { kind = item.kind; text = take item.length (byte ∷ text) }
+    ∷ items_after (item.length - 1) text
 items_after (suc skip) (byte ∷ text) = items_after skip text
 
 -- the items of a text
-abbrev pub items_of : List ℕ → List Token
+abbrev pub items_of : List ℕ → List ItemText
 items_of text = items_after 0 text

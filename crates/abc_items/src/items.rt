@@ -2,12 +2,13 @@
 ghost use Rattle.std.specs.Prelude.{◌≡◌, ℕ, ◌+◌, ◌^◌, ◌<◌, ◌≤◌, ◌++◌, List, map, length, is_some};
 ghost use Rattle.std.specs.Iterator.{YieldsFirstBy, item_count};
 ghost use Rattle.std.specs.List.{All};
-ghost use Rattle.abc_items.specs.Grammar.{Token, AreItems};
+ghost use Rattle.abc_items.specs.Grammar.{ItemText, AreItems};
 ghost use Rattle.abc_items.specs.Rows.{items_of};
-ghost use Rattle.abc_items.specs.Spans.{Span, spans_from, spans_of, token_of, SpansFill, FitsItsRow};
-ghost use Rattle.abc_items.specs.Misses.{AreMissing};
+ghost use Rattle.abc_items.specs.ItemSpans.{ItemSpan, item_spans_from, item_spans_of};
+ghost use Rattle.abc_items.specs.ItemSpans.{item_text_of, ItemSpansFill, FitsItsRow};
+ghost use Rattle.abc_items.specs.Inside.Misses.{AreMissing};
 ghost use Rattle.abc_items.specs.ItemView.{item_span};
-ghost use Rattle.abc_items.specs.Plain.{begin_plain, spans_in};
+ghost use Rattle.abc_items.specs.Plain.{begin_plain, item_spans_in};
 
 use crate::kinds::Kind;
 use crate::rows::{Misses, first_item, plain_kind};
@@ -26,7 +27,8 @@ pub struct Item<'a> {
     pub text: &'a [u8],
 }
 
-/// The items of a text, in order, as parts of it (ABC 2.1, 3.2 and 4.1 to 4.19). A clause sees the list of the items that are left.
+/// The items of a text, in order, as parts of it (ABC 2.1, 3.2 and 4.1 to 4.19). A clause sees the
+/// list of the items that are left.
 #[derive(Drop)]
 pub struct Items<'a> {
     rest: &'a [u8],
@@ -35,27 +37,32 @@ pub struct Items<'a> {
 }
 
 impl<'a> Model for Items<'a> {
-    ghost Value = { List Span };
+    ghost Value = { List ItemSpan };
 
-    ghost view = { λ items. spans_from items.at (items_of items.rest.now) };
+    ghost view = { λ items. item_spans_from items.at (items_of items.rest.now) };
 
-    ghost invariant = { λ items. (items.at + length items.rest.now < 2 ^ 64) × AreMissing items.misses items.rest.now };
+    ghost invariant = { λ items. (items.at + length items.rest.now < 2 ^ 64)
+        × AreMissing items.misses items.rest.now };
 }
 
 impl<'a> Items<'a> {
-    /// The items of `text`: a music line, or what is inside a chord. To read them all takes time linear in the length of the text.
+    /// The items of `text`: a music line, or what is inside a chord. To read them all takes time
+    /// linear in the length of the text.
     ///
-    /// The law of items stands beside it: they are items by the table, and the text has no other items; their texts are the whole text, one after
-    /// another, from its front to its end. Each is of its row, so that a note's text is an accidental as it is written, a byte that names a letter, and
-    /// octave marks; an inline field's is `[`, a letter, `:`, the value and `]`; a chord's is `[`, its inside, which has no `[`, `]` or `|`, and `]`.
+    /// The law of items stands beside it: they are items by the table, and the text has no other
+    /// items; their texts are the whole text, one after another, from its front to its end. Each is
+    /// of its row, so that a note's text is an accidental as it is written, a byte that names a
+    /// letter, and octave marks; an inline field's is `[`, a letter, `:`, the value and `]`; a
+    /// chord's is `[`, its inside, which has no `[`, `]` or `|`, and `]`.
     pub fn new(text: &'a [u8]) -> Items<'a>
-        ensures items { result ≡ spans_of text.now }
+        ensures items { result ≡ item_spans_of text.now }
 
         ensures are_items { AreItems (items_of text.now) text.now }
-        ensures no_other_items { (items : List Token) → AreItems items text.now → items ≡ items_of text.now }
-        ensures texts { map token_of (spans_of text.now) ≡ items_of text.now }
-        ensures places { SpansFill text.now 0 (spans_of text.now) }
-        ensures rows { All (FitsItsRow text.now) (spans_of text.now) }
+        ensures no_other_items { (items : List ItemText) → AreItems items text.now
+            → items ≡ items_of text.now }
+        ensures texts { map item_text_of (item_spans_of text.now) ≡ items_of text.now }
+        ensures fill { ItemSpansFill text.now 0 (item_spans_of text.now) }
+        ensures rows { All (FitsItsRow text.now) (item_spans_of text.now) }
     {
         Items {
             rest: text,
@@ -67,10 +74,11 @@ impl<'a> Items<'a> {
         }
     }
 
-    /// Takes the first item that is left where it is one byte, none of those that begin the longer rows, as most items are. Else it takes none.
+    /// Takes the first item that is left where it is one byte, none of those that begin the longer
+    /// rows, as most items are. Else it takes none.
     #[inline(always)]
     pub fn next_plain(&mut self) -> Option<Item<'a>>
-        ensures steps { self.old ≡ spans_in result ++ self.new }
+        ensures steps { self.old ≡ item_spans_in result ++ self.new }
         ensures plain { is_some result ≡ begin_plain self.old }
     {
         let Some(kind) = plain_kind(self.rest) else {
@@ -88,7 +96,7 @@ impl<'a> Items<'a> {
         })
     }
 
-    /// A second reader of the items that are left, with the same places.
+    /// A second reader of the items that are left.
     pub fn again(&self) -> Items<'a>
         ensures { result ≡ self.now }
     {

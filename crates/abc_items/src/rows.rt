@@ -1,21 +1,29 @@
 // The item at the front of a text: one function for each row of the table of items.
-ghost use Rattle.std.specs.Prelude.{◌≡◌, ℕ, ◌<◌, ◌≤◌, ◌+◌, ◌==◌, ◌&&◌, is_some, List, length, IfSome, Some, None, drop, IsTrue};
+ghost use Rattle.std.specs.Prelude.{◌≡◌, ℕ, ◌<◌, ◌≤◌, ◌+◌, ◌==◌, ◌&&◌, is_some, List, length};
+ghost use Rattle.std.specs.Prelude.{IfSome, Some, None, drop, IsTrue};
 ghost use Rattle.std.specs.List.{prefix_len};
 ghost use Rattle.std.specs.Char.{is_ascii_digit};
-ghost use Rattle.abc_keys.specs.Keys.{begins};
-ghost use Rattle.abc_items.specs.Marks.{opening_brace, closing_brace, closing_bracket, is_closing_bracket, is_octave_mark, is_chord_byte, has_no};
+ghost use Rattle.abc_fields.specs.Bytes.{begins};
+ghost use Rattle.abc_items.specs.Marks.{opening_brace, closing_brace, closing_bracket};
+ghost use Rattle.abc_items.specs.Marks.{is_closing_bracket, is_octave_mark, is_chord_byte, has_no};
 ghost use Rattle.abc_items.specs.Grammar.{spelling_of, IsNote};
-ghost use Rattle.abc_items.specs.Rows.{up_to, enclosed, inline_field, chord, colon_part, colon_parts, tuplet, own_accidental, note, first_item, is_note_name, begins_longer_row, plain_front, front};
-ghost use Rattle.abc_items.specs.Misses.{AreMissing};
-ghost use Rattle.abc_items.specs.Plain.{is_plain_byte, alone};
+ghost use Rattle.abc_items.specs.Rows.{up_to, enclosed, inline_field, chord, colon_part};
+ghost use Rattle.abc_items.specs.Rows.{colon_parts, tuplet, own_accidental, note, first_item};
+ghost use Rattle.abc_items.specs.Rows.{is_note_name, front};
+ghost use Rattle.abc_items.specs.Plain.{begins_longer_row, is_plain_byte};
+ghost use Rattle.abc_items.specs.Inside.FrontLengths.{IsFrontLength};
+ghost use Rattle.abc_items.specs.Inside.Misses.{AreMissing, IsMissing};
+ghost use Rattle.abc_items.specs.Inside.PlainFronts.{lone_kind, plain_front, alone};
 
 use crate::kinds::{Front, Kind};
-use abc_keys::{Accidental, accidental_of, doubled, letter_of};
+use abc_keys::{Accidental, accidental_of, doubled};
 use memchr::{memchr, memchr3};
 
-// Closing marks that were sought and not found. No later search for one of them begins, so that a text of many opening marks and no closing one is
-// read in time linear in its length; a search that finds its mark passes over the bytes of its own item alone. The quotation mark and the marks of
-// decorations need no such memory: each closes itself, so where a search for one fails, the text has no further one to begin another search.
+// Closing marks that were sought and not found. No later search for one of them begins, so that a
+// text of many opening marks and no closing one is read in time linear in its length; a search that
+// finds its mark passes over the bytes of its own item alone. The quotation mark and the marks of
+// decorations need no such memory: each closes itself, so where a search for one fails, the text
+// has no further one to begin another search.
 #[derive(Clone, Copy)]
 pub(crate) struct Misses {
     // No `}` is left.
@@ -27,17 +35,17 @@ pub(crate) struct Misses {
 // How many bytes there are up to the first closing mark, that one too.
 fn up_to(bytes: &[u8], closing: u8) -> Option<usize>
     ensures value { result ≡ up_to closing bytes.now }
-    ensures within { IfSome result (λ n. (0 < n) × (n ≤ length bytes.now)) }
+    ensures within { IsFrontLength bytes.now result }
 {
     memchr(closing, bytes).map(|before| before + 1)
 }
 
 // The same, with no search where the mark is known to be missing. Remembers that it is.
 fn up_to_or_miss(bytes: &[u8], closing: u8, missing: &mut bool) -> Option<usize>
-    requires { IsTrue missing.old → IsTrue (has_no closing bytes.now) }
+    requires { IsMissing closing missing.old bytes.now }
     ensures value { result ≡ up_to closing bytes.now }
-    ensures within { IfSome result (λ n. (0 < n) × (n ≤ length bytes.now)) }
-    ensures missing { IsTrue missing.new → IsTrue (has_no closing bytes.now) }
+    ensures within { IsFrontLength bytes.now result }
+    ensures missing { IsMissing closing missing.new bytes.now }
 {
     if *missing {
         return None;
@@ -51,7 +59,7 @@ fn up_to_or_miss(bytes: &[u8], closing: u8, missing: &mut bool) -> Option<usize>
 #[tactic(auto, unfolding(crate::specs::Rows::enclosed))]
 fn enclosed(bytes: &[u8], mark: u8) -> Option<usize>
     ensures value { result ≡ enclosed mark mark bytes.now }
-    ensures within { IfSome result (λ n. (0 < n) × (n ≤ length bytes.now)) }
+    ensures within { IsFrontLength bytes.now result }
 {
     match bytes {
         [first, rest @ ..] if *first == mark => up_to(rest, mark).map(|n| n + 1),
@@ -62,10 +70,10 @@ fn enclosed(bytes: &[u8], mark: u8) -> Option<usize>
 // Grace notes.
 #[tactic(auto, unfolding(crate::specs::Rows::enclosed))]
 fn grace(bytes: &[u8], missing: &mut bool) -> Option<usize>
-    requires { IsTrue missing.old → IsTrue (has_no closing_brace bytes.now) }
+    requires { IsMissing closing_brace missing.old bytes.now }
     ensures value { result ≡ enclosed opening_brace closing_brace bytes.now }
-    ensures within { IfSome result (λ n. (0 < n) × (n ≤ length bytes.now)) }
-    ensures missing { IsTrue missing.new → IsTrue (has_no closing_brace bytes.now) }
+    ensures within { IsFrontLength bytes.now result }
+    ensures missing { IsMissing closing_brace missing.new bytes.now }
 {
     match bytes {
         [b'{', rest @ ..] => up_to_or_miss(rest, b'}', missing).map(|n| n + 1),
@@ -76,10 +84,10 @@ fn grace(bytes: &[u8], missing: &mut bool) -> Option<usize>
 // An inline field.
 #[tactic(auto, unfolding(crate::specs::Rows::inline_field))]
 fn inline_field(bytes: &[u8], missing: &mut bool) -> Option<usize>
-    requires { IsTrue missing.old → IsTrue (has_no closing_bracket bytes.now) }
+    requires { IsMissing closing_bracket missing.old bytes.now }
     ensures value { result ≡ inline_field bytes.now }
-    ensures within { IfSome result (λ n. (0 < n) × (n ≤ length bytes.now)) }
-    ensures missing { IsTrue missing.new → IsTrue (has_no closing_bracket bytes.now) }
+    ensures within { IsFrontLength bytes.now result }
+    ensures missing { IsMissing closing_bracket missing.new bytes.now }
 {
     match bytes {
         [b'[', name, b':', rest @ ..] if name.is_ascii_alphabetic() => {
@@ -89,8 +97,9 @@ fn inline_field(bytes: &[u8], missing: &mut bool) -> Option<usize>
     }
 }
 
-// How many bytes at the front may stand in a chord. The search begins after a `[` and stops at the next one at the latest, so that no two such
-// searches pass over one byte, and those of a text take time linear in its length, whatever they find.
+// How many bytes at the front may stand in a chord. The search begins after a `[` and stops at the
+// next one at the latest, so that no two such searches pass over one byte, and those of a text take
+// time linear in its length, whatever they find.
 fn chord_bytes(bytes: &[u8]) -> usize
     ensures value { result ≡ prefix_len is_chord_byte bytes.now }
     ensures within { result ≤ length bytes.now }
@@ -119,7 +128,7 @@ fn begins_with_closing_bracket(bytes: &[u8]) -> bool
 #[tactic(auto, unfolding(crate::specs::Rows::chord))]
 fn chord(bytes: &[u8]) -> Option<usize>
     ensures value { result ≡ chord bytes.now }
-    ensures within { IfSome result (λ n. (0 < n) × (n ≤ length bytes.now)) }
+    ensures within { IsFrontLength bytes.now result }
 {
     match bytes {
         [b'[', rest @ ..] if !begins_with_digit(rest) => {
@@ -169,7 +178,7 @@ fn two_colon_parts(bytes: &[u8]) -> usize
 #[tactic(auto, unfolding(crate::specs::Rows::tuplet))]
 fn tuplet(bytes: &[u8]) -> Option<usize>
     ensures value { result ≡ tuplet bytes.now }
-    ensures within { IfSome result (λ n. (0 < n) × (n ≤ length bytes.now)) }
+    ensures within { IsFrontLength bytes.now result }
 {
     match bytes {
         [b'(', rest @ ..] => {
@@ -183,8 +192,8 @@ fn tuplet(bytes: &[u8]) -> Option<usize>
     }
 }
 
-/// The accidental that a text begins with, as it is written: one of two bytes before one of one byte (ABC 2.1, 4.2). At the text of a note it is the
-/// note's own.
+/// The accidental that a text begins with, as it is written: one of two bytes before one of one
+/// byte (ABC 2.1, 4.2). At the text of a note it is the note's own.
 #[inline(always)]
 pub fn own_accidental(text: &[u8]) -> Option<Accidental>
     ensures value { result ≡ own_accidental text.now }
@@ -200,7 +209,8 @@ pub fn own_accidental(text: &[u8]) -> Option<Accidental>
     }
 }
 
-/// How many bytes a note's own accidental has, as it is written: 0 where it has none. The byte after them names the letter (ABC 2.1, 4.1 and 4.2).
+/// How many bytes a note's own accidental has, as it is written: 0 where it has none. The byte
+/// after them names the letter (ABC 2.1, 4.1 and 4.2).
 #[inline(always)]
 pub fn spelling_length(own: Option<Accidental>) -> usize
     ensures value { result ≡ length (spelling_of own) }
@@ -234,18 +244,19 @@ fn octave_marks(bytes: &[u8]) -> usize
 #[tactic(auto, unfolding(crate::specs::Rows::note))]
 fn note(bytes: &[u8]) -> Option<usize>
     ensures value { result ≡ note bytes.now }
-    ensures within { IfSome result (λ n. (0 < n) × (n ≤ length bytes.now)) }
+    ensures within { IsFrontLength bytes.now result }
 {
     let before = spelling_length(own_accidental(bytes));
     match bytes.get(before) {
-        Some(name) if letter_of(*name).is_some() => {
+        Some(name) if is_note_name(*name) => {
             Some(before + 1 + octave_marks(&bytes[before + 1..]))
         }
         _ => None,
     }
 }
 
-// The item at the front of a text, where its first byte begins none of the longer rows: these are most items, and need no search.
+// The item at the front of a text, where its first byte begins none of the longer rows: these are
+// most items, and need no search.
 #[inline(always)]
 fn plain_item(bytes: &[u8]) -> Option<Front>
     ensures value { IfSome result (λ item. item ≡ first_item bytes.now) }
@@ -257,12 +268,14 @@ fn plain_item(bytes: &[u8]) -> Option<Front>
     }
 }
 
-// What the item at the front of a text is, where it is one byte alone, none of those that begin the longer rows.
+// What the item at the front of a text is, where it is one byte alone, none of those that begin the
+// longer rows.
 #[inline(always)]
 pub(crate) fn plain_kind(bytes: &[u8]) -> Option<Kind>
     ensures value { IfSome result (λ kind. front kind 1 ≡ first_item bytes.now) }
     ensures within { IfSome result (λ kind. 0 < length bytes.now) }
-    ensures plain { is_some result ≡ (begins is_plain_byte bytes.now && (first_item bytes.now).length == 1) }
+    ensures plain { is_some result
+        ≡ (begins is_plain_byte bytes.now && (first_item bytes.now).length == 1) }
 {
     match bytes {
         [byte, rest @ ..] => alone(*byte, rest),
@@ -285,10 +298,7 @@ fn alone(byte: u8, rest: &[u8]) -> Option<Kind>
     if begins_longer_row(byte) {
         return None;
     }
-    Some(match byte {
-        b'|' | b':' => Kind::Bar,
-        _ => Kind::Other,
-    })
+    Some(lone_kind(byte))
 }
 
 fn begins_with_octave_mark(bytes: &[u8]) -> bool
@@ -313,10 +323,18 @@ fn plain_front(byte: u8, rest: &[u8]) -> Front
 {
     if is_note_name(byte) {
         Front::new(Kind::Note, 1 + octave_marks(rest))
-    } else if byte == b'|' || byte == b':' {
-        Front::new(Kind::Bar, 1)
     } else {
-        Front::new(Kind::Other, 1)
+        Front::new(lone_kind(byte), 1)
+    }
+}
+
+// What an item of one byte is.
+fn lone_kind(byte: u8) -> Kind
+    ensures { result ≡ lone_kind byte }
+{
+    match byte {
+        b'|' | b':' => Kind::Bar,
+        _ => Kind::Other,
     }
 }
 
@@ -376,9 +394,5 @@ fn searched_item(bytes: &[u8], misses: &mut Misses) -> Front
     if let Some(length) = note(bytes) {
         return Front::new(Kind::Note, length);
     }
-    let kind = match bytes {
-        [b'|' | b':', ..] => Kind::Bar,
-        _ => Kind::Other,
-    };
-    Front::new(kind, 1)
+    Front::new(lone_kind(bytes[0]), 1)
 }

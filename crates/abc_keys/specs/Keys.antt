@@ -75,6 +75,7 @@ may_follow_tonic [] = true
 may_follow_tonic (byte ∷ text) =
     is_blank byte || is_ascii_alphabetic byte || is_one_of (codes "^_=") byte
 
+-- a tonic and its sign, before what may follow them, or no key
 abbrev pub key_after_sign : Letter → Sign → List ℕ → Key
 key_after_sign tonic sign text =
     if may_follow_tonic text then key_after_tonic tonic sign text else key.Unread
@@ -98,7 +99,7 @@ key_with_tonic (byte ∷ text) =
 abbrev pub is_none : List ℕ → Bool
 is_none word = pointwise nat_eq word [] || is_word word (codes "none")
 
--- a text without spaces and tabs at its ends
+-- the key that a text says which has no spaces and tabs at its ends
 abbrev pub key_of_trimmed : List ℕ → Key
 key_of_trimmed text =
     let first = take_while is_ink text in

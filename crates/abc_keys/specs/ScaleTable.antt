@@ -17,6 +17,7 @@ pub record Row : Type 0 where
   pub scale : Scale
   pub count : ℤ
 
+-- a row of the table
 abbrev pub row : Letter → Sign → Mode → ℤ → Row
 row tonic sign mode count = record {
   scale = record { tonic = tonic; sign = sign; mode = mode };

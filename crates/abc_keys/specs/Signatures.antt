@@ -41,10 +41,11 @@ no_accidentals = record {
 }
 
 -- SHARPS AND FLATS BY THEIR COUNT
--- the orders in which sharps and flats come
+-- the order in which sharps come
 abbrev pub sharp_order : List Letter
 sharp_order = F ∷ C ∷ G ∷ D ∷ A ∷ E ∷ B ∷ []
 
+-- and that in which flats come
 abbrev pub flat_order : List Letter
 flat_order = B ∷ E ∷ A ∷ D ∷ G ∷ C ∷ F ∷ []
 

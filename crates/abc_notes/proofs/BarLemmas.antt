@@ -2,14 +2,15 @@
 use Rattle.std.proofs.Common.{◌≡◌, ℕ, zero, suc, ◌+◌, List, [], ◌∷◌, ◌++◌, take, drop, reverse, refl, ap, ◌∙◌, arith, append_assoc, append-nil}
 use Rattle.std.proofs.lemmas.List.{reverse-append}
 use Rattle.abc_notes.specs.Events.{Event}
-use Rattle.abc_notes.specs.Kept.{past_of}
+use Rattle.abc_notes.specs.Inside.Kept.{past_of}
 
 -- one more event of a list that leads to the rest
 take_one : (n : ℕ) (all : List Event) (e : Event) (rest : List Event) → drop n all ≡ e ∷ rest → take (n + 1) all ≡ take n all ++ e ∷ []
 take_one zero [] e rest is = absurd (cc)
 take_one zero (x ∷ all) e rest is = cc
 take_one (suc n) [] e rest is = absurd (cc)
-take_one (suc n) (x ∷ all) e rest is = let k : suc n + 1 ≡ suc (n + 1) = omega arith in ap (λ j. take j (x ∷ all)) k ∙ ap (λ r. x ∷ r) (take_one n all e rest is)
+take_one (suc n) (x ∷ all) e rest is =
+    let k : suc n + 1 ≡ suc (n + 1) = omega arith in ap (λ j. take j (x ∷ all)) k ∙ ap (λ r. x ∷ r) (take_one n all e rest is)
 
 pub drop_one : (n : ℕ) (all : List Event) (e : Event) (rest : List Event) → drop n all ≡ e ∷ rest → drop (n + 1) all ≡ rest
 drop_one zero [] e rest is = absurd (cc)
@@ -36,7 +37,8 @@ read_from_start n all = append-nil (reverse (take n all))
 
 pub read_one : (k j : ℕ) (events rest past : List Event) (e : Event) → k ≡ suc j → events ≡ e ∷ rest → read_on k events past ≡ read_on j rest (e ∷ past)
 read_one k j events rest past e more is =
-    (λ i. reverse (take (more i) (is i)) ++ past) ∙ ap (λ front. front ++ past) (reverse-append (e ∷ []) (take j rest)) ∙ append_assoc (reverse (take j rest)) (e ∷ []) past
+    (λ i. reverse (take (more i) (is i)) ++ past) ∙ ap (λ front. front ++ past) (reverse-append (e ∷ []) (take j rest))
+    ∙ append_assoc (reverse (take j rest)) (e ∷ []) past
 
 pub read_to_end : (k : ℕ) (events past : List Event) → events ≡ [] → read_on k events past ≡ past
 read_to_end zero events past none = refl

@@ -1,11 +1,12 @@
 -- A reader of notes keeps its bar, event by event.
 use Rattle.std.proofs.Common.{◌≡◌, ◌+◌, ◌≤◌, List, [], ◌∷◌, length, drop, ap, sym, ◌∙◌, arith, subst}
+use Rattle.abc_fields.specs.Limits.{longest_book}
 use Rattle.abc_keys.specs.declared.signatures.Signature.{Signature}
 use Rattle.abc_notes.specs.declared.bar.Bar.{Bar}
 use Rattle.abc_notes.specs.Events.{WrittenNote, Event, note, bar, change}
-use Rattle.abc_notes.specs.Kept.{past_of, notes_left, IsKept}
+use Rattle.abc_notes.specs.Inside.Kept.{past_of, notes_left, IsKept}
 use Rattle.abc_notes.specs.Pitches.{accidental_of_note, sounded, sounded_notes}
-use Rattle.abc_notes.specs.Tables.{IsBarAfter}
+use Rattle.abc_notes.specs.Inside.BarTables.{IsBarAfter}
 use Rattle.abc_notes.proofs.BarLemmas.{drop_one, past_one, past_none}
 use Rattle.abc_notes.proofs.PastLemmas.{notes_bar, notes_end}
 
@@ -44,7 +45,7 @@ notes_change old new bar_events events rest s kept is after start =
     ∙ (λ i. sounded_notes (sym start i) (sym (past_on old new bar_events events rest (change s) kept is after) i) rest)
 
 -- a bar that begins
-pub kept_new : (new : Bar) (events : List Event) → IsBarAfter [] new → length events ≤ 4000000 → IsKept new events events
+pub kept_new : (new : Bar) (events : List Event) → IsBarAfter [] new → length events ≤ longest_book → IsKept new events events
 kept_new new events after few =
     let none : new.since ≡ 0 = after.count in
     record {
@@ -53,10 +54,12 @@ kept_new new events after few =
       few = omega arith;
     }
 
-pub notes_new : (new : Bar) (events : List Event) (start : Signature) → IsBarAfter [] new → new.start ≡ start → notes_left new events events ≡ sounded_notes start [] events
+pub notes_new : (new : Bar) (events : List Event) (start : Signature) → IsBarAfter [] new → new.start ≡ start
+    → notes_left new events events ≡ sounded_notes start [] events
 notes_new new events start after is = (λ i. sounded_notes (is i) (past_none new.since events after.count i) events)
 
-pub notes_at_bar : (old new : Bar) (bar_events events rest : List Event) → IsKept old bar_events events → events ≡ bar ∷ rest → IsBarAfter [] new → new.start ≡ old.signature
+pub notes_at_bar : (old new : Bar) (bar_events events rest : List Event) → IsKept old bar_events events → events ≡ bar ∷ rest → IsBarAfter [] new
+    → new.start ≡ old.signature
     → notes_left old bar_events events ≡ notes_left new rest rest
 notes_at_bar old new bar_events events rest kept is after start =
     ap (sounded_notes old.start (past_of old.since bar_events)) is

@@ -1,3 +1,4 @@
+pub mod TextParts
 pub mod PastLemmas
 pub mod RuleLaw
 pub mod ShortLemmas

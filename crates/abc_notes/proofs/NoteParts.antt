@@ -1,93 +1,44 @@
 -- The notes of a text are parts of it, one after another.
 use Rattle.std.proofs.Common.{◌≡◌, ℕ, ◌+◌, ◌-◌, ◌<◌, ◌≤◌, Bool, true, false, List, [], ◌∷◌, ◌++◌, length, take, drop, cond, refl, ap, sym, ◌∙◌, add-zero, arith}
 use Rattle.std.specs.Prelude.{slice_range, codes, not, ◌&&◌, ◌||◌}
-use Rattle.std.proofs.Math.Seq.{take-append_seam, drop-append_seam}
 use Rattle.std.proofs.lemmas.Bool.{cond_both}
-use Rattle.std.proofs.lemmas.List.{append_assoc, append-nil, length-append, length-drop, length-take-le, take-append-drop}
+use Rattle.std.proofs.lemmas.List.{length-drop, length-take-le}
 use Rattle.abc_fields.specs.LineKinds.{is_field_line, is_continuation, is_comment, in_part_after}
 use Rattle.abc_fields.specs.Lines.{Span as Line, IsSpan, SpansRise, spans_of as lines_of}
 use Rattle.abc_fields.specs.Tunes.{is_key_line}
 use Rattle.abc_fields.specs.Values.{uncommented}
 use Rattle.abc_fields.proofs.CommentLaw.{is_uncommented}
 use Rattle.abc_fields.proofs.LineLaw.{spans_rise}
-use Rattle.abc_keys.specs.Letters.{is_one_of}
+use Rattle.abc_fields.specs.Bytes.{is_one_of}
 use Rattle.abc_keys.specs.Keys.{key_of_text, signature_of}
 use Rattle.abc_keys.specs.declared.signatures.Signature.{Signature}
 use Rattle.abc_items.specs.declared.kinds.Kind.{Kind}
 use Rattle.abc_items.specs.declared.kinds.Kind.TheVariants as kind
-use Rattle.abc_items.specs.Grammar.{Fits, IsChord}
-use Rattle.abc_items.specs.Spans.{Span, spans_of, IsPlaced, SpansFill}
-use Rattle.abc_items.proofs.Places.{spans_fill}
+use Rattle.abc_items.specs.Grammar.{Fits}
+use Rattle.abc_items.specs.ItemSpans.{ItemSpan, item_spans_of, IsSpanAt, ItemSpansFill}
+use Rattle.abc_items.proofs.ItemSpans.{spans_fill}
+use Rattle.abc_notes.proofs.TextParts.{line_long, chord_brackets, StandsAt, stands_within, stands_itself, stands_between, stands_ends, stands_part}
 use Rattle.abc_notes.specs.Events.{WrittenNote, Event, note, bar, change}
-use Rattle.abc_notes.specs.Music.{written, is_note, plain_events, chord_events, inside_of, inline_events, item_events, line_events, music_events, body_line_events, line_tells, body_events, events_after_header, tune_events}
+use Rattle.abc_notes.specs.Music.{written, is_note, plain_events, chord_events, inside_of, inline_events, item_events, line_events, music_events}
+use Rattle.abc_notes.specs.Music.{body_line_events, line_meaning, body_events, events_after_header, tune_events}
 use Rattle.abc_notes.specs.NoteParts.{AreNoteParts, NotesRise}
 use Rattle.abc_notes.specs.Pitches.{sounded_notes}
 
--- TEXTS WITHIN TEXTS
--- these bytes stand at this place of a text
-record StandsAt (text : List ℕ) (at : ℕ) (part : List ℕ) : Type 0 where
-  front : List ℕ
-  back : List ℕ
-  whole : front ++ (part ++ back) ≡ text
-  place : length front ≡ at
-
--- what stands in a part stands in the text
-stands_within : (text part bytes : List ℕ) (base at : ℕ) → StandsAt text base part → StandsAt part at bytes → StandsAt text (base + at) bytes
-stands_within text part bytes base at outer inner = record {
-  front = outer.front ++ inner.front;
-  back = inner.back ++ outer.back;
-  whole =
-      let joined : (outer.front ++ inner.front) ++ (bytes ++ (inner.back ++ outer.back)) ≡ outer.front ++ ((inner.front ++ (bytes ++ inner.back)) ++ outer.back) = simp append_assoc in
-      joined ∙ ap (λ t. outer.front ++ (t ++ outer.back)) inner.whole ∙ outer.whole;
-  place = omega (arith, length-append outer.front inner.front, outer.place, inner.place);
-}
-
--- a text stands at its own front
-stands_itself : (text : List ℕ) → StandsAt text 0 text
-stands_itself text = record { front = []; back = []; whole = append-nil text; place = refl }
-
--- what is between two places stands at the first one
-stands_between : (text part : List ℕ) (from to : ℕ) → from ≤ to → to ≤ length text → slice_range text from to ≡ part → StandsAt text from part
-stands_between text part from to ordered within is = record {
-  front = take from text;
-  back = drop (to - from) (drop from text);
-  whole =
-      ap (λ t. take from text ++ (t ++ drop (to - from) (drop from text))) (sym is)
-      ∙ ap (λ t. take from text ++ t) (take-append-drop (to - from) (drop from text))
-      ∙ take-append-drop from text;
-  place = length-take-le from text (omega arith);
-}
-
--- bytes end within the text that they stand in
-stands_ends : (text part : List ℕ) (at : ℕ) → StandsAt text at part → at + length part ≤ length text
-stands_ends text part at stands =
-    omega (arith, ap length stands.whole, length-append stands.front (part ++ stands.back), length-append part stands.back, stands.place)
-
--- a part of a text is what is between its places
-part_between : (front part rest : List ℕ) → slice_range (front ++ (part ++ rest)) (length front) (length front + length part) ≡ part
-part_between front part rest =
-    let width : length front + length part - length front ≡ length part = omega arith in
-    rw (width, drop-append_seam front (part ++ rest)) (take-append_seam part rest)
-
--- and so are bytes that stand in it
-stands_part : (text part : List ℕ) (at : ℕ) → StandsAt text at part → slice_range text at (at + length part) ≡ part
-stands_part text part at stands = rw (← stands.whole, ← stands.place) (part_between stands.front part stands.back)
-
 -- NOTES AMONG EVENTS
--- a note as it is written is the part of the text between its places
+-- a note as it is written is what stands in the text from where it begins to where it ends
 record IsWrittenPart (text : List ℕ) (n : WrittenNote) : Type 0 where
   ordered : n.from < n.to
   within : n.to ≤ length text
   part : slice_range text n.from n.to ≡ n.bytes
 
--- the notes among events are parts of the text, one after another, between these places
+-- the notes among events are parts of the text, one after another, between these indices
 abbrev NotesRun : List ℕ → ℕ → ℕ → List Event → Type 0
 NotesRun text low high [] = low ≤ high
 NotesRun text low high (note n ∷ events) = (low ≤ n.from) × IsWrittenPart text n × NotesRun text n.to high events
 NotesRun text low high (bar ∷ events) = NotesRun text low high events
 NotesRun text low high (change s ∷ events) = NotesRun text low high events
 
--- they are so from an earlier place on
+-- they are so from an earlier index on
 run_from : (text : List ℕ) (low at high : ℕ) (events : List Event) → low ≤ at → NotesRun text at high events → NotesRun text low high events
 run_from text low at high [] below runs = omega arith
 run_from text low at high (note n ∷ events) below (above, part, later) = (omega arith, part, later)
@@ -95,13 +46,14 @@ run_from text low at high (bar ∷ events) below runs = run_from text low at hig
 run_from text low at high (change s ∷ events) below runs = run_from text low at high events below runs
 
 -- events before others
-run_append : (text : List ℕ) (low at high : ℕ) (events later : List Event) → NotesRun text low at events → NotesRun text at high later → NotesRun text low high (events ++ later)
+run_append : (text : List ℕ) (low at high : ℕ) (events later : List Event) → NotesRun text low at events → NotesRun text at high later
+    → NotesRun text low high (events ++ later)
 run_append text low at high [] later runs rest = run_from text low at high later runs rest
 run_append text low at high (note n ∷ events) later (above, part, runs) rest = (above, part, run_append text n.to at high events later runs rest)
 run_append text low at high (bar ∷ events) later runs rest = run_append text low at high events later runs rest
 run_append text low at high (change s ∷ events) later runs rest = run_append text low at high events later runs rest
 
--- they are so up to a later place
+-- they are so up to a later index
 run_to : (text : List ℕ) (low at high : ℕ) (events : List Event) → at ≤ high → NotesRun text low at events → NotesRun text low high events
 run_to text low at high [] above runs = omega arith
 run_to text low at high (note n ∷ events) above (begins, part, later) = (begins, part, run_to text n.to at high events above later)
@@ -129,11 +81,12 @@ sounded_rise first past text low high (change s ∷ events) runs = sounded_rise 
 
 -- ITEMS
 -- an item stands in its text
-item_stands : (text : List ℕ) (at : ℕ) (span : Span) → IsPlaced text at span → StandsAt text span.from span.bytes
+item_stands : (text : List ℕ) (at : ℕ) (span : ItemSpan) → IsSpanAt text at span → StandsAt text span.from span.bytes
 item_stands text at span placed = stands_between text span.bytes span.from span.to (omega (arith, placed.some)) placed.within placed.part
 
--- a note that stands in a text is the part between its places
-written_part : (text : List ℕ) (base : ℕ) (counts : Bool) (span : Span) → StandsAt text (base + span.from) span.bytes → span.from < span.to → span.to ≡ span.from + length span.bytes
+-- a note that stands in a text is a part of it
+written_part : (text : List ℕ) (base : ℕ) (counts : Bool) (span : ItemSpan) → StandsAt text (base + span.from) span.bytes → span.from < span.to
+    → span.to ≡ span.from + length span.bytes
     → IsWrittenPart text (written base counts span)
 unfolding written
 written_part text base counts span stands some ends =
@@ -144,8 +97,9 @@ written_part text base counts span stands some ends =
       part = ap (slice_range text (base + span.from)) (sym last) ∙ stands_part text span.bytes (base + span.from) stands;
     }
 
--- the event of an item that is no chord and no field lies between the item's places
-plain_run : (text : List ℕ) (base : ℕ) (counts : Bool) (k : Kind) (span : Span) → StandsAt text (base + span.from) span.bytes → span.from < span.to → span.to ≡ span.from + length span.bytes
+-- the event of an item that is no chord and no field lies within it
+plain_run : (text : List ℕ) (base : ℕ) (counts : Bool) (k : Kind) (span : ItemSpan) → StandsAt text (base + span.from) span.bytes → span.from < span.to
+    → span.to ≡ span.from + length span.bytes
     → NotesRun text (base + span.from) (base + span.to) (plain_events base counts k span)
 unfolding plain_events written
 plain_run text base counts kind.Note span stands some ends = (omega arith, written_part text base counts span stands some ends, omega arith)
@@ -159,7 +113,7 @@ plain_run text base counts kind.Tuplet span stands some ends = omega arith
 plain_run text base counts kind.Other span stands some ends = omega arith
 
 -- the events of the items inside a chord, of which these are left
-chord_run : (text inside : List ℕ) (base at : ℕ) (first : Bool) (spans : List Span) → StandsAt text base inside → SpansFill inside at spans
+chord_run : (text inside : List ℕ) (base at : ℕ) (first : Bool) (spans : List ItemSpan) → StandsAt text base inside → ItemSpansFill inside at spans
     → NotesRun text (base + at) (base + length inside) (chord_events base first spans)
 unfolding chord_events
 chord_run text inside base at first [] stands fill = omega arith
@@ -184,18 +138,15 @@ inside_long text long =
     let rest : length text - 2 ≤ length (drop 1 text) = omega (arith, length-drop 1 text) in
     omega (arith, length-take-le (length text - 2) (drop 1 text) rest)
 
--- a chord has two brackets
-chord_brackets : (text : List ℕ) → IsChord text → 2 ≤ length text
-chord_brackets text chord = omega (arith, simp length-append at (ap length chord.whole))
-
--- a chord's events lie between its places
-chord_item_run : (text : List ℕ) (base : ℕ) (span : Span) → StandsAt text (base + span.from) span.bytes → span.to ≡ span.from + length span.bytes → 2 ≤ length span.bytes
-    → NotesRun text (base + span.from) (base + span.to) (chord_events (base + span.from + 1) true (spans_of (inside_of span.bytes)))
+-- a chord's events lie within it
+chord_item_run : (text : List ℕ) (base : ℕ) (span : ItemSpan) → StandsAt text (base + span.from) span.bytes → span.to ≡ span.from + length span.bytes
+    → 2 ≤ length span.bytes
+    → NotesRun text (base + span.from) (base + span.to) (chord_events (base + span.from + 1) true (item_spans_of (inside_of span.bytes)))
 chord_item_run text base span stands ends long =
     let inside = inside_of span.bytes in
     let here = stands_within text span.bytes inside (base + span.from) 1 stands (inside_stands span.bytes long) in
-    let runs = chord_run text inside (base + span.from + 1) 0 true (spans_of inside) here (spans_fill inside) in
-    let events = chord_events (base + span.from + 1) true (spans_of inside) in
+    let runs = chord_run text inside (base + span.from + 1) 0 true (item_spans_of inside) here (spans_fill inside) in
+    let events = chord_events (base + span.from + 1) true (item_spans_of inside) in
     run_from text (base + span.from) (base + span.from + 1 + 0) (base + span.to) events (omega arith)
     (run_to text (base + span.from + 1 + 0) (base + span.from + 1 + length inside) (base + span.to) events (omega (arith, inside_long span.bytes long)) runs)
 
@@ -212,8 +163,9 @@ inline_run text low high (bracket ∷ name ∷ []) ordered = ordered
 inline_run text low high (bracket ∷ name ∷ between ∷ rest) ordered =
     change_run text low high (is_one_of (codes "K") name) (signature_of (key_of_text (take (length rest - 1) rest))) ordered
 
--- the events of an item of a line lie between its places
-item_run : (text rest : List ℕ) (base : ℕ) (k : Kind) (span : Span) → StandsAt text (base + span.from) span.bytes → span.from < span.to → span.to ≡ span.from + length span.bytes
+-- the events of an item of a line lie within it
+item_run : (text rest : List ℕ) (base : ℕ) (k : Kind) (span : ItemSpan) → StandsAt text (base + span.from) span.bytes → span.from < span.to
+    → span.to ≡ span.from + length span.bytes
     → Fits k span.bytes rest → NotesRun text (base + span.from) (base + span.to) (item_events base k span)
 unfolding item_events
 item_run text rest base kind.Chord span stands some ends fits = chord_item_run text base span stands ends (chord_brackets span.bytes fits)
@@ -228,7 +180,7 @@ item_run text rest base kind.Other span stands some ends fits = plain_run text b
 
 -- LINES
 -- the events of the items of a line, of which these are left
-line_run : (text line : List ℕ) (base at : ℕ) (spans : List Span) → StandsAt text base line → SpansFill line at spans
+line_run : (text line : List ℕ) (base at : ℕ) (spans : List ItemSpan) → StandsAt text base line → ItemSpansFill line at spans
     → NotesRun text (base + at) (base + length line) (line_events base spans)
 unfolding line_events
 line_run text line base at [] stands fill = omega arith
@@ -242,7 +194,7 @@ line_run text line base at (span ∷ spans) stands (placed, later) =
 
 -- a line without its comment stands at the line's front
 uncommented_stands : (line : List ℕ) → StandsAt line 0 (uncommented line)
-uncommented_stands line = let cut = is_uncommented line in record { front = []; back = cut.rest; whole = cut.whole; place = refl }
+uncommented_stands line = let cut = is_uncommented line in record { front = []; back = cut.rest; whole = cut.whole; start = refl }
 
 -- the events of a music line lie within it
 music_run : (text line : List ℕ) (base : ℕ) → StandsAt text base line → NotesRun text base (base + length line) (music_events base line)
@@ -250,7 +202,7 @@ music_run text line base stands =
     let kept = uncommented line in
     let front = uncommented_stands line in
     let here : StandsAt text base kept = rw (add-zero base) at (stands_within text line kept base 0 stands front) in
-    let runs = line_run text kept base 0 (spans_of kept) here (spans_fill kept) in
+    let runs = line_run text kept base 0 (item_spans_of kept) here (spans_fill kept) in
     run_from text base (base + 0) (base + length line) (music_events base line) (omega arith)
     (run_to text (base + 0) (base + length kept) (base + length line) (music_events base line) (omega (arith, stands_ends line kept 0 front)) runs)
 
@@ -265,20 +217,14 @@ body_line_run text line base stands =
     (λ music. music_run text line base stands))
 
 -- or there are none
-tells_run : (text : List ℕ) (in_part : Bool) (line : Line) → StandsAt text line.from line.bytes
-    → NotesRun text line.from (line.from + length line.bytes) (line_tells in_part line)
-tells_run text true line stands = omega arith
-tells_run text false line stands = body_line_run text line.bytes line.from stands
+meaning_run : (text : List ℕ) (in_part : Bool) (line : Line) → StandsAt text line.from line.bytes
+    → NotesRun text line.from (line.from + length line.bytes) (line_meaning in_part line)
+meaning_run text true line stands = omega arith
+meaning_run text false line stands = body_line_run text line.bytes line.from stands
 
 -- a line stands in its text
 line_stands : (text : List ℕ) (low : ℕ) (line : Line) → IsSpan text low line → StandsAt text line.from line.bytes
 line_stands text low line placed = stands_between text line.bytes line.from line.to placed.ordered placed.within placed.part
-
--- a line is as long as its places say
-line_long : (text : List ℕ) (low : ℕ) (line : Line) → IsSpan text low line → line.from + length line.bytes ≡ line.to
-line_long text low line placed =
-    let rest : line.to - line.from ≤ length (drop line.from text) = omega (arith, length-drop line.from text, placed.ordered, placed.within) in
-    omega (arith, length-take-le (line.to - line.from) (drop line.from text) rest, ap length placed.part, placed.ordered)
 
 -- the events of the lines of a body, of which these are left
 body_run : (in_part : Bool) (text : List ℕ) (low : ℕ) (lines : List Line) → SpansRise text low lines → low ≤ length text + 1
@@ -288,11 +234,11 @@ body_run in_part text low [] rise within = within
 body_run in_part text low (line ∷ lines) (placed, later) within =
     let go = in_part_after in_part line.bytes in
     let high = length text + 1 in
-    let told = tells_run text in_part line (line_stands text low line placed) in
+    let meant = meaning_run text in_part line (line_stands text low line placed) in
     let rest = body_run go text (line.to + 1) lines later (omega (arith, placed.within)) in
     let after = run_from text (line.from + length line.bytes) (line.to + 1) high (body_events go lines) (omega (arith, line_long text low line placed)) rest in
-    run_from text low line.from high (line_tells in_part line ++ body_events go lines) placed.above
-    (run_append text line.from (line.from + length line.bytes) high (line_tells in_part line) (body_events go lines) told after)
+    run_from text low line.from high (line_meaning in_part line ++ body_events go lines) placed.above
+    (run_append text line.from (line.from + length line.bytes) high (line_meaning in_part line) (body_events go lines) meant after)
 
 -- and after a header
 after_header_run : (in_part : Bool) (text : List ℕ) (low : ℕ) (lines : List Line) → SpansRise text low lines → low ≤ length text + 1

@@ -1,5 +1,6 @@
 -- What a past leaves in force, and how a bar ends it.
-use Rattle.std.proofs.Common.{◌≡◌, ℕ, zero, suc, List, [], ◌∷◌, ◌++◌, refl, ap, sym, ◌∙◌, Bool, true, false, ℤ, pos, negsuc, Option, Some, None, subst, cond, slice_index_or, replicate}
+use Rattle.std.proofs.Common.{◌≡◌, ℕ, zero, suc, List, [], ◌∷◌, ◌++◌, refl, ap, sym, ◌∙◌, Bool, true, false, ℤ, pos, negsuc, Option, Some, None, subst, cond}
+use Rattle.std.proofs.Common.{slice_index_or, replicate}
 use Rattle.std.specs.Prelude.{unwrap_or, is_some, ◌&&◌}
 use Rattle.std.proofs.lemmas.Bool.{eqb-true}
 use Rattle.abc_keys.specs.declared.letters.Letter.{Letter}
@@ -7,8 +8,8 @@ use Rattle.abc_keys.specs.declared.letters.Accidental.{Accidental}
 use Rattle.abc_keys.specs.declared.signatures.Signature.{Signature}
 use Rattle.abc_keys.specs.Signatures.{accidental_at}
 use Rattle.abc_notes.specs.Events.{WrittenNote, Event, note, bar, change}
-use Rattle.abc_notes.specs.Pitches.{same_octave, is_at, borne, in_force, sounded, sounded_notes}
-use Rattle.abc_notes.specs.Tables.{IsNear, held_in, same_place, Holds}
+use Rattle.abc_notes.specs.Pitches.{same_octave, same_note, is_at, borne, in_force, sounded, sounded_notes}
+use Rattle.abc_notes.specs.Inside.BarTables.{IsNear, held_in, Holds}
 
 -- BEHIND A BAR
 -- nothing is borne behind a bar
@@ -31,7 +32,8 @@ notes_bar_on : (s : Signature) (p past es : List Event) → sounded_notes s (p +
 unfolding sounded_notes
 notes_bar_on s p past [] = refl
 notes_bar_on s p past (note n ∷ es) =
-    (λ i. sounded n (unwrap_or n.own (unwrap_or (borne_bar p past n.letter n.octave i) (accidental_at (force_bar s p past i) n.letter))) ∷ notes_bar_on s (note n ∷ p) past es i)
+    (λ i. sounded n (unwrap_or n.own (unwrap_or (borne_bar p past n.letter n.octave i) (accidental_at (force_bar s p past i) n.letter))) ∷ notes_bar_on s
+    (note n ∷ p) past es i)
 notes_bar_on s p past (bar ∷ es) = notes_bar_on s (bar ∷ p) past es
 notes_bar_on s p past (change t ∷ es) = notes_bar_on s (change t ∷ p) past es
 
@@ -58,7 +60,7 @@ pass false own b e = refl
 
 -- an entry that is set is borne by the note
 pub holds_set : (n : WrittenNote) (x : Accidental) (past : List Event) (before after : List (Option Accidental)) → n.own ≡ Some x
-    → ((l : Letter) (o : ℤ) → IsNear o → held_in after l o ≡ cond (same_place n.letter n.octave l o) (Some x) (held_in before l o))
+    → ((l : Letter) (o : ℤ) → IsNear o → held_in after l o ≡ cond (same_note n.letter n.octave l o) (Some x) (held_in before l o))
     → Holds before past → Holds after (note n ∷ past)
 unfolding borne
 holds_set n x past before after e set held l o near =
@@ -90,12 +92,14 @@ skip_apart false s t own b e = refl
 -- a note outside the entries bears nothing within them
 pub borne_far : (n : WrittenNote) (past : List Event) (l : Letter) (o : ℤ) → (IsNear n.octave → ⊥) → IsNear o → borne past l o ≡ borne (note n ∷ past) l o
 unfolding borne
-borne_far n past l o far near = skip_apart _ (same_octave n.octave o) (is_some n.own) n.own (borne past l o) (far_off n.octave o (same_octave n.octave o) far near refl)
+borne_far n past l o far near =
+    skip_apart _ (same_octave n.octave o) (is_some n.own) n.own (borne past l o) (far_off n.octave o (same_octave n.octave o) far near refl)
 
 -- nor a note within them outside
 pub borne_near : (n : WrittenNote) (past : List Event) (l : Letter) (o : ℤ) → IsNear n.octave → (IsNear o → ⊥) → borne past l o ≡ borne (note n ∷ past) l o
 unfolding borne
-borne_near n past l o near far = skip_apart _ (same_octave n.octave o) (is_some n.own) n.own (borne past l o) (near_off n.octave o (same_octave n.octave o) near far refl)
+borne_near n past l o near far =
+    skip_apart _ (same_octave n.octave o) (is_some n.own) n.own (borne past l o) (near_off n.octave o (same_octave n.octave o) near far refl)
 
 pub borne_change : (s : Signature) (past : List Event) (l : Letter) (o : ℤ) → borne past l o ≡ borne (change s ∷ past) l o
 unfolding borne

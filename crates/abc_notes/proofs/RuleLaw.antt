@@ -1,5 +1,6 @@
 -- The accidental of a note is the one that the rule of accidentals names.
-use Rattle.std.proofs.Common.{◌≡◌, ℕ, zero, suc, List, [], ◌∷◌, ◌++◌, refl, ap, sym, ◌∙◌, Bool, true, false, ℤ, pos, negsuc, Option, Some, None, cond, inl, inr, append-nil, eq-eqb}
+use Rattle.std.proofs.Common.{◌≡◌, ℕ, zero, suc, List, [], ◌∷◌, ◌++◌, refl, ap, sym, ◌∙◌, Bool, true, false, ℤ, pos, negsuc, Option, Some, None, cond, inl}
+use Rattle.std.proofs.Common.{inr, append-nil, eq-eqb}
 use Rattle.std.specs.Prelude.{unwrap_or, is_some, ◌&&◌, ◌==◌}
 use Rattle.std.proofs.lemmas.Bool.{eqb-true}
 use Rattle.abc_keys.specs.declared.letters.Letter.{Letter}
@@ -39,7 +40,8 @@ same_octave-refl (pos n) = eq-eqb n n refl
 same_octave-refl (negsuc n) = eq-eqb n n refl
 
 -- a note that says nothing of a letter and octave is passed over
-passed_over : (m n : WrittenNote) (rest : Option Accidental) (l s : Bool) → (letter_number m.letter == letter_number n.letter) ≡ l → same_octave m.octave n.octave ≡ s
+passed_over : (m n : WrittenNote) (rest : Option Accidental) (l s : Bool) → (letter_number m.letter == letter_number n.letter) ≡ l
+    → same_octave m.octave n.octave ≡ s
     → (m.letter ≡ n.letter → m.octave ≡ n.octave → m.own ≡ None) → cond ((l && s) && is_some m.own) m.own rest ≡ rest
 passed_over m n rest true true e f silent =
     let none : m.own ≡ None = silent (same_letter_is m.letter n.letter e) (same_octave_is m.octave n.octave f) in
@@ -52,16 +54,19 @@ borne_silent : (n : WrittenNote) (since before : List Event) → IsSilentFor n s
 unfolding borne
 borne_silent n [] before silent = refl
 borne_silent n (note m ∷ since) before silent =
-    passed_over m n (borne (since ++ before) n.letter n.octave) (letter_number m.letter == letter_number n.letter) (same_octave m.octave n.octave) refl refl silent.0
+    passed_over m n (borne (since ++ before) n.letter n.octave) (letter_number m.letter == letter_number n.letter) (same_octave m.octave n.octave) refl refl
+    silent.0
     ∙ borne_silent n since before silent.1
 borne_silent n (bar ∷ since) before silent = absurd silent
 borne_silent n (change s ∷ since) before silent = borne_silent n since before silent
 
 -- a note of the same letter and octave is heard
-borne_here : (m n : WrittenNote) (before : List Event) (x : Accidental) → m.letter ≡ n.letter → m.octave ≡ n.octave → m.own ≡ Some x → borne (note m ∷ before) n.letter n.octave ≡ Some x
+borne_here : (m n : WrittenNote) (before : List Event) (x : Accidental) → m.letter ≡ n.letter → m.octave ≡ n.octave → m.own ≡ Some x
+    → borne (note m ∷ before) n.letter n.octave ≡ Some x
 unfolding borne
 borne_here m n before x letter octave own =
-    let same : (letter_number m.letter == letter_number n.letter) ≡ true = ap (λ l. letter_number l == letter_number n.letter) letter ∙ eq-eqb (letter_number n.letter) (letter_number n.letter) refl in
+    let same : (letter_number m.letter == letter_number n.letter) ≡ true =
+    ap (λ l. letter_number l == letter_number n.letter) letter ∙ eq-eqb (letter_number n.letter) (letter_number n.letter) refl in
     let here : same_octave m.octave n.octave ≡ true = ap (λ o. same_octave o n.octave) octave ∙ same_octave-refl n.octave in
     (λ i. cond ((same i && here i) && is_some (own i)) (own i) (borne before n.letter n.octave))
 

@@ -1,30 +1,37 @@
 -- The header of a tune, and the bounds of its lines.
-use Rattle.std.proofs.Common.{◌≡◌, ℕ, ◌+◌, ◌-◌, ◌≤◌, List, [], ◌∷◌, length, map, drop, length-drop, Bool, true, false, refl, sym, ap, ◌∙◌, arith, cond}
-use Rattle.std.specs.Prelude.{codes, slice_get, slice_range, unwrap_or}
+use Rattle.std.proofs.Common.{◌≡◌, ℕ, ◌+◌, ◌≤◌, List, [], ◌∷◌, length, map, Bool, true, false, refl, sym, ap, ◌∙◌, arith, cond}
+use Rattle.std.specs.Prelude.{codes, slice_get, unwrap_or}
 use Rattle.std.specs.List.{filter}
-use Rattle.std.proofs.lemmas.List.{length-take-le}
+use Rattle.abc_fields.specs.Limits.{longest_book}
 use Rattle.abc_fields.specs.Bytes.{begins_with}
 use Rattle.abc_fields.specs.Fields.{values_of}
 use Rattle.abc_fields.specs.Lines.{Span as Line, SpansRise}
 use Rattle.abc_fields.specs.LineKinds.{in_part_after}
 use Rattle.abc_fields.specs.Tunes.{is_key_line}
 use Rattle.abc_fields.specs.Values.{field_value}
-use Rattle.abc_notes.specs.Bounds.{LinesAreShort}
-use Rattle.abc_notes.specs.Music.{first_key, events_after_header, body_events}
+use Rattle.abc_notes.proofs.TextParts.{line_long}
+use Rattle.abc_notes.specs.Inside.Bounds.{LinesAreShort}
+use Rattle.abc_notes.specs.Music.{events_after_header, body_events}
+use Rattle.abc_notes.specs.Inside.FirstKeys.{first_key}
 
 -- the first key is the key text of the lines
 pub first_key_is : (spans : List Line) → first_key spans ≡ unwrap_or (slice_get (values_of (codes "K:") (map (λ s. s.bytes) spans)) 0) []
 first_key_is [] = refl
 first_key_is (span ∷ spans) =
     elim (is_key_line span.bytes) as (λ b. cond b (field_value span.bytes) (first_key spans)
-    ≡ unwrap_or (slice_get (map field_value (cond b (span.bytes ∷ filter (λ line. begins_with line (codes "K:")) (map (λ s. s.bytes) spans)) (filter (λ line. begins_with line (codes "K:")) (map (λ s. s.bytes) spans)))) 0) [])
+    ≡ unwrap_or
+    (slice_get
+    (map field_value
+    (cond b (span.bytes ∷ filter (λ line. begins_with line (codes "K:")) (map (λ s. s.bytes) spans))
+    (filter (λ line. begins_with line (codes "K:")) (map (λ s. s.bytes) spans)))) 0) [])
     [ true ↦ refl | false ↦ first_key_is spans ]
 
 -- a line of the header that gives no key
 pub key_on : (lines later : List Line) (line : Line) → lines ≡ line ∷ later → is_key_line line.bytes ≡ false → first_key later ≡ first_key lines
 key_on lines later line is no_key = sym (ap first_key is ∙ rw no_key refl)
 
-pub header_on : (in_part inside : Bool) (lines later : List Line) (line : Line) → lines ≡ line ∷ later → is_key_line line.bytes ≡ false → inside ≡ in_part_after in_part line.bytes
+pub header_on : (in_part inside : Bool) (lines later : List Line) (line : Line) → lines ≡ line ∷ later → is_key_line line.bytes ≡ false
+    → inside ≡ in_part_after in_part line.bytes
     → events_after_header inside later ≡ events_after_header in_part lines
 unfolding events_after_header
 header_on in_part inside lines later line is no_key goes =
@@ -34,7 +41,8 @@ header_on in_part inside lines later line is no_key goes =
 pub key_here : (lines later : List Line) (line : Line) → lines ≡ line ∷ later → is_key_line line.bytes ≡ true → field_value line.bytes ≡ first_key lines
 key_here lines later line is gives_key = sym (ap first_key is ∙ rw gives_key refl)
 
-pub header_ends : (in_part inside : Bool) (lines later : List Line) (line : Line) → lines ≡ line ∷ later → is_key_line line.bytes ≡ true → inside ≡ in_part_after in_part line.bytes
+pub header_ends : (in_part inside : Bool) (lines later : List Line) (line : Line) → lines ≡ line ∷ later → is_key_line line.bytes ≡ true
+    → inside ≡ in_part_after in_part line.bytes
     → body_events inside later ≡ events_after_header in_part lines
 unfolding events_after_header
 header_ends in_part inside lines later line is gives_key goes =
@@ -46,14 +54,7 @@ unfolding events_after_header body_events
 no_header in_part lines later none no_later = ap (body_events in_part) no_later ∙ sym (ap (events_after_header in_part) none)
 
 -- the lines of a short text
-pub lines_are_short : (text : List ℕ) (low : ℕ) (spans : List Line) → SpansRise text low spans → length text ≤ 4000000 → LinesAreShort spans
+pub lines_are_short : (text : List ℕ) (low : ℕ) (spans : List Line) → SpansRise text low spans → length text ≤ longest_book → LinesAreShort spans
 lines_are_short text low [] rise short = tt
 lines_are_short text low (span ∷ spans) (placed, later) short =
-    let bytes : length (slice_range text span.from span.to) ≡ length span.bytes = ap length placed.part in
-    let part : length (slice_range text span.from span.to) + span.from ≡ span.to = slice_long text span.from span.to placed.ordered placed.within in
-    (omega (arith, placed.within), lines_are_short text (span.to + 1) spans later short)
-  where
-    slice_long : (text : List ℕ) (from to : ℕ) → from ≤ to → to ≤ length text → length (slice_range text from to) + from ≡ to
-    slice_long text from to ordered within =
-        let rest : to - from ≤ length (drop from text) = omega (arith, length-drop from text) in
-        omega (arith, length-take-le (to - from) (drop from text) rest)
+    (omega (arith, placed.within, line_long text low span placed), lines_are_short text (span.to + 1) spans later short)

@@ -4,7 +4,8 @@ use Rattle.abc_keys.specs.declared.letters.Letter.{Letter}
 use Rattle.abc_keys.specs.declared.letters.Accidental.{Accidental}
 use Rattle.abc_keys.specs.declared.signatures.Signature.{Signature}
 
--- a note as it is written (ABC 2.1, 4.1 and 4.2): its place in the text, its bytes, its letter and octave, its own accidental, and whether it counts
+-- a note as it is written (ABC 2.1, 4.1 and 4.2): where it begins and ends in the text, its bytes,
+-- its letter and octave, its own accidental, and whether it counts
 pub record WrittenNote : Type 0 where
   pub from : ℕ
   pub to : ℕ

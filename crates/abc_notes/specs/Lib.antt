@@ -1,9 +1,7 @@
+pub mod Limits
 pub mod Events
 pub mod Pitches
-pub mod EventView
-pub mod Tables
 pub mod Music
-pub mod Bounds
-pub mod Kept
-pub mod Tokens
 pub mod NoteParts
+pub mod Tokens
+pub mod Inside

@@ -1,12 +1,14 @@
 // The accidentals of a bar, by letter, for sixteen octaves.
-ghost use Rattle.std.specs.Prelude.{◌≡◌, ◌+◌, ◌^◌, ◌<◌, ℕ, ℤ, List, [], ◌∷◌, Some, None, slice_index_or, length, IsTrue, if◌then◌else◌};
+ghost use Rattle.std.specs.Prelude.{◌≡◌, ◌+◌, ◌^◌, ◌<◌, ℕ, ℤ, List, [], ◌∷◌, Some, None};
+ghost use Rattle.std.specs.Prelude.{slice_index_or, length, IsTrue, if◌then◌else◌};
 ghost use Rattle.abc_keys.specs.declared.letters.Letter.{Letter as AnyLetter};
 ghost use Rattle.abc_keys.specs.ScaleTable.{letter_number};
 ghost use Rattle.abc_notes.specs.Events.{Event as AnyEvent, note, change};
-ghost use Rattle.abc_notes.specs.EventView.{written_note};
-ghost use Rattle.abc_notes.specs.Tables.{IsNear, IsBarAfter, held_in, index_of, same_place};
+ghost use Rattle.abc_notes.specs.Inside.EventView.{written_note};
+ghost use Rattle.abc_notes.specs.Inside.BarTables.{IsNear, IsBarAfter, held_in, index_of};
+ghost use Rattle.abc_notes.specs.Pitches.{same_note};
 
-use crate::written::WrittenNote;
+use crate::events::WrittenNote;
 use abc_keys::{Accidental, Letter, Signature};
 
 const LETTERS: usize = 7;
@@ -17,8 +19,9 @@ const OCTAVES: i32 = 16;
 
 const ENTRIES: usize = 112;
 
-// What is kept of a bar so far: the signature where it began and the one in force now, how many events came since, the accidentals that its notes
-// bore, and whether one of them was borne outside the sixteen octaves.
+// What is kept of a bar so far: the signature where it began and the one in force now, how many
+// events came since, the accidentals that its notes bore, and whether one of them was borne outside
+// the sixteen octaves.
 #[derive(Clone, Copy)]
 pub(crate) struct Bar {
     pub start: Signature,
@@ -57,7 +60,8 @@ impl Bar {
     // Takes a change of key.
     pub fn take_change(&mut self, signature: Signature)
         requires { self.old.since + 1 < 2 ^ 64 }
-        ensures after { (past : List AnyEvent) → IsBarAfter past self.old → IsBarAfter (change signature ∷ past) self.new }
+        ensures after { (past : List AnyEvent) → IsBarAfter past self.old
+            → IsBarAfter (change signature ∷ past) self.new }
         ensures start { self.new.start ≡ self.old.start }
     {
         self.since += 1;
@@ -67,7 +71,8 @@ impl Bar {
     // Takes a note.
     pub fn take_note(&mut self, written: WrittenNote)
         requires { self.old.since + 1 < 2 ^ 64 }
-        ensures after { (past : List AnyEvent) → IsBarAfter past self.old → IsBarAfter (note (written_note written.entry) ∷ past) self.new }
+        ensures after { (past : List AnyEvent) → IsBarAfter past self.old
+            → IsBarAfter (note (written_note written.entry) ∷ past) self.new }
         ensures start { self.new.start ≡ self.old.start }
     {
         self.since += 1;
@@ -82,41 +87,41 @@ impl Bar {
 }
 
 // Whether a note's octave is one of the sixteen.
-pub(crate) fn is_near(place: WrittenNote) -> bool
-    ensures yes { IsTrue result → IsNear place.entry.octave }
-    ensures no { IsNear place.entry.octave → IsTrue result }
+pub(crate) fn is_near(note: WrittenNote) -> bool
+    ensures yes { IsTrue result → IsNear note.entry.octave }
+    ensures no { IsNear note.entry.octave → IsTrue result }
 {
-    LOWEST_OCTAVE <= place.octave && place.octave < LOWEST_OCTAVE + OCTAVES
+    LOWEST_OCTAVE <= note.octave && note.octave < LOWEST_OCTAVE + OCTAVES
 }
 
 // What the entry of a note's letter and octave holds.
 pub(crate) fn entry(
     entries: &[Option<Accidental>; ENTRIES],
-    place: WrittenNote,
+    note: WrittenNote,
 ) -> Option<Accidental>
-    requires { IsNear place.octave }
-    ensures { result ≡ held_in entries.now place.entry.letter place.entry.octave }
+    requires { IsNear note.octave }
+    ensures { result ≡ held_in entries.now note.entry.letter note.entry.octave }
 {
-    entries[index_of(place)]
+    entries[index_of(note)]
 }
 
-fn set_entry(
-    entries: &mut [Option<Accidental>; ENTRIES],
-    place: WrittenNote,
-    accidental: Accidental,
-)
-    requires { IsNear place.octave }
-    ensures { (l : AnyLetter) (o : ℤ) → IsNear o → held_in entries.new l o ≡ (if same_place place.entry.letter place.entry.octave l o then Some accidental else held_in entries.old l o) }
+fn set_entry(entries: &mut [Option<Accidental>; ENTRIES], note: WrittenNote, accidental: Accidental)
+    requires { IsNear note.octave }
+    ensures { (l : AnyLetter) (o : ℤ) → IsNear o
+        → held_in entries.new l o
+        ≡ (if same_note note.entry.letter note.entry.octave l o
+        then Some accidental
+        else held_in entries.old l o) }
 {
-    entries[index_of(place)] = Some(accidental);
+    entries[index_of(note)] = Some(accidental);
 }
 
-fn index_of(place: WrittenNote) -> usize
-    requires { IsNear place.octave }
-    ensures value { result ≡ index_of place.entry.letter place.entry.octave }
+fn index_of(note: WrittenNote) -> usize
+    requires { IsNear note.octave }
+    ensures value { result ≡ index_of note.entry.letter note.entry.octave }
     ensures within { result < 112 }
 {
-    LETTERS * (place.octave - LOWEST_OCTAVE) as usize + letter_number(place.letter)
+    LETTERS * (note.octave - LOWEST_OCTAVE) as usize + letter_number(note.letter)
 }
 
 pub(crate) fn letter_number(letter: Letter) -> usize

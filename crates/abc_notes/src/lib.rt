@@ -1,20 +1,21 @@
 //! Reads the notes of tunes: which bytes of a tune are notes, and how high each sounds.
 //!
-//! The rules are those of the abc music standard 2.1, section 4, with this archive's profile where the standard is silent. The bytes of a text
-//! need not be UTF-8, and no call takes memory or refuses.
+//! The rules are those of the abc music standard 2.1, section 4, with this archive's profile where
+//! the standard is silent. The bytes of a text need not be UTF-8, and no call takes memory or
+//! refuses.
 #![tactic(auto)]
 
+mod accidentals;
 mod bar;
-mod chord;
-mod line;
-mod note_items;
+mod chord_events;
+mod events;
+mod item_events;
+mod line_events;
+mod note_tokens;
 mod notes;
 mod pitches;
-mod recall;
-mod token;
-mod tune;
-mod written;
+mod tune_events;
 
 pub use abc_keys::{Accidental, Key, Letter, Mode, Scale, Sign, Signature, key_of, signature};
+pub use note_tokens::NoteToken;
 pub use notes::Notes;
-pub use token::NoteToken;

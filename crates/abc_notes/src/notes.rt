@@ -1,34 +1,37 @@
 // The notes of tunes and of music lines, with their pitches.
-ghost use Rattle.std.specs.Prelude.{◌≡◌, ◌+◌, ◌≤◌, ◌∷◌, ◌++◌, [], ℕ, List, take, drop, reverse, length};
+ghost use Rattle.std.specs.Prelude.{◌≡◌, ◌+◌, ◌≤◌, ◌∷◌, ◌++◌, [], ℕ, List, take, drop, reverse};
+ghost use Rattle.std.specs.Prelude.{length};
 ghost use Rattle.std.specs.Iterator.{YieldsFirstBy, item_count};
+ghost use Rattle.abc_fields.specs.Limits.{longest_book};
 ghost use Rattle.abc_fields.specs.Values.{uncommented};
-ghost use Rattle.abc_items.specs.Grammar.{Token, AreItems};
-ghost use Rattle.abc_items.specs.Spans.{Span, spans_from, spans_of};
+ghost use Rattle.abc_items.specs.Grammar.{ItemText, AreItems};
+ghost use Rattle.abc_items.specs.ItemSpans.{ItemSpan, item_spans_from, item_spans_of};
 ghost use Rattle.abc_keys.specs.Keys.{key_of_text, signature_of};
 ghost use Rattle.abc_keys.specs.declared.signatures.Signature.{Signature as AnySignature};
 ghost use Rattle.abc_notes.specs.Events.{Event as AnyEvent, WrittenNote as AnyNote};
-ghost use Rattle.abc_notes.specs.EventView.{event_of, written_note};
+ghost use Rattle.abc_notes.specs.Inside.EventView.{event_of, notes_in, written_note};
 ghost use Rattle.abc_notes.specs.Music.{line_events, music_events, tune_events, tune_signature};
 ghost use Rattle.abc_notes.specs.Pitches.{SoundedNote, sounded, sounded_notes, FollowsTheRule};
-ghost use Rattle.abc_notes.specs.Kept.{past_of, notes_left, IsKept};
+ghost use Rattle.abc_notes.specs.Inside.Kept.{past_of, notes_left, IsKept};
 ghost use Rattle.abc_notes.specs.NoteParts.{AreNoteParts, NotesRise};
-ghost use Rattle.abc_notes.specs.Tables.{IsBarAfter};
-ghost use Rattle.abc_notes.specs.Tokens.{token_note, notes_in};
+ghost use Rattle.abc_notes.specs.Inside.BarTables.{IsBarAfter};
+ghost use Rattle.abc_notes.specs.Tokens.{token_note};
 
+use crate::accidentals::accidental_in_force;
 use crate::bar::Bar;
+use crate::events::{Event, WrittenNote};
+use crate::note_tokens::NoteToken;
 use crate::pitches::pitch_of;
-use crate::recall::accidental_of;
-use crate::token::NoteToken;
-use crate::tune::TuneEvents;
-use crate::written::{Event, WrittenNote};
+use crate::tune_events::TuneEvents;
 use abc_fields::{TuneText, without_comment};
 use abc_keys::{Accidental, Key, Signature, key_of, signature};
 use std::marker::Model;
 
-/// The notes of a tune or of a music line, in order, with their pitches (ABC 2.1, 4.1, 4.2 and 4.17; this archive's profile). A clause sees the list of
-/// the notes that are left.
+/// The notes of a tune or of a music line, in order, with their pitches (ABC 2.1, 4.1, 4.2 and
+/// 4.17; this archive's profile). A clause sees the list of the notes that are left.
 ///
-/// It takes no memory. Accidentals of sixteen octaves are kept in a table; beyond these the bar is read again.
+/// It takes no memory. Accidentals of sixteen octaves are kept in a table; beyond these the bar is
+/// read again.
 #[derive(Drop)]
 pub struct Notes<'a> {
     events: TuneEvents<'a>,
@@ -40,29 +43,33 @@ pub struct Notes<'a> {
 impl<'a> Model for Notes<'a> {
     ghost Value = { List SoundedNote };
 
-    ghost view = { λ notes. sounded_notes notes.bar.start (past_of notes.bar.since notes.bar_events) notes.events };
+    ghost view = { λ notes. notes_left notes.bar notes.bar_events notes.events };
 
     ghost invariant = { λ notes. IsKept notes.bar notes.bar_events notes.events };
 }
 
 impl<'a> Notes<'a> {
-    /// The notes of a tune's body: of its music lines, up to the comment of each, those within `%%begin..` parts aside. `K:` lines and `[K:..]` fields change
-    /// the signature.
+    /// The notes of a tune's body: of its music lines, up to the comment of each, those within
+    /// `%%begin..` parts aside. `K:` lines and `[K:..]` fields change the signature.
     pub fn of_tune(text: &'a TuneText) -> Notes<'a>
         ensures notes { result ≡ sounded_notes (tune_signature text.now) [] (tune_events text.now) }
         ensures parts { AreNoteParts text.now result }
         ensures rise { NotesRise 0 result }
-        ensures accidentals { (first : AnySignature) (past : List AnyEvent) (note : AnyNote) → FollowsTheRule first past note }
+        ensures accidentals { (first : AnySignature) (past : List AnyEvent) (note : AnyNote)
+            → FollowsTheRule first past note }
     {
         let (start, events) = TuneEvents::of_tune(text);
         Notes::new(start, events)
     }
 
-    /// The notes of one music line, up to its comment, in a key. The line has at most 4,000,000 bytes.
+    /// The notes of one music line, up to its comment, in a key. The line has at most 4,000,000
+    /// bytes.
     pub fn of_line(line: &'a [u8], key: &Key) -> Notes<'a>
-        requires { length line.now ≤ 4000000 }
+        requires { length line.now ≤ longest_book }
         ensures notes { result ≡ sounded_notes (signature_of key.now) [] (music_events 0 line.now) }
-        ensures by_any_items { (items : List Token) → AreItems items (uncommented line.now) → result ≡ sounded_notes (signature_of key.now) [] (line_events 0 (spans_from 0 items)) }
+        ensures by_any_items { (items : List ItemText) → AreItems items (uncommented line.now)
+            → result
+            ≡ sounded_notes (signature_of key.now) [] (line_events 0 (item_spans_from 0 items)) }
         ensures parts { AreNoteParts line.now result }
         ensures rise { NotesRise 0 result }
     {
@@ -70,7 +77,7 @@ impl<'a> Notes<'a> {
     }
 
     fn new(start: Signature, events: TuneEvents<'a>) -> Notes<'a>
-        requires { length events ≤ 4000000 }
+        requires { length events ≤ longest_book }
         ensures { result ≡ sounded_notes start [] events.entry }
     {
         Notes {
@@ -97,7 +104,8 @@ impl<'a> Notes<'a> {
         self.searched_note()
     }
 
-    // The same, where what comes next is not plain. It stands apart, so that the way of most notes is short.
+    // The same, where what comes next is not plain. It stands apart, so that the way of most notes
+    // is short.
     #[inline(never)]
     fn searched_note(&mut self) -> Option<NoteToken<'a>>
         ensures { YieldsFirstBy token_note (λ notes. notes) self.old result self.new }
@@ -127,7 +135,8 @@ impl<'a> Iterator for Notes<'a> {
     }
 }
 
-// Takes an event into what is kept of its bar, and gives the note that it is, if it is one. `events` are those after it.
+// Takes an event into what is kept of its bar, and gives the note that it is, if it is one.
+// `events` are those after it.
 #[inline(always)]
 fn heard<'a>(
     event: Event<'a>,
@@ -137,11 +146,12 @@ fn heard<'a>(
 ) -> Option<NoteToken<'a>>
     requires { IsKept bar.old bar_events.old (event_of event ∷ events.now) }
     ensures kept { IsKept bar.new bar_events.new events.now }
-    ensures notes { notes_left bar.old bar_events.old (event_of event.entry ∷ events.now) ≡ notes_in result ++ notes_left bar.new bar_events.new events.now }
+    ensures notes { notes_left bar.old bar_events.old (event_of event.entry ∷ events.now)
+        ≡ notes_in result ++ notes_left bar.new bar_events.new events.now }
 {
     match event {
         Event::Note(note) => {
-            let accidental = accidental_of(bar, bar_events, note);
+            let accidental = accidental_in_force(bar, bar_events, note);
             bar.take_note(note);
             Some(token(note, accidental))
         }
@@ -150,7 +160,7 @@ fn heard<'a>(
             None
         }
         Event::Change(text) => {
-            bar.take_change(signature_told(text));
+            bar.take_change(written_signature(text));
             None
         }
     }
@@ -169,7 +179,7 @@ fn begin_bar<'a>(bar: &mut Bar, bar_events: &mut TuneEvents<'a>, events: &TuneEv
 
 // The signature of a key as it is written.
 #[inline(never)]
-fn signature_told(text: &[u8]) -> Signature
+fn written_signature(text: &[u8]) -> Signature
     ensures { result ≡ signature_of (key_of_text text.now) }
 {
     signature(&key_of(text))

@@ -1,9 +1,10 @@
 // Pitches of notes.
 ghost use Rattle.std.specs.Prelude.{◌≡◌, ◌≤ℤ◌, pos, negsuc};
-ghost use Rattle.abc_notes.specs.EventView.{written_note};
+ghost use Rattle.abc_notes.specs.Inside.EventView.{written_note};
+ghost use Rattle.abc_notes.specs.Limits.{lowest_pitch, highest_pitch};
 ghost use Rattle.abc_notes.specs.Pitches.{letter_pitch, pitch_of};
 
-use crate::written::WrittenNote;
+use crate::events::WrittenNote;
 use abc_keys::{Accidental, Letter};
 
 const OCTAVE: i32 = 12;
@@ -21,8 +22,8 @@ fn letter_pitch(letter: Letter) -> i32
 // Semitones from C.
 pub(crate) fn pitch_of(note: &WrittenNote, accidental: Accidental) -> i32
     ensures value { result ≡ pitch_of (written_note note.now) accidental }
-    ensures low { negsuc 48000001 ≤ℤ result }
-    ensures high { result ≤ℤ pos 48000013 }
+    ensures low { lowest_pitch ≤ℤ result }
+    ensures high { result ≤ℤ highest_pitch }
 {
     letter_pitch(note.letter) + OCTAVE * note.octave + accidental.semitones()
 }

@@ -1,5 +1,6 @@
-//! The program `bench_reading`, by which the reading of tunes is timed: `bench_reading WHAT PASSES` reads the book of standard input, reads each of its tunes
-//! so many times, and prints what one pass came to. WHAT is `split` (the tunes alone), `fields`, `keys`, `notes` or `steps`.
+//! The program `bench_reading`, by which the reading of tunes is timed: `bench_reading WHAT PASSES`
+//! reads the book of standard input, reads each of its tunes so many times, and prints what one
+//! pass came to. WHAT is `split` (the tunes alone), `fields`, `keys`, `notes` or `steps`.
 #![tactic(auto)]
 
 mod pass;

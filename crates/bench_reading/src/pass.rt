@@ -35,8 +35,9 @@ pub(crate) fn pass(tunes: &[TuneText], what: What) -> u64 {
     sum
 }
 
-// The bytes of a tune; or the bytes of its titles, rhythm and key text; or these and the letters that its signature changes; or the semitones of all its
-// notes above `C`, or below it; or those of the steps between its first eight notes.
+// The bytes of a tune; or the bytes of its titles, rhythm and key text; or these and the letters
+// that its signature changes; or the semitones of all its notes above `C`, or below it; or those of
+// the steps between its first eight notes.
 fn read(tune: &TuneText, what: What) -> u64 {
     match what {
         What::Split => tune.bytes().len() as u64,

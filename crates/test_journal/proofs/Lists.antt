@@ -11,7 +11,8 @@ either : {X : Type 0} (P : X → Type 0) (b : Bool) (x y : X) → P x → P y �
 either P true x y first second = first
 either P false x y first second = second
 
-pub All-with_change : (P : ℕ × List ℕ → Type 0) (page : ℕ) (image : List ℕ) (l : List (ℕ × List ℕ)) → P (page, image) → All P l → All P (with_change page image l)
+pub All-with_change : (P : ℕ × List ℕ → Type 0) (page : ℕ) (image : List ℕ) (l : List (ℕ × List ℕ)) → P (page, image) → All P l
+    → All P (with_change page image l)
 All-with_change P page image [] new all = All-cons P (page, image) [] new all
 All-with_change P page image (x ∷ l) new all =
     let here = All-head P x l all in

@@ -1,4 +1,4 @@
-// Commits that succeed, and what a stop leaves at each of their device calls.
+// Commits that succeed, and what a stop leaves at each of their disk calls.
 ghost use Rattle.std.specs.Prelude.{◌<◌, ◌^◌};
 
 use crate::pages::{
@@ -12,7 +12,8 @@ use tune_journal::{Broken, Journal};
 
 const TWO_PAGES: [(u32, u8); 2] = [(1, 0x11), (2, 0x22)];
 
-// The device calls are two entries, the descriptor and a sync; the gate and a sync; two images, the count and a sync; the gate and a sync.
+// The disk calls are two entries, the descriptor and a sync; the gate and a sync; two images, the
+// count and a sync; the gate and a sync.
 fn check_stop<R: AllocGlobal + Abort>(
     rt: &R,
     j: u64,
@@ -49,7 +50,7 @@ fn a_stop_at_each_call_of_a_commit_leaves_the_old_pages_or_the_new(
 }
 
 #[test]
-fn a_commit_of_two_pages_makes_twelve_device_calls(rt: HostRuntime) -> Result<(), Fail> {
+fn a_commit_of_two_pages_makes_twelve_disk_calls(rt: HostRuntime) -> Result<(), Fail> {
     let journal = committed(rt.alloc(), fused(rt.alloc(), 12)?, 3, &TWO_PAGES)?;
     assert_eq!(&rt; journal.count(), 3);
     let disk = journal.into_disk().into_inner();
@@ -65,15 +66,15 @@ fn commits_by_the_four_parts(rt: HostRuntime) -> Result<(), Fail> {
             let disk = journal.into_disk().into_inner();
             check_pages(&rt, 0, disk, &[0, 0x11, 0x22])
         }
-        Err(_) => Err(Fail::from("the device failed")),
+        Err(_) => Err(Fail::from("the disk failed")),
     }
 }
 
 // The number that four bytes of a file say.
-fn number_at(file: &[u8], place: usize) -> Option<u32>
-    requires { place < 2 ^ 40 }
+fn number_at(file: &[u8], offset: usize) -> Option<u32>
+    requires { offset < 2 ^ 40 }
 {
-    match file.get(place..place + 4)? {
+    match file.get(offset..offset + 4)? {
         [a, b, c, d] => Some(u32::from_be_bytes([*a, *b, *c, *d])),
         _ => None,
     }
@@ -91,8 +92,8 @@ fn logs_pages_that_were_put_in_falling_order_by_rising_page(rt: HostRuntime) -> 
     let journal = made(MemoryDisk::new(alloc), 0)?;
     let disk = committed(alloc, journal, 60, &falling)?.into_disk();
     assert_eq!(&rt; disk.bytes().len(), 262_144 + 60 * 4_100);
-    for place in [8_192, 8_196, 12_288] {
-        assert_eq!(&rt; number_at(disk.bytes(), place), Some(60));
+    for offset in [8_192, 8_196, 12_288] {
+        assert_eq!(&rt; number_at(disk.bytes(), offset), Some(60));
     }
     for entry in 0..60 {
         let page = number_at(disk.bytes(), 262_144 + 4_100 * entry);

@@ -1,4 +1,4 @@
-// Devices of which one call fails.
+// Disks of which one call fails.
 ghost use Rattle.std.specs.Prelude.{◌<◌};
 
 use crate::files::closed;

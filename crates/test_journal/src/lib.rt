@@ -1,4 +1,5 @@
-//! Tests of journals: the files that they make, what opens, what a stop leaves at each device call, and logs that somebody forged.
+//! Tests of journals: the files that they make, what opens, what a stop leaves at each disk call,
+//! and logs that somebody forged.
 #![tactic(auto)]
 
 #[cfg(test)]

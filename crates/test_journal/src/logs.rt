@@ -111,7 +111,8 @@ fn recovers_a_whole_log(rt: HostRuntime) -> Result<(), Fail> {
     Ok(())
 }
 
-// Three pages, as recovery is to leave them, or before it with any number in the block of the count.
+// Three pages, as recovery is to leave them, or before it with any number in the block of the
+// count.
 fn three_pages(alloc: Global, gate: u8, count: u32, pages: &[u8]) -> Result<Vec<u8>, Fail> {
     file(
         alloc,

@@ -42,14 +42,14 @@ fn opens_no_file_that_is_cut_short(rt: HostRuntime) -> Result<(), Fail> {
 #[test]
 fn opens_no_file_with_a_wrong_magic(rt: HostRuntime) -> Result<(), Fail> {
     let mut forged = closed(rt.alloc(), &[0x33], 1)?;
-    for place in 0..8 {
+    for offset in 0..8 {
         for change in [1, 0x20, 0x80, 0xff] {
-            if let Some(byte) = forged.get_mut(place) {
+            if let Some(byte) = forged.get_mut(offset) {
                 *byte ^= change;
             }
             check_cut(&rt, &forged, 20_480, OpenFault::NotArchive)?;
             // The same change takes it back.
-            if let Some(byte) = forged.get_mut(place) {
+            if let Some(byte) = forged.get_mut(offset) {
                 *byte ^= change;
             }
         }
@@ -107,7 +107,7 @@ fn finds_one_value_of_the_gate_open(rt: HostRuntime) -> Result<(), Fail> {
     Ok(())
 }
 
-// A device that fails at any call of an opening: the disk comes back as it was.
+// A disk that fails at any call of an opening: the disk comes back as it was.
 #[test]
 fn a_fault_in_opening_hands_the_disk_back(rt: HostRuntime) -> Result<(), Fail> {
     let whole = closed(rt.alloc(), &[1, 2], 2)?;

@@ -33,7 +33,7 @@ pub(crate) fn bytes_of_pages<D: Disk>(
     Ok(pages)
 }
 
-/// Opens a disk, and compares the byte of each page. The case is told where they differ.
+/// Opens a disk, and compares the byte of each page. The case is printed where they differ.
 pub(crate) fn check_pages<R: AllocGlobal + Abort, D: Disk>(
     rt: &R,
     case: u64,
@@ -90,7 +90,7 @@ pub(crate) fn opened<D: Disk>(disk: D) -> Result<Journal<D>, Fail> {
     }
 }
 
-/// How many device calls it takes to make a journal.
+/// How many disk calls it takes to make a journal.
 pub(crate) fn calls_of_making(alloc: Global) -> Result<u64, Fail>
     ensures { IfOk result (λ calls. calls < 100) }
 {
@@ -103,7 +103,7 @@ pub(crate) fn calls_of_making(alloc: Global) -> Result<u64, Fail>
     Err(Fail::from("too many calls"))
 }
 
-/// How many device calls it takes to open a file.
+/// How many disk calls it takes to open a file.
 pub(crate) fn calls_of_opening(alloc: Global, file: &[u8]) -> Result<u64, Fail>
     ensures { IfOk result (λ calls. calls < 100) }
 {
@@ -209,6 +209,6 @@ pub(crate) fn committed<D: Disk>(
 ) -> Result<Journal<D>, Fail> {
     match commit(alloc, journal, new_count, pages)? {
         Ok(journal) => Ok(journal),
-        Err(_) => Err(Fail::from("the device failed")),
+        Err(_) => Err(Fail::from("the disk failed")),
     }
 }

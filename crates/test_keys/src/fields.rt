@@ -1,6 +1,8 @@
 // The fields of a tune's header, and the value of one field line.
 use crate::readings::{self, Kind};
-use abc_fields::{Titles, TuneText, field_value, fields, split_book, trim_blanks, without_comment};
+use abc_fields::{
+    Titles, TuneText, field_value, fields, is_blank, split_book, trim_blanks, without_comment,
+};
 use abc_keys::{Letter, Mode, Sign};
 use std::alloc::Global;
 use std::process::Abort;
@@ -201,6 +203,15 @@ fn reads_the_header_of_a_reel(rt: HostRuntime) -> Result<(), Fail> {
 
 // A text, and what is left of it.
 type Cut<'a> = (&'a [u8], &'a [u8]);
+
+#[test]
+fn takes_spaces_and_tabs_alone_for_blank(rt: HostRuntime) {
+    for byte in 0..=u8::MAX {
+        let wanted = byte == b' ' || byte == b'\t';
+        assert_eq!(&rt; is_blank(char::from(byte)), wanted, "at {byte}");
+    }
+    assert_eq!(&rt; is_blank('\u{3000}'), false);
+}
 
 #[test]
 fn trims_spaces_and_tabs_alone(rt: HostRuntime) {

@@ -3,7 +3,7 @@ use abc_fields::split_book;
 use std::alloc::Global;
 use std::process::Abort;
 use std::test::Fail;
-use tune_incipit::{BadQuery, MOST_NOTES, Steps, begins, query_steps, steps};
+use tune_incipit::{BadQuery, Steps, begins, query_steps, steps};
 
 // A tune's text, and its steps.
 type Case<'a> = (&'a [u8], &'a [i32]);
@@ -15,7 +15,7 @@ fn steps_of(alloc: Global, text: &[u8]) -> Result<Steps, Fail> {
     book.extend_from_slice(text)?;
     let tunes = split_book(alloc, book.as_slice(), 16_000)?;
     match tunes.as_slice() {
-        [tune] => Ok(steps(tune, MOST_NOTES)),
+        [tune] => Ok(steps(tune, 8)),
         _ => Err(Fail::from("one tune was wanted")),
     }
 }
@@ -74,7 +74,7 @@ fn stops_at_the_eighth_note(rt: HostRuntime) -> Result<(), Fail> {
 // The steps of a query, by its first eight notes that count.
 fn steps_of_query<R: Abort>(rt: &R, query: &[u8]) -> Result<Steps, BadQuery> {
     assert!(rt; query.len() <= 4_000_000);
-    query_steps(query, MOST_NOTES)
+    query_steps(query, 8)
 }
 
 // Queries with their steps; a query without steps is refused.

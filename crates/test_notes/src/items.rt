@@ -1,4 +1,5 @@
-// The items of music lines (ABC 2.1, 3.2 and 4). Of each line there is an outline of the same length: an item's first byte is a letter that says its kind, and each further byte is a dot.
+// The items of music lines (ABC 2.1, 3.2 and 4). Of each line there is an outline of the same
+// length: an item's first byte is a letter that says its kind, and each further byte is a dot.
 use abc_items::{Items, Kind, own_accidental, spelling_length};
 use abc_keys::Accidental;
 use std::alloc::Global;
@@ -22,7 +23,8 @@ fn initial(kind: Kind) -> u8 {
     }
 }
 
-// Reads what is left of the line, from this place on. Each item has to begin where the one before it ends, its text has to stand there, and the last one has to end with the line.
+// Reads what is left of the line, from this index on. Each item has to begin where the one before
+// it ends, its text has to stand there, and the last one has to end with the line.
 fn outline<R: AllocGlobal + Abort>(
     rt: &R,
     line: &[u8],
@@ -212,14 +214,14 @@ fn reads_what_is_left_again(rt: HostRuntime) -> Result<(), Fail> {
     let wanted: &[u8] = b"Q...NC...BG..D..";
     for taken in 0..7 {
         let mut items = Items::new(line);
-        let mut place = 0;
+        let mut end = 0;
         for _ in 0..taken {
-            place = items.next().map_or(place, |item| item.to);
+            end = items.next().map_or(end, |item| item.to);
         }
-        let left = wanted.get(place..).unwrap_or(b"");
-        let drawn = outline(&rt, line, items.again(), place)?;
+        let left = wanted.get(end..).unwrap_or(b"");
+        let drawn = outline(&rt, line, items.again(), end)?;
         assert_eq!(&rt; drawn.as_slice(), left, "after {taken}");
-        let drawn = outline(&rt, line, items, place)?;
+        let drawn = outline(&rt, line, items, end)?;
         assert_eq!(&rt; drawn.as_slice(), left, "after {taken}");
     }
     Ok(())

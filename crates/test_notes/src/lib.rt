@@ -1,4 +1,5 @@
-//! Tests of the items, notes and incipits of music lines and tunes, against tables that are written out here.
+//! Tests of the items, notes and incipits of music lines and tunes, against tables that are written
+//! out here.
 #![tactic(auto)]
 
 #[cfg(test)]

@@ -1,4 +1,6 @@
-// The notes of music lines and their pitches (ABC 2.1, 4), worked out by hand. A pitch counts semitones from `C`. In what is wanted, a note that does not count for the melody stands in parentheses.
+// The notes of music lines and their pitches (ABC 2.1, 4), worked out by hand. A pitch counts
+// semitones from `C`. In what is wanted, a note that does not count for the melody stands in
+// parentheses.
 use abc_fields::split_book;
 use abc_notes::{Notes, key_of};
 use std::alloc::Global;
@@ -17,23 +19,23 @@ pub(crate) fn check_notes<R: AllocGlobal + Abort>(
 ) -> Result<(), Fail> {
     let shown = String::from_utf8_lossy(rt.alloc(), text)?;
     let mut end = 0;
-    let mut told = String::new(rt.alloc());
+    let mut found = String::new(rt.alloc());
     for note in notes {
         assert!(rt; end <= note.from && note.from < note.to, "in {shown}");
         let part = text.get(note.from..note.to).unwrap_or(b"");
         assert_eq!(rt; part, note.text, "in {shown}");
         let pitch = note.pitch;
-        if !told.is_empty() {
-            told.push(' ')?;
+        if !found.is_empty() {
+            found.push(' ')?;
         }
         if note.counts {
-            write!(told, "{pitch}")?;
+            write!(found, "{pitch}")?;
         } else {
-            write!(told, "({pitch})")?;
+            write!(found, "({pitch})")?;
         }
         end = note.to;
     }
-    assert_eq!(rt; told.as_str(), wanted, "of {shown}");
+    assert_eq!(rt; found.as_str(), wanted, "of {shown}");
     Ok(())
 }
 

@@ -1,4 +1,5 @@
-// The notes of whole tunes (ABC 2.1, 2.2 and 4), of notes far from the staff, and of text that is made to be slow to read.
+// The notes of whole tunes (ABC 2.1, 2.2 and 4), of notes far from the staff, and of text that is
+// made to be slow to read.
 use crate::notes::{check, check_book, check_notes, line_notes};
 use abc_fields::split_book;
 use abc_notes::Notes;
@@ -115,14 +116,14 @@ fn tells_where_each_note_stands(rt: HostRuntime) -> Result<(), Fail> {
         ),
     ];
     for (book, wanted) in cases {
-        let mut told = String::new(rt.alloc());
+        let mut found = String::new(rt.alloc());
         for tune in split_book(rt.alloc(), book, 16_000)?.iter() {
             for note in Notes::of_tune(tune) {
                 let text = String::from_utf8_lossy(rt.alloc(), note.text)?;
-                write!(told, "{} {};", note.from, text)?;
+                write!(found, "{} {};", note.from, text)?;
             }
         }
-        assert_eq!(&rt; told.as_str(), wanted);
+        assert_eq!(&rt; found.as_str(), wanted);
     }
     Ok(())
 }
@@ -212,7 +213,8 @@ fn tells_octaves_apart(rt: HostRuntime) -> Result<(), Fail> {
     Ok(())
 }
 
-// A text of some bytes, others this many times and last ones, the number of its notes, and the pitch of each.
+// A text of some bytes, others this many times and last ones, the number of its notes, and the
+// pitch of each.
 type LongCase<'a> = (&'a [u8], &'a [u8], usize, &'a [u8], usize, i32);
 
 fn long_text(alloc: Global, case: &LongCase) -> Result<Vec<u8>, Fail> {

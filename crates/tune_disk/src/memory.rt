@@ -1,28 +1,27 @@
 // A disk in memory, which keeps a record of its writes and syncs.
 ghost use Rattle.std.specs.Prelude.{◌≡◌, ◌∷◌, ◌++◌, [], ◌<◌, ◌≤◌, ◌^◌, ◌+◌, IfOk, OnOk, OnErr};
 ghost use Rattle.std.specs.Prelude.{IsOk, is_ok, ℕ, List, length, take, drop};
-ghost use Rattle.tune_disk.specs.Disk.{Written, Writes, Shows, CountsFailure};
 ghost use Rattle.tune_disk.specs.Bytes.{filled};
+ghost use Rattle.tune_disk.specs.Disk.{Written, Writes, Shows, CountsFailure};
 ghost use Rattle.tune_disk.specs.Records.{state_of};
 
 use crate::buffers::{clear_from, copy_front};
 use crate::{DeviceFault, Disk};
 use std::alloc::{AllocError, Global};
 
-/// What was done to a file.
+/// What was done to a file: these bytes were written at this offset, or it was synced.
 #[derive(Drop)]
 pub(crate) enum Record {
-    /// These bytes were written at this offset.
     Write(u64, Vec<u8>),
     Sync,
 }
 
-/// Which of the files that a stop (a crash or power loss) may leave: `Lost` is what the last sync
-/// left, as where nothing written since came to the disk, and `Kept` the present content, as where
-/// all of it did.
+/// Which of the files that a stop (a crash or power loss) may leave.
 #[derive(Clone, Copy, Debug, PartialEq, Eq)]
 pub enum StopChoice {
+    /// What the last sync left, as where nothing written since came to the disk.
     Lost,
+    /// The present content, as where all that was written came to the disk.
     Kept,
 }
 
@@ -56,7 +55,7 @@ impl MemoryDisk {
         }
     }
 
-    /// A file of these bytes, all of them stable.
+    /// A file of these bytes, all of them stable. `AllocError` where there is no memory for it.
     pub fn from_bytes(alloc: Global, bytes: &[u8]) -> Result<MemoryDisk, AllocError>
         ensures { IfOk result (λ disk. memory_state disk ≡ fresh bytes.now) }
     {
@@ -70,8 +69,8 @@ impl MemoryDisk {
         &self.content
     }
 
-    /// One of the files that a stop may leave now, as a disk that holds just that. An error comes
-    /// out of memory alone.
+    /// One of the files that a stop may leave now, as a disk that holds just that. `AllocError`
+    /// where there is no memory for it.
     pub fn stopped(&self, choice: StopChoice) -> Result<MemoryDisk, AllocError>
         ensures file { IfOk result (λ disk.
             MayLeave (memory_state self.now).now (memory_state disk).seen) }

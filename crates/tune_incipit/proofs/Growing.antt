@@ -1,9 +1,11 @@
 -- The steps so far, and the notes that are left, are together the incipit.
-use Rattle.std.proofs.Common.{◌≡◌, ℕ, zero, suc, ◌+◌, ◌-◌, ◌<◌, ◌≤◌, List, [], ◌∷◌, ◌++◌, length, take, refl, ap, sym, ◌∙◌, arith, true, false, Option, Some, None, ℤ, ◌-ℤ◌, append_assoc, length-append, map, filter}
+use Rattle.std.proofs.Common.{◌≡◌, ℕ, zero, suc, ◌+◌, ◌-◌, ◌<◌, ◌≤◌, List, [], ◌∷◌, ◌++◌, length, take, refl, ap, sym, ◌∙◌, arith, true, false, Option, Some}
+use Rattle.std.proofs.Common.{None, ℤ, ◌-ℤ◌, append_assoc, length-append, map, filter}
 use Rattle.std.specs.Prelude.{cond}
 use Rattle.std.proofs.lemmas.List.{append-nil}
 use Rattle.abc_notes.specs.Pitches.{SoundedNote}
-use Rattle.tune_incipit.specs.Incipits.{counting_pitches, differences, incipit_of, steps_and}
+use Rattle.tune_incipit.specs.Incipits.{counting_pitches, differences, incipit_of}
+use Rattle.tune_incipit.specs.Inside.NextSteps.{steps_and}
 
 -- the steps from the last note, if one has come, through these pitches
 unfoldable pub steps_on : Option ℤ → List ℤ → List ℤ
@@ -47,7 +49,8 @@ unfolding all_steps
 all_steps-skip count last steps n rest e = ap (λ p. steps ++ steps_on last (take (count - notes_so_far last steps) p)) (counting_no n rest e)
 
 -- one that counts adds its step
-pub all_steps-more : (count : ℕ) (last : Option ℤ) (steps : List ℤ) (n : SoundedNote) (rest : List SoundedNote) → n.counts ≡ true → notes_so_far last steps < count
+pub all_steps-more : (count : ℕ) (last : Option ℤ) (steps : List ℤ) (n : SoundedNote) (rest : List SoundedNote) → n.counts ≡ true
+    → notes_so_far last steps < count
     → all_steps count last steps (n ∷ rest) ≡ all_steps count (Some n.pitch) (steps_and steps last n.pitch) rest
 unfolding all_steps steps_on differences
 all_steps-more count None steps n rest e room =
@@ -60,7 +63,8 @@ all_steps-more count (Some last) steps n rest e room =
     ∙ sym (append_assoc steps ((n.pitch -ℤ last) ∷ []) (differences (n.pitch ∷ take (count - (length longer + 1)) (counting_pitches rest))))
 
 -- enough notes have come
-pub all_steps-full : (count : ℕ) (last : ℤ) (steps : List ℤ) (rest : List SoundedNote) → length steps + 1 ≡ count → all_steps count (Some last) steps rest ≡ steps
+pub all_steps-full : (count : ℕ) (last : ℤ) (steps : List ℤ) (rest : List SoundedNote) → length steps + 1 ≡ count
+    → all_steps count (Some last) steps rest ≡ steps
 unfolding all_steps steps_on differences
 all_steps-full count last steps rest e =
     let k : count - (length steps + 1) ≡ 0 = omega arith in
@@ -75,4 +79,5 @@ take-none (suc k) (x ∷ xs) e = absurd (cc)
 pub all_steps-none : (count : ℕ) (last : Option ℤ) (steps : List ℤ) (notes : List SoundedNote) → notes ≡ [] → all_steps count last steps notes ≡ steps
 unfolding all_steps steps_on differences
 all_steps-none count None steps notes e = ap (λ p. steps ++ differences p) (take-none _ (counting_pitches notes) (ap counting_pitches e)) ∙ append-nil steps
-all_steps-none count (Some last) steps notes e = ap (λ p. steps ++ differences (last ∷ p)) (take-none _ (counting_pitches notes) (ap counting_pitches e)) ∙ append-nil steps
+all_steps-none count (Some last) steps notes e =
+    ap (λ p. steps ++ differences (last ∷ p)) (take-none _ (counting_pitches notes) (ap counting_pitches e)) ∙ append-nil steps

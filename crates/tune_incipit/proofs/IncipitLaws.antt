@@ -1,5 +1,6 @@
 -- How many steps an incipit has, that it is the same at each height, that fewer notes give a front of it, and the signature of C.
-use Rattle.std.proofs.Common.{◌≡◌, ℕ, ◌-◌, List, [], ◌∷◌, ◌++◌, ◌≤◌, zero, suc, length, take, map, filter, refl, ap, ◌∙◌, arith, true, false, cond, min, count_by, ℤ, ◌+ℤ◌, ◌-ℤ◌, codes}
+use Rattle.std.proofs.Common.{◌≡◌, ℕ, ◌-◌, List, [], ◌∷◌, ◌++◌, ◌≤◌, zero, suc, length, take, map, filter, refl, ap, ◌∙◌, arith, true, false, cond, min}
+use Rattle.std.proofs.Common.{count_by, ℤ, ◌+ℤ◌, ◌-ℤ◌, codes}
 use Rattle.std.proofs.lemmas.List.{length-take, length-map, take-map}
 use Rattle.std.proofs.lemmas.List.Sums.{length-filter}
 use Rattle.std.proofs.lemmas.Int.{ints}
@@ -21,7 +22,12 @@ unfolding incipit_of
 length-incipit_of count notes =
     let kept : List SoundedNote = filter (λ note. note.counts) notes in
     length-differences (take count (counting_pitches notes))
-    ∙ ap (λ n. n - 1) (length-take count (counting_pitches notes) ∙ ap (min count) (length-map kept (λ note. note.pitch) ∙ length-filter (λ note. note.counts) notes))
+    ∙ ap (λ n. n - 1)
+    (length-take count (counting_pitches notes) ∙ ap (min count) (length-map kept (λ note. note.pitch) ∙ length-filter (λ note. note.counts) notes))
+
+pub length-steps : (count : ℕ) (notes : List SoundedNote) (steps : List ℤ) → steps ≡ incipit_of count notes
+    → length steps ≡ min count (count_by (λ note. note.counts) notes) - 1
+length-steps count notes steps are = ap length are ∙ length-incipit_of count notes
 
 raised_step : (by a b : ℤ) → (b +ℤ by) -ℤ (a +ℤ by) ≡ b -ℤ a
 raised_step by a b = omega (arith, ints)
@@ -35,7 +41,9 @@ differences-raised by (first ∷ second ∷ pitches) = (λ i. raised_step by fir
 counting_pitches-raised : (by : ℤ) (notes : List SoundedNote) → counting_pitches (raised by notes) ≡ map (λ p. p +ℤ by) (counting_pitches notes)
 counting_pitches-raised by [] = refl
 counting_pitches-raised by (n ∷ notes) =
-    elim n.counts as (λ counts. map (λ (x : SoundedNote). x.pitch) (cond counts (raised_note by n ∷ filter (λ x. x.counts) (raised by notes)) (filter (λ x. x.counts) (raised by notes)))
+    elim n.counts as
+    (λ counts. map (λ (x : SoundedNote). x.pitch)
+    (cond counts (raised_note by n ∷ filter (λ x. x.counts) (raised by notes)) (filter (λ x. x.counts) (raised by notes)))
     ≡ map (λ p. p +ℤ by) (map (λ (x : SoundedNote). x.pitch) (cond counts (n ∷ filter (λ x. x.counts) notes) (filter (λ x. x.counts) notes)))) [
       | true ↦ ap (λ rest. (n.pitch +ℤ by) ∷ rest) (counting_pitches-raised by notes)
       | false ↦ counting_pitches-raised by notes
@@ -49,7 +57,8 @@ incipit_of-raised count by notes =
     ∙ ap differences (take-map (λ p. p +ℤ by) count (counting_pitches notes))
     ∙ differences-raised by (take count (counting_pitches notes))
 
-differences-take_fewer : (fewer count : ℕ) (pitches : List ℤ) → fewer ≤ count → (rest : List ℤ) × (differences (take fewer pitches) ++ rest ≡ differences (take count pitches))
+differences-take_fewer : (fewer count : ℕ) (pitches : List ℤ) → fewer ≤ count
+    → (rest : List ℤ) × (differences (take fewer pitches) ++ rest ≡ differences (take count pitches))
 unfolding differences
 differences-take_fewer zero count pitches less = (differences (take count pitches), refl)
 differences-take_fewer (suc fewer) zero pitches less = absurd (omega arith)
@@ -62,7 +71,8 @@ differences-take_fewer (suc (suc fewer)) (suc (suc count)) (first ∷ second ∷
     (later.0, ap (λ steps. (second -ℤ first) ∷ steps) later.1)
 
 -- the incipit by fewer notes is a front
-pub incipit_of-fewer : (count fewer : ℕ) (notes : List SoundedNote) → fewer ≤ count → (rest : List ℤ) × (incipit_of fewer notes ++ rest ≡ incipit_of count notes)
+pub incipit_of-fewer : (count fewer : ℕ) (notes : List SoundedNote) → fewer ≤ count
+    → (rest : List ℤ) × (incipit_of fewer notes ++ rest ≡ incipit_of count notes)
 unfolding incipit_of
 incipit_of-fewer count fewer notes less = differences-take_fewer fewer count (counting_pitches notes) less
 

@@ -1,3 +1,3 @@
-pub mod PlaceLemmas
+pub mod StepRows
 pub mod Growing
 pub mod IncipitLaws

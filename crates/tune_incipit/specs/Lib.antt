@@ -1,2 +1,3 @@
+pub mod Limits
 pub mod Incipits
-pub mod Places
+pub mod Inside

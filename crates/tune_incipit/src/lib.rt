@@ -1,107 +1,12 @@
 //! Incipits: by which steps in semitones a tune begins, and whether it begins as a query does.
 //!
-//! The incipit of a tune is the list of the differences between neighbours among its first few notes that count (this archive's profile). No call
-//! takes memory, and only a query with fewer than two notes that count is refused.
+//! The incipit of a tune is the list of the differences between neighbours among its first few
+//! notes that count (this archive's profile). No call takes memory, and only a query with fewer
+//! than two notes that count is refused.
 #![tactic(auto)]
 
-ghost use Rattle.std.specs.Prelude.{◌≡◌, ◌+◌, ◌-◌, ◌<◌, ◌≤◌, ◌↔◌, ◌++◌, ◌∷◌, [], List, ℕ, ℤ, length, count_by, min, IsTrue, IfOk, IsErr, IsOk, option_map};
-ghost use Rattle.tune_incipit.specs.Incipits.{incipit_of, tune_notes, query_notes, raised, steps_and};
-ghost use Rattle.abc_notes.specs.Pitches.{SoundedNote};
+mod incipits;
+mod step_lists;
 
-mod step_list;
-
-use abc_fields::TuneText;
-use abc_keys::key_of;
-use abc_notes::{NoteToken, Notes};
-use step_list::MOST_STEPS;
-pub use step_list::Steps;
-use thiserror::Error;
-
-/// The fewest notes that an incipit may be asked by (this archive's profile).
-pub const FEWEST_NOTES: usize = 2;
-
-/// The most notes that an incipit may be asked by (this archive's profile).
-pub const MOST_NOTES: usize = 8;
-
-// The steps after one more note, where this is the last one before it.
-fn with_note(steps: Steps, last: Option<NoteToken>, token: NoteToken) -> Steps
-    requires { length steps < MOST_STEPS }
-    ensures { result ≡ steps_and steps (option_map (λ note. note.pitch) last.entry) token.entry.pitch }
-{
-    let mut longer = steps;
-    if let Some(before) = last {
-        longer.push(token.pitch - before.pitch);
-    }
-    longer
-}
-
-// The steps between the first of these notes that count.
-fn first_steps(notes: Notes, count: usize) -> Steps
-    requires few { FEWEST_NOTES ≤ count }
-    requires many { count ≤ MOST_STEPS + 1 }
-    ensures { result ≡ incipit_of count notes.entry }
-{
-    let mut steps = Steps::new();
-    let mut last: Option<NoteToken> = None;
-    for token in notes {
-        if token.counts {
-            steps = with_note(steps, last, token);
-            last = Some(token);
-            if steps.len() + 1 == count {
-                return steps;
-            }
-        }
-    }
-    steps
-}
-
-/// The incipit of a tune by its first `notes` notes that count, or by all of them where it has fewer: one step less than notes, and none of no note.
-pub fn steps(text: &TuneText, notes: usize) -> Steps
-    requires few { FEWEST_NOTES ≤ notes }
-    requires many { notes ≤ MOST_NOTES }
-    ensures steps { result ≡ incipit_of notes (tune_notes text.now) }
-    ensures count { length result ≡ min notes (count_by (λ note. note.counts) (tune_notes text.now)) - 1 }
-    // A tune that is played higher or lower has the same incipit.
-    ensures at_each_height { (by : ℤ) (all : List SoundedNote) → incipit_of notes (raised by all) ≡ incipit_of notes all }
-    // The incipit by fewer notes is a front of it.
-    ensures fronts { (fewer : ℕ) (all : List SoundedNote) → fewer ≤ notes → (rest : List ℤ) × (incipit_of fewer all ++ rest ≡ incipit_of notes all) }
-{
-    first_steps(Notes::of_tune(text), notes)
-}
-
-/// Why a query is refused: fewer than two of its notes count.
-#[derive(Clone, Copy, Debug, PartialEq, Eq, Error)]
-#[error("a query has two notes at least")]
-pub struct BadQuery;
-
-/// The incipit of a query of notes, by its first `notes` notes that count. The query is read as one music line in C, up to its comment, whatever it begins
-/// with (this archive's profile); it has at most 4,000,000 bytes.
-pub fn query_steps(query: &[u8], notes: usize) -> Result<Steps, BadQuery>
-    requires short { length query.now ≤ 4000000 }
-    requires few { FEWEST_NOTES ≤ notes }
-    requires many { notes ≤ MOST_NOTES }
-    ensures steps { IfOk result (λ steps. steps ≡ incipit_of notes (query_notes query.now)) }
-    ensures ok { IsOk result ↔ (2 ≤ count_by (λ note. note.counts) (query_notes query.now)) }
-    ensures bad { IsErr result ↔ (count_by (λ note. note.counts) (query_notes query.now) < 2) }
-{
-    let steps = first_steps(query_notes(query), notes);
-    if steps.is_empty() {
-        return Err(BadQuery);
-    }
-    Ok(steps)
-}
-
-// The notes of a query.
-fn query_notes(query: &[u8]) -> Notes<'_>
-    requires { length query.now ≤ 4000000 }
-    ensures { result ≡ query_notes query.now }
-{
-    Notes::of_line(query, &key_of(b"C"))
-}
-
-/// Whether steps begin with others.
-pub fn begins(front: &Steps, whole: &Steps) -> bool
-    ensures { IsTrue result ↔ ((rest : List ℤ) × (front.now ++ rest ≡ whole.now)) }
-{
-    whole.as_slice().starts_with(front.as_slice())
-}
+pub use incipits::{BadQuery, FEWEST_NOTES, MOST_NOTES, begins, query_steps, steps};
+pub use step_lists::Steps;

@@ -1,5 +1,6 @@
 -- For the crates above: what an opening keeps, and what changes make of a page.
-use Rattle.std.proofs.Common.{◌≡◌, ◌≢◌, inl, inr, ℕ, ◌-◌, ◌<◌, ◌≤◌, List, [], ◌∷◌, ◌++◌, length, get_or, map, replicate, set, Some, None, refl, sym, ◌∙◌, ap, subst, arith, length-append}
+use Rattle.std.proofs.Common.{◌≡◌, ◌≢◌, inl, inr, ℕ, ◌-◌, ◌<◌, ◌≤◌, List, [], ◌∷◌, ◌++◌, length, get_or, map, replicate, set, Some, None, refl, sym, ◌∙◌, ap}
+use Rattle.std.proofs.Common.{subst, arith, length-append}
 use Rattle.std.proofs.lemmas.List.{get_or-set_same, get_or-set_other, get_or_append_left, length-set, length-replicate}
 use Rattle.std.specs.List.Sorted.{IsStrictlyIncreasing}
 use Rattle.std.proofs.lemmas.Bool.Decides.{nat_tests}
@@ -28,7 +29,8 @@ abbrev pub StandsForSome : (List (List ℕ) → Type 0) → List ℕ → Type 0
 StandsForSome Q file = (pages : List (List ℕ)) × StandsFor pages file × Q pages
 
 -- Where each file that a stop may leave at first stands for pages of one kind, so does each during an opening.
-pub opening_keeps : (Q : List (List ℕ) → Type 0) (old new : DiskState) → MayLeave old.now old.seen → SinceThen old new (LeftOrSame old) → LeavesOnly old.now (StandsForSome Q) → SinceThen old new (StandsForSome Q)
+pub opening_keeps : (Q : List (List ℕ) → Type 0) (old new : DiskState) → MayLeave old.now old.seen → SinceThen old new (LeftOrSame old)
+    → LeavesOnly old.now (StandsForSome Q) → SinceThen old new (StandsForSome Q)
 opening_keeps Q old new stays since leaves = since_weaker (LeftOrSame old) (StandsForSome Q) (λ c left. each c left) old new since
   where
     each : (c : List ℕ) → LeftOrSame old c → StandsForSome Q c
@@ -39,7 +41,8 @@ opening_keeps Q old new stays since leaves = since_weaker (LeftOrSame old) (Stan
 -- a page that is not among the changes
 unnamed : (p q : ℕ) (image : List ℕ) (changes : List (ℕ × List ℕ)) → image_of p ((q, image) ∷ changes) ≡ None → (p ≢ q) × (image_of p changes ≡ None)
 unnamed p q image changes none = elim (cases_eq p q) [
-  | inl same ↦ (let found : image_of p ((q, image) ∷ changes) ≡ Some image = grind (arith, nat_tests, same) in absurd (let e : Some image ≡ None = sym found ∙ none in cc))
+  | inl same ↦ (let found : image_of p ((q, image) ∷ changes)
+      ≡ Some image = grind (arith, nat_tests, same) in absurd (let e : Some image ≡ None = sym found ∙ none in cc))
   | inr other ↦ (other, grind (arith, nat_tests, other, none))
 ]
 
@@ -51,13 +54,17 @@ page_kept pages ((q, image) ∷ changes) p none =
 
 pub length-pages_after : (pages : List (List ℕ)) (m : ℕ) (changes : List (ℕ × List ℕ)) → length pages ≤ m → length (pages_after pages m changes) ≡ m
 length-pages_after pages m changes le =
-    length-changed (pages ++ replicate (m - length pages) []) changes ∙ omega (arith, le, length-append pages (replicate (m - length pages) []), length-replicate {A = List ℕ})
+    length-changed (pages ++ replicate (m - length pages) []) changes
+    ∙ omega (arith, le, length-append pages (replicate (m - length pages) []), length-replicate {A = List ℕ})
 
 -- an old page that a commit does not name stays
-pub page_kept_after : (pages : List (List ℕ)) (m : ℕ) (changes : List (ℕ × List ℕ)) (p : ℕ) → p < length pages → image_of p changes ≡ None → page_at (pages_after pages m changes) p ≡ page_at pages p
-page_kept_after pages m changes p lt none = page_kept (pages ++ replicate (m - length pages) []) changes p none ∙ get_or_append_left pages (replicate (m - length pages) []) [] p lt
+pub page_kept_after : (pages : List (List ℕ)) (m : ℕ) (changes : List (ℕ × List ℕ)) (p : ℕ) → p < length pages → image_of p changes ≡ None
+    → page_at (pages_after pages m changes) p ≡ page_at pages p
+page_kept_after pages m changes p lt none =
+    page_kept (pages ++ replicate (m - length pages) []) changes p none ∙ get_or_append_left pages (replicate (m - length pages) []) [] p lt
 
-changed_at : (pages : List (List ℕ)) (changes : List (ℕ × List ℕ)) (p : ℕ) (image : List ℕ) → PagesRise changes → p < length pages → image_of p changes ≡ Some image → page_at (changed pages changes) p ≡ image
+changed_at : (pages : List (List ℕ)) (changes : List (ℕ × List ℕ)) (p : ℕ) (image : List ℕ) → PagesRise changes → p < length pages
+    → image_of p changes ≡ Some image → page_at (changed pages changes) p ≡ image
 changed_at pages [] p image rises lt some = absurd (let e = some in cc)
 changed_at pages ((q, i) ∷ rest) p image rises lt some = elim (cases_eq p q) [
   | inl same ↦ (let found : image_of p ((q, i) ∷ rest) ≡ Some i = grind (arith, nat_tests, same) in
@@ -69,7 +76,8 @@ changed_at pages ((q, i) ∷ rest) p image rises lt some = elim (cases_eq p q) [
 ]
 
 -- a page that a commit names has its new image
-pub page_changed_after : (pages : List (List ℕ)) (m : ℕ) (changes : List (ℕ × List ℕ)) (p : ℕ) (image : List ℕ) → IsStrictlyIncreasing (map (λ c. c.0) changes) → length pages ≤ m → p < m → image_of p changes ≡ Some image
+pub page_changed_after : (pages : List (List ℕ)) (m : ℕ) (changes : List (ℕ × List ℕ)) (p : ℕ) (image : List ℕ) → IsStrictlyIncreasing (map (λ c. c.0) changes)
+    → length pages ≤ m → p < m → image_of p changes ≡ Some image
     → page_at (pages_after pages m changes) p ≡ image
 page_changed_after pages m changes p image rising le lt some =
     changed_at (pages ++ replicate (m - length pages) []) changes p image (rises_from_increasing changes rising)

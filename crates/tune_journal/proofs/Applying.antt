@@ -1,4 +1,4 @@
--- Images that are put in their places behind an open gate: those of a commit, or those of the log.
+-- Images that are put into their pages behind an open gate: those of a commit, or those of the log.
 use Rattle.std.proofs.Common.{◌≡◌, ℕ, List, length, sym, ◌∙◌, ap, subst, Result}
 use Rattle.tune_disk.specs.Disk.{DiskState}
 use Rattle.tune_disk.specs.Stops.{SinceThen}
@@ -8,7 +8,9 @@ use Rattle.tune_journal.specs.Inside.Phases.{KeepsBoth, WritesAndSyncs, Settles}
 use Rattle.tune_journal.specs.Inside.Rest.{IsOpened, IsApplied}
 use Rattle.tune_journal.specs.Pages.{changed}
 use Rattle.tune_journal.proofs.CallRuns.{run_since}
-use Rattle.tune_journal.proofs.Frame.{stands_applying, applied_after, log_same, length-entries}
+use Rattle.tune_journal.proofs.AfterParts.{applied_after}
+use Rattle.tune_journal.proofs.Agreeing.{length-entries}
+use Rattle.tune_journal.proofs.Standing.{stands_applying, log_same}
 use Rattle.tune_journal.proofs.Openings.{opened_entries}
 
 module _ (m : ℕ) (old new : DiskState) (log : List (ℕ × List ℕ)) (opened : IsOpened m old) (is : log ≡ log_of old.seen) where

@@ -4,8 +4,8 @@ use Rattle.tune_disk.specs.Disk.{DiskState}
 use Rattle.tune_disk.specs.Stops.{SinceThen}
 use Rattle.tune_disk.proofs.Moments.{since_then, since_weaker}
 use Rattle.tune_journal.specs.Held.{Held, disk_of}
-use Rattle.tune_journal.specs.declared.open_fault.Broken.{Broken}
 use Rattle.tune_journal.specs.Image.{StandsFor, StandsForEither}
+use Rattle.tune_journal.specs.declared.open_fault.Broken.{Broken}
 
 pub either_as : (b b' a a' : List (List ℕ)) → b ≡ b' → a ≡ a' → (c : List ℕ) → StandsForEither b a c → StandsForEither b' a' c
 either_as b b' a a' is is' c (inl s) = inl (subst (λ (p : List (List ℕ)). StandsFor p c) is s)

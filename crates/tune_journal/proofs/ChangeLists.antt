@@ -1,5 +1,6 @@
 -- Lists of changes, parted at a place: what stands before it, and what stands from it on.
-use Rattle.std.proofs.Common.{◌≡◌, inl, inr, ℕ, zero, suc, ◌<◌, List, [], ◌∷◌, ◌++◌, length, get_or, map, take, drop, set, Some, None, Less, refl, sym, ◌∙◌, ap, subst, arith, drop-cons}
+use Rattle.std.proofs.Common.{◌≡◌, inl, inr, ℕ, zero, suc, ◌<◌, List, [], ◌∷◌, ◌++◌, length, get_or, map, take, drop, set, Some, None, Less, refl, sym, ◌∙◌, ap}
+use Rattle.std.proofs.Common.{subst, arith, drop-cons}
 use Rattle.std.specs.List.{All, AllByRecursion, insert}
 use Rattle.std.specs.List.Sorted.{IsStrictlyIncreasing, IsStrictlySortedBy}
 use Rattle.std.specs.Ordering.{nat_cmp}
@@ -37,12 +38,14 @@ image_before : (page : ℕ) (c : Change) (cs : List Change) → page < c.0 → i
 image_before page c cs lt = grind (arith, nat_tests)
 
 -- A page among the changes stands between smaller ones and the rest.
-with_change_here : (page : ℕ) (image : List ℕ) (front : List Change) (x : Change) (back : List Change) → AreBelow page front → x.0 ≡ page → with_change page image (front ++ x ∷ back) ≡ front ++ (page, image) ∷ back
+with_change_here : (page : ℕ) (image : List ℕ) (front : List Change) (x : Change) (back : List Change) → AreBelow page front → x.0 ≡ page
+    → with_change page image (front ++ x ∷ back) ≡ front ++ (page, image) ∷ back
 with_change_here page image [] x back below is = with_same page image x back is
 with_change_here page image (c ∷ front) x back below is =
     with_after page image c (front ++ x ∷ back) below.0 ∙ ap (λ (l : List Change). c ∷ l) (with_change_here page image front x back below.1 is)
 
-image_of_here : (page : ℕ) (front : List Change) (x : Change) (back : List Change) → AreBelow page front → x.0 ≡ page → image_of page (front ++ x ∷ back) ≡ Some x.1
+image_of_here : (page : ℕ) (front : List Change) (x : Change) (back : List Change) → AreBelow page front → x.0 ≡ page
+    → image_of page (front ++ x ∷ back) ≡ Some x.1
 image_of_here page [] x back below is = image_same page x back is
 image_of_here page (c ∷ front) x back below is = image_after page c (front ++ x ∷ back) below.0 ∙ image_of_here page front x back below.1 is
 
@@ -51,7 +54,8 @@ with_change_first : (page : ℕ) (image : List ℕ) (back : List Change) → Are
 with_change_first page image [] above = refl
 with_change_first page image (c ∷ cs) above = with_before page image c cs above.0
 
-with_change_between : (page : ℕ) (image : List ℕ) (front back : List Change) → AreBelow page front → AreAbove page back → with_change page image (front ++ back) ≡ front ++ (page, image) ∷ back
+with_change_between : (page : ℕ) (image : List ℕ) (front back : List Change) → AreBelow page front → AreAbove page back
+    → with_change page image (front ++ back) ≡ front ++ (page, image) ∷ back
 with_change_between page image [] back below above = with_change_first page image back above
 with_change_between page image (c ∷ front) back below above =
     with_after page image c (front ++ back) below.0 ∙ ap (λ (l : List Change). c ∷ l) (with_change_between page image front back below.1 above)
@@ -74,7 +78,8 @@ with_change_found page at image l found =
     ∙ with_change_here page image (take at l) (change_at l at) (drop (suc at) l) found.below found.is_its
     ∙ sym (set_split l at (page, image) found.in_range)
 
-pub with_change_missing : (page at : ℕ) (image : List ℕ) (l : List Change) → MissingAt page at l → with_change page image l ≡ take at l ++ (page, image) ∷ drop at l
+pub with_change_missing : (page at : ℕ) (image : List ℕ) (l : List Change) → MissingAt page at l
+    → with_change page image l ≡ take at l ++ (page, image) ∷ drop at l
 with_change_missing page at image l missing =
     ap (with_change page image) (sym (take-append-drop at l)) ∙ with_change_between page image (take at l) (drop at l) missing.below missing.above
 
@@ -117,14 +122,16 @@ rises_with page image (c ∷ cs) rises = elim (cases_order page c.0) [
 abbrev IsSized : Change → Type 0
 IsSized c = length c.1 ≡ block_bytes
 
-pub sized_with : (page : ℕ) (image : List ℕ) (l : List Change) → length image ≡ block_bytes → All (λ c. length c.1 ≡ block_bytes) l → All (λ c. length c.1 ≡ block_bytes) (with_change page image l)
+pub sized_with : (page : ℕ) (image : List ℕ) (l : List Change) → length image ≡ block_bytes → All (λ c. length c.1 ≡ block_bytes) l
+    → All (λ c. length c.1 ≡ block_bytes) (with_change page image l)
 sized_with page image [] size sized = All-cons IsSized (page, image) [] size sized
 sized_with page image (c ∷ cs) size sized =
     let later : All IsSized cs = All-tail IsSized c cs sized in
     elim (cases_order page c.0) [
       | inl is ↦ subst (All IsSized) (sym (with_same page image c cs (sym is))) (All-cons IsSized (page, image) cs size later)
       | inr (inl less) ↦ subst (All IsSized) (sym (with_before page image c cs less)) (All-cons IsSized (page, image) (c ∷ cs) size sized)
-      | inr (inr more) ↦ subst (All IsSized) (sym (with_after page image c cs more)) (All-cons IsSized c (with_change page image cs) (All-head IsSized c cs sized) (sized_with page image cs size later))
+      | inr (inr more) ↦ subst (All IsSized) (sym (with_after page image c cs more))
+          (All-cons IsSized c (with_change page image cs) (All-head IsSized c cs sized) (sized_with page image cs size later))
     ]
 
 -- That a list rises, in std's words.
@@ -156,22 +163,27 @@ rises_from_increasing l rising = rises_from_sorted l (sorted_from_strictly_incre
 pub in_listed : (items : List ChangedPage) (at : ℕ) → at < length (listed items) → at < length items
 in_listed items at lt = omega (arith, length-map items change_in)
 
-pub change_there : (items : List ChangedPage) (at : ℕ) (x : ChangedPage) → at < length (listed items) → x ≡ get_or items at x → change_at (listed items) at ≡ change_in x
+pub change_there : (items : List ChangedPage) (at : ℕ) (x : ChangedPage) → at < length (listed items) → x ≡ get_or items at x
+    → change_at (listed items) at ≡ change_in x
 change_there items at x lt is = get_or-map change_in items at x (0, []) (in_listed items at lt) ∙ ap change_in (sym is)
 
-pub listed_replaced : (page at : ℕ) (items : List ChangedPage) (old new : ChangedPage) → FoundAt page at (listed items) → old ≡ get_or items at old → new.page ≡ old.page
+pub listed_replaced : (page at : ℕ) (items : List ChangedPage) (old new : ChangedPage) → FoundAt page at (listed items) → old ≡ get_or items at old
+    → new.page ≡ old.page
     → listed (set items at new) ≡ with_change page new.image.value.bytes (listed items)
 listed_replaced page at items old new found is same =
     let its : new.page ≡ page = same ∙ sym (ap (λ (c : Change). c.0) (change_there items at old found.in_range is)) ∙ found.is_its in
-    map-set change_in items at new ∙ ap (λ (p : ℕ). set (listed items) at (p, new.image.value.bytes)) its ∙ sym (with_change_found page at new.image.value.bytes (listed items) found)
+    map-set change_in items at new ∙ ap (λ (p : ℕ). set (listed items) at (p, new.image.value.bytes)) its
+    ∙ sym (with_change_found page at new.image.value.bytes (listed items) found)
 
-pub listed_inserted : (at : ℕ) (items : List ChangedPage) (new : ChangedPage) → MissingAt new.page at (listed items) → listed (insert items at new) ≡ with_change new.page new.image.value.bytes (listed items)
+pub listed_inserted : (at : ℕ) (items : List ChangedPage) (new : ChangedPage) → MissingAt new.page at (listed items)
+    → listed (insert items at new) ≡ with_change new.page new.image.value.bytes (listed items)
 listed_inserted at items new missing =
     map-append change_in (take at items) (new ∷ drop at items)
     ∙ ap (λ (l : List Change). l ++ change_in new ∷ listed (drop at items)) (sym (take-map change_in at items))
     ∙ ap (λ (l : List Change). take at (listed items) ++ change_in new ∷ l) (sym (drop-map change_in at items))
     ∙ sym (with_change_missing new.page at new.image.value.bytes (listed items) missing)
 
-pub keeps_order : (page : ℕ) (image : List ℕ) (old new : List Change) → new ≡ with_change page image old → length image ≡ block_bytes → IsChangeList old → IsChangeList new
+pub keeps_order : (page : ℕ) (image : List ℕ) (old new : List Change) → new ≡ with_change page image old → length image ≡ block_bytes → IsChangeList old
+    → IsChangeList new
 keeps_order page image old new is size keeps =
     subst IsChangeList (sym is) (record { rising = rises_with page image old keeps.rising; sized = sized_with page image old size keeps.sized })

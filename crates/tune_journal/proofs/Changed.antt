@@ -31,8 +31,10 @@ changed_same xs ys (e ∷ log) size same = changed_same (set xs e.0 e.1) (set ys
     each : (p : ℕ) (d : List ℕ) → p < length (set xs e.0 e.1) → Unnamed log p → get_or (set xs e.0 e.1) p d ≡ get_or (set ys e.0 e.1) p d
     each p d lt un = elim (cases_eq p e.0) [
       | inl here ↦ (let at : e.0 < length xs = omega (arith, length-set xs e.0 e.1) in
-          ap (λ (q : ℕ). get_or (set xs e.0 e.1) q d) here ∙ get_or-set_same xs e.0 e.1 d at ∙ sym (get_or-set_same ys e.0 e.1 d (omega (arith, size))) ∙ ap (λ (q : ℕ). get_or (set ys e.0 e.1) q d) (sym here))
-      | inr other ↦ get_or-set_other xs e.0 p e.1 d other ∙ same p d (omega (arith, length-set xs e.0 e.1)) (unnamed_more e log p (λ is. other (sym is)) un) ∙ sym (get_or-set_other ys e.0 p e.1 d other)
+          ap (λ (q : ℕ). get_or (set xs e.0 e.1) q d) here ∙ get_or-set_same xs e.0 e.1 d at ∙ sym (get_or-set_same ys e.0 e.1 d (omega (arith, size)))
+          ∙ ap (λ (q : ℕ). get_or (set ys e.0 e.1) q d) (sym here))
+      | inr other ↦ get_or-set_other xs e.0 p e.1 d other ∙ same p d (omega (arith, length-set xs e.0 e.1)) (unnamed_more e log p (λ is. other (sym is)) un)
+          ∙ sym (get_or-set_other ys e.0 p e.1 d other)
     ]
 
 -- A log that stands in place already changes nothing.

@@ -1,13 +1,16 @@
 pub mod Above
+mod AfterParts
+mod Agreeing
 mod Applying
-mod Chain
 mod CallRuns
+mod Chain
 mod ChangeLists
 mod Changed
-mod Frame
 mod Loops
 mod Making
 mod Openings
+mod PartsSince
 mod Recovery
 mod Rests
+mod Standing
 mod Windows

@@ -1,5 +1,6 @@
 -- The two loops of a commit.
-use Rattle.std.proofs.Common.{◌≡◌, ◌≢◌, ◌⊎◌, inl, inr, ℕ, zero, suc, ◌+◌, ◌-◌, ◌*◌, ◌<◌, ◌≤◌, List, [], ◌∷◌, ◌++◌, length, get_or, set, map, take, All, refl, sym, ◌∙◌, subst, arith}
+use Rattle.std.proofs.Common.{◌≡◌, ◌≢◌, ◌⊎◌, inl, inr, ℕ, zero, suc, ◌+◌, ◌-◌, ◌*◌, ◌<◌, ◌≤◌, List, [], ◌∷◌, ◌++◌, length, get_or, set, map, take, All, refl}
+use Rattle.std.proofs.Common.{sym, ◌∙◌, subst, arith}
 use Rattle.byteorder.specs.Endian.{big_bytes}
 use Rattle.std.proofs.lemmas.List.{same_lists, get_or-set_same, get_or-set_other, length-set, length-map, take_more}
 use Rattle.std.proofs.lemmas.List.Elements.{All-get_or}
@@ -21,24 +22,31 @@ pub entries_more : (base i : ℕ) (log : List (ℕ × List ℕ)) (bytes old new 
 entries_more base i log bytes old new held size is w k lt = elim (cases_eq k i) [
   | inl same ↦ (
     subst (λ (j : ℕ). window (base + entry_bytes * j) entry_bytes new ≡ big_bytes 4 (change_at log j).0 ++ (change_at log j).1) (sym same)
-        (subst (λ (n : ℕ). window (base + entry_bytes * i) n new ≡ big_bytes 4 (change_at log i).0 ++ (change_at log i).1) size (written_window (base + entry_bytes * i) bytes old new (omega arith) w ∙ is)),
+        (subst (λ (n : ℕ). window (base + entry_bytes * i) n new ≡ big_bytes 4 (change_at log i).0 ++ (change_at log i).1) size
+        (written_window (base + entry_bytes * i) bytes old new (omega arith) w ∙ is)),
     omega (arith, written_long (base + entry_bytes * i) bytes old new w (omega arith)),
   )
   | inr other ↦ (
       let h = held k (omega arith) in (
-        written_other (base + entry_bytes * i) bytes old new (omega arith) w (base + entry_bytes * k) entry_bytes (omega (arith, h.1)) (inl (omega arith)) ∙ h.0,
+        written_other (base + entry_bytes * i) bytes old new (omega arith) w (base + entry_bytes * k) entry_bytes (omega (arith, h.1)) (inl (omega arith))
+            ∙ h.0,
         omega (arith, h.1, written_long (base + entry_bytes * i) bytes old new w (omega arith)),
       )
       )
 ]
 
 -- One write of an image into its place changes that page alone.
-pub image_more : (n page : ℕ) (image old new : List ℕ) → length image ≡ block_bytes → page < n → page_offset n ≤ length old → Written (page_offset page) image old new → pages_of n new ≡ set (pages_of n old) page image
+pub image_more : (n page : ℕ) (image old new : List ℕ) → length image ≡ block_bytes → page < n → page_offset n ≤ length old
+    → Written (page_offset page) image old new → pages_of n new ≡ set (pages_of n old) page image
 unfolding pages_of
-image_more n page image old new size below long w = same_lists (pages_of n new) (set (pages_of n old) page image) sizes (λ k d lt. each k d (omega (arith, length-map-range_with_len (λ p. window (page_offset p) block_bytes new) 0 n)))
+image_more n page image old new size below long w =
+    same_lists (pages_of n new) (set (pages_of n old) page image) sizes
+    (λ k d lt. each k d (omega (arith, length-map-range_with_len (λ p. window (page_offset p) block_bytes new) 0 n)))
   where
     sizes : length (pages_of n new) ≡ length (set (pages_of n old) page image)
-    sizes = length-map-range_with_len (λ p. window (page_offset p) block_bytes new) 0 n ∙ sym (length-set (pages_of n old) page image ∙ length-map-range_with_len (λ p. window (page_offset p) block_bytes old) 0 n)
+    sizes =
+        length-map-range_with_len (λ p. window (page_offset p) block_bytes new) 0 n
+        ∙ sym (length-set (pages_of n old) page image ∙ length-map-range_with_len (λ p. window (page_offset p) block_bytes old) 0 n)
 
     old_size : length (pages_of n old) ≡ n
     old_size = length-map-range_with_len (λ p. window (page_offset p) block_bytes old) 0 n
@@ -70,17 +78,22 @@ pub changed-push : (pages : List (List ℕ)) (log : List (ℕ × List ℕ)) (e :
 changed-push pages [] e = refl
 changed-push pages (x ∷ log) e = changed-push (set pages x.0 x.1) log e
 
--- the places that no page of a list holds are outside each of its pages
-pub outside_page : (log : List (ℕ × List ℕ)) (k i : ℕ) → k < length log → IsInNoPage log i → (i < page_offset (change_at log k).0) ⊎ (page_offset (change_at log k).0 + block_bytes ≤ i)
+-- an offset in no page of a list is outside each of its pages
+pub outside_page : (log : List (ℕ × List ℕ)) (k i : ℕ) → k < length log → IsInNoPage log i
+    → (i < page_offset (change_at log k).0) ⊎ (page_offset (change_at log k).0 + block_bytes ≤ i)
 outside_page [] k i lt out = absurd (omega arith)
 outside_page (e ∷ log) zero i lt out = out.0
 outside_page (e ∷ log) (suc k) i lt out = outside_page log k i (omega arith) out.1
 
 -- a write in front of the entries leaves them
-pub entries_kept : (base : ℕ) (log : List (ℕ × List ℕ)) (n at : ℕ) (bytes old new : List ℕ) → 0 < length bytes → at + length bytes ≤ base → HoldsEntries base log n old → Written at bytes old new → HoldsEntries base log n new
+pub entries_kept : (base : ℕ) (log : List (ℕ × List ℕ)) (n at : ℕ) (bytes old new : List ℕ) → 0 < length bytes → at + length bytes ≤ base
+    → HoldsEntries base log n old → Written at bytes old new → HoldsEntries base log n new
 entries_kept base log n at bytes old new some before held w k lt =
-    let h = held k lt in
-    (written_other at bytes old new some w (base + entry_bytes * k) entry_bytes (omega (arith, h.1)) (inr (omega arith)) ∙ h.0, omega (arith, h.1, written_long at bytes old new w some))
+    let h = held k lt in (
+      written_other at bytes old new some w (base + entry_bytes * k) entry_bytes (omega (arith, h.1)) (inr (omega arith))
+          ∙ h.0,
+      omega (arith, h.1, written_long at bytes old new w some),
+    )
 
 pub below_log : (m b i : ℕ) → b ≡ page_offset m → IsNoLog m i → i < b
 below_log m b i is (inl lt) = omega arith
@@ -91,19 +104,23 @@ off_descriptor m n i is (inl lt) = inl lt
 off_descriptor m n i is (inr out) = inr (omega (arith, out.0))
 
 -- nor is such a place in the image that is written for one of the entries
-pub outside_image : (log : List (ℕ × List ℕ)) (k page i : ℕ) (image : List ℕ) → k < length log → page ≡ (change_at log k).0 → length image ≡ block_bytes → IsInNoPage log i → (i < page_offset page) ⊎ (page_offset page + length image ≤ i)
+pub outside_image : (log : List (ℕ × List ℕ)) (k page i : ℕ) (image : List ℕ) → k < length log → page ≡ (change_at log k).0 → length image ≡ block_bytes
+    → IsInNoPage log i → (i < page_offset page) ⊎ (page_offset page + length image ≤ i)
 outside_image log k page i image lt is size out = by_cases (outside_page log k i lt out)
   where
-    by_cases : (i < page_offset (change_at log k).0) ⊎ (page_offset (change_at log k).0 + block_bytes ≤ i) → (i < page_offset page) ⊎ (page_offset page + length image ≤ i)
+    by_cases : (i < page_offset (change_at log k).0) ⊎ (page_offset (change_at log k).0 + block_bytes ≤ i)
+        → (i < page_offset page) ⊎ (page_offset page + length image ≤ i)
     by_cases (inl below) = inl (omega (arith, is))
     by_cases (inr above) = inr (omega (arith, is, size))
 
 -- the front of a log, with one entry more
-pub take_entry : (log : List (ℕ × List ℕ)) (k page : ℕ) (image : List ℕ) → k < length log → page ≡ (change_at log k).0 → image ≡ (change_at log k).1 → take (k + 1) log ≡ take k log ++ (page, image) ∷ []
+pub take_entry : (log : List (ℕ × List ℕ)) (k page : ℕ) (image : List ℕ) → k < length log → page ≡ (change_at log k).0 → image ≡ (change_at log k).1
+    → take (k + 1) log ≡ take k log ++ (page, image) ∷ []
 take_entry log k page image lt is_page is_image = take_more log k (0, []) lt ∙ (λ t. take k log ++ (sym is_page t, sym is_image t) ∷ [])
 
 pub entry_below : (log : List (ℕ × List ℕ)) (n k page : ℕ) → All (λ e. e.0 < n) log → k < length log → page ≡ (change_at log k).0 → page < n
-entry_below log n k page all lt is = (let below : (change_at log k).0 < n = All-get_or (λ (e : ℕ × List ℕ). e.0 < n) log k (0, []) lt all in omega (arith, below, is))
+entry_below log n k page all lt is =
+    (let below : (change_at log k).0 < n = All-get_or (λ (e : ℕ × List ℕ). e.0 < n) log k (0, []) lt all in omega (arith, below, is))
 
 numbers_at : (xs : List (ℕ × List ℕ)) (i : ℕ) → get_or (map (λ e. e.0) xs) i 0 ≡ (get_or xs i (0, [])).0
 numbers_at [] i = refl
@@ -121,5 +138,6 @@ climb xs rising (suc i) lt = (let up : get_or xs i 0 < get_or xs (i + 1) 0 = ris
 pub rising_few : (m : ℕ) (log : List (ℕ × List ℕ)) → IsStrictlyIncreasing (map (λ e. e.0) log) → 0 < length log → All (λ e. e.0 < m) log → length log ≤ m
 rising_few m log rising some below =
     let last : (change_at log (length log - 1)).0 < m = All-get_or (λ (e : ℕ × List ℕ). e.0 < m) log (length log - 1) (0, []) (omega (arith, some)) below in
-    let high : length log - 1 ≤ get_or (map (λ e. e.0) log) (length log - 1) 0 = climb (map (λ e. e.0) log) rising (length log - 1) (omega (arith, some, length-map log (λ (e : ℕ × List ℕ). e.0))) in
+    let high : length log - 1 ≤ get_or (map (λ e. e.0) log) (length log - 1) 0 =
+    climb (map (λ e. e.0) log) rising (length log - 1) (omega (arith, some, length-map log (λ (e : ℕ × List ℕ). e.0))) in
     omega (arith, last, high, numbers_at log (length log - 1), some)

@@ -1,12 +1,13 @@
 -- A stop while a journal is made.
-use Rattle.std.proofs.Common.{◌≡◌, ◌≢◌, ◌⊎◌, inl, inr, ℕ, zero, suc, ◌+◌, ◌<◌, ◌≤◌, List, [], ◌∷◌, length, get_or, refl, sym, ◌∙◌, ap, subst, arith, Result, Ok, Err}
+use Rattle.std.proofs.Common.{◌≡◌, ◌≢◌, ◌⊎◌, inl, inr, ℕ, zero, suc, ◌+◌, ◌<◌, ◌≤◌, List, [], ◌∷◌, length, get_or, refl, sym, ◌∙◌, ap, subst, arith, Result, Ok}
+use Rattle.std.proofs.Common.{Err}
 use Rattle.byteorder.specs.Endian.{big_bytes}
 use Rattle.std.proofs.lemmas.List.{same_lists}
 use Rattle.std.proofs.lemmas.Bool.{cases_eq}
 use Rattle.tune_disk.specs.Disk.{DiskState, MayLeave, Written, Writes, settled, touched, GoesTo}
 use Rattle.tune_disk.specs.Inside.Spares.{Agrees}
 use Rattle.tune_disk.specs.Stops.{SinceThen, LeavesOnly}
-use Rattle.tune_disk.proofs.Moments.{since_same}
+use Rattle.tune_disk.proofs.Moments.{since_same, since_then}
 use Rattle.tune_disk.proofs.Writes.{written_long}
 use Rattle.tune_disk.specs.Inside.Overwrites.{length_after_some}
 use Rattle.tune_journal.specs.Image.{window, gate_of, count_of, pages_of, HasPageCount, StandsFor, StandsForNone}
@@ -16,8 +17,13 @@ use Rattle.tune_journal.specs.Inside.Rest.{IsAtRest}
 use Rattle.tune_journal.specs.Layout.{magic, block_bytes, magic_offset, magic_bytes, gate_offset, descriptor_offset, count_offset, pages_offset, least_length}
 use Rattle.tune_journal.specs.Making.{StandsForNoneOr}
 use Rattle.tune_journal.proofs.Windows.{get_or-window, written_window, written_other}
-use Rattle.tune_journal.proofs.Frame.{agree_number, agree_pages_of, stands_closed, pages_of_at, length-pages_of, number_is}
+use Rattle.tune_journal.proofs.Agreeing.{agree_number, agree_pages_of, pages_of_at, length-pages_of, number_is}
+use Rattle.tune_journal.proofs.Standing.{stands_closed}
+use Rattle.tune_journal.specs.Refusal.{IsSynced}
+use Rattle.tune_journal.proofs.Openings.{synced_since}
 use Rattle.tune_journal.proofs.CallRuns.{settles_settled, settles_agrees}
+
+-- Files that stand for nothing.
 
 -- lists of numbers are equal or not
 list_cases : (xs ys : List ℕ) → (xs ≡ ys) ⊎ (xs ≢ ys)
@@ -42,7 +48,9 @@ other_none c is_zero pages s =
     let letter : get_or (window magic_offset magic_bytes c) 0 0 ≡ 65 = ap (λ (l : List ℕ). get_or l 0 0) s.headed.magic in
     omega (arith, first, letter, is_zero)
 
-pub cleared_since : {T E : Type 0} (bytes : List ℕ) (r : Result T E) (a b : DiskState) → length bytes ≡ block_bytes → a.now ≡ settled [] → Writes 0 bytes r a b → SinceThen a b StandsForNone
+-- The first block, and what is laid behind it.
+pub cleared_since : {T E : Type 0} (bytes : List ℕ) (r : Result T E) (a b : DiskState) → length bytes ≡ block_bytes → a.now ≡ settled [] → Writes 0 bytes r a b
+    → SinceThen a b StandsForNone
 cleared_since {T} {E} bytes r a b size rest w = by_cases r w
   where
     first : LeavesOnly a.now StandsForNone
@@ -52,7 +60,12 @@ cleared_since {T} {E} bytes r a b size rest w = by_cases r w
     goes to = record {
       since = touched 0 (length bytes) a.now ∷ [];
       history = λ i. to.now i ∷ to.past i;
-      each = ((λ c left. short_none c (let l : MayLeave (touched 0 (length bytes) (settled [])) c = subst (λ m. MayLeave (touched 0 (length bytes) m) c) rest left in omega (arith, l.no_longer, size, length_after_some 0 (length bytes) 0 (omega (arith, size))))), tt);
+      each = (
+        (λ c left. short_none c
+            (let l : MayLeave (touched 0 (length bytes) (settled [])) c = subst (λ m. MayLeave (touched 0 (length bytes) m) c) rest left in omega
+            (arith, l.no_longer, size, length_after_some 0 (length bytes) 0 (omega (arith, size))))),
+        tt,
+      );
       first = first;
     }
 
@@ -75,9 +88,11 @@ one_page first f is = same_lists (pages_of 1 f) (first ∷ []) (length-pages_of 
     at zero d lt = here d
     at (suc p) d lt = absurd (omega arith)
 
+-- The magic.
 module _ (first f c : List ℕ) (laid : IsLaid first f) (agrees : Agrees (IsOutside magic_offset magic_bytes) f c) where
   titled_count : count_of c ≡ 1
-  titled_count = agree_number (IsOutside magic_offset magic_bytes) f c agrees count_offset (omega (arith, laid.long)) (λ i le lt. inr (omega arith)) ∙ laid.count
+  titled_count =
+      agree_number (IsOutside magic_offset magic_bytes) f c agrees count_offset (omega (arith, laid.long)) (λ i le lt. inr (omega arith)) ∙ laid.count
 
   titled_gate : gate_of c ≡ 0
   titled_gate = agrees.same gate_offset (omega (arith, laid.long)) (inr (omega arith)) ∙ laid.gate
@@ -102,7 +117,8 @@ module _ (first f c : List ℕ) (laid : IsLaid first f) (agrees : Agrees (IsOuts
       cases_magic : (l : List ℕ) → (l ≡ magic) ⊎ (l ≢ magic)
       cases_magic l = list_cases l magic
 
-pub titled_after : (first : List ℕ) (old new : DiskState) → IsLaid first old.seen → Settles (IsOutside magic_offset magic_bytes) old new → window magic_offset magic_bytes new.seen ≡ magic → IsAtRest 1 new × (pages_of 1 new.seen ≡ first ∷ [])
+pub titled_after : (first : List ℕ) (old new : DiskState) → IsLaid first old.seen → Settles (IsOutside magic_offset magic_bytes) old new
+    → window magic_offset magic_bytes new.seen ≡ magic → IsAtRest 1 new × (pages_of 1 new.seen ≡ first ∷ [])
 titled_after first old new laid ran is =
     let agrees = settles_agrees (IsOutside magic_offset magic_bytes) old new ran in (
       record {
@@ -115,7 +131,9 @@ titled_after first old new laid ran is =
       titled_pages first old.seen new.seen laid agrees ∙ one_page first old.seen laid.page,
     )
 
-pub laid_after : (first zeros one old a b c d : List ℕ) → length old ≡ block_bytes → length zeros ≡ block_bytes → get_or zeros 0 0 ≡ 0 → one ≡ big_bytes 4 1 → length first ≡ block_bytes
+-- The four writes of a layout.
+pub laid_after : (first zeros one old a b c d : List ℕ) → length old ≡ block_bytes → length zeros ≡ block_bytes → get_or zeros 0 0 ≡ 0 → one ≡ big_bytes 4 1
+    → length first ≡ block_bytes
     → Written gate_offset zeros old a → Written descriptor_offset zeros a b → Written count_offset one b c → Written pages_offset first c d → IsLaid first d
 laid_after first zeros one old a b c d old_size zeros_size zero_is one_is first_size wa wb wc wd =
     let one_size : length one ≡ 4 = ap length one_is in
@@ -123,12 +141,18 @@ laid_after first zeros one old a b c d old_size zeros_size zero_is one_is first_
     let b_size : length b ≡ count_offset = omega (arith, written_long descriptor_offset zeros a b wb (omega arith)) in
     let c_size : length c ≡ count_offset + 4 = omega (arith, written_long count_offset one b c wc (omega arith)) in
     record {
-      gate = wd.outside gate_offset (inl (omega arith)) ∙ wc.outside gate_offset (inl (omega arith)) ∙ wb.outside gate_offset (inl (omega arith)) ∙ wa.inside 0 (omega arith) ∙ zero_is;
-      count = number_is count_offset 1 d (omega arith) (written_other pages_offset first c d (omega arith) wd count_offset 4 (omega arith) (inl (omega arith)) ∙ subst (λ (n : ℕ). window count_offset n c ≡ one) one_size (written_window count_offset one b c (omega arith) wc) ∙ one_is);
+      gate =
+          wd.outside gate_offset (inl (omega arith)) ∙ wc.outside gate_offset (inl (omega arith)) ∙ wb.outside gate_offset (inl (omega arith))
+          ∙ wa.inside 0 (omega arith) ∙ zero_is;
+      count =
+          number_is count_offset 1 d (omega arith)
+          (written_other pages_offset first c d (omega arith) wd count_offset 4 (omega arith) (inl (omega arith))
+          ∙ subst (λ (n : ℕ). window count_offset n c ≡ one) one_size (written_window count_offset one b c (omega arith) wc) ∙ one_is);
       page = subst (λ (n : ℕ). window pages_offset n d ≡ first) first_size (written_window pages_offset first c d (omega arith) wd);
       long = omega (arith, written_long pages_offset first c d wd (omega arith));
     }
 
+-- An empty file.
 pub empty_leaves : (s : DiskState) → MayLeave s.now s.seen → LeavesOnly s.now (λ c. c ≡ []) → s.seen ≡ []
 empty_leaves s stays only = only s.seen stays
 
@@ -141,3 +165,12 @@ empty_none first c is = inl (short_none c (omega (arith, ap length is)))
 pub nothing_in : (n : ℕ) (f : List ℕ) → n ≡ 0 → n ≡ length f → f ≡ []
 nothing_in n [] none is = refl
 nothing_in n (b ∷ f) none is = absurd (omega (arith, none, is))
+
+-- A file without a byte is synced, and laid out.
+pub making_since : (first : List ℕ) (old mid new : DiskState) → MayLeave old.now old.seen → LeavesOnly old.now (λ c. c ≡ []) → IsSynced old mid
+    → (mid.now ≡ settled [] → mid.seen ≡ [] → SinceThen mid new (StandsForNoneOr first)) → SinceThen old new (StandsForNoneOr first)
+making_since first old mid new stays only synced laid =
+    let empty : old.seen ≡ [] = empty_leaves old stays only in
+    since_then (StandsForNoneOr first) old mid new
+    (synced_since (StandsForNoneOr first) old mid (λ file left. empty_none first file (only file left)) stays (inr synced))
+    (laid (synced.goes.now ∙ ap settled empty) (synced.seen ∙ empty))

@@ -9,11 +9,12 @@ use Rattle.tune_journal.specs.Inside.Phases.{KeepsBoth, IsOutside}
 use Rattle.tune_journal.specs.Inside.Rest.{IsAtRest, IsOpened, IsApplied}
 use Rattle.tune_journal.specs.Layout.{gate_offset}
 use Rattle.tune_journal.specs.Pages.{changed}
-use Rattle.tune_journal.proofs.Frame.{stands_closed, stands_applying, stands_closing, log_same}
+use Rattle.tune_journal.proofs.Standing.{stands_closed, stands_applying, stands_closing, log_same}
 
 -- a stop over a settled disk leaves its file
 settled_only : (P : List ℕ → Type 0) (s : DiskState) → s.now ≡ settled s.seen → P s.seen → LeavesOnly s.now P
-settled_only P s rest here file left = (let l : MayLeave (settled s.seen) file = subst (λ m. MayLeave m file) rest left in subst P (sym (settled_leaves s.seen file l)) here)
+settled_only P s rest here file left =
+    (let l : MayLeave (settled s.seen) file = subst (λ m. MayLeave m file) rest left in subst P (sym (settled_leaves s.seen file l)) here)
 
 agrees_self : (Kept : ℕ → Type 0) (f : List ℕ) → Agrees Kept f f
 agrees_self Kept f = record { longer = omega arith; same = λ i lt kept. refl }
@@ -30,4 +31,5 @@ opened_leaves m s opened = settled_only (StandsFor (changed (pages_of m s.seen) 
     (stands_applying m s opened s.seen (agrees_self (KeepsBoth (entries m (entry_count_of s.seen) s.seen)) s.seen)))
 
 pub applied_leaves : (m : ℕ) (s : DiskState) → IsApplied m s → LeavesOnly s.now (StandsFor (pages_of m s.seen))
-applied_leaves m s applied = settled_only (StandsFor (pages_of m s.seen)) s applied.opened.settled (stands_closing m s applied s.seen (agrees_self (IsOutside gate_offset 1) s.seen))
+applied_leaves m s applied =
+    settled_only (StandsFor (pages_of m s.seen)) s applied.opened.settled (stands_closing m s applied s.seen (agrees_self (IsOutside gate_offset 1) s.seen))

@@ -14,7 +14,8 @@ get_or-window at n file i lt = get_or-take n (drop at file) i 0 lt ∙ get_or-dr
 -- the same bytes there
 pub same_window : (at n : ℕ) (file other : List ℕ) → at + n ≤ length file → at + n ≤ length other
     → ((i : ℕ) → at ≤ i → i < at + n → get_or other i 0 ≡ get_or file i 0) → window at n other ≡ window at n file
-same_window at n file other long long' same = ext_get_or 0 (window at n other) (window at n file) (length-window at n other long' ∙ sym (length-window at n file long))
+same_window at n file other long long' same =
+    ext_get_or 0 (window at n other) (window at n file) (length-window at n other long' ∙ sym (length-window at n file long))
     (λ i lt. each i (omega (arith, length-window at n other long')))
   where
     each : (i : ℕ) → i < n → get_or (window at n other) i 0 ≡ get_or (window at n file) i 0
@@ -33,7 +34,8 @@ written_window at bytes old new some w = ext_get_or 0 (window at (length bytes) 
     each i lt = get_or-window at (length bytes) new i lt ∙ w.inside i lt
 
 -- another part stays
-pub written_other : (at : ℕ) (bytes old new : List ℕ) → 0 < length bytes → Written at bytes old new → (a n : ℕ) → a + n ≤ length old → (a + n ≤ at) ⊎ (at + length bytes ≤ a) → window a n new ≡ window a n old
+pub written_other : (at : ℕ) (bytes old new : List ℕ) → 0 < length bytes → Written at bytes old new → (a n : ℕ) → a + n ≤ length old
+    → (a + n ≤ at) ⊎ (at + length bytes ≤ a) → window a n new ≡ window a n old
 written_other at bytes old new some w a n long apart = same_window a n old new long (omega (arith, written_long at bytes old new w some)) (each apart)
   where
     each : (a + n ≤ at) ⊎ (at + length bytes ≤ a) → (i : ℕ) → a ≤ i → i < a + n → get_or new i 0 ≡ get_or old i 0
@@ -42,7 +44,9 @@ written_other at bytes old new some w a n long apart = same_window a n old new l
 
 -- what a read shows within the file
 pub shows_window : (at : ℕ) (bytes file : List ℕ) → Shows file at bytes → at + length bytes ≤ length file → bytes ≡ window at (length bytes) file
-shows_window at bytes file shows long = ext_get_or 0 bytes (window at (length bytes) file) (sym (length-window at (length bytes) file long)) (λ i lt. shows i lt ∙ sym (get_or-window at (length bytes) file i lt))
+shows_window at bytes file shows long =
+    ext_get_or 0 bytes (window at (length bytes) file) (sym (length-window at (length bytes) file long))
+    (λ i lt. shows i lt ∙ sym (get_or-window at (length bytes) file i lt))
 
 -- two parts of a part
 pub front_window : (at m n : ℕ) (file x y : List ℕ) → window at (m + n) file ≡ x ++ y → length x ≡ m → window at m file ≡ x

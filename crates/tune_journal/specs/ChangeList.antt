@@ -1,5 +1,6 @@
 -- Which pages change, and to which images: by rising page.
-use Rattle.std.specs.Prelude.{ℕ, ◌==◌, nat_lt, slice_index_or, List, [], ◌∷◌, Option, Some, None, if◌then◌else◌}
+use Rattle.std.specs.Prelude.{ℕ, ◌==◌, nat_lt, slice_index_or, List, [], ◌∷◌, Option, Some, None}
+use Rattle.std.specs.Prelude.{if◌then◌else◌}
 
 -- the list with this image for the page, in place of the one that is there
 abbrev pub with_change : ℕ → List ℕ → List (ℕ × List ℕ) → List (ℕ × List ℕ)

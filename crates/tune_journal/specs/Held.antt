@@ -1,4 +1,5 @@
--- What contracts see of a journal and of the states of a commit: a disk, and the lists of pages that stand on it.
+-- What contracts see of a journal and of the states of a commit: a disk, and the lists of pages
+-- that stand on it.
 use Rattle.std.specs.Prelude.{ℕ, List, Result, Ok, Err}
 use Rattle.tune_journal.specs.declared.open_fault.Broken.{Broken}
 use Rattle.tune_journal.specs.declared.open_fault.Refused.{Refused}
@@ -15,7 +16,8 @@ pub record Staged (D : Type 0) : Type 0 where
   pub changes : List (ℕ × List ℕ)
   pub next : List (List ℕ)
 
--- a list of pages that is decided, and the changes that are still to be put in their places
+-- a list of pages that is decided, and the changes whose images are still to be put at their
+-- offsets
 pub record Decided (D : Type 0) : Type 0 where
   pub disk : D
   pub pages : List (List ℕ)

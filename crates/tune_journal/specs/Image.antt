@@ -1,13 +1,13 @@
--- This archive's file format: which list of pages a file stands for. Numbers have four bytes, the highest first.
---   0      the magic
---   4096   the gate: 167 is open, every other value is closed
---   8192   the page count that the log leads to, and at 8196 the number of the log's entries
---   12288  the page count
---   16384  the pages of 4,096 bytes, and behind m of them the log, in entries of 4,100 bytes: the number of a page, and its image
-use Rattle.std.specs.Prelude.{◌≡◌, ◌≢◌, ◌⊎◌, ℕ, ◌+◌, ◌*◌, ◌<◌, ◌≤◌, List, length, take, drop, map, slice_index, All}
+-- This archive's file format: which list of pages a file stands for. Layout.antt says where its
+-- parts stand. Numbers have four bytes, the highest first.
+use Rattle.std.specs.Prelude.{◌≡◌, ◌≢◌, ◌⊎◌, ℕ, ◌+◌, ◌*◌, ◌<◌, ◌≤◌, List, length, take, drop, map}
+use Rattle.std.specs.Prelude.{slice_index, All}
 use Rattle.byteorder.specs.Endian.{big_number}
 use Rattle.std.specs.List.{range_with_len}
-use Rattle.tune_journal.specs.Layout.{block_bytes, magic, magic_offset, magic_bytes, gate_offset, gate_open, descriptor_offset, entry_count_offset, count_offset, pages_offset, entry_bytes, least_length, most_pages}
+use Rattle.tune_journal.specs.Layout.{block_bytes, magic, magic_offset, magic_bytes, gate_offset}
+use Rattle.tune_journal.specs.Layout.{gate_open, descriptor_offset, entry_count_offset}
+use Rattle.tune_journal.specs.Layout.{count_offset, pages_offset, entry_bytes, least_length}
+use Rattle.tune_journal.specs.Layout.{most_pages}
 use Rattle.tune_journal.specs.Pages.{changed}
 use Rattle.std.specs.List.Sorted.{IsStrictlyIncreasing}
 
@@ -27,20 +27,28 @@ page_offset page = pages_offset + block_bytes * page
 abbrev pub entry_offset : ℕ → ℕ → ℕ
 entry_offset m i = pages_offset + block_bytes * m + entry_bytes * i
 
--- the first n pages, each in its place
+-- the first n pages, each at its offset
 unfoldable pub pages_of : ℕ → List ℕ → List (List ℕ)
 pages_of n file = map (λ p. window (page_offset p) block_bytes file) (range_with_len 0 n)
 
 -- k entries of the log behind m pages: the number of a page, and its image
 unfoldable pub entries : ℕ → ℕ → List ℕ → List (ℕ × List ℕ)
-entries m k file = map (λ i. (number (entry_offset m i) file, window (entry_offset m i + 4) block_bytes file)) (range_with_len 0 k)
+entries m k file =
+    map (λ i. (number (entry_offset m i) file, window (entry_offset m i + 4) block_bytes file))
+    (range_with_len 0 k)
+
+-- what a file says, part by part
+abbrev pub magic_of : List ℕ → List ℕ
+magic_of file = window magic_offset magic_bytes file
 
 abbrev pub count_of : List ℕ → ℕ
 count_of file = number count_offset file
 
+-- the page count that the log leads to
 abbrev pub new_count_of : List ℕ → ℕ
 new_count_of file = number descriptor_offset file
 
+-- and the number of its entries
 abbrev pub entry_count_of : List ℕ → ℕ
 entry_count_of file = number entry_count_offset file
 
@@ -57,25 +65,32 @@ pub record IsLog (m : ℕ) (log : List (ℕ × List ℕ)) : Type 0 where
   pub rising : IsStrictlyIncreasing (map (λ e. e.0) log)
   pub below : All (λ e. e.0 < m) log
 
+-- The file begins with the magic, and has room for a page.
 pub record IsHeaded (file : List ℕ) : Type 0 where
-  pub magic : window magic_offset magic_bytes file ≡ magic
+  pub magic : magic_of file ≡ magic
   pub long : least_length ≤ length file
 
+-- It has room for n pages, which are as many as there may be.
 pub record HasPageCount (n : ℕ) (file : List ℕ) : Type 0 where
   pub least : 1 ≤ n
   pub most : n ≤ most_pages
   pub long : page_offset n ≤ length file
 
+-- It has a whole log of k entries behind m pages.
 pub record HasLog (m k : ℕ) (file : List ℕ) : Type 0 where
   pub count : HasPageCount m file
   pub long : entry_offset m k ≤ length file
   pub log : IsLog m (entries m k file)
 
--- A closed gate: the pages stand in their places. An open one: so they do, but for those that the log names.
+-- Behind a closed gate the pages stand at their offsets; behind an open one so they do, but for
+-- those that the log names.
 pub record StandsFor (pages : List (List ℕ)) (file : List ℕ) : Type 0 where
   pub headed : IsHeaded file
-  pub is_closed : gate_of file ≢ gate_open → HasPageCount (count_of file) file × (pages ≡ pages_of (count_of file) file)
-  pub is_open : gate_of file ≡ gate_open → HasLog (new_count_of file) (entry_count_of file) file × (pages ≡ changed (pages_of (new_count_of file) file) (log_of file))
+  pub is_closed : gate_of file ≢ gate_open
+      → HasPageCount (count_of file) file × (pages ≡ pages_of (count_of file) file)
+  pub is_open : gate_of file ≡ gate_open
+      → HasLog (new_count_of file) (entry_count_of file) file
+      × (pages ≡ changed (pages_of (new_count_of file) file) (log_of file))
 
 -- before or after
 abbrev pub StandsForEither : List (List ℕ) → List (List ℕ) → List ℕ → Type 0

@@ -6,6 +6,7 @@ use Rattle.std.specs.Prelude.{ℕ, List, [], ◌∷◌}
 abbrev pub block_bytes : ℕ
 block_bytes = 4096
 
+-- a file begins with the magic
 abbrev pub magic_offset : ℕ
 magic_offset = 0
 
@@ -20,11 +21,11 @@ magic = 65 ∷ 66 ∷ 67 ∷ 84 ∷ 85 ∷ 78 ∷ 69 ∷ 49 ∷ []
 abbrev pub gate_offset : ℕ
 gate_offset = 4096
 
--- the one value that opens it; every other one is closed
+-- the one value that opens it; every other value is closed
 abbrev pub gate_open : ℕ
 gate_open = 167
 
--- the value that this code closes it with
+-- and the value that it is closed with
 abbrev pub gate_closed : ℕ
 gate_closed = 0
 
@@ -54,5 +55,6 @@ entry_bytes = 4100
 abbrev pub least_length : ℕ
 least_length = 20480
 
+-- the most pages that a file has
 abbrev pub most_pages : ℕ
 most_pages = 4000000

@@ -1,5 +1,6 @@
 -- Lists of pages, and what changes make of them.
-use Rattle.std.specs.Prelude.{◌≡◌, ℕ, ◌-◌, ◌<◌, ◌≤◌, List, [], ◌∷◌, ◌++◌, length, replicate, slice_index_or, slice_set}
+use Rattle.std.specs.Prelude.{◌≡◌, ℕ, ◌-◌, ◌<◌, ◌≤◌, List, [], ◌∷◌, ◌++◌, length, replicate}
+use Rattle.std.specs.Prelude.{slice_index_or, slice_set}
 use Rattle.tune_journal.specs.ChangeList.{changed_page}
 
 -- page p of a list
@@ -17,4 +18,5 @@ pages_after pages m changes = changed (pages ++ replicate (m - length pages) [])
 
 -- each page from the n-th on is among the changes
 abbrev pub NamesAll : ℕ → ℕ → List (ℕ × List ℕ) → Type 0
-NamesAll n m changes = (p : ℕ) → n ≤ p → p < m → (k : ℕ) × (k < length changes) × (changed_page changes k ≡ p)
+NamesAll n m changes = (p : ℕ) → n ≤ p → p < m
+    → (k : ℕ) × (k < length changes) × (changed_page changes k ≡ p)

@@ -1,10 +1,12 @@
 -- Why a file is not opened.
 use Rattle.std.specs.Prelude.{◌≡◌, ◌≢◌, ℕ, ◌<◌, ◌≤◌, length}
 use Rattle.tune_disk.specs.Disk.{DiskState, GoesTo, settled, CountsUp}
-use Rattle.tune_journal.specs.Image.{window, StandsForNone}
-use Rattle.tune_journal.specs.Layout.{magic, magic_offset, magic_bytes}
+use Rattle.tune_journal.specs.Image.{StandsForNone, magic_of}
+use Rattle.tune_journal.specs.Layout.{magic, magic_bytes}
 use Rattle.tune_journal.specs.declared.open_fault.OpenFault.{OpenFault}
-use Rattle.tune_journal.specs.declared.open_fault.OpenFault.TheVariants.{NotArchive, Damaged, NotEmpty, OutOfMemory, Device}
+use Rattle.tune_journal.specs.declared.open_fault.OpenFault.TheVariants.{NotArchive, Damaged}
+use Rattle.tune_journal.specs.declared.open_fault.OpenFault.TheVariants.{NotEmpty, OutOfMemory}
+use Rattle.tune_journal.specs.declared.open_fault.OpenFault.TheVariants.{Device}
 
 -- a sync, and nothing else
 pub record IsSynced (old new : DiskState) : Type 0 where
@@ -13,13 +15,16 @@ pub record IsSynced (old new : DiskState) : Type 0 where
 
 -- Where the file is at fault nothing was written.
 abbrev pub IsRefusedFor : OpenFault → DiskState → DiskState → Type 0
-IsRefusedFor NotArchive old new = IsSynced old new × (magic_bytes ≤ length old.seen → window magic_offset magic_bytes old.seen ≢ magic)
-IsRefusedFor Damaged old new = IsSynced old new × (window magic_offset magic_bytes old.seen ≡ magic) × (magic_bytes ≤ length old.seen) × StandsForNone old.seen
+IsRefusedFor NotArchive old new =
+    IsSynced old new × (magic_bytes ≤ length old.seen → magic_of old.seen ≢ magic)
+IsRefusedFor Damaged old new =
+    IsSynced old new × (magic_of old.seen ≡ magic) × (magic_bytes ≤ length old.seen)
+    × StandsForNone old.seen
 IsRefusedFor NotEmpty old new = ⊥
 IsRefusedFor OutOfMemory old new = ⊥
 IsRefusedFor Device old new = Unit {0}
 
--- `Device` alone is told where the disk failed, and wherever it did.
+-- `Device` alone is answered where the disk failed, and wherever it did.
 abbrev pub CountsFailureIf : OpenFault → ℕ → ℕ → Type 0
 CountsFailureIf Device old new = CountsUp old new
 CountsFailureIf NotArchive old new = new ≡ old
@@ -27,7 +32,7 @@ CountsFailureIf Damaged old new = new ≡ old
 CountsFailureIf NotEmpty old new = new ≡ old
 CountsFailureIf OutOfMemory old new = new ≡ old
 
--- The same, but that `Device` is told without a failure where the disk is not honest.
+-- The same, but that `Device` is answered without a failure too where the disk is not honest.
 abbrev pub CountsFailureWhere : Type 0 → OpenFault → ℕ → ℕ → Type 0
 CountsFailureWhere Honest Device old new = Honest → CountsUp old new
 CountsFailureWhere Honest NotArchive old new = new ≡ old

@@ -1,5 +1,6 @@
 // Pages that change.
-ghost use Rattle.std.specs.Prelude.{◌≡◌, ◌<◌, ◌==◌, [], length, map, All, OnOk, OnErr, IsOk, IsSome, IfOk, IfErr, option_map};
+ghost use Rattle.std.specs.Prelude.{◌≡◌, ◌<◌, ◌==◌, [], length, map, All, OnOk, OnErr, IsOk};
+ghost use Rattle.std.specs.Prelude.{IsSome, IfOk, IfErr, option_map};
 ghost use Rattle.std.specs.List.Sorted.{IsStrictlyIncreasing};
 ghost use Rattle.tune_journal.specs.ChangeList.{with_change, image_of, change_at, changed_page};
 ghost use Rattle.tune_journal.specs.Inside.ChangeOrder.{FoundAt, MissingAt};
@@ -15,14 +16,16 @@ pub struct PageImage {
     pub bytes: [u8; 4096],
 }
 
-// A page and what it changes to. The image is on the heap, so that a page among many others moves no images.
+// A page and what it changes to. The image is on the heap, so that a page among many others moves
+// no images.
 #[derive(Drop)]
 struct ChangedPage {
     page: u32,
     image: Box<PageImage>,
 }
 
-/// The pages that a commit changes, each with its new image. Contracts see a list of (page, image) by rising page.
+/// The pages that a commit changes, each with its new image. Contracts see a list of (page, image)
+/// by rising page.
 #[derive(Drop)]
 pub struct Changes {
     alloc: Global,
@@ -56,7 +59,8 @@ impl Changes {
     ///
     /// # Errors
     ///
-    /// `AllocError` where there is no memory for a page that is not among the changes; they stay as they were.
+    /// `AllocError` where there is no memory for a page that is not among the changes; they stay as
+    /// they were.
     pub fn put(&mut self, page: u32, image: &PageImage) -> Result<(), AllocError>
         ensures ok { OnOk result (self.new ≡ with_change page image.now.bytes self.old) }
         ensures err { OnErr result (self.new ≡ self.old) }

@@ -3,8 +3,11 @@ ghost use Rattle.std.specs.Prelude.{◌≡◌, ◌<◌, ◌≤◌, ◌^◌, ◌+
 ghost use Rattle.byteorder.specs.Endian.{big_bytes};
 ghost use Rattle.tune_disk.specs.Disk.{Writes, Written, Calls};
 ghost use Rattle.tune_disk.specs.Inside.Spares.{Spares};
-ghost use Rattle.tune_journal.specs.Image.{count_of, IsLog, number, page_offset, entry_offset, pages_of};
-ghost use Rattle.tune_journal.specs.Inside.Phases.{log_entry, WritesAndSyncs, IsNoLog, IsOutside, IsInNoPage, HoldsEntries, HoldsDescriptor, KeepsBoth};
+ghost use Rattle.tune_journal.specs.Image.{count_of, IsLog, number, page_offset, entry_offset};
+ghost use Rattle.tune_journal.specs.Image.{pages_of};
+ghost use Rattle.tune_journal.specs.Inside.Phases.{log_entry, WritesAndSyncs, IsNoLog, IsOutside};
+ghost use Rattle.tune_journal.specs.Inside.Phases.{IsInNoPage, HoldsEntries, HoldsDescriptor};
+ghost use Rattle.tune_journal.specs.Inside.Phases.{KeepsBoth};
 ghost use Rattle.tune_journal.specs.Layout.{block_bytes, entry_bytes, most_pages};
 ghost use Rattle.tune_journal.specs.Pages.{changed};
 
@@ -12,6 +15,7 @@ use crate::changes::{Changes, PageImage};
 use crate::layout::{COUNT_OFFSET, DESCRIPTOR_OFFSET, ENTRY_BYTES, number_bytes, page_offset};
 use tune_disk::{DeviceFault, Disk};
 
+/// An entry of the log.
 fn entry_of(page: u32, image: &PageImage) -> [u8; 4100]
     ensures { result ≡ log_entry page image.now.bytes }
 {
@@ -21,6 +25,7 @@ fn entry_of(page: u32, image: &PageImage) -> [u8; 4100]
     entry
 }
 
+/// The descriptor of a log.
 fn descriptor_of(new_count: u32, entries: u32) -> [u8; 8]
     ensures { result ≡ big_bytes 4 new_count ++ big_bytes 4 entries }
 {
@@ -30,6 +35,7 @@ fn descriptor_of(new_count: u32, entries: u32) -> [u8; 8]
     descriptor
 }
 
+/// Writes an entry of the log.
 fn write_entry<D: Disk>(
     disk: &mut D,
     at: u64,
@@ -38,25 +44,31 @@ fn write_entry<D: Disk>(
 ) -> Result<(), DeviceFault>
     requires { at + entry_bytes ≤ 2 ^ 40 }
     ensures size { length image.now.bytes ≡ block_bytes }
-    ensures write { D.honest disk.new → Writes at (log_entry page image.now.bytes) result (D.state disk.old) (D.state disk.new) }
+    ensures write { let old = D.state disk.old in let new = D.state disk.new in
+        D.honest disk.new → Writes at (log_entry page image.now.bytes) result old new }
     ensures calls { Calls D.honest D.failures result disk.old disk.new }
 {
     disk.write_at(at, &entry_of(page, image))
 }
 
+/// Writes an image into its page.
 fn write_image<D: Disk>(disk: &mut D, page: u32, image: &PageImage) -> Result<(), DeviceFault>
     requires { page < most_pages }
     ensures size { length image.now.bytes ≡ block_bytes }
-    ensures write { D.honest disk.new → Writes (page_offset page) image.now.bytes result (D.state disk.old) (D.state disk.new) }
+    ensures write { let old = D.state disk.old in let new = D.state disk.new in
+        D.honest disk.new → Writes (page_offset page) image.now.bytes result old new }
     ensures calls { Calls D.honest D.failures result disk.old disk.new }
 {
     disk.write_at(page_offset(page), &image.bytes)
 }
 
+/// Writes all entries of a log, one behind another.
 fn write_entries<D: Disk>(disk: &mut D, base: u64, changes: &Changes) -> Result<(), DeviceFault>
     requires { base + entry_bytes * length changes.now ≤ 2 ^ 40 }
-    ensures spares { D.honest disk.new → Spares (λ i. i < base) (D.state disk.old) (D.state disk.new) }
-    ensures entries { OnOk result (D.honest disk.new → HoldsEntries base changes.now (length changes.now) (D.state disk.new).seen) }
+    ensures spares { D.honest disk.new
+        → Spares (λ i. i < base) (D.state disk.old) (D.state disk.new) }
+    ensures entries { OnOk result (D.honest disk.new
+        → HoldsEntries base changes.now (length changes.now) (D.state disk.new).seen) }
     ensures calls { Calls D.honest D.failures result disk.old disk.new }
 {
     let mut at = base;
@@ -67,11 +79,15 @@ fn write_entries<D: Disk>(disk: &mut D, base: u64, changes: &Changes) -> Result<
     Ok(())
 }
 
+/// Writes all images into their pages.
 fn write_images<D: Disk>(disk: &mut D, changes: &Changes) -> Result<(), DeviceFault>
     requires { All (λ e. e.0 < most_pages) changes.now }
-    ensures spares { D.honest disk.new → Spares (IsInNoPage changes.now) (D.state disk.old) (D.state disk.new) }
-    ensures images { OnOk result (D.honest disk.new → (n : ℕ) → page_offset n ≤ length (D.state disk.old).seen → All (λ e. e.0 < n) changes.now
-        → pages_of n (D.state disk.new).seen ≡ changed (pages_of n (D.state disk.old).seen) changes.now) }
+    ensures spares { D.honest disk.new
+        → Spares (IsInNoPage changes.now) (D.state disk.old) (D.state disk.new) }
+    ensures images { let old = D.state disk.old in let new = D.state disk.new in
+        OnOk result (D.honest disk.new → (n : ℕ)
+        → page_offset n ≤ length old.seen → All (λ e. e.0 < n) changes.now
+        → pages_of n new.seen ≡ changed (pages_of n old.seen) changes.now) }
     ensures calls { Calls D.honest D.failures result disk.old disk.new }
 {
     for place in 0..changes.len() {
@@ -83,8 +99,10 @@ fn write_images<D: Disk>(disk: &mut D, changes: &Changes) -> Result<(), DeviceFa
 /// Writes, and syncs.
 pub(crate) fn write_synced<D: Disk>(disk: &mut D, at: u64, bytes: &[u8]) -> Result<(), DeviceFault>
     requires { at + length bytes.now ≤ 2 ^ 40 }
-    ensures writes { D.honest disk.new → WritesAndSyncs (IsOutside at (length bytes.now)) result (D.state disk.old) (D.state disk.new) }
-    ensures written { OnOk result (D.honest disk.new → Written at bytes.now (D.state disk.old).seen (D.state disk.new).seen) }
+    ensures writes { let old = D.state disk.old in let new = D.state disk.new in
+        D.honest disk.new → WritesAndSyncs (IsOutside at (length bytes.now)) result old new }
+    ensures written { OnOk result (D.honest disk.new
+        → Written at bytes.now (D.state disk.old).seen (D.state disk.new).seen) }
     ensures calls { Calls D.honest D.failures result disk.old disk.new }
 {
     disk.write_at(at, bytes)?;
@@ -100,10 +118,13 @@ pub(crate) fn write_log<D: Disk>(
     requires count { new_count ≤ most_pages }
     requires some { 0 < length changes.now }
     requires below { All (λ e. e.0 < new_count) changes.now }
-    ensures writes { D.honest disk.new → WritesAndSyncs (IsNoLog new_count) result (D.state disk.old) (D.state disk.new) }
-    ensures entries { OnOk result (D.honest disk.new → HoldsEntries (entry_offset new_count 0) changes.now (length changes.now) (D.state disk.new).seen) }
+    ensures writes { D.honest disk.new
+        → WritesAndSyncs (IsNoLog new_count) result (D.state disk.old) (D.state disk.new) }
+    ensures entries { let base = entry_offset new_count 0 in OnOk result (D.honest disk.new
+        → HoldsEntries base changes.now (length changes.now) (D.state disk.new).seen) }
     ensures log { OnOk result (IsLog new_count changes.now) }
-    ensures descriptor { OnOk result (D.honest disk.new → HoldsDescriptor new_count (length changes.now) (D.state disk.new).seen) }
+    ensures descriptor { OnOk result (D.honest disk.new
+        → HoldsDescriptor new_count (length changes.now) (D.state disk.new).seen) }
     ensures calls { Calls D.honest D.failures result disk.old disk.new }
 {
     let entries = changes.len() as u32;
@@ -111,16 +132,19 @@ pub(crate) fn write_log<D: Disk>(
     write_synced(disk, DESCRIPTOR_OFFSET, &descriptor_of(new_count, entries))
 }
 
-/// Writes the images to their places and the count, and syncs.
+/// Writes the images into their pages, and the count, and syncs.
 pub(crate) fn write_pages<D: Disk>(
     disk: &mut D,
     count: u32,
     changes: &Changes,
 ) -> Result<(), DeviceFault>
     requires { All (λ e. e.0 < most_pages) changes.now }
-    ensures writes { D.honest disk.new → WritesAndSyncs (KeepsBoth changes.now) result (D.state disk.old) (D.state disk.new) }
-    ensures images { OnOk result (D.honest disk.new → (n : ℕ) → page_offset n ≤ length (D.state disk.old).seen → All (λ e. e.0 < n) changes.now
-        → pages_of n (D.state disk.new).seen ≡ changed (pages_of n (D.state disk.old).seen) changes.now) }
+    ensures writes { D.honest disk.new
+        → WritesAndSyncs (KeepsBoth changes.now) result (D.state disk.old) (D.state disk.new) }
+    ensures images { let old = D.state disk.old in let new = D.state disk.new in
+        OnOk result (D.honest disk.new → (n : ℕ)
+        → page_offset n ≤ length old.seen → All (λ e. e.0 < n) changes.now
+        → pages_of n new.seen ≡ changed (pages_of n old.seen) changes.now) }
     ensures count { OnOk result (D.honest disk.new → count_of (D.state disk.new).seen ≡ count) }
     ensures calls { Calls D.honest D.failures result disk.old disk.new }
 {

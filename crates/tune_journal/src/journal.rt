@@ -1,10 +1,11 @@
 // A journal, and the commit that changes it.
 ghost use Rattle.std.specs.Prelude.{◌≡◌, ◌<◌, ◌≤◌, All, length, IfOk, OnOk};
 ghost use Rattle.tune_disk.specs.Disk.{Calls, Looks};
-ghost use Rattle.tune_disk.specs.Stops.{LeavesOnly, SinceThen};
+ghost use Rattle.tune_disk.specs.Stops.{SinceThen};
 ghost use Rattle.tune_journal.specs.Held.{disk_of, disk_of_log};
 ghost use Rattle.tune_journal.specs.Image.{StandsFor, StandsForEither};
 ghost use Rattle.tune_journal.specs.Layout.{most_pages};
+ghost use Rattle.tune_journal.specs.Moments.{LeavesPages};
 ghost use Rattle.tune_journal.specs.Pages.{NamesAll, page_at, pages_after};
 
 use crate::changes::{Changes, PageImage};
@@ -15,7 +16,8 @@ use crate::states::Logged;
 use std::marker::Model;
 use tune_disk::{DeviceFault, Disk};
 
-/// A list of pages of 4,096 bytes on a disk, in this archive's file format, changed as a whole or not at all.
+/// A list of pages of 4,096 bytes on a disk, in this archive's file format, changed as a whole or
+/// not at all.
 #[derive(Drop)]
 pub struct Journal<D: Disk> {
     pub(crate) disk: D,
@@ -41,7 +43,7 @@ impl<D: Disk> Journal<D> {
         ensures count { result ≡ length self.now.pages }
         ensures bounds { (1 ≤ result) × (result ≤ most_pages) }
         // A journal is at rest: a stop leaves its pages alone.
-        ensures rest { D.honest self.now.disk → LeavesOnly (D.state self.now.disk).now (StandsFor self.now.pages) }
+        ensures rest { LeavesPages D.honest D.state self.now.disk self.now.pages }
     {
         self.count
     }
@@ -50,10 +52,12 @@ impl<D: Disk> Journal<D> {
     ///
     /// # Errors
     ///
-    /// `DeviceFault` where the disk failed: `into` then has any bytes, and the journal is as before.
+    /// `DeviceFault` where the disk failed: `into` then has any bytes, and the journal is as
+    /// before.
     pub fn read(&mut self, page: u32, into: &mut PageImage) -> Result<(), DeviceFault>
         requires { page < length self.old.pages }
-        ensures page { OnOk result (D.honest self.new.disk → into.new.bytes ≡ page_at self.old.pages page) }
+        ensures page { OnOk result (D.honest self.new.disk
+            → into.new.bytes ≡ page_at self.old.pages page) }
         ensures pages { D.honest self.new.disk → self.new.pages ≡ self.old.pages }
         ensures count { length self.new.pages ≡ length self.old.pages }
         ensures looks { Looks D.honest D.failures D.state result self.old.disk self.new.disk }
@@ -64,17 +68,19 @@ impl<D: Disk> Journal<D> {
     /// The disk, which stands for the pages.
     pub fn into_disk(self) -> D
         ensures disk { result ≡ self.disk }
-        ensures rest { D.honest result → LeavesOnly (D.state result).now (StandsFor self.pages) }
+        ensures rest { LeavesPages D.honest D.state result self.pages }
     {
         let Journal { disk, count: _ } = self;
         disk
     }
 
-    /// Replaces the list of pages by the next, whole or not at all: `new_count` pages, those that change with their new images.
+    /// Replaces the list of pages by the next, whole or not at all: `new_count` pages, those that
+    /// change with their new images.
     ///
     /// # Errors
     ///
-    /// `Broken` where the disk failed: its disk stands for the list before or after, and is to be opened again.
+    /// `Broken` where the disk failed: its disk stands for the list before or after, and is to be
+    /// opened again.
     pub fn commit(self, new_count: u32, changes: &Changes) -> Result<Journal<D>, Broken<D>>
         requires grows { length self.pages ≤ new_count }
         requires most { new_count ≤ most_pages }
@@ -83,11 +89,13 @@ impl<D: Disk> Journal<D> {
         requires names { NamesAll (length self.pages) new_count changes.now }
         // A stop at any moment of the call leaves the pages from before it or those from after it.
         ensures moments { let next = pages_after self.pages new_count changes.now in
-            D.honest (disk_of result)
-            → SinceThen (D.state self.disk) (D.state (disk_of result)) (StandsForEither self.pages next) }
+            let old = D.state self.disk in let new = D.state (disk_of result) in
+            D.honest (disk_of result) → SinceThen old new (StandsForEither self.pages next) }
         // At `Ok` it leaves those from after it alone.
-        ensures rest { IfOk result (λ journal. D.honest journal.disk → LeavesOnly (D.state journal.disk).now (StandsFor (pages_after self.pages new_count changes.now))) }
-        ensures pages { IfOk result (λ journal. D.honest journal.disk → journal.pages ≡ pages_after self.pages new_count changes.now) }
+        ensures rest { let next = pages_after self.pages new_count changes.now in
+            IfOk result (λ journal. LeavesPages D.honest D.state journal.disk next) }
+        ensures pages { IfOk result (λ journal. D.honest journal.disk
+            → journal.pages ≡ pages_after self.pages new_count changes.now) }
         ensures count { IfOk result (λ journal. length journal.pages ≡ new_count) }
         ensures calls { Calls D.honest D.failures result self.disk (disk_of result) }
     {
@@ -110,10 +118,13 @@ impl<D: Disk> Journal<D> {
         requires names { NamesAll (length self.pages) new_count changes.now }
         ensures moments { D.honest (disk_of_log result)
             → SinceThen (D.state self.disk) (D.state (disk_of_log result)) (StandsFor self.pages) }
-        ensures rest { IfOk result (λ logged. D.honest logged.disk → LeavesOnly (D.state logged.disk).now (StandsFor logged.pages)) }
+        ensures rest { IfOk result (λ logged.
+            LeavesPages D.honest D.state logged.disk logged.pages) }
         ensures pages { IfOk result (λ logged. D.honest logged.disk → logged.pages ≡ self.pages) }
-        ensures changes { IfOk result (λ logged. D.honest logged.disk → logged.changes ≡ changes.now) }
-        ensures next { IfOk result (λ logged. D.honest logged.disk → logged.next ≡ pages_after self.pages new_count changes.now) }
+        ensures changes { IfOk result (λ logged. D.honest logged.disk
+            → logged.changes ≡ changes.now) }
+        ensures next { IfOk result (λ logged. D.honest logged.disk
+            → logged.next ≡ pages_after self.pages new_count changes.now) }
         ensures count { IfOk result (λ logged. length logged.next ≡ new_count) }
         ensures calls { Calls D.honest D.failures result self.disk (disk_of_log result) }
     {

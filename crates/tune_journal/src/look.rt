@@ -1,13 +1,15 @@
 // What opening finds in a file that a stop may have left.
 ghost use Rattle.std.specs.Prelude.{◌≡◌, ◌≤◌, ◌^◌, ◌+◌, ◌↔◌, IsTrue, length, OnOk, IfOk};
 ghost use Rattle.tune_disk.specs.Disk.{Calls, Looks};
-ghost use Rattle.tune_journal.specs.Image.{window, number, entry_offset, gate_of};
-ghost use Rattle.tune_journal.specs.Inside.Looking.{Climbs, IsSyncedOrSame, Sees, SeesOpen, SeesClosed, IsBounded};
-ghost use Rattle.tune_journal.specs.Layout.{magic, magic_offset, magic_bytes, gate_open, least_length, most_pages};
+ghost use Rattle.tune_journal.specs.Image.{window, number, entry_offset, gate_of, magic_of};
+ghost use Rattle.tune_journal.specs.Inside.Looking.{Climbs, IsSyncedOrSame, Sees, SeesOpen};
+ghost use Rattle.tune_journal.specs.Inside.Looking.{SeesClosed, IsBounded};
+ghost use Rattle.tune_journal.specs.Layout.{magic, magic_offset, magic_bytes, gate_open};
+ghost use Rattle.tune_journal.specs.Layout.{least_length, most_pages};
 ghost use Rattle.tune_journal.specs.Refusal.{IsSynced};
 
 use crate::layout::{
-    COUNT_OFFSET, DESCRIPTOR_OFFSET, ENTRY_COUNT_OFFSET, GATE_OFFSET, GATE_OPEN, LEAST_BYTES,
+    COUNT_OFFSET, DESCRIPTOR_OFFSET, ENTRY_COUNT_OFFSET, GATE_OFFSET, GATE_OPEN, LEAST_LENGTH,
     MAGIC, MAGIC_OFFSET, MOST_PAGES, entry_offset, page_offset,
 };
 use byteorder::{BigEndian, ByteOrder};
@@ -15,7 +17,8 @@ use tune_disk::{DeviceFault, Disk};
 
 /// Syncs, and asks for the length.
 pub(crate) fn settle<D: Disk>(disk: &mut D) -> Result<u64, DeviceFault>
-    ensures ok { IfOk result (λ size. D.honest disk.new → IsSynced (D.state disk.old) (D.state disk.new) × (size ≡ length (D.state disk.old).seen)) }
+    ensures ok { let old = D.state disk.old in let new = D.state disk.new in
+        IfOk result (λ size. D.honest disk.new → IsSynced old new × (size ≡ length old.seen)) }
     ensures err { D.honest disk.new → IsSyncedOrSame (D.state disk.old) (D.state disk.new) }
     ensures calls { Calls D.honest D.failures result disk.old disk.new }
 {
@@ -25,7 +28,8 @@ pub(crate) fn settle<D: Disk>(disk: &mut D) -> Result<u64, DeviceFault>
 
 fn read_number<D: Disk>(disk: &mut D, at: u64) -> Result<u32, DeviceFault>
     requires { at + 4 ≤ 2 ^ 40 }
-    ensures number { IfOk result (λ n. D.honest disk.new → at + 4 ≤ length (D.state disk.old).seen → n ≡ number at (D.state disk.old).seen) }
+    ensures number { let file = (D.state disk.old).seen in
+        IfOk result (λ n. D.honest disk.new → at + 4 ≤ length file → n ≡ number at file) }
     ensures looks { Looks D.honest D.failures D.state result disk.old disk.new }
 {
     let mut bytes = [0; 4];
@@ -36,8 +40,9 @@ fn read_number<D: Disk>(disk: &mut D, at: u64) -> Result<u32, DeviceFault>
 /// Do the entries of a log name pages below `count`, each above the last?
 fn check_log<D: Disk>(disk: &mut D, count: u32, entries: u32) -> Result<bool, DeviceFault>
     requires { (count ≤ most_pages) × (entries ≤ count) }
-    ensures climbs { IfOk result (λ yes. D.honest disk.new → entry_offset count entries ≤ length (D.state disk.old).seen
-        → IsTrue yes ↔ Climbs count entries (D.state disk.old).seen) }
+    ensures climbs { let file = (D.state disk.old).seen in
+        IfOk result (λ yes. D.honest disk.new → entry_offset count entries ≤ length file
+        → IsTrue yes ↔ Climbs count entries file) }
     ensures looks { Looks D.honest D.failures D.state result disk.old disk.new }
 {
     let mut least = 0;
@@ -67,7 +72,9 @@ fn is_magic(bytes: &[u8]) -> bool
 
 /// Is the magic at the front?
 fn read_magic<D: Disk>(disk: &mut D) -> Result<bool, DeviceFault>
-    ensures magic { IfOk result (λ yes. D.honest disk.new → magic_bytes ≤ length (D.state disk.old).seen → IsTrue yes ↔ (window magic_offset magic_bytes (D.state disk.old).seen ≡ magic)) }
+    ensures magic { let file = (D.state disk.old).seen in
+        IfOk result (λ yes. D.honest disk.new → magic_bytes ≤ length file
+        → IsTrue yes ↔ (magic_of file ≡ magic)) }
     ensures looks { Looks D.honest D.failures D.state result disk.old disk.new }
 {
     let mut bytes = [0; 8];
@@ -77,7 +84,8 @@ fn read_magic<D: Disk>(disk: &mut D) -> Result<bool, DeviceFault>
 
 /// Is the gate open?
 fn read_gate<D: Disk>(disk: &mut D) -> Result<bool, DeviceFault>
-    ensures gate { IfOk result (λ yes. D.honest disk.new → IsTrue yes ↔ (gate_of (D.state disk.old).seen ≡ gate_open)) }
+    ensures gate { let file = (D.state disk.old).seen in
+        IfOk result (λ yes. D.honest disk.new → IsTrue yes ↔ (gate_of file ≡ gate_open)) }
     ensures looks { Looks D.honest D.failures D.state result disk.old disk.new }
 {
     let mut bytes = [0];
@@ -86,7 +94,9 @@ fn read_gate<D: Disk>(disk: &mut D) -> Result<bool, DeviceFault>
 }
 
 fn look_closed<D: Disk>(disk: &mut D, size: u64) -> Result<Found, DeviceFault>
-    ensures sees { IfOk result (λ found. D.honest disk.new → size ≡ length (D.state disk.old).seen → least_length ≤ size → SeesClosed found (D.state disk.old).seen) }
+    ensures sees { let file = (D.state disk.old).seen in
+        IfOk result (λ found. D.honest disk.new → size ≡ length file → least_length ≤ size
+        → SeesClosed found file) }
     ensures bounded { IfOk result IsBounded }
     ensures looks { Looks D.honest D.failures D.state result disk.old disk.new }
 {
@@ -99,7 +109,9 @@ fn look_closed<D: Disk>(disk: &mut D, size: u64) -> Result<Found, DeviceFault>
 }
 
 fn look_open<D: Disk>(disk: &mut D, size: u64) -> Result<Found, DeviceFault>
-    ensures sees { IfOk result (λ found. D.honest disk.new → size ≡ length (D.state disk.old).seen → least_length ≤ size → SeesOpen found (D.state disk.old).seen) }
+    ensures sees { let file = (D.state disk.old).seen in
+        IfOk result (λ found. D.honest disk.new → size ≡ length file → least_length ≤ size
+        → SeesOpen found file) }
     ensures bounded { IfOk result IsBounded }
     ensures looks { Looks D.honest D.failures D.state result disk.old disk.new }
 {
@@ -120,7 +132,8 @@ fn look_open<D: Disk>(disk: &mut D, size: u64) -> Result<Found, DeviceFault>
 
 /// Syncs, and looks at the front of the file and at its log. It writes nothing.
 pub(crate) fn look<D: Disk>(disk: &mut D) -> Result<Found, DeviceFault>
-    ensures synced { OnOk result (D.honest disk.new → IsSynced (D.state disk.old) (D.state disk.new)) }
+    ensures synced { OnOk result (D.honest disk.new
+        → IsSynced (D.state disk.old) (D.state disk.new)) }
     ensures state { D.honest disk.new → IsSyncedOrSame (D.state disk.old) (D.state disk.new) }
     ensures sees { IfOk result (λ found. D.honest disk.new → Sees found (D.state disk.old).seen) }
     ensures bounded { IfOk result IsBounded }
@@ -130,7 +143,7 @@ pub(crate) fn look<D: Disk>(disk: &mut D) -> Result<Found, DeviceFault>
     if size < MAGIC.len() as u64 || !read_magic(disk)? {
         return Ok(Found::NotArchive);
     }
-    if size < LEAST_BYTES {
+    if size < LEAST_LENGTH {
         return Ok(Found::Damaged);
     }
     if read_gate(disk)? {

@@ -33,8 +33,15 @@ pub struct Refused<D: Disk> {
     pub why: OpenFault,
 }
 
-/// The disk of a journal whose disk failed in a commit. It stands for the pages from before the
-/// commit or for those from after it, and is to be opened again.
+/// Hands a disk back, and says why.
+pub(crate) fn hand_back<D: Disk>(disk: D, why: OpenFault) -> Refused<D>
+    ensures { result ≡ record { disk = disk; why = why } }
+{
+    Refused { disk, why }
+}
+
+/// The disk of a journal on which a call of a commit failed. It stands for the pages from before
+/// the commit or for those from after it, and is to be opened again.
 #[derive(Drop)]
 pub struct Broken<D: Disk> {
     /// The disk of the journal.

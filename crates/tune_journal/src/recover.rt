@@ -1,8 +1,9 @@
-// Recovery: the images of a log are copied to their places.
+// Recovery: the images of a log are copied into their pages.
 ghost use Rattle.std.specs.Prelude.{◌≡◌, ◌<◌, ◌≤◌, ◌+◌, length, OnOk};
 ghost use Rattle.tune_disk.specs.Disk.{Writes};
 ghost use Rattle.tune_disk.specs.Inside.Spares.{Spares};
-ghost use Rattle.tune_journal.specs.Image.{window, number, page_offset, entry_offset, entries as entries_in, pages_of, count_of};
+ghost use Rattle.tune_journal.specs.Image.{window, number, page_offset, entry_offset};
+ghost use Rattle.tune_journal.specs.Image.{entries as entries_in, pages_of, count_of};
 ghost use Rattle.tune_journal.specs.Inside.Looking.{HasEntries, HasEntry};
 ghost use Rattle.tune_journal.specs.Inside.Phases.{WritesAndSyncs, KeepsBoth, IsInNoPage, CallsIf};
 ghost use Rattle.tune_journal.specs.Layout.{block_bytes, most_pages};
@@ -13,7 +14,7 @@ use crate::layout::{COUNT_OFFSET, ENTRY_BYTES, entry_offset, number_bytes, page_
 use byteorder::{BigEndian, ByteOrder};
 use tune_disk::{DeviceFault, Disk};
 
-/// Copies the image of an entry to its place.
+/// Copies the image of an entry into its page.
 fn copy_entry<D: Disk>(disk: &mut D, count: u32, entry: u32) -> Result<(), DeviceFault>
     requires { (count ≤ most_pages) × (entry < count) }
     ensures copies { let old = D.state disk.old in let at = entry_offset count entry in
@@ -33,13 +34,16 @@ fn copy_entry<D: Disk>(disk: &mut D, count: u32, entry: u32) -> Result<(), Devic
     disk.write_at(page_offset(page), &bytes[4..])
 }
 
-/// Copies the images of the first entries to their places.
+/// Copies the images of the first entries into their pages.
 fn copy_entries<D: Disk>(disk: &mut D, count: u32, entries: u32) -> Result<(), DeviceFault>
     requires { (count ≤ most_pages) × (entries ≤ count) }
-    ensures spares { D.honest disk.new → HasEntries count entries (D.state disk.old).seen
-        → Spares (IsInNoPage (entries_in count entries (D.state disk.old).seen)) (D.state disk.old) (D.state disk.new) }
-    ensures images { OnOk result (D.honest disk.new → HasEntries count entries (D.state disk.old).seen
-        → pages_of count (D.state disk.new).seen ≡ changed (pages_of count (D.state disk.old).seen) (entries_in count entries (D.state disk.old).seen)) }
+    ensures spares { let old = D.state disk.old in let new = D.state disk.new in
+        D.honest disk.new → HasEntries count entries old.seen
+        → Spares (IsInNoPage (entries_in count entries old.seen)) old new }
+    ensures images { let old = D.state disk.old in let new = D.state disk.new in
+        let log = entries_in count entries old.seen in
+        OnOk result (D.honest disk.new → HasEntries count entries old.seen
+        → pages_of count new.seen ≡ changed (pages_of count old.seen) log) }
     ensures calls { CallsIf D.honest D.failures result disk.old disk.new
         (HasEntries count entries (D.state disk.old).seen) }
 {
@@ -49,13 +53,16 @@ fn copy_entries<D: Disk>(disk: &mut D, count: u32, entries: u32) -> Result<(), D
     Ok(())
 }
 
-/// Copies a log to its places, and syncs.
+/// Copies a log into its pages, and syncs.
 pub(crate) fn copy_log<D: Disk>(disk: &mut D, count: u32, entries: u32) -> Result<(), DeviceFault>
     requires { (count ≤ most_pages) × (entries ≤ count) }
-    ensures writes { D.honest disk.new → HasEntries count entries (D.state disk.old).seen
-        → WritesAndSyncs (KeepsBoth (entries_in count entries (D.state disk.old).seen)) result (D.state disk.old) (D.state disk.new) }
-    ensures images { OnOk result (D.honest disk.new → HasEntries count entries (D.state disk.old).seen
-        → pages_of count (D.state disk.new).seen ≡ changed (pages_of count (D.state disk.old).seen) (entries_in count entries (D.state disk.old).seen)) }
+    ensures writes { let old = D.state disk.old in let new = D.state disk.new in
+        D.honest disk.new → HasEntries count entries old.seen
+        → WritesAndSyncs (KeepsBoth (entries_in count entries old.seen)) result old new }
+    ensures images { let old = D.state disk.old in let new = D.state disk.new in
+        let log = entries_in count entries old.seen in
+        OnOk result (D.honest disk.new → HasEntries count entries old.seen
+        → pages_of count new.seen ≡ changed (pages_of count old.seen) log) }
     ensures count { OnOk result (D.honest disk.new → count_of (D.state disk.new).seen ≡ count) }
     ensures calls { CallsIf D.honest D.failures result disk.old disk.new
         (HasEntries count entries (D.state disk.old).seen) }

@@ -1,9 +1,11 @@
-// The states of a commit, one after another. Each owns the disk, so nothing else is written between two of them.
+// The states of a commit, one after another. Each owns the disk, so nothing else is written between
+// two of them.
 ghost use Rattle.std.specs.Prelude.{◌≡◌, ◌<◌, All, length, IfOk};
 ghost use Rattle.tune_disk.specs.Disk.{Calls};
-ghost use Rattle.tune_disk.specs.Stops.{LeavesOnly, SinceThen};
+ghost use Rattle.tune_disk.specs.Stops.{SinceThen};
 ghost use Rattle.tune_journal.specs.Held.{disk_of, disk_of_gate};
 ghost use Rattle.tune_journal.specs.Image.{StandsFor, StandsForEither};
+ghost use Rattle.tune_journal.specs.Moments.{LeavesPages};
 
 use crate::changes::Changes;
 use crate::commit::{write_pages, write_synced};
@@ -54,7 +56,7 @@ impl<D: Disk> Model for Opened<D> {
     ghost invariant = { λ s. IsSoundOpened D.honest D.state s.disk s.new_count };
 }
 
-/// A commit whose images are in their places: a stop leaves the pages from after it.
+/// A commit whose images are in their pages: a stop leaves the pages from after it.
 #[derive(Drop)]
 pub struct Applied<D: Disk> {
     pub(crate) disk: D,
@@ -82,11 +84,14 @@ impl<D: Disk> Logged<D> {
     /// `Broken` where the disk failed: its disk stands for the list before or after.
     pub fn open_gate(self) -> Result<Opened<D>, Broken<D>>
         // A stop at any moment of the call leaves the pages from before or from after.
-        ensures moments { D.honest (disk_of_gate result)
-            → SinceThen (D.state self.disk) (D.state (disk_of_gate result)) (StandsForEither self.pages self.next) }
-        ensures rest { IfOk result (λ opened. D.honest opened.disk → LeavesOnly (D.state opened.disk).now (StandsFor opened.pages)) }
+        ensures moments { let old = D.state self.disk in let new = D.state (disk_of_gate result) in
+            D.honest (disk_of_gate result)
+            → SinceThen old new (StandsForEither self.pages self.next) }
+        ensures rest { IfOk result (λ opened.
+            LeavesPages D.honest D.state opened.disk opened.pages) }
         ensures pages { IfOk result (λ opened. D.honest opened.disk → opened.pages ≡ self.next) }
-        ensures changes { IfOk result (λ opened. D.honest opened.disk → opened.changes ≡ self.changes) }
+        ensures changes { IfOk result (λ opened. D.honest opened.disk
+            → opened.changes ≡ self.changes) }
         ensures count { IfOk result (λ opened. length opened.pages ≡ length self.next) }
         ensures calls { Calls D.honest D.failures result self.disk (disk_of_gate result) }
     {
@@ -103,7 +108,8 @@ impl<D: Disk> Logged<D> {
 }
 
 impl<D: Disk> Opened<D> {
-    /// The third part of a commit: writes the images of the log, which holds these changes, to their places, and the count.
+    /// The third part of a commit: writes the images of the log, which holds these changes, to
+    /// their pages, and the count.
     ///
     /// # Errors
     ///
@@ -113,8 +119,10 @@ impl<D: Disk> Opened<D> {
         requires log { D.honest self.disk → changes.now ≡ self.changes }
         ensures moments { D.honest (disk_of result)
             → SinceThen (D.state self.disk) (D.state (disk_of result)) (StandsFor self.pages) }
-        ensures rest { IfOk result (λ applied. D.honest applied.disk → LeavesOnly (D.state applied.disk).now (StandsFor applied.pages)) }
-        ensures pages { IfOk result (λ applied. D.honest applied.disk → applied.pages ≡ self.pages) }
+        ensures rest { IfOk result (λ applied.
+            LeavesPages D.honest D.state applied.disk applied.pages) }
+        ensures pages { IfOk result (λ applied. D.honest applied.disk
+            → applied.pages ≡ self.pages) }
         ensures count { IfOk result (λ applied. length applied.pages ≡ length self.pages) }
         ensures calls { Calls D.honest D.failures result self.disk (disk_of result) }
     {
@@ -138,8 +146,10 @@ impl<D: Disk> Applied<D> {
     pub fn close(self) -> Result<Journal<D>, Broken<D>>
         ensures moments { D.honest (disk_of result)
             → SinceThen (D.state self.disk) (D.state (disk_of result)) (StandsFor self.pages) }
-        ensures rest { IfOk result (λ journal. D.honest journal.disk → LeavesOnly (D.state journal.disk).now (StandsFor journal.pages)) }
-        ensures pages { IfOk result (λ journal. D.honest journal.disk → journal.pages ≡ self.pages) }
+        ensures rest { IfOk result (λ journal.
+            LeavesPages D.honest D.state journal.disk journal.pages) }
+        ensures pages { IfOk result (λ journal. D.honest journal.disk
+            → journal.pages ≡ self.pages) }
         ensures count { IfOk result (λ journal. length journal.pages ≡ length self.pages) }
         ensures calls { Calls D.honest D.failures result self.disk (disk_of result) }
     {

@@ -58,7 +58,7 @@ pub record IsSoFar (lines more : ℕ) (old new : Option (List ℕ)) (work : Work
   pub came : IfSome old (λ input. GoesOn lines more input new work)
 
 module _ {W S : Type 0} (w : Ghosts W) (s : store.Ghosts S) where
-  -- no call, and nothing written
+  -- no call of the store, whatever was written
   pub quiet : (was now : W) (here : S) → IsQuiet (work_of w s was now here here)
   quiet was now here = record { same = refl; stops = passes_none s here }
 

@@ -3,30 +3,8 @@ use Rattle.std.proofs.Common.{ℕ, List, [], ◌∷◌, ◌++◌, refl, sym, sub
 use Rattle.tune_store.specs.State.{State}
 use Rattle.tune_store.specs.Stops.{Among, StandsForOne}
 use Rattle.tune_store.specs.Stores.{StorePasses}
+use Rattle.tune_store.proofs.StopLemmas.{among_left, among_right, stands_left, stands_right, stands_among}
 use Rattle.tune_store.specs.declared.tune_store.TuneStore.{Ghosts}
-
-among_left : (x : State) (a b : List State) → Among x a → Among x (a ++ b)
-among_left x [] b h = absurd h
-among_left x (y ∷ a) b (inl e) = inl e
-among_left x (y ∷ a) b (inr h) = inr (among_left x a b h)
-
-among_right : (x : State) (a b : List State) → Among x b → Among x (a ++ b)
-among_right x [] b h = h
-among_right x (y ∷ a) b h = inr (among_right x a b h)
-
-stands_left : (P : List ℕ → State → Type 0) (a b : List State) (file : List ℕ) → StandsForOne P a file → StandsForOne P (a ++ b) file
-stands_left P [] b file h = absurd h
-stands_left P (y ∷ a) b file (inl e) = inl e
-stands_left P (y ∷ a) b file (inr h) = inr (stands_left P a b file h)
-
-stands_right : (P : List ℕ → State → Type 0) (a b : List State) (file : List ℕ) → StandsForOne P b file → StandsForOne P (a ++ b) file
-stands_right P [] b file h = h
-stands_right P (y ∷ a) b file h = inr (stands_right P a b file h)
-
-stands_among : (P : List ℕ → State → Type 0) (x : State) (a : List State) (file : List ℕ) → Among x a → P file x → StandsForOne P a file
-stands_among P x [] file h p = absurd h
-stands_among P x (y ∷ a) file (inl e) p = let Q : State → Type 0 = λ s. P file s in inl (subst Q e p)
-stands_among P x (y ∷ a) file (inr h) p = inr (stands_among P x a file h p)
 
 module _ {S : Type 0} (s : Ghosts S) where
   -- no call passes no state

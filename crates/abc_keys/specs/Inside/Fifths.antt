@@ -1,7 +1,6 @@
 -- The line of fifths: how far along it a tonic, its sign and a mode lie from C major, and from
 -- where on it a letter is sharp or flat.
-use Rattle.std.specs.Prelude.{ℤ, pos, negsuc, neg_ℤ, not, if◌then◌else◌}
-use Rattle.std.specs.Prelude.{int_lt}
+use Rattle.std.specs.Prelude.{ℤ, pos, negsuc, neg_ℤ, not, if◌then◌else◌, int_lt}
 use Rattle.abc_keys.specs.declared.letters.Letter.{Letter}
 use Rattle.abc_keys.specs.declared.letters.Letter.TheVariants.{C, D, E, F, G, A, B}
 use Rattle.abc_keys.specs.declared.letters.Accidental.{Accidental}
@@ -12,6 +11,7 @@ use Rattle.abc_keys.specs.declared.scales.Mode.{Mode}
 use Rattle.abc_keys.specs.declared.scales.Mode.TheVariants.{Major, Lydian, Mixolydian, Dorian}
 use Rattle.abc_keys.specs.declared.scales.Mode.TheVariants.{Minor, Phrygian, Locrian}
 
+-- the fifths from C up to a tonic without a sign
 abbrev pub tonic_fifths : Letter → ℤ
 tonic_fifths F = negsuc 0
 tonic_fifths C = pos 0
@@ -21,11 +21,13 @@ tonic_fifths A = pos 3
 tonic_fifths E = pos 4
 tonic_fifths B = pos 5
 
+-- the fifths that a sign adds
 abbrev pub sign_fifths : Sign → ℤ
 sign_fifths Flat = negsuc 6
 sign_fifths Natural = pos 0
 sign_fifths Sharp = pos 7
 
+-- the fifths that a mode adds, from major
 abbrev pub mode_fifths : Mode → ℤ
 mode_fifths Lydian = pos 1
 mode_fifths Major = pos 0

@@ -1,4 +1,4 @@
--- How the values of wrapped disks are told apart in the logic.
+-- Codes of wrapped disks, made of the code of the disk within: a `Model` asks for them.
 use Rattle.std.specs.Prelude.{ℕ, Option, refl}
 use Rattle.std.specs.Coded.{Coded, code_by, coded×, coded_ℕ, coded_option}
 use Rattle.tune_disk.specs.Wrapped.{Fused, Faulted}

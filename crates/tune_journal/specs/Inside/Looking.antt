@@ -1,8 +1,10 @@
 -- What opening looks at.
 use Rattle.std.specs.Prelude.{◌≡◌, ◌≢◌, ◌⊎◌, ℕ, zero, suc, ◌+◌, ◌<◌, ◌≤◌, List, length}
 use Rattle.tune_disk.specs.Disk.{DiskState}
-use Rattle.tune_journal.specs.Image.{number, window, entry_offset, gate_of, count_of, new_count_of, IsHeaded, HasPageCount, HasLog, entry_count_of, StandsForNone}
-use Rattle.tune_journal.specs.Layout.{magic, magic_offset, magic_bytes, gate_open, most_pages}
+use Rattle.tune_journal.specs.Image.{number, entry_offset, gate_of, count_of, new_count_of}
+use Rattle.tune_journal.specs.Image.{IsHeaded, HasPageCount, HasLog, entry_count_of, StandsForNone}
+use Rattle.tune_journal.specs.Image.{magic_of}
+use Rattle.tune_journal.specs.Layout.{magic, magic_bytes, gate_open, most_pages}
 use Rattle.tune_journal.specs.Refusal.{IsSynced}
 use Rattle.tune_journal.specs.declared.look.Found.{Found}
 use Rattle.tune_journal.specs.declared.look.Found.TheVariants.{NotArchive, Damaged, Closed, Open}
@@ -14,7 +16,8 @@ least_of m (suc i) file = number (entry_offset m i) file + 1
 
 -- the first k entries name pages below m, each above the last
 abbrev pub Climbs : ℕ → ℕ → List ℕ → Type 0
-Climbs m k file = (i : ℕ) → i < k → (least_of m i file ≤ number (entry_offset m i) file) × (number (entry_offset m i) file < m)
+Climbs m k file = (i : ℕ) → i < k
+    → (least_of m i file ≤ number (entry_offset m i) file) × (number (entry_offset m i) file < m)
 
 -- such a sync, or not even that
 abbrev pub IsSyncedOrSame : DiskState → DiskState → Type 0
@@ -32,10 +35,13 @@ pub record HasEntries (m k : ℕ) (file : List ℕ) : Type 0 where
 
 -- what a look at a file found in it
 abbrev pub Sees : Found → List ℕ → Type 0
-Sees NotArchive file = magic_bytes ≤ length file → window magic_offset magic_bytes file ≢ magic
-Sees Damaged file = (window magic_offset magic_bytes file ≡ magic) × (magic_bytes ≤ length file) × StandsForNone file
-Sees (Closed n) file = IsHeaded file × (gate_of file ≢ gate_open) × (count_of file ≡ n) × HasPageCount n file
-Sees (Open m k) file = IsHeaded file × (gate_of file ≡ gate_open) × (new_count_of file ≡ m) × (entry_count_of file ≡ k) × HasLog m k file
+Sees NotArchive file = magic_bytes ≤ length file → magic_of file ≢ magic
+Sees Damaged file = (magic_of file ≡ magic) × (magic_bytes ≤ length file) × StandsForNone file
+Sees (Closed n) file =
+    IsHeaded file × (gate_of file ≢ gate_open) × (count_of file ≡ n) × HasPageCount n file
+Sees (Open m k) file =
+    IsHeaded file × (gate_of file ≡ gate_open) × (new_count_of file ≡ m) × (entry_count_of file ≡ k)
+    × HasLog m k file
 
 -- the same of a file whose gate is closed
 abbrev pub SeesClosed : Found → List ℕ → Type 0

@@ -1,11 +1,12 @@
 -- The states of a journal's disk between its calls.
 use Rattle.std.specs.Prelude.{◌≡◌, ◌≢◌, ℕ}
 use Rattle.tune_disk.specs.Disk.{DiskState, settled}
-use Rattle.tune_journal.specs.Image.{IsHeaded, HasPageCount, HasLog, count_of, new_count_of, gate_of, pages_of, log_of, entry_count_of}
+use Rattle.tune_journal.specs.Image.{IsHeaded, HasPageCount, HasLog, count_of, new_count_of}
+use Rattle.tune_journal.specs.Image.{gate_of, pages_of, log_of, entry_count_of}
 use Rattle.tune_journal.specs.Layout.{gate_open}
 use Rattle.tune_journal.specs.Pages.{changed}
 
--- n pages in their places behind a closed gate, all of it on the disk
+-- n pages at their offsets behind a closed gate, all of it on the disk
 pub record IsAtRest (n : ℕ) (s : DiskState) : Type 0 where
   pub settled : s.now ≡ settled s.seen
   pub headed : IsHeaded s.seen
@@ -27,7 +28,7 @@ pub record IsOpened (m : ℕ) (s : DiskState) : Type 0 where
   pub new_count : new_count_of s.seen ≡ m
   pub log : HasLog m (entry_count_of s.seen) s.seen
 
--- and the images stand in their places too
+-- and the images stand in their pages too
 pub record IsApplied (m : ℕ) (s : DiskState) : Type 0 where
   pub opened : IsOpened m s
   pub count : count_of s.seen ≡ m

@@ -8,21 +8,33 @@ use Rattle.tune_journal.specs.Inside.Rest.{IsAtRest, IsLogged, IsOpened, IsAppli
 use Rattle.tune_journal.specs.Layout.{most_pages}
 use Rattle.tune_journal.specs.Pages.{changed}
 
+-- codes of lists of pages, and of changes
+abbrev pages_code : Coded (List (List ℕ))
+pages_code = coded_list (coded_list coded_ℕ)
+
+abbrev changes_code : Coded (List (ℕ × List ℕ))
+changes_code = coded_list (coded× coded_ℕ (coded_list coded_ℕ))
+
 module _ {D : Type 0} where
   -- each is stored as the tuple of its fields
   abbrev pub held_code : Coded D → Coded (Held D)
   held_code code =
-      code_by (D × List (List ℕ)) (coded× code (coded_list (coded_list coded_ℕ))) (λ h. (h.disk, h.pages)) (λ p. record { disk = p.0; pages = p.1 }) (λ _. refl)
+      code_by (D × List (List ℕ)) (coded× code pages_code)
+      (λ h. (h.disk, h.pages)) (λ p. record { disk = p.0; pages = p.1 }) (λ _. refl)
 
   abbrev pub decided_code : Coded D → Coded (Decided D)
   decided_code code =
-      code_by (D × (List (List ℕ) × List (ℕ × List ℕ))) (coded× code (coded× (coded_list (coded_list coded_ℕ)) (coded_list (coded× coded_ℕ (coded_list coded_ℕ)))))
-      (λ h. (h.disk, (h.pages, h.changes))) (λ p. record { disk = p.0; pages = p.1.0; changes = p.1.1 }) (λ _. refl)
+      code_by (D × (List (List ℕ) × List (ℕ × List ℕ)))
+      (coded× code (coded× pages_code changes_code))
+      (λ h. (h.disk, (h.pages, h.changes)))
+      (λ p. record { disk = p.0; pages = p.1.0; changes = p.1.1 }) (λ _. refl)
 
   abbrev pub staged_code : Coded D → Coded (Staged D)
   staged_code code =
-      code_by (D × (List (List ℕ) × (List (ℕ × List ℕ) × List (List ℕ)))) (coded× code (coded× (coded_list (coded_list coded_ℕ)) (coded× (coded_list (coded× coded_ℕ (coded_list coded_ℕ))) (coded_list (coded_list coded_ℕ)))))
-      (λ h. (h.disk, (h.pages, (h.changes, h.next)))) (λ p. record { disk = p.0; pages = p.1.0; changes = p.1.1.0; next = p.1.1.1 }) (λ _. refl)
+      code_by (D × (List (List ℕ) × (List (ℕ × List ℕ) × List (List ℕ))))
+      (coded× code (coded× pages_code (coded× changes_code pages_code)))
+      (λ h. (h.disk, (h.pages, (h.changes, h.next))))
+      (λ p. record { disk = p.0; pages = p.1.0; changes = p.1.1.0; next = p.1.1.1 }) (λ _. refl)
 
   module _ (state : D → DiskState) where
     -- the first n pages of the disk
@@ -46,7 +58,7 @@ module _ {D : Type 0} where
       changes = log_of (state disk).seen;
     }
 
-  -- A count is in bounds whatever the disk answered; the rest is told of an honest disk alone.
+  -- A count is in bounds whatever the disk answered; the rest holds of an honest disk alone.
   module _ (honest : D → Type 0) (state : D → DiskState) where
     pub record IsSound (disk : D) (n : ℕ) : Type 0 where
       pub least : 1 ≤ n

@@ -1,5 +1,5 @@
 use Rattle.std.proofs.Common.{rules, ◌≡◌, ◌<◌, ◌∙◌, false, length, slice_index, arith}
-use Rattle.abc_items.specs.Rows.{begins_longer_row}
+use Rattle.abc_items.specs.Plain.{begins_longer_row}
 use Rattle.abc_items.proofs.PlainItems.{plain_item_at}
 use Rattle.abc_items.proofs.rows.plain_item.Goals as goal
 

@@ -8,7 +8,8 @@ use Rattle.abc_items.proofs.rows.plain_kind.Goals as goal
 pub returns-in-len1-up-clause-value : goal.returns-in-len1-up-clause-value
 returns-in-len1-up-clause-value c =
     let some : 0 < length c.args.bytes.now = omega arith in
-    subst (λ (found : Option Kind). IfSome found (λ kind. front kind 1 ≡ first_item c.args.bytes.now)) (sym c.alone.ensures) (alone_tells c.args.bytes.now some).0
+    subst (λ (found : Option Kind). IfSome found (λ kind. front kind 1 ≡ first_item c.args.bytes.now)) (sym c.alone.ensures)
+    (alone_tells c.args.bytes.now some).0
 
 pub returns-in-len1-up-clause-plain : goal.returns-in-len1-up-clause-plain
 returns-in-len1-up-clause-plain c =

@@ -5,7 +5,9 @@ use Rattle.tune_journal.proofs.CallRuns.{write_then_sync}
 use Rattle.tune_journal.proofs.commit.write_synced.Goals as goal
 
 pub returns-clause-writes : goal.returns-clause-writes
-returns-clause-writes g c = λ h. write_then_sync _ _ c.write_at.result _ _ _ _ _ c.in_ok-write_at.was (c.write_at.ensures.write (c.sync.ensures.calls.was_honest h)) (c.sync.ensures.sync h)
+returns-clause-writes g c =
+    λ h. write_then_sync _ _ c.write_at.result _ _ _ _ _ c.in_ok-write_at.was (c.write_at.ensures.write (c.sync.ensures.calls.was_honest h))
+    (c.sync.ensures.sync h)
 
 pub returns-in_err-write_at-clause-writes : goal.returns-in_err-write_at-clause-writes
 returns-in_err-write_at-clause-writes g c =

@@ -1,5 +1,5 @@
 use Rattle.std.proofs.Common.{◌≡◌, length, rules}
-use Rattle.tune_journal.proofs.Frame.{number_shown}
+use Rattle.tune_journal.proofs.Agreeing.{number_shown}
 use Rattle.tune_journal.proofs.look.read_number.Goals as goal
 
 pub returns-clause-number : goal.returns-clause-number

@@ -15,8 +15,10 @@ returns-clause-writes g c = λ h.
     let first = spares_write (λ i. i < block_bytes) gate_offset _ c.write_at.result _ _ (c.write_at.ensures.write h1) (λ i lt. inl lt) in
     let second = spares_write (λ i. i < block_bytes) descriptor_offset _ c.write_at-2.result _ _ (c.write_at-2.ensures.write h2) (λ i lt. inl (omega arith)) in
     let third = spares_write (λ i. i < block_bytes) count_offset _ c.write_at-3.result _ _ (c.write_at-3.ensures.write h3) (λ i lt. inl (omega arith)) in
-    writes_after (λ i. i < block_bytes) c.write_synced.result _ _ _ (spares_then (λ i. i < block_bytes) _ _ _ first (spares_then (λ i. i < block_bytes) _ _ _ second third))
-    (writes_fewer (IsOutside pages_offset (length c.args.first.now.bytes)) (λ i. i < block_bytes) c.write_synced.result _ _ (λ i lt. inl (omega arith)) (c.write_synced.ensures.writes h)))
+    writes_after (λ i. i < block_bytes) c.write_synced.result _ _ _
+    (spares_then (λ i. i < block_bytes) _ _ _ first (spares_then (λ i. i < block_bytes) _ _ _ second third))
+    (writes_fewer (IsOutside pages_offset (length c.args.first.now.bytes)) (λ i. i < block_bytes) c.write_synced.result _ _ (λ i lt. inl (omega arith))
+    (c.write_synced.ensures.writes h)))
 
 pub returns-clause-laid : goal.returns-clause-laid
 returns-clause-laid g c =
@@ -26,9 +28,12 @@ returns-clause-laid g c =
     let h1 = c.in_ok-write_at-2.ensures.calls.was_honest h2 in
     let size : length c.args.first.now.bytes ≡ block_bytes = search rules in
     laid_after c.args.first.now.bytes _ c.number_bytes.result _ _ _ _ _ long refl refl c.number_bytes.ensures size
-    (writes_ok gate_offset _ c.write_at.result _ (g.D.Disk.state c.args.disk.now) (g.D.Disk.state c.write_at.new.self) c.in_ok-write_at.was (c.write_at.ensures.write h1))
-    (writes_ok descriptor_offset _ c.write_at-2.result _ (g.D.Disk.state c.write_at.new.self) (g.D.Disk.state c.write_at-2.new.self) c.in_ok-write_at-2.was (c.write_at-2.ensures.write h2))
-    (writes_ok count_offset _ c.write_at-3.result _ (g.D.Disk.state c.write_at-2.new.self) (g.D.Disk.state c.write_at-3.new.self) c.in_ok-write_at-3.was (c.write_at-3.ensures.write h3))
+    (writes_ok gate_offset _ c.write_at.result _ (g.D.Disk.state c.args.disk.now) (g.D.Disk.state c.write_at.new.self) c.in_ok-write_at.was
+    (c.write_at.ensures.write h1))
+    (writes_ok descriptor_offset _ c.write_at-2.result _ (g.D.Disk.state c.write_at.new.self) (g.D.Disk.state c.write_at-2.new.self) c.in_ok-write_at-2.was
+    (c.write_at-2.ensures.write h2))
+    (writes_ok count_offset _ c.write_at-3.result _ (g.D.Disk.state c.write_at-2.new.self) (g.D.Disk.state c.write_at-3.new.self) c.in_ok-write_at-3.was
+    (c.write_at-3.ensures.write h3))
     (w h))) c.write_synced.ensures.written
 
 pub returns-in_err-write_at-3-clause-writes : goal.returns-in_err-write_at-3-clause-writes

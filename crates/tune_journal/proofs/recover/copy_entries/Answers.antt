@@ -12,7 +12,9 @@ pub loop-entry-init : goal.loop-entry-init
 loop-entry-init g c = record {
   honest = λ h. h;
   spares = λ h has. spares_none _ _;
-  images = λ h has. ap (changed (pages_of c.args.count (g.D.Disk.state c.args.disk.now).seen)) (sym (entries_none c.args.count (g.D.Disk.state c.args.disk.now).seen));
+  images =
+      λ h has. ap (changed (pages_of c.args.count (g.D.Disk.state c.args.disk.now).seen))
+      (sym (entries_none c.args.count (g.D.Disk.state c.args.disk.now).seen));
   failures = refl;
 }
 
@@ -48,7 +50,8 @@ loop-entry-preserved g c = record {
       (let old = c.copy_entry.ensures.calls.was_honest h in
       let so_far = c.loop-entry.invariant.spares old has in
       copy_image c.args.count c.args.entries c.loop-entry.entry _ _ has c.loop-entry-test.true so_far (g.D.Disk.state c.copy_entry.new.disk)
-      (writes_ok _ _ c.copy_entry.result _ (g.D.Disk.state c.loop-entry.disk) (g.D.Disk.state c.copy_entry.new.disk) c.in_ok-copy_entry.was (c.copy_entry.ensures.copies h (has_entry c.args.count c.args.entries c.loop-entry.entry _ _ has c.loop-entry-test.true so_far)))
+      (writes_ok _ _ c.copy_entry.result _ (g.D.Disk.state c.loop-entry.disk) (g.D.Disk.state c.copy_entry.new.disk) c.in_ok-copy_entry.was
+      (c.copy_entry.ensures.copies h (has_entry c.args.count c.args.entries c.loop-entry.entry _ _ has c.loop-entry-test.true so_far)))
       (c.loop-entry.invariant.images old has));
   failures = c.in_ok-copy_entry.ensures.calls.ok ∙ c.loop-entry.invariant.failures;
 }

@@ -12,6 +12,7 @@ invariant-loop-entry g l = record {
   spares : g.D.Disk.honest l.disk → HasEntries l.count l.entries (g.D.Disk.state l.initial.disk).seen
       → Spares (IsInNoPage (entries l.count l.entries (g.D.Disk.state l.initial.disk).seen)) (g.D.Disk.state l.initial.disk) (g.D.Disk.state l.disk);
   images : g.D.Disk.honest l.disk → HasEntries l.count l.entries (g.D.Disk.state l.initial.disk).seen
-      → pages_of l.count (g.D.Disk.state l.disk).seen ≡ changed (pages_of l.count (g.D.Disk.state l.initial.disk).seen) (entries l.count l.entry (g.D.Disk.state l.initial.disk).seen);
+      → pages_of l.count (g.D.Disk.state l.disk).seen
+      ≡ changed (pages_of l.count (g.D.Disk.state l.initial.disk).seen) (entries l.count l.entry (g.D.Disk.state l.initial.disk).seen);
   failures : g.D.Disk.failures l.disk ≡ g.D.Disk.failures l.initial.disk;
 }

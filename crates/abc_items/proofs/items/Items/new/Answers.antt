@@ -1,5 +1,5 @@
 use Rattle.abc_items.proofs.ItemLaw.{items_are, items_unique}
-use Rattle.abc_items.proofs.Places.{spans_fill, spans_have_items, spans_fit}
+use Rattle.abc_items.proofs.ItemSpans.{spans_fill, spans_have_items, spans_fit}
 use Rattle.abc_items.specs.Rows.{items_of}
 use Rattle.abc_items.proofs.items.Items.new.Goals as goal
 
@@ -12,8 +12,8 @@ returns-clause-no_other_items c = items_unique c.args.text.now
 pub returns-clause-texts : goal.returns-clause-texts
 returns-clause-texts c = spans_have_items 0 (items_of c.args.text.now)
 
-pub returns-clause-places : goal.returns-clause-places
-returns-clause-places c = spans_fill c.args.text.now
+pub returns-clause-fill : goal.returns-clause-fill
+returns-clause-fill c = spans_fill c.args.text.now
 
 pub returns-clause-rows : goal.returns-clause-rows
 returns-clause-rows c = spans_fit c.args.text.now

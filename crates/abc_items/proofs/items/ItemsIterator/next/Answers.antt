@@ -1,7 +1,7 @@
 use Rattle.std.proofs.Common.{sym, ◌∙◌, rules, arith, subst, List, ℕ}
-use Rattle.abc_items.specs.Misses.{AreMissing}
+use Rattle.abc_items.specs.Inside.Misses.{AreMissing}
 use Rattle.abc_items.proofs.ClosingMarks.{missing_later}
-use Rattle.abc_items.proofs.Places.{spans_step}
+use Rattle.abc_items.proofs.ItemSpans.{spans_step}
 use Rattle.abc_items.proofs.items.ItemsIterator.next.Goals as goal
 
 pub invariant_of-self : goal.invariant_of-self

@@ -1,6 +1,6 @@
 use Rattle.std.proofs.Common.{None, refl, sym, ◌∙◌}
 use Rattle.abc_notes.specs.Pitches.{in_force}
-use Rattle.abc_notes.specs.Tables.{index_of}
+use Rattle.abc_notes.specs.Inside.BarTables.{index_of}
 use Rattle.abc_notes.proofs.PastLemmas.{none_anywhere, borne_nothing}
 use Rattle.abc_notes.proofs.bar.Bar.new.Goals as goal
 

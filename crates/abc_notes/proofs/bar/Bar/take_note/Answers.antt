@@ -1,8 +1,8 @@
 use Rattle.std.proofs.Common.{rules, sym, ◌∙◌, arith}
 use Rattle.std.proofs.lemmas.Bool.{true≢false}
-use Rattle.abc_notes.specs.EventView.{written_note}
+use Rattle.abc_notes.specs.Inside.EventView.{written_note}
 use Rattle.abc_notes.specs.Pitches.{in_force}
-use Rattle.abc_notes.specs.Tables.{IsNear}
+use Rattle.abc_notes.specs.Inside.BarTables.{IsNear}
 use Rattle.abc_notes.proofs.PastLemmas.{holds_set, borne_none, borne_far, borne_near}
 use Rattle.abc_notes.proofs.bar.Bar.take_note.Goals as goal
 
@@ -13,7 +13,9 @@ returns-then-is_near-clause-after c =
     λ past kept. record {
       count = omega (arith, kept.count);
       current = kept.current;
-      near = holds_set (written_note c.args.written) c.in-Some.accidental past c.args.self.now.entries c.set_entry.new.entries c.in-Some.is c.set_entry.ensures kept.near;
+      near =
+          holds_set (written_note c.args.written) c.in-Some.accidental past c.args.self.now.entries c.set_entry.new.entries c.in-Some.is c.set_entry.ensures
+          kept.near;
       far = λ none l o far. sym (borne_near (written_note c.args.written) past l o near far) ∙ kept.far none l o far;
     }
 

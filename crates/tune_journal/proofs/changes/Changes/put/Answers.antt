@@ -10,7 +10,8 @@ use Rattle.tune_journal.specs.Layout.{block_bytes}
 use Rattle.tune_journal.proofs.ChangeLists.{listed_replaced, listed_inserted, image_of_missing, keeps_order}
 use Rattle.tune_journal.proofs.changes.Changes.put.Goals as goal
 
-with_inserted : (page at : ℕ) (old new : List ChangedPage) (x : ChangedPage) (image : PageImage) → MissingAt page at (listed old) → new ≡ insert old at x → x.image.value ≡ image → x.page ≡ page
+with_inserted : (page at : ℕ) (old new : List ChangedPage) (x : ChangedPage) (image : PageImage) → MissingAt page at (listed old) → new ≡ insert old at x
+    → x.image.value ≡ image → x.page ≡ page
     → listed new ≡ with_change page image.bytes (listed old)
 with_inserted page at old new x image missing is holds its =
     ap listed is ∙ listed_inserted at old x (subst (λ (p : ℕ). MissingAt p at (listed old)) (sym its) missing)
@@ -21,13 +22,15 @@ invariant_of-self c =
     let items = c.self.inside.changed.items in
     let found : FoundAt c.args.page c.in-Ok.at (listed items) = subst (FoundAt c.args.page c.in-Ok.at) (sym c.self.view_is) c.in-Ok.ensures.found in
     let size : length c.args.image.now.bytes ≡ block_bytes = search rules in
-    keeps_order c.args.page c.args.image.now.bytes (listed items) _ (listed_replaced c.args.page c.in-Ok.at items c.index_mut-changed.result.now _ found c.index_mut-changed.ensures.value refl) size c.self.invariant
+    keeps_order c.args.page c.args.image.now.bytes (listed items) _
+    (listed_replaced c.args.page c.in-Ok.at items c.index_mut-changed.result.now _ found c.index_mut-changed.ensures.value refl) size c.self.invariant
 
 pub returns-in-Ok-clause-ok : goal.returns-in-Ok-clause-ok
 returns-in-Ok-clause-ok c =
     let items = c.self.inside.changed.items in
     let found : FoundAt c.args.page c.in-Ok.at (listed items) = subst (FoundAt c.args.page c.in-Ok.at) (sym c.self.view_is) c.in-Ok.ensures.found in
-    listed_replaced c.args.page c.in-Ok.at items c.index_mut-changed.result.now _ found c.index_mut-changed.ensures.value refl ∙ ap (with_change c.args.page c.args.image.now.bytes) c.self.view_is
+    listed_replaced c.args.page c.in-Ok.at items c.index_mut-changed.result.now _ found c.index_mut-changed.ensures.value refl
+    ∙ ap (with_change c.args.page c.args.image.now.bytes) c.self.view_is
 
 pub returns-in_err-image-in-Err-clause-replaces : goal.returns-in_err-image-in-Err-clause-replaces
 returns-in_err-image-in-Err-clause-replaces c =
@@ -43,11 +46,13 @@ invariant_of-self-in-Err c =
     let missing : MissingAt c.args.page c.in-Err.at (listed items) = subst (MissingAt c.args.page c.in-Err.at) (sym c.self.view_is) c.in-Err.ensures.missing in
     let size : length c.args.image.now.bytes ≡ block_bytes = search rules in
     keeps_order c.args.page c.args.image.now.bytes (listed items) (listed c.insert.new.self.items)
-    (with_inserted c.args.page c.in-Err.at items c.insert.new.self.items _ c.args.image.now missing c.in_ok-insert-in-Err.ensures.items c.in_ok-image-in-Err.ensures.ok refl) size c.self.invariant
+    (with_inserted c.args.page c.in-Err.at items c.insert.new.self.items _ c.args.image.now missing
+    c.in_ok-insert-in-Err.ensures.items c.in_ok-image-in-Err.ensures.ok refl) size c.self.invariant
 
 pub returns-in_ok-insert-in-Err-clause-ok : goal.returns-in_ok-insert-in-Err-clause-ok
 returns-in_ok-insert-in-Err-clause-ok c =
     let items = c.self.inside.changed.items in
     let missing : MissingAt c.args.page c.in-Err.at (listed items) = subst (MissingAt c.args.page c.in-Err.at) (sym c.self.view_is) c.in-Err.ensures.missing in
-    with_inserted c.args.page c.in-Err.at items c.insert.new.self.items _ c.args.image.now missing c.in_ok-insert-in-Err.ensures.items c.in_ok-image-in-Err.ensures.ok refl
+    with_inserted c.args.page c.in-Err.at items c.insert.new.self.items _ c.args.image.now missing
+    c.in_ok-insert-in-Err.ensures.items c.in_ok-image-in-Err.ensures.ok refl
     ∙ ap (with_change c.args.page c.args.image.now.bytes) c.self.view_is

@@ -1,6 +1,6 @@
 use Rattle.std.proofs.Common.{sym}
 use Rattle.tune_journal.proofs.Rests.{rest_leaves}
-use Rattle.tune_journal.proofs.Frame.{length-pages_of}
+use Rattle.tune_journal.proofs.Agreeing.{length-pages_of}
 use Rattle.tune_journal.proofs.journal.Journal.count.Goals as goal
 
 pub returns-clause-count : goal.returns-clause-count

@@ -1,48 +1,38 @@
-use Rattle.std.proofs.Common.{◌∙◌, List, ℕ, ap, subst}
-use Rattle.tune_disk.specs.Disk.{settled}
+use Rattle.std.proofs.Common.{◌∙◌, List, ℕ, subst}
 use Rattle.tune_disk.specs.Stops.{LeavesOnly}
-use Rattle.tune_disk.proofs.Moments.{since_then}
 use Rattle.tune_journal.specs.Image.{StandsFor}
 use Rattle.tune_journal.specs.Making.{StandsForNoneOr}
 use Rattle.tune_journal.proofs.Rests.{rest_leaves}
-use Rattle.tune_journal.proofs.Frame.{length-pages_of}
+use Rattle.tune_journal.proofs.Agreeing.{length-pages_of}
 use Rattle.tune_journal.proofs.Openings.{synced_since}
-use Rattle.tune_journal.proofs.Making.{empty_leaves, empty_none, nothing_in}
+use Rattle.tune_journal.proofs.Making.{making_since, empty_none, nothing_in}
 use Rattle.tune_journal.proofs.journal.Journal.make.Goals as goal
 
 pub returns-in-Ok-lay_out-clause-moments : goal.returns-in-Ok-lay_out-clause-moments
 returns-in-Ok-lay_out-clause-moments g c = λ h only.
-    (let first = c.args.first.now.bytes in
-    let Q = StandsForNoneOr first in
-    let h1 = c.lay_out.ensures.calls.was_honest h in
+    (let h1 = c.lay_out.ensures.calls.was_honest h in
     let stays = g.met.D.Disk.seen_may_stay c.args.disk (c.settle.ensures.calls.was_honest h1) in
-    let empty = empty_leaves (g.D.Disk.state c.args.disk) stays only in
-    let synced = (c.in-Ok-eq0.ensures.ok h1).0 in
-    since_then Q _ _ _ (synced_since Q _ _ (λ file left. empty_none first file (only file left)) stays (c.settle.ensures.err h1))
-    (c.lay_out.ensures.moments h (synced.goes.now ∙ ap settled empty) (synced.seen ∙ empty)))
+    making_since c.args.first.now.bytes _ _ _ stays only (c.in-Ok-eq0.ensures.ok h1).0 (c.lay_out.ensures.moments h))
 
 pub returns-in-Err-lay_out-clause-moments : goal.returns-in-Err-lay_out-clause-moments
-returns-in-Err-lay_out-clause-moments g c = λ h only.
-    (let first = c.args.first.now.bytes in
-    let Q = StandsForNoneOr first in
-    let h1 = c.lay_out.ensures.calls.was_honest h in
+returns-in-Err-lay_out-clause-moments g c = rw c.hand_back.ensures (λ h only.
+    (let h1 = c.lay_out.ensures.calls.was_honest h in
     let stays = g.met.D.Disk.seen_may_stay c.args.disk (c.settle.ensures.calls.was_honest h1) in
-    let empty = empty_leaves (g.D.Disk.state c.args.disk) stays only in
-    let synced = (c.in-Ok-eq0.ensures.ok h1).0 in
-    since_then Q _ _ _ (synced_since Q _ _ (λ file left. empty_none first file (only file left)) stays (c.settle.ensures.err h1))
-    (c.lay_out.ensures.moments h (synced.goes.now ∙ ap settled empty) (synced.seen ∙ empty)))
+    making_since c.args.first.now.bytes _ _ _ stays only (c.in-Ok-eq0.ensures.ok h1).0 (c.lay_out.ensures.moments h)))
 
 pub returns-in-Err-clause-moments : goal.returns-in-Err-clause-moments
-returns-in-Err-clause-moments g c = λ h1 only.
-    (let stays = g.met.D.Disk.seen_may_stay c.args.disk (c.settle.ensures.calls.was_honest h1) in
-    synced_since (StandsForNoneOr c.args.first.now.bytes) _ _ (λ file left. empty_none c.args.first.now.bytes file (only file left)) stays (c.settle.ensures.err h1))
+returns-in-Err-clause-moments g c = rw c.hand_back-in-Err.ensures (λ h only.
+    (let first = c.args.first.now.bytes in
+    let stays = g.met.D.Disk.seen_may_stay c.args.disk (c.settle.ensures.calls.was_honest h) in
+    synced_since (StandsForNoneOr first) _ _ (λ file left. empty_none first file (only file left)) stays (c.settle.ensures.err h)))
 
 pub returns-in-Ok-lay_out-clause-rest : goal.returns-in-Ok-lay_out-clause-rest
 returns-in-Ok-lay_out-clause-rest g c = λ h.
     (let s = g.D.Disk.state c.lay_out.new.disk in
     let ok = c.in-Ok-eq0.ensures.ok (c.lay_out.ensures.calls.was_honest h) in
     let empty = ok.0.seen ∙ nothing_in _ _ c.in-Ok-eq0.field-0-test ok.1 in
-    subst (λ (p : List (List ℕ)). LeavesOnly s.now (StandsFor p)) (c.in-Ok-lay_out.ensures.pages h empty) (rest_leaves 1 s (c.in-Ok-lay_out.ensures.rest h empty)))
+    subst (λ (p : List (List ℕ)). LeavesOnly s.now (StandsFor p)) (c.in-Ok-lay_out.ensures.pages h empty)
+    (rest_leaves 1 s (c.in-Ok-lay_out.ensures.rest h empty)))
 
 pub returns-in-Ok-lay_out-clause-count : goal.returns-in-Ok-lay_out-clause-count
 returns-in-Ok-lay_out-clause-count g c = length-pages_of 1 (g.D.Disk.state c.lay_out.new.disk).seen

@@ -3,19 +3,21 @@ use Rattle.std.proofs.lemmas.Result.{on_ok_weaker}
 use Rattle.tune_disk.specs.Disk.{DiskState}
 use Rattle.tune_journal.specs.Image.{window}
 use Rattle.tune_journal.specs.Layout.{block_bytes}
-use Rattle.tune_journal.proofs.Frame.{length-pages_of, pages_of_at}
+use Rattle.tune_journal.proofs.Agreeing.{length-pages_of, pages_of_at}
 use Rattle.tune_journal.proofs.Windows.{shows_window}
 use Rattle.tune_journal.proofs.journal.Journal.read.Goals as goal
 
 pub read-requires : goal.read-requires
 read-requires g c =
-    let size : length c.args.self.now.pages ≡ c.self.inside.count = ap (λ s. length s.pages) (sym c.self.view_is) ∙ length-pages_of c.self.inside.count (g.D.Disk.state c.self.inside.disk).seen in
+    let size : length c.args.self.now.pages ≡ c.self.inside.count =
+    ap (λ s. length s.pages) (sym c.self.view_is) ∙ length-pages_of c.self.inside.count (g.D.Disk.state c.self.inside.disk).seen in
     let bytes : length c.args.into.now.bytes ≡ block_bytes = search rules in
     omega (arith, c.requires, size, bytes, c.page_offset.ensures, c.self.invariant.most)
 
 pub returns-clause-page : goal.returns-clause-page
 returns-clause-page g c =
-    let size : length c.args.self.now.pages ≡ c.self.inside.count = ap (λ s. length s.pages) (sym c.self.view_is) ∙ length-pages_of c.self.inside.count (g.D.Disk.state c.self.inside.disk).seen in
+    let size : length c.args.self.now.pages ≡ c.self.inside.count =
+    ap (λ s. length s.pages) (sym c.self.view_is) ∙ length-pages_of c.self.inside.count (g.D.Disk.state c.self.inside.disk).seen in
     let lt : c.args.page < c.self.inside.count = omega (arith, c.requires, size) in
     let bytes : length c.read.new.into ≡ block_bytes = search rules in
     rw (← c.self.view_is) (on_ok_weaker c.read.result (λ read h.
@@ -28,4 +30,5 @@ returns-clause-page g c =
 
 pub returns-clause-count : goal.returns-clause-count
 returns-clause-count g c = rw (← c.self.view_is)
-    (length-pages_of c.self.inside.count (g.D.Disk.state c.read.new.self).seen ∙ sym (length-pages_of c.self.inside.count (g.D.Disk.state c.self.inside.disk).seen))
+    (length-pages_of c.self.inside.count (g.D.Disk.state c.read.new.self).seen
+    ∙ sym (length-pages_of c.self.inside.count (g.D.Disk.state c.self.inside.disk).seen))

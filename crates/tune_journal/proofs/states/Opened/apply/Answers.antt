@@ -4,7 +4,8 @@ use Rattle.tune_journal.specs.Image.{log_of, pages_of}
 use Rattle.tune_journal.specs.Pages.{changed}
 use Rattle.tune_journal.proofs.Applying.{applying_since, applying_ends}
 use Rattle.tune_journal.proofs.Changed.{length-changed}
-use Rattle.tune_journal.proofs.Frame.{length-pages_of, log_same}
+use Rattle.tune_journal.proofs.Agreeing.{length-pages_of}
+use Rattle.tune_journal.proofs.Standing.{log_same}
 use Rattle.tune_journal.proofs.Rests.{applied_leaves}
 use Rattle.tune_journal.proofs.states.Opened.apply.Goals as goal
 

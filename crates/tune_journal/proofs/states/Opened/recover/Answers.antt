@@ -4,7 +4,7 @@ use Rattle.tune_journal.specs.Image.{log_of, pages_of}
 use Rattle.tune_journal.specs.Pages.{changed}
 use Rattle.tune_journal.proofs.Applying.{applying_since, applying_ends, has_entries, entries_are_log}
 use Rattle.tune_journal.proofs.Changed.{length-changed}
-use Rattle.tune_journal.proofs.Frame.{length-pages_of}
+use Rattle.tune_journal.proofs.Agreeing.{length-pages_of}
 use Rattle.tune_journal.proofs.states.Opened.recover.Goals as goal
 
 pub copy_log-requires : goal.copy_log-requires

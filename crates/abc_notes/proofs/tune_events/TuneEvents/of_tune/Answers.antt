@@ -1,0 +1,34 @@
+use Rattle.std.proofs.Common.{◌≡◌, ◌≤◌, ◌∙◌, sym, ap, subst, ℕ, List, [], ◌++◌, length, false, arith}
+use Rattle.std.specs.Prelude.{codes, slice_get, unwrap_or}
+use Rattle.abc_fields.specs.Limits.{longest_book}
+use Rattle.abc_fields.specs.Fields.{values_of, key_text_of}
+use Rattle.abc_fields.specs.Lines.{Span as Line, spans_of}
+use Rattle.abc_keys.specs.Keys.{key_of_text, signature_of}
+use Rattle.abc_notes.specs.Inside.Bounds.{LinesAreShort}
+use Rattle.abc_notes.specs.Music.{body_events, events_after_header, tune_events}
+use Rattle.abc_notes.specs.Inside.FirstKeys.{first_key}
+use Rattle.abc_notes.proofs.EventCounts.{tune_events_few}
+use Rattle.abc_notes.proofs.TuneLemmas.{first_key_is, lines_are_short}
+use Rattle.abc_notes.proofs.tune_events.TuneEvents.of_tune.Goals as goal
+
+pub invariant_of-events : goal.invariant_of-events
+invariant_of-events c =
+    c.read_header-in_part.ensures.short
+    (subst (λ (lines : List Line). LinesAreShort lines) (sym c.new-lines.ensures.lines)
+    (lines_are_short c.bytes.result.now 0 _ c.new-lines.ensures.rising
+    (subst (λ (text : List ℕ). length text ≤ longest_book) (sym c.bytes.ensures.value) c.bytes.ensures.short)))
+
+pub returns-clause-signature : goal.returns-clause-signature
+returns-clause-signature c =
+    let contents = ap (λ (lines : List (List ℕ)). unwrap_or (slice_get (values_of (codes "K:") lines) 0) []) c.new-lines.ensures.contents in
+    c.signature.ensures ∙ ap signature_of c.key_of.ensures.key
+    ∙ ap (λ text. signature_of (key_of_text text))
+    (c.read_header-in_part.ensures.key ∙ ap first_key c.new-lines.ensures.lines ∙ first_key_is (spans_of c.bytes.result.now) ∙ contents
+    ∙ ap key_text_of c.bytes.ensures.value)
+
+pub returns-clause-few : goal.returns-clause-few
+returns-clause-few c =
+    let all : c.none.result ++ body_events c.read_header-in_part.result.1 c.read_header-in_part.new.lines ≡ tune_events c.args.text.now =
+    (λ i. c.none.ensures i ++ c.read_header-in_part.ensures.events i) ∙ ap (events_after_header false) c.new-lines.ensures.lines
+    ∙ ap tune_events c.bytes.ensures.value in
+    omega (arith, ap length all, tune_events_few c.args.text.now, c.bytes.ensures.short)

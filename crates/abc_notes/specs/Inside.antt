@@ -1,0 +1,5 @@
+pub mod EventView
+pub mod BarTables
+pub mod Bounds
+pub mod Kept
+pub mod FirstKeys

@@ -1,0 +1,159 @@
+// The events of a tune: those of the music lines and the keys of its body.
+ghost use Rattle.std.specs.Prelude.{◌≡◌, ◌+◌, ◌≤◌, ◌++◌, List, length, true, false};
+ghost use Rattle.std.specs.Iterator.{YieldsFirstBy, item_count};
+ghost use Rattle.abc_fields.specs.Limits.{longest_book};
+ghost use Rattle.abc_fields.specs.LineView.{line_span};
+ghost use Rattle.abc_items.specs.ItemSpans.{item_spans_of};
+ghost use Rattle.abc_notes.specs.Inside.Bounds.{LinesAreShort};
+ghost use Rattle.abc_notes.specs.Events.{Event as AnyEvent};
+ghost use Rattle.abc_notes.specs.Inside.EventView.{event_of, events_of};
+ghost use Rattle.abc_notes.specs.Music.{line_events, line_meaning, body_events};
+ghost use Rattle.abc_notes.specs.Music.{events_after_header};
+ghost use Rattle.abc_notes.specs.Music.{tune_events, tune_signature};
+ghost use Rattle.abc_notes.specs.Inside.FirstKeys.{first_key};
+
+use crate::events::Event;
+use crate::line_events::LineEvents;
+use abc_fields::{
+    Line, Lines, TuneText, field_value, in_part_after, is_comment, is_continuation, is_field_line,
+    is_key_line, without_comment,
+};
+use abc_keys::{Signature, key_of, signature};
+use std::marker::Model;
+
+// The events of a tune that are left. A clause sees their list.
+#[derive(Drop)]
+pub(crate) struct TuneEvents<'a> {
+    line: LineEvents<'a>,
+    lines: Lines<'a>,
+    // Whether the next line lies within a part.
+    in_part: bool,
+}
+
+impl<'a> Model for TuneEvents<'a> {
+    ghost Value = { List AnyEvent };
+
+    ghost view = { λ events. events.line ++ body_events events.in_part events.lines };
+
+    ghost invariant = { λ events. LinesAreShort events.lines };
+}
+
+impl<'a> TuneEvents<'a> {
+    // The events of one music line, which is all there is.
+    pub fn of_line(line: &'a [u8]) -> TuneEvents<'a>
+        requires { length line.now ≤ longest_book }
+        ensures events { result ≡ line_events 0 (item_spans_of line.now) }
+        ensures few { length result ≤ longest_book }
+    {
+        TuneEvents {
+            line: LineEvents::new(line, 0),
+            lines: Lines::new(b""),
+            in_part: false,
+        }
+    }
+
+    // The signature with which a tune begins, and the events after its header.
+    pub fn of_tune(text: &'a TuneText) -> (Signature, TuneEvents<'a>)
+        ensures signature { result.0 ≡ tune_signature text.now }
+        ensures events { result.1 ≡ tune_events text.now }
+        ensures few { length result.1 ≤ longest_book }
+    {
+        let mut lines = Lines::new(text.bytes());
+        let (key, in_part) = read_header(&mut lines);
+        let events = TuneEvents {
+            line: LineEvents::none(),
+            lines,
+            in_part,
+        };
+        (signature(&key_of(key)), events)
+    }
+
+    // A second reader of the events that are left.
+    pub fn again(&self) -> TuneEvents<'a>
+        ensures { result ≡ self.now }
+    {
+        TuneEvents {
+            line: self.line.again(),
+            lines: self.lines.again(),
+            in_part: self.in_part,
+        }
+    }
+
+    // The same as `LineEvents::next_plain`, for what is left of the line in hand.
+    #[inline(always)]
+    pub fn next_plain(&mut self) -> Option<Event<'a>>
+        ensures { self.old ≡ events_of result ++ self.new }
+    {
+        self.line.next_plain()
+    }
+
+    // Takes the first event that is left.
+    #[inline(always)]
+    fn first_event(&mut self) -> Option<Event<'a>>
+        ensures { YieldsFirstBy event_of (λ events. events) self.old result self.new }
+    {
+        'lines: loop {
+            let event = self.line.next();
+            if event.is_some() {
+                return event;
+            }
+            let Some(line) = self.lines.next() else {
+                return None;
+            };
+            let (event, music) = line_events(line, self.in_part);
+            self.line = music;
+            self.in_part = in_part_after(self.in_part, line.text);
+            if event.is_some() {
+                return event;
+            }
+        }
+    }
+}
+
+// Reads the header of a tune: the text of its key, and whether the body begins within a part.
+fn read_header<'a>(lines: &mut Lines<'a>) -> (&'a [u8], bool)
+    ensures key { result.0.now ≡ first_key lines.old }
+    ensures events { body_events result.1 lines.new ≡ events_after_header false lines.old }
+    ensures short { LinesAreShort lines.old → LinesAreShort lines.new }
+{
+    let mut in_part = false;
+    'header: loop {
+        let Some(line) = lines.next() else {
+            return (b"", in_part);
+        };
+        in_part = in_part_after(in_part, line.text);
+        if is_key_line(line.text) {
+            return (field_value(line.text), in_part);
+        }
+    }
+}
+
+// What a line of the body means: nothing within a part, a change of key, or music.
+fn line_events<'a>(line: Line<'a>, in_part: bool) -> (Option<Event<'a>>, LineEvents<'a>)
+    requires { line.from + length line.text.now ≤ longest_book }
+    ensures { events_of result.0 ++ result.1 ≡ line_meaning in_part (line_span line.entry) }
+{
+    let text = line.text;
+    let is_aside = is_field_line(text) || is_continuation(text) || is_comment(text);
+    if !in_part && is_key_line(text) {
+        let change = Event::Change(field_value(text));
+        (Some(change), LineEvents::none())
+    } else if in_part || is_aside {
+        (None, LineEvents::none())
+    } else {
+        (None, LineEvents::new(without_comment(text), line.from))
+    }
+}
+
+impl<'a> Iterator for TuneEvents<'a> {
+    type Item = Event<'a>;
+
+    ghost next_gives = { YieldsFirstBy event_of (λ events. events) };
+
+    ghost remaining = { item_count (λ events. events) };
+
+    #[inline(always)]
+    fn next(&mut self) -> Option<Event<'a>> {
+        self.first_event()
+    }
+}

@@ -1,0 +1,78 @@
+// Lists of steps.
+ghost use Rattle.std.specs.Prelude.{◌≡◌, ◌+◌, ◌<◌, ◌≤◌, ◌↔◌, ◌++◌, ◌∷◌, [], length, IsTrue};
+ghost use Rattle.tune_incipit.specs.Inside.StepRows.{most_steps};
+
+use std::marker::Model;
+
+// How many steps there is room for: those between twelve notes.
+pub(crate) const MOST_STEPS: usize = 11;
+
+/// The steps between neighbouring notes, in semitones, up to eleven of them. A clause sees their
+/// list.
+#[derive(Clone, Copy, Debug, PartialEq, Eq)]
+pub struct Steps {
+    items: [i32; MOST_STEPS],
+    count: usize,
+}
+
+impl Model for Steps {
+    ghost use Rattle.std.specs.Prelude.{◌≡◌, ◌≤◌, List, ℤ, length, take};
+    ghost use Rattle.tune_incipit.specs.Inside.StepRows.{most_steps, padded, IsPadded};
+
+    ghost Value = { List ℤ };
+
+    ghost view = { λ s. take s.count s.items };
+
+    ghost invariant = { λ s. (s.count ≤ most_steps) × IsPadded s.count s.items };
+
+    ghost inverse = { λ steps. record { items = padded most_steps steps; count = length steps } };
+
+    ghost use Rattle.std.proofs.Common.{sym};
+    ghost use Rattle.tune_incipit.specs.Inside.StepRows.{length-held};
+
+    ghost inverse_ok = { λ s h i. record {
+      items = sym h.1 i;
+      count = length-held s.count s.items h.0 h.1 i;
+    } };
+}
+
+impl Steps {
+    pub(crate) fn new() -> Steps
+        ensures { result ≡ [] }
+    {
+        Steps {
+            items: [0; MOST_STEPS],
+            count: 0,
+        }
+    }
+
+    /// The steps, in order.
+    pub fn as_slice(&self) -> &[i32]
+        ensures { result.now ≡ self.now }
+    {
+        &self.items[..self.len()]
+    }
+
+    /// How many there are.
+    pub fn len(&self) -> usize
+        ensures { result ≡ length self.now }
+    {
+        self.count
+    }
+
+    /// Whether there are none.
+    pub fn is_empty(&self) -> bool
+        ensures { IsTrue result ↔ (length self.now ≡ 0) }
+    {
+        self.len() == 0
+    }
+
+    // Puts a step after the others.
+    pub(crate) fn push(&mut self, step: i32)
+        requires { length self.old < most_steps }
+        ensures { self.new ≡ self.old ++ step ∷ [] }
+    {
+        self.items[self.count] = step;
+        self.count += 1;
+    }
+}
