@@ -3,7 +3,7 @@ ghost use Rattle.std.specs.Prelude.{◌≡◌, length, None, Err};
 ghost use Rattle.tune_scripts.specs.Limits.{longest_line, most_lines};
 ghost use Rattle.tune_scripts.specs.Replies.{answer_bytes, bad_line_bytes};
 ghost use Rattle.tune_scripts.specs.Scripts.{line_text};
-ghost use Rattle.tune_scripts.specs.Runs.{KnownAt, TellsScript, work_of};
+ghost use Rattle.tune_scripts.specs.Runs.{TellsScript, work_of};
 ghost use Rattle.tune_scripts.specs.Inside.Turns.{Turns, TurnsBook, WritesOut, CarriesOut, next_of};
 
 use crate::reading::{BookRead, LineRead, read_book, read_line};
@@ -53,8 +53,7 @@ pub fn run<R: Read, W: Write, S: TuneStore>(
 ) -> RunEnd
     ensures { S.honest store.new
         → let work = work_of W.Write S.TuneStore writer.old writer.new store.old store.new in
-        KnownAt result
-        (TellsScript most_lines (R.remaining reader.old) (R.remaining reader.new) work result) }
+        TellsScript most_lines (R.remaining reader.old) (R.remaining reader.new) work result }
 {
     let mut line = [0u8; LONGEST_LINE];
     for lines in 0..MOST_LINES {
