@@ -7,8 +7,8 @@ use Rattle.tune_disk.specs.declared.memory.Record.{Record}
 use Rattle.tune_disk.specs.declared.memory.Record.TheVariants.{Write, Sync}
 use Rattle.tune_disk.proofs.Kept.{one_more}
 use Rattle.tune_disk.proofs.Writes.{written_once}
-use Rattle.tune_disk.proofs.memory.stable.Goals as goal
-use Rattle.tune_disk.proofs.memory.stable.Goals.{in-Write+in_ok-overwrite-in-Write, in-Sync+in_ok-stable-in-Sync}
+use Rattle.tune_disk.proofs.memory.replay.Goals as goal
+use Rattle.tune_disk.proofs.memory.replay.Goals.{in-Write+in_ok-overwrite-in-Write, in-Sync}
 
 pub loop-one-preserved : goal.loop-one-preserved
 loop-one-preserved c =
@@ -25,14 +25,12 @@ loop-one-preserved c =
           let v = w.in-Write.bytes in
           let it : one ≡ Write at v = search rules in
           let to : after ≡ record_to (Write at v) s = more ∙ ap (λ (x : Record). record_to x s) it in
-          let kept : c.match-one.stable.items ≡ s.now.stable = search rules in
-          let written : Written at v.items s.seen c.match-one.content.items = rw (← inv.content) (search rules) in
+          let written : Written at v.items s.seen c.match-one.content.items = rw (← inv) (search rules) in
           let same : c.match-one.content.items ≡ put at v.items s.seen = written_once _ _ _ _ _ written (put_written at v.items s.seen) in
-          record { stable = kept ∙ sym (ap (λ (t : DiskState). t.now.stable) to); content = same ∙ sym (ap (λ (t : DiskState). t.seen) to) })
-      | in-Sync+in_ok-stable-in-Sync w ↦
+          same ∙ sym (ap (λ (t : DiskState). t.seen) to))
+      | in-Sync w ↦
           (let it : one ≡ Sync = search rules in
           let to : after ≡ record_to Sync s = more ∙ ap (λ (x : Record). record_to x s) it in
-          let kept : c.match-one.stable.items ≡ s.seen = search rules in
           let same : c.match-one.content.items ≡ s.seen = search rules in
-          record { stable = kept ∙ sym (ap (λ (t : DiskState). t.now.stable) to); content = same ∙ sym (ap (λ (t : DiskState). t.seen) to) })
+          same ∙ sym (ap (λ (t : DiskState). t.seen) to))
     ]
