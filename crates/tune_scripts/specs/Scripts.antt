@@ -91,11 +91,11 @@ pub data Script : ℕ → Standing → List ℕ → List ℕ → List State → 
       → Answers s c answer mid → stays_open answer ≡ false
       → Script (suc n) s input (answer_bytes answer) (passed s.state c answer) DeviceFault mid rest
   -- the reader failed in the next line or in its book: what was written is the replies before it
-  reader_fault : (n : ℕ) (s : Standing) (input : List ℕ) → Script (suc n) s input [] [] ReaderFault s
-      input
+  reader_fault : (n : ℕ) (s : Standing) (input : List ℕ)
+      → Script (suc n) s input [] [] ReaderFault s input
   -- the writer failed in a reply of this run: to a line that does not reach the store
-  writer_fault : (n : ℕ) (s : Standing) (input rest : List ℕ) → Script (suc n) s input [] []
-      WriterFault s rest
+  writer_fault : (n : ℕ) (s : Standing) (input rest : List ℕ)
+      → Script (suc n) s input [] [] WriterFault s rest
   -- or to a command, which took place
   writer_fault_after : (n : ℕ) (s mid : Standing) (input rest : List ℕ) (c : Command)
       (answer : Result Reply Refusal) → reading_of input ≡ whole_command c rest

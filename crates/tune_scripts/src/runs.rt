@@ -44,7 +44,9 @@ pub const MOST_LINES: u32 = 1_000_000;
 /// where there is no memory for one, it is read and dropped, and the reply says so.
 ///
 /// The clause speaks of a reader that tells its bytes, and of a store whose device has answered as
-/// a device does. Standard input tells no bytes.
+/// a device does. Standard input tells no bytes. It speaks of every end: after a fault of the reader
+/// what was written is the replies before it, and after one of the writer the store is as the
+/// commands so far leave it, each of them carried out once.
 pub fn run<R: Read, W: Write, S: TuneStore>(
     alloc: Global,
     reader: &mut R,
