@@ -4,11 +4,12 @@ mod Agreeing
 mod Applying
 mod CallRuns
 mod Chain
-mod ChangeLists
+pub mod ChangeLists
 mod Changed
 mod Loops
 mod Making
 mod Openings
+pub mod Puts
 mod Recovery
 mod Rests
 mod Standing

@@ -1,6 +1,6 @@
 // Pages that change.
-ghost use Rattle.std.specs.Prelude.{◌≡◌, ◌<◌, ◌==◌, [], length, map, All, OnOk, OnErr, IsOk};
-ghost use Rattle.std.specs.Prelude.{IsSome, IfOk, IfErr, option_map};
+ghost use Rattle.std.specs.Prelude.{◌≡◌, ◌≢◌, ◌<◌, ◌==◌, ℕ, [], length, map, replicate, All};
+ghost use Rattle.std.specs.Prelude.{Some, IsSome, IsOk, OnOk, OnErr, IfOk, IfErr, option_map};
 ghost use Rattle.std.specs.List.Sorted.{IsStrictlyIncreasing};
 ghost use Rattle.tune_journal.specs.ChangeList.{with_change, image_of, change_at, changed_page};
 ghost use Rattle.tune_journal.specs.Inside.ChangeOrder.{FoundAt, MissingAt};
@@ -14,6 +14,15 @@ use std::marker::Model;
 pub struct PageImage {
     /// The bytes, as they stand in the file.
     pub bytes: [u8; 4096],
+}
+
+impl PageImage {
+    /// A page of zeros.
+    pub fn blank() -> PageImage
+        ensures { result.bytes ≡ replicate block_bytes 0 }
+    {
+        PageImage { bytes: [0; 4096] }
+    }
 }
 
 // A page and what it changes to. The image is on the heap, so that a page among many others moves
@@ -63,6 +72,11 @@ impl Changes {
     /// they were.
     pub fn put(&mut self, page: u32, image: &PageImage) -> Result<(), AllocError>
         ensures ok { OnOk result (self.new ≡ with_change page image.now.bytes self.old) }
+        // The page has this image, and each other page the one that it had, if any.
+        ensures found { OnOk result (image_of page self.new ≡ Some image.now.bytes) }
+        ensures others { (other : ℕ) → other ≢ page
+            → image_of other self.new ≡ image_of other self.old }
+        ensures some { OnOk result (0 < length self.new) }
         ensures err { OnErr result (self.new ≡ self.old) }
         ensures replaces { IsSome (image_of page self.old) → IsOk result }
     {

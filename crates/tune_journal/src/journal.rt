@@ -4,7 +4,7 @@ ghost use Rattle.tune_disk.specs.Disk.{Calls, Looks};
 ghost use Rattle.tune_disk.specs.Stops.{SinceThen};
 ghost use Rattle.tune_journal.specs.Held.{disk_of, disk_of_log};
 ghost use Rattle.tune_journal.specs.Image.{StandsFor, StandsForEither};
-ghost use Rattle.tune_journal.specs.Layout.{most_pages};
+ghost use Rattle.tune_journal.specs.Layout.{block_bytes, most_pages};
 ghost use Rattle.tune_journal.specs.Moments.{LeavesPages};
 ghost use Rattle.tune_journal.specs.Pages.{NamesAll, page_at, pages_after};
 
@@ -42,6 +42,8 @@ impl<D: Disk> Journal<D> {
     pub fn count(&self) -> u32
         ensures count { result ≡ length self.now.pages }
         ensures bounds { (1 ≤ result) × (result ≤ most_pages) }
+        ensures sized { D.honest self.now.disk
+            → All (λ page. length page ≡ block_bytes) self.now.pages }
         // A journal is at rest: a stop leaves its pages alone.
         ensures rest { LeavesPages D.honest D.state self.now.disk self.now.pages }
     {
