@@ -7,6 +7,7 @@ ghost use Rattle.tune_journal.specs.Inside.ChangeOrder.{FoundAt, MissingAt};
 ghost use Rattle.tune_journal.specs.Layout.{block_bytes};
 
 use std::alloc::{AllocError, Global};
+use std::collections::VecDeque;
 use std::marker::Model;
 
 /// The 4,096 bytes of a page.
@@ -38,7 +39,8 @@ struct ChangedPage {
 #[derive(Drop)]
 pub struct Changes {
     alloc: Global,
-    changed: Vec<ChangedPage>,
+    // by rising page; a page at either end moves none of the others
+    changed: VecDeque<ChangedPage>,
 }
 
 impl Model for Changes {
@@ -60,7 +62,7 @@ impl Changes {
     {
         Changes {
             alloc,
-            changed: Vec::new(alloc),
+            changed: VecDeque::new(alloc),
         }
     }
 
