@@ -1,11 +1,12 @@
 // The rounds of the program `bench_disk`, by calls of the system alone: FILE ROUNDS. It makes the
-// same calls in the same order (`fstat` in place of `statx`), and differs in this: a short write or
+// same calls in the same order (`stat` and `fstat` in place of `statx`), and differs in this: a short write or
 // an interrupted call ends it, where `bench_disk` goes on.
 #include <fcntl.h>
 #include <libgen.h>
 #include <stdio.h>
 #include <stdlib.h>
 #include <string.h>
+#include <sys/file.h>
 #include <sys/stat.h>
 #include <unistd.h>
 
@@ -16,14 +17,17 @@ int main(int count, char **words) {
     static char page[PAGE];
     memset(page, 0x5a, sizeof page);
     long rounds = atol(words[2]);
-    int file = open(words[1], O_RDWR | O_CREAT | O_CLOEXEC, 0666);
+    struct stat about;
+    int made = stat(words[1], &about) == 0 ? 0 : O_CREAT | O_EXCL;
+    int file = open(words[1], O_RDWR | made | O_CLOEXEC, 0666);
+    if (file < 0 || fstat(file, &about) != 0 || !S_ISREG(about.st_mode)) return 1;
+    if (flock(file, LOCK_EX | LOCK_NB) != 0) return 1;
     int folder = open(dirname(words[1]), O_RDONLY | O_CLOEXEC);
-    if (file < 0 || folder < 0 || fsync(folder) != 0 || close(folder) != 0) return 1;
+    if (folder < 0 || fsync(folder) != 0 || close(folder) != 0) return 1;
     for (long round = 0; round < rounds; round++) {
         if (pwrite(file, page, PAGE, (off_t)(round % PAGES) * PAGE) != PAGE) return 1;
         if (fdatasync(file) != 0) return 1;
     }
-    struct stat about;
     if (fstat(file, &about) != 0) return 1;
     printf("%lld\n", (long long)about.st_size);
     return 0;

@@ -1,20 +1,30 @@
 #!/usr/bin/env bash
 # Usage: bench/thin-path.sh [EXECUTABLE]
-# Times `tunes list` on large scripts, and compares every byte of its replies with what is wanted. Each script comes at
-# half and at full size, so that the seconds show whether they grow in proportion.
+# Times `tunes list` on large scripts, and compares every byte of its replies with what is wanted.
+# Each script comes at half and at full size, so that the seconds show whether they grow in
+# proportion.
 set -u
 root=$(CDPATH='' cd -- "$(dirname -- "$0")/.." && pwd) || exit 1
 program=${1:-$root/crates/tunes/out/tunes}
 work=$root/bench/work
-[ -x "$program" ] || { echo "no program at $program: build it by ./tunes list < /dev/null" >&2; exit 1; }
+[ -x "$program" ] || {
+    echo "no program at $program: build it by ./tunes list < /dev/null" >&2
+    exit 1
+}
 mkdir -p "$work" || exit 1
 export LC_ALL=C
 
 # Prints one of the texts below, for this many tunes, replaces, lines or blocks of 50 bytes.
 make() {
     awk -v what="$1" -v count="$2" '
-        function body(n) { return sprintf("T:Tune %05d\nM:4/4\nR:reel\nK:G\nGABc dedB|c2ec B2dB|\n", n) }
-        function imports(    n) { for (n = 1; n <= count; n++) printf "import %d\nX:1\n%s", 4 + length(body(n)), body(n) }
+        function body(n) {
+            return sprintf("T:Tune %05d\nM:4/4\nR:reel\nK:G\nGABc dedB|c2ec B2dB|\n", n)
+        }
+        # A line of these words and the length of a book of tune n, and the book.
+        function with_book(words, n) {
+            printf "%s %d\nX:1\n%s", words, 4 + length(body(n)), body(n)
+        }
+        function imports(    n) { for (n = 1; n <= count; n++) with_book("import", n) }
         function long_body(n,    i, s) {
             s = sprintf("T:Tune %05d\nC:Traditional\nO:Ireland\nR:reel\nM:4/4\nL:1/8\nK:G\n", n)
             for (i = 0; i < 6; i++) s = s "GABc dedB|c2ec B2dB|\n"
@@ -31,9 +41,11 @@ make() {
             for (n = 1; n <= count; n++) printf "\nX:%d\n%s", n, long_body(n)
         }
         function imported(    n) { for (n = 1; n <= count; n++) print "ok import " n " " n }
-        function shown(    n) {
-            for (n = 1; n <= count; n++)
-                printf "ok show %d 1 %d\nX:%d\n%s", n, 3 + length(n "") + length(body(n)), n, body(n)
+        function shown(    n, size) {
+            for (n = 1; n <= count; n++) {
+                size = 3 + length(n "") + length(body(n))
+                printf "ok show %d 1 %d\nX:%d\n%s", n, size, n, body(n)
+            }
         }
         BEGIN {
             if (what == "imports") imports()
@@ -45,17 +57,24 @@ make() {
             if (what == "export") { one_import(); print "export" }
             if (what == "export-wanted") { print "ok import 1 " count; exported() }
             if (what == "replaces") {
-                for (n = 1; n <= count; n++) printf "replace 10000 %d %d\nX:1\n%s", n, 4 + length(body(n)), body(n)
+                for (n = 1; n <= count; n++) with_book("replace 10000 " n, n)
             }
-            if (what == "replaces-wanted") for (n = 1; n <= count; n++) print "ok replace 10000 " n + 1
+            if (what == "replaces-wanted") {
+                for (n = 1; n <= count; n++) print "ok replace 10000 " n + 1
+            }
             if (what == "book") {
                 print "import " 50 * count
-                for (n = 1; n <= count; n++) printf "X:1\nT:Tune %05d\nM:4/4\nK:G\nGABc dedB|c2ec B2dB|]\n\n", n
+                for (n = 1; n <= count; n++) {
+                    printf "X:1\nT:Tune %05d\nM:4/4\n", n
+                    print "K:G\nGABc dedB|c2ec B2dB|]\n"
+                }
             }
             if (what == "book-wanted") print "refused 9 ArchiveFull"
             if (what == "long") {
                 printf "import %d\nX:1\nT:%-39s\nK:G\n", 50 * count, "A tune without end"
-                for (n = 2; n <= count; n++) print "GABc dedB|c2ec B2dB|GABc dedB|c2ec B2dB|A2A2 A4||"
+                for (n = 2; n <= count; n++) {
+                    print "GABc dedB|c2ec B2dB|GABc dedB|c2ec B2dB|A2A2 A4||"
+                }
             }
             if (what == "long-wanted") print "refused 2 BadTune 1 TooLong"
             if (what == "lines") for (n = 1; n <= count; n++) print "show 1"
@@ -66,14 +85,16 @@ make() {
 # Runs the program on a script, leaves its seconds in `seconds`, and ends with its status.
 run() {
     local TIMEFORMAT=%3R status
-    { time "$program" list < "$work/script" > "$work/replies" 2> "$work/errors"; } 2> "$work/seconds"
+    {
+        time "$program" list < "$work/script" > "$work/replies" 2> "$work/errors"
+    } 2> "$work/seconds"
     status=$?
     seconds=$(cat "$work/seconds")
     return "$status"
 }
 
-# Times one text of this size, whose run is to end with this status: the best of three runs. It may come after an
-# import of this many tunes.
+# Times one script of this size, whose run is to end with this status: the best of three runs. It
+# may come after an import of this many tunes.
 measure() {
     local name=$1 what=$2 count=$3 wanted_status=$4 before=${5:-0} best=999999 status
     : > "$work/script"

@@ -26,7 +26,7 @@ RECIPE_PAGES = ('README.md', 'docs/USING.md')
 NAME_PAGES = ('docs/PROOFS.md', 'docs/ARCHITECTURE.md', 'docs/GLOSSARY.md', 'docs/DECISIONS.md')
 PATH = re.compile(r'(crates|docs|bench|checks|examples)/[\w./*-]*')
 FILE_NAME = re.compile(r'\w+\.(rt|antt)')
-NAME = re.compile(r'[A-Za-z]\w*(::[A-Za-z]\w*)*')
+NAME = re.compile(r'[A-Za-z]\w*(::[A-Za-z]\w*)*|[a-z0-9]+(-[a-z0-9]+)+')
 LINK = re.compile(r'\[([^\]]*)\]\(([^()\s]+)\)')
 CLAUSES = re.compile(r'\[`([\w:]+)`\]\(([^()\s]+\.rt)\)((?:,?(?: and)? `\w+`)*)')
 DEFINITION = re.compile(r'\[`(\w+)`\]\(([^()\s]+\.antt)\)')
@@ -248,13 +248,14 @@ def check_promises(page):
 
 
 def known_names(paths):
-    """All words of the code, and the names of crates and of edits."""
+    """All words of the code, and the names of crates, of edits and of scripts."""
     names = set()
     for path in paths:
         if path.endswith(('.rt', '.antt')) and '/proofs/' not in path:
             names.update(re.findall(r'\w+', read(path)))
-    for path in glob.glob(os.path.join(ROOT, 'crates/*/must-fail/*.edit')):
-        names.add(os.path.splitext(os.path.basename(path))[0])
+    for kind in ('must-fail/*.edit', 'data/*.script'):
+        for path in glob.glob(os.path.join(ROOT, 'crates/*', kind)):
+            names.add(os.path.splitext(os.path.basename(path))[0])
     names.update(os.listdir(os.path.join(ROOT, 'crates')))
     names.update(re.findall(r'\w+', read('crates.txt')))
     return names

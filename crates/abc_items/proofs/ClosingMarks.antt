@@ -12,7 +12,7 @@ use Rattle.abc_items.specs.Rows.{up_to, longer}
 use Rattle.abc_items.specs.declared.rows.Misses.{Misses}
 use Rattle.abc_items.specs.Inside.Misses.{AreMissing}
 
--- no byte below this place is the mark
+-- no byte below this index is the mark
 abbrev pub NoneBelow : ℕ → List ℕ → ℕ → Type 0
 NoneBelow mark text n = (j : ℕ) → j < n → eqb (get_or text j 0) mark ≡ true → ⊥
 

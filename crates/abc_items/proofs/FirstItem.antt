@@ -176,7 +176,7 @@ clash a b text rest other later inside also apart is that same =
 one_byte_each : (byte also : ℕ) (text rest other later : List ℕ) → text ≡ byte ∷ [] → other ≡ also ∷ [] → text ++ rest ≡ other ++ later → text ≡ other
 one_byte_each byte also text rest other later is that same = same_front text rest other later (ap length is ∙ sym (ap length that)) same
 
--- a decoration is in one form, and ends at one place
+-- a decoration is in one form, and ends at one byte
 one_decoration : (text rest other later : List ℕ) → Fits Decoration text rest → Fits Decoration other later → text ++ rest ≡ other ++ later → text ≡ other
 one_decoration text rest other later (inl f) (inl g) same =
     one_text_of (λ t r. IsEnclosed exclamation_mark exclamation_mark t) (enclosed exclamation_mark exclamation_mark)

@@ -42,12 +42,12 @@ placed text front item rest whole is =
 -- the spans of items follow each other from where these bytes end
 fill_from : (text front : List ℕ) (at : ℕ) (items : List ItemText) → EachIsItem items → front ++ text_of_items items ≡ text → length front ≡ at
     → ItemSpansFill text at (item_spans_from at items)
-fill_from text front at [] are whole place = sym place ∙ sym (length-append front [] ∙ omega arith) ∙ ap length whole
-fill_from text front at (item ∷ items) are whole place =
+fill_from text front at [] are whole start = sym start ∙ sym (length-append front [] ∙ omega arith) ∙ ap length whole
+fill_from text front at (item ∷ items) are whole start =
     let P : ℕ → Type 0 = λ n. IsSpanAt text n (record { kind = item.kind; from = n; to = n + length item.text; bytes = item.text }) in (
-      subst P place (placed text front item (text_of_items items) whole are.0),
+      subst P start (placed text front item (text_of_items items) whole are.0),
       fill_from text (front ++ item.text) (at + length item.text) items are.1 (append_assoc front item.text (text_of_items items) ∙ whole)
-          (length-append front item.text ∙ ap (λ n. n + length item.text) place),
+          (length-append front item.text ∙ ap (λ n. n + length item.text) start),
     )
 
 -- the spans of a text follow each other from its front to its end

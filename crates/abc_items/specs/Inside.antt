@@ -1,2 +1,3 @@
+pub mod FrontLengths
 pub mod Misses
 pub mod PlainFronts

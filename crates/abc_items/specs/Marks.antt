@@ -1,5 +1,5 @@
 -- The bytes that the table of items names.
-use Rattle.std.specs.Prelude.{ℕ, ◌==◌, Bool, not, List, codes}
+use Rattle.std.specs.Prelude.{ℕ, ◌==◌, Bool, not, List, [], ◌∷◌, codes}
 use Rattle.std.specs.List.{list_all}
 use Rattle.abc_fields.specs.Bytes.{colon, is_one_of}
 
@@ -61,7 +61,7 @@ is_closing_bracket byte = byte == closing_bracket
 
 -- a bar line is read byte by byte, at each of these (ABC 2.1, 4.8; own profile)
 abbrev pub is_bar : ℕ → Bool
-is_bar byte = is_one_of (codes "|:") byte
+is_bar byte = is_one_of (bar_mark ∷ colon ∷ []) byte
 
 -- a mark that sets a note's octave (ABC 2.1, 4.1)
 abbrev pub is_octave_mark : ℕ → Bool

@@ -2,8 +2,8 @@
 ghost use Rattle.std.specs.Prelude.{◌≡◌};
 ghost use Rattle.abc_items.specs.Rows.{front};
 
-/// What an item of a music line is: the rows of the table of items, in its order. At each place the
-/// first row that fits is taken, as far as it goes.
+/// What an item of a music line is: the rows of the table of items, in its order. From each byte on
+/// the first row that fits is taken, as far as it goes.
 #[derive(Clone, Copy, Debug, PartialEq, Eq)]
 pub enum Kind {
     /// `"`, bytes other than `"` or none, `"`: a chord symbol or an annotation (ABC 2.1, 4.18 and

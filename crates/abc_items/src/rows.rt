@@ -11,7 +11,8 @@ ghost use Rattle.abc_items.specs.Rows.{up_to, enclosed, inline_field, chord, col
 ghost use Rattle.abc_items.specs.Rows.{colon_parts, tuplet, own_accidental, note, first_item};
 ghost use Rattle.abc_items.specs.Rows.{is_note_name, front};
 ghost use Rattle.abc_items.specs.Plain.{begins_longer_row, is_plain_byte};
-ghost use Rattle.abc_items.specs.Inside.Misses.{AreMissing};
+ghost use Rattle.abc_items.specs.Inside.FrontLengths.{IsFrontLength};
+ghost use Rattle.abc_items.specs.Inside.Misses.{AreMissing, IsMissing};
 ghost use Rattle.abc_items.specs.Inside.PlainFronts.{lone_kind, plain_front, alone};
 
 use crate::kinds::{Front, Kind};
@@ -34,17 +35,17 @@ pub(crate) struct Misses {
 // How many bytes there are up to the first closing mark, that one too.
 fn up_to(bytes: &[u8], closing: u8) -> Option<usize>
     ensures value { result ≡ up_to closing bytes.now }
-    ensures within { IfSome result (λ n. (0 < n) × (n ≤ length bytes.now)) }
+    ensures within { IsFrontLength bytes.now result }
 {
     memchr(closing, bytes).map(|before| before + 1)
 }
 
 // The same, with no search where the mark is known to be missing. Remembers that it is.
 fn up_to_or_miss(bytes: &[u8], closing: u8, missing: &mut bool) -> Option<usize>
-    requires { IsTrue missing.old → IsTrue (has_no closing bytes.now) }
+    requires { IsMissing closing missing.old bytes.now }
     ensures value { result ≡ up_to closing bytes.now }
-    ensures within { IfSome result (λ n. (0 < n) × (n ≤ length bytes.now)) }
-    ensures missing { IsTrue missing.new → IsTrue (has_no closing bytes.now) }
+    ensures within { IsFrontLength bytes.now result }
+    ensures missing { IsMissing closing missing.new bytes.now }
 {
     if *missing {
         return None;
@@ -58,7 +59,7 @@ fn up_to_or_miss(bytes: &[u8], closing: u8, missing: &mut bool) -> Option<usize>
 #[tactic(auto, unfolding(crate::specs::Rows::enclosed))]
 fn enclosed(bytes: &[u8], mark: u8) -> Option<usize>
     ensures value { result ≡ enclosed mark mark bytes.now }
-    ensures within { IfSome result (λ n. (0 < n) × (n ≤ length bytes.now)) }
+    ensures within { IsFrontLength bytes.now result }
 {
     match bytes {
         [first, rest @ ..] if *first == mark => up_to(rest, mark).map(|n| n + 1),
@@ -69,10 +70,10 @@ fn enclosed(bytes: &[u8], mark: u8) -> Option<usize>
 // Grace notes.
 #[tactic(auto, unfolding(crate::specs::Rows::enclosed))]
 fn grace(bytes: &[u8], missing: &mut bool) -> Option<usize>
-    requires { IsTrue missing.old → IsTrue (has_no closing_brace bytes.now) }
+    requires { IsMissing closing_brace missing.old bytes.now }
     ensures value { result ≡ enclosed opening_brace closing_brace bytes.now }
-    ensures within { IfSome result (λ n. (0 < n) × (n ≤ length bytes.now)) }
-    ensures missing { IsTrue missing.new → IsTrue (has_no closing_brace bytes.now) }
+    ensures within { IsFrontLength bytes.now result }
+    ensures missing { IsMissing closing_brace missing.new bytes.now }
 {
     match bytes {
         [b'{', rest @ ..] => up_to_or_miss(rest, b'}', missing).map(|n| n + 1),
@@ -83,10 +84,10 @@ fn grace(bytes: &[u8], missing: &mut bool) -> Option<usize>
 // An inline field.
 #[tactic(auto, unfolding(crate::specs::Rows::inline_field))]
 fn inline_field(bytes: &[u8], missing: &mut bool) -> Option<usize>
-    requires { IsTrue missing.old → IsTrue (has_no closing_bracket bytes.now) }
+    requires { IsMissing closing_bracket missing.old bytes.now }
     ensures value { result ≡ inline_field bytes.now }
-    ensures within { IfSome result (λ n. (0 < n) × (n ≤ length bytes.now)) }
-    ensures missing { IsTrue missing.new → IsTrue (has_no closing_bracket bytes.now) }
+    ensures within { IsFrontLength bytes.now result }
+    ensures missing { IsMissing closing_bracket missing.new bytes.now }
 {
     match bytes {
         [b'[', name, b':', rest @ ..] if name.is_ascii_alphabetic() => {
@@ -127,7 +128,7 @@ fn begins_with_closing_bracket(bytes: &[u8]) -> bool
 #[tactic(auto, unfolding(crate::specs::Rows::chord))]
 fn chord(bytes: &[u8]) -> Option<usize>
     ensures value { result ≡ chord bytes.now }
-    ensures within { IfSome result (λ n. (0 < n) × (n ≤ length bytes.now)) }
+    ensures within { IsFrontLength bytes.now result }
 {
     match bytes {
         [b'[', rest @ ..] if !begins_with_digit(rest) => {
@@ -177,7 +178,7 @@ fn two_colon_parts(bytes: &[u8]) -> usize
 #[tactic(auto, unfolding(crate::specs::Rows::tuplet))]
 fn tuplet(bytes: &[u8]) -> Option<usize>
     ensures value { result ≡ tuplet bytes.now }
-    ensures within { IfSome result (λ n. (0 < n) × (n ≤ length bytes.now)) }
+    ensures within { IsFrontLength bytes.now result }
 {
     match bytes {
         [b'(', rest @ ..] => {
@@ -243,7 +244,7 @@ fn octave_marks(bytes: &[u8]) -> usize
 #[tactic(auto, unfolding(crate::specs::Rows::note))]
 fn note(bytes: &[u8]) -> Option<usize>
     ensures value { result ≡ note bytes.now }
-    ensures within { IfSome result (λ n. (0 < n) × (n ≤ length bytes.now)) }
+    ensures within { IsFrontLength bytes.now result }
 {
     let before = spelling_length(own_accidental(bytes));
     match bytes.get(before) {

@@ -1,4 +1,4 @@
--- A text tells no more events than it has bytes.
+-- A text has no more events than it has bytes.
 use Rattle.std.proofs.Common.{◌≡◌, ℕ, ◌+◌, ◌-◌, ◌≤◌, Bool, true, false, cond, List, [], ◌∷◌, length, take, drop, ap, arith}
 use Rattle.std.specs.Prelude.{codes, not, ◌&&◌, ◌||◌}
 use Rattle.std.proofs.lemmas.List.{length-append, length-drop, length-take}
@@ -21,7 +21,7 @@ use Rattle.abc_notes.specs.Music.{is_note, plain_events, chord_events, inside_of
 use Rattle.abc_notes.specs.Music.{line_meaning, body_events, events_after_header, tune_events}
 
 -- ITEMS
--- an item that is no chord and no field tells at most one event
+-- an item that is no chord and no field has at most one event
 plain_few : (base : ℕ) (counts : Bool) (k : Kind) (span : ItemSpan) → length (plain_events base counts k span) ≤ 1
 unfolding plain_events
 plain_few base counts kind.Note span = omega arith
@@ -34,7 +34,7 @@ plain_few base counts kind.Chord span = omega arith
 plain_few base counts kind.Tuplet span = omega arith
 plain_few base counts kind.Other span = omega arith
 
--- items from here to the text's end that tell one event each
+-- items from here to the text's end that have one event each
 chord_few : (base : ℕ) (first : Bool) (text : List ℕ) (at : ℕ) (spans : List ItemSpan) → ItemSpansFill text at spans
     → length (chord_events base first spans) + at ≤ length text
 unfolding chord_events
@@ -50,7 +50,7 @@ one_or_none : (test : Bool) (event : Event) → length (cond test (event ∷ [])
 one_or_none true event = omega arith
 one_or_none false event = omega arith
 
--- a field in a line tells at most one event
+-- a field in a line has at most one event
 inline_few : (text : List ℕ) → length (inline_events text) ≤ 1
 inline_few [] = omega arith
 inline_few (bracket ∷ []) = omega arith
@@ -62,7 +62,7 @@ inline_few (bracket ∷ name ∷ between ∷ rest) =
 inside_short : (text : List ℕ) → length (inside_of text) ≤ length text
 inside_short text = omega (arith, length-take (length text - 2) (drop 1 text), length-drop 1 text)
 
--- an item with a byte tells no more events than it has bytes
+-- an item with a byte has no more events than it has bytes
 item_few : (base : ℕ) (k : Kind) (span : ItemSpan) → 1 ≤ length span.bytes → length (item_events base k span) ≤ length span.bytes
 unfolding item_events
 item_few base kind.Chord span some =
@@ -81,7 +81,7 @@ item_few base kind.Tuplet span some = omega (arith, plain_few base true kind.Tup
 item_few base kind.Other span some = omega (arith, plain_few base true kind.Other span)
 
 -- LINES
--- items from here to the text's end tell no more events than there are bytes from here on
+-- items from here to the text's end have no more events than there are bytes from here on
 line_few : (base : ℕ) (text : List ℕ) (at : ℕ) (spans : List ItemSpan) → ItemSpansFill text at spans → length (line_events base spans) + at ≤ length text
 unfolding line_events
 line_few base text at [] fill = omega arith
@@ -90,7 +90,7 @@ line_few base text at (span ∷ spans) (placed, later) =
     let rest = line_few base text span.to spans later in
     omega (arith, length-append (item_events base span.kind span) (line_events base spans), placed.ends, placed.begins)
 
--- a text tells no more events than it has bytes
+-- a text has no more events than it has bytes
 pub items_few : (base : ℕ) (text : List ℕ) → length (line_events base (item_spans_of text)) ≤ length text
 items_few base text = omega (arith, line_few base text 0 (item_spans_of text) (spans_fill text))
 
@@ -99,7 +99,7 @@ uncommented_short : (line : List ℕ) → length (uncommented line) ≤ length l
 uncommented_short line =
     let cut = is_uncommented line in omega (arith, ap length cut.whole, length-append (uncommented line) cut.rest)
 
--- a music line that begins anywhere tells no more events than it has bytes
+-- a music line that begins anywhere has no more events than it has bytes
 music_few : (base : ℕ) (line : List ℕ) → length (music_events base line) ≤ length line
 music_few base line =
     omega (arith, items_few base (uncommented line), uncommented_short line)
@@ -110,7 +110,7 @@ key_line_long : (line : List ℕ) → is_key_line line ≡ true → 1 ≤ length
 key_line_long [] gives = absurd (cc)
 key_line_long (byte ∷ line) gives = omega arith
 
--- a line of a tune's body tells no more events than it has bytes
+-- a line of a tune's body has no more events than it has bytes
 body_line_few : (base : ℕ) (line : List ℕ) → length (body_line_events base line) ≤ length line
 body_line_few base line =
     cond_both (is_key_line line) _ _ (λ events. length events ≤ length line)
@@ -119,18 +119,18 @@ body_line_few base line =
     (λ none. omega arith)
     (λ music. music_few base line))
 
--- a line within a part tells nothing
-tells_few : (in_part : Bool) (line : Line) → length (line_meaning in_part line) ≤ length line.bytes
-tells_few true line = omega arith
-tells_few false line = body_line_few line.from line.bytes
+-- a line within a part has no events
+meaning_few : (in_part : Bool) (line : Line) → length (line_meaning in_part line) ≤ length line.bytes
+meaning_few true line = omega arith
+meaning_few false line = body_line_few line.from line.bytes
 
--- lines from here on tell no more events than there are bytes from here on
+-- lines from here on have no more events than there are bytes from here on
 body_few : (in_part : Bool) (text : List ℕ) (low : ℕ) (lines : List Line) → SpansRise text low lines → length (body_events in_part lines) ≤ length text - low
 unfolding body_events
 body_few in_part text low [] rise = omega arith
 body_few in_part text low (line ∷ lines) (placed, later) =
     let go = in_part_after in_part line.bytes in
-    let told = tells_few in_part line in
+    let meant = meaning_few in_part line in
     let rest = body_few go text (line.to + 1) lines later in
     omega (arith, length-append (line_meaning in_part line) (body_events go lines), line_long text low line placed, placed.above, placed.within)
 
@@ -145,6 +145,6 @@ after_header_few in_part text low (line ∷ lines) (placed, later) =
     (λ gives. omega (arith, body_few go text (line.to + 1) lines later, placed.above, placed.ordered))
     (λ other. omega (arith, after_header_few go text (line.to + 1) lines later, placed.above, placed.ordered))
 
--- a tune tells no more events than it has bytes
+-- a tune has no more events than it has bytes
 pub tune_events_few : (text : List ℕ) → length (tune_events text) ≤ length text
 tune_events_few text = omega (arith, after_header_few false text 0 (lines_of text) (spans_rise text))

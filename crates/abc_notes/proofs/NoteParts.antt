@@ -217,10 +217,10 @@ body_line_run text line base stands =
     (λ music. music_run text line base stands))
 
 -- or there are none
-tells_run : (text : List ℕ) (in_part : Bool) (line : Line) → StandsAt text line.from line.bytes
+meaning_run : (text : List ℕ) (in_part : Bool) (line : Line) → StandsAt text line.from line.bytes
     → NotesRun text line.from (line.from + length line.bytes) (line_meaning in_part line)
-tells_run text true line stands = omega arith
-tells_run text false line stands = body_line_run text line.bytes line.from stands
+meaning_run text true line stands = omega arith
+meaning_run text false line stands = body_line_run text line.bytes line.from stands
 
 -- a line stands in its text
 line_stands : (text : List ℕ) (low : ℕ) (line : Line) → IsSpan text low line → StandsAt text line.from line.bytes
@@ -234,11 +234,11 @@ body_run in_part text low [] rise within = within
 body_run in_part text low (line ∷ lines) (placed, later) within =
     let go = in_part_after in_part line.bytes in
     let high = length text + 1 in
-    let told = tells_run text in_part line (line_stands text low line placed) in
+    let meant = meaning_run text in_part line (line_stands text low line placed) in
     let rest = body_run go text (line.to + 1) lines later (omega (arith, placed.within)) in
     let after = run_from text (line.from + length line.bytes) (line.to + 1) high (body_events go lines) (omega (arith, line_long text low line placed)) rest in
     run_from text low line.from high (line_meaning in_part line ++ body_events go lines) placed.above
-    (run_append text line.from (line.from + length line.bytes) high (line_meaning in_part line) (body_events go lines) told after)
+    (run_append text line.from (line.from + length line.bytes) high (line_meaning in_part line) (body_events go lines) meant after)
 
 -- and after a header
 after_header_run : (in_part : Bool) (text : List ℕ) (low : ℕ) (lines : List Line) → SpansRise text low lines → low ≤ length text + 1

@@ -11,7 +11,8 @@ use Rattle.abc_fields.specs.Tunes.{is_key_line}
 use Rattle.abc_fields.specs.Values.{field_value}
 use Rattle.abc_notes.proofs.TextParts.{line_long}
 use Rattle.abc_notes.specs.Inside.Bounds.{LinesAreShort}
-use Rattle.abc_notes.specs.Music.{first_key, events_after_header, body_events}
+use Rattle.abc_notes.specs.Music.{events_after_header, body_events}
+use Rattle.abc_notes.specs.Inside.FirstKeys.{first_key}
 
 -- the first key is the key text of the lines
 pub first_key_is : (spans : List Line) → first_key spans ≡ unwrap_or (slice_get (values_of (codes "K:") (map (λ s. s.bytes) spans)) 0) []

@@ -2,13 +2,6 @@
 use Rattle.std.specs.Prelude.{◌+◌, ◌*◌, ℤ, pos, ◌-ℤ◌}
 use Rattle.abc_fields.specs.Limits.{longest_book}
 
--- octaves: each mark adds or takes one
-abbrev pub lowest_octave : ℤ
-lowest_octave = pos 0 -ℤ pos longest_book
-
-abbrev pub highest_octave : ℤ
-highest_octave = pos longest_book
-
 -- semitones from C: 12 for each octave, up to 11 for a letter, and 2 for an accidental
 abbrev pub lowest_pitch : ℤ
 lowest_pitch = pos 0 -ℤ pos (12 * longest_book + 2)

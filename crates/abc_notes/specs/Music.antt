@@ -123,12 +123,6 @@ events_after_header in_part (line ∷ lines) =
 abbrev pub tune_events : List ℕ → List Event
 tune_events text = events_after_header false (lines_of text)
 
--- the text of the first key of a tune's lines
-abbrev pub first_key : List Line → List ℕ
-first_key [] = []
-first_key (line ∷ lines) =
-    if is_key_line line.bytes then field_value line.bytes else first_key lines
-
 -- the signature with which a tune begins: that of its key text
 abbrev pub tune_signature : List ℕ → Signature
 tune_signature text = signature_of (key_of_text (key_text_of text))

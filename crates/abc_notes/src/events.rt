@@ -1,6 +1,6 @@
 // Notes as they are written, and the other events that decide pitches.
 ghost use Rattle.std.specs.Prelude.{◌≤ℤ◌};
-ghost use Rattle.abc_notes.specs.Limits.{lowest_octave, highest_octave};
+ghost use Rattle.abc_notes.specs.Inside.Bounds.{lowest_octave, highest_octave};
 
 use abc_keys::{Accidental, Letter};
 

@@ -4,7 +4,7 @@ ghost use Rattle.abc_fields.specs.Limits.{longest_book};
 ghost use Rattle.abc_items.specs.ItemView.{item_span};
 ghost use Rattle.abc_fields.specs.Bytes.{is_one_of};
 ghost use Rattle.abc_notes.specs.Inside.EventView.{event_of, written_note, events_of};
-ghost use Rattle.abc_notes.specs.Limits.{lowest_octave, highest_octave};
+ghost use Rattle.abc_notes.specs.Inside.Bounds.{lowest_octave, highest_octave};
 ghost use Rattle.abc_notes.specs.Music.{octave_of, written, plain_events, inline_events};
 
 use crate::events::{Event, WrittenNote};

@@ -69,7 +69,7 @@ impl<'a> LineEvents<'a> {
     }
 
     // Takes the first event that is left where it and the items before it are plain bytes, as is
-    // most often so. Else it takes none, but may pass over items that tell nothing.
+    // most often so. Else it takes none, but may pass over items that mean nothing.
     #[inline(always)]
     pub fn next_plain(&mut self) -> Option<Event<'a>>
         ensures { self.old ≡ events_of result ++ self.new }
@@ -136,7 +136,7 @@ fn is_chord(kind: Kind) -> bool
     matches!(kind, Kind::Chord)
 }
 
-// What a chord tells.
+// The events of a chord.
 fn chord_events<'a>(item: Item<'a>, base: usize) -> ChordEvents<'a>
     requires short { IsShort base (item_span item) }
     requires chord { item.kind ≡ Kind.Chord }

@@ -9,7 +9,8 @@ ghost use Rattle.abc_notes.specs.Events.{Event as AnyEvent};
 ghost use Rattle.abc_notes.specs.Inside.EventView.{event_of, events_of};
 ghost use Rattle.abc_notes.specs.Music.{line_events, line_meaning, body_events};
 ghost use Rattle.abc_notes.specs.Music.{events_after_header};
-ghost use Rattle.abc_notes.specs.Music.{first_key, tune_events, tune_signature};
+ghost use Rattle.abc_notes.specs.Music.{tune_events, tune_signature};
+ghost use Rattle.abc_notes.specs.Inside.FirstKeys.{first_key};
 
 use crate::events::Event;
 use crate::line_events::LineEvents;
@@ -127,7 +128,7 @@ fn read_header<'a>(lines: &mut Lines<'a>) -> (&'a [u8], bool)
     }
 }
 
-// What a line of the body tells: nothing within a part, a change of key, or music.
+// What a line of the body means: nothing within a part, a change of key, or music.
 fn line_events<'a>(line: Line<'a>, in_part: bool) -> (Option<Event<'a>>, LineEvents<'a>)
     requires { line.from + length line.text.now ≤ longest_book }
     ensures { events_of result.0 ++ result.1 ≡ line_meaning in_part (line_span line.entry) }

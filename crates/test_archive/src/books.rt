@@ -2,7 +2,8 @@
 use abc_fields::{BookFault, ByteText, Lines, TuneFault, split_book};
 use std::alloc::Global;
 use std::test::Fail;
-use tune_store::{Command, ListArchive, MOST_TUNES, Refusal, Reply, TuneStore};
+use tune_books::write_book;
+use tune_store::{Command, ListArchive, Refusal, Reply, TuneStore};
 
 #[test]
 fn reads_lines_with_each_ending(rt: HostRuntime) {
@@ -112,7 +113,7 @@ fn copies_are_their_sources(rt: HostRuntime) -> Result<(), Fail> {
 fn holds_as_many_tunes_as_it_may(rt: HostRuntime) -> Result<(), Fail> {
     let import = Command::Import(ByteText::copy_of(rt.alloc(), b"X:1\nK:C\n")?);
     let mut archive = ListArchive::new(rt.alloc());
-    for _ in 0..MOST_TUNES {
+    for _ in 0..20_000 {
         assert!(&rt; archive.apply(&import).is_ok());
     }
     assert_eq!(&rt; archive.apply(&import).err(), Some(Refusal::ArchiveFull));
@@ -132,5 +133,21 @@ fn holds_as_many_tunes_as_it_may(rt: HostRuntime) -> Result<(), Fail> {
             _ => return Err(Fail::from("no tune is shown")),
         }
     }
+    Ok(())
+}
+
+#[test]
+fn writes_books(rt: HostRuntime) -> Result<(), Fail> {
+    let texts = split_book(rt.alloc(), b"X:1\nT:a\nK:C\nX:2\nK:D\nABc|", 16_000)?;
+    let texts = texts.as_slice();
+    let numbers = [40, 7].as_slice();
+    assert!(&rt; numbers.len() == texts.len());
+    let book = write_book(rt.alloc(), numbers, texts)?;
+    assert_eq!(&rt;
+        book.as_slice(),
+        b"%abc-2.1\n\nX:40\nT:a\nK:C\n\nX:7\nK:D\nABc|\n".as_slice()
+    );
+    let book = write_book(rt.alloc(), &[], &[])?;
+    assert_eq!(&rt; book.as_slice(), b"%abc-2.1\n".as_slice());
     Ok(())
 }

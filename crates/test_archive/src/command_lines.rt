@@ -134,13 +134,19 @@ fn reported(alloc: Global, given: &[&str]) -> Result<(u8, bool, bool), Fail> {
 
 #[test]
 fn reports_why_words_ask_for_nothing(rt: HostRuntime) -> Result<(), Fail> {
-    assert_eq!(&rt; reported(rt.alloc(), &["tunes", "--help"])?, (0, true, false));
+    assert_eq!(&rt;
+        reported(rt.alloc(), &["tunes", "--help"])?,
+        (0, true, false)
+    );
     assert_eq!(&rt;
         reported(rt.alloc(), &["tunes", "list", "--help"])?,
         (0, true, false)
     );
     assert_eq!(&rt; reported(rt.alloc(), &["tunes"])?, (2, false, true));
-    assert_eq!(&rt; reported(rt.alloc(), &["tunes", "lists"])?, (2, false, true));
+    assert_eq!(&rt;
+        reported(rt.alloc(), &["tunes", "lists"])?,
+        (2, false, true)
+    );
     assert_eq!(&rt;
         reported(rt.alloc(), &["tunes", "list", "more"])?,
         (2, false, true)

@@ -1,4 +1,5 @@
-//! Tests that cross crates: whole scripts and their replies, books, failing readers and writers, and the words of the program.
+//! Tests that cross crates: scripts too large to be files, books, failing readers and writers, and
+//! the words of the program. The scripts that are files are those of the program `test_scripts`.
 #![tactic(auto)]
 
 #[cfg(test)]
@@ -6,10 +7,8 @@ mod books;
 #[cfg(test)]
 mod cases;
 #[cfg(test)]
-mod changes;
-#[cfg(test)]
 mod command_lines;
 #[cfg(test)]
-mod pipes;
+mod large_scripts;
 #[cfg(test)]
-mod scripts;
+mod pipes;

@@ -4,10 +4,11 @@ use std::io;
 use std::io::{Read, Write};
 use std::process::Abort;
 use std::test::Fail;
-use tune_store::{Command, ListArchive, Refusal, Reply, TuneStore};
 use tune_cli::{Action, RunEnd, act, run};
+use tune_store::{Command, ListArchive, Refusal, Reply, TuneStore};
 
-// Gives its text byte by byte, and no byte of a line before as many replies were flushed as there are lines before it.
+// Gives its bytes one by one, and notices where it is asked for a byte of a line before as many
+// replies were flushed as there are lines before it.
 #[derive(Drop)]
 struct AskingReader<'a> {
     text: &'a [u8],
@@ -22,8 +23,8 @@ impl<'a> Read for AskingReader<'a> {
             self.asked_early.set(true);
         }
         match (self.text, buf.first_mut()) {
-            ([byte, rest @ ..], Some(place)) => {
-                *place = *byte;
+            ([byte, rest @ ..], Some(first)) => {
+                *first = *byte;
                 self.text = rest;
                 if *byte == b'\n' {
                     self.lines = self.lines.saturating_add(1);
@@ -37,12 +38,12 @@ impl<'a> Read for AskingReader<'a> {
 
 // Counts the flushes of something that was written.
 #[derive(Drop)]
-struct TellingWriter<'a> {
+struct CountingWriter<'a> {
     has_more: bool,
     flushed: &'a Cell<usize>,
 }
 
-impl<'a> Write for TellingWriter<'a> {
+impl<'a> Write for CountingWriter<'a> {
     fn write(&mut self, buf: &[u8]) -> io::Result<usize> {
         self.has_more = true;
         Ok(buf.len())
@@ -67,7 +68,7 @@ fn flushes_each_reply_before_the_next_line_is_looked_at(rt: HostRuntime) {
         flushed: &flushed,
         asked_early: &asked_early,
     };
-    let mut writer = TellingWriter {
+    let mut writer = CountingWriter {
         has_more: false,
         flushed: &flushed,
     };

@@ -1,10 +1,11 @@
 // A disk over a real file, against the file as others read it.
 use crate::folders::{new_folder, remove};
-use std::fs;
 use std::fs::Permissions;
-use std::os::unix::fs::PermissionsExt;
+use std::os::fd::AsRawFd;
+use std::os::unix::fs::{PermissionsExt, symlink};
 use std::process::Abort;
 use std::test::Fail;
+use std::{fs, io};
 use tune_disk::{DeviceFault, Disk, FileDisk};
 
 // The bytes of a disk at an offset are these, also where the buffer held others.
@@ -118,7 +119,6 @@ fn opens_no_file_that_is_not_there(rt: HostRuntime) -> Result<(), Fail> {
     let below = missing.join(rt.alloc(), "disk")?;
     let through = file.join(rt.alloc(), "disk")?;
     for (path, what) in [
-        (folder.as_str(), "a folder"),
         (below.as_str(), "in a folder that is not there"),
         (through.as_str(), "through a file"),
         ("", "no path"),
@@ -150,15 +150,110 @@ fn needs_leave_to_write(rt: HostRuntime) -> Result<(), Fail> {
     Ok(())
 }
 
-// `/dev/full` takes no byte and has no sync, and no memory is at the address 0.
+#[test]
+fn opens_nothing_but_regular_files(rt: HostRuntime) -> Result<(), Fail> {
+    let folder = new_folder(&rt, "regular")?;
+    let (reader, writer) = io::pipe(&rt)?;
+    let first = format!(in rt.alloc(); "/proc/self/fd/{}", reader.as_raw_fd())?;
+    let last = format!(in rt.alloc(); "/proc/self/fd/{}", writer.as_raw_fd())?;
+    for (path, what) in [
+        ("/dev/null", "a device"),
+        ("/dev/zero", "a device of zeros"),
+        ("/dev/full", "a device that is full"),
+        (first.as_str(), "a pipe to read from"),
+        (last.as_str(), "a pipe to write to"),
+        (folder.as_str(), "a folder"),
+    ] {
+        assert!(rt; FileDisk::open(&rt, path).is_err(), "opened {what}");
+        assert!(rt; FileDisk::create(&rt, path).is_err(), "created {what}");
+    }
+    remove(&rt, &folder)?;
+    Ok(())
+}
+
+#[test]
+fn makes_no_file_through_a_link(rt: HostRuntime) -> Result<(), Fail> {
+    let folder = new_folder(&rt, "links")?;
+    let file = folder.join(rt.alloc(), "file")?;
+    let link = folder.join(rt.alloc(), "link")?;
+    symlink(&rt, &file, &link)?;
+    assert!(rt; FileDisk::open(&rt, &link).is_err(), "a link to nothing");
+    assert!(rt; FileDisk::create(&rt, &link).is_err(), "a link to nothing");
+    assert!(rt; !fs::exists(&rt, &file)?, "none is made");
+    fs::write(&rt, &file, "hornpipe")?;
+    {
+        let mut disk = FileDisk::create(&rt, &link)?;
+        shows(&rt, &mut disk, 0, b"hornpipe")?;
+    }
+    let mut disk = FileDisk::open(&rt, &link)?;
+    shows(&rt, &mut disk, 0, b"hornpipe")?;
+    remove(&rt, &folder)?;
+    Ok(())
+}
+
+#[test]
+fn opens_no_file_twice_at_once(rt: HostRuntime) -> Result<(), Fail> {
+    let folder = new_folder(&rt, "twice")?;
+    let path = folder.join(rt.alloc(), "disk")?;
+    let link = folder.join(rt.alloc(), "link")?;
+    symlink(&rt, &path, &link)?;
+    {
+        let mut disk = FileDisk::create(&rt, &path)?;
+        for name in [path.as_str(), link.as_str()] {
+            assert!(rt; FileDisk::open(&rt, name).is_err(), "opened {name} again");
+            assert!(rt;
+                FileDisk::create(&rt, name).is_err(),
+                "created {name} again"
+            );
+        }
+        disk.write_at(0, b"reel")?;
+        assert!(rt; FileDisk::open(&rt, &path).is_err(), "after a call");
+    }
+    {
+        let mut disk = FileDisk::open(&rt, &link)?;
+        assert!(rt; FileDisk::open(&rt, &path).is_err(), "through a link");
+        shows(&rt, &mut disk, 0, b"reel")?;
+    }
+    {
+        let other = fs::File::open(&rt, &path)?;
+        other.try_lock()?;
+        assert!(rt; FileDisk::open(&rt, &path).is_err(), "with another's lock");
+        assert!(rt;
+            FileDisk::create(&rt, &path).is_err(),
+            "with another's lock"
+        );
+    }
+    let mut disk = FileDisk::open(&rt, &path)?;
+    assert_eq!(rt; disk.len()?, 4);
+    remove(&rt, &folder)?;
+    Ok(())
+}
+
+// No memory is at the address 0.
 #[test]
 fn answers_faults_of_the_system(rt: HostRuntime) -> Result<(), Fail> {
-    let mut full = FileDisk::open(&rt, "/dev/full")?;
-    assert_eq!(rt; full.write_at(0, b"x"), Err(DeviceFault));
-    assert_eq!(rt; full.sync(), Err(DeviceFault));
-    assert_eq!(rt; full.write_at(0, b""), Ok(()));
-    shows(&rt, &mut full, 0, &[0; 4])?;
     let mut memory = FileDisk::open(&rt, "/proc/self/mem")?;
     assert_eq!(rt; memory.read(0, &mut [1; 4]), Err(DeviceFault));
+    assert_eq!(rt; memory.write_at(0, b"x"), Err(DeviceFault));
+    assert_eq!(rt; memory.write_at(0, b""), Ok(()));
+    assert_eq!(rt; memory.len(), Ok(0));
+    Ok(())
+}
+
+// The memory of a process has no sync.
+#[test]
+fn fails_for_good_once_a_sync_has(rt: HostRuntime) -> Result<(), Fail> {
+    for _ in 0..2 {
+        let mut memory = FileDisk::open(&rt, "/proc/self/mem")?;
+        assert_eq!(rt; memory.len(), Ok(0));
+        assert_eq!(rt; memory.read(0, &mut []), Ok(()));
+        assert_eq!(rt; memory.write_at(0, b""), Ok(()));
+        for _ in 0..3 {
+            assert_eq!(rt; memory.sync(), Err(DeviceFault));
+            assert_eq!(rt; memory.len(), Err(DeviceFault));
+            assert_eq!(rt; memory.read(0, &mut []), Err(DeviceFault));
+            assert_eq!(rt; memory.write_at(0, b""), Err(DeviceFault));
+        }
+    }
     Ok(())
 }

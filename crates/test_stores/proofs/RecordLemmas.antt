@@ -2,10 +2,10 @@
 use Rattle.std.proofs.Common.{◌≡◌, ℕ, ◌≤◌, List, [], ◌∷◌, ◌++◌, length, sym, ap, ◌∙◌, arith, inl, inr, ◌⊎◌, length-append}
 use Rattle.std.proofs.lemmas.Bool.{cases_lt}
 use Rattle.std.proofs.lemmas.List.{get_or_append_left, get_or_push}
-use Rattle.tune_store.specs.State.{State}
+use Rattle.tune_store.specs.State.{State, IsState}
 use Rattle.tune_store.specs.Stops.{Among, StandsForOne}
 use Rattle.tune_store.proofs.StopLemmas.{stands_among}
-use Rattle.test_stores.specs.Record.{LeftSince, IsOfCount, EndsAt, last_place}
+use Rattle.test_stores.specs.Record.{LeftSince, IsOfCount, EndsAt, IsKept, last_place}
 
 -- RECORDS
 -- a record ends at a state after an entry of how many tunes it has
@@ -39,17 +39,18 @@ left_before_push entries more since file left =
 -- what a record owes where its store goes from a state to another by these
 pub record Goes (entries later : List ℕ) (old new : State) (states : List State) : Type 0 where
   pub reaches : Among new (old ∷ states)
-  pub stays_sound : EndsAt entries old → EndsAt later new
+  pub stays_sound : IsKept entries old → IsKept later new
   pub keeps : (since : ℕ) (file : List ℕ) → LeftSince entries since file → LeftSince later since file
   pub is_later : last_place entries ≤ last_place later
   pub leaves : (since : ℕ) (file : List ℕ) → LeftSince later since file → LeftSince entries since file ⊎ StandsForOne IsOfCount (old ∷ states) file
 
 -- a record with how many tunes there are as one more entry
-pub pushes : (entries later : List ℕ) (old new : State) (states : List State) (number : ℕ) → Among new (old ∷ states) → length new.tunes ≡ number
+pub pushes : (entries later : List ℕ) (old new : State) (states : List State) (number : ℕ) → Among new (old ∷ states)
+    → (IsState old → IsState new) → length new.tunes ≡ number
     → later ≡ entries ++ number ∷ [] → Goes entries later old new states
-pushes entries later old new states number among e pushed = rw pushed (record {
+pushes entries later old new states number among limits e pushed = rw pushed (record {
   reaches = among;
-  stays_sound = λ sound. ends_push entries number new e;
+  stays_sound = λ sound. record { ends = ends_push entries number new e; within = limits sound.within };
   keeps = left_before_push entries (number ∷ []);
   is_later = omega (arith, length-append entries (number ∷ []));
   leaves = λ since file left. elim (left_push entries number since file left) [

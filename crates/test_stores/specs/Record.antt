@@ -1,6 +1,6 @@
 -- A record of what a device has held: a file of one number in each entry.
 use Rattle.std.specs.Prelude.{◌≡◌, ℕ, ◌-◌, ◌<◌, ◌≤◌, List, [], ◌∷◌, length, slice_index}
-use Rattle.tune_store.specs.State.{State}
+use Rattle.tune_store.specs.State.{State, IsState}
 
 -- the place of the last entry
 abbrev pub last_place : List ℕ → ℕ
@@ -20,3 +20,8 @@ IsOfCount file state = file ≡ length state.tunes ∷ []
 -- the last entry is how many tunes the state has
 abbrev pub EndsAt : List ℕ → State → Type 0
 EndsAt entries state = slice_index entries (last_place entries) ≡ length state.tunes
+
+-- a record that ends at a state within the limits
+pub record IsKept (entries : List ℕ) (state : State) : Type 0 where
+  pub ends : EndsAt entries state
+  pub within : IsState state

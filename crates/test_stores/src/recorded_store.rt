@@ -1,8 +1,8 @@
 // A store whose stops leave something.
 ghost use Rattle.std.specs.Prelude.{◌≡◌, ◌+◌, ◌<◌, ◌≤◌, [], ◌∷◌, ◌++◌, false, IfOk, vec_len};
 ghost use Rattle.std.specs.Vec.{vec_capacity};
-ghost use Rattle.test_stores.specs.Record.{LeftSince, IsOfCount, EndsAt, last_place};
-ghost use Rattle.test_stores.specs.Inside.Settling.{settles};
+ghost use Rattle.test_stores.specs.Record.{LeftSince, IsOfCount, IsKept, last_place};
+ghost use Rattle.test_stores.specs.Inside.Settling.{settles, left_earlier};
 
 use std::alloc::{AllocError, Global};
 use tune_store::{Command, ListArchive, Refusal, Reply, TuneStore};
@@ -19,8 +19,8 @@ pub struct RecordedStore {
 impl RecordedStore {
     /// A store without a tune, whose record begins with that. The error is out of memory.
     pub fn new(alloc: Global) -> Result<RecordedStore, AllocError>
-        ensures standing { IfOk result (λ store. ⟦<RecordedStore as TuneStore>⟧.standing store
-            ≡ record { state = record { tunes = [] }; closed = false }) }
+        ensures state { IfOk result (λ store. ⟦<RecordedStore as TuneStore>⟧.state store
+            ≡ record { tunes = [] }) }
         ensures entries { IfOk result (λ store. store.entries.items ≡ 0 ∷ []) }
         ensures sound { IfOk result (λ store. ⟦<RecordedStore as TuneStore>⟧.sound store) }
     {
@@ -41,9 +41,9 @@ impl RecordedStore {
 }
 
 impl TuneStore for RecordedStore {
-    ghost standing = { λ store. record { state = store.archive; closed = false } };
+    ghost state = { λ store. store.archive };
 
-    ghost sound = { λ store. EndsAt store.entries.items store.archive };
+    ghost sound = { λ store. IsKept store.entries.items store.archive };
 
     ghost moment = { λ store. last_place store.entries.items };
 
@@ -52,7 +52,12 @@ impl TuneStore for RecordedStore {
     ghost stands_for = { IsOfCount };
 
     ghost settled = { λ store file sound honest is_open left.
-        settles store.entries.items store.archive file sound left };
+        settles store.entries.items store.archive file sound.ends left };
+
+    ghost within = { λ store sound honest. sound.within };
+
+    ghost since_earlier = { λ store since earlier file le left.
+        left_earlier store.entries.items since earlier file le left };
 
     fn apply(&mut self, command: &Command) -> Result<Reply, Refusal> {
         self.entries.reserve(1)?;

@@ -38,6 +38,11 @@ abbrev pub FaultFits : List (List ℕ) → WordsFault → Type 0
 FaultFits words (Clap error) = HasKind (faults_in words) error
 FaultFits words Missing = (subcommand_in words ≡ None) × (faults_in words ≡ [])
 
+-- out of memory, which the parser reports as its own error
+abbrev pub IsOutOfMemory : WordsFault → Type 0
+IsOutOfMemory (Clap error) = kind_of error ≡ OutOfMemory
+IsOutOfMemory Missing = ⊥
+
 -- the status that goes with a kind of error
 abbrev pub status_of_kind : ErrorKind → ℕ
 status_of_kind DisplayHelp = 0

@@ -23,7 +23,7 @@ pub enum WordsFault {
 }
 
 impl From<AllocError> for WordsFault {
-    ghost use Rattle.tune_cli.specs.Inside.Faults.{IsOutOfMemory};
+    ghost use Rattle.tune_cli.specs.CommandLine.{IsOutOfMemory};
 
     ghost from_gives = { λ _ fault. IsOutOfMemory fault };
 

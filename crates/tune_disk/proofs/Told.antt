@@ -2,12 +2,13 @@
 use Rattle.std.proofs.Common.{◌≡◌, ◌⊎◌, inl, inr, ℕ, ◌+◌, ◌-◌, ◌<◌, ◌≤◌, List, [], ◌∷◌, ◌++◌, length, get_or, refl, sym, ◌∙◌, ap, subst, arith, Result, Ok, Err}
 use Rattle.std.proofs.Common.{IfOk, OnOk, OnErr, IsErr, MatchResult, is_ok}
 use Rattle.std.proofs.lemmas.Bool.{cases_lt}
-use Rattle.std.proofs.lemmas.List.{get_or_past}
+use Rattle.std.proofs.lemmas.List.{get_or_past, append-nil, append_assoc}
 use Rattle.tune_disk.specs.Bytes.{put}
 use Rattle.tune_disk.specs.Disk.{DiskState, Written, Torn, GoesTo, Writes, Syncs, touched}
 use Rattle.tune_disk.specs.FileTold.{History, Course, told, course, AnswerFits, AnswersFit, after_write, after_sync}
 use Rattle.tune_disk.specs.Inside.Overwrites.{put_written}
-use Rattle.tune_disk.specs.Inside.ToldMore.{IsToldMore, IsToldRead, IsToldWrite, IsInHand}
+use Rattle.tune_disk.specs.Inside.ToldMore.{IsToldMore, IsToldRead, IsToldWrite}
+use Rattle.tune_disk.specs.Inside.ToldMore.{IsToldBroken, IsToldTaken}
 use Rattle.tune_disk.specs.declared.file.told.Told.{Told}
 use Rattle.tune_disk.specs.declared.file.told.Told.TheVariants.{Length, Byte, Ended, Begun, Put, Wrote, Broke, Synced}
 
@@ -42,10 +43,10 @@ module _ (old new : Log) (at : ℕ) (one : Told) (is : new ≡ old ++ (at, one) 
 told_none : (log : Log) → IsToldMore log log
 told_none log = record { fits = λ h c fit. fit; state = λ h c. refl }
 
-told_same : (a z : Log) → z ≡ a → IsToldMore a z
+pub told_same : (a z : Log) → z ≡ a → IsToldMore a z
 told_same a z is = subst (IsToldMore a) (sym is) (told_none a)
 
-told_then : (a b c : Log) → IsToldMore a b → IsToldMore b c → IsToldMore a c
+pub told_then : (a b c : Log) → IsToldMore a b → IsToldMore b c → IsToldMore a c
 told_then a b c s t = record { fits = λ h k fit. s.fits h k (t.fits h k fit); state = λ h k. t.state h k ∙ s.state h k }
 
 -- Reads.
@@ -107,33 +108,67 @@ read_join at d n xs ys zs a m z r s front back = record {
         ∙ ap (λ (l : List ℕ). get_or l ((at + d) + it.0) 0) (ap (λ (t : DiskState). t.seen) (r.more.state h c))
         ∙ ap (λ (i : ℕ). get_or (course h c a).state.seen i 0) (shift it.0 ∙ ap (λ (i : ℕ). at + i) (sym it.2))
 
--- A write in hand.
+-- A write.
 
-pub begun : (at : ℕ) (a z : Log) → z ≡ a ++ (at, Begun) ∷ [] → IsInHand [] a z
-begun at a z is = record {
-  fits = λ h c fit. (fit_is a z at Begun is h c fit).0;
-  state = λ h c. state_is a z at Begun is h c;
-  hand = λ h c. ap (λ (k : Course). k.hand) (course_is a z at Begun is h c);
+hand_is : (old new : Log) (at : ℕ) (one : Told) → new ≡ old ++ (at, one) ∷ [] → (h : History) (c : Course)
+    → (course h c new).hand ≡ (told h at one (course h c old)).hand
+hand_is old new at one is h c = ap (λ (k : Course). k.hand) (course_is old new at one is h c)
+
+pub taken_none : (log : Log) → IsToldTaken [] log log
+taken_none log = record { more = told_none log; hand = λ h c. sym (append-nil (course h c log).hand) }
+
+pub taken_then : (xs ys : List ℕ) (a m z : Log) → IsToldTaken xs a m → IsToldTaken ys m z → IsToldTaken (xs ++ ys) a z
+taken_then xs ys a m z r s = record {
+  more = told_then a m z r.more s.more;
+  hand = λ h c.
+      s.hand h c ∙ ap (λ (l : List ℕ). l ++ ys) (r.hand h c) ∙ append_assoc (course h c a).hand xs ys;
 }
 
-pub in_hand_more : (at b : ℕ) (bytes : List ℕ) (a m z : Log) → IsInHand bytes a m → z ≡ m ++ (at, Put b) ∷ [] → IsInHand (bytes ++ b ∷ []) a z
-in_hand_more at b bytes a m z r is = record {
-  fits = λ h c fit. r.fits h c (fit_is m z at (Put b) is h c fit).0;
-  state = λ h c. state_is m z at (Put b) is h c ∙ r.state h c;
-  hand = λ h c. ap (λ (k : Course). k.hand) (course_is m z at (Put b) is h c) ∙ ap (λ (l : List ℕ). l ++ b ∷ []) (r.hand h c);
-}
+-- one byte more
+pub taken_more : (at b : ℕ) (bytes : List ℕ) (a m z : Log) → IsToldTaken bytes a m → z ≡ m ++ (at, Put b) ∷ [] → IsToldTaken (bytes ++ b ∷ []) a z
+taken_more at b bytes a m z r is =
+    taken_then bytes (b ∷ []) a m z r (record { more = more_told m z at (Put b) is (λ h c. refl); hand = λ h c. hand_is m z at (Put b) is h c })
 
-pub written_told : (at : ℕ) (bytes : List ℕ) (a m z : Log) → IsInHand bytes a m → z ≡ m ++ (at, Wrote) ∷ [] → IsToldWrite at bytes a z
-written_told at bytes a m z r is = record {
-  fits = λ h c fit. r.fits h c (fit_is m z at Wrote is h c fit).0;
-  state = λ h c.
-      (let hand = (course h c m).hand in
-      let s = (course h c a).state in
-      state_is m z at Wrote is h c ∙ ap (λ (t : DiskState). after_write at (length hand) (put at hand t.seen) t) (r.state h c)
-      ∙ ap (λ (l : List ℕ). after_write at (length l) (put at l s.seen) s) (r.hand h c));
-}
+-- A write began at b, which took these bytes by m, and ended at z.
+module _ (at : ℕ) (a b m z : Log) (begun : b ≡ a ++ (at, Begun) ∷ []) where
+  began : IsToldMore a b
+  began = more_told a b at Begun begun (λ h c. refl)
+
+  pub written_told : (bytes : List ℕ) → IsToldTaken bytes b m → z ≡ m ++ (at, Wrote) ∷ [] → IsToldWrite at bytes a z
+  written_told bytes r is = record {
+    fits = λ h c fit. began.fits h c (r.more.fits h c (fit_is m z at Wrote is h c fit).0);
+    state = λ h c.
+        (let hand = (course h c m).hand in
+        let s = (course h c a).state in
+        let same : hand ≡ bytes = r.hand h c ∙ ap (λ (l : List ℕ). l ++ bytes) (hand_is a b at Begun begun h c) in
+        state_is m z at Wrote is h c
+        ∙ ap (λ (t : DiskState). after_write at (length hand) (put at hand t.seen) t) (r.more.state h c ∙ began.state h c)
+        ∙ ap (λ (l : List ℕ). after_write at (length l) (put at l s.seen) s) same);
+  }
+
+  pub broken_told : (n : ℕ) → IsToldMore b m → z ≡ m ++ (at, Broke n) ∷ [] → IsToldBroken at n a z
+  broken_told n r is = record {
+    fits = λ h c fit. began.fits h c (r.fits h c (fit_is m z at (Broke n) is h c fit).0);
+    state = λ h c fit.
+        (let content = get_or h.broken (course h c m).failed [] in
+        let same : (course h c m).state ≡ (course h c a).state = r.state h c ∙ began.state h c in (
+          content,
+          (
+            subst (λ (t : DiskState). Torn at n t.seen content) same (fit_is m z at (Broke n) is h c fit).1,
+            state_is m z at (Broke n) is h c ∙ ap (λ (t : DiskState). after_write at n content t) same,
+          ),
+        ));
+  }
 
 -- What the calls of the system owe the disk.
+
+pub on_ok : {T E : Type 0} (r : Result T E) (P : Type 0) → P → OnOk r P
+on_ok (Ok v) P p = p
+on_ok (Err e) P p = tt
+
+pub on_err : {T E : Type 0} (r : Result T E) (P : Type 0) → P → OnErr r P
+on_err (Ok v) P p = tt
+on_err (Err e) P p = p
 
 -- an answer without its error is one where the answer was
 pub same_answer : {T E F : Type 0} (r : Result T E) (t : Result T F) → MatchResult r (λ v. t ≡ Ok v) (λ _. IsErr t) → is_ok t ≡ is_ok r
@@ -166,15 +201,15 @@ sync_told h c (Ok x) (Err y) a z ok err same = cc
 sync_told h c (Err x) (Ok y) a z ok err same = cc
 
 pub write_more : {T E : Type 0} (r : Result T E) (at : ℕ) (bytes : List ℕ) (a z : Log) → OnOk r (IsToldWrite at bytes a z)
-    → OnErr r (z ≡ a ++ (at, Broke (length bytes)) ∷ []) → (h : History) (c : Course) → AnswersFit h c z → AnswersFit h c a
+    → OnErr r (IsToldBroken at (length bytes) a z) → (h : History) (c : Course) → AnswersFit h c z → AnswersFit h c a
 write_more (Ok t) at bytes a z ok err h c fit = ok.fits h c fit
-write_more (Err e) at bytes a z ok err h c fit = (fit_is a z at (Broke (length bytes)) err h c fit).0
+write_more (Err e) at bytes a z ok err h c fit = err.fits h c fit
 
 write_goes : (at n : ℕ) (content : List ℕ) (s z : DiskState) → z ≡ after_write at n content s → GoesTo (touched at n s.now) s z
 write_goes at n content s z is = record { now = ap (λ (t : DiskState). t.now) is; past = ap (λ (t : DiskState). t.past) is }
 
 pub write_told : {T U E F : Type 0} (h : History) (c : Course) (r : Result T E) (t : Result U F) (at : ℕ) (bytes : List ℕ) (a z : Log)
-    → OnOk r (IsToldWrite at bytes a z) → OnErr r (z ≡ a ++ (at, Broke (length bytes)) ∷ []) → is_ok t ≡ is_ok r → AnswersFit h c z
+    → OnOk r (IsToldWrite at bytes a z) → OnErr r (IsToldBroken at (length bytes) a z) → is_ok t ≡ is_ok r → AnswersFit h c z
     → Writes at bytes t (course h c a).state (course h c z).state
 write_told h c (Ok x) (Ok y) at bytes a z ok err same fit =
     let s = (course h c a).state in
@@ -185,11 +220,10 @@ write_told h c (Ok x) (Ok y) at bytes a z ok err same fit =
 write_told h c (Err x) (Err y) at bytes a z ok err same fit =
     let n = length bytes in
     let s = (course h c a).state in
-    let content = get_or h.broken (course h c a).failed [] in
-    let is : (course h c z).state ≡ after_write at n content s = state_is a z at (Broke n) err h c in
+    let left = err.state h c fit in
     inr (
-      subst (Torn at n s.seen) (sym (ap (λ (t : DiskState). t.seen) is)) (fit_is a z at (Broke n) err h c fit).1,
-      write_goes at n content s (course h c z).state is,
+      subst (Torn at n s.seen) (sym (ap (λ (t : DiskState). t.seen) left.1.1)) left.1.0,
+      write_goes at n left.0 s (course h c z).state left.1.1,
     )
 write_told h c (Ok x) (Err y) at bytes a z ok err same fit = cc
 write_told h c (Err x) (Ok y) at bytes a z ok err same fit = cc

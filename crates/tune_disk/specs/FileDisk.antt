@@ -1,5 +1,5 @@
 -- What a `FileDisk` stands for.
-use Rattle.std.specs.Prelude.{◌≡◌, []}
+use Rattle.std.specs.Prelude.{◌≡◌, ℕ, [], IsTrue}
 use Rattle.tune_disk.specs.Disk.{DiskState, MayLeave}
 use Rattle.tune_disk.specs.FileTold.{History, history_of, at_opening, course, AnswersFit}
 use Rattle.tune_disk.specs.declared.file.FileDisk.{FileDisk}
@@ -11,11 +11,21 @@ abbrev pub file_state : FileDisk → DiskState
 file_state disk =
     (course (file_history disk) (at_opening (file_history disk)) disk.log.items).state
 
+-- how often a call has failed
+abbrev pub file_failures : FileDisk → ℕ
+file_failures disk = disk.failed
+
 -- All that the file told fits what it stood for, from the opening on.
 pub record FileIsHonest (disk : FileDisk) : Type 0 where
   pub opened : MayLeave (file_history disk).opened.now (file_history disk).opened.seen
   pub told : AnswersFit (file_history disk) (at_opening (file_history disk)) disk.log.items
 
+-- A sync of this disk has failed, and that is final: each later call is a fault.
+abbrev pub SyncHasFailed : FileDisk → Type 0
+SyncHasFailed disk = IsTrue disk.sync_failed
+
 -- The file has told nothing yet, and no call has failed.
-abbrev pub HasJustOpened : FileDisk → Type 0
-HasJustOpened disk = (disk.log.items ≡ []) × (disk.failed ≡ 0)
+pub record HasJustOpened (disk : FileDisk) : Type 0 where
+  pub told : disk.log.items ≡ []
+  pub failed : disk.failed ≡ 0
+  pub synced : SyncHasFailed disk → ⊥

@@ -18,8 +18,8 @@ pub record History : Type 0 where
 pub history_of : ℕ → History
 history_of opening = record { opened = fresh []; broken = [] }
 
--- A file as it goes on: what it stands for, the bytes of the write in hand, and how many writes
--- have failed.
+-- A file as it goes on: what it stands for, the bytes that it took of the write in hand, and how
+-- many writes have failed.
 pub record Course : Type 0 where
   pub state : DiskState
   pub hand : List ℕ

@@ -1,27 +1,35 @@
 // A disk over a file of the operating system.
-ghost use Rattle.std.specs.Prelude.{◌≡◌, ◌≢◌, ◌+◌, ◌^◌, ◌≤◌, length, [], IfOk, OnOk, OnErr, IfSome};
-ghost use Rattle.std.specs.Prelude.{IsErr, MatchResult};
+ghost use Rattle.std.specs.Prelude.{◌≡◌, ◌≢◌, ◌+◌, ◌^◌, ◌≤◌, ◌↔◌, length, [], IfOk, OnOk, OnErr};
+ghost use Rattle.std.specs.Prelude.{IfSome, IsErr, IsTrue, MatchResult};
 ghost use Rattle.std.specs.Path.{path_parent};
-ghost use Rattle.tune_disk.specs.Disk.{CountsFailure};
-ghost use Rattle.tune_disk.specs.Inside.ToldMore.{IsToldRead, IsToldMore};
+ghost use Rattle.tune_disk.specs.Disk.{CountsFailure, CountsUp, Calls, Looks, Shows, Writes, Syncs};
+ghost use Rattle.tune_disk.specs.FileDisk.{file_state, file_failures, FileIsHonest, SyncHasFailed};
+ghost use Rattle.tune_disk.specs.Inside.ToldMore.{IsToldMore, IsToldRead, IsToldWrite};
+ghost use Rattle.tune_disk.specs.Inside.ToldMore.{IsToldBroken, IsToldTaken};
 
 mod calls;
 mod told;
 
 use crate::{DeviceFault, Disk};
-use calls::{make_stable, measure, read_part, write_all};
+use calls::{make_stable, measure, read_part, write_part};
 use http_server::Log;
 use std::fs::{File, Files, OpenOptions};
-use std::io;
 use std::path::{AsPath, Path};
 use std::snapshot::Snapshot;
+use std::{fs, io};
 use told::Told;
 
-/// A file of the operating system, open for reading and writing. Its answers are kept for clauses
-/// alone, which speak of files whose answers fit.
+/// A file of the operating system, open for reading and writing, and locked as long as it is: no
+/// other `FileDisk` has the same file, in this program or another. (The lock is the system's
+/// `flock`, which binds only those who ask for it.) Its answers are kept for clauses alone, which
+/// speak of files whose answers fit.
+///
+/// A sync that failed is final: each later call is a fault. The system may have let go what that
+/// sync did not write, and would then answer that a second one went well.
 #[derive(Drop)]
 pub struct FileDisk {
     file: File,
+    sync_failed: bool,
     // Which opening this is, and what the file told since. Clauses alone read them: they take no
     // memory.
     opening: Snapshot<u64>,
@@ -32,22 +40,21 @@ pub struct FileDisk {
 impl FileDisk {
     ghost use Rattle.tune_disk.specs.FileDisk.{HasJustOpened};
 
-    /// The file at this path, as it is. A fault where there is none, or where it may not be read
-    /// and written.
+    /// The file at this path, as it is. A fault where the path leads to no regular file (but to a
+    /// device, a pipe, a folder or nothing), where the file may not be read and written, or where
+    /// another has locked it.
     pub fn open<R: Files<File = File>, P: AsPath>(rt: &R, path: P) -> Result<FileDisk, DeviceFault>
         ensures { IfOk result HasJustOpened }
     {
-        let mut how = OpenOptions::new();
-        let how = how.read(true).write(true);
-        match how.open(rt, path) {
+        match open_locked(rt, path.path_text()) {
             Ok(file) => Ok(FileDisk::over(file)),
             Err(_) => Err(DeviceFault),
         }
     }
 
-    /// The file at this path, as it is, or a new empty one. Its folder is synced, so that a stop
-    /// leaves a new file there. A fault where none can be made, or where it may not be read and
-    /// written.
+    /// The file at this path, as it is, or a new empty one where nothing is there. The folder that
+    /// the path names is synced, so that a stop leaves a new file there. A fault where none can be
+    /// made, also where a symbolic link leads to nothing, and where `open` has one.
     pub fn create<R: Files<File = File>, P: AsPath>(
         rt: &R,
         path: P,
@@ -65,6 +72,7 @@ impl FileDisk {
     {
         FileDisk {
             file,
+            sync_failed: false,
             opening: Snapshot::of(&0),
             log: Log::new(),
             failed: 0,
@@ -72,9 +80,33 @@ impl FileDisk {
     }
 }
 
-fn open_or_make<R: Files<File = File>>(rt: &R, path: &str) -> io::Result<File> {
+// A path that leads to a device or a pipe is not opened at all, since that alone may do something.
+// What was opened is asked again, in case another file stands there by now.
+fn open_locked<R: Files<File = File>>(rt: &R, path: &str) -> io::Result<File> {
+    if !fs::metadata(rt, path)?.is_file() {
+        return Err(io::ErrorKind::InvalidInput.into());
+    }
     let mut how = OpenOptions::new();
-    let file = how.read(true).write(true).create(true).open(rt, path)?;
+    lock(how.read(true).write(true).open(rt, path)?)
+}
+
+// The file with its lock, which it has until it is closed.
+fn lock(file: File) -> io::Result<File> {
+    if !file.metadata()?.is_file() {
+        return Err(io::ErrorKind::InvalidInput.into());
+    }
+    file.try_lock()?;
+    Ok(file)
+}
+
+fn open_or_make<R: Files<File = File>>(rt: &R, path: &str) -> io::Result<File> {
+    let file = match open_locked(rt, path) {
+        // It follows no link, so a file that it makes stands in the folder that the path names.
+        Err(error) if error.kind() == io::ErrorKind::NotFound => {
+            lock(File::create_new(rt, path)?)?
+        }
+        opened => opened?,
+    };
     File::open(rt, folder_of(path))?.sync_all()?;
     Ok(file)
 }
@@ -90,36 +122,77 @@ fn folder_of(path: &str) -> &str
 }
 
 impl Disk for FileDisk {
-    ghost use Rattle.tune_disk.specs.FileDisk.{file_state, FileIsHonest};
     ghost use Rattle.tune_disk.specs.Inside.FileStays.{file_stays};
 
     ghost state = { file_state };
 
-    ghost failures = { λ d. d.failed };
+    ghost failures = { file_failures };
 
     ghost honest = { FileIsHonest };
 
     ghost seen_may_stay = { file_stays };
 
-    fn len(&mut self) -> Result<u64, DeviceFault> {
+    fn len(&mut self) -> Result<u64, DeviceFault>
+        ensures len { IfOk result (λ n. FileIsHonest self.new
+            → n ≡ length (file_state self.old).seen) }
+        ensures looks { Looks FileIsHonest file_failures file_state result self.old self.new }
+        ensures refused { SyncHasFailed self.old → IsErr result }
+        ensures syncs { SyncHasFailed self.new ↔ SyncHasFailed self.old }
+    {
+        go_on(self.sync_failed, &mut self.failed)?;
         let size = measure(&self.file, &mut self.log);
         counted(size, &mut self.failed)
     }
 
-    fn read(&mut self, at: u64, into: &mut [u8]) -> Result<(), DeviceFault> {
+    fn read(&mut self, at: u64, into: &mut [u8]) -> Result<(), DeviceFault>
+        requires { at + length into.old ≤ 2 ^ 40 }
+        ensures read { OnOk result (FileIsHonest self.new
+            → Shows (file_state self.old).seen at into.new) }
+        ensures looks { Looks FileIsHonest file_failures file_state result self.old self.new }
+        ensures refused { SyncHasFailed self.old → IsErr result }
+        ensures syncs { SyncHasFailed self.new ↔ SyncHasFailed self.old }
+    {
+        go_on(self.sync_failed, &mut self.failed)?;
         let done = read_all(&self.file, &mut self.log, at, into);
         counted(done, &mut self.failed)
     }
 
-    fn write_at(&mut self, at: u64, bytes: &[u8]) -> Result<(), DeviceFault> {
+    fn write_at(&mut self, at: u64, bytes: &[u8]) -> Result<(), DeviceFault>
+        requires { at + length bytes.now ≤ 2 ^ 40 }
+        ensures write { FileIsHonest self.new
+            → Writes at bytes.now result (file_state self.old) (file_state self.new) }
+        ensures calls { Calls FileIsHonest file_failures result self.old self.new }
+        ensures refused { SyncHasFailed self.old → IsErr result }
+        ensures syncs { SyncHasFailed self.new ↔ SyncHasFailed self.old }
+    {
+        go_on(self.sync_failed, &mut self.failed)?;
         let done = write_all(&self.file, &mut self.log, at, bytes);
         counted(done, &mut self.failed)
     }
 
-    fn sync(&mut self) -> Result<(), DeviceFault> {
+    fn sync(&mut self) -> Result<(), DeviceFault>
+        ensures sync { FileIsHonest self.new
+            → Syncs result (file_state self.old) (file_state self.new) }
+        ensures calls { Calls FileIsHonest file_failures result self.old self.new }
+        ensures refused { SyncHasFailed self.old → IsErr result }
+        ensures syncs { SyncHasFailed self.new ↔ IsErr result }
+    {
+        go_on(self.sync_failed, &mut self.failed)?;
         let done = make_stable(&self.file, &mut self.log);
+        self.sync_failed = done.is_err();
         counted(done, &mut self.failed)
     }
+}
+
+// Fails where a sync has failed.
+fn go_on(sync_failed: bool, failed: &mut u64) -> Result<(), DeviceFault>
+    ensures refused { IsErr result ↔ IsTrue sync_failed }
+    ensures counted { CountsFailure result failed.old failed.new }
+{
+    if sync_failed {
+        return Err(fault(failed));
+    }
+    Ok(())
 }
 
 // The answer without its error, which is counted.
@@ -129,11 +202,15 @@ fn counted<T: Drop>(done: io::Result<T>, failed: &mut u64) -> Result<T, DeviceFa
 {
     match done {
         Ok(value) => Ok(value),
-        Err(_) => {
-            *failed = failed.saturating_add(1);
-            Err(DeviceFault)
-        }
+        Err(_) => Err(fault(failed)),
     }
+}
+
+fn fault(failed: &mut u64) -> DeviceFault
+    ensures { CountsUp failed.old failed.new }
+{
+    *failed = failed.saturating_add(1);
+    DeviceFault
 }
 
 // Reads until all the bytes are there; past the end of the file they are zeros.
@@ -147,6 +224,34 @@ fn read_all(file: &File, log: &mut Log<u64, Told>, at: u64, into: &mut [u8]) -> 
     let mut done = 0;
     while done < size {
         done += read_part(file, log, at + done as u64, &mut into[done..])?;
+    }
+    Ok(())
+}
+
+// Writes all of these bytes, and tells how that ended.
+fn write_all(file: &File, log: &mut Log<u64, Told>, at: u64, bytes: &[u8]) -> io::Result<()>
+    requires { at + length bytes.now ≤ 2 ^ 40 }
+    ensures ok { OnOk result (IsToldWrite at bytes.now log.old.items log.new.items) }
+    ensures err { OnErr result (IsToldBroken at (length bytes.now) log.old.items log.new.items) }
+{
+    *log = log.and(&at, &Told::Begun);
+    let done = write_parts(file, log, at, bytes);
+    match done {
+        Ok(()) => *log = log.and(&at, &Told::Wrote),
+        Err(_) => *log = log.and(&at, &Told::Broke(bytes.len() as u64)),
+    }
+    done
+}
+
+// Writes until the system has taken all the bytes.
+fn write_parts(file: &File, log: &mut Log<u64, Told>, at: u64, bytes: &[u8]) -> io::Result<()>
+    requires { at + length bytes.now ≤ 2 ^ 40 }
+    ensures ok { OnOk result (IsToldTaken bytes.now log.old.items log.new.items) }
+    ensures err { OnErr result (IsToldMore log.old.items log.new.items) }
+{
+    let mut done = 0;
+    while done < bytes.len() {
+        done += write_part(file, log, at + done as u64, &bytes[done..])?;
     }
     Ok(())
 }

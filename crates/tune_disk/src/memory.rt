@@ -1,6 +1,6 @@
 // A disk in memory, which keeps a record of its writes and syncs.
 ghost use Rattle.std.specs.Prelude.{◌≡◌, ◌∷◌, ◌++◌, [], ◌<◌, ◌≤◌, ◌^◌, ◌+◌, IfOk, OnOk, OnErr};
-ghost use Rattle.std.specs.Prelude.{IsOk, is_ok, length, take, drop};
+ghost use Rattle.std.specs.Prelude.{IsOk, is_ok, ℕ, List, length, take, drop};
 ghost use Rattle.tune_disk.specs.Bytes.{filled};
 ghost use Rattle.tune_disk.specs.Disk.{Written, Writes, Shows, CountsFailure};
 ghost use Rattle.tune_disk.specs.Records.{state_of};
@@ -59,13 +59,7 @@ impl MemoryDisk {
     pub fn from_bytes(alloc: Global, bytes: &[u8]) -> Result<MemoryDisk, AllocError>
         ensures { IfOk result (λ disk. memory_state disk ≡ fresh bytes.now) }
     {
-        Ok(MemoryDisk {
-            alloc,
-            first: bytes.to_vec(alloc)?,
-            records: Vec::new(alloc),
-            content: bytes.to_vec(alloc)?,
-            failed: 0,
-        })
+        MemoryDisk::holding(alloc, bytes.to_vec(alloc)?)
     }
 
     /// The present content.
@@ -87,26 +81,57 @@ impl MemoryDisk {
             → (memory_state disk).seen ≡ (memory_state self.now).seen) }
     {
         let file = match choice {
-            StopChoice::Lost => stable(self.alloc, &self.first, &self.records)?,
+            StopChoice::Lost => {
+                let synced = &self.records[..up_to_last_sync(&self.records)];
+                replay(self.alloc, &self.first, synced)?
+            }
             StopChoice::Kept => self.content.to_vec(self.alloc)?,
         };
-        MemoryDisk::from_bytes(self.alloc, &file)
+        MemoryDisk::holding(self.alloc, file)
+    }
+
+    // A disk that holds this file, all of it stable.
+    fn holding(alloc: Global, file: Vec<u8>) -> Result<MemoryDisk, AllocError>
+        ensures { IfOk result (λ disk. memory_state disk ≡ fresh file.items) }
+    {
+        Ok(MemoryDisk {
+            alloc,
+            first: file.to_vec(alloc)?,
+            records: Vec::new(alloc),
+            content: file,
+            failed: 0,
+        })
     }
 }
 
-// What the last sync left.
-fn stable(alloc: Global, first: &[u8], records: &[Record]) -> Result<Vec<u8>, AllocError>
-    ensures { IfOk result (λ file. file.items ≡ (state_of first.now records.now).now.stable) }
+// How many records there are up to the last sync: after them stands what that sync left.
+fn up_to_last_sync(records: &[Record]) -> usize
+    ensures bound { result ≤ length records.now }
+    ensures left { (first : List ℕ) → (state_of first (take result records.now)).seen
+        ≡ (state_of first records.now).now.stable }
 {
-    let mut stable = first.to_vec(alloc)?;
+    let mut synced = 0;
+    for i in 0..records.len() {
+        match &records[i] {
+            Record::Write(_, _) => {}
+            Record::Sync => synced = i + 1,
+        }
+    }
+    synced
+}
+
+// The content after all of these records.
+fn replay(alloc: Global, first: &[u8], records: &[Record]) -> Result<Vec<u8>, AllocError>
+    ensures { IfOk result (λ file. file.items ≡ (state_of first.now records.now).seen) }
+{
     let mut content = first.to_vec(alloc)?;
     for one in records {
         match one {
             Record::Write(at, bytes) => overwrite(&mut content, *at, bytes)?,
-            Record::Sync => stable = content.to_vec(alloc)?,
+            Record::Sync => {}
         }
     }
-    Ok(stable)
+    Ok(content)
 }
 
 impl Disk for MemoryDisk {

@@ -4,7 +4,8 @@ use Rattle.std.proofs.Common.{None, ℤ, ◌-ℤ◌, append_assoc, length-append
 use Rattle.std.specs.Prelude.{cond}
 use Rattle.std.proofs.lemmas.List.{append-nil}
 use Rattle.abc_notes.specs.Pitches.{SoundedNote}
-use Rattle.tune_incipit.specs.Incipits.{counting_pitches, differences, incipit_of, steps_and}
+use Rattle.tune_incipit.specs.Incipits.{counting_pitches, differences, incipit_of}
+use Rattle.tune_incipit.specs.Inside.NextSteps.{steps_and}
 
 -- the steps from the last note, if one has come, through these pitches
 unfoldable pub steps_on : Option ℤ → List ℤ → List ℤ

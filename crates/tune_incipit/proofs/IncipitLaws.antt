@@ -25,6 +25,10 @@ length-incipit_of count notes =
     ∙ ap (λ n. n - 1)
     (length-take count (counting_pitches notes) ∙ ap (min count) (length-map kept (λ note. note.pitch) ∙ length-filter (λ note. note.counts) notes))
 
+pub length-steps : (count : ℕ) (notes : List SoundedNote) (steps : List ℤ) → steps ≡ incipit_of count notes
+    → length steps ≡ min count (count_by (λ note. note.counts) notes) - 1
+length-steps count notes steps are = ap length are ∙ length-incipit_of count notes
+
 raised_step : (by a b : ℤ) → (b +ℤ by) -ℤ (a +ℤ by) ≡ b -ℤ a
 raised_step by a b = omega (arith, ints)
 

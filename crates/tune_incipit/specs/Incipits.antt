@@ -1,6 +1,5 @@
 -- Incipits: the steps between the first notes of a tune that count (own profile).
-use Rattle.std.specs.Prelude.{ℕ, List, [], ◌∷◌, ◌++◌, map, filter, take, Option, Some, None, ℤ}
-use Rattle.std.specs.Prelude.{◌+ℤ◌, ◌-ℤ◌}
+use Rattle.std.specs.Prelude.{ℕ, List, [], ◌∷◌, map, filter, take, ℤ, ◌+ℤ◌, ◌-ℤ◌}
 use Rattle.abc_keys.specs.Signatures.{no_accidentals}
 use Rattle.abc_notes.specs.Pitches.{SoundedNote, sounded_notes}
 use Rattle.abc_notes.specs.Music.{tune_events, tune_signature, music_events}
@@ -36,9 +35,3 @@ raised_note by note = record note { pitch = note.pitch +ℤ by }
 
 abbrev pub raised : ℤ → List SoundedNote → List SoundedNote
 raised by notes = map (raised_note by) notes
-
--- ONE NOTE AFTER ANOTHER
--- the steps after one more pitch, where this was the last one before it
-abbrev pub steps_and : List ℤ → Option ℤ → ℤ → List ℤ
-steps_and steps None pitch = steps
-steps_and steps (Some before) pitch = steps ++ (pitch -ℤ before) ∷ []

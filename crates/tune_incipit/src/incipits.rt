@@ -2,7 +2,7 @@
 ghost use Rattle.std.specs.Prelude.{◌≡◌, ◌+◌, ◌-◌, ◌<◌, ◌≤◌, ◌↔◌, ◌++◌, ◌∷◌, [], List, ℕ, ℤ};
 ghost use Rattle.std.specs.Prelude.{length, count_by, min, IsTrue, IfOk, IsErr, IsOk, option_map};
 ghost use Rattle.tune_incipit.specs.Incipits.{incipit_of, tune_notes, query_notes, raised};
-ghost use Rattle.tune_incipit.specs.Incipits.{steps_and};
+ghost use Rattle.tune_incipit.specs.Inside.NextSteps.{steps_and};
 ghost use Rattle.tune_incipit.specs.Inside.StepRows.{most_steps};
 ghost use Rattle.tune_incipit.specs.Limits.{fewest_notes, most_notes};
 ghost use Rattle.abc_fields.specs.Limits.{longest_book};

@@ -12,7 +12,7 @@ use Rattle.tune_journal.specs.Image.{window, number, entry_offset, pages_of, ent
 use Rattle.tune_journal.specs.Image.{HasLog, entry_count_of}
 use Rattle.tune_journal.specs.Inside.Phases.{KeepsBoth, IsNoLog, IsOutside, HoldsEntries, HoldsDescriptor, Settles}
 use Rattle.tune_journal.specs.Inside.Rest.{IsAtRest, IsLogged, IsOpened, IsApplied}
-use Rattle.tune_journal.specs.Layout.{block_bytes, gate_offset, gate_open, descriptor_offset, entry_count_offset, count_offset, entry_bytes}
+use Rattle.tune_journal.specs.Layout.{block_bytes, gate_offset, gate_open, gate_closed, descriptor_offset, entry_count_offset, count_offset, entry_bytes}
 use Rattle.tune_journal.specs.Layout.{most_pages}
 use Rattle.tune_journal.specs.Pages.{changed, NamesAll}
 use Rattle.tune_journal.proofs.Windows.{front_window, back_window}
@@ -43,13 +43,39 @@ entries_written m log f most below held =
         let image : window (entry_offset m i + 4) block_bytes f ≡ e.1 = back_window (entry_offset m i) 4 block_bytes f (big_bytes 4 e.0) e.1 both refl in
         entries_at m (length log) i f d lt ∙ (λ t. (page t, image t)) ∙ get_or_default log i (0, []) d lt
 
-module _ (n m : ℕ) (old new : DiskState) (log : List (ℕ × List ℕ)) (rest : IsAtRest n old) (le : n ≤ m) (most : m ≤ most_pages) (is_log : IsLog m log)
-    (ran : Settles (IsNoLog m) old new) (held : HoldsEntries (entry_offset m 0) log (length log) new.seen) (descriptor : HoldsDescriptor m
-    (length log) new.seen) where
+module _ (m : ℕ) (log : List (ℕ × List ℕ)) (most : m ≤ most_pages) (is_log : IsLog m log) (new : DiskState)
+    (held : HoldsEntries (entry_offset m 0) log (length log) new.seen) (descriptor : HoldsDescriptor m (length log) new.seen) where
+  logged_count : new_count_of new.seen ≡ m
+  logged_count =
+      number_is descriptor_offset m new.seen (omega arith)
+      (front_window descriptor_offset 4 4 new.seen (big_bytes 4 m) (big_bytes 4 (length log)) descriptor.0 refl)
+
+  logged_size : entry_count_of new.seen ≡ length log
+  logged_size =
+      number_is entry_count_offset (length log) new.seen (omega (arith, is_log.few))
+      (back_window descriptor_offset 4 4 new.seen (big_bytes 4 m) (big_bytes 4 (length log)) descriptor.0 refl)
+
+  logged_entries : entries m (length log) new.seen ≡ log
+  logged_entries = entries_written m log new.seen most is_log.below held
+
+  pub logged_log : log_of new.seen ≡ log
+  logged_log = (λ t. entries (logged_count t) (logged_size t) new.seen) ∙ logged_entries
+
+  logged_long : entry_offset m (length log) ≤ length new.seen
+  logged_long = let h = held (length log - 1) (omega (arith, is_log.some)) in omega (arith, is_log.some, h.1)
+
+  logged_has : HasLog m (entry_count_of new.seen) new.seen
+  logged_has = subst (λ (k : ℕ). HasLog m k new.seen) (sym logged_size) (record {
+    count = record { least = omega (arith, is_log.some, is_log.few); most = most; long = omega (arith, logged_long) };
+    long = logged_long;
+    log = subst (IsLog m) (sym logged_entries) is_log;
+  })
+
+module _ (n m : ℕ) (old new : DiskState) (rest : IsAtRest n old) (le : n ≤ m) (ran : Settles (IsNoLog m) old new) where
   agrees : Agrees (IsNoLog m) old.seen new.seen
   agrees = settles_agrees (IsNoLog m) old new ran
 
-  logged_pages : pages_of n new.seen ≡ pages_of n old.seen
+  pub logged_pages : pages_of n new.seen ≡ pages_of n old.seen
   logged_pages = agree_pages_of (IsNoLog m) old.seen new.seen agrees n rest.pages.long (λ i le' lt. inr (omega arith, omega arith))
 
   logged_rest : IsAtRest n new
@@ -63,60 +89,49 @@ module _ (n m : ℕ) (old new : DiskState) (log : List (ℕ × List ℕ)) (rest 
     pages = agree_count (IsNoLog m) old.seen new.seen agrees n rest.pages;
   }
 
-  new_count : new_count_of new.seen ≡ m
-  new_count =
-      number_is descriptor_offset m new.seen (omega arith)
-      (front_window descriptor_offset 4 4 new.seen (big_bytes 4 m) (big_bytes 4 (length log)) descriptor.0 refl)
-
-  size : entry_count_of new.seen ≡ length log
-  size =
-      number_is entry_count_offset (length log) new.seen (omega (arith, is_log.few))
-      (back_window descriptor_offset 4 4 new.seen (big_bytes 4 m) (big_bytes 4 (length log)) descriptor.0 refl)
-
-  logged_entries : entries m (length log) new.seen ≡ log
-  logged_entries = entries_written m log new.seen most is_log.below held
-
-  long : entry_offset m (length log) ≤ length new.seen
-  long = let h = held (length log - 1) (omega (arith, is_log.some)) in omega (arith, is_log.some, h.1)
-
-  pub logged_after : IsLogged n m new × (log_of new.seen ≡ log) × (pages_of n new.seen ≡ pages_of n old.seen)
-  logged_after = (
-    record {
-      rest = logged_rest;
-      new_count = new_count;
-      log = subst (λ (k : ℕ). HasLog m k new.seen) (sym size) (record {
-        count = record { least = omega (arith, is_log.some, is_log.few); most = most; long = omega (arith, long) };
-        long = long;
-        log = subst (IsLog m) (sym logged_entries) is_log;
-      });
-    },
-    (λ t. entries (new_count t) (size t) new.seen) ∙ logged_entries,
-    logged_pages,
-  )
+  pub logged_after : (log : List (ℕ × List ℕ)) → m ≤ most_pages → IsLog m log → HoldsEntries (entry_offset m 0) log (length log) new.seen
+      → HoldsDescriptor m (length log) new.seen → IsLogged n m new
+  logged_after log most is_log held descriptor = record {
+    rest = logged_rest;
+    new_count = logged_count m log most is_log new held descriptor;
+    log = logged_has m log most is_log new held descriptor;
+  }
 
 -- The gate.
-pub opened_after : (n m : ℕ) (old new : DiskState) → IsLogged n m old → Settles (IsOutside gate_offset 1) old new → gate_of new.seen ≡ gate_open
-    → IsOpened m new × (log_of new.seen ≡ log_of old.seen) × (pages_of m new.seen ≡ pages_of m old.seen)
-opened_after n m old new logged ran is =
-    let Kept = IsOutside gate_offset 1 in
-    let agrees = settles_agrees Kept old new ran in
-    let k : ℕ = entry_count_of old.seen in
-    let size : entry_count_of new.seen ≡ k =
-    agree_number Kept old.seen new.seen agrees entry_count_offset (omega (arith, logged.rest.headed.long)) (λ i le lt. inr (omega arith)) in
-    let new_count : new_count_of new.seen ≡ m =
-    agree_number Kept old.seen new.seen agrees descriptor_offset (omega (arith, logged.rest.headed.long)) (λ i le lt. inr (omega arith))
-    ∙ logged.new_count in
-    let same : entries m k new.seen ≡ entries m k old.seen = agree_entries Kept old.seen new.seen agrees m k logged.log.long (λ i le lt. inr (omega arith)) in (
-      record {
-        settled = settles_settled Kept old new ran;
-        headed = agree_headed Kept old.seen new.seen agrees logged.rest.headed (λ i lt. inl (omega arith));
-        gate = is;
-        new_count = new_count;
-        log = subst (λ (j : ℕ). HasLog m j new.seen) (sym size) (agree_log Kept old.seen new.seen agrees m k logged.log (λ i le lt. inr (omega arith)));
-      },
-      (λ t. entries (new_count t) (size t) new.seen) ∙ same ∙ sym (log_same m old.seen logged.new_count),
-      agree_pages_of Kept old.seen new.seen agrees m logged.log.count.long (λ i le lt. inr (omega arith)),
-    )
+module _ (n m : ℕ) (old new : DiskState) (logged : IsLogged n m old) (ran : Settles (IsOutside gate_offset 1) old new) where
+  off_gate : Agrees (IsOutside gate_offset 1) old.seen new.seen
+  off_gate = settles_agrees (IsOutside gate_offset 1) old new ran
+
+  opened_size : entry_count_of new.seen ≡ entry_count_of old.seen
+  opened_size =
+      agree_number (IsOutside gate_offset 1) old.seen new.seen off_gate entry_count_offset (omega (arith, logged.rest.headed.long))
+      (λ i le lt. inr (omega arith))
+
+  opened_count : new_count_of new.seen ≡ m
+  opened_count =
+      agree_number (IsOutside gate_offset 1) old.seen new.seen off_gate descriptor_offset (omega (arith, logged.rest.headed.long))
+      (λ i le lt. inr (omega arith))
+      ∙ logged.new_count
+
+  pub opened_log : log_of new.seen ≡ log_of old.seen
+  opened_log =
+      (λ t. entries (opened_count t) (opened_size t) new.seen)
+      ∙ agree_entries (IsOutside gate_offset 1) old.seen new.seen off_gate m (entry_count_of old.seen) logged.log.long (λ i le lt. inr (omega arith))
+      ∙ sym (log_same m old.seen logged.new_count)
+
+  pub opened_pages : pages_of m new.seen ≡ pages_of m old.seen
+  opened_pages = agree_pages_of (IsOutside gate_offset 1) old.seen new.seen off_gate m logged.log.count.long (λ i le lt. inr (omega arith))
+
+  pub opened_after : gate_of new.seen ≡ gate_open → IsOpened m new
+  opened_after is = record {
+    settled = settles_settled (IsOutside gate_offset 1) old new ran;
+    headed = agree_headed (IsOutside gate_offset 1) old.seen new.seen off_gate logged.rest.headed (λ i lt. inl (omega arith));
+    gate = is;
+    new_count = opened_count;
+    log =
+        subst (λ (j : ℕ). HasLog m j new.seen) (sym opened_size)
+        (agree_log (IsOutside gate_offset 1) old.seen new.seen off_gate m (entry_count_of old.seen) logged.log (λ i le lt. inr (omega arith)));
+  }
 
 -- The images.
 pub applied_after : (m : ℕ) (old new : DiskState) → (opened : IsOpened m old) → Settles (KeepsBoth (entries m (entry_count_of old.seen) old.seen)) old new
@@ -142,21 +157,24 @@ applied_after m old new opened ran count pages =
     }
 
 -- The gate again.
-pub closed_after : (m : ℕ) (old new : DiskState) → IsApplied m old → Settles (IsOutside gate_offset 1) old new → gate_of new.seen ≡ 0
-    → IsAtRest m new × (pages_of m new.seen ≡ pages_of m old.seen)
-closed_after m old new applied ran is =
-    let Kept = IsOutside gate_offset 1 in
-    let agrees = settles_agrees Kept old new ran in
-    let opened = applied.opened in (
-      record {
-        settled = settles_settled Kept old new ran;
-        headed = agree_headed Kept old.seen new.seen agrees opened.headed (λ i lt. inl (omega arith));
-        gate = λ it. absurd (omega (arith, is, it));
-        count = agree_number Kept old.seen new.seen agrees count_offset (omega (arith, opened.headed.long)) (λ i le lt. inr (omega arith)) ∙ applied.count;
-        pages = agree_count Kept old.seen new.seen agrees m opened.log.count;
-      },
-      agree_pages_of Kept old.seen new.seen agrees m opened.log.count.long (λ i le lt. inr (omega arith)),
-    )
+module _ (m : ℕ) (old new : DiskState) (applied : IsApplied m old) (ran : Settles (IsOutside gate_offset 1) old new) where
+  off_closed : Agrees (IsOutside gate_offset 1) old.seen new.seen
+  off_closed = settles_agrees (IsOutside gate_offset 1) old new ran
+
+  pub closed_pages : pages_of m new.seen ≡ pages_of m old.seen
+  closed_pages = agree_pages_of (IsOutside gate_offset 1) old.seen new.seen off_closed m applied.opened.log.count.long (λ i le lt. inr (omega arith))
+
+  pub closed_after : gate_of new.seen ≡ gate_closed → IsAtRest m new
+  closed_after is = record {
+    settled = settles_settled (IsOutside gate_offset 1) old new ran;
+    headed = agree_headed (IsOutside gate_offset 1) old.seen new.seen off_closed applied.opened.headed (λ i lt. inl (omega arith));
+    gate = λ it. absurd (omega (arith, is, it));
+    count =
+        agree_number (IsOutside gate_offset 1) old.seen new.seen off_closed count_offset (omega (arith, applied.opened.headed.long))
+        (λ i le lt. inr (omega arith))
+        ∙ applied.count;
+    pages = agree_count (IsOutside gate_offset 1) old.seen new.seen off_closed m applied.opened.log.count;
+  }
 
 -- The pages from after a commit.
 

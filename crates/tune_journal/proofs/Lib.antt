@@ -9,6 +9,7 @@ mod Changed
 mod Loops
 mod Making
 mod Openings
+mod PartsSince
 pub mod Puts
 mod Recovery
 mod Rests

@@ -2,5 +2,4 @@ pub mod Decimals
 pub mod ReadLemmas
 pub mod TakenFields
 pub mod TurnLemmas
-pub mod StopLemmas
 pub mod RunLemmas

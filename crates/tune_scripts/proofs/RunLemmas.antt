@@ -4,6 +4,7 @@ use Rattle.std.specs.Prelude.{IfSome, ⊤}
 use Rattle.std.specs.Io.KnownBytes.{Appends}
 use Rattle.std.specs.declared.io.Write.{Ghosts}
 use Rattle.std.proofs.lemmas.List.{append_assoc, append-nil}
+use Rattle.tune_store.specs.Stores.{standing_of}
 use Rattle.tune_store.specs.declared.tune_store.TuneStore as store
 use Rattle.tune_scripts.specs.declared.runs.RunEnd.{RunEnd}
 use Rattle.tune_scripts.specs.declared.runs.RunEnd.TheVariants.{Ended, LineBound, LongLine, ReaderFault, WriterFault, DeviceFault}
@@ -12,7 +13,7 @@ use Rattle.tune_scripts.specs.Scripts.{Script, line_bound}
 use Rattle.tune_scripts.specs.Runs.{Work, work_of, KnownAt, RunsScript, TellsScript}
 use Rattle.tune_scripts.specs.Inside.Turns.{GoesOn, Turns}
 use Rattle.tune_scripts.proofs.TurnLemmas.{IsQuiet, appends_none}
-use Rattle.tune_scripts.proofs.StopLemmas.{passes_none, passes_more}
+use Rattle.tune_store.proofs.StopLemmas.{passes_none, passes_more}
 
 appends_more : (a b c : Option (List ℕ)) (x y : List ℕ) → Appends a b x → Appends b c y → Appends a c (x ++ y)
 appends_more None b c x y h k = tt
@@ -58,7 +59,7 @@ pub record IsSoFar (lines more : ℕ) (old new : Option (List ℕ)) (work : Work
   pub came : IfSome old (λ input. GoesOn lines more input new work)
 
 module _ {W S : Type 0} (w : Ghosts W) (s : store.Ghosts S) where
-  -- no call, and nothing written
+  -- no call of the store, whatever was written
   pub quiet : (was now : W) (here : S) → IsQuiet (work_of w s was now here here)
   quiet was now here = record { same = refl; stops = passes_none s here }
 
@@ -105,7 +106,7 @@ module _ {W S : Type 0} (w : Ghosts W) (s : store.Ghosts S) where
       leaves = b.leaves;
       written = appends_more (w.contents was) (w.contents between) (w.contents now) a.out b.out a.written b.written;
       stops = passes_more s before middle after a.states b.states a.stops b.stops;
-      script = a.onward b.out b.unread b.states end (s.standing after) b.script;
+      script = a.onward b.out b.unread b.states end (standing_of s after) b.script;
     }
 
     -- after one turn more, at which the run does not end
@@ -133,7 +134,7 @@ module _ {W S : Type 0} (w : Ghosts W) (s : store.Ghosts S) where
   so_far_all lines None new was now before after h = tt
   so_far_all lines (Some input) new was now before after h =
       let a = h.came in
-      let end = s.standing after in
+      let end = standing_of s after in
       record {
         unread = a.rest;
         out = a.out;
@@ -142,7 +143,7 @@ module _ {W S : Type 0} (w : Ghosts W) (s : store.Ghosts S) where
         written = a.written;
         stops = a.stops;
         script =
-            subst (λ states. Script lines (s.standing before) input a.out states LineBound end a.rest) (append-nil a.states)
-            (subst (λ out. Script lines (s.standing before) input out (a.states ++ []) LineBound end a.rest) (append-nil a.out)
+            subst (λ states. Script lines (standing_of s before) input a.out states LineBound end a.rest) (append-nil a.states)
+            (subst (λ out. Script lines (standing_of s before) input out (a.states ++ []) LineBound end a.rest) (append-nil a.out)
             (a.onward [] a.rest [] LineBound end (line_bound end a.rest)));
       }

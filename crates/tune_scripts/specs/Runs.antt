@@ -3,7 +3,7 @@ use Rattle.std.specs.Prelude.{◌≡◌, ℕ, List, Option, Some, IfSome, ⊤}
 use Rattle.std.specs.Io.KnownBytes.{Appends}
 use Rattle.std.specs.declared.io.Write.{Ghosts}
 use Rattle.tune_store.specs.State.{State, Standing}
-use Rattle.tune_store.specs.Stores.{StorePasses}
+use Rattle.tune_store.specs.Stores.{StorePasses, standing_of}
 use Rattle.tune_store.specs.declared.tune_store.TuneStore as store
 use Rattle.tune_scripts.specs.declared.runs.RunEnd.{RunEnd}
 use Rattle.tune_scripts.specs.declared.runs.RunEnd.TheVariants.{Ended, LineBound, LongLine}
@@ -28,8 +28,8 @@ abbrev pub work_of : {W S : Type 0} → Ghosts W → store.Ghosts S → W → W 
 work_of W S old_writer new_writer old_store new_store = record {
   was = W.contents old_writer;
   now = W.contents new_writer;
-  before = S.standing old_store;
-  after = S.standing new_store;
+  before = standing_of S old_store;
+  after = standing_of S new_store;
   Stops = StorePasses S old_store new_store;
 }
 

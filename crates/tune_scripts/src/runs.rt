@@ -43,14 +43,16 @@ pub const MOST_LINES: u32 = 1_000_000;
 /// read in small pieces, so a reader that buffers serves well. `alloc` is for the books alone:
 /// where there is no memory for one, it is read and dropped, and the reply says so.
 ///
-/// The clause speaks of a reader that tells its bytes. Standard input tells none.
+/// The clause speaks of a reader that tells its bytes, and of a store whose device has answered as
+/// a device does. Standard input tells no bytes.
 pub fn run<R: Read, W: Write, S: TuneStore>(
     alloc: Global,
     reader: &mut R,
     writer: &mut W,
     store: &mut S,
 ) -> RunEnd
-    ensures { let work = work_of W.Write S.TuneStore writer.old writer.new store.old store.new in
+    ensures { S.honest store.new
+        → let work = work_of W.Write S.TuneStore writer.old writer.new store.old store.new in
         KnownAt result
         (TellsScript most_lines (R.remaining reader.old) (R.remaining reader.new) work result) }
 {
@@ -72,7 +74,9 @@ fn turn<R: Read, W: Write, S: TuneStore>(
     line: &mut [u8],
 ) -> Option<RunEnd>
     requires { length line.old ≡ longest_line }
-    ensures { let work = work_of W.Write S.TuneStore writer.old writer.new store.old store.new in
+    ensures was_honest { S.honest store.new → S.honest store.old }
+    ensures turns { S.honest store.new
+        → let work = work_of W.Write S.TuneStore writer.old writer.new store.old store.new in
         Turns (R.remaining reader.old) (R.remaining reader.new) work result }
 {
     match read_line(reader, line) {
@@ -112,7 +116,9 @@ fn with_book<R: Read, W: Write, S: TuneStore>(
     book_use: BookUse,
     len: u32,
 ) -> Option<RunEnd>
-    ensures { let work = work_of W.Write S.TuneStore writer.old writer.new store.old store.new in
+    ensures was_honest { S.honest store.new → S.honest store.old }
+    ensures turns { S.honest store.new
+        → let work = work_of W.Write S.TuneStore writer.old writer.new store.old store.new in
         TurnsBook book_use len (R.remaining reader.old) (R.remaining reader.new) work result }
 {
     let len = len as usize;
@@ -132,7 +138,9 @@ fn carry_out<W: Write, S: TuneStore>(
     store: &mut S,
     command: &Command,
 ) -> Option<RunEnd>
-    ensures { let work = work_of W.Write S.TuneStore writer.old writer.new store.old store.new in
+    ensures was_honest { S.honest store.new → S.honest store.old }
+    ensures carries { S.honest store.new
+        → let work = work_of W.Write S.TuneStore writer.old writer.new store.old store.new in
         CarriesOut work command.now result }
 {
     let answer = store.apply(command);

@@ -1,14 +1,17 @@
 -- The law of revisions.
 use Rattle.std.proofs.Common.{◌≡◌, ℕ, ◌+◌, Bool, true, false, not, cond, eqb, ltb, List, [], ◌∷◌, length, Option, Some, None, Ok, Err, refl, ap, sym}
 use Rattle.std.proofs.Common.{subst, ◌∙◌, arith, add-zero, inl, inr}
-use Rattle.std.specs.Prelude.{IsSome, IsTrue, IsFalse, is_ok, is_some}
+use Rattle.std.specs.Prelude.{IsSome, IsTrue, IsFalse, is_ok, is_some, IfOk, Result, ◌&&◌}
 use Rattle.std.specs.Option.{option_map}
 use Rattle.std.proofs.lemmas.Bool.{eqb-true, eqb-false, cases_Bool, and_parts}
 use Rattle.abc_fields.specs.Books.{Texts, book_answer}
-use Rattle.tune_store.specs.State.{State, IsState, greatest}
+use Rattle.tune_store.specs.State.{State, IsState, Standing, greatest}
 use Rattle.tune_store.specs.Step.{Outcome, step, tune_at, with_tune, without, revised, with_texts, import_book, replace_tune, replace_book, delete_tune}
 use Rattle.tune_store.specs.Step.{show_tune}
-use Rattle.tune_store.specs.Revisions.{revision_of, HasTune, accepts, replaces, after, times_replaced, RaisesRevision, AcceptedReplaceRaises}
+use Rattle.tune_store.specs.Answers.{Answers, stepped, no_memory, failed_before, failed_after, is_closed}
+use Rattle.tune_store.specs.Runs.{Answered, Runs}
+use Rattle.tune_store.specs.Revisions.{revision_of, HasTune, accepts, replaces, is_replace_of, is_delete_of, times_replaced, RaisesRevision}
+use Rattle.tune_store.specs.Revisions.{RaisesReplaced, AcceptedReplaceRaises}
 use Rattle.tune_store.specs.Revisions.{OthersKeepRevision, RevisionCounts, AcceptedReplaceIsCurrent}
 use Rattle.tune_store.specs.declared.tune.Tune.{Tune}
 use Rattle.tune_store.specs.Limits.{longest_text, most_tunes, greatest_number, greatest_revision}
@@ -18,8 +21,7 @@ use Rattle.tune_store.specs.declared.command.Reply.{Reply}
 use Rattle.tune_store.specs.declared.command.Reply.TheVariants.{Replaced}
 use Rattle.tune_store.specs.declared.command.Refusal.{Refusal}
 use Rattle.tune_store.specs.declared.command.Refusal.TheVariants.{Stale, Worn}
-use Rattle.tune_store.proofs.StepLemmas.{KeepsOnErr, refused_keeps}
-use Rattle.tune_store.proofs.LimitLemmas.{step_keeps_limits}
+use Rattle.tune_store.proofs.StepLemmas.{KeepsOnErr, refused_keeps, answers_close}
 use Rattle.tune_store.proofs.PlaceLemmas.{tune_at-number, tune_at-with_tune_same, tune_at-with_tune_other, tune_at-append, tune_at-without_other}
 use Rattle.tune_store.proofs.PlaceLemmas.{tune_at-without_same}
 
@@ -79,44 +81,51 @@ refused_outcome old (new, Err refusal) keeps refused = keeps refusal refl
 pub refused_leaves : (state : State) (command : Command) → IsFalse (accepts state command) → (step state command).0 ≡ state
 refused_leaves state command refused = refused_outcome state (step state command) (refused_keeps state command) refused
 
--- an outcome leaves the revision of a tune that is there after it
+-- an outcome leaves the revision of a tune
 abbrev LeavesRevision : ℕ → State → Outcome → Type 0
-LeavesRevision number old outcome = HasTune number outcome.0 → revision_of number outcome.0 ≡ revision_of number old
+LeavesRevision number old outcome = revision_of number outcome.0 ≡ revision_of number old
 
 -- an outcome by two tests, of which each refuses
 two_tests_leave : (number : ℕ) (old new : State) (a b : Bool) (x y : Refusal) (reply : Reply) → tune_at number new.tunes ≡ tune_at number old.tunes
     → LeavesRevision number old (cond a (old, Err x) (cond b (old, Err y) (new, Ok reply)))
-two_tests_leave number old new true b x y reply same there = refl
-two_tests_leave number old new false true x y reply same there = refl
-two_tests_leave number old new false false x y reply same there = ap revision same
+two_tests_leave number old new true b x y reply same = refl
+two_tests_leave number old new false true x y reply same = refl
+two_tests_leave number old new false false x y reply same = ap revision same
 
 -- an import leaves the revision of a tune that was there
 import_leaves : (state : State) (number : ℕ) (texts : Texts) → HasTune number state → LeavesRevision number state (import_book state texts)
-import_leaves state number (Err why) was there = refl
-import_leaves state number (Ok texts) was there =
+import_leaves state number (Err why) was = refl
+import_leaves state number (Ok texts) was =
     two_tests_leave number state (with_texts state texts) (ltb most_tunes (length state.tunes + length texts))
-    (ltb greatest_number (greatest state.tunes + length texts)) _ _ _ (tune_at-append number state.tunes _ was) there
+    (ltb greatest_number (greatest state.tunes + length texts)) _ _ _ (tune_at-append number state.tunes _ was)
 
 -- a replacement of another tune that was found leaves it
 replace_found_leaves : (state : State) (number other named : ℕ) (text : List ℕ) (found : Option Tune) → (other ≡ number → ⊥) → tune_at other state.tunes ≡ found
     → LeavesRevision number state (replace_tune state other named text found)
-replace_found_leaves state number other named text None apart e there = refl
-replace_found_leaves state number other named text (Some tune) apart e there =
+replace_found_leaves state number other named text None apart e = refl
+replace_found_leaves state number other named text (Some tune) apart e =
     let ne = λ (same : tune.number ≡ number). apart (sym (tune_at-number other state.tunes tune e) ∙ same) in
     two_tests_leave number state record { tunes = with_tune (revised tune text) state.tunes } (not (eqb tune.revision named))
-    (not (ltb tune.revision greatest_revision)) _ _ _ (tune_at-with_tune_other number (revised tune text) state.tunes ne) there
+    (not (ltb tune.revision greatest_revision)) _ _ _ (tune_at-with_tune_other number (revised tune text) state.tunes ne)
 
 -- so does one by the texts of a book
 replace_leaves : (state : State) (number other named : ℕ) (texts : Texts) → (other ≡ number → ⊥)
     → LeavesRevision number state (replace_book state other named texts)
-replace_leaves state number other named (Err why) apart there = refl
-replace_leaves state number other named (Ok []) apart there = refl
-replace_leaves state number other named (Ok (text ∷ [])) apart there =
-    replace_found_leaves state number other named text (tune_at other state.tunes) apart refl there
-replace_leaves state number other named (Ok (text ∷ next ∷ texts)) apart there = refl
+replace_leaves state number other named (Err why) apart = refl
+replace_leaves state number other named (Ok []) apart = refl
+replace_leaves state number other named (Ok (text ∷ [])) apart =
+    replace_found_leaves state number other named text (tune_at other state.tunes) apart refl
+replace_leaves state number other named (Ok (text ∷ next ∷ texts)) apart = refl
+
+-- a deletion of another tune leaves it
+delete_other_leaves : (state : State) (number other : ℕ) (found : Option Tune) → (other ≡ number → ⊥)
+    → LeavesRevision number state (delete_tune state other found)
+delete_other_leaves state number other None apart = refl
+delete_other_leaves state number other (Some tune) apart = ap revision (tune_at-without_other number other state.tunes apart)
 
 -- a deletion leaves it where the tune is there after it
-delete_leaves : (state : State) (number other : ℕ) (found : Option Tune) → IsState state → LeavesRevision number state (delete_tune state other found)
+delete_leaves : (state : State) (number other : ℕ) (found : Option Tune) → IsState state → HasTune number (delete_tune state other found).0
+    → LeavesRevision number state (delete_tune state other found)
 delete_leaves state number other None is there = refl
 delete_leaves state number other (Some tune) is there = elim (cases_Bool (eqb other number)) [
   | inl same ↦
@@ -125,24 +134,40 @@ delete_leaves state number other (Some tune) is there = elim (cases_Bool (eqb ot
       let gone = subst P (sym e) (tune_at-without_same 0 number state.tunes is.rises) in
       let none = sym there ∙ ap is_some gone in
       cc
-  | inr differs ↦ ap revision (tune_at-without_other number other state.tunes (eqb-false other number differs))
+  | inr differs ↦ delete_other_leaves state number other (Some tune) (eqb-false other number differs)
 ]
 
 -- a look at a tune leaves it
 show_leaves : (state : State) (number other : ℕ) (found : Option Tune) → LeavesRevision number state (show_tune state other found)
-show_leaves state number other None there = refl
-show_leaves state number other (Some tune) there = refl
+show_leaves state number other None = refl
+show_leaves state number other (Some tune) = refl
 
 -- any other command leaves the revision of a tune that is there before and after it
 pub others_keep_revision : (state : State) (number : ℕ) (command : Command) → IsState state → OthersKeepRevision state number command
-others_keep_revision state number (Import book) is other was there = import_leaves state number (book_answer longest_text book) was there
+others_keep_revision state number (Import book) is other was there = import_leaves state number (book_answer longest_text book) was
 others_keep_revision state number (Replace replaced named book) is other was there = elim (cases_Bool (eqb replaced number)) [
   | inl same ↦ let refused = rw same at other in ap (revision_of number) (refused_leaves state (Replace replaced named book) refused)
-  | inr differs ↦ replace_leaves state number replaced named (book_answer longest_text book) (eqb-false replaced number differs) there
+  | inr differs ↦ replace_leaves state number replaced named (book_answer longest_text book) (eqb-false replaced number differs)
 ]
 others_keep_revision state number (Delete deleted) is other was there = delete_leaves state number deleted (tune_at deleted state.tunes) is there
-others_keep_revision state number (Show shown) is other was there = show_leaves state number shown (tune_at shown state.tunes) there
+others_keep_revision state number (Show shown) is other was there = show_leaves state number shown (tune_at shown state.tunes)
 others_keep_revision state number ExportAll is other was there = refl
+
+-- a command that is neither an accepted Replace of a tune nor an accepted Delete of it leaves its revision
+keeps_revision : (state : State) (number : ℕ) (command : Command) → IsFalse (replaces number state command)
+    → IsFalse (is_delete_of number command && accepts state command) → HasTune number state
+    → revision_of number (step state command).0 ≡ revision_of number state
+keeps_revision state number (Import book) other stays was = import_leaves state number (book_answer longest_text book) was
+keeps_revision state number (Replace replaced named book) other stays was = elim (cases_Bool (eqb replaced number)) [
+  | inl same ↦ let refused = rw same at other in ap (revision_of number) (refused_leaves state (Replace replaced named book) refused)
+  | inr differs ↦ replace_leaves state number replaced named (book_answer longest_text book) (eqb-false replaced number differs)
+]
+keeps_revision state number (Delete deleted) other stays was = elim (cases_Bool (eqb deleted number)) [
+  | inl same ↦ let refused = rw same at stays in ap (revision_of number) (refused_leaves state (Delete deleted) refused)
+  | inr differs ↦ delete_other_leaves state number deleted (tune_at deleted state.tunes) (eqb-false deleted number differs)
+]
+keeps_revision state number (Show shown) other stays was = show_leaves state number shown (tune_at shown state.tunes)
+keeps_revision state number ExportAll other stays was = refl
 
 -- RUNS OF COMMANDS
 -- a tune that has a revision is there
@@ -170,29 +195,90 @@ replaced_counts state number current (Show shown) accepted has = cc
 replaced_counts state number current ExportAll accepted has = cc
 
 -- one command raises the revision by one, or leaves it
-step_counts : (state : State) (number current : ℕ) (command : Command) → IsState state → revision_of number state ≡ Some current
-    → HasTune number (step state command).0
+step_counts : (state : State) (number current : ℕ) (command : Command) → revision_of number state ≡ Some current
+    → IsFalse (is_delete_of number command && accepts state command)
     → revision_of number (step state command).0 ≡ Some (current + cond (replaces number state command) 1 0)
-step_counts state number current command is has stays = elim (cases_Bool (replaces number state command)) [
+step_counts state number current command has stays = elim (cases_Bool (replaces number state command)) [
   | inl replaced ↦ rw replaced (replaced_counts state number current command replaced has)
-  | inr other ↦ rw (other, add-zero) (others_keep_revision state number command is other (tune_is_there number current state has) stays ∙ has)
+  | inr other ↦ rw (other, add-zero) (keeps_revision state number command other stays (tune_is_there number current state has) ∙ has)
 ]
 
+and_false : (b : Bool) → (b && false) ≡ false
+and_false true = refl
+and_false false = refl
+
+-- so does one answer, after which the store is open
+answer_counts : (old new : Standing) (command : Command) (answer : Result Reply Refusal) (number current : ℕ) → Answers old command answer new
+    → new.closed ≡ false → revision_of number old.state ≡ Some current → IsFalse (is_delete_of number command && is_ok answer)
+    → revision_of number new.state ≡ Some (current + cond (is_replace_of number command && is_ok answer) 1 0)
+answer_counts _ _ _ _ number current (stepped old new command answer e) is_open has stays =
+    let P : Outcome → Type 0 = λ o. IsFalse (is_delete_of number command && is_ok o.1)
+    → revision_of number o.0 ≡ Some (current + cond (is_replace_of number command && is_ok o.1) 1 0) in
+    subst P e (step_counts old number current command has) stays
+answer_counts _ _ _ _ number current (no_memory old command) is_open has stays = rw (and_false (is_replace_of number command), add-zero) has
+answer_counts _ _ _ _ number current (failed_before old command) is_open has stays = cc
+answer_counts _ _ _ _ number current (failed_after old command) is_open has stays = cc
+answer_counts _ _ _ _ number current (is_closed old command) is_open has stays = cc
+
+-- a store that is open after an answer was open before it
+open_before : (old new : Standing) (command : Command) (answer : Result Reply Refusal) → Answers old command answer new
+    → new.closed ≡ false → old.closed ≡ false
+open_before _ _ _ _ (stepped old new command answer e) is_open = refl
+open_before _ _ _ _ (no_memory old command) is_open = refl
+open_before _ _ _ _ (failed_before old command) is_open = refl
+open_before _ _ _ _ (failed_after old command) is_open = refl
+open_before _ _ _ _ (is_closed old command) is_open = is_open
+
+-- and so of a run
+open_before_run : (run : List Answered) (old new : Standing) → Runs old run new → new.closed ≡ false → old.closed ≡ false
+open_before_run [] old new runs is_open = ap (λ (s : Standing). s.closed) (sym runs) ∙ is_open
+open_before_run (next ∷ run) old new runs is_open = open_before old runs.0 next.command next.answer runs.1 (open_before_run run runs.0 new runs.2 is_open)
+
 -- while a tune stays, its revision counts the accepted Replaces of it
-pub revision_counts : (state : State) (number current : ℕ) (commands : List Command) → IsState state → RevisionCounts state number current commands
-revision_counts state number current [] is has stays = rw add-zero has
-revision_counts state number current (command ∷ commands) is has stays =
-    let next = step_counts state number current command is has stays.0 in
-    let counted = revision_counts (step state command).0 number _ commands (step_keeps_limits state command is) next stays.1 in
-    let same : current + cond (replaces number state command) 1 0 + times_replaced number (step state command).0 commands
-    ≡ current + (cond (replaces number state command) 1 0 + times_replaced number (step state command).0 commands) = omega arith in
+pub revision_counts : (old : Standing) (run : List Answered) (new : Standing) (number current : ℕ) → RevisionCounts old run new number current
+revision_counts old [] new number current runs is_open has stays = rw add-zero (ap (λ (s : Standing). revision_of number s.state) runs ∙ has)
+revision_counts old (next ∷ run) new number current runs is_open has stays =
+    let mid_open = open_before_run run runs.0 new runs.2 is_open in
+    let mid_has = answer_counts old runs.0 next.command next.answer number current runs.1 mid_open has stays.0 in
+    let counted = revision_counts runs.0 run new number _ runs.2 is_open mid_has stays.1 in
+    let one = cond (is_replace_of number next.command && is_ok next.answer) 1 0 in
+    let same : current + one + times_replaced number run ≡ current + (one + times_replaced number run) = omega arith in
     counted ∙ ap (λ r. Some r) same
 
+-- an accepted command is no Replace, or it raises the revision that it names
+step_raises : (state : State) (command : Command) → IsTrue (accepts state command) → RaisesReplaced command state (step state command).0
+step_raises state (Replace number named book) accepted = accepted_replace_raises state number named book accepted
+step_raises state (Import book) accepted = tt
+step_raises state (Delete number) accepted = tt
+step_raises state (Show number) accepted = tt
+step_raises state ExportAll accepted = tt
+
+pub answers_raise : (old new : Standing) (command : Command) (answer : Result Reply Refusal) → Answers old command answer new
+    → IfOk answer (λ _. RaisesReplaced command old.state new.state)
+answers_raise _ _ _ _ (stepped old new command (Ok reply) e) =
+    let P : Outcome → Type 0 = λ o. IsTrue (is_ok o.1) → RaisesReplaced command old o.0 in
+    subst P e (step_raises old command) refl
+answers_raise _ _ _ _ (stepped old new command (Err refusal) e) = tt
+answers_raise _ _ _ _ (no_memory old command) = tt
+answers_raise _ _ _ _ (failed_before old command) = tt
+answers_raise _ _ _ _ (failed_after old command) = tt
+answers_raise _ _ _ _ (is_closed old command) = tt
+
+-- the same where it is known by the device
+pub raised_where : (H : Type 0) (old new : Standing) (command : Command) (answer : Result Reply Refusal) → Answers old command answer new
+    → IfOk answer (λ _. H → RaisesReplaced command old.state new.state)
+raised_where H old new command (Ok reply) answers = λ honest. answers_raise old new command (Ok reply) answers
+raised_where H old new command (Err refusal) answers = tt
+
+-- a store that accepts a command was open, and is
+accepted_open : (old new : Standing) (command : Command) (reply : Reply) → Answers old command (Ok reply) new → old.closed ≡ false
+accepted_open old new command reply answers = open_before old new command (Ok reply) answers (answers_close old new command (Ok reply) answers)
+
 -- so a Replace that names a revision of before is accepted only where no accepted one came since
-pub accepted_replace_is_current : (state : State) (number current : ℕ) (commands : List Command) (book : List ℕ) → IsState state
-    → AcceptedReplaceIsCurrent state number current commands book
-accepted_replace_is_current state number current commands book is has stays accepted =
-    let raises = accepted_replace_raises (after state commands) number current book accepted in
-    let counted = revision_counts state number current commands is has stays in
-    let same : current ≡ current + times_replaced number state commands = cc (raises.named, counted) in
+pub accepted_replace_is_current : (old : Standing) (run : List Answered) (mid : Standing) (number current : ℕ) (book : List ℕ) (reply : Reply)
+    (new : Standing) → AcceptedReplaceIsCurrent old run mid number current book reply new
+accepted_replace_is_current old run mid number current book reply new runs has stays accepted =
+    let raises : RaisesRevision number current mid.state new.state = answers_raise mid new (Replace number current book) (Ok reply) accepted in
+    let counted = revision_counts old run mid number current runs (accepted_open mid new _ reply accepted) has stays in
+    let same : current ≡ current + times_replaced number run = cc (raises.named, counted) in
     omega arith

@@ -1,13 +1,15 @@
 -- Answers by the step.
+use Rattle.std.proofs.Common.{subst}
 use Rattle.std.proofs.Common.{◌≡◌, ℕ, ◌+◌, Bool, true, false, not, cond, eqb, ltb, List, [], ◌∷◌, length, Option, Some, None, Result, Ok, Err, refl, sym, ap}
 use Rattle.std.proofs.Common.{◌∙◌, inl, inr, ◌⊎◌, arith}
 use Rattle.std.specs.Prelude.{◌≢◌, ◌↔◌, IfErr, ⊤}
 use Rattle.abc_fields.specs.Books.{Texts, book_answer}
 use Rattle.abc_fields.specs.declared.book.BookFault.{BookFault}
 use Rattle.abc_fields.specs.declared.book.BookFault.TheVariants as fault
-use Rattle.tune_store.specs.State.{State, Standing, greatest}
+use Rattle.tune_store.specs.State.{State, IsState, Standing, greatest}
 use Rattle.tune_store.specs.Step.{Outcome, refusal_of, step, import_book, replace_book, replace_texts, replace_tune, delete_tune, show_tune, tune_at}
 use Rattle.tune_store.specs.Answers.{Answers, open_at, stepped, no_memory, failed_before, failed_after, is_closed, passed}
+use Rattle.tune_store.specs.Answers.{stays_open, IsRefusalOf, IsRefusalOfAny, IsRefusalOfOwn}
 use Rattle.tune_store.specs.Stops.{Among, Passes}
 use Rattle.tune_store.specs.Inside.Lists.{state_of, StaysOrGives}
 use Rattle.tune_store.specs.declared.tune.Tune.{Tune}
@@ -16,7 +18,8 @@ use Rattle.tune_store.specs.declared.command.Command.{Command}
 use Rattle.tune_store.specs.declared.command.Command.TheVariants.{Import, Replace, Delete, Show, ExportAll}
 use Rattle.tune_store.specs.declared.command.Reply.{Reply}
 use Rattle.tune_store.specs.declared.command.Refusal.{Refusal}
-use Rattle.tune_store.specs.declared.command.Refusal.TheVariants.{Device, Closed}
+use Rattle.tune_store.specs.declared.command.Refusal.TheVariants.{BookTooLong, NotPlain, NoTune, BadTune, NotOne, Unknown, Stale, Worn, ArchiveFull}
+use Rattle.tune_store.specs.declared.command.Refusal.TheVariants.{NumbersSpent, OutOfMemory, Device, Closed}
 
 -- A REFUSED COMMAND CHANGES NOTHING
 -- where the answer is a refusal, the state is this one
@@ -70,74 +73,136 @@ refused_keeps old (Delete number) = delete_keeps old number (tune_at number old.
 refused_keeps old ExportAll = λ refusal h. cc
 refused_keeps old (Show number) = show_keeps old number (tune_at number old.tunes)
 
+-- WHICH REFUSALS A COMMAND IS GIVEN
+-- a refusal that the plain list gives a command
+abbrev pub IsListRefusal : Command → Refusal → Type 0
+IsListRefusal command refusal = IsRefusalOfOwn command refusal ⊎ (refusal ≡ OutOfMemory)
+
+-- where the answer is a refusal, it is one of these
+abbrev pub Refuses : (Refusal → Type 0) → Outcome → Type 0
+Refuses P outcome = (refusal : Refusal) → outcome.1 ≡ Err refusal → P refusal
+
+-- an outcome by two tests, of which each refuses
+two_tests_refuse : (P : Refusal → Type 0) (old new : State) (a b : Bool) (x y : Refusal) (reply : Reply) → P x → P y
+    → Refuses P (cond a (old, Err x) (cond b (old, Err y) (new, Ok reply)))
+two_tests_refuse P old new true b x y reply is_x is_y refusal h = let same : x ≡ refusal = cc in subst P same is_x
+two_tests_refuse P old new false true x y reply is_x is_y refusal h = let same : y ≡ refusal = cc in subst P same is_y
+two_tests_refuse P old new false false x y reply is_x is_y refusal h = cc
+
+-- the faults of a book are refusals of an import
+import_fault : (book : List ℕ) (fault : BookFault) → IsListRefusal (Import book) (refusal_of fault)
+import_fault book fault.BookTooLong = inl tt
+import_fault book fault.NotPlain = inl tt
+import_fault book fault.NoTune = inl tt
+import_fault book (fault.BadTune place why) = inl tt
+import_fault book fault.OutOfMemory = inr refl
+
+-- and of a replacement
+replace_fault : (number revision : ℕ) (book : List ℕ) (fault : BookFault) → IsListRefusal (Replace number revision book) (refusal_of fault)
+replace_fault number revision book fault.BookTooLong = inl tt
+replace_fault number revision book fault.NotPlain = inl tt
+replace_fault number revision book fault.NoTune = inl tt
+replace_fault number revision book (fault.BadTune place why) = inl tt
+replace_fault number revision book fault.OutOfMemory = inr refl
+
+-- the refusals of an import
+import_refuses : (old : State) (book : List ℕ) (texts : Texts) → Refuses (IsListRefusal (Import book)) (import_book old texts)
+import_refuses old book (Err fault) refusal h = let same : refusal_of fault ≡ refusal = cc in subst (IsListRefusal (Import book)) same (import_fault book fault)
+import_refuses old book (Ok texts) refusal h =
+    two_tests_refuse (IsListRefusal (Import book)) old _ (ltb most_tunes (length old.tunes + length texts))
+    (ltb greatest_number (greatest old.tunes + length texts)) _ _ _ (inl tt) (inl tt) refusal h
+
+-- those of a replacement, of the tune that was found
+replace_tune_refuses : (old : State) (number revision : ℕ) (book text : List ℕ) (found : Option Tune)
+    → Refuses (IsListRefusal (Replace number revision book)) (replace_tune old number revision text found)
+replace_tune_refuses old number revision book text None refusal h =
+    let same : Unknown number ≡ refusal = cc in subst (IsListRefusal (Replace number revision book)) same (inl refl)
+replace_tune_refuses old number revision book text (Some tune) refusal h =
+    two_tests_refuse (IsListRefusal (Replace number revision book)) old _ (not (eqb tune.revision revision))
+    (not (ltb tune.revision greatest_revision)) _ _ _ (inl tt) (inl tt) refusal h
+
+-- by the texts of a book
+replace_texts_refuse : (old : State) (number revision : ℕ) (book : List ℕ) (texts : List (List ℕ))
+    → Refuses (IsListRefusal (Replace number revision book)) (replace_texts old number revision texts)
+replace_texts_refuse old number revision book [] refusal h =
+    let same : NotOne 0 ≡ refusal = cc in subst (IsListRefusal (Replace number revision book)) same (inl tt)
+replace_texts_refuse old number revision book (text ∷ []) refusal h =
+    replace_tune_refuses old number revision book text (tune_at number old.tunes) refusal h
+replace_texts_refuse old number revision book (text ∷ next ∷ texts) refusal h =
+    let same : NotOne (length (text ∷ next ∷ texts)) ≡ refusal = cc in subst (IsListRefusal (Replace number revision book)) same (inl tt)
+
+-- or by a book that has none
+replace_refuses : (old : State) (number revision : ℕ) (book : List ℕ) (texts : Texts)
+    → Refuses (IsListRefusal (Replace number revision book)) (replace_book old number revision texts)
+replace_refuses old number revision book (Err fault) refusal h =
+    let same : refusal_of fault ≡ refusal = cc in
+    subst (IsListRefusal (Replace number revision book)) same (replace_fault number revision book fault)
+replace_refuses old number revision book (Ok texts) refusal h = replace_texts_refuse old number revision book texts refusal h
+
+-- those of a deletion
+delete_refuses : (old : State) (number : ℕ) (found : Option Tune) → Refuses (IsListRefusal (Delete number)) (delete_tune old number found)
+delete_refuses old number None refusal h = let same : Unknown number ≡ refusal = cc in subst (IsListRefusal (Delete number)) same (inl refl)
+delete_refuses old number (Some tune) refusal h = cc
+
+-- and of a look at a tune
+show_refuses : (old : State) (number : ℕ) (found : Option Tune) → Refuses (IsListRefusal (Show number)) (show_tune old number found)
+show_refuses old number None refusal h = let same : Unknown number ≡ refusal = cc in subst (IsListRefusal (Show number)) same (inl refl)
+show_refuses old number (Some tune) refusal h = cc
+
+-- the refusals of each command
+step_refuses : (old : State) (command : Command) → Refuses (IsListRefusal command) (step old command)
+step_refuses old (Import book) = import_refuses old book (book_answer longest_text book)
+step_refuses old (Replace number revision book) = replace_refuses old number revision book (book_answer longest_text book)
+step_refuses old (Delete number) = delete_refuses old number (tune_at number old.tunes)
+step_refuses old ExportAll = λ refusal h. cc
+step_refuses old (Show number) = show_refuses old number (tune_at number old.tunes)
+
 -- NO COMMAND ANSWERS FOR THE DEVICE
 -- the refusals that a state's own step does not give
 abbrev pub IsOfDevice : Refusal → Type 0
 IsOfDevice refusal = (refusal ≡ Device) ⊎ (refusal ≡ Closed)
 
--- no fault of a book is one of the device
-book_fault_not_of_device : (fault : BookFault) → IsOfDevice (refusal_of fault) → ⊥
-book_fault_not_of_device fault.BookTooLong h = elim h [ inl e ↦ cc | inr e ↦ cc ]
-book_fault_not_of_device fault.NotPlain h = elim h [ inl e ↦ cc | inr e ↦ cc ]
-book_fault_not_of_device fault.NoTune h = elim h [ inl e ↦ cc | inr e ↦ cc ]
-book_fault_not_of_device (fault.BadTune place why) h = elim h [ inl e ↦ cc | inr e ↦ cc ]
-book_fault_not_of_device fault.OutOfMemory h = elim h [ inl e ↦ cc | inr e ↦ cc ]
+-- no command's own refusal is that the device failed
+own_not_device : (command : Command) → IsRefusalOfOwn command Device → ⊥
+own_not_device (Import book) own = own
+own_not_device (Replace number revision book) own = own
+own_not_device (Delete number) own = own
+own_not_device (Show number) own = own
+own_not_device ExportAll own = own
 
--- where the answer is a refusal, it is none of the device
-abbrev NotOfDevice : Outcome → Type 0
-NotOfDevice outcome = (refusal : Refusal) → outcome.1 ≡ Err refusal → IsOfDevice refusal → ⊥
-
--- an outcome by two tests, of which each refuses for no device
-two_tests_not_of_device : (old new : State) (a b : Bool) (x y : Refusal) (reply : Reply) → (IsOfDevice x → ⊥) → (IsOfDevice y → ⊥)
-    → NotOfDevice (cond a (old, Err x) (cond b (old, Err y) (new, Ok reply)))
-two_tests_not_of_device old new true b x y reply not_x not_y refusal h of = let same : x ≡ refusal = cc in not_x (rw same of)
-two_tests_not_of_device old new false true x y reply not_x not_y refusal h of = let same : y ≡ refusal = cc in not_y (rw same of)
-two_tests_not_of_device old new false false x y reply not_x not_y refusal h of = cc
-
--- an import is refused for no device
-import_not_of_device : (old : State) (texts : Texts) → NotOfDevice (import_book old texts)
-import_not_of_device old (Err fault) refusal h of = let same : refusal_of fault ≡ refusal = cc in book_fault_not_of_device fault (rw same of)
-import_not_of_device old (Ok texts) refusal h of =
-    two_tests_not_of_device old _ (ltb most_tunes (length old.tunes + length texts)) (ltb greatest_number (greatest old.tunes + length texts)) _ _ _
-    (λ x. elim x [ inl e ↦ cc | inr e ↦ cc ]) (λ y. elim y [ inl e ↦ cc | inr e ↦ cc ]) refusal h of
-
--- so is a replacement, of the tune that was found
-replace_tune_not_of_device : (old : State) (number revision : ℕ) (text : List ℕ) (found : Option Tune)
-    → NotOfDevice (replace_tune old number revision text found)
-replace_tune_not_of_device old number revision text None refusal h of = elim of [ inl e ↦ cc | inr e ↦ cc ]
-replace_tune_not_of_device old number revision text (Some tune) refusal h of =
-    two_tests_not_of_device old _ (not (eqb tune.revision revision)) (not (ltb tune.revision greatest_revision)) _ _ _
-    (λ x. elim x [ inl e ↦ cc | inr e ↦ cc ]) (λ y. elim y [ inl e ↦ cc | inr e ↦ cc ]) refusal h of
-
--- by the texts of a book
-replace_texts_not_of_device : (old : State) (number revision : ℕ) (texts : List (List ℕ)) → NotOfDevice (replace_texts old number revision texts)
-replace_texts_not_of_device old number revision [] refusal h of = elim of [ inl e ↦ cc | inr e ↦ cc ]
-replace_texts_not_of_device old number revision (text ∷ []) refusal h of =
-    replace_tune_not_of_device old number revision text (tune_at number old.tunes) refusal h of
-replace_texts_not_of_device old number revision (text ∷ next ∷ texts) refusal h of = elim of [ inl e ↦ cc | inr e ↦ cc ]
-
--- or by a book that has none
-replace_not_of_device : (old : State) (number revision : ℕ) (texts : Texts) → NotOfDevice (replace_book old number revision texts)
-replace_not_of_device old number revision (Err fault) refusal h of = let same : refusal_of fault ≡ refusal = cc in book_fault_not_of_device fault (rw same of)
-replace_not_of_device old number revision (Ok texts) refusal h of = replace_texts_not_of_device old number revision texts refusal h of
-
--- and a deletion
-delete_not_of_device : (old : State) (number : ℕ) (found : Option Tune) → NotOfDevice (delete_tune old number found)
-delete_not_of_device old number None refusal h of = elim of [ inl e ↦ cc | inr e ↦ cc ]
-delete_not_of_device old number (Some tune) refusal h of = cc
-
--- and a look at a tune
-show_not_of_device : (old : State) (number : ℕ) (found : Option Tune) → NotOfDevice (show_tune old number found)
-show_not_of_device old number None refusal h of = elim of [ inl e ↦ cc | inr e ↦ cc ]
-show_not_of_device old number (Some tune) refusal h of = cc
+-- or that it failed before
+own_not_closed : (command : Command) → IsRefusalOfOwn command Closed → ⊥
+own_not_closed (Import book) own = own
+own_not_closed (Replace number revision book) own = own
+own_not_closed (Delete number) own = own
+own_not_closed (Show number) own = own
+own_not_closed ExportAll own = own
 
 -- no command is refused for the device
-step_not_of_device : (old : State) (command : Command) → NotOfDevice (step old command)
-step_not_of_device old (Import book) = import_not_of_device old (book_answer longest_text book)
-step_not_of_device old (Replace number revision book) = replace_not_of_device old number revision (book_answer longest_text book)
-step_not_of_device old (Delete number) = delete_not_of_device old number (tune_at number old.tunes)
-step_not_of_device old ExportAll = λ refusal h of. cc
-step_not_of_device old (Show number) = show_not_of_device old number (tune_at number old.tunes)
+step_not_of_device : (old : State) (command : Command) (refusal : Refusal) → (step old command).1 ≡ Err refusal → IsOfDevice refusal → ⊥
+step_not_of_device old command refusal h of = elim (step_refuses old command refusal h) [
+  | inl own ↦ elim of [
+    | inl e ↦ own_not_device command (subst (IsRefusalOfOwn command) e own)
+    | inr e ↦ own_not_closed command (subst (IsRefusalOfOwn command) e own)
+  ]
+  | inr memory ↦ elim of [ inl e ↦ cc | inr e ↦ cc ]
+]
+
+-- a refusal that is none of the device leaves a store open
+open_after : (refusal : Refusal) → (IsOfDevice refusal → ⊥) → stays_open (Err refusal) ≡ true
+open_after NoTune other = refl
+open_after (BadTune place why) other = refl
+open_after (NotOne count) other = refl
+open_after (Unknown number) other = refl
+open_after (Stale revision) other = refl
+open_after Worn other = refl
+open_after ArchiveFull other = refl
+open_after NumbersSpent other = refl
+open_after BookTooLong other = refl
+open_after OutOfMemory other = refl
+open_after Device other = absurd (other (inl refl))
+open_after Closed other = absurd (other (inr refl))
+open_after NotPlain other = refl
 
 -- WHAT AN ANSWER SAYS OF THE STORE
 -- after each refusal but that of a device that failed, the store stands for what it stood for
@@ -151,15 +216,36 @@ refused_stays _ _ _ _ (failed_before old command) = λ other. absurd (other refl
 refused_stays _ _ _ _ (failed_after old command) = λ other. absurd (other refl)
 refused_stays _ _ _ _ (is_closed old command) = λ other. refl
 
--- a store whose device failed in a call is closed after it
-pub failing_closes : (old new : Standing) (command : Command) (answer : Result Reply Refusal) → Answers old command answer new → answer ≡ Err Device
-    → new.closed ≡ true
-failing_closes _ _ _ _ (stepped old new command answer e) failed =
-    absurd (step_not_of_device old command Device (ap (λ (o : Outcome). o.1) e ∙ failed) (inl refl))
-failing_closes _ _ _ _ (no_memory old command) failed = cc
-failing_closes _ _ _ _ (failed_before old command) failed = refl
-failing_closes _ _ _ _ (failed_after old command) failed = refl
-failing_closes _ _ _ _ (is_closed old command) failed = refl
+-- the same of what it stands for alone, where that is known of it by its device
+pub refused_where : (H : Type 0) (old new : Standing) (command : Command) (answer : Result Reply Refusal) → Answers old command answer new
+    → IfErr answer (λ refusal. refusal ≢ Device → H → new.state ≡ old.state)
+refused_where H old new command (Ok reply) answers = tt
+refused_where H old new command (Err refusal) answers = λ other honest.
+    ap (λ (s : Standing). s.state) (refused_stays old new command (Err refusal) answers other)
+
+-- each refusal is one that may come to the command
+pub answers_name : (old new : Standing) (command : Command) (answer : Result Reply Refusal) → Answers old command answer new
+    → IfErr answer (IsRefusalOf command)
+answers_name _ _ _ _ (stepped old new command (Ok reply) e) = tt
+answers_name _ _ _ _ (stepped old new command (Err refusal) e) = elim (step_refuses old command refusal (ap (λ (o : Outcome). o.1) e)) [
+  | inl own ↦ inl own
+  | inr memory ↦ inr (subst IsRefusalOfAny (sym memory) tt)
+]
+answers_name _ _ _ _ (no_memory old command) = inr tt
+answers_name _ _ _ _ (failed_before old command) = inr tt
+answers_name _ _ _ _ (failed_after old command) = inr tt
+answers_name _ _ _ _ (is_closed old command) = inr tt
+
+-- whether a store is closed after a call is known by the answer
+pub answers_close : (old new : Standing) (command : Command) (answer : Result Reply Refusal) → Answers old command answer new
+    → new.closed ≡ not (stays_open answer)
+answers_close _ _ _ _ (stepped old new command (Ok reply) e) = refl
+answers_close _ _ _ _ (stepped old new command (Err refusal) e) =
+    sym (ap not (open_after refusal (step_not_of_device old command refusal (ap (λ (o : Outcome). o.1) e))))
+answers_close _ _ _ _ (no_memory old command) = refl
+answers_close _ _ _ _ (failed_before old command) = refl
+answers_close _ _ _ _ (failed_after old command) = refl
+answers_close _ _ _ _ (is_closed old command) = refl
 
 -- a store answers that it is closed exactly where it is
 pub closed_answers : (old new : Standing) (command : Command) (answer : Result Reply Refusal) → Answers old command answer new
@@ -192,17 +278,20 @@ in_memory old new command answer (inr h) = stepped (state_of old) (state_of new)
 -- it has no device that fails
 pub never_fails : (old new : State) (command : Command) (answer : Result Reply Refusal)
     → Answers (open_at old) command answer (open_at new) → answer ≡ Err Device → ⊥
-never_fails old new command answer answers failed = let closed : false ≡ true = failing_closes _ _ _ _ answers failed in cc
+never_fails old new command answer answers failed =
+    let closed : false ≡ not (stays_open answer) = answers_close _ _ _ _ answers in
+    let shut : not (stays_open answer) ≡ true = ap (λ a. not (stays_open a)) failed in
+    cc
 
 -- it passes the states of its answer, and no stop leaves any of them
 pub passes_in_memory : (old new : State) (command : Command) (answer : Result Reply Refusal)
-    → Answers (open_at old) command answer (open_at new)
-    → Passes {S = State} (λ _. ⊤) (λ _. ⊤) open_at (λ _. 0) (λ _ _ _. ⊥) (λ _ _. ⊥) old new (passed old command answer)
-passes_in_memory old new command answer answers = record {
-  reaches = answers_reach _ _ _ _ answers;
+    → Answers (open_at old) command answer (open_at new) → IsState new
+    → Passes {S = State} (λ _. ⊤) IsState (λ state. state) (λ _. 0) (λ _ _ _. ⊥) (λ _ _. ⊥) old new (passed old command answer)
+passes_in_memory old new command answer answers is = record {
+  reaches = λ honest. answers_reach _ _ _ _ answers;
   was_honest = λ honest. honest;
-  stays_sound = λ sound. sound;
-  later = omega arith;
+  stays_sound = λ sound. is;
+  later = λ honest. omega arith;
   keeps = λ honest since file left. left;
   leaves = λ sound honest since file early left. absurd left;
 }

@@ -1,10 +1,15 @@
 -- What a store may answer a command, and what it stands for then.
-use Rattle.std.specs.Prelude.{◌≡◌, List, [], ◌∷◌, Bool, true, false, Result, Ok, Err}
+use Rattle.std.specs.Prelude.{◌≡◌, ◌⊎◌, List, [], ◌∷◌, Bool, true, false, Result, Ok, Err}
+use Rattle.std.specs.Prelude.{⊤}
 use Rattle.tune_store.specs.State.{State, Standing}
 use Rattle.tune_store.specs.Step.{step}
 use Rattle.tune_store.specs.declared.command.Command.{Command}
+use Rattle.tune_store.specs.declared.command.Command.TheVariants.{Import, Replace, Delete, Show}
 use Rattle.tune_store.specs.declared.command.Reply.{Reply}
 use Rattle.tune_store.specs.declared.command.Refusal.{Refusal}
+use Rattle.tune_store.specs.declared.command.Refusal.TheVariants.{BookTooLong, NotPlain, NoTune}
+use Rattle.tune_store.specs.declared.command.Refusal.TheVariants.{BadTune, NotOne, Unknown, Stale}
+use Rattle.tune_store.specs.declared.command.Refusal.TheVariants.{Worn, ArchiveFull, NumbersSpent}
 use Rattle.tune_store.specs.declared.command.Refusal.TheVariants.{OutOfMemory, Device, Closed}
 
 -- an open store of this state
@@ -44,3 +49,37 @@ stays_open (Ok reply) = true
 stays_open (Err Device) = false
 stays_open (Err Closed) = false
 stays_open (Err refusal) = true
+
+-- WHICH REFUSALS MAY COME TO WHICH COMMAND
+-- the refusals of a book that has no tunes to give
+abbrev pub IsRefusalOfBook : Refusal → Type 0
+IsRefusalOfBook BookTooLong = ⊤
+IsRefusalOfBook NotPlain = ⊤
+IsRefusalOfBook NoTune = ⊤
+IsRefusalOfBook (BadTune place why) = ⊤
+IsRefusalOfBook refusal = ⊥
+
+-- the refusals that any command may be given
+abbrev pub IsRefusalOfAny : Refusal → Type 0
+IsRefusalOfAny OutOfMemory = ⊤
+IsRefusalOfAny Device = ⊤
+IsRefusalOfAny Closed = ⊤
+IsRefusalOfAny refusal = ⊥
+
+-- a command's own refusals
+abbrev pub IsRefusalOfOwn : Command → Refusal → Type 0
+IsRefusalOfOwn (Import book) ArchiveFull = ⊤
+IsRefusalOfOwn (Import book) NumbersSpent = ⊤
+IsRefusalOfOwn (Import book) refusal = IsRefusalOfBook refusal
+IsRefusalOfOwn (Replace number revision book) (NotOne count) = ⊤
+IsRefusalOfOwn (Replace number revision book) (Unknown other) = other ≡ number
+IsRefusalOfOwn (Replace number revision book) (Stale current) = ⊤
+IsRefusalOfOwn (Replace number revision book) Worn = ⊤
+IsRefusalOfOwn (Replace number revision book) refusal = IsRefusalOfBook refusal
+IsRefusalOfOwn (Delete number) (Unknown other) = other ≡ number
+IsRefusalOfOwn (Show number) (Unknown other) = other ≡ number
+IsRefusalOfOwn command refusal = ⊥
+
+-- a refusal that a command may be given
+abbrev pub IsRefusalOf : Command → Refusal → Type 0
+IsRefusalOf command refusal = IsRefusalOfOwn command refusal ⊎ IsRefusalOfAny refusal

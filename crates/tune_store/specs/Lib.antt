@@ -2,6 +2,7 @@ pub mod Limits
 pub mod State
 pub mod Step
 pub mod Answers
+pub mod Runs
 pub mod Stops
 pub mod Revisions
 pub mod Stores

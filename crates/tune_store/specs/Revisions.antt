@@ -1,11 +1,14 @@
 -- The law of revisions: what commands, one after another, make of the revision of a tune.
 use Rattle.std.specs.Prelude.{◌≡◌, ℕ, ◌+◌, List, [], ◌∷◌, Bool, false, ◌&&◌, ◌==◌, if◌then◌else◌}
-use Rattle.std.specs.Prelude.{IsTrue, IsFalse, Option, Some, IsSome, is_ok, ⊤}
+use Rattle.std.specs.Prelude.{IsTrue, IsFalse, Option, Some, IsSome, Ok, is_ok, ⊤}
 use Rattle.std.specs.Option.{option_map}
-use Rattle.tune_store.specs.State.{State}
+use Rattle.tune_store.specs.State.{State, Standing}
 use Rattle.tune_store.specs.Step.{step, tune_at}
+use Rattle.tune_store.specs.Answers.{Answers}
+use Rattle.tune_store.specs.Runs.{Answered, Runs}
 use Rattle.tune_store.specs.declared.command.Command.{Command}
-use Rattle.tune_store.specs.declared.command.Command.TheVariants.{Replace}
+use Rattle.tune_store.specs.declared.command.Command.TheVariants.{Replace, Delete}
+use Rattle.tune_store.specs.declared.command.Reply.{Reply}
 
 -- THE REVISION OF A TUNE
 -- the revision of the tune of a number
@@ -31,23 +34,23 @@ abbrev pub replaces : ℕ → State → Command → Bool
 replaces number state command = is_replace_of number command && accepts state command
 
 -- RUNS OF COMMANDS
--- the state after commands, one after another
-abbrev pub after : State → List Command → State
-after state [] = state
-after state (command ∷ commands) = after (step state command).0 commands
+-- whether a command is a Delete of the tune of a number
+abbrev pub is_delete_of : ℕ → Command → Bool
+is_delete_of number (Delete other) = other == number
+is_delete_of number command = false
 
--- the tune of a number is there after each of the commands
-abbrev pub Stays : ℕ → State → List Command → Type 0
-Stays number state [] = ⊤
-Stays number state (command ∷ commands) =
-    HasTune number (step state command).0 × Stays number (step state command).0 commands
+-- no accepted Delete of the tune of a number is in a run
+abbrev pub Stays : ℕ → List Answered → Type 0
+Stays number [] = ⊤
+Stays number (next ∷ run) =
+    IsFalse (is_delete_of number next.command && is_ok next.answer) × Stays number run
 
--- how many of the commands are accepted Replaces of the tune of a number
-abbrev pub times_replaced : ℕ → State → List Command → ℕ
-times_replaced number state [] = 0
-times_replaced number state (command ∷ commands) =
-    (if replaces number state command then 1 else 0)
-    + times_replaced number (step state command).0 commands
+-- how many accepted Replaces of the tune of a number are in a run
+abbrev pub times_replaced : ℕ → List Answered → ℕ
+times_replaced number [] = 0
+times_replaced number (next ∷ run) =
+    (if is_replace_of number next.command && is_ok next.answer then 1 else 0)
+    + times_replaced number run
 
 -- THE LAW
 -- a tune has the revision before, and the next one after
@@ -68,18 +71,24 @@ OthersKeepRevision state number command =
     IsFalse (replaces number state command) → HasTune number state → HasTune number new
     → revision_of number new ≡ revision_of number state
 
+-- an accepted command is no Replace, or it names the current revision and raises it by one
+abbrev pub RaisesReplaced : Command → State → State → Type 0
+RaisesReplaced (Replace number revision book) old new = RaisesRevision number revision old new
+RaisesReplaced command old new = ⊤
+
 -- while a tune stays, its revision rises by one with each accepted Replace of it, and by nothing
 -- else
-abbrev pub RevisionCounts : State → ℕ → ℕ → List Command → Type 0
-RevisionCounts state number revision commands =
-    revision_of number state ≡ Some revision → Stays number state commands
-    → revision_of number (after state commands)
-    ≡ Some (revision + times_replaced number state commands)
+abbrev pub RevisionCounts : Standing → List Answered → Standing → ℕ → ℕ → Type 0
+RevisionCounts old run new number revision =
+    Runs old run new → new.closed ≡ false → revision_of number old.state ≡ Some revision
+    → Stays number run
+    → revision_of number new.state ≡ Some (revision + times_replaced number run)
 
 -- while a tune stays, a Replace that names a revision that it had is accepted only where no
 -- accepted Replace of it came since
-abbrev pub AcceptedReplaceIsCurrent : State → ℕ → ℕ → List Command → List ℕ → Type 0
-AcceptedReplaceIsCurrent state number revision commands book =
-    revision_of number state ≡ Some revision → Stays number state commands
-    → IsTrue (accepts (after state commands) (Replace number revision book))
-    → times_replaced number state commands ≡ 0
+abbrev pub AcceptedReplaceIsCurrent : Standing → List Answered → Standing → ℕ → ℕ → List ℕ
+    → Reply → Standing → Type 0
+AcceptedReplaceIsCurrent old run mid number revision book reply new =
+    Runs old run mid → revision_of number old.state ≡ Some revision → Stays number run
+    → Answers mid (Replace number revision book) (Ok reply) new
+    → times_replaced number run ≡ 0

@@ -14,6 +14,10 @@ pub record Standing : Type 0 where
   pub state : State
   pub closed : Bool
 
+-- the same of a store, by what it stands for and whether it is closed
+abbrev pub standing_by : {S : Type 0} → (S → State) → (S → Bool) → S → Standing
+standing_by state closed store = record { state = state store; closed = closed store }
+
 -- the greatest number, or 0
 abbrev pub greatest : List Tune → ℕ
 greatest [] = 0

@@ -40,7 +40,8 @@ impl Model for ListArchive {
 impl ListArchive {
     /// An archive without a tune. It takes no memory, and keeps the allocator for its tunes.
     pub fn new(alloc: Global) -> ListArchive
-        ensures { result ≡ record { tunes = [] } }
+        ensures empty { result ≡ record { tunes = [] } }
+        ensures limits { IsState result }
     {
         ListArchive {
             alloc,
@@ -57,9 +58,15 @@ impl ListArchive {
 }
 
 impl TuneStore for ListArchive {
-    ghost standing = { λ archive. record { state = archive; closed = false } };
+    ghost state = { λ archive. archive };
+
+    ghost sound = { IsState };
 
     ghost settled = { λ archive file sound honest is_open left. left };
+
+    ghost within = { λ archive sound honest. sound };
+
+    ghost since_earlier = { λ archive since earlier file le left. left };
 
     fn apply(&mut self, command: &Command) -> Result<Reply, Refusal> {
         answer(self.alloc, &mut self.tunes, command)

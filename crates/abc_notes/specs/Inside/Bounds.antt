@@ -1,5 +1,5 @@
 -- Bounds that readers of notes keep, so that indices and pitches fit their types.
-use Rattle.std.specs.Prelude.{◌≡◌, ℕ, ◌+◌, ◌≤◌, List, [], ◌∷◌, length, ⊤}
+use Rattle.std.specs.Prelude.{◌≡◌, ℕ, ◌+◌, ◌≤◌, List, [], ◌∷◌, length, ⊤, ℤ, pos, ◌-ℤ◌}
 use Rattle.abc_fields.specs.Limits.{longest_book}
 use Rattle.abc_fields.specs.Lines.{Span as Line}
 use Rattle.abc_items.specs.declared.kinds.Kind.TheVariants as kind
@@ -19,3 +19,10 @@ AreShort base (span ∷ spans) = IsShort base span × AreShort base spans
 abbrev pub LinesAreShort : List Line → Type 0
 LinesAreShort [] = ⊤
 LinesAreShort (line ∷ lines) = (line.from + length line.bytes ≤ longest_book) × LinesAreShort lines
+
+-- the octaves of notes: each mark adds or takes one
+abbrev pub lowest_octave : ℤ
+lowest_octave = pos 0 -ℤ pos longest_book
+
+abbrev pub highest_octave : ℤ
+highest_octave = pos longest_book

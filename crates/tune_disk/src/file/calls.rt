@@ -1,11 +1,11 @@
 // The calls of the operating system that a disk over a file makes. Each function makes one call,
 // over interruptions and parts, and keeps what it told.
 ghost use Rattle.std.specs.Prelude.{◌≡◌, ◌+◌, ◌<◌, ◌≤◌, ◌^◌, ◌∷◌, ◌++◌, [], length, IfOk, OnOk};
-ghost use Rattle.std.specs.Prelude.{OnErr};
-ghost use Rattle.tune_disk.specs.Inside.ToldMore.{IsToldRead, IsToldWrite};
-ghost use Rattle.tune_disk.specs.declared.file.told.Told.TheVariants.{Length, Broke, Synced};
+ghost use Rattle.std.specs.Prelude.{OnErr, take};
+ghost use Rattle.tune_disk.specs.Inside.ToldMore.{IsToldMore, IsToldRead, IsToldTaken};
+ghost use Rattle.tune_disk.specs.declared.file.told.Told.TheVariants.{Length, Synced};
 
-use super::told::{Told, tell_read, tell_write};
+use super::told::{Told, tell_read, tell_taken};
 use crate::buffers::clear_from;
 use http_server::Log;
 use std::fs::File;
@@ -52,23 +52,27 @@ pub(super) fn read_part(
     Err(io::ErrorKind::Interrupted.into())
 }
 
-/// Writes all of these bytes, in several calls where the system takes them in parts.
-pub(super) fn write_all(
+/// Writes once: how many of these bytes the system took.
+pub(super) fn write_part(
     file: &File,
     log: &mut Log<u64, Told>,
     at: u64,
     bytes: &[u8],
-) -> io::Result<()>
-    ensures ok { OnOk result (IsToldWrite at bytes.now log.old.items log.new.items) }
-    ensures err { OnErr result
-        (log.new.items ≡ log.old.items ++ (at, Broke (length bytes.now)) ∷ []) }
+) -> io::Result<usize>
+    requires { 0 < length bytes.now }
+    ensures count { IfOk result (λ n. (0 < n) × (n ≤ length bytes.now)) }
+    ensures ok { IfOk result (λ n. IsToldTaken (take n bytes.now) log.old.items log.new.items) }
+    ensures err { OnErr result (IsToldMore log.old.items log.new.items) }
 {
-    let done = file.write_all_at(bytes, at);
-    match done {
-        Ok(()) => tell_write(log, at, bytes),
-        Err(_) => *log = log.and(&at, &Told::Broke(bytes.len() as u64)),
+    for _ in 0..u64::MAX {
+        match tell_taken(log, at, bytes, file.write_at(bytes, at)) {
+            Ok(0) => return Err(io::ErrorKind::WriteZero.into()),
+            Ok(count) => return Ok(count),
+            Err(error) if error.kind() == io::ErrorKind::Interrupted => {}
+            Err(error) => return Err(error),
+        }
     }
-    done
+    Err(io::ErrorKind::Interrupted.into())
 }
 
 /// Makes the bytes that were written stable, and with them the length: `fdatasync` leaves out only

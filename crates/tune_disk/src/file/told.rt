@@ -1,8 +1,9 @@
 // What a file of the operating system told, kept for clauses alone: it takes no memory.
-ghost use Rattle.std.specs.Prelude.{◌+◌, ◌≤◌, ◌^◌, length};
-ghost use Rattle.tune_disk.specs.Inside.ToldMore.{IsToldRead, IsToldWrite};
+ghost use Rattle.std.specs.Prelude.{◌≡◌, ◌+◌, ◌≤◌, ◌^◌, length, take, IfOk, OnErr};
+ghost use Rattle.tune_disk.specs.Inside.ToldMore.{IsToldRead, IsToldTaken};
 
 use http_server::Log;
+use std::io;
 
 /// One thing that a file told of an offset.
 #[derive(Clone, Copy, Debug, PartialEq, Eq)]
@@ -15,7 +16,7 @@ pub(crate) enum Told {
     Ended,
     /// A write begins.
     Begun,
-    /// It is to write this byte next.
+    /// The system took this byte next.
     Put(u8),
     /// It wrote its bytes from the offset on.
     Wrote,
@@ -35,13 +36,22 @@ pub(crate) fn tell_read(log: &mut Log<u64, Told>, at: u64, bytes: &[u8])
     }
 }
 
-/// Tells that a write of these bytes from an offset on ended well.
-pub(crate) fn tell_write(log: &mut Log<u64, Told>, at: u64, bytes: &[u8])
-    ensures { IsToldWrite at bytes.now log.old.items log.new.items }
+/// Tells what the system answered to a write of these bytes: that it took so many of them.
+pub(crate) fn tell_taken(
+    log: &mut Log<u64, Told>,
+    at: u64,
+    bytes: &[u8],
+    answer: io::Result<usize>,
+) -> io::Result<usize>
+    requires { IfOk answer (λ n. n ≤ length bytes.now) }
+    ensures same { result ≡ answer }
+    ensures ok { IfOk result (λ n. IsToldTaken (take n bytes.now) log.old.items log.new.items) }
+    ensures err { OnErr result (log.new.items ≡ log.old.items) }
 {
-    *log = log.and(&at, &Told::Begun);
-    for &byte in bytes {
-        *log = log.and(&at, &Told::Put(byte));
+    if let Ok(count) = answer {
+        for i in 0..count {
+            *log = log.and(&at, &Told::Put(bytes[i]));
+        }
     }
-    *log = log.and(&at, &Told::Wrote);
+    answer
 }

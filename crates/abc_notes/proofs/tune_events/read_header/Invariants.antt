@@ -1,6 +1,7 @@
 use Rattle.std.proofs.Common.{◌≡◌, length, false}
 use Rattle.abc_notes.specs.Inside.Bounds.{LinesAreShort}
-use Rattle.abc_notes.specs.Music.{events_after_header, first_key}
+use Rattle.abc_notes.specs.Music.{events_after_header}
+use Rattle.abc_notes.specs.Inside.FirstKeys.{first_key}
 use Rattle.abc_notes.proofs.tune_events.read_header.Given as goal
 
 -- the lines that are left are the rest of a header, and a body

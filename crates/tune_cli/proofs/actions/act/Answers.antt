@@ -24,10 +24,10 @@ returns g c =
     let archive = c.run-end.new.store in
     let P : State → Type 0 = λ start. KnownAt end
     (TellsScript most_lines input left (record (work_in_memory was now archive) { before = open_at start }) end) in
-    let output = known_by end _ _ (forgets_stops most_lines input left _ end) c.run-end.ensures in
+    let output = known_by end _ _ (forgets_stops most_lines input left _ end) (c.run-end.ensures tt) in
     acts_list c.args.action.now input left was now c.status.result record {
       end = end;
       state = archive;
       ends = c.status.ensures;
-      output = subst P c.new-archive.ensures output;
+      output = subst P c.new-archive.ensures.empty output;
     }

@@ -4,25 +4,26 @@ use Rattle.tune_scripts.proofs.RunLemmas.{so_far_none, so_far_more, so_far_end, 
 use Rattle.tune_scripts.proofs.runs.run.Goals as goal
 
 pub loop-lines-init : goal.loop-lines-init
-loop-lines-init g c =
+loop-lines-init g c = λ honest.
     so_far_none g.W.Write g.S.TuneStore most_lines (g.R.Read.remaining c.args.reader.now) c.args.writer.now c.args.store.now
 
 pub returns-in-Some : goal.returns-in-Some
-returns-in-Some g c =
+returns-in-Some g c = λ honest.
     let one : most_lines - c.loop-lines.lines ≡ suc (most_lines - (c.loop-lines.lines + 1)) = omega arith in
     so_far_end g.W.Write g.S.TuneStore c.args.writer.now c.loop-lines.writer c.turn.new.writer c.args.store.now c.loop-lines.store c.turn.new.store
     most_lines (most_lines - (c.loop-lines.lines + 1)) (g.R.Read.remaining c.args.reader.now) (g.R.Read.remaining c.loop-lines.reader)
-    (g.R.Read.remaining c.turn.new.reader) c.in-Some.end (rw one at c.loop-lines.invariant) c.in-Some.ensures
+    (g.R.Read.remaining c.turn.new.reader) c.in-Some.end
+    (rw one at (c.loop-lines.invariant (c.in-Some.ensures.was_honest honest))) (c.in-Some.ensures.turns honest)
 
 pub loop-lines-preserved : goal.loop-lines-preserved
-loop-lines-preserved g c =
+loop-lines-preserved g c = λ honest.
     let one : most_lines - c.loop-lines.lines ≡ suc (most_lines - (c.loop-lines.lines + 1)) = omega arith in
     so_far_more g.W.Write g.S.TuneStore c.args.writer.now c.loop-lines.writer c.turn.new.writer c.args.store.now c.loop-lines.store c.turn.new.store
     most_lines (most_lines - (c.loop-lines.lines + 1)) (g.R.Read.remaining c.args.reader.now) (g.R.Read.remaining c.loop-lines.reader)
-    (g.R.Read.remaining c.turn.new.reader) (rw one at c.loop-lines.invariant) c.in_default.ensures
+    (g.R.Read.remaining c.turn.new.reader) (rw one at (c.loop-lines.invariant (c.in_default.ensures.was_honest honest))) (c.in_default.ensures.turns honest)
 
 pub returns : goal.returns
-returns g c =
+returns g c = λ honest.
     let none : most_lines - c.loop-lines.lines ≡ 0 = omega arith in
     so_far_all g.W.Write g.S.TuneStore most_lines (g.R.Read.remaining c.args.reader.now) (g.R.Read.remaining c.loop-lines.reader)
-    c.args.writer.now c.loop-lines.writer c.args.store.now c.loop-lines.store (rw none at c.loop-lines.invariant)
+    c.args.writer.now c.loop-lines.writer c.args.store.now c.loop-lines.store (rw none at (c.loop-lines.invariant honest))

@@ -8,18 +8,18 @@ use Rattle.tune_scripts.proofs.TurnLemmas.{appends_none, from_end, from_long, fr
 use Rattle.tune_scripts.proofs.RunLemmas.{quiet}
 use Rattle.tune_scripts.proofs.runs.turn.Goals as goal
 
-pub returns-in-End : goal.returns-in-End
-returns-in-End g c =
+pub returns-in-End-clause-turns : goal.returns-in-End-clause-turns
+returns-in-End-clause-turns g c = λ honest.
     let quiet = quiet g.W.Write g.S.TuneStore c.args.writer.now c.args.writer.now c.args.store.now in
     from_end _ _ _ c.in-End.ensures.0 c.in-End.ensures.1 quiet (appends_none (g.W.Write.contents c.args.writer.now))
 
-pub returns-in-Long : goal.returns-in-Long
-returns-in-Long g c =
+pub returns-in-Long-clause-turns : goal.returns-in-Long-clause-turns
+returns-in-Long-clause-turns g c = λ honest.
     let quiet = quiet g.W.Write g.S.TuneStore c.args.writer.now c.bad_line.new.writer c.args.store.now in
     from_long _ _ _ c.bad_line.result c.in-Long.ensures quiet c.bad_line.ensures
 
-pub returns-in-Blank : goal.returns-in-Blank
-returns-in-Blank g c =
+pub returns-in-Blank-clause-turns : goal.returns-in-Blank-clause-turns
+returns-in-Blank-clause-turns g c = λ honest.
     let line = take c.in-Line.len c.read_line.new.line in
     let size = length-take c.in-Line.len c.read_line.new.line in
     let short : length line ≤ longest_line = omega (arith, c.in-Line.ensures.0) in
@@ -28,8 +28,8 @@ returns-in-Blank g c =
     from_line _ _ _ _ None line c.in-Line.fed Blank c.in-Line.ensures.1 short asks
     (λ input rest r e. turn_blank input rest _ _ r e quiet (appends_none (g.W.Write.contents c.args.writer.now)))
 
-pub returns-in-Bad : goal.returns-in-Bad
-returns-in-Bad g c =
+pub returns-in-Bad-clause-turns : goal.returns-in-Bad-clause-turns
+returns-in-Bad-clause-turns g c = λ honest.
     let line = take c.in-Line.len c.read_line.new.line in
     let size = length-take c.in-Line.len c.read_line.new.line in
     let short : length line ≤ longest_line = omega (arith, c.in-Line.ensures.0) in
@@ -38,20 +38,20 @@ returns-in-Bad g c =
     from_line _ _ _ _ c.bad_line-in-Bad.result line c.in-Line.fed Bad c.in-Line.ensures.1 short asks
     (λ input rest r e. turn_bad input rest _ _ c.bad_line-in-Bad.result r e quiet c.bad_line-in-Bad.ensures)
 
-pub returns-in-Whole : goal.returns-in-Whole
-returns-in-Whole g c =
+pub returns-in-Whole-clause-turns : goal.returns-in-Whole-clause-turns
+returns-in-Whole-clause-turns g c = λ honest.
     let line = take c.in-Line.len c.read_line.new.line in
     let size = length-take c.in-Line.len c.read_line.new.line in
     let short : length line ≤ longest_line = omega (arith, c.in-Line.ensures.0) in
     let asks = ap (λ t. meaning_of (words_of t)) (sym c.without_return-line.ensures) ∙ sym c.in-Whole.ensures in
     from_line _ _ _ _ c.carry_out.result line c.in-Line.fed (Whole c.in-Whole.command) c.in-Line.ensures.1 short asks
-    (λ input rest r e. turn_answered input rest _ _ c.in-Whole.command c.carry_out.result r e c.carry_out.ensures)
+    (λ input rest r e. turn_answered input rest _ _ c.in-Whole.command c.carry_out.result r e (c.carry_out.ensures.carries honest))
 
-pub returns-in-Book : goal.returns-in-Book
-returns-in-Book g c =
+pub returns-in-Book-clause-turns : goal.returns-in-Book-clause-turns
+returns-in-Book-clause-turns g c = λ honest.
     let line = take c.in-Line.len c.read_line.new.line in
     let size = length-take c.in-Line.len c.read_line.new.line in
     let short : length line ≤ longest_line = omega (arith, c.in-Line.ensures.0) in
     let asks = ap (λ t. meaning_of (words_of t)) (sym c.without_return-line.ensures) ∙ sym c.in-Book.ensures in
     from_line _ _ _ _ c.with_book.result line c.in-Line.fed (Book c.in-Book.book_use c.in-Book.len) c.in-Line.ensures.1 short asks
-    (λ input rest r e. from_book c.in-Book.book_use c.in-Book.len rest input _ _ _ c.with_book.result c.with_book.ensures e r)
+    (λ input rest r e. from_book c.in-Book.book_use c.in-Book.len rest input _ _ _ c.with_book.result (c.with_book.ensures.turns honest) e r)

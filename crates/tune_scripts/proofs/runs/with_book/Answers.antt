@@ -5,28 +5,28 @@ use Rattle.tune_scripts.proofs.TurnLemmas.{book_cut, book_over, book_no_room, bo
 use Rattle.tune_scripts.proofs.RunLemmas.{quiet}
 use Rattle.tune_scripts.proofs.runs.with_book.Goals as goal
 
-pub returns-in-Cut : goal.returns-in-Cut
-returns-in-Cut g c =
+pub returns-in-Cut-clause-turns : goal.returns-in-Cut-clause-turns
+returns-in-Cut-clause-turns g c = λ honest.
     let quiet = quiet g.W.Write g.S.TuneStore c.args.writer.now c.bad_line.new.writer c.args.store.now in
     book_cut c.args.book_use c.args.len _ _ _ c.bad_line.result c.in-Cut.ensures quiet c.bad_line.ensures
 
-pub returns-in-Dropped : goal.returns-in-Dropped
-returns-in-Dropped g c =
+pub returns-in-Dropped-clause-turns : goal.returns-in-Dropped-clause-turns
+returns-in-Dropped-clause-turns g c = λ honest.
     let fits : c.args.len ≤ longest_book = omega arith in
     let quiet = quiet g.W.Write g.S.TuneStore c.args.writer.now c.refuse.new.writer c.args.store.now in
     let read = c.in-Dropped.ensures in
     book_no_room c.args.book_use c.args.len _ _ _ c.refuse.result read.0 read.1 fits read.2 quiet c.refuse.ensures
 
-pub returns-in-Dropped-2 : goal.returns-in-Dropped-2
-returns-in-Dropped-2 g c =
+pub returns-in-Dropped-2-clause-turns : goal.returns-in-Dropped-2-clause-turns
+returns-in-Dropped-2-clause-turns g c = λ honest.
     let over : longest_book < c.args.len = omega arith in
     let quiet = quiet g.W.Write g.S.TuneStore c.args.writer.now c.refuse-in-Dropped-2.new.writer c.args.store.now in
     let read = c.in-Dropped-2.ensures in
     book_over c.args.book_use c.args.len _ _ _ c.refuse-in-Dropped-2.result read.0 read.1 over read.2 quiet c.refuse-in-Dropped-2.ensures
 
-pub returns-in-Whole : goal.returns-in-Whole
-returns-in-Whole g c =
+pub returns-in-Whole-clause-turns : goal.returns-in-Whole-clause-turns
+returns-in-Whole-clause-turns g c = λ honest.
     let read = c.in-Whole.ensures in
     let fits : c.args.len ≤ longest_book = omega (arith, leb-true c.args.len longest_book read.0) in
-    let carried = rw c.command.ensures at c.carry_out.ensures in
+    let carried = rw c.command.ensures at (c.carry_out.ensures.carries honest) in
     book_whole c.args.book_use c.args.len _ _ _ c.carry_out.result c.in-Whole.book read.1 fits read.2 carried

@@ -3,7 +3,7 @@ use Rattle.abc_notes.specs.Inside.Bounds.{AreShort}
 use Rattle.abc_notes.specs.Music.{chord_events}
 use Rattle.abc_notes.proofs.chord_events.ChordEvents.first_event.Given as goal
 
--- the items that are left tell what all of them tell
+-- the items that are left give what all of them gave
 abbrev pub invariant-items : goal.invariant-items
 invariant-items l =
     (chord_events l.self-inside.base l.self-inside.first l.self-inside.items

@@ -3,7 +3,7 @@ use Rattle.abc_notes.specs.Inside.Bounds.{AreShort}
 use Rattle.abc_notes.specs.Music.{line_events}
 use Rattle.abc_notes.proofs.line_events.LineEvents.first_event.Given as goal
 
--- the chord in hand and the items that are left tell what all told
+-- the chord in hand and the items that are left give what all gave
 abbrev pub invariant-items : goal.invariant-items
 invariant-items l =
     (l.self-inside.chord ++ line_events l.self-inside.base l.self-inside.items

@@ -3,7 +3,7 @@ use Rattle.abc_notes.specs.Inside.Bounds.{AreShort}
 use Rattle.abc_notes.specs.Music.{line_events}
 use Rattle.abc_notes.proofs.line_events.LineEvents.next_plain.Given as goal
 
--- no chord is in hand, and the items that are left tell what all told
+-- no chord is in hand, and the items that are left give what all gave
 abbrev pub invariant-items : goal.invariant-items
 invariant-items l =
     (l.self-inside.chord ≡ [])

@@ -3,7 +3,7 @@ use Rattle.abc_notes.specs.Inside.Bounds.{LinesAreShort}
 use Rattle.abc_notes.specs.Music.{body_events}
 use Rattle.abc_notes.proofs.tune_events.TuneEvents.first_event.Given as goal
 
--- the line in hand and the lines that are left tell what all told
+-- the line in hand and the lines that are left give what all gave
 abbrev pub invariant-lines : goal.invariant-lines
 invariant-lines l =
     (l.self-inside.line ++ body_events l.self-inside.in_part l.self-inside.lines

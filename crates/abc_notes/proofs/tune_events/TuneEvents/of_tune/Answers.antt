@@ -5,7 +5,8 @@ use Rattle.abc_fields.specs.Fields.{values_of, key_text_of}
 use Rattle.abc_fields.specs.Lines.{Span as Line, spans_of}
 use Rattle.abc_keys.specs.Keys.{key_of_text, signature_of}
 use Rattle.abc_notes.specs.Inside.Bounds.{LinesAreShort}
-use Rattle.abc_notes.specs.Music.{first_key, body_events, events_after_header, tune_events}
+use Rattle.abc_notes.specs.Music.{body_events, events_after_header, tune_events}
+use Rattle.abc_notes.specs.Inside.FirstKeys.{first_key}
 use Rattle.abc_notes.proofs.EventCounts.{tune_events_few}
 use Rattle.abc_notes.proofs.TuneLemmas.{first_key_is, lines_are_short}
 use Rattle.abc_notes.proofs.tune_events.TuneEvents.of_tune.Goals as goal

@@ -5,7 +5,7 @@ use Rattle.test_stores.proofs.RecordLemmas.{pushes}
 use Rattle.test_stores.proofs.recorded_store.RecordedStoreTuneStore.apply.Goals as goal
 
 pub returns-in_err-reserve-clause-answer : goal.returns-in_err-reserve-clause-answer
-returns-in_err-reserve-clause-answer c =
+returns-in_err-reserve-clause-answer c = λ honest.
     let refused = err_from_is_err_and c.from_residual.result c.from_residual.ensures.1 in
     rw (refused.1, refused.2) (no_memory c.args.self.now.archive c.args.command.now)
 
@@ -13,12 +13,13 @@ pub returns-clause-stops : goal.returns-clause-stops
 returns-clause-stops c =
     let states = passed c.args.self.now.archive c.args.command.now (Ok c.in_ok-reply.reply) in
     let pushed = c.add_entry.ensures.entries ∙ ap (λ (entries : List ℕ). entries ++ c.len.result ∷ []) c.reserve.ensures.items in
-    let goes = pushes c.args.self.now.entries.items _ _ _ states c.len.result c.in_ok-reply.ensures.stops.reaches (sym c.len.ensures) pushed in
+    let archive = c.in_ok-reply.ensures.stops in
+    let goes = pushes c.args.self.now.entries.items _ _ _ states c.len.result (archive.reaches tt) archive.stays_sound (sym c.len.ensures) pushed in
     record {
-      reaches = goes.reaches;
+      reaches = λ honest. goes.reaches;
       was_honest = λ honest. honest;
       stays_sound = goes.stays_sound;
-      later = goes.is_later;
+      later = λ honest. goes.is_later;
       keeps = λ honest. goes.keeps;
       leaves = λ sound honest since file early left. goes.leaves since file left;
     }

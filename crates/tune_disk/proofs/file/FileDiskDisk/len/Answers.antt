@@ -1,3 +1,5 @@
+use Rattle.std.proofs.Common.{ℕ, subst}
+use Rattle.tune_disk.specs.Disk.{CountsFailure}
 use Rattle.tune_disk.specs.FileDisk.{file_history}
 use Rattle.tune_disk.specs.Inside.ToldMore.{IsToldMore}
 use Rattle.tune_disk.specs.FileTold.{at_opening}
@@ -24,7 +26,7 @@ returns-clause-looks c =
     record {
       calls = record {
         was_honest = λ honest. record { opened = honest.opened; told = more.fits h (at_opening h) honest.told };
-        counted = c.counted.ensures.counted;
+        counted = subst (λ (n : ℕ). CountsFailure c.counted.result n c.counted.new.failed) c.in_ok-go_on.ensures.counted c.counted.ensures.counted;
       };
       same = λ _. more.state h (at_opening h);
     }

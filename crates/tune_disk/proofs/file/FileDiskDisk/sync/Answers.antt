@@ -1,3 +1,5 @@
+use Rattle.std.proofs.Common.{ℕ, subst}
+use Rattle.tune_disk.specs.Disk.{CountsFailure}
 use Rattle.tune_disk.specs.FileDisk.{file_history}
 use Rattle.tune_disk.specs.FileTold.{at_opening}
 use Rattle.tune_disk.proofs.Told.{sync_more, sync_told, same_answer}
@@ -13,7 +15,7 @@ returns-clause-calls c =
         told = sync_more done.result c.args.self.now.log.items done.new.log.items
             done.ensures.ok done.ensures.err h (at_opening h) honest.told;
       };
-      counted = c.counted.ensures.counted;
+      counted = subst (λ (n : ℕ). CountsFailure c.counted.result n c.counted.new.failed) c.in_ok-go_on.ensures.counted c.counted.ensures.counted;
     }
 
 pub returns-clause-sync : goal.returns-clause-sync

@@ -1,4 +1,4 @@
-use Rattle.std.proofs.Common.{◌≡◌, rules, ◌∙◌, sym, ap, subst}
+use Rattle.std.proofs.Common.{◌≡◌, rules, sym, ap, subst}
 use Rattle.tune_disk.specs.Disk.{DiskState, MayLeave}
 use Rattle.tune_disk.specs.Inside.Stays.{memory_stays}
 use Rattle.tune_disk.specs.Memory.{memory_state}
@@ -15,5 +15,5 @@ returns-clause-file c =
       | in-Lost+in_ok-file-in-Lost w ↦ (let is : file ≡ s.now.stable = search rules in subst (MayLeave s.now) (sym is) (stable_stays _ _ stays))
       | in-Kept+in_ok-file-in-Kept w ↦ (let is : file ≡ s.seen = search rules in subst (MayLeave s.now) (sym is) stays)
     ] in
-    holds_then c.from_bytes.result _ _ c.from_bytes.ensures
-    (λ d is. subst (MayLeave s.now) (sym (ap (λ (t : DiskState). t.seen) is ∙ c.deref-2.ensures.value)) left)
+    holds_then c.holding.result _ _ c.holding.ensures
+    (λ d is. subst (MayLeave s.now) (sym (ap (λ (t : DiskState). t.seen) is)) left)

@@ -1,6 +1,7 @@
 use Rattle.tune_store.specs.Answers.{Answers, open_at}
 use Rattle.tune_store.specs.Inside.Lists.{state_of}
-use Rattle.tune_store.proofs.StepLemmas.{in_memory, refused_stays, failing_closes, closed_answers, passes_in_memory, never_fails}
+use Rattle.tune_store.proofs.StepLemmas.{in_memory, refused_where, answers_name, answers_close, closed_answers, passes_in_memory, never_fails}
+use Rattle.tune_store.proofs.RevisionLemmas.{raised_where}
 use Rattle.tune_store.proofs.list_archive.ListArchiveTuneStore.apply.Goals as goal
 
 answered : (c : goal.After-answer)
@@ -13,10 +14,13 @@ returns c =
     let new = state_of c.answer.new.tunes.items in
     let answers = answered c in
     record {
-      answer = answers;
-      refused = refused_stays _ _ _ _ answers;
-      closes = failing_closes _ _ _ _ answers;
-      closed = closed_answers _ _ _ _ answers;
-      stops = passes_in_memory old new _ c.answer.result answers;
+      answer = λ honest. answers;
+      refused = refused_where _ _ _ _ _ answers;
+      names = answers_name _ _ _ _ answers;
+      replaced = raised_where _ _ _ _ _ answers;
+      closes = answers_close _ _ _ _ answers;
+      when_closed = closed_answers _ _ _ _ answers;
+      idle = λ closed. cc;
+      stops = passes_in_memory old new _ c.answer.result answers c.answer.ensures.state;
       cause = λ honest failed. absurd (never_fails old new _ c.answer.result answers failed);
     }

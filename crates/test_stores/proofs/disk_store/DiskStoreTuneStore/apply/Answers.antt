@@ -1,0 +1,25 @@
+use Rattle.test_stores.proofs.MediaLemmas.{passes_disk, marked_by, answers_closed, fails_after}
+use Rattle.test_stores.proofs.disk_store.DiskStoreTuneStore.apply.Goals as goal
+
+pub returns-then-self-clause-answer : goal.returns-then-self-clause-answer
+returns-then-self-clause-answer g c = λ honest.
+    answers_closed c.args.self.now.archive c.args.self.now.closed c.args.command.now c.if-self.true
+
+pub returns-in-Ok-clause-stops : goal.returns-in-Ok-clause-stops
+returns-in-Ok-clause-stops g c =
+    let archive = c.in_ok-reply.ensures.stops in
+    let mark = c.in-Ok.ensures in
+    passes_disk _ _ _ _ _ _ mark.was_honest mark.grows (λ honest. archive.reaches tt)
+    (marked_by _ _ _ _ _ _ mark.was_honest mark.grows archive.stays_sound)
+
+pub returns-in-Err-clause-answer : goal.returns-in-Err-clause-answer
+returns-in-Err-clause-answer g c = λ honest.
+    fails_after c.args.self.now.archive c.apply.new.self c.args.self.now.closed c.args.command.now _ c.if-self.false
+    (c.in_ok-reply.ensures.answer tt)
+
+pub returns-in-Err-clause-stops : goal.returns-in-Err-clause-stops
+returns-in-Err-clause-stops g c =
+    let archive = c.in_ok-reply.ensures.stops in
+    let mark = c.in-Err.ensures in
+    passes_disk _ _ _ _ _ _ mark.was_honest mark.grows (λ honest. archive.reaches tt)
+    (marked_by _ _ _ _ _ _ mark.was_honest mark.grows archive.stays_sound)

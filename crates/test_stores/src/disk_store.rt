@@ -1,0 +1,87 @@
+// A store over any disk.
+ghost use Rattle.std.specs.Prelude.{◌≡◌, ◌≤◌, [], false, OnErr};
+ghost use Rattle.tune_store.specs.State.{State};
+ghost use Rattle.tune_store.specs.Stops.{HasFailed};
+ghost use Rattle.test_stores.specs.Media.{moment_of, LeftFrom, IsMark, IsMarked};
+ghost use Rattle.test_stores.specs.Inside.Media.{is_mark, left_before, Grows};
+
+use std::alloc::Global;
+use tune_disk::{DeviceFault, Disk};
+use tune_store::{Command, ListArchive, Refusal, Reply, TuneStore};
+
+/// A fake store over any disk: an archive in memory, which writes a mark of one byte on the disk at
+/// each command that is accepted. Any file of at most one byte stands for any state: it keeps no
+/// tunes, and shows that what the trait of stores says can be met over a disk that fails.
+#[derive(Drop)]
+pub struct DiskStore<D: Disk> {
+    archive: ListArchive,
+    disk: D,
+    closed: bool,
+}
+
+impl<D: Disk> DiskStore<D> {
+    /// A store without a tune over a disk, of which a stop leaves at most one byte.
+    pub fn new(alloc: Global, disk: D) -> DiskStore<D>
+        requires { D.honest disk → (D.state disk).now.reach ≤ 1 }
+        ensures state { ⟦<DiskStore<D> as TuneStore>⟧.state result ≡ record { tunes = [] } }
+        ensures is_open { ⟦<DiskStore<D> as TuneStore>⟧.closed result ≡ false }
+        ensures sound { ⟦<DiskStore<D> as TuneStore>⟧.sound result }
+    {
+        DiskStore {
+            archive: ListArchive::new(alloc),
+            disk,
+            closed: false,
+        }
+    }
+}
+
+impl<D: Disk> TuneStore for DiskStore<D> {
+    ghost state = { λ store. store.archive };
+
+    ghost closed = { λ store. store.closed };
+
+    ghost honest = { λ store. D.Disk.honest store.disk };
+
+    ghost sound = { λ store.
+        IsMarked (D.Disk.honest store.disk) (D.Disk.state store.disk) store.archive };
+
+    ghost failures = { λ store. D.Disk.failures store.disk };
+
+    ghost moment = { λ store. moment_of (D.Disk.state store.disk) };
+
+    ghost left_since = { λ store. LeftFrom (D.Disk.state store.disk) };
+
+    ghost stands_for = { IsMark };
+
+    ghost settled = { λ store file sound honest is_open left.
+        is_mark (D.Disk.state store.disk) file (sound.mark honest) left };
+
+    ghost within = { λ store sound honest. sound.within };
+
+    ghost since_earlier = { λ store since earlier file le left.
+        left_before (D.Disk.state store.disk) since earlier file le left };
+
+    fn apply(&mut self, command: &Command) -> Result<Reply, Refusal> {
+        if self.closed {
+            return Err(Refusal::Closed);
+        }
+        let reply = self.archive.apply(command)?;
+        match mark(&mut self.disk) {
+            Ok(()) => Ok(reply),
+            Err(_) => {
+                self.closed = true;
+                Err(Refusal::Device)
+            }
+        }
+    }
+}
+
+// Writes the mark, and makes it stable.
+fn mark<D: Disk>(disk: &mut D) -> Result<(), DeviceFault>
+    ensures was_honest { D.honest disk.new → D.honest disk.old }
+    ensures grows { D.honest disk.new → Grows (D.state disk.old) (D.state disk.new) }
+    ensures failed { OnErr result (HasFailed (D.failures disk.old) (D.failures disk.new)) }
+{
+    disk.write_at(0, &[1])?;
+    disk.sync()
+}
