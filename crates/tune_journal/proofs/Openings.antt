@@ -1,5 +1,5 @@
 -- A stop while a file is opened.
-use Rattle.std.proofs.Common.{◌≡◌, inl, inr, ℕ, ◌<◌, ◌≤◌, List, [], length, sym, ◌∙◌, ap, subst, arith, Result, Ok}
+use Rattle.std.proofs.Common.{◌≡◌, inl, inr, ℕ, ◌≤◌, List, length, sym, ◌∙◌, ap, subst, arith, Result, Ok}
 use Rattle.tune_disk.specs.Disk.{DiskState, MayLeave, settled}
 use Rattle.tune_disk.specs.Stops.{LeavesOnly, SinceThen}
 use Rattle.tune_disk.proofs.Moments.{since_same, since_sync, since_then, since_weaker}
@@ -13,7 +13,7 @@ use Rattle.tune_journal.specs.Refusal.{IsSynced}
 use Rattle.tune_journal.specs.declared.look.Found.{Found}
 use Rattle.tune_journal.specs.declared.look.Found.TheVariants.{Damaged, Closed, Open}
 use Rattle.tune_journal.proofs.Recovery.{log_climbs}
-use Rattle.tune_journal.proofs.Agreeing.{entries_at, length-entries, length-pages_of}
+use Rattle.tune_journal.proofs.Agreeing.{length-entries, length-pages_of}
 use Rattle.tune_journal.proofs.Above.{stands_once}
 use Rattle.tune_journal.proofs.Changed.{length-changed}
 

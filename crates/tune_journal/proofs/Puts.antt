@@ -1,5 +1,5 @@
 -- For the crates above: what one more change does to a list of changes and to the pages that it makes, and the conditions of a commit by the image of a page.
-use Rattle.std.proofs.Common.{◌≡◌, ◌≢◌, inl, inr, ℕ, suc, ◌+◌, ◌-◌, ◌<◌, ◌≤◌, List, [], ◌∷◌, ◌++◌, length, set, replicate, All, Some, None, IsSome, refl, sym}
+use Rattle.std.proofs.Common.{◌≡◌, ◌≢◌, inl, inr, ℕ, suc, ◌+◌, ◌-◌, ◌<◌, ◌≤◌, List, [], ◌∷◌, ◌++◌, length, set, replicate, All, Some, IsSome, refl, sym}
 use Rattle.std.proofs.Common.{◌∙◌, ap, subst, arith, append_assoc, length-append}
 use Rattle.std.proofs.lemmas.List.{set-append_left, set-append_right, append-nil, length-replicate, length-set, set-set, set_comm, replicate-append-replicate}
 use Rattle.std.proofs.lemmas.List.Elements.{All-nil, All-cons, All-head, All-tail}
@@ -24,7 +24,8 @@ image_put page image [] = image_here page (page, image) [] refl
 image_put page image (c ∷ cs) = elim (cases_order page c.0) [
   | inl is ↦ ap (image_of page) (with_same page image c cs (sym is)) ∙ image_here page (page, image) cs refl
   | inr (inl less) ↦ ap (image_of page) (with_before page image c cs less) ∙ image_here page (page, image) (c ∷ cs) refl
-  | inr (inr more) ↦ ap (image_of page) (with_after page image c cs more) ∙ image_past page c (with_change page image cs) (λ is. absurd (omega (arith, more, is)))
+  | inr (inr more) ↦ ap (image_of page) (with_after page image c cs more)
+      ∙ image_past page c (with_change page image cs) (λ is. absurd (omega (arith, more, is)))
       ∙ image_put page image cs
 ]
 
@@ -104,7 +105,8 @@ pub nothing : (pages : List (List ℕ)) → pages_after pages (length pages) [] 
 nothing pages = let none : length pages - length pages ≡ 0 = omega arith in ap (λ (n : ℕ). pages ++ replicate n []) none ∙ append-nil pages
 
 -- a page that none of the changes above another names
-changed_above : (n : ℕ) (l : List Change) (x : List (List ℕ)) (p : ℕ) (image : List ℕ) → p ≤ n → AreAbove n l → changed (set x p image) l ≡ set (changed x l) p image
+changed_above : (n : ℕ) (l : List Change) (x : List (List ℕ)) (p : ℕ) (image : List ℕ) → p ≤ n → AreAbove n l
+    → changed (set x p image) l ≡ set (changed x l) p image
 changed_above n [] x p image le above = refl
 changed_above n (c ∷ cs) x p image le above =
     ap (λ (y : List (List ℕ)). changed y cs) (set_comm x p c.0 image c.1 (λ is. absurd (omega (arith, le, above.0, is))))

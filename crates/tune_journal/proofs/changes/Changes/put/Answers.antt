@@ -80,4 +80,5 @@ returns-in_ok-insert-in-Err-clause-others c =
 
 pub returns-in_ok-insert-in-Err-clause-some : goal.returns-in_ok-insert-in-Err-clause-some
 returns-in_ok-insert-in-Err-clause-some c =
-    subst (λ (l : List (ℕ × List ℕ)). 0 < length l) (sym (returns-in_ok-insert-in-Err-clause-ok c)) (some_with c.args.page c.args.image.now.bytes c.args.self.now)
+    subst (λ (l : List (ℕ × List ℕ)). 0 < length l) (sym (returns-in_ok-insert-in-Err-clause-ok c))
+    (some_with c.args.page c.args.image.now.bytes c.args.self.now)

@@ -102,4 +102,5 @@ returns-in_default-2-clause-missing c =
     let past : length items ≤ at = (rw c.in_default.is at c.get.ensures.item).3 in
     let size : c.self.inside.changed.len ≡ length items = search rules in
     subst (MissingAt c.args.page at) c.self.view_is
-    (missing_from c.args.page at items c.self.invariant.rising point (omega (arith, size, c.partition_point-at.ensures.bound)) (λ lt. absurd (omega (arith, past, lt))))
+    (missing_from c.args.page at items c.self.invariant.rising point (omega (arith, size, c.partition_point-at.ensures.bound))
+    (λ lt. absurd (omega (arith, past, lt))))
