@@ -2,7 +2,7 @@
 use crate::pages::image;
 use std::process::Abort;
 use std::test::Fail;
-use tune_journal::Changes;
+use tune_journal::{Changes, PageImage};
 
 // The last byte that was put for a page.
 fn last_byte(puts: &[(u32, u8)], page: u32) -> Option<u8> {
@@ -73,5 +73,38 @@ fn has_no_page_at_first(rt: HostRuntime) -> Result<(), Fail> {
     changes.put(u32::MAX, &image(1))?;
     assert!(&rt; !changes.is_empty() && changes.get(0).is_none());
     assert!(&rt; byte_of(&changes, u32::MAX) == Some(1));
+    Ok(())
+}
+
+// With each allocation failing in turn this stops at each put of a new page once.
+#[test]
+fn a_put_without_memory_leaves_the_changes_as_they_were(rt: HostRuntime) -> Result<(), Fail> {
+    let puts = [(7, 1), (3, 2), (11, 3), (0, 4), (15, 5), (9, 6), (3, 7)];
+    let mut changes = Changes::new(rt.alloc());
+    for (place, (page, byte)) in puts.iter().enumerate() {
+        let before = changes.len();
+        match changes.put(*page, &image(*byte)) {
+            Ok(()) => check_list(&rt, &changes, puts.get(..=place).ok_or("cut")?),
+            Err(_) => {
+                assert_eq!(&rt; changes.len(), before);
+                check_list(&rt, &changes, puts.get(..place).ok_or("cut")?);
+                // It can be put again.
+                changes.put(*page, &image(*byte))?;
+                check_list(&rt, &changes, puts.get(..=place).ok_or("cut")?);
+            }
+        }
+    }
+    assert_eq!(&rt; changes.len(), 6);
+    Ok(())
+}
+
+#[test]
+fn a_blank_page_is_zeros(rt: HostRuntime) -> Result<(), Fail> {
+    let mut changes = Changes::new(rt.alloc());
+    changes.put(1, &PageImage::blank())?;
+    match changes.get(1) {
+        Some(blank) => assert!(&rt; blank.bytes.iter().all(|byte| *byte == 0)),
+        None => return Err(Fail::from("not there")),
+    }
     Ok(())
 }

@@ -1,8 +1,9 @@
 // Commits that succeed, and what a stop leaves at each of their disk calls.
 ghost use Rattle.std.specs.Prelude.{◌<◌, ◌^◌};
 
+use crate::files::{Forged, file, mark_unread};
 use crate::pages::{
-    calls_of_making, check_pages, commit, commit_by_parts, committed, made, opened,
+    calls_of_making, check_bytes, check_pages, commit, commit_by_parts, committed, made, opened,
 };
 use std::alloc::Global;
 use std::process::Abort;
@@ -120,6 +121,47 @@ fn commits_one_after_another(rt: HostRuntime) -> Result<(), Fail> {
     ] {
         disk = committed(alloc, opened(disk)?, new_count, changed)?.into_disk();
         check_pages(&rt, case, disk.stopped(StopChoice::Lost)?, wanted)?;
+    }
+    Ok(())
+}
+
+#[test]
+fn a_commit_writes_nothing_but_what_the_format_names_and_closes_the_gate_with_00(
+    rt: HostRuntime,
+) -> Result<(), Fail> {
+    let alloc = rt.alloc();
+    for gate in [0, 0x55] {
+        let mut before = file(
+            alloc,
+            &Forged {
+                gate,
+                new_count: 7,
+                entries: 8,
+                count: 2,
+                pages: &[1, 2],
+                log: &[],
+            },
+        )?;
+        let mut wanted = file(
+            alloc,
+            &Forged {
+                gate: 0,
+                new_count: 3,
+                entries: 2,
+                count: 3,
+                pages: &[7, 2, 8],
+                log: &[(0, 7), (2, 8)],
+            },
+        )?;
+        mark_unread(&mut before);
+        mark_unread(&mut wanted);
+        // Bytes behind the log stay.
+        before.resize(36_872, 0xee)?;
+        before.extend_from_slice(&[0xee; 100])?;
+        wanted.extend_from_slice(&[0xee; 100])?;
+        let journal = opened(MemoryDisk::from_bytes(alloc, &before)?)?;
+        let disk = committed(alloc, journal, 3, &[(2, 8), (0, 7)])?.into_disk();
+        check_bytes(&rt, gate as u64, &disk, &wanted)?;
     }
     Ok(())
 }

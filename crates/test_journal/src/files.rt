@@ -79,3 +79,16 @@ pub(crate) fn closed(alloc: Global, pages: &[u8], count: u32) -> Result<Vec<u8>,
         },
     )
 }
+
+/// Puts a byte into each place of the first four blocks at which nobody looks.
+pub(crate) fn mark_unread(file: &mut [u8]) {
+    for offset in 0..16_384 {
+        let read = offset < 8
+            || offset == 4096
+            || (offset >= 8192 && offset < 8200)
+            || (offset >= 12_288 && offset < 12_292);
+        if !read && let Some(byte) = file.get_mut(offset) {
+            *byte = 0xee;
+        }
+    }
+}

@@ -1,5 +1,5 @@
 // Opening files with an open gate: logs that are whole, and logs that are damaged.
-use crate::files::{Forged, OPEN, file};
+use crate::files::{Forged, OPEN, file, mark_unread};
 use crate::pages::{calls_of_opening, check_bytes, check_pages, check_refused, opened};
 use std::alloc::Global;
 use std::process::Abort;
@@ -140,6 +140,19 @@ fn recovery_leaves_a_closed_gate_and_the_new_count(rt: HostRuntime) -> Result<()
         check_pages(&rt, count as u64, again, &[7, 2, 8])?;
     }
     Ok(())
+}
+
+#[test]
+fn recovery_writes_nothing_but_the_pages_the_count_and_the_gate(
+    rt: HostRuntime,
+) -> Result<(), Fail> {
+    let alloc = rt.alloc();
+    let mut before = three_pages(alloc, OPEN, 2, &[1, 2])?;
+    let mut wanted = three_pages(alloc, 0, 3, &[7, 2, 8])?;
+    mark_unread(&mut before);
+    mark_unread(&mut wanted);
+    let disk = opened(MemoryDisk::from_bytes(alloc, &before)?)?.into_disk();
+    check_bytes(&rt, 0, &disk, &wanted)
 }
 
 #[test]

@@ -1,6 +1,6 @@
 // Opening files behind a closed gate, and files that are none.
-use crate::files::{Forged, OPEN, closed, file};
-use crate::pages::{calls_of_opening, check_bytes, check_pages, check_refused};
+use crate::files::{Forged, OPEN, closed, file, mark_unread};
+use crate::pages::{calls_of_opening, check_bytes, check_pages, check_refused, made, opened};
 use std::process::Abort;
 use std::test::Fail;
 use tune_disk::{FuseDisk, MemoryDisk};
@@ -103,6 +103,53 @@ fn finds_one_value_of_the_gate_open(rt: HostRuntime) -> Result<(), Fail> {
         } else {
             check_pages(&rt, gate as u64, disk, &[0x33])?;
         }
+    }
+    Ok(())
+}
+
+fn put_byte(file: &mut [u8], offset: usize, byte: u8) -> Result<(), Fail> {
+    match file.get_mut(offset) {
+        Some(place) => {
+            *place = byte;
+            Ok(())
+        }
+        None => Err(Fail::from("too short")),
+    }
+}
+
+#[test]
+fn a_made_file_with_an_open_gate_is_damaged(rt: HostRuntime) -> Result<(), Fail> {
+    let alloc = rt.alloc();
+    let made = made(MemoryDisk::new(alloc), 0x33)?.into_disk();
+    let mut forged = made.bytes().to_vec(alloc)?;
+    put_byte(&mut forged, 4096, OPEN)?;
+    let disk = MemoryDisk::from_bytes(alloc, &forged)?;
+    let disk = check_refused(&rt, 0, disk, OpenFault::Damaged)?;
+    check_bytes(&rt, 0, &disk, &forged)?;
+    // Nor does it hold a log of one page and one entry, which would stand behind the file.
+    put_byte(&mut forged, 8195, 1)?;
+    put_byte(&mut forged, 8199, 1)?;
+    let disk = MemoryDisk::from_bytes(alloc, &forged)?;
+    let disk = check_refused(&rt, 1, disk, OpenFault::Damaged)?;
+    check_bytes(&rt, 1, &disk, &forged)
+}
+
+#[test]
+fn opening_behind_a_closed_gate_writes_no_byte(rt: HostRuntime) -> Result<(), Fail> {
+    let alloc = rt.alloc();
+    for gate in [0, 0x55, 0xff] {
+        let forged = Forged {
+            gate,
+            new_count: 7,
+            entries: 8,
+            count: 2,
+            pages: &[1, 2, 3],
+            log: &[],
+        };
+        let mut file = file(alloc, &forged)?;
+        mark_unread(&mut file);
+        let disk = opened(MemoryDisk::from_bytes(alloc, &file)?)?.into_disk();
+        check_bytes(&rt, gate as u64, &disk, &file)?;
     }
     Ok(())
 }

@@ -24,8 +24,8 @@ use told::Told;
 /// `flock`, which binds only those who ask for it.) Its answers are kept for clauses alone, which
 /// speak of files whose answers fit.
 ///
-/// A sync that failed is final: each later call is a fault. The system may have let go what that
-/// sync did not write, and would then answer that a second one went well.
+/// A sync that failed is final: each later call is a fault. Linux forgets what an `fdatasync` that
+/// failed did not write, and answers that a second one went well.
 #[derive(Drop)]
 pub struct FileDisk {
     file: File,

@@ -63,7 +63,8 @@ pub page_kept_after : (pages : List (List ℕ)) (m : ℕ) (changes : List (ℕ �
 page_kept_after pages m changes p lt none =
     page_kept (pages ++ replicate (m - length pages) []) changes p none ∙ get_or_append_left pages (replicate (m - length pages) []) [] p lt
 
-changed_at : (pages : List (List ℕ)) (changes : List (ℕ × List ℕ)) (p : ℕ) (image : List ℕ) → PagesRise changes → p < length pages
+-- a page that the changes name has its image among these pages with them
+pub changed_at : (pages : List (List ℕ)) (changes : List (ℕ × List ℕ)) (p : ℕ) (image : List ℕ) → PagesRise changes → p < length pages
     → image_of p changes ≡ Some image → page_at (changed pages changes) p ≡ image
 changed_at pages [] p image rises lt some = absurd (let e = some in cc)
 changed_at pages ((q, i) ∷ rest) p image rises lt some = elim (cases_eq p q) [

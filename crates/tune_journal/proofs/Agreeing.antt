@@ -1,5 +1,5 @@
 -- Files that agree but for some bytes: the numbers, pages and entries in them.
-use Rattle.std.proofs.Common.{◌≡◌, ℕ, ◌+◌, ◌^◌, ◌<◌, ◌≤◌, List, [], ◌∷◌, length, get_or, take, drop}
+use Rattle.std.proofs.Common.{◌≡◌, ℕ, ◌+◌, ◌^◌, ◌<◌, ◌≤◌, List, [], ◌∷◌, length, All, get_or, take, drop}
 use Rattle.std.proofs.Common.{sym, ◌∙◌, ap, subst, arith}
 use Rattle.byteorder.specs.Endian.{big_bytes, big_number}
 use Rattle.std.proofs.lemmas.List.{take-take, drop-take, drop-drop, same_lists}
@@ -12,7 +12,7 @@ use Rattle.tune_journal.specs.Image.{window, number, page_offset, entry_offset, 
 use Rattle.tune_journal.specs.Image.{HasPageCount, HasLog}
 use Rattle.tune_journal.specs.Inside.Phases.{IsOutside}
 use Rattle.tune_journal.specs.Layout.{block_bytes, gate_offset, pages_offset, entry_bytes}
-use Rattle.tune_journal.proofs.Windows.{same_window, shows_window}
+use Rattle.tune_journal.proofs.Windows.{same_window, shows_window, length-window}
 
 -- Numbers.
 pub number_same : (at : ℕ) (file other : List ℕ) → window at 4 other ≡ window at 4 file → number at other ≡ number at file
@@ -47,6 +47,12 @@ length-pages_of n f = length-map-range_with_len (λ q. window (page_offset q) bl
 pub pages_of_at : (n p : ℕ) (f : List ℕ) (d : List ℕ) → p < n → get_or (pages_of n f) p d ≡ window (page_offset p) block_bytes f
 unfolding pages_of
 pages_of_at n p f d lt = get_or-map-range_with_len (λ q. window (page_offset q) block_bytes f) 0 n p p d lt (omega arith)
+
+-- each has the bytes of a page
+pub sized_pages : (n : ℕ) (f : List ℕ) → page_offset n ≤ length f → All (λ page. length page ≡ block_bytes) (pages_of n f)
+sized_pages n f long = λ p d lt.
+    (let within : p < n = omega (arith, lt, length-pages_of n f) in
+    ap length (pages_of_at n p f d within) ∙ length-window (page_offset p) block_bytes f (omega (arith, within, long)))
 
 pub length-entries : (m k : ℕ) (f : List ℕ) → length (entries m k f) ≡ k
 unfolding entries

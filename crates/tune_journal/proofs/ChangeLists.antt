@@ -15,26 +15,26 @@ use Rattle.tune_journal.specs.Inside.ChangeOrder.{IsChangeList, AreBelow, AreAbo
 use Rattle.tune_journal.specs.Inside.Listed.{change_in, listed}
 use Rattle.tune_journal.specs.Layout.{block_bytes}
 
-abbrev Change : Type 0
+abbrev pub Change : Type 0
 Change = ℕ × List ℕ
 
 -- The three ways in which a change meets the first of a list.
-with_before : (page : ℕ) (image : List ℕ) (c : Change) (cs : List Change) → page < c.0 → with_change page image (c ∷ cs) ≡ (page, image) ∷ c ∷ cs
+pub with_before : (page : ℕ) (image : List ℕ) (c : Change) (cs : List Change) → page < c.0 → with_change page image (c ∷ cs) ≡ (page, image) ∷ c ∷ cs
 with_before page image c cs lt = grind (arith, nat_tests)
 
-with_same : (page : ℕ) (image : List ℕ) (c : Change) (cs : List Change) → c.0 ≡ page → with_change page image (c ∷ cs) ≡ (page, image) ∷ cs
+pub with_same : (page : ℕ) (image : List ℕ) (c : Change) (cs : List Change) → c.0 ≡ page → with_change page image (c ∷ cs) ≡ (page, image) ∷ cs
 with_same page image c cs is = grind (arith, nat_tests)
 
-with_after : (page : ℕ) (image : List ℕ) (c : Change) (cs : List Change) → c.0 < page → with_change page image (c ∷ cs) ≡ c ∷ with_change page image cs
+pub with_after : (page : ℕ) (image : List ℕ) (c : Change) (cs : List Change) → c.0 < page → with_change page image (c ∷ cs) ≡ c ∷ with_change page image cs
 with_after page image c cs lt = grind (arith, nat_tests)
 
-image_same : (page : ℕ) (c : Change) (cs : List Change) → c.0 ≡ page → image_of page (c ∷ cs) ≡ Some c.1
+pub image_same : (page : ℕ) (c : Change) (cs : List Change) → c.0 ≡ page → image_of page (c ∷ cs) ≡ Some c.1
 image_same page c cs is = grind (arith, nat_tests)
 
-image_after : (page : ℕ) (c : Change) (cs : List Change) → c.0 < page → image_of page (c ∷ cs) ≡ image_of page cs
+pub image_after : (page : ℕ) (c : Change) (cs : List Change) → c.0 < page → image_of page (c ∷ cs) ≡ image_of page cs
 image_after page c cs lt = grind (arith, nat_tests)
 
-image_before : (page : ℕ) (c : Change) (cs : List Change) → page < c.0 → image_of page (c ∷ cs) ≡ image_of page cs
+pub image_before : (page : ℕ) (c : Change) (cs : List Change) → page < c.0 → image_of page (c ∷ cs) ≡ image_of page cs
 image_before page c cs lt = grind (arith, nat_tests)
 
 -- A page among the changes stands between smaller ones and the rest.
@@ -103,7 +103,7 @@ above_from_first page zero (c ∷ cs) rises first = (let lt : page < c.0 = first
 above_from_first page (suc at) [] rises first = tt
 above_from_first page (suc at) (c ∷ cs) rises first = above_from_first page at cs rises.1 (λ lt. first (omega arith))
 
-above_with : (low page : ℕ) (image : List ℕ) (l : List Change) → low < page → AreAbove low l → AreAbove low (with_change page image l)
+pub above_with : (low page : ℕ) (image : List ℕ) (l : List Change) → low < page → AreAbove low l → AreAbove low (with_change page image l)
 above_with low page image [] lt above = (lt, tt)
 above_with low page image (c ∷ cs) lt above = elim (cases_order page c.0) [
   | inl is ↦ subst (AreAbove low) (sym (with_same page image c cs (sym is))) (lt, above.1)

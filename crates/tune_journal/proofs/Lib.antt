@@ -4,12 +4,13 @@ mod Agreeing
 mod Applying
 mod CallRuns
 mod Chain
-mod ChangeLists
+pub mod ChangeLists
 mod Changed
 mod Loops
 mod Making
 mod Openings
 mod PartsSince
+pub mod Puts
 mod Recovery
 mod Rests
 mod Standing

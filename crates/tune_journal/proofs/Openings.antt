@@ -1,18 +1,19 @@
 -- A stop while a file is opened.
-use Rattle.std.proofs.Common.{◌≡◌, inl, inr, ℕ, ◌<◌, ◌≤◌, List, [], length, sym, ◌∙◌, ap, subst, arith, Result, Ok}
+use Rattle.std.proofs.Common.{◌≡◌, inl, inr, ℕ, ◌≤◌, List, length, sym, ◌∙◌, ap, subst, arith, Result, Ok}
 use Rattle.tune_disk.specs.Disk.{DiskState, MayLeave, settled}
 use Rattle.tune_disk.specs.Stops.{LeavesOnly, SinceThen}
 use Rattle.tune_disk.proofs.Moments.{since_same, since_sync, since_then, since_weaker}
 use Rattle.tune_journal.specs.Image.{StandsFor, StandsForEither, IsHeaded, HasPageCount, entry_offset, gate_of, count_of, log_of, pages_of, entry_count_of}
 use Rattle.tune_journal.specs.Image.{new_count_of}
-use Rattle.tune_journal.specs.Inside.Looking.{IsSyncedOrSame, HasEntries, Sees, IsBounded}
+use Rattle.tune_journal.specs.Inside.Looking.{IsSyncedOrSame, HasEntries, Climbs, Sees, IsBounded}
 use Rattle.tune_journal.specs.Inside.Rest.{IsAtRest, IsOpened}
 use Rattle.tune_journal.specs.Moments.{KeepsEither, LeftOrSame}
 use Rattle.tune_journal.specs.Pages.{changed}
 use Rattle.tune_journal.specs.Refusal.{IsSynced}
 use Rattle.tune_journal.specs.declared.look.Found.{Found}
 use Rattle.tune_journal.specs.declared.look.Found.TheVariants.{Damaged, Closed, Open}
-use Rattle.tune_journal.proofs.Agreeing.{entries_at, length-entries, length-pages_of}
+use Rattle.tune_journal.proofs.Recovery.{log_climbs}
+use Rattle.tune_journal.proofs.Agreeing.{length-entries, length-pages_of}
 use Rattle.tune_journal.proofs.Above.{stands_once}
 use Rattle.tune_journal.proofs.Changed.{length-changed}
 
@@ -70,9 +71,7 @@ module _ {D : Type 0} (honest : D → Type 0) (state : D → DiskState) (stays :
 pub opened_entries : (m k : ℕ) (s : DiskState) → IsOpened m s → entry_count_of s.seen ≡ k → HasEntries m k s.seen
 opened_entries m k s opened is = record {
   long = subst (λ (j : ℕ). entry_offset m j ≤ length s.seen) is opened.log.long;
-  below = λ i lt. (let low : i < entry_count_of s.seen = omega (arith, is, lt) in
-      subst (λ (e : ℕ × List ℕ). e.0 < m) (entries_at m (entry_count_of s.seen) i s.seen (0, []) low)
-      (opened.log.log.below i (0, []) (omega (arith, low, length-entries m (entry_count_of s.seen) s.seen))));
+  climbs = subst (λ (j : ℕ). Climbs m j s.seen) is (log_climbs m (entry_count_of s.seen) s.seen opened.log.log);
 }
 
 pub sees_damaged : (found : Found) (file : List ℕ) → found ≡ Damaged → Sees found file → Sees Damaged file

@@ -33,7 +33,7 @@ entries_more m k f = map-range_with_len_more (λ i. (number (entry_offset m i) f
 pub all_below : (m k : ℕ) (f : List ℕ) → HasEntries m k f → All (λ e. e.0 < m) (entries m k f)
 all_below m k f has i d lt =
     let low : i < k = omega (arith, length-entries m k f) in
-    subst (λ (e : ℕ × List ℕ). e.0 < m) (sym (entries_at m k i f d low)) (has.below i low)
+    subst (λ (e : ℕ × List ℕ). e.0 < m) (sym (entries_at m k i f d low)) (has.climbs i low).1
 
 -- One of them, while those before it are in their pages.
 module _ (m k i : ℕ) (start now : DiskState) (has : HasEntries m k start.seen) (lt : i < k)
@@ -61,10 +61,16 @@ module _ (m k i : ℕ) (start now : DiskState) (has : HasEntries m k start.seen)
   within = omega (arith, long, so_far.longer)
 
   pub low : number (entry_offset m i) now.seen < m
-  low = omega (arith, page_same, has.below i lt)
+  low = omega (arith, page_same, (has.climbs i lt).1)
 
-  pub has_entry : HasEntry m i now.seen
-  has_entry = record { long = within; below = low }
+  pub has_entry : (least : ℕ) → least ≡ least_of m i start.seen → HasEntry m i least now.seen
+  has_entry least is = record { long = within; climbs = omega (arith, is, page_same, (has.climbs i lt).0); below = low }
+
+  -- the least page of the next entry
+  pub next_least : (least : ℕ) → least ≡ number (entry_offset m i) now.seen + 1 → least ≡ least_of m (i + 1) start.seen
+  next_least least is =
+      let same : suc i ≡ i + 1 = omega arith in
+      subst (λ (j : ℕ). least ≡ least_of m j start.seen) same (omega (arith, is, page_same))
 
   pub image_size : length (window (entry_offset m i + 4) block_bytes now.seen) ≡ block_bytes
   image_size = length-window (entry_offset m i + 4) block_bytes now.seen (omega (arith, within))

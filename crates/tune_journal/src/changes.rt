@@ -1,12 +1,13 @@
 // Pages that change.
-ghost use Rattle.std.specs.Prelude.{◌≡◌, ◌<◌, ◌==◌, [], length, map, All, OnOk, OnErr, IsOk};
-ghost use Rattle.std.specs.Prelude.{IsSome, IfOk, IfErr, option_map};
+ghost use Rattle.std.specs.Prelude.{◌≡◌, ◌≢◌, ◌<◌, ◌==◌, ℕ, [], length, map, replicate, All};
+ghost use Rattle.std.specs.Prelude.{Some, IsSome, IsOk, OnOk, OnErr, IfOk, IfErr, option_map};
 ghost use Rattle.std.specs.List.Sorted.{IsStrictlyIncreasing};
 ghost use Rattle.tune_journal.specs.ChangeList.{with_change, image_of, change_at, changed_page};
 ghost use Rattle.tune_journal.specs.Inside.ChangeOrder.{FoundAt, MissingAt};
 ghost use Rattle.tune_journal.specs.Layout.{block_bytes};
 
 use std::alloc::{AllocError, Global};
+use std::collections::VecDeque;
 use std::marker::Model;
 
 /// The 4,096 bytes of a page.
@@ -14,6 +15,15 @@ use std::marker::Model;
 pub struct PageImage {
     /// The bytes, as they stand in the file.
     pub bytes: [u8; 4096],
+}
+
+impl PageImage {
+    /// A page of zeros.
+    pub fn blank() -> PageImage
+        ensures { result.bytes ≡ replicate block_bytes 0 }
+    {
+        PageImage { bytes: [0; 4096] }
+    }
 }
 
 // A page and what it changes to. The image is on the heap, so that a page among many others moves
@@ -29,7 +39,8 @@ struct ChangedPage {
 #[derive(Drop)]
 pub struct Changes {
     alloc: Global,
-    changed: Vec<ChangedPage>,
+    // by rising page; a page at either end moves none of the others
+    changed: VecDeque<ChangedPage>,
 }
 
 impl Model for Changes {
@@ -51,7 +62,7 @@ impl Changes {
     {
         Changes {
             alloc,
-            changed: Vec::new(alloc),
+            changed: VecDeque::new(alloc),
         }
     }
 
@@ -63,6 +74,11 @@ impl Changes {
     /// they were.
     pub fn put(&mut self, page: u32, image: &PageImage) -> Result<(), AllocError>
         ensures ok { OnOk result (self.new ≡ with_change page image.now.bytes self.old) }
+        // The page has this image, and each other page the one that it had, if any.
+        ensures found { OnOk result (image_of page self.new ≡ Some image.now.bytes) }
+        ensures others { (other : ℕ) → other ≢ page
+            → image_of other self.new ≡ image_of other self.old }
+        ensures some { OnOk result (0 < length self.new) }
         ensures err { OnErr result (self.new ≡ self.old) }
         ensures replaces { IsSome (image_of page self.old) → IsOk result }
     {

@@ -3,8 +3,8 @@ ghost use Rattle.std.specs.Prelude.{◌≡◌, ◌<◌, ◌≤◌, All, length, 
 ghost use Rattle.tune_disk.specs.Disk.{Calls, Looks};
 ghost use Rattle.tune_disk.specs.Stops.{SinceThen};
 ghost use Rattle.tune_journal.specs.Held.{disk_of, disk_of_log};
-ghost use Rattle.tune_journal.specs.Image.{StandsFor, StandsForEither};
-ghost use Rattle.tune_journal.specs.Layout.{most_pages};
+ghost use Rattle.tune_journal.specs.Image.{StandsFor, StandsForEither, gate_of};
+ghost use Rattle.tune_journal.specs.Layout.{block_bytes, gate_closed, most_pages};
 ghost use Rattle.tune_journal.specs.Moments.{LeavesPages};
 ghost use Rattle.tune_journal.specs.Pages.{NamesAll, page_at, pages_after};
 
@@ -42,6 +42,8 @@ impl<D: Disk> Journal<D> {
     pub fn count(&self) -> u32
         ensures count { result ≡ length self.now.pages }
         ensures bounds { (1 ≤ result) × (result ≤ most_pages) }
+        ensures sized { D.honest self.now.disk
+            → All (λ page. length page ≡ block_bytes) self.now.pages }
         // A journal is at rest: a stop leaves its pages alone.
         ensures rest { LeavesPages D.honest D.state self.now.disk self.now.pages }
     {
@@ -97,6 +99,9 @@ impl<D: Disk> Journal<D> {
         ensures pages { IfOk result (λ journal. D.honest journal.disk
             → journal.pages ≡ pages_after self.pages new_count changes.now) }
         ensures count { IfOk result (λ journal. length journal.pages ≡ new_count) }
+        // 00 closes the gate.
+        ensures gate { IfOk result (λ journal. D.honest journal.disk
+            → gate_of (D.state journal.disk).seen ≡ gate_closed) }
         ensures calls { Calls D.honest D.failures result self.disk (disk_of result) }
     {
         self.log(new_count, changes)?

@@ -14,23 +14,33 @@ use crate::layout::{COUNT_OFFSET, ENTRY_BYTES, entry_offset, number_bytes, page_
 use byteorder::{BigEndian, ByteOrder};
 use tune_disk::{DeviceFault, Disk};
 
-/// Copies the image of an entry into its page.
-fn copy_entry<D: Disk>(disk: &mut D, count: u32, entry: u32) -> Result<(), DeviceFault>
+/// Copies the image of an entry into its page. `least` is the least page that the entry may name,
+/// and becomes that of the next entry.
+fn copy_entry<D: Disk>(
+    disk: &mut D,
+    count: u32,
+    entry: u32,
+    least: &mut u32,
+) -> Result<(), DeviceFault>
     requires { (count ≤ most_pages) × (entry < count) }
     ensures copies { let old = D.state disk.old in let at = entry_offset count entry in
-        D.honest disk.new → HasEntry count entry old.seen
+        D.honest disk.new → HasEntry count entry least.old old.seen
         → Writes (page_offset (number at old.seen)) (window (at + 4) block_bytes old.seen)
         result old (D.state disk.new) }
+    ensures least { let old = D.state disk.old in OnOk result (D.honest disk.new
+        → HasEntry count entry least.old old.seen
+        → least.new ≡ number (entry_offset count entry) old.seen + 1) }
     ensures calls { CallsIf D.honest D.failures result disk.old disk.new
-        (HasEntry count entry (D.state disk.old).seen) }
+        (HasEntry count entry least.old (D.state disk.old).seen) }
 {
     let mut bytes = [0; ENTRY_BYTES];
     disk.read(entry_offset(count, entry), &mut bytes)?;
     let page = BigEndian::read_u32(&bytes[..4]);
     // Only a disk that is not honest answers other bytes than those that were tested.
-    if page >= count {
+    if page < *least || page >= count {
         return Err(DeviceFault);
     }
+    *least = page + 1;
     disk.write_at(page_offset(page), &bytes[4..])
 }
 
@@ -47,8 +57,9 @@ fn copy_entries<D: Disk>(disk: &mut D, count: u32, entries: u32) -> Result<(), D
     ensures calls { CallsIf D.honest D.failures result disk.old disk.new
         (HasEntries count entries (D.state disk.old).seen) }
 {
+    let mut least = 0;
     for entry in 0..entries {
-        copy_entry(disk, count, entry)?;
+        copy_entry(disk, count, entry, &mut least)?;
     }
     Ok(())
 }

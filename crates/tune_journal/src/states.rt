@@ -4,7 +4,8 @@ ghost use Rattle.std.specs.Prelude.{◌≡◌, ◌<◌, All, length, IfOk};
 ghost use Rattle.tune_disk.specs.Disk.{Calls};
 ghost use Rattle.tune_disk.specs.Stops.{SinceThen};
 ghost use Rattle.tune_journal.specs.Held.{disk_of, disk_of_gate};
-ghost use Rattle.tune_journal.specs.Image.{StandsFor, StandsForEither};
+ghost use Rattle.tune_journal.specs.Image.{StandsFor, StandsForEither, gate_of};
+ghost use Rattle.tune_journal.specs.Layout.{gate_closed};
 ghost use Rattle.tune_journal.specs.Moments.{LeavesPages};
 
 use crate::changes::Changes;
@@ -148,6 +149,8 @@ impl<D: Disk> Applied<D> {
             → SinceThen (D.state self.disk) (D.state (disk_of result)) (StandsFor self.pages) }
         ensures rest { IfOk result (λ journal.
             LeavesPages D.honest D.state journal.disk journal.pages) }
+        ensures gate { IfOk result (λ journal. D.honest journal.disk
+            → gate_of (D.state journal.disk).seen ≡ gate_closed) }
         ensures pages { IfOk result (λ journal. D.honest journal.disk
             → journal.pages ≡ self.pages) }
         ensures count { IfOk result (λ journal. length journal.pages ≡ length self.pages) }

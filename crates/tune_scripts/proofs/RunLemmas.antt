@@ -10,7 +10,7 @@ use Rattle.tune_scripts.specs.declared.runs.RunEnd.{RunEnd}
 use Rattle.tune_scripts.specs.declared.runs.RunEnd.TheVariants.{Ended, LineBound, LongLine, ReaderFault, WriterFault, DeviceFault}
 use Rattle.tune_scripts.specs.declared.runs.RunEnd.TheVariants as run
 use Rattle.tune_scripts.specs.Scripts.{Script, line_bound}
-use Rattle.tune_scripts.specs.Runs.{Work, work_of, KnownAt, RunsScript, TellsScript}
+use Rattle.tune_scripts.specs.Runs.{Work, work_of, UnlessWriterFails, RunsScript, TellsScript}
 use Rattle.tune_scripts.specs.Inside.Turns.{GoesOn, Turns}
 use Rattle.tune_scripts.proofs.TurnLemmas.{IsQuiet, appends_none}
 use Rattle.tune_store.proofs.StopLemmas.{passes_none, passes_more}
@@ -22,23 +22,15 @@ appends_more (Some xs) (Some ys) None x y h k = absurd k
 appends_more (Some xs) (Some ys) (Some zs) x y h k = k ∙ ap (λ r. r ++ y) h ∙ append_assoc xs x y
 
 -- ENDS
-pub known_by : (end : RunEnd) (P Q : Type 0) → (P → Q) → KnownAt end P → KnownAt end Q
-known_by Ended P Q f h = f h
-known_by LineBound P Q f h = f h
-known_by LongLine P Q f h = f h
-known_by DeviceFault P Q f h = f h
-known_by ReaderFault P Q f h = tt
-known_by WriterFault P Q f h = tt
-known_by run.OutOfMemory P Q f h = tt
-
-known_none : (end : RunEnd) → KnownAt end ⊤
-known_none Ended = tt
-known_none LineBound = tt
-known_none LongLine = tt
-known_none DeviceFault = tt
-known_none ReaderFault = tt
-known_none WriterFault = tt
-known_none run.OutOfMemory = tt
+-- what holds of the output follows where the writer did not fail
+unless_writer_by : (end : RunEnd) (P Q : Type 0) → (P → Q) → UnlessWriterFails end P → UnlessWriterFails end Q
+unless_writer_by Ended P Q f h = f h
+unless_writer_by LineBound P Q f h = f h
+unless_writer_by LongLine P Q f h = f h
+unless_writer_by DeviceFault P Q f h = f h
+unless_writer_by ReaderFault P Q f h = f h
+unless_writer_by WriterFault P Q f h = tt
+unless_writer_by run.OutOfMemory P Q f h = f h
 
 -- a run's output and what it left of the input, whatever else is known of the states that it passed
 pub forgets_stops : (lines : ℕ) (old new : Option (List ℕ)) (work : Work) (end : RunEnd) → TellsScript lines old new work end
@@ -104,7 +96,8 @@ module _ {W S : Type 0} (w : Ghosts W) (s : store.Ghosts S) where
       out = a.out ++ b.out;
       states = a.states ++ b.states;
       leaves = b.leaves;
-      written = appends_more (w.contents was) (w.contents between) (w.contents now) a.out b.out a.written b.written;
+      written =
+          unless_writer_by end _ _ (appends_more (w.contents was) (w.contents between) (w.contents now) a.out b.out a.written) b.written;
       stops = passes_more s before middle after a.states b.states a.stops b.stops;
       script = a.onward b.out b.unread b.states end (standing_of s after) b.script;
     }
@@ -122,11 +115,11 @@ module _ {W S : Type 0} (w : Ghosts W) (s : store.Ghosts S) where
     pub so_far_end : (lines more : ℕ) (old between_input new : Option (List ℕ)) (end : RunEnd)
         → IsSoFar lines (suc more) old between_input (work_of w s was between before middle)
         → Turns between_input new (work_of w s between now middle after) (Some end)
-        → KnownAt end (TellsScript lines old new (work_of w s was now before after) end)
-    so_far_end lines more None between_input new end h k = known_none end
+        → TellsScript lines old new (work_of w s was now before after) end
+    so_far_end lines more None between_input new end h k = tt
     so_far_end lines more (Some input) between_input new end h k =
         let F : Option (List ℕ) → Type 0 = λ m. Turns m new (work_of w s between now middle after) (Some end) in
-        known_by end _ _ (λ b. joins_end lines (suc more) input between_input new end h.came (b more)) (subst F h.came.leaves k)
+        joins_end lines (suc more) input between_input new end h.came (subst F h.came.leaves k more)
 
   -- no lines are left: the run ends here, and what the turns so far left is unread
   pub so_far_all : (lines : ℕ) (old new : Option (List ℕ)) (was now : W) (before after : S)

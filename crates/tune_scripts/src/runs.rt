@@ -3,7 +3,7 @@ ghost use Rattle.std.specs.Prelude.{◌≡◌, length, None, Err};
 ghost use Rattle.tune_scripts.specs.Limits.{longest_line, most_lines};
 ghost use Rattle.tune_scripts.specs.Replies.{answer_bytes, bad_line_bytes};
 ghost use Rattle.tune_scripts.specs.Scripts.{line_text};
-ghost use Rattle.tune_scripts.specs.Runs.{KnownAt, TellsScript, work_of};
+ghost use Rattle.tune_scripts.specs.Runs.{TellsScript, work_of};
 ghost use Rattle.tune_scripts.specs.Inside.Turns.{Turns, TurnsBook, WritesOut, CarriesOut, next_of};
 
 use crate::reading::{BookRead, LineRead, read_book, read_line};
@@ -44,7 +44,9 @@ pub const MOST_LINES: u32 = 1_000_000;
 /// where there is no memory for one, it is read and dropped, and the reply says so.
 ///
 /// The clause speaks of a reader that tells its bytes, and of a store whose device has answered as
-/// a device does. Standard input tells no bytes.
+/// a device does. Standard input tells no bytes. It speaks of every end: after a fault of the reader
+/// what was written is the replies before it, and after one of the writer the store is as the
+/// commands so far leave it, each of them carried out once.
 pub fn run<R: Read, W: Write, S: TuneStore>(
     alloc: Global,
     reader: &mut R,
@@ -53,8 +55,7 @@ pub fn run<R: Read, W: Write, S: TuneStore>(
 ) -> RunEnd
     ensures { S.honest store.new
         → let work = work_of W.Write S.TuneStore writer.old writer.new store.old store.new in
-        KnownAt result
-        (TellsScript most_lines (R.remaining reader.old) (R.remaining reader.new) work result) }
+        TellsScript most_lines (R.remaining reader.old) (R.remaining reader.new) work result }
 {
     let mut line = [0u8; LONGEST_LINE];
     for lines in 0..MOST_LINES {

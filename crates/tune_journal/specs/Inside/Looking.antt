@@ -23,15 +23,17 @@ Climbs m k file = (i : ℕ) → i < k
 abbrev pub IsSyncedOrSame : DiskState → DiskState → Type 0
 IsSyncedOrSame old new = (new ≡ old) ⊎ IsSynced old new
 
--- Entry i of the log behind m pages is within the file, and names a page below m.
-pub record HasEntry (m i : ℕ) (file : List ℕ) : Type 0 where
+-- Entry i of the log behind m pages is within the file, and names a page below m and no lower than
+-- this one.
+pub record HasEntry (m i least : ℕ) (file : List ℕ) : Type 0 where
   pub long : entry_offset m (i + 1) ≤ length file
+  pub climbs : least ≤ number (entry_offset m i) file
   pub below : number (entry_offset m i) file < m
 
--- These entries are all within the file, and name pages below m.
+-- These entries are all within the file, and name pages below m, each above the last.
 pub record HasEntries (m k : ℕ) (file : List ℕ) : Type 0 where
   pub long : entry_offset m k ≤ length file
-  pub below : (i : ℕ) → i < k → number (entry_offset m i) file < m
+  pub climbs : Climbs m k file
 
 -- what a look at a file found in it
 abbrev pub Sees : Found → List ℕ → Type 0

@@ -1,6 +1,6 @@
 use Rattle.std.proofs.Common.{arith}
-use Rattle.test_journal.proofs.Lists.{named}
+use Rattle.tune_journal.proofs.Puts.{names_all}
 use Rattle.test_journal.proofs.pages.has_all.Goals as goal
 
 pub returns : goal.returns
-returns c = λ yes p low high. named p _ (c.loop-page.invariant p low (omega arith))
+returns c = λ yes. names_all c.args.from c.args.to _ (λ p low high. c.loop-page.invariant p low (omega arith))

@@ -4,7 +4,7 @@ use Rattle.tune_disk.proofs.Moments.{spares_none}
 use Rattle.tune_disk.specs.Disk.{CountsUp}
 use Rattle.tune_journal.specs.Image.{pages_of}
 use Rattle.tune_journal.specs.Pages.{changed}
-use Rattle.tune_journal.proofs.Recovery.{entries_none, copy_spares, copy_image, has_entry}
+use Rattle.tune_journal.proofs.Recovery.{entries_none, copy_spares, copy_image, has_entry, next_least}
 use Rattle.tune_journal.proofs.CallRuns.{writes_ok}
 use Rattle.tune_journal.proofs.recover.copy_entries.Goals as goal
 
@@ -15,6 +15,7 @@ loop-entry-init g c = record {
   images =
       λ h has. ap (changed (pages_of c.args.count (g.D.Disk.state c.args.disk.now).seen))
       (sym (entries_none c.args.count (g.D.Disk.state c.args.disk.now).seen));
+  least = λ h has. refl;
   failures = refl;
 }
 
@@ -23,7 +24,8 @@ returns-in_err-copy_entry-clause-spares g c = λ h has.
     (let old = c.copy_entry.ensures.calls.was_honest h in
     let so_far = c.loop-entry.invariant.spares old has in
     copy_spares c.args.count c.args.entries c.loop-entry.entry _ _ has c.loop-entry-test.true so_far c.copy_entry.result _
-    (c.copy_entry.ensures.copies h (has_entry c.args.count c.args.entries c.loop-entry.entry _ _ has c.loop-entry-test.true so_far)))
+    (c.copy_entry.ensures.copies h (has_entry c.args.count c.args.entries c.loop-entry.entry _ _ has c.loop-entry-test.true so_far _
+    (c.loop-entry.invariant.least old has))))
 
 pub returns-in_err-copy_entry-clause-calls : goal.returns-in_err-copy_entry-clause-calls
 returns-in_err-copy_entry-clause-calls g c =
@@ -32,10 +34,12 @@ returns-in_err-copy_entry-clause-calls g c =
       was_honest = λ h. c.loop-entry.invariant.honest (c.copy_entry.ensures.calls.was_honest h);
       ok = tt;
       counted = λ h has.
-          (let so_far = c.loop-entry.invariant.spares (c.copy_entry.ensures.calls.was_honest h) has in
+          (let old = c.copy_entry.ensures.calls.was_honest h in
+          let so_far = c.loop-entry.invariant.spares old has in
           subst (λ (n : ℕ). CountsUp n (g.D.Disk.failures c.copy_entry.new.disk)) c.loop-entry.invariant.failures
           (c.in_err-copy_entry.ensures.calls.counted h
-          (has_entry c.args.count c.args.entries c.loop-entry.entry _ _ has c.loop-entry-test.true so_far)));
+          (has_entry c.args.count c.args.entries c.loop-entry.entry _ _ has c.loop-entry-test.true so_far _
+          (c.loop-entry.invariant.least old has))));
     })
 
 pub loop-entry-preserved : goal.loop-entry-preserved
@@ -45,13 +49,22 @@ loop-entry-preserved g c = record {
       (let old = c.copy_entry.ensures.calls.was_honest h in
       let so_far = c.loop-entry.invariant.spares old has in
       copy_spares c.args.count c.args.entries c.loop-entry.entry _ _ has c.loop-entry-test.true so_far c.copy_entry.result _
-      (c.copy_entry.ensures.copies h (has_entry c.args.count c.args.entries c.loop-entry.entry _ _ has c.loop-entry-test.true so_far)));
+      (c.copy_entry.ensures.copies h (has_entry c.args.count c.args.entries c.loop-entry.entry _ _ has c.loop-entry-test.true so_far _
+      (c.loop-entry.invariant.least old has))));
   images = λ h has.
       (let old = c.copy_entry.ensures.calls.was_honest h in
       let so_far = c.loop-entry.invariant.spares old has in
       copy_image c.args.count c.args.entries c.loop-entry.entry _ _ has c.loop-entry-test.true so_far (g.D.Disk.state c.copy_entry.new.disk)
       (writes_ok _ _ c.copy_entry.result _ (g.D.Disk.state c.loop-entry.disk) (g.D.Disk.state c.copy_entry.new.disk) c.in_ok-copy_entry.was
-      (c.copy_entry.ensures.copies h (has_entry c.args.count c.args.entries c.loop-entry.entry _ _ has c.loop-entry-test.true so_far)))
+      (c.copy_entry.ensures.copies h (has_entry c.args.count c.args.entries c.loop-entry.entry _ _ has c.loop-entry-test.true so_far _
+      (c.loop-entry.invariant.least old has))))
       (c.loop-entry.invariant.images old has));
+  least = λ h has.
+      (let old = c.copy_entry.ensures.calls.was_honest h in
+      let so_far = c.loop-entry.invariant.spares old has in
+      next_least c.args.count c.args.entries c.loop-entry.entry _ _ has c.loop-entry-test.true so_far _
+      (c.in_ok-copy_entry.ensures.least h
+      (has_entry c.args.count c.args.entries c.loop-entry.entry _ _ has c.loop-entry-test.true so_far _
+      (c.loop-entry.invariant.least old has))));
   failures = c.in_ok-copy_entry.ensures.calls.ok ∙ c.loop-entry.invariant.failures;
 }

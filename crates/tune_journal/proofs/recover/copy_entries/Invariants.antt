@@ -1,7 +1,7 @@
 use Rattle.std.proofs.Common.{◌≡◌}
 use Rattle.tune_disk.specs.Inside.Spares.{Spares}
 use Rattle.tune_journal.specs.Image.{entries, pages_of}
-use Rattle.tune_journal.specs.Inside.Looking.{HasEntries}
+use Rattle.tune_journal.specs.Inside.Looking.{HasEntries, least_of}
 use Rattle.tune_journal.specs.Inside.Phases.{IsInNoPage}
 use Rattle.tune_journal.specs.Pages.{changed}
 use Rattle.tune_journal.proofs.recover.copy_entries.Given as goal
@@ -14,5 +14,7 @@ invariant-loop-entry g l = record {
   images : g.D.Disk.honest l.disk → HasEntries l.count l.entries (g.D.Disk.state l.initial.disk).seen
       → pages_of l.count (g.D.Disk.state l.disk).seen
       ≡ changed (pages_of l.count (g.D.Disk.state l.initial.disk).seen) (entries l.count l.entry (g.D.Disk.state l.initial.disk).seen);
+  least : g.D.Disk.honest l.disk → HasEntries l.count l.entries (g.D.Disk.state l.initial.disk).seen
+      → l.least ≡ least_of l.count l.entry (g.D.Disk.state l.initial.disk).seen;
   failures : g.D.Disk.failures l.disk ≡ g.D.Disk.failures l.initial.disk;
 }

@@ -1,4 +1,4 @@
-use Rattle.std.proofs.Common.{◌≡◌, ◌+◌, ℕ, List, length, take, drop, ap, ◌∙◌, subst, arith, rules}
+use Rattle.std.proofs.Common.{◌≡◌, ◌+◌, Result, Ok, Err, OnOk, inl, inr, ℕ, List, length, take, drop, ap, ◌∙◌, subst, arith, rules}
 use Rattle.std.proofs.lemmas.List.{take_all, length-drop}
 use Rattle.tune_disk.specs.Disk.{DiskState, Writes, Shows}
 use Rattle.tune_journal.specs.Image.{number, window, entry_offset, page_offset}
@@ -6,8 +6,12 @@ use Rattle.tune_journal.specs.Layout.{block_bytes, entry_bytes}
 use Rattle.tune_journal.proofs.Agreeing.{number_of_entry, image_of_entry}
 use Rattle.tune_journal.proofs.recover.copy_entry.Goals as goal
 
-pub returns-then-page-count-clause-calls : goal.returns-then-page-count-clause-calls
-returns-then-page-count-clause-calls g c = record {
+on_ok_from : {T E : Type 0} (r : Result T E) (P : Type 0) → P → OnOk r P
+on_ok_from (Ok x) P p = p
+on_ok_from (Err e) P p = tt
+
+pub returns-then-page-least-clause-calls : goal.returns-then-page-least-clause-calls
+returns-then-page-least-clause-calls g c = record {
   was_honest = c.in_ok-read.ensures.looks.calls.was_honest;
   ok = tt;
   counted = λ h has. (let size : length c.read.new.into ≡ entry_bytes = search rules in
@@ -15,7 +19,10 @@ returns-then-page-count-clause-calls g c = record {
       subst (λ (a : ℕ). Shows (g.D.Disk.state c.args.disk.now).seen a c.read.new.into) c.entry_offset.ensures (c.in_ok-read.ensures.read h) in
       let page : c.read_u32-page.result ≡ number (entry_offset c.args.count c.args.entry) (g.D.Disk.state c.args.disk.now).seen =
       number_of_entry (entry_offset c.args.count c.args.entry) _ c.read.new.into _ size shows (omega (arith, has.long)) c.read_u32-page.ensures in
-      absurd (omega (arith, page, has.below, c.if-page-count.true)));
+      elim c.then-page-least.either [
+        | inl less ↦ absurd (omega (arith, page, has.climbs, less))
+        | inr over ↦ absurd (omega (arith, page, has.below, over.1))
+      ]);
 }
 
 pub returns-clause-copies : goal.returns-clause-copies
@@ -40,3 +47,13 @@ returns-clause-copies g c = λ h has.
     (g.D.Disk.state c.write_at.new.self)) image
     (subst (λ (p : ℕ). Writes p (take block_bytes (drop 4 c.read.new.into)) c.write_at.result (g.D.Disk.state c.read.new.self)
     (g.D.Disk.state c.write_at.new.self)) place (c.write_at.ensures.write h)))))
+
+pub returns-clause-least : goal.returns-clause-least
+returns-clause-least g c = on_ok_from c.write_at.result _ (λ h has.
+    (let before = c.write_at.ensures.calls.was_honest h in
+    let size : length c.read.new.into ≡ entry_bytes = search rules in
+    let shows : Shows (g.D.Disk.state c.args.disk.now).seen (entry_offset c.args.count c.args.entry) c.read.new.into =
+    subst (λ (a : ℕ). Shows (g.D.Disk.state c.args.disk.now).seen a c.read.new.into) c.entry_offset.ensures (c.in_ok-read.ensures.read before) in
+    let page : c.read_u32-page.result ≡ number (entry_offset c.args.count c.args.entry) (g.D.Disk.state c.args.disk.now).seen =
+    number_of_entry (entry_offset c.args.count c.args.entry) _ c.read.new.into _ size shows (omega (arith, has.long)) c.read_u32-page.ensures in
+    ap (λ (n : ℕ). n + 1) page))

@@ -4,9 +4,14 @@ use Rattle.abc_fields.specs.Words.{words_of}
 use Rattle.tune_scripts.specs.declared.script_lines.ScriptLine.TheVariants.{Blank, Bad, Whole, Book}
 use Rattle.tune_scripts.specs.Limits.{longest_line}
 use Rattle.tune_scripts.specs.ScriptLines.{meaning_of}
-use Rattle.tune_scripts.proofs.TurnLemmas.{appends_none, from_end, from_long, from_line, from_book, turn_blank, turn_bad, turn_answered}
+use Rattle.tune_scripts.proofs.TurnLemmas.{appends_none, from_fault, from_end, from_long, from_line, from_book, turn_blank, turn_bad, turn_answered}
 use Rattle.tune_scripts.proofs.RunLemmas.{quiet}
 use Rattle.tune_scripts.proofs.runs.turn.Goals as goal
+
+pub returns-in-Fault-clause-turns : goal.returns-in-Fault-clause-turns
+returns-in-Fault-clause-turns g c = λ honest.
+    let quiet = quiet g.W.Write g.S.TuneStore c.args.writer.now c.args.writer.now c.args.store.now in
+    from_fault _ _ _ quiet (appends_none (g.W.Write.contents c.args.writer.now))
 
 pub returns-in-End-clause-turns : goal.returns-in-End-clause-turns
 returns-in-End-clause-turns g c = λ honest.

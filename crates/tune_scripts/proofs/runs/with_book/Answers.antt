@@ -1,9 +1,14 @@
 use Rattle.std.proofs.Common.{◌<◌, ◌≤◌, arith}
 use Rattle.std.proofs.lemmas.Bool.{leb-true}
 use Rattle.abc_fields.specs.Limits.{longest_book}
-use Rattle.tune_scripts.proofs.TurnLemmas.{book_cut, book_over, book_no_room, book_whole}
+use Rattle.tune_scripts.proofs.TurnLemmas.{appends_none, book_fault, book_cut, book_over, book_no_room, book_whole}
 use Rattle.tune_scripts.proofs.RunLemmas.{quiet}
 use Rattle.tune_scripts.proofs.runs.with_book.Goals as goal
+
+pub returns-in-Fault-clause-turns : goal.returns-in-Fault-clause-turns
+returns-in-Fault-clause-turns g c = λ honest.
+    let quiet = quiet g.W.Write g.S.TuneStore c.args.writer.now c.args.writer.now c.args.store.now in
+    book_fault c.args.book_use c.args.len _ _ _ quiet (appends_none (g.W.Write.contents c.args.writer.now))
 
 pub returns-in-Cut-clause-turns : goal.returns-in-Cut-clause-turns
 returns-in-Cut-clause-turns g c = λ honest.

@@ -1,13 +1,14 @@
-use Rattle.std.proofs.Common.{◌≡◌, ℕ, List, length, IsSome, sym, refl, ◌∙◌, ap, subst, rules}
+use Rattle.std.proofs.Common.{◌≡◌, ℕ, ◌<◌, List, length, IsSome, sym, refl, ◌∙◌, ap, subst, rules}
 use Rattle.std.specs.List.{insert}
 use Rattle.std.proofs.lemmas.Bool.{false≢true}
 use Rattle.tune_journal.specs.declared.changes.ChangedPage.{ChangedPage}
 use Rattle.tune_journal.specs.declared.changes.PageImage.{PageImage}
-use Rattle.tune_journal.specs.ChangeList.{with_change}
+use Rattle.tune_journal.specs.ChangeList.{with_change, image_of}
 use Rattle.tune_journal.specs.Inside.ChangeOrder.{FoundAt, MissingAt}
 use Rattle.tune_journal.specs.Inside.Listed.{listed}
 use Rattle.tune_journal.specs.Layout.{block_bytes}
 use Rattle.tune_journal.proofs.ChangeLists.{listed_replaced, listed_inserted, image_of_missing, keeps_order}
+use Rattle.tune_journal.proofs.Puts.{image_put, image_others, some_with}
 use Rattle.tune_journal.proofs.changes.Changes.put.Goals as goal
 
 with_inserted : (page at : ℕ) (old new : List ChangedPage) (x : ChangedPage) (image : PageImage) → MissingAt page at (listed old) → new ≡ insert old at x
@@ -56,3 +57,28 @@ returns-in_ok-insert-in-Err-clause-ok c =
     with_inserted c.args.page c.in-Err.at items c.insert.new.self.items _ c.args.image.now missing
     c.in_ok-insert-in-Err.ensures.items c.in_ok-image-in-Err.ensures.ok refl
     ∙ ap (with_change c.args.page c.args.image.now.bytes) c.self.view_is
+
+-- the image of each page, from the list as a whole
+pub returns-in-Ok-clause-found : goal.returns-in-Ok-clause-found
+returns-in-Ok-clause-found c = ap (image_of c.args.page) (returns-in-Ok-clause-ok c) ∙ image_put c.args.page c.args.image.now.bytes c.args.self.now
+
+pub returns-in-Ok-clause-others : goal.returns-in-Ok-clause-others
+returns-in-Ok-clause-others c =
+    λ other ne. ap (image_of other) (returns-in-Ok-clause-ok c) ∙ image_others c.args.page c.args.image.now.bytes c.args.self.now other ne
+
+pub returns-in-Ok-clause-some : goal.returns-in-Ok-clause-some
+returns-in-Ok-clause-some c =
+    subst (λ (l : List (ℕ × List ℕ)). 0 < length l) (sym (returns-in-Ok-clause-ok c)) (some_with c.args.page c.args.image.now.bytes c.args.self.now)
+
+pub returns-in_ok-insert-in-Err-clause-found : goal.returns-in_ok-insert-in-Err-clause-found
+returns-in_ok-insert-in-Err-clause-found c =
+    ap (image_of c.args.page) (returns-in_ok-insert-in-Err-clause-ok c) ∙ image_put c.args.page c.args.image.now.bytes c.args.self.now
+
+pub returns-in_ok-insert-in-Err-clause-others : goal.returns-in_ok-insert-in-Err-clause-others
+returns-in_ok-insert-in-Err-clause-others c =
+    λ other ne. ap (image_of other) (returns-in_ok-insert-in-Err-clause-ok c) ∙ image_others c.args.page c.args.image.now.bytes c.args.self.now other ne
+
+pub returns-in_ok-insert-in-Err-clause-some : goal.returns-in_ok-insert-in-Err-clause-some
+returns-in_ok-insert-in-Err-clause-some c =
+    subst (λ (l : List (ℕ × List ℕ)). 0 < length l) (sym (returns-in_ok-insert-in-Err-clause-ok c))
+    (some_with c.args.page c.args.image.now.bytes c.args.self.now)

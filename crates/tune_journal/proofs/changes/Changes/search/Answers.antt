@@ -41,12 +41,9 @@ least_from page (suc at) (c ∷ cs) higher lt = least_from page at cs (λ k d ge
 abbrev Parts : ℕ → ℕ → List ChangedPage → Type 0
 Parts page at items = IsPartitionPoint (λ c. ltb c.page page ≡ true) (λ c. ltb c.page page ≡ false) items at
 
-parted : (page at : ℕ) (items xs : List ChangedPage) → PagesRise (listed items) → xs ≡ items → (IsPartitionedBy (λ c. ltb c.page page) xs → Parts page at xs)
+parted : (page at : ℕ) (items : List ChangedPage) → PagesRise (listed items) → (IsPartitionedBy (λ c. ltb c.page page) items → Parts page at items)
     → Parts page at items
-parted page at items xs rises is says =
-    let sorted : IsPartitionedBy (λ c. ltb c.page page) items =
-    IsPartitionedBy-ltb (λ c. c.page) items page (λ i j d le lt. no_higher items i j d rises le lt) in
-    subst (Parts page at) is (says (subst (IsPartitionedBy (λ c. ltb c.page page)) (sym is) sorted))
+parted page at items rises says = says (IsPartitionedBy-ltb (λ c. c.page) items page (λ i j d le lt. no_higher items i j d rises le lt))
 
 found_from : (page at : ℕ) (items : List ChangedPage) (x : ChangedPage) → Parts page at items → at < length items → x ≡ get_or items at x → x.page ≡ page
     → FoundAt page at (listed items)
@@ -73,41 +70,37 @@ missing_from page at items rises point le other = record {
         let ne = other within in
         omega (arith, least, ne)
 
-at_point : (at : ℕ) (items xs : List ChangedPage) (x : ChangedPage) → xs ≡ items → at < length xs → x ≡ get_or xs at x
-    → (at < length items) × (x ≡ get_or items at x)
-at_point at items xs x same lt is = (subst (λ (l : List ChangedPage). at < length l) same lt, subst (λ (l : List ChangedPage). x ≡ get_or l at x) same is)
-
 pub returns-in-Some-clause-found : goal.returns-in-Some-clause-found
 returns-in-Some-clause-found c =
     let items = c.self.inside.changed.items in
     let at = c.partition_point-at.result in
     let point =
-    parted c.args.page at items c.deref.result.now c.self.invariant.rising c.deref.ensures.value
+    parted c.args.page at items c.self.invariant.rising
     (c.partition_point-at.ensures.partitioned (λ d. ltb d.page c.args.page) (search (rules, always_returns_same))) in
-    let there = at_point at items c.deref-2.result.now c.in-Some.changed.now c.deref-2.ensures.value c.in-Some.ensures.lookup.3.0 c.in-Some.ensures.lookup.1 in
-    subst (FoundAt c.args.page at) c.self.view_is (found_from c.args.page at items c.in-Some.changed.now point there.0 there.1 c.if-changed-page.true)
+    let there = c.in-Some.ensures.item in
+    subst (FoundAt c.args.page at) c.self.view_is (found_from c.args.page at items c.in-Some.changed.now point there.3.0 there.1 c.if-changed-page.true)
 
 pub returns-in_default-clause-missing : goal.returns-in_default-clause-missing
 returns-in_default-clause-missing c =
     let items = c.self.inside.changed.items in
     let at = c.partition_point-at.result in
     let point =
-    parted c.args.page at items c.deref.result.now c.self.invariant.rising c.deref.ensures.value
+    parted c.args.page at items c.self.invariant.rising
     (c.partition_point-at.ensures.partitioned (λ d. ltb d.page c.args.page) (search (rules, always_returns_same))) in
-    let there = at_point at items c.deref-2.result.now c.in-Some.changed.now c.deref-2.ensures.value c.in-Some.ensures.lookup.3.0 c.in-Some.ensures.lookup.1 in
-    subst (MissingAt c.args.page at) c.self.view_is (missing_from c.args.page at items c.self.invariant.rising point (omega (arith, there.0))
+    let there = c.in-Some.ensures.item in
+    subst (MissingAt c.args.page at) c.self.view_is (missing_from c.args.page at items c.self.invariant.rising point (omega (arith, there.3.0))
     (λ lt is. c.if-changed-page.false
-    (ap (λ (d : ℕ × List ℕ). d.0) (sym (change_there items at c.in-Some.changed.now (omega (arith, there.0, length-map items change_in)) there.1)) ∙ is)))
+    (ap (λ (d : ℕ × List ℕ). d.0) (sym (change_there items at c.in-Some.changed.now (omega (arith, there.3.0, length-map items change_in)) there.1)) ∙ is)))
 
 pub returns-in_default-2-clause-missing : goal.returns-in_default-2-clause-missing
 returns-in_default-2-clause-missing c =
     let items = c.self.inside.changed.items in
     let at = c.partition_point-at.result in
     let point =
-    parted c.args.page at items c.deref.result.now c.self.invariant.rising c.deref.ensures.value
+    parted c.args.page at items c.self.invariant.rising
     (c.partition_point-at.ensures.partitioned (λ d. ltb d.page c.args.page) (search (rules, always_returns_same))) in
-    let past : length c.deref-2.result.now ≤ at = (rw c.in_default.is at c.get.ensures.lookup).3 in
-    let past_items : length items ≤ at = subst (λ (l : List ChangedPage). length l ≤ at) c.deref-2.ensures.value past in
-    let within : at ≤ length items = subst (λ (l : List ChangedPage). at ≤ length l) c.deref.ensures.value c.partition_point-at.ensures.bound in
+    let past : length items ≤ at = (rw c.in_default.is at c.get.ensures.item).3 in
+    let size : c.self.inside.changed.len ≡ length items = search rules in
     subst (MissingAt c.args.page at) c.self.view_is
-    (missing_from c.args.page at items c.self.invariant.rising point within (λ lt. absurd (omega (arith, past_items, lt))))
+    (missing_from c.args.page at items c.self.invariant.rising point (omega (arith, size, c.partition_point-at.ensures.bound))
+    (λ lt. absurd (omega (arith, past, lt))))

@@ -38,3 +38,6 @@ pub returns-in-Err-clause-moments : goal.returns-in-Err-clause-moments
 returns-in-Err-clause-moments g c = rw (← c.self.view_is) (λ h.
     closing_since c.self.inside.new_count _ _ c.write_synced.result (c.self.invariant.applied (c.write_synced.ensures.calls.was_honest h))
     (c.write_synced.ensures.writes h))
+
+pub returns-in-Ok-clause-gate : goal.returns-in-Ok-clause-gate
+returns-in-Ok-clause-gate g c = λ h. gate_written gate_closed _ _ (c.in-Ok.ensures.written h)
