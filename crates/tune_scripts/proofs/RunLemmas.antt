@@ -1,5 +1,6 @@
 -- A script's turns, one after another, over a writer and a store of any kind.
 use Rattle.std.proofs.Common.{◌≡◌, ℕ, suc, List, [], ◌∷◌, ◌++◌, Option, None, Some, refl, sym, ap, ◌∙◌, subst}
+use Rattle.std.proofs.Common.{◌≤◌, inl, inr, arith}
 use Rattle.std.specs.Prelude.{IfSome, ⊤}
 use Rattle.std.specs.Io.KnownBytes.{Appends}
 use Rattle.std.specs.declared.io.Write.{Ghosts}
@@ -14,7 +15,7 @@ use Rattle.tune_scripts.specs.declared.runs.RunEnd.{RunEnd}
 use Rattle.tune_scripts.specs.declared.runs.RunEnd.TheVariants.{Ended, LineBound, LongLine, ReaderFault, WriterFault, DeviceFault}
 use Rattle.tune_scripts.specs.declared.runs.RunEnd.TheVariants as run
 use Rattle.tune_scripts.specs.Scripts.{Script, line_bound}
-use Rattle.tune_scripts.specs.Runs.{Work, work_of, UnlessWriterFails, RunsScript, RunsCommands, TellsScript}
+use Rattle.tune_scripts.specs.Runs.{Work, work_of, UnlessWriterFails, RunsScript, RunsCommands, LeftByRun, TellsScript}
 use Rattle.tune_scripts.specs.Inside.Turns.{GoesOn, Turns, CarriesOut}
 use Rattle.tune_scripts.proofs.TurnLemmas.{IsQuiet, appends_none}
 use Rattle.tune_store.proofs.StopLemmas.{passes_none, passes_more}
@@ -108,6 +109,23 @@ module _ {W S : Type 0} (w : Ghosts W) (s : store.Ghosts S) where
     states = a.states ++ b.states;
     runs = runs_more a.commands b.commands a.states b.states (standing_of s before) (standing_of s middle) (standing_of s after) a.runs b.runs;
     stops = passes_more s before middle after a.states b.states a.stops b.stops;
+  }
+
+  -- what stops leave since a run, by the laws of its store
+  pub left_by : (was now : W) (before after : S) → RunsCommands (work_of w s was now before after) → s.honest after → s.sound before
+      → ((file : List ℕ) → s.left_since before (s.moment before) file → s.stands_for file (s.state before))
+      → ((since earlier : ℕ) (file : List ℕ) → earlier ≤ since → s.left_since after since file → s.left_since after earlier file)
+      → LeftByRun s before after
+  left_by was now before after a honest sound settled earlier = record {
+    commands = a.commands;
+    states = a.states;
+    runs = a.runs;
+    left = λ since file late left.
+        let early : s.moment before ≤ s.moment before = omega arith in
+        elim (a.stops.leaves sound honest (s.moment before) file early (earlier since (s.moment before) file late left)) [
+          | inl was_left ↦ inl (settled file was_left)
+          | inr one ↦ one
+        ];
   }
 
   module _ (was between now : W) (before middle after : S) where

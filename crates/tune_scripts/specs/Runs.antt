@@ -1,9 +1,10 @@
 -- Runs of scripts, over a reader, a writer and a store of any kind.
-use Rattle.std.specs.Prelude.{◌≡◌, ℕ, List, Option, Some, IfSome, ⊤}
+use Rattle.std.specs.Prelude.{◌≡◌, ℕ, List, Option, Some, IfSome, ⊤, ◌≤◌, ◌∷◌}
 use Rattle.std.specs.Io.KnownBytes.{Appends}
 use Rattle.std.specs.declared.io.Write.{Ghosts}
 use Rattle.tune_store.specs.State.{State, Standing}
 use Rattle.tune_store.specs.Runs.{Answered, RunsPassing}
+use Rattle.tune_store.specs.Stops.{StandsForOne}
 use Rattle.tune_store.specs.Stores.{StorePasses, standing_of}
 use Rattle.tune_store.specs.declared.tune_store.TuneStore as store
 use Rattle.tune_scripts.specs.declared.runs.RunEnd.{RunEnd}
@@ -67,3 +68,12 @@ pub record RunsCommands (work : Work) : Type 0 where
 -- the run
 abbrev pub TellsScript : ℕ → Option (List ℕ) → Option (List ℕ) → Work → RunEnd → Type 0
 TellsScript lines old new work end = IfSome old (λ input. RunsScript lines input new work end)
+
+-- Stops since a run of commands leave the state before them, or one that they went on to.
+pub record LeftByRun {S : Type 0} (kept : store.Ghosts S) (old new : S) : Type 0 where
+  pub commands : List Answered
+  pub states : List State
+  pub runs : RunsPassing (standing_of kept old) commands states (standing_of kept new)
+  pub left : (since : ℕ) (file : List ℕ) → kept.moment old ≤ since
+      → kept.left_since new since file
+      → StandsForOne kept.stands_for (kept.state old ∷ states) file

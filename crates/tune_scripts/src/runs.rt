@@ -1,9 +1,9 @@
 // Runs a script.
-ghost use Rattle.std.specs.Prelude.{◌≡◌, length, None, Err};
+ghost use Rattle.std.specs.Prelude.{◌≡◌, length, false, None, Err};
 ghost use Rattle.tune_scripts.specs.Limits.{longest_line, most_lines};
 ghost use Rattle.tune_scripts.specs.Replies.{answer_bytes, bad_line_bytes};
 ghost use Rattle.tune_scripts.specs.Scripts.{line_text};
-ghost use Rattle.tune_scripts.specs.Runs.{TellsScript, RunsCommands, work_of};
+ghost use Rattle.tune_scripts.specs.Runs.{TellsScript, RunsCommands, LeftByRun, work_of};
 ghost use Rattle.tune_scripts.specs.Inside.Turns.{Turns, TurnsBook, WritesOut, CarriesOut, next_of};
 
 use crate::reading::{BookRead, LineRead, read_book, read_line};
@@ -43,12 +43,15 @@ pub const MOST_LINES: u32 = 1_000_000;
 /// read in small pieces, so a reader that buffers serves well. `alloc` is for the books alone:
 /// where there is no memory for one, it is read and dropped, and the reply says so.
 ///
-/// Both clauses speak of a store whose device has answered as a device does. `commands` holds of
-/// every reader and at every end: the store carried out commands one after another, and stops leave
-/// of it what the states allow that these pass. `script` speaks of a reader that tells its bytes
-/// (standard input tells none), and of every end: after a fault of the reader what was written is
-/// the replies before it, and after one of the writer the store is as the commands so far leave it,
-/// each of them carried out once.
+/// The clauses speak of a store whose device has answered as a device does.
+///
+/// - `commands`, of every reader and at every end: the store carried out commands one after another,
+///   and stops leave of it what the states allow that these pass.
+/// - `left`, of every reader, where the store was open: a stop at any moment since the run began
+///   leaves the state before it, or one that a command of it went on to.
+/// - `script`, of a reader that tells its bytes (standard input tells none), at every end: after a
+///   fault of the reader what was written is the replies before it, and after one of the writer the
+///   store is as the commands so far leave it, each of them carried out once.
 pub fn run<R: Read, W: Write, S: TuneStore>(
     alloc: Global,
     reader: &mut R,
@@ -57,6 +60,8 @@ pub fn run<R: Read, W: Write, S: TuneStore>(
 ) -> RunEnd
     ensures commands { S.honest store.new
         → RunsCommands (work_of W.Write S.TuneStore writer.old writer.new store.old store.new) }
+    ensures left { S.honest store.new → S.sound store.old → S.closed store.old ≡ false
+        → LeftByRun S.TuneStore store.old store.new }
     ensures script { S.honest store.new
         → let work = work_of W.Write S.TuneStore writer.old writer.new store.old store.new in
         TellsScript most_lines (R.remaining reader.old) (R.remaining reader.new) work result }

@@ -1,6 +1,6 @@
 use Rattle.std.proofs.Common.{◌≡◌, ◌+◌, ◌-◌, suc, arith}
 use Rattle.tune_scripts.specs.Limits.{most_lines}
-use Rattle.tune_scripts.proofs.RunLemmas.{commands_none, commands_more}
+use Rattle.tune_scripts.proofs.RunLemmas.{commands_none, commands_more, left_by}
 use Rattle.tune_scripts.proofs.RunLemmas.{so_far_none, so_far_more, so_far_end, so_far_all}
 use Rattle.tune_scripts.proofs.runs.run.Goals as goal
 
@@ -42,3 +42,17 @@ returns-in-Some-clause-commands g c = λ honest.
 
 pub returns-clause-commands : goal.returns-clause-commands
 returns-clause-commands g c = λ honest. (c.loop-lines.invariant honest).0
+
+pub returns-in-Some-clause-left : goal.returns-in-Some-clause-left
+returns-in-Some-clause-left g c = λ honest sound is_open.
+    let honest_old = (returns-in-Some-clause-commands g c honest).stops.was_honest honest in
+    left_by g.W.Write g.S.TuneStore _ _ _ _ (returns-in-Some-clause-commands g c honest) honest sound
+    (λ file left. g.met.S.TuneStore.settled c.args.store.now file sound honest_old is_open left)
+    (g.met.S.TuneStore.since_earlier c.turn.new.store)
+
+pub returns-clause-left : goal.returns-clause-left
+returns-clause-left g c = λ honest sound is_open.
+    let honest_old = (returns-clause-commands g c honest).stops.was_honest honest in
+    left_by g.W.Write g.S.TuneStore _ _ _ _ (returns-clause-commands g c honest) honest sound
+    (λ file left. g.met.S.TuneStore.settled c.args.store.now file sound honest_old is_open left)
+    (g.met.S.TuneStore.since_earlier c.loop-lines.store)
