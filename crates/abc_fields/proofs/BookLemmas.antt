@@ -45,7 +45,7 @@ pub spans_plain : (text : List ℕ) → AllPlain (contents (spans_of text))
 spans_plain text = let P : List (List ℕ) → Type 0 = λ lines. AllPlain lines in subst P (sym (spans_have_lines text)) (lines_plain text)
 
 -- BYTES
--- a search for a byte tells whether it is there
+-- a search for a byte shows whether it is there
 pub return_found : (text : List ℕ) (r : Option ℕ) → IsFirstByte (is_byte carriage_return) text r → is_some r ≡ has_return text
 return_found text None h =
     sym (list_any_none (λ b. eqb b carriage_return) text

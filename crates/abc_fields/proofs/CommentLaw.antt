@@ -168,7 +168,7 @@ escapes_at escaped [] n within = absurd (omega arith)
 escapes_at escaped (byte ∷ text) zero within = refl
 escapes_at escaped (byte ∷ text) (suc n) within = escapes_at (byte == backslash) text n (omega arith)
 
--- the byte before an index tells whether it is escaped
+-- the byte before an index shows whether it is escaped
 pub escaped_at : (line : List ℕ) (at : ℕ) → at < length line → (ltb 0 at && eqb (get_or line (at - 1) 0) backslash) ≡ escapes false (take at line)
 escaped_at line zero within = refl
 escaped_at line (suc n) within =

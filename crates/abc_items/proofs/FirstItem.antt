@@ -11,7 +11,7 @@ use Rattle.abc_items.specs.declared.kinds.Kind.{Kind}
 use Rattle.abc_items.specs.declared.kinds.Kind.TheVariants.{Quoted, Decoration, Grace, InlineField, Chord, Tuplet, Note, Bar, Other}
 use Rattle.abc_items.specs.Grammar.{IsEnclosed, Fits, FitsNowhere, IsItem, rank}
 use Rattle.abc_items.specs.Rows.{first_item, front, or_else, enclosed, inline_field, chord, tuplet, note}
-use Rattle.abc_items.proofs.RowLengths.{Tells, row_tells, one_text_of, same_front}
+use Rattle.abc_items.proofs.RowLengths.{FindsText, row_finds, one_text_of, same_front}
 use Rattle.abc_items.proofs.ClosedRows.{enclosed_gives, enclosed_is, field_gives, field_is, chord_gives, chord_is}
 use Rattle.abc_items.proofs.TupletRow.{tuplet_gives, tuplet_is}
 use Rattle.abc_items.proofs.NoteRow.{note_gives, note_is}
@@ -51,30 +51,30 @@ at_or_after : (a b : ℕ) → a ≤ b → (a + 1 ≤ b) ⊎ (b ≡ a)
 at_or_after a b low = grind arith
 
 -- a row that fits nowhere, and the rows after it that do not
-nowhere_from : (kind : Kind) (line : List ℕ) (item : Front) → Tells (Fits kind) line None → IsFirstFrom (rank kind + 1) line item
+nowhere_from : (kind : Kind) (line : List ℕ) (item : Front) → FindsText (Fits kind) line None → IsFirstFrom (rank kind + 1) line item
     → (other : Kind) → (rank kind + 1 ≤ rank other) ⊎ (rank other ≡ rank kind) → rank other < rank item.kind → FitsNowhere other line
 nowhere_from kind line item none after other (inl above) high = after.first other above high
 nowhere_from kind line item none after other (inr here) high = let P : Kind → Type 0 = λ k. FitsNowhere k line in subst P (sym (same_kind other kind here)) none
 
 -- one row before the rows after it
-one_row : (kind : Kind) (found : Option ℕ) (line : List ℕ) (item : Front) → Tells (Fits kind) line found → IsFirstFrom (rank kind + 1) line item
+one_row : (kind : Kind) (found : Option ℕ) (line : List ℕ) (item : Front) → FindsText (Fits kind) line found → IsFirstFrom (rank kind + 1) line item
     → IsFirstFrom (rank kind) line (or_else kind found item)
-one_row kind (Some n) line item tells after = record { fits = tells; later = omega arith; first = λ other low high. absurd (omega arith) }
-one_row kind None line item tells after = record {
+one_row kind (Some n) line item finds after = record { fits = finds; later = omega arith; first = λ other low high. absurd (omega arith) }
+one_row kind None line item finds after = record {
   fits = after.fits;
   later = omega (arith, after.later);
-  first = λ other low high. nowhere_from kind line item tells after other (at_or_after (rank kind) (rank other) low) high;
+  first = λ other low high. nowhere_from kind line item finds after other (at_or_after (rank kind) (rank other) low) high;
 }
 
 -- both forms of a decoration
-neither : (line : List ℕ) → Tells (λ t r. IsEnclosed exclamation_mark exclamation_mark t) line None → Tells (λ t r. IsEnclosed plus_sign plus_sign t) line None
-    → Tells (Fits Decoration) line None
+neither : (line : List ℕ) → FindsText (λ t r. IsEnclosed exclamation_mark exclamation_mark t) line None
+    → FindsText (λ t r. IsEnclosed plus_sign plus_sign t) line None → FindsText (Fits Decoration) line None
 neither line exclaimed added text rest whole (inl f) = exclaimed text rest whole f
 neither line exclaimed added text rest whole (inr f) = added text rest whole f
 
 -- a decoration in either marks, before the rows after it
-two_rows : (found also : Option ℕ) (line : List ℕ) (item : Front) → Tells (λ t r. IsEnclosed exclamation_mark exclamation_mark t) line found
-    → Tells (λ t r. IsEnclosed plus_sign plus_sign t) line also
+two_rows : (found also : Option ℕ) (line : List ℕ) (item : Front) → FindsText (λ t r. IsEnclosed exclamation_mark exclamation_mark t) line found
+    → FindsText (λ t r. IsEnclosed plus_sign plus_sign t) line also
     → IsFirstFrom 2 line item → IsFirstFrom 1 line (or_else Decoration found (or_else Decoration also item))
 two_rows (Some n) also line item exclaimed added after = record { fits = inl exclaimed; later = omega arith; first = λ other low high. absurd (omega arith) }
 two_rows None (Some n) line item exclaimed added after = record { fits = inr added; later = omega arith; first = λ other low high. absurd (omega arith) }
@@ -110,23 +110,23 @@ one_byte byte text false true p q =
 one_byte byte text false false p q = record { fits = (byte, refl); later = omega arith; first = only_bar_before (byte ∷ text) (no_bar byte text p q) }
 
 -- the rows of two marks, with their lengths
-enclosed_tells : (opening closing : ℕ) (line : List ℕ) → Tells (λ t r. IsEnclosed opening closing t) line (enclosed opening closing line)
-enclosed_tells opening closing =
-    row_tells (λ t r. IsEnclosed opening closing t) (enclosed opening closing) (enclosed_gives opening closing) (enclosed_is opening closing)
+enclosed_finds : (opening closing : ℕ) (line : List ℕ) → FindsText (λ t r. IsEnclosed opening closing t) line (enclosed opening closing line)
+enclosed_finds opening closing =
+    row_finds (λ t r. IsEnclosed opening closing t) (enclosed opening closing) (enclosed_gives opening closing) (enclosed_is opening closing)
 
 -- the item at the front of a line is of the first row that fits
 first_item_first : (byte : ℕ) (text : List ℕ) → IsFirstFrom 0 (byte ∷ text) (first_item (byte ∷ text))
 unfolding first_item
 first_item_first byte text =
     let line = byte ∷ text in
-    one_row Quoted (enclosed quotation_mark quotation_mark line) line _ (enclosed_tells quotation_mark quotation_mark line)
+    one_row Quoted (enclosed quotation_mark quotation_mark line) line _ (enclosed_finds quotation_mark quotation_mark line)
     (two_rows (enclosed exclamation_mark exclamation_mark line) (enclosed plus_sign plus_sign line) line _
-    (enclosed_tells exclamation_mark exclamation_mark line) (enclosed_tells plus_sign plus_sign line)
-    (one_row Grace (enclosed opening_brace closing_brace line) line _ (enclosed_tells opening_brace closing_brace line)
-    (one_row InlineField (inline_field line) line _ (row_tells (Fits InlineField) inline_field field_gives field_is line)
-    (one_row Chord (chord line) line _ (row_tells (Fits Chord) chord chord_gives chord_is line)
-    (one_row Tuplet (tuplet line) line _ (row_tells (Fits Tuplet) tuplet tuplet_gives tuplet_is line)
-    (one_row Note (note line) line _ (row_tells (Fits Note) note note_gives note_is line)
+    (enclosed_finds exclamation_mark exclamation_mark line) (enclosed_finds plus_sign plus_sign line)
+    (one_row Grace (enclosed opening_brace closing_brace line) line _ (enclosed_finds opening_brace closing_brace line)
+    (one_row InlineField (inline_field line) line _ (row_finds (Fits InlineField) inline_field field_gives field_is line)
+    (one_row Chord (chord line) line _ (row_finds (Fits Chord) chord chord_gives chord_is line)
+    (one_row Tuplet (tuplet line) line _ (row_finds (Fits Tuplet) tuplet tuplet_gives tuplet_is line)
+    (one_row Note (note line) line _ (row_finds (Fits Note) note note_gives note_is line)
     (one_byte byte text (eqb byte bar_mark) (eqb byte colon) refl refl)))))))
 
 -- the front of a line is an item

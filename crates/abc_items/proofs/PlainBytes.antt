@@ -1,4 +1,4 @@
--- A first item of one byte, told by the text.
+-- A first item of one byte, by its text.
 use Rattle.std.proofs.Common.{◌≡◌, ℕ, zero, suc, ◌+◌, ◌<◌, ◌≤◌, List, [], ◌∷◌, length, take, Bool, true, false, Some, None, drop, ◌-◌, slice_index, refl, sym}
 use Rattle.std.proofs.Common.{ap, ◌∙◌, arith, subst}
 use Rattle.std.specs.Prelude.{◌==◌, ◌&&◌, not, if◌then◌else◌, is_some, IfSome}
@@ -75,12 +75,12 @@ marks_none : (rest : List ℕ) → begins is_octave_mark rest ≡ false → pref
 marks_none [] none = refl
 marks_none (mark ∷ rest) none = rw none refl
 
--- what a byte alone tells of the first item
-pub alone_tells : (bytes : List ℕ) → 0 < length bytes
+-- what a byte alone says of the first item
+pub alone_is : (bytes : List ℕ) → 0 < length bytes
     → let found = alone (slice_index bytes 0) (take (length bytes - 1) (drop 1 bytes)) in
     IfSome found (λ kind. front kind 1 ≡ first_item bytes) × (is_some found ≡ (begins is_plain_byte bytes && (first_item bytes).length == 1))
-alone_tells [] some = absurd (omega arith)
-alone_tells (byte ∷ rest) some =
+alone_is [] some = absurd (omega arith)
+alone_is (byte ∷ rest) some =
     let long : length (byte ∷ rest) - 1 ≡ length rest = omega arith in
     let P : List ℕ → Type 0 =
     λ r. IfSome (alone byte r) (λ kind. front kind 1 ≡ first_item (byte ∷ rest))

@@ -5,34 +5,34 @@ use Rattle.std.proofs.lemmas.List.{append_assoc, length-append}
 use Rattle.std.proofs.Math.Seq.{take-append_seam}
 
 -- a text of a row, before a rest
-abbrev pub Texts : Type 1
-Texts = List ℕ → List ℕ → Type 0
+abbrev pub RowTexts : Type 1
+RowTexts = List ℕ → List ℕ → Type 0
 
 -- the front of that length is of the row
-abbrev pub IsOfRow : Texts → List ℕ → Option ℕ → Type 0
+abbrev pub IsOfRow : RowTexts → List ℕ → Option ℕ → Type 0
 IsOfRow fits line None = ⊤
 IsOfRow fits line (Some n) = fits (take n line) (drop n line)
 
 -- each text of the row has the length that the row gives at its line
-abbrev pub GivesEach : Texts → (List ℕ → Option ℕ) → Type 0
+abbrev pub GivesEach : RowTexts → (List ℕ → Option ℕ) → Type 0
 GivesEach fits row = (text rest : List ℕ) → fits text rest → row (text ++ rest) ≡ Some (length text)
 
 -- the same, or none is of the row
-abbrev pub Tells : Texts → List ℕ → Option ℕ → Type 0
-Tells fits line None = (text rest : List ℕ) → text ++ rest ≡ line → fits text rest → ⊥
-Tells fits line (Some n) = fits (take n line) (drop n line)
+abbrev pub FindsText : RowTexts → List ℕ → Option ℕ → Type 0
+FindsText fits line None = (text rest : List ℕ) → text ++ rest ≡ line → fits text rest → ⊥
+FindsText fits line (Some n) = fits (take n line) (drop n line)
 
 -- by whether the row gives a length
-tells_at : (fits : Texts) (row : List ℕ → Option ℕ) (line : List ℕ) (found : Option ℕ) → row line ≡ found → GivesEach fits row → IsOfRow fits line found
-    → Tells fits line found
-tells_at fits row line (Some n) is gives sound = sound
-tells_at fits row line None is gives sound = λ text rest whole f.
+finds_at : (fits : RowTexts) (row : List ℕ → Option ℕ) (line : List ℕ) (found : Option ℕ) → row line ≡ found → GivesEach fits row → IsOfRow fits line found
+    → FindsText fits line found
+finds_at fits row line (Some n) is gives sound = sound
+finds_at fits row line None is gives sound = λ text rest whole f.
     let some : row line ≡ Some (length text) = ap row (sym whole) ∙ gives text rest f in absurd (cc)
 
--- a row that gives each of its texts the length that it has, and no other length, tells its texts
-pub row_tells : (fits : Texts) (row : List ℕ → Option ℕ) → GivesEach fits row → ((line : List ℕ) → IsOfRow fits line (row line)) → (line : List ℕ)
-    → Tells fits line (row line)
-row_tells fits row gives sound line = tells_at fits row line (row line) refl gives (sound line)
+-- a row that gives each of its texts the length that it has, and no other length, finds its texts
+pub row_finds : (fits : RowTexts) (row : List ℕ → Option ℕ) → GivesEach fits row → ((line : List ℕ) → IsOfRow fits line (row line)) → (line : List ℕ)
+    → FindsText fits line (row line)
+row_finds fits row gives sound line = finds_at fits row line (row line) refl gives (sound line)
 
 -- two fronts of a line that are equally long are the same
 pub same_front : (text rest other later : List ℕ) → length text ≡ length other → text ++ rest ≡ other ++ later → text ≡ other
@@ -40,7 +40,7 @@ same_front text rest other later long same =
     sym (take-append_seam text rest) ∙ (λ i. take (long i) (same i)) ∙ take-append_seam other later
 
 -- a row has at most one text at the front of a line
-pub one_text_of : (fits : Texts) (row : List ℕ → Option ℕ) → GivesEach fits row → (text rest other later : List ℕ) → fits text rest → fits other later
+pub one_text_of : (fits : RowTexts) (row : List ℕ → Option ℕ) → GivesEach fits row → (text rest other later : List ℕ) → fits text rest → fits other later
     → text ++ rest ≡ other ++ later → text ≡ other
 one_text_of fits row gives text rest other later f g same =
     let here : row (text ++ rest) ≡ Some (length text) = gives text rest f in

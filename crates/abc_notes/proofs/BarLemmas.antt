@@ -28,21 +28,22 @@ unfolding past_of
 past_none n all none = ap (λ k. reverse (take k all)) none
 
 -- READING AGAIN: so many events that are left go before those that were read
-abbrev pub read_on : ℕ → List Event → List Event → List Event
-read_on count events past = reverse (take count events) ++ past
+abbrev pub events_read_on : ℕ → List Event → List Event → List Event
+events_read_on count events past = reverse (take count events) ++ past
 
-pub read_from_start : (n : ℕ) (all : List Event) → read_on n all [] ≡ past_of n all
+pub read_from_start : (n : ℕ) (all : List Event) → events_read_on n all [] ≡ past_of n all
 unfolding past_of
 read_from_start n all = append-nil (reverse (take n all))
 
-pub read_one : (k j : ℕ) (events rest past : List Event) (e : Event) → k ≡ suc j → events ≡ e ∷ rest → read_on k events past ≡ read_on j rest (e ∷ past)
+pub read_one : (k j : ℕ) (events rest past : List Event) (e : Event) → k ≡ suc j → events ≡ e ∷ rest
+    → events_read_on k events past ≡ events_read_on j rest (e ∷ past)
 read_one k j events rest past e more is =
     (λ i. reverse (take (more i) (is i)) ++ past) ∙ ap (λ front. front ++ past) (reverse-append (e ∷ []) (take j rest))
     ∙ append_assoc (reverse (take j rest)) (e ∷ []) past
 
-pub read_to_end : (k : ℕ) (events past : List Event) → events ≡ [] → read_on k events past ≡ past
+pub read_to_end : (k : ℕ) (events past : List Event) → events ≡ [] → events_read_on k events past ≡ past
 read_to_end zero events past none = refl
 read_to_end (suc k) events past none = ap (λ all. reverse (take (suc k) all) ++ past) none
 
-pub read_enough : (k : ℕ) (events past : List Event) → k ≡ 0 → read_on k events past ≡ past
+pub read_enough : (k : ℕ) (events past : List Event) → k ≡ 0 → events_read_on k events past ≡ past
 read_enough k events past none = ap (λ n. reverse (take n events) ++ past) none

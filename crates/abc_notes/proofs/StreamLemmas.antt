@@ -74,18 +74,18 @@ pub field_item : (base : ℕ) (k : Kind) (span : ItemSpan) → k ≡ kind.Inline
 unfolding item_events
 field_item base k span is = ap (λ j. item_events base j span) is
 
-pub plain_item : (base : ℕ) (k : Kind) (span : ItemSpan) → (k ≡ kind.Chord → ⊥) → (k ≡ kind.InlineField → ⊥)
+pub plain_item_event : (base : ℕ) (k : Kind) (span : ItemSpan) → (k ≡ kind.Chord → ⊥) → (k ≡ kind.InlineField → ⊥)
     → item_events base k span ≡ plain_events base true k span
 unfolding item_events
-plain_item base kind.Chord span no_chord no_field = absurd (no_chord refl)
-plain_item base kind.InlineField span no_chord no_field = absurd (no_field refl)
-plain_item base kind.Quoted span no_chord no_field = refl
-plain_item base kind.Decoration span no_chord no_field = refl
-plain_item base kind.Grace span no_chord no_field = refl
-plain_item base kind.Tuplet span no_chord no_field = refl
-plain_item base kind.Note span no_chord no_field = refl
-plain_item base kind.Bar span no_chord no_field = refl
-plain_item base kind.Other span no_chord no_field = refl
+plain_item_event base kind.Chord span no_chord no_field = absurd (no_chord refl)
+plain_item_event base kind.InlineField span no_chord no_field = absurd (no_field refl)
+plain_item_event base kind.Quoted span no_chord no_field = refl
+plain_item_event base kind.Decoration span no_chord no_field = refl
+plain_item_event base kind.Grace span no_chord no_field = refl
+plain_item_event base kind.Tuplet span no_chord no_field = refl
+plain_item_event base kind.Note span no_chord no_field = refl
+plain_item_event base kind.Bar span no_chord no_field = refl
+plain_item_event base kind.Other span no_chord no_field = refl
 
 -- an item of a line
 pub line_step : (base : ℕ) (spans later : List ItemSpan) (span : ItemSpan) (event : Option CodeEvent) (chord : List Event) → spans ≡ span ∷ later

@@ -12,23 +12,23 @@ use Rattle.abc_fields.specs.Values.{field_value}
 use Rattle.abc_notes.proofs.TextParts.{line_long}
 use Rattle.abc_notes.specs.Inside.Bounds.{LinesAreShort}
 use Rattle.abc_notes.specs.Music.{events_after_header, body_events}
-use Rattle.abc_notes.specs.Inside.FirstKeys.{first_key}
+use Rattle.abc_notes.specs.Inside.LineKeys.{key_of_lines}
 
 -- the first key is the key text of the lines
-pub first_key_is : (spans : List Line) → first_key spans ≡ unwrap_or (slice_get (values_of (codes "K:") (map (λ s. s.bytes) spans)) 0) []
-first_key_is [] = refl
-first_key_is (span ∷ spans) =
-    elim (is_key_line span.bytes) as (λ b. cond b (field_value span.bytes) (first_key spans)
+pub key_of_lines_is : (spans : List Line) → key_of_lines spans ≡ unwrap_or (slice_get (values_of (codes "K:") (map (λ s. s.bytes) spans)) 0) []
+key_of_lines_is [] = refl
+key_of_lines_is (span ∷ spans) =
+    elim (is_key_line span.bytes) as (λ b. cond b (field_value span.bytes) (key_of_lines spans)
     ≡ unwrap_or
     (slice_get
     (map field_value
     (cond b (span.bytes ∷ filter (λ line. begins_with line (codes "K:")) (map (λ s. s.bytes) spans))
     (filter (λ line. begins_with line (codes "K:")) (map (λ s. s.bytes) spans)))) 0) [])
-    [ true ↦ refl | false ↦ first_key_is spans ]
+    [ true ↦ refl | false ↦ key_of_lines_is spans ]
 
 -- a line of the header that gives no key
-pub key_on : (lines later : List Line) (line : Line) → lines ≡ line ∷ later → is_key_line line.bytes ≡ false → first_key later ≡ first_key lines
-key_on lines later line is no_key = sym (ap first_key is ∙ rw no_key refl)
+pub key_on : (lines later : List Line) (line : Line) → lines ≡ line ∷ later → is_key_line line.bytes ≡ false → key_of_lines later ≡ key_of_lines lines
+key_on lines later line is no_key = sym (ap key_of_lines is ∙ rw no_key refl)
 
 pub header_on : (in_part inside : Bool) (lines later : List Line) (line : Line) → lines ≡ line ∷ later → is_key_line line.bytes ≡ false
     → inside ≡ in_part_after in_part line.bytes
@@ -38,14 +38,14 @@ header_on in_part inside lines later line is no_key goes =
     ap (λ b. events_after_header b later) goes ∙ sym (ap (events_after_header in_part) is ∙ rw no_key refl)
 
 -- the line that ends it
-pub key_here : (lines later : List Line) (line : Line) → lines ≡ line ∷ later → is_key_line line.bytes ≡ true → field_value line.bytes ≡ first_key lines
-key_here lines later line is gives_key = sym (ap first_key is ∙ rw gives_key refl)
+pub key_at_line : (lines later : List Line) (line : Line) → lines ≡ line ∷ later → is_key_line line.bytes ≡ true → field_value line.bytes ≡ key_of_lines lines
+key_at_line lines later line is gives_key = sym (ap key_of_lines is ∙ rw gives_key refl)
 
-pub header_ends : (in_part inside : Bool) (lines later : List Line) (line : Line) → lines ≡ line ∷ later → is_key_line line.bytes ≡ true
+pub header_stops : (in_part inside : Bool) (lines later : List Line) (line : Line) → lines ≡ line ∷ later → is_key_line line.bytes ≡ true
     → inside ≡ in_part_after in_part line.bytes
     → body_events inside later ≡ events_after_header in_part lines
 unfolding events_after_header
-header_ends in_part inside lines later line is gives_key goes =
+header_stops in_part inside lines later line is gives_key goes =
     ap (λ b. body_events b later) goes ∙ sym (ap (events_after_header in_part) is ∙ rw gives_key refl)
 
 -- and where no line gives the key

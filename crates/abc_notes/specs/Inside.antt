@@ -2,4 +2,4 @@ pub mod EventView
 pub mod BarTables
 pub mod Bounds
 pub mod Kept
-pub mod FirstKeys
+pub mod LineKeys

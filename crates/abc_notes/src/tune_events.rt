@@ -10,7 +10,7 @@ ghost use Rattle.abc_notes.specs.Inside.EventView.{event_of, events_of};
 ghost use Rattle.abc_notes.specs.Music.{line_events, line_meaning, body_events};
 ghost use Rattle.abc_notes.specs.Music.{events_after_header};
 ghost use Rattle.abc_notes.specs.Music.{tune_events, tune_signature};
-ghost use Rattle.abc_notes.specs.Inside.FirstKeys.{first_key};
+ghost use Rattle.abc_notes.specs.Inside.LineKeys.{key_of_lines};
 
 use crate::events::Event;
 use crate::line_events::LineEvents;
@@ -112,7 +112,7 @@ impl<'a> TuneEvents<'a> {
 
 // Reads the header of a tune: the text of its key, and whether the body begins within a part.
 fn read_header<'a>(lines: &mut Lines<'a>) -> (&'a [u8], bool)
-    ensures key { result.0.now ≡ first_key lines.old }
+    ensures key { result.0.now ≡ key_of_lines lines.old }
     ensures events { body_events result.1 lines.new ≡ events_after_header false lines.old }
     ensures short { LinesAreShort lines.old → LinesAreShort lines.new }
 {

@@ -124,7 +124,7 @@ fn takes_as_many_notes_as_are_asked_for(rt: HostRuntime) -> Result<(), Fail> {
 }
 
 #[test]
-fn tells_how_tunes_begin(rt: HostRuntime) -> Result<(), Fail> {
+fn compares_how_tunes_begin(rt: HostRuntime) -> Result<(), Fail> {
     let tune = steps_of(rt.alloc(), b"K:G\nG3 GAB|A3 ABd|")?;
     for (query, wanted) in [
         (b"[K:G]GGAB".as_slice(), true),

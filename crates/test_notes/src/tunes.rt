@@ -101,7 +101,7 @@ fn reads_the_tunes_of_books(rt: HostRuntime) -> Result<(), Fail> {
 }
 
 #[test]
-fn tells_where_each_note_stands(rt: HostRuntime) -> Result<(), Fail> {
+fn gives_where_each_note_stands(rt: HostRuntime) -> Result<(), Fail> {
     let cases: [(&[u8], &str); 5] = [
         (b"X:1\nK:C\nA", "4 A;"),
         (b"X:1\nM:4/4\nK:C\nA", "10 A;"),
@@ -192,7 +192,7 @@ fn f_pitch(octave: i32) -> i32 {
 }
 
 #[test]
-fn tells_octaves_apart(rt: HostRuntime) -> Result<(), Fail> {
+fn keeps_octaves_apart(rt: HostRuntime) -> Result<(), Fail> {
     for first in -20..=20 {
         for second in -20..=20 {
             let mut line = Vec::new(rt.alloc());

@@ -1,7 +1,9 @@
-// A store that keeps a record of its device.
-use crate::{RecordedStore, apply_to_open};
+// A store that keeps a record of its device, and one over a disk that fails.
+use crate::{DiskStore, RecordedStore, apply_to_open};
 use abc_fields::ByteText;
 use std::test::Fail;
+use tune_disk::{FuseDisk, MemoryDisk};
+use tune_scripts::{RunEnd, run};
 use tune_store::{Command, Refusal, Reply};
 
 #[test]
@@ -56,5 +58,25 @@ fn carries_out_changes(rt: HostRuntime) -> Result<(), Fail> {
         _ => return Err(Fail::from("no book is exported")),
     }
     assert_eq!(&rt; store.entries(), [0, 2, 2, 1, 1].as_slice());
+    Ok(())
+}
+
+// Four device calls are made, two for each mark, and the fifth fails.
+#[test]
+fn runs_a_script_over_a_disk_that_fails(rt: HostRuntime) -> Result<(), Fail> {
+    let disk = FuseDisk::new(MemoryDisk::new(rt.alloc()), 4);
+    let mut store = DiskStore::new(rt.alloc(), disk);
+    let mut script = b"import 8\nX:1\nK:C\nshow 1\nshow 2\nshow 1\nshow 1\n".as_slice();
+    let mut replies = Vec::new(rt.alloc());
+    let end = run(rt.alloc(), &mut script, &mut replies, &mut store);
+    assert_eq!(&rt; end, RunEnd::DeviceFault);
+    let written =
+        b"ok import 1 1\nok show 1 1 8\nX:1\nK:C\nrefused 4 Unknown 2\nrefused 22 Device\n";
+    assert_eq!(&rt; replies.as_slice(), written.as_slice());
+    // The store is closed: the line that was not read is answered so.
+    replies.clear();
+    let end = run(rt.alloc(), &mut script, &mut replies, &mut store);
+    assert_eq!(&rt; end, RunEnd::DeviceFault);
+    assert_eq!(&rt; replies.as_slice(), b"refused 23 Closed\n".as_slice());
     Ok(())
 }

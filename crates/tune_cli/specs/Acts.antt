@@ -3,7 +3,7 @@ use Rattle.std.specs.Prelude.{◌≡◌, ℕ, List, [], Option, ⊤}
 use Rattle.tune_store.specs.State.{State}
 use Rattle.tune_store.specs.Answers.{open_at}
 use Rattle.tune_scripts.specs.Limits.{most_lines}
-use Rattle.tune_scripts.specs.Runs.{Work, KnownAt, TellsScript}
+use Rattle.tune_scripts.specs.Runs.{Work, TellsScript}
 use Rattle.tune_scripts.specs.declared.runs.RunEnd.{RunEnd}
 use Rattle.tune_scripts.specs.declared.runs.RunEnd.TheVariants.{Ended}
 use Rattle.tune_cli.specs.declared.command_line.Action.{Action}
@@ -34,7 +34,7 @@ pub record ListsScript (input left was now : Option (List ℕ)) (status : ℕ) :
   pub end : RunEnd
   pub state : State
   pub ends : status ≡ status_of end
-  pub output : KnownAt end (TellsScript most_lines input left (work_in_memory was now state) end)
+  pub output : TellsScript most_lines input left (work_in_memory was now state) end
 
 -- what an action does with the input and the output, and the status that it gives
 abbrev pub Acts : Action → Option (List ℕ) → Option (List ℕ) → Option (List ℕ) → Option (List ℕ)

@@ -13,17 +13,17 @@ use Rattle.tune_store.specs.declared.command.Refusal.TheVariants.{BookTooLong, O
 use Rattle.tune_scripts.specs.declared.script_lines.ScriptLine.{ScriptLine}
 use Rattle.tune_scripts.specs.declared.script_lines.BookUse.{BookUse}
 use Rattle.tune_scripts.specs.declared.runs.RunEnd.{RunEnd}
-use Rattle.tune_scripts.specs.declared.runs.RunEnd.TheVariants.{Ended, LongLine, DeviceFault}
+use Rattle.tune_scripts.specs.declared.runs.RunEnd.TheVariants.{Ended, LongLine, ReaderFault, WriterFault, DeviceFault}
 use Rattle.tune_scripts.specs.Limits.{longest_line}
 use Rattle.tune_scripts.specs.ScriptLines.{meaning_of, command_of}
 use Rattle.tune_scripts.specs.InputLines.{before_feed, after_feed, has_feed}
 use Rattle.tune_scripts.specs.Replies.{answer_bytes, refusal_bytes, bad_line_bytes}
 use Rattle.tune_scripts.specs.Scripts.{reading_of, reading_of_book, reading_of_meaning, reading_of_line, line_text, long_line, blank_line, bad_line, cut_book}
 use Rattle.tune_scripts.specs.Scripts.{long_book, whole_command, Script, ended, device_fault, at_long_line, at_cut_book, after_blank_line, after_bad_line}
-use Rattle.tune_scripts.specs.Scripts.{after_long_book, after_no_room, after_answer}
+use Rattle.tune_scripts.specs.Scripts.{after_long_book, after_no_room, after_answer, reader_fault, writer_fault, writer_fault_after}
 use Rattle.tune_scripts.specs.Runs.{Work}
 use Rattle.tune_scripts.specs.Inside.Reads.{IsLineRead, TakesLine, LosesLongLine, IsCut}
-use Rattle.tune_scripts.specs.Inside.Turns.{GoesOn, TurnOf, Turns, TurnsBook, WritesOut, AnswersCommand, CarriesOut}
+use Rattle.tune_scripts.specs.Inside.Turns.{GoesOn, TurnOf, Turns, TurnsBook, WritesOut, CarriesOut}
 
 pub appends_none : (a : Option (List ℕ)) → Appends a a []
 appends_none None = tt
@@ -49,32 +49,75 @@ ends_where {n = n} {input = input} {out = out} {unread = unread} {states = state
 -- ONE TURN
 -- after a command, by whether its answer lets the run go on
 turn_goes : (input rest : List ℕ) (left : Option (List ℕ)) (work : Work) (c : Command) (result : Option RunEnd)
-    (h : AnswersCommand work c result) (b : Bool) → reading_of input ≡ whole_command c rest → left ≡ Some rest
-    → stays_open h.answer ≡ b → result ≡ cond b None (Some DeviceFault) → TurnOf input left work result
-turn_goes input rest left work c result h true r l o e = rw e (λ n. record {
+    (h : CarriesOut work c result) (b : Bool) → reading_of input ≡ whole_command c rest → left ≡ Some rest
+    → stays_open h.answer ≡ b → Appends work.was work.now (answer_bytes h.answer) → result ≡ cond b None (Some DeviceFault)
+    → TurnOf input left work result
+turn_goes input rest left work c result h true r l o w e = rw e (λ n. record {
   rest = rest;
   out = answer_bytes h.answer;
   states = passed work.before.state c h.answer;
   leaves = l;
-  written = h.written;
+  written = w;
   stops = h.stops;
   onward = λ tail unread later end last k. after_answer n work.before work.after last input rest tail unread later end c h.answer r h.answers o k;
 })
-turn_goes input rest left work c result h false r l o e = rw e (λ n. record {
+turn_goes input rest left work c result h false r l o w e = rw e (λ n. record {
   unread = rest;
   out = answer_bytes h.answer;
   states = passed work.before.state c h.answer;
   leaves = l;
-  written = h.written;
+  written = w;
   stops = h.stops;
   script = device_fault n work.before work.after input rest c h.answer r h.answers o;
+})
+
+-- after a command whose answer the writer failed to take
+turn_unwritten : (input rest : List ℕ) (left : Option (List ℕ)) (work : Work) (c : Command) (result : Option RunEnd)
+    (h : CarriesOut work c result) → reading_of input ≡ whole_command c rest → left ≡ Some rest → result ≡ Some WriterFault
+    → TurnOf input left work result
+turn_unwritten input rest left work c result h r l fault = rw fault (λ n. record {
+  unread = rest;
+  out = [];
+  states = passed work.before.state c h.answer;
+  leaves = l;
+  written = tt;
+  stops = h.stops;
+  script = writer_fault_after n work.before work.after input rest c h.answer r h.answers;
 })
 
 -- after a command
 pub turn_answered : (input rest : List ℕ) (left : Option (List ℕ)) (work : Work) (c : Command) (result : Option RunEnd)
     → reading_of input ≡ whole_command c rest → left ≡ Some rest → CarriesOut work c result → TurnOf input left work result
-turn_answered input rest left work c result r l (inl fault) = rw fault tt
-turn_answered input rest left work c result r l (inr h) = turn_goes input rest left work c result h (stays_open h.answer) r l refl h.next
+turn_answered input rest left work c result r l h = elim h.written [
+  | inl fault ↦ turn_unwritten input rest left work c result h r l fault
+  | inr w ↦ turn_goes input rest left work c result h (stays_open h.answer) r l refl w.1 w.0
+]
+
+-- after a line that does not reach the store, whose reply the writer failed to take
+quiet_fault : (input rest : List ℕ) (left : Option (List ℕ)) (work : Work) (result : Option RunEnd) → left ≡ Some rest → IsQuiet work
+    → result ≡ Some WriterFault → TurnOf input left work result
+quiet_fault input rest left work result l quiet fault = rw fault (λ n. record {
+  unread = rest;
+  out = [];
+  states = [];
+  leaves = l;
+  written = tt;
+  stops = quiet.stops;
+  script = ends_where work quiet (writer_fault n work.before input rest);
+})
+
+-- after a fault of the reader
+turn_fault : (input : List ℕ) (left : Option (List ℕ)) (work : Work) → IsQuiet work → Appends work.was work.now []
+    → TurnOf input left work (Some ReaderFault)
+turn_fault input left work quiet w = λ n. record {
+  unread = input;
+  out = [];
+  states = [];
+  leaves = tt;
+  written = w;
+  stops = quiet.stops;
+  script = ends_where work quiet (reader_fault n work.before input);
+}
 
 -- what a turn adds that leaves the store alone: these bytes, and no state
 adds_bytes : (lines more : ℕ) (input rest bytes : List ℕ) (left : Option (List ℕ)) (work : Work) → left ≡ Some rest → IsQuiet work
@@ -101,7 +144,7 @@ turn_blank input rest left work r l quiet w = λ n. adds_bytes (suc n) n input r
 -- after a bad line
 pub turn_bad : (input rest : List ℕ) (left : Option (List ℕ)) (work : Work) (result : Option RunEnd) → reading_of input ≡ bad_line rest
     → left ≡ Some rest → IsQuiet work → WritesOut work.was work.now bad_line_bytes None result → TurnOf input left work result
-turn_bad input rest left work result r l quiet (inl fault) = rw fault tt
+turn_bad input rest left work result r l quiet (inl fault) = quiet_fault input rest left work result l quiet fault
 turn_bad input rest left work result r l quiet (inr h) = rw h.0 (λ n. adds_bytes (suc n) n input rest bad_line_bytes left work l quiet h.1
     (λ tail unread later end last k. after_bad_line n work.before last input rest tail unread later end r k))
 
@@ -109,7 +152,7 @@ turn_bad input rest left work result r l quiet (inr h) = rw h.0 (λ n. adds_byte
 turn_no_room : (input rest : List ℕ) (left : Option (List ℕ)) (work : Work) (book_use : BookUse) (book : List ℕ) (result : Option RunEnd)
     → reading_of input ≡ whole_command (command_of book_use book) rest → left ≡ Some rest → IsQuiet work
     → WritesOut work.was work.now (refusal_bytes OutOfMemory) None result → TurnOf input left work result
-turn_no_room input rest left work book_use book result r l quiet (inl fault) = rw fault tt
+turn_no_room input rest left work book_use book result r l quiet (inl fault) = quiet_fault input rest left work result l quiet fault
 turn_no_room input rest left work book_use book result r l quiet (inr h) =
     rw h.0 (λ n. adds_bytes (suc n) n input rest (refusal_bytes OutOfMemory) left work l quiet h.1
     (λ tail unread later end last k. after_no_room n work.before last input rest tail unread later end book_use book r k))
@@ -117,7 +160,7 @@ turn_no_room input rest left work book_use book result r l quiet (inr h) =
 -- after a book that is too long
 turn_over : (input rest : List ℕ) (left : Option (List ℕ)) (work : Work) (result : Option RunEnd) → reading_of input ≡ long_book rest
     → left ≡ Some rest → IsQuiet work → WritesOut work.was work.now (refusal_bytes BookTooLong) None result → TurnOf input left work result
-turn_over input rest left work result r l quiet (inl fault) = rw fault tt
+turn_over input rest left work result r l quiet (inl fault) = quiet_fault input rest left work result l quiet fault
 turn_over input rest left work result r l quiet (inr h) =
     rw h.0 (λ n. adds_bytes (suc n) n input rest (refusal_bytes BookTooLong) left work l quiet h.1
     (λ tail unread later end last k. after_long_book n work.before last input rest tail unread later end r k))
@@ -125,7 +168,7 @@ turn_over input rest left work result r l quiet (inr h) =
 -- after a book that was cut
 turn_cut : (input : List ℕ) (left : Option (List ℕ)) (work : Work) (result : Option RunEnd) → reading_of input ≡ cut_book → left ≡ Some []
     → IsQuiet work → WritesOut work.was work.now bad_line_bytes (Some Ended) result → TurnOf input left work result
-turn_cut input left work result r l quiet (inl fault) = rw fault tt
+turn_cut input left work result r l quiet (inl fault) = quiet_fault input [] left work result l quiet fault
 turn_cut input left work result r l quiet (inr h) = rw h.0 (λ n. record {
   unread = [];
   out = bad_line_bytes;
@@ -140,7 +183,7 @@ turn_cut input left work result r l quiet (inr h) = rw h.0 (λ n. record {
 turn_long : (input : List ℕ) (left : Option (List ℕ)) (work : Work) (result : Option RunEnd) → reading_of input ≡ long_line
     → left ≡ Some (drop (longest_line + 1) input) → IsQuiet work → WritesOut work.was work.now bad_line_bytes (Some LongLine) result
     → TurnOf input left work result
-turn_long input left work result r l quiet (inl fault) = rw fault tt
+turn_long input left work result r l quiet (inl fault) = quiet_fault input (drop (longest_line + 1) input) left work result l quiet fault
 turn_long input left work result r l quiet (inr h) = rw h.0 (λ n. record {
   unread = drop (longest_line + 1) input;
   out = bad_line_bytes;
@@ -262,3 +305,14 @@ pub from_book : (book_use : BookUse) (len : ℕ) (rest input : List ℕ) (mid ne
     → TurnOf input new work result
 from_book book_use len rest input mid new work result h e r =
     let Q : Option (List ℕ) → Type 0 = λ m. TurnsBook book_use len m new work result in subst Q e h input r
+
+-- the reader failed in a line
+pub from_fault : (old new : Option (List ℕ)) (work : Work) → IsQuiet work → Appends work.was work.now [] → Turns old new work (Some ReaderFault)
+from_fault None new work quiet w = tt
+from_fault (Some xs) new work quiet w = turn_fault xs new work quiet w
+
+-- the reader failed in a book
+pub book_fault : (book_use : BookUse) (len : ℕ) (old new : Option (List ℕ)) (work : Work) → IsQuiet work → Appends work.was work.now []
+    → TurnsBook book_use len old new work (Some ReaderFault)
+book_fault book_use len None new work quiet w = tt
+book_fault book_use len (Some xs) new work quiet w = λ input r. turn_fault input new work quiet w

@@ -3,13 +3,11 @@ use Rattle.std.specs.Prelude.{◌≡◌, ℕ, List, Option, Some, IfSome, ⊤}
 use Rattle.std.specs.Io.KnownBytes.{Appends}
 use Rattle.std.specs.declared.io.Write.{Ghosts}
 use Rattle.tune_store.specs.State.{State, Standing}
+use Rattle.tune_store.specs.Runs.{Answered, RunsPassing}
 use Rattle.tune_store.specs.Stores.{StorePasses, standing_of}
 use Rattle.tune_store.specs.declared.tune_store.TuneStore as store
 use Rattle.tune_scripts.specs.declared.runs.RunEnd.{RunEnd}
-use Rattle.tune_scripts.specs.declared.runs.RunEnd.TheVariants.{Ended, LineBound, LongLine}
 use Rattle.tune_scripts.specs.declared.runs.RunEnd.TheVariants.{ReaderFault, WriterFault}
-use Rattle.tune_scripts.specs.declared.runs.RunEnd.TheVariants.{DeviceFault}
-use Rattle.tune_scripts.specs.declared.runs.RunEnd.TheVariants as run
 use Rattle.tune_scripts.specs.Scripts.{Script}
 
 -- The work of a run, or of a part of it.
@@ -33,28 +31,39 @@ work_of W S old_writer new_writer old_store new_store = record {
   Stops = StorePasses S old_store new_store;
 }
 
--- a claim that is made at the ends at which the output is known
-abbrev pub KnownAt : RunEnd → Type 0 → Type 0
-KnownAt Ended P = P
-KnownAt LineBound P = P
-KnownAt LongLine P = P
-KnownAt DeviceFault P = P
-KnownAt ReaderFault P = ⊤
-KnownAt WriterFault P = ⊤
-KnownAt run.OutOfMemory P = ⊤
+-- what holds of what was written: a writer that failed holds any bytes
+abbrev pub UnlessWriterFails : RunEnd → Type 0 → Type 0
+UnlessWriterFails WriterFault P = ⊤
+UnlessWriterFails end P = P
+
+-- what holds of what is left of the input: a reader that failed leaves any bytes
+abbrev pub UnlessReaderFails : RunEnd → Type 0 → Type 0
+UnlessReaderFails ReaderFault P = ⊤
+UnlessReaderFails end P = P
 
 -- A run wrote what the script of this input writes, left unread what the script leaves, and stops
--- leave of the store what the states allow that the script passes.
+-- leave of the store what the states allow that the script passes. After a fault of the reader what
+-- was written is the replies before it, and after one of the writer the store is as the commands so
+-- far leave it.
 pub record RunsScript (lines : ℕ) (input : List ℕ) (left : Option (List ℕ)) (work : Work)
     (end : RunEnd) : Type 0 where
   pub unread : List ℕ
   pub out : List ℕ
   pub states : List State
-  pub leaves : left ≡ Some unread
-  pub written : Appends work.was work.now out
+  pub leaves : UnlessReaderFails end (left ≡ Some unread)
+  pub written : UnlessWriterFails end (Appends work.was work.now out)
   pub stops : work.Stops states
   pub script : Script lines work.before input out states end work.after unread
 
--- the same of a reader that tells its bytes, by what is left of them before and after the run
+-- Whatever the reader tells, the store carried out commands one after another, and stops leave of
+-- it what the states allow that it passed.
+pub record RunsCommands (work : Work) : Type 0 where
+  pub commands : List Answered
+  pub states : List State
+  pub runs : RunsPassing work.before commands states work.after
+  pub stops : work.Stops states
+
+-- what a run comes to, where the reader tells its bytes, by what is left of them before and after
+-- the run
 abbrev pub TellsScript : ℕ → Option (List ℕ) → Option (List ℕ) → Work → RunEnd → Type 0
 TellsScript lines old new work end = IfSome old (λ input. RunsScript lines input new work end)

@@ -17,6 +17,7 @@ use Rattle.tune_scripts.specs.declared.script_lines.ScriptLine.TheVariants.{Blan
 use Rattle.tune_scripts.specs.declared.script_lines.BookUse.{BookUse}
 use Rattle.tune_scripts.specs.declared.runs.RunEnd.{RunEnd}
 use Rattle.tune_scripts.specs.declared.runs.RunEnd.TheVariants.{Ended, LineBound, LongLine}
+use Rattle.tune_scripts.specs.declared.runs.RunEnd.TheVariants.{ReaderFault, WriterFault}
 use Rattle.tune_scripts.specs.declared.runs.RunEnd.TheVariants.{DeviceFault}
 use Rattle.tune_scripts.specs.Limits.{longest_line}
 use Rattle.tune_scripts.specs.ScriptLines.{meaning_of, command_of}
@@ -89,6 +90,17 @@ pub data Script : ℕ → Standing → List ℕ → List ℕ → List State → 
       (answer : Result Reply Refusal) → reading_of input ≡ whole_command c rest
       → Answers s c answer mid → stays_open answer ≡ false
       → Script (suc n) s input (answer_bytes answer) (passed s.state c answer) DeviceFault mid rest
+  -- the reader failed in the next line or in its book: what was written is the replies before it
+  reader_fault : (n : ℕ) (s : Standing) (input : List ℕ)
+      → Script (suc n) s input [] [] ReaderFault s input
+  -- the writer failed in a reply of this run: to a line that does not reach the store
+  writer_fault : (n : ℕ) (s : Standing) (input rest : List ℕ)
+      → Script (suc n) s input [] [] WriterFault s rest
+  -- or to a command, which took place
+  writer_fault_after : (n : ℕ) (s mid : Standing) (input rest : List ℕ) (c : Command)
+      (answer : Result Reply Refusal) → reading_of input ≡ whole_command c rest
+      → Answers s c answer mid
+      → Script (suc n) s input [] (passed s.state c answer) WriterFault mid rest
   -- ONE LINE, AND THEN THE REST
   after_blank_line : (n : ℕ) (s t : Standing) (input rest out unread : List ℕ)
       (states : List State) (end : RunEnd) → reading_of input ≡ blank_line rest

@@ -12,7 +12,7 @@ use Rattle.tune_scripts.specs.declared.runs.RunEnd.{RunEnd}
 use Rattle.tune_scripts.specs.declared.runs.RunEnd.TheVariants.{WriterFault, DeviceFault}
 use Rattle.tune_scripts.specs.Replies.{answer_bytes}
 use Rattle.tune_scripts.specs.Scripts.{reading_of, reading_of_book, Script}
-use Rattle.tune_scripts.specs.Runs.{Work, KnownAt, RunsScript}
+use Rattle.tune_scripts.specs.Runs.{Work, RunsScript}
 
 -- A part of a run, with at most so many lines at its beginning and so many at its end: whatever the
 -- rest of the input comes to, the whole comes to this part and then that.
@@ -31,7 +31,7 @@ pub record GoesOn (lines more : ℕ) (input : List ℕ) (left : Option (List ℕ
 -- a turn: the run goes on with a line less, or ends here
 abbrev pub TurnOf : List ℕ → Option (List ℕ) → Work → Option RunEnd → Type 0
 TurnOf input left work None = (n : ℕ) → GoesOn (suc n) n input left work
-TurnOf input left work (Some end) = KnownAt end ((n : ℕ) → RunsScript (suc n) input left work end)
+TurnOf input left work (Some end) = (n : ℕ) → RunsScript (suc n) input left work end
 
 -- the same of a reader that tells its bytes
 abbrev pub Turns : Option (List ℕ) → Option (List ℕ) → Work → Option RunEnd → Type 0
@@ -53,14 +53,9 @@ WritesOut was now bytes next result =
 abbrev pub next_of : Result Reply Refusal → Option RunEnd
 next_of answer = if stays_open answer then None else Some DeviceFault
 
--- a command was answered, and the run goes on so
-pub record AnswersCommand (work : Work) (c : Command) (result : Option RunEnd) : Type 0 where
+-- a command was answered once, and its answer was written, or the writer failed
+pub record CarriesOut (work : Work) (c : Command) (result : Option RunEnd) : Type 0 where
   pub answer : Result Reply Refusal
-  pub next : result ≡ next_of answer
   pub answers : Answers work.before c answer work.after
   pub stops : work.Stops (passed work.before.state c answer)
-  pub written : Appends work.was work.now (answer_bytes answer)
-
--- the writer failed, or the command was answered
-abbrev pub CarriesOut : Work → Command → Option RunEnd → Type 0
-CarriesOut work c result = (result ≡ Some WriterFault) ⊎ AnswersCommand work c result
+  pub written : WritesOut work.was work.now (answer_bytes answer) (next_of answer) result

@@ -2,13 +2,16 @@ use Rattle.std.proofs.Common.{◌≡◌, ◌∷◌, ◌+◌, ◌-◌, suc, [], a
 use Rattle.abc_notes.specs.Inside.EventView.{event_of}
 use Rattle.abc_notes.specs.Pitches.{borne}
 use Rattle.abc_notes.proofs.PastLemmas.{borne_nothing}
-use Rattle.abc_notes.proofs.BarLemmas.{read_on, read_from_start, read_one, read_to_end, read_enough}
+use Rattle.abc_notes.proofs.BarLemmas.{events_read_on, read_from_start, read_one, read_to_end, read_enough}
 use Rattle.abc_notes.proofs.accidentals.recall.Goals as goal
 
 pub loop-turn-init : goal.loop-turn-init
 loop-turn-init c =
-    let k : c.args.since - 0 ≡ c.args.since = omega arith in
-    ([], sym (borne_nothing c.args.note.letter c.args.note.octave), ap (λ n. read_on n c.args.bar_events []) k ∙ read_from_start c.args.since c.args.bar_events)
+    let k : c.args.since - 0 ≡ c.args.since = omega arith in (
+      [],
+      sym (borne_nothing c.args.note.letter c.args.note.octave),
+      ap (λ n. events_read_on n c.args.bar_events []) k ∙ read_from_start c.args.since c.args.bar_events,
+    )
 
 pub returns-in_default : goal.returns-in_default
 returns-in_default c =

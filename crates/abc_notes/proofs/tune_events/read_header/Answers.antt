@@ -1,7 +1,7 @@
 use Rattle.std.proofs.Common.{rules, ◌≡◌, ◌∙◌, sym, false}
 use Rattle.abc_fields.specs.LineView.{line_span}
 use Rattle.abc_fields.specs.Tunes.{is_key_line}
-use Rattle.abc_notes.proofs.TuneLemmas.{key_on, header_on, header_ends, no_header}
+use Rattle.abc_notes.proofs.TuneLemmas.{key_on, header_on, header_stops, no_header}
 use Rattle.abc_notes.proofs.tune_events.read_header.Goals as goal
 
 pub returns-in_default-clause-events : goal.returns-in_default-clause-events
@@ -10,7 +10,7 @@ returns-in_default-clause-events c =
 
 pub returns-then-is_key_line-clause-events : goal.returns-then-is_key_line-clause-events
 returns-then-is_key_line-clause-events c =
-    header_ends c.header.in_part c.in_part_after-in_part.result c.header.lines c.next.new.self (line_span c.in-Some.line) c.in-Some.ensures.steps
+    header_stops c.header.in_part c.in_part_after-in_part.result c.header.lines c.next.new.self (line_span c.in-Some.line) c.in-Some.ensures.steps
     (sym c.is_key_line.ensures ∙ c.if-is_key_line.true) c.in_part_after-in_part.ensures ∙ c.header.invariant.events
 
 pub header-preserved : goal.header-preserved

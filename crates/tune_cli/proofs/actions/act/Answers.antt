@@ -2,8 +2,8 @@ use Rattle.std.proofs.Common.{List, Option, ℕ, subst}
 use Rattle.tune_store.specs.State.{State}
 use Rattle.tune_store.specs.Answers.{open_at}
 use Rattle.tune_scripts.specs.Limits.{most_lines}
-use Rattle.tune_scripts.specs.Runs.{KnownAt, TellsScript}
-use Rattle.tune_scripts.proofs.RunLemmas.{known_by, forgets_stops}
+use Rattle.tune_scripts.specs.Runs.{TellsScript}
+use Rattle.tune_scripts.proofs.RunLemmas.{forgets_stops}
 use Rattle.tune_cli.specs.declared.command_line.Action.{Action}
 use Rattle.tune_cli.specs.declared.command_line.Action.TheVariants as action
 use Rattle.tune_cli.specs.Acts.{Acts, ListsScript, work_in_memory}
@@ -22,9 +22,9 @@ returns g c =
     let now = g.W.Write.contents c.run-end.new.writer in
     let end = c.run-end.result in
     let archive = c.run-end.new.store in
-    let P : State → Type 0 = λ start. KnownAt end
-    (TellsScript most_lines input left (record (work_in_memory was now archive) { before = open_at start }) end) in
-    let output = known_by end _ _ (forgets_stops most_lines input left _ end) (c.run-end.ensures tt) in
+    let P : State → Type 0 = λ start.
+    TellsScript most_lines input left (record (work_in_memory was now archive) { before = open_at start }) end in
+    let output = forgets_stops most_lines input left _ end (c.run-end.ensures.script tt) in
     acts_list c.args.action.now input left was now c.status.result record {
       end = end;
       state = archive;

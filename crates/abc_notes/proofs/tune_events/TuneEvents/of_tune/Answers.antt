@@ -6,9 +6,9 @@ use Rattle.abc_fields.specs.Lines.{Span as Line, spans_of}
 use Rattle.abc_keys.specs.Keys.{key_of_text, signature_of}
 use Rattle.abc_notes.specs.Inside.Bounds.{LinesAreShort}
 use Rattle.abc_notes.specs.Music.{body_events, events_after_header, tune_events}
-use Rattle.abc_notes.specs.Inside.FirstKeys.{first_key}
+use Rattle.abc_notes.specs.Inside.LineKeys.{key_of_lines}
 use Rattle.abc_notes.proofs.EventCounts.{tune_events_few}
-use Rattle.abc_notes.proofs.TuneLemmas.{first_key_is, lines_are_short}
+use Rattle.abc_notes.proofs.TuneLemmas.{key_of_lines_is, lines_are_short}
 use Rattle.abc_notes.proofs.tune_events.TuneEvents.of_tune.Goals as goal
 
 pub invariant_of-events : goal.invariant_of-events
@@ -23,7 +23,7 @@ returns-clause-signature c =
     let contents = ap (λ (lines : List (List ℕ)). unwrap_or (slice_get (values_of (codes "K:") lines) 0) []) c.new-lines.ensures.contents in
     c.signature.ensures ∙ ap signature_of c.key_of.ensures.key
     ∙ ap (λ text. signature_of (key_of_text text))
-    (c.read_header-in_part.ensures.key ∙ ap first_key c.new-lines.ensures.lines ∙ first_key_is (spans_of c.bytes.result.now) ∙ contents
+    (c.read_header-in_part.ensures.key ∙ ap key_of_lines c.new-lines.ensures.lines ∙ key_of_lines_is (spans_of c.bytes.result.now) ∙ contents
     ∙ ap key_text_of c.bytes.ensures.value)
 
 pub returns-clause-few : goal.returns-clause-few
