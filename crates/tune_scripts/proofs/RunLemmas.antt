@@ -1,17 +1,21 @@
 -- A script's turns, one after another, over a writer and a store of any kind.
-use Rattle.std.proofs.Common.{ℕ, suc, List, [], ◌++◌, Option, None, Some, refl, ap, ◌∙◌, subst}
+use Rattle.std.proofs.Common.{◌≡◌, ℕ, suc, List, [], ◌∷◌, ◌++◌, Option, None, Some, refl, sym, ap, ◌∙◌, subst}
 use Rattle.std.specs.Prelude.{IfSome, ⊤}
 use Rattle.std.specs.Io.KnownBytes.{Appends}
 use Rattle.std.specs.declared.io.Write.{Ghosts}
 use Rattle.std.proofs.lemmas.List.{append_assoc, append-nil}
+use Rattle.tune_store.specs.State.{State, Standing}
+use Rattle.tune_store.specs.Answers.{passed}
+use Rattle.tune_store.specs.Runs.{Answered, RunsPassing}
 use Rattle.tune_store.specs.Stores.{standing_of}
+use Rattle.tune_store.specs.declared.command.Command.{Command}
 use Rattle.tune_store.specs.declared.tune_store.TuneStore as store
 use Rattle.tune_scripts.specs.declared.runs.RunEnd.{RunEnd}
 use Rattle.tune_scripts.specs.declared.runs.RunEnd.TheVariants.{Ended, LineBound, LongLine, ReaderFault, WriterFault, DeviceFault}
 use Rattle.tune_scripts.specs.declared.runs.RunEnd.TheVariants as run
 use Rattle.tune_scripts.specs.Scripts.{Script, line_bound}
-use Rattle.tune_scripts.specs.Runs.{Work, work_of, UnlessWriterFails, RunsScript, TellsScript}
-use Rattle.tune_scripts.specs.Inside.Turns.{GoesOn, Turns}
+use Rattle.tune_scripts.specs.Runs.{Work, work_of, UnlessWriterFails, RunsScript, RunsCommands, TellsScript}
+use Rattle.tune_scripts.specs.Inside.Turns.{GoesOn, Turns, CarriesOut}
 use Rattle.tune_scripts.proofs.TurnLemmas.{IsQuiet, appends_none}
 use Rattle.tune_store.proofs.StopLemmas.{passes_none, passes_more}
 
@@ -50,6 +54,18 @@ forgets_stops lines (Some xs) new work end h = record {
 pub record IsSoFar (lines more : ℕ) (old new : Option (List ℕ)) (work : Work) : Type 0 where
   pub came : IfSome old (λ input. GoesOn lines more input new work)
 
+-- one run of commands after another
+runs_more : (first second : List Answered) (a b : List State) (old mid new : Standing) → RunsPassing old first a mid → RunsPassing mid second b new
+    → RunsPassing old (first ++ second) (a ++ b) new
+runs_more [] second a b old mid new h k =
+    let P : List State → Type 0 = λ states. RunsPassing old second (states ++ b) new in
+    let Q : Standing → Type 0 = λ from. RunsPassing from second b new in
+    subst P (sym h.0) (subst Q h.1 k)
+runs_more (next ∷ first) second a b old mid new h k =
+    let gone = passed old.state next.command next.answer in
+    let same : a ++ b ≡ gone ++ (h.1 ++ b) = ap (λ states. states ++ b) h.3 ∙ append_assoc gone h.1 b in
+    (h.0, h.1 ++ b, h.2, same, runs_more first second h.1 b h.0 mid new h.4 k)
+
 module _ {W S : Type 0} (w : Ghosts W) (s : store.Ghosts S) where
   -- no call of the store, whatever was written
   pub quiet : (was now : W) (here : S) → IsQuiet (work_of w s was now here here)
@@ -68,6 +84,30 @@ module _ {W S : Type 0} (w : Ghosts W) (s : store.Ghosts S) where
       stops = passes_none s here;
       onward = λ tail unread later end last k. k;
     };
+  }
+
+  -- no command
+  pub commands_none : (was now : W) (here : S) → RunsCommands (work_of w s was now here here)
+  commands_none was now here = record { commands = []; states = []; runs = (refl, refl); stops = passes_none s here }
+
+  -- one command
+  pub commands_one : (was now : W) (before after : S) (c : Command) (result : Option RunEnd) → CarriesOut (work_of w s was now before after) c result
+      → RunsCommands (work_of w s was now before after)
+  commands_one was now before after c result h = record {
+    commands = record { command = c; answer = h.answer } ∷ [];
+    states = passed (s.state before) c h.answer;
+    runs = (standing_of s after, [], h.answers, sym (append-nil (passed (s.state before) c h.answer)), (refl, refl));
+    stops = h.stops;
+  }
+
+  -- the commands of two parts of a run
+  pub commands_more : (was between now : W) (before middle after : S) → RunsCommands (work_of w s was between before middle)
+      → RunsCommands (work_of w s between now middle after) → RunsCommands (work_of w s was now before after)
+  commands_more was between now before middle after a b = record {
+    commands = a.commands ++ b.commands;
+    states = a.states ++ b.states;
+    runs = runs_more a.commands b.commands a.states b.states (standing_of s before) (standing_of s middle) (standing_of s after) a.runs b.runs;
+    stops = passes_more s before middle after a.states b.states a.stops b.stops;
   }
 
   module _ (was between now : W) (before middle after : S) where

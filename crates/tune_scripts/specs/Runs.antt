@@ -3,6 +3,7 @@ use Rattle.std.specs.Prelude.{◌≡◌, ℕ, List, Option, Some, IfSome, ⊤}
 use Rattle.std.specs.Io.KnownBytes.{Appends}
 use Rattle.std.specs.declared.io.Write.{Ghosts}
 use Rattle.tune_store.specs.State.{State, Standing}
+use Rattle.tune_store.specs.Runs.{Answered, RunsPassing}
 use Rattle.tune_store.specs.Stores.{StorePasses, standing_of}
 use Rattle.tune_store.specs.declared.tune_store.TuneStore as store
 use Rattle.tune_scripts.specs.declared.runs.RunEnd.{RunEnd}
@@ -54,6 +55,15 @@ pub record RunsScript (lines : ℕ) (input : List ℕ) (left : Option (List ℕ)
   pub stops : work.Stops states
   pub script : Script lines work.before input out states end work.after unread
 
--- the same of a reader that tells its bytes, by what is left of them before and after the run
+-- Whatever the reader tells, the store carried out commands one after another, and stops leave of
+-- it what the states allow that it passed.
+pub record RunsCommands (work : Work) : Type 0 where
+  pub commands : List Answered
+  pub states : List State
+  pub runs : RunsPassing work.before commands states work.after
+  pub stops : work.Stops states
+
+-- what a run comes to, where the reader tells its bytes, by what is left of them before and after
+-- the run
 abbrev pub TellsScript : ℕ → Option (List ℕ) → Option (List ℕ) → Work → RunEnd → Type 0
 TellsScript lines old new work end = IfSome old (λ input. RunsScript lines input new work end)

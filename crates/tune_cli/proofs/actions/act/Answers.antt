@@ -24,7 +24,7 @@ returns g c =
     let archive = c.run-end.new.store in
     let P : State → Type 0 = λ start.
     TellsScript most_lines input left (record (work_in_memory was now archive) { before = open_at start }) end in
-    let output = forgets_stops most_lines input left _ end (c.run-end.ensures tt) in
+    let output = forgets_stops most_lines input left _ end (c.run-end.ensures.script tt) in
     acts_list c.args.action.now input left was now c.status.result record {
       end = end;
       state = archive;

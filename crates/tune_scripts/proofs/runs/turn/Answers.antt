@@ -5,7 +5,7 @@ use Rattle.tune_scripts.specs.declared.script_lines.ScriptLine.TheVariants.{Blan
 use Rattle.tune_scripts.specs.Limits.{longest_line}
 use Rattle.tune_scripts.specs.ScriptLines.{meaning_of}
 use Rattle.tune_scripts.proofs.TurnLemmas.{appends_none, from_fault, from_end, from_long, from_line, from_book, turn_blank, turn_bad, turn_answered}
-use Rattle.tune_scripts.proofs.RunLemmas.{quiet}
+use Rattle.tune_scripts.proofs.RunLemmas.{quiet, commands_none, commands_one}
 use Rattle.tune_scripts.proofs.runs.turn.Goals as goal
 
 pub returns-in-Fault-clause-turns : goal.returns-in-Fault-clause-turns
@@ -60,3 +60,22 @@ returns-in-Book-clause-turns g c = λ honest.
     let asks = ap (λ t. meaning_of (words_of t)) (sym c.without_return-line.ensures) ∙ sym c.in-Book.ensures in
     from_line _ _ _ _ c.with_book.result line c.in-Line.fed (Book c.in-Book.book_use c.in-Book.len) c.in-Line.ensures.1 short asks
     (λ input rest r e. from_book c.in-Book.book_use c.in-Book.len rest input _ _ _ c.with_book.result (c.with_book.ensures.turns honest) e r)
+
+pub returns-in-Fault-clause-commands : goal.returns-in-Fault-clause-commands
+returns-in-Fault-clause-commands g c = λ honest. commands_none g.W.Write g.S.TuneStore c.args.writer.now c.args.writer.now c.args.store.now
+
+pub returns-in-End-clause-commands : goal.returns-in-End-clause-commands
+returns-in-End-clause-commands g c = λ honest. commands_none g.W.Write g.S.TuneStore c.args.writer.now c.args.writer.now c.args.store.now
+
+pub returns-in-Long-clause-commands : goal.returns-in-Long-clause-commands
+returns-in-Long-clause-commands g c = λ honest. commands_none g.W.Write g.S.TuneStore c.args.writer.now c.bad_line.new.writer c.args.store.now
+
+pub returns-in-Blank-clause-commands : goal.returns-in-Blank-clause-commands
+returns-in-Blank-clause-commands g c = λ honest. commands_none g.W.Write g.S.TuneStore c.args.writer.now c.args.writer.now c.args.store.now
+
+pub returns-in-Bad-clause-commands : goal.returns-in-Bad-clause-commands
+returns-in-Bad-clause-commands g c = λ honest. commands_none g.W.Write g.S.TuneStore c.args.writer.now c.bad_line-in-Bad.new.writer c.args.store.now
+
+pub returns-in-Whole-clause-commands : goal.returns-in-Whole-clause-commands
+returns-in-Whole-clause-commands g c = λ honest.
+    commands_one g.W.Write g.S.TuneStore _ _ _ _ c.in-Whole.command c.carry_out.result (c.carry_out.ensures.carries honest)

@@ -2,7 +2,7 @@ use Rattle.std.proofs.Common.{◌<◌, ◌≤◌, arith}
 use Rattle.std.proofs.lemmas.Bool.{leb-true}
 use Rattle.abc_fields.specs.Limits.{longest_book}
 use Rattle.tune_scripts.proofs.TurnLemmas.{appends_none, book_fault, book_cut, book_over, book_no_room, book_whole}
-use Rattle.tune_scripts.proofs.RunLemmas.{quiet}
+use Rattle.tune_scripts.proofs.RunLemmas.{quiet, commands_none, commands_one}
 use Rattle.tune_scripts.proofs.runs.with_book.Goals as goal
 
 pub returns-in-Fault-clause-turns : goal.returns-in-Fault-clause-turns
@@ -35,3 +35,19 @@ returns-in-Whole-clause-turns g c = λ honest.
     let fits : c.args.len ≤ longest_book = omega (arith, leb-true c.args.len longest_book read.0) in
     let carried = rw c.command.ensures at (c.carry_out.ensures.carries honest) in
     book_whole c.args.book_use c.args.len _ _ _ c.carry_out.result c.in-Whole.book read.1 fits read.2 carried
+
+pub returns-in-Fault-clause-commands : goal.returns-in-Fault-clause-commands
+returns-in-Fault-clause-commands g c = λ honest. commands_none g.W.Write g.S.TuneStore c.args.writer.now c.args.writer.now c.args.store.now
+
+pub returns-in-Cut-clause-commands : goal.returns-in-Cut-clause-commands
+returns-in-Cut-clause-commands g c = λ honest. commands_none g.W.Write g.S.TuneStore c.args.writer.now c.bad_line.new.writer c.args.store.now
+
+pub returns-in-Dropped-clause-commands : goal.returns-in-Dropped-clause-commands
+returns-in-Dropped-clause-commands g c = λ honest. commands_none g.W.Write g.S.TuneStore c.args.writer.now c.refuse.new.writer c.args.store.now
+
+pub returns-in-Dropped-2-clause-commands : goal.returns-in-Dropped-2-clause-commands
+returns-in-Dropped-2-clause-commands g c = λ honest. commands_none g.W.Write g.S.TuneStore c.args.writer.now c.refuse-in-Dropped-2.new.writer c.args.store.now
+
+pub returns-in-Whole-clause-commands : goal.returns-in-Whole-clause-commands
+returns-in-Whole-clause-commands g c = λ honest.
+    commands_one g.W.Write g.S.TuneStore _ _ _ _ _ c.carry_out.result (c.carry_out.ensures.carries honest)
