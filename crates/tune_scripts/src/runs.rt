@@ -45,8 +45,8 @@ pub const MOST_LINES: u32 = 1_000_000;
 ///
 /// The clauses speak of a store whose device has answered as a device does.
 ///
-/// - `commands`, of every reader and at every end: the store carried out commands one after another,
-///   and stops leave of it what the states allow that these pass.
+/// - `commands`, of every reader and at every end: the store carried out commands one after
+///   another, and stops leave of it what the states allow that these pass.
 /// - `left`, of every reader, where the store was open: a stop at any moment since the run began
 ///   leaves the state before it, or one that a command of it went on to.
 /// - `script`, of a reader that tells its bytes (standard input tells none), at every end: after a
