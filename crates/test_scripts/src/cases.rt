@@ -23,7 +23,7 @@ impl<'a> Case<'a> {
 
 /// What a run came to.
 #[derive(Drop)]
-pub(crate) enum Found {
+pub(crate) enum CameTo {
     AsWritten,
     /// It ends in this way, and not as written.
     Ends(RunEnd),
@@ -36,7 +36,7 @@ pub(crate) fn run_case<R: Files + AllocGlobal, S: TuneStore>(
     rt: &R,
     case: &Case,
     store: &mut S,
-) -> io::Result<Found> {
+) -> io::Result<CameTo> {
     let name = case.name;
     let script = fs::read(rt, format!(in rt.alloc(); "{name}.script")?)?;
     let wanted = fs::read(rt, format!(in rt.alloc(); "{name}.replies")?)?;
@@ -45,11 +45,11 @@ pub(crate) fn run_case<R: Files + AllocGlobal, S: TuneStore>(
     let end = run(rt.alloc(), &mut reader, &mut written, store);
     let end_name = format!(in rt.alloc(); "{end:?}")?;
     if end_name.as_str() != case.end {
-        return Ok(Found::Ends(end));
+        return Ok(CameTo::Ends(end));
     }
     match first_difference(written.as_slice(), wanted.as_slice()) {
-        None => Ok(Found::AsWritten),
-        Some(offset) => Ok(Found::Differs(offset)),
+        None => Ok(CameTo::AsWritten),
+        Some(offset) => Ok(CameTo::Differs(offset)),
     }
 }
 

@@ -8,7 +8,7 @@
 
 mod cases;
 
-use cases::{Case, Found, run_case};
+use cases::{CameTo, Case, run_case};
 use std::alloc::Global;
 use std::fs::Files;
 use std::process::ExitCode;
@@ -55,12 +55,12 @@ fn all_as_written<R: Files + Print + AllocGlobal, S: TuneStore + Drop, M: EmptyS
         let name = case.name;
         all = all.saturating_add(1);
         match run_case(rt, &case, &mut store)? {
-            Found::AsWritten => {
+            CameTo::AsWritten => {
                 as_written = as_written.saturating_add(1);
                 println!(rt; "{name}: as written")?;
             }
-            Found::Ends(end) => println!(rt; "{name}: the run ends by {end:?}")?,
-            Found::Differs(offset) => println!(rt; "{name}: another reply from byte {offset} on")?,
+            CameTo::Ends(end) => println!(rt; "{name}: the run ends by {end:?}")?,
+            CameTo::Differs(offset) => println!(rt; "{name}: another reply from byte {offset} on")?,
         }
     }
     println!(rt; "{as_written} of {all} scripts as written")?;

@@ -5,7 +5,7 @@ use Rattle.std.proofs.lemmas.List.{get_or_append_left, get_or_push}
 use Rattle.tune_store.specs.State.{State, IsState}
 use Rattle.tune_store.specs.Stops.{Among, StandsForOne}
 use Rattle.tune_store.proofs.StopLemmas.{stands_among}
-use Rattle.test_stores.specs.Record.{LeftSince, IsOfCount, EndsAt, IsKept, last_place}
+use Rattle.test_stores.specs.Record.{LeftSince, IsOfCount, EndsAt, IsRecorded, last_place}
 
 -- RECORDS
 -- a record ends at a state after an entry of how many tunes it has
@@ -39,7 +39,7 @@ left_before_push entries more since file left =
 -- what a record owes where its store goes from a state to another by these
 pub record Goes (entries later : List ℕ) (old new : State) (states : List State) : Type 0 where
   pub reaches : Among new (old ∷ states)
-  pub stays_sound : IsKept entries old → IsKept later new
+  pub stays_sound : IsRecorded entries old → IsRecorded later new
   pub keeps : (since : ℕ) (file : List ℕ) → LeftSince entries since file → LeftSince later since file
   pub is_later : last_place entries ≤ last_place later
   pub leaves : (since : ℕ) (file : List ℕ) → LeftSince later since file → LeftSince entries since file ⊎ StandsForOne IsOfCount (old ∷ states) file

@@ -22,6 +22,6 @@ abbrev pub EndsAt : List ℕ → State → Type 0
 EndsAt entries state = slice_index entries (last_place entries) ≡ length state.tunes
 
 -- a record that ends at a state within the limits
-pub record IsKept (entries : List ℕ) (state : State) : Type 0 where
+pub record IsRecorded (entries : List ℕ) (state : State) : Type 0 where
   pub ends : EndsAt entries state
   pub within : IsState state

@@ -1,7 +1,7 @@
 // A store whose stops leave something.
 ghost use Rattle.std.specs.Prelude.{◌≡◌, ◌+◌, ◌<◌, ◌≤◌, [], ◌∷◌, ◌++◌, false, IfOk, vec_len};
 ghost use Rattle.std.specs.Vec.{vec_capacity};
-ghost use Rattle.test_stores.specs.Record.{LeftSince, IsOfCount, IsKept, last_place};
+ghost use Rattle.test_stores.specs.Record.{LeftSince, IsOfCount, IsRecorded, last_place};
 ghost use Rattle.test_stores.specs.Inside.Settling.{settles, left_earlier};
 
 use std::alloc::{AllocError, Global};
@@ -43,7 +43,7 @@ impl RecordedStore {
 impl TuneStore for RecordedStore {
     ghost state = { λ store. store.archive };
 
-    ghost sound = { λ store. IsKept store.entries.items store.archive };
+    ghost sound = { λ store. IsRecorded store.entries.items store.archive };
 
     ghost moment = { λ store. last_place store.entries.items };
 

@@ -3,7 +3,7 @@ use Rattle.std.specs.Prelude.{◌≡◌, ℕ, List, [], Option, ⊤}
 use Rattle.tune_store.specs.State.{State}
 use Rattle.tune_store.specs.Answers.{open_at}
 use Rattle.tune_scripts.specs.Limits.{most_lines}
-use Rattle.tune_scripts.specs.Runs.{Work, TellsScript}
+use Rattle.tune_scripts.specs.ScriptRuns.{Work, TellsScript}
 use Rattle.tune_scripts.specs.declared.runs.RunEnd.{RunEnd}
 use Rattle.tune_scripts.specs.declared.runs.RunEnd.TheVariants.{Ended}
 use Rattle.tune_cli.specs.declared.command_line.Action.{Action}

@@ -37,6 +37,6 @@ changed_same xs ys (e ∷ log) size same = changed_same (set xs e.0 e.1) (set ys
           ∙ sym (get_or-set_other ys e.0 p e.1 d other)
     ]
 
--- A log that stands in place already changes nothing.
+-- A log whose images stand in their pages already changes nothing.
 pub changed-changed : (xs : List (List ℕ)) (log : List (ℕ × List ℕ)) → changed (changed xs log) log ≡ changed xs log
 changed-changed xs log = changed_same (changed xs log) xs log (length-changed xs log) (λ p d lt un. changed_unnamed xs log p d un)

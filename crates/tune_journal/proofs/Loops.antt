@@ -35,7 +35,7 @@ entries_more base i log bytes old new held size is w k lt = elim (cases_eq k i) 
       )
 ]
 
--- One write of an image into its place changes that page alone.
+-- One write of an image to the offset of its page changes that page alone.
 pub image_more : (n page : ℕ) (image old new : List ℕ) → length image ≡ block_bytes → page < n → page_offset n ≤ length old
     → Written (page_offset page) image old new → pages_of n new ≡ set (pages_of n old) page image
 unfolding pages_of
@@ -103,7 +103,7 @@ pub off_descriptor : (m n i : ℕ) → n ≡ 8 → IsNoLog m i → IsOutside des
 off_descriptor m n i is (inl lt) = inl lt
 off_descriptor m n i is (inr out) = inr (omega (arith, out.0))
 
--- nor is such a place in the image that is written for one of the entries
+-- nor is such an offset in the image that is written for one of the entries
 pub outside_image : (log : List (ℕ × List ℕ)) (k page i : ℕ) (image : List ℕ) → k < length log → page ≡ (change_at log k).0 → length image ≡ block_bytes
     → IsInNoPage log i → (i < page_offset page) ⊎ (page_offset page + length image ≤ i)
 outside_image log k page i image lt is size out = by_cases (outside_page log k i lt out)

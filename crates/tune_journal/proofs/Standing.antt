@@ -90,7 +90,7 @@ in_no_page m i (e ∷ log) below out = (apart out, in_no_page m i log (All-tail 
     apart (inl lt) = inl (omega arith)
     apart (inr le) = inr (omega (arith, first))
 
--- nor is the place of a page that it does not name
+-- nor are the offsets of a page that it does not name
 unnamed_outside : (p i : ℕ) (log : List (ℕ × List ℕ)) → Unnamed log p → page_offset p ≤ i → i < page_offset p + block_bytes → IsInNoPage log i
 unnamed_outside p i [] un le lt = tt
 unnamed_outside p i (e ∷ log) un le lt = (apart (cases_lt e.0 p), unnamed_outside p i log (λ k k_lt. un (suc k) (omega arith)) le lt)

@@ -15,7 +15,7 @@ use Rattle.tune_scripts.specs.declared.runs.RunEnd.{RunEnd}
 use Rattle.tune_scripts.specs.declared.runs.RunEnd.TheVariants.{Ended, LineBound, LongLine, ReaderFault, WriterFault, DeviceFault}
 use Rattle.tune_scripts.specs.declared.runs.RunEnd.TheVariants as run
 use Rattle.tune_scripts.specs.Scripts.{Script, line_bound}
-use Rattle.tune_scripts.specs.Runs.{Work, work_of, UnlessWriterFails, RunsScript, RunsCommands, LeftByRun, TellsScript}
+use Rattle.tune_scripts.specs.ScriptRuns.{Work, work_of, UnlessWriterFails, RunsScript, RunsCommands, LeftByRun, TellsScript}
 use Rattle.tune_scripts.specs.Inside.Turns.{GoesOn, Turns, CarriesOut}
 use Rattle.tune_scripts.proofs.TurnLemmas.{IsQuiet, appends_none}
 use Rattle.tune_store.proofs.StopLemmas.{passes_none, passes_more}

@@ -21,7 +21,7 @@ use Rattle.tune_scripts.specs.Replies.{answer_bytes, refusal_bytes, bad_line_byt
 use Rattle.tune_scripts.specs.Scripts.{reading_of, reading_of_book, reading_of_meaning, reading_of_line, line_text, long_line, blank_line, bad_line, cut_book}
 use Rattle.tune_scripts.specs.Scripts.{long_book, whole_command, Script, ended, device_fault, at_long_line, at_cut_book, after_blank_line, after_bad_line}
 use Rattle.tune_scripts.specs.Scripts.{after_long_book, after_no_room, after_answer, reader_fault, writer_fault, writer_fault_after}
-use Rattle.tune_scripts.specs.Runs.{Work}
+use Rattle.tune_scripts.specs.ScriptRuns.{Work}
 use Rattle.tune_scripts.specs.Inside.Reads.{IsLineRead, TakesLine, LosesLongLine, IsCut}
 use Rattle.tune_scripts.specs.Inside.Turns.{GoesOn, TurnOf, Turns, TurnsBook, WritesOut, CarriesOut}
 

@@ -3,5 +3,5 @@ pub mod ScriptLines
 pub mod InputLines
 pub mod Replies
 pub mod Scripts
-pub mod Runs
+pub mod ScriptRuns
 pub mod Inside

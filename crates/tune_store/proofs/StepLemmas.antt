@@ -11,7 +11,7 @@ use Rattle.tune_store.specs.Step.{Outcome, refusal_of, step, import_book, replac
 use Rattle.tune_store.specs.Answers.{Answers, open_at, stepped, no_memory, failed_before, failed_after, is_closed, passed}
 use Rattle.tune_store.specs.Answers.{stays_open, IsRefusalOf, IsRefusalOfAny, IsRefusalOfOwn}
 use Rattle.tune_store.specs.Stops.{Among, Passes}
-use Rattle.tune_store.specs.Inside.Lists.{state_of, StaysOrGives}
+use Rattle.tune_store.specs.Inside.Lists.{state_with, StaysOrGives}
 use Rattle.tune_store.specs.declared.tune.Tune.{Tune}
 use Rattle.tune_store.specs.Limits.{longest_text, most_tunes, greatest_number, greatest_revision}
 use Rattle.tune_store.specs.declared.command.Command.{Command}
@@ -271,9 +271,9 @@ answers_reach _ _ _ _ (is_closed old command) = inl refl
 -- A STORE IN MEMORY
 -- it is out of memory and stays, or its answer is that of the plain list
 pub in_memory : (old new : List Tune) (command : Command) (answer : Result Reply Refusal)
-    → StaysOrGives old new answer (step (state_of old) command) → Answers (open_at (state_of old)) command answer (open_at (state_of new))
-in_memory old new command answer (inl h) = rw (h.0, h.1) (no_memory (state_of old) command)
-in_memory old new command answer (inr h) = stepped (state_of old) (state_of new) command answer h
+    → StaysOrGives old new answer (step (state_with old) command) → Answers (open_at (state_with old)) command answer (open_at (state_with new))
+in_memory old new command answer (inl h) = rw (h.0, h.1) (no_memory (state_with old) command)
+in_memory old new command answer (inr h) = stepped (state_with old) (state_with new) command answer h
 
 -- it has no device that fails
 pub never_fails : (old new : State) (command : Command) (answer : Result Reply Refusal)

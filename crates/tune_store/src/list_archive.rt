@@ -10,7 +10,7 @@ ghost use Rattle.tune_store.specs.Limits.{longest_text};
 ghost use Rattle.tune_store.specs.State.{State, IsState, IsTune, RisesFrom, greatest};
 ghost use Rattle.tune_store.specs.Step.{step, numbered, tune_at, import_book, replace_book};
 ghost use Rattle.tune_store.specs.Step.{replace_tune, delete_tune, show_tune, exported};
-ghost use Rattle.tune_store.specs.Inside.Lists.{state_of, StaysOrGives};
+ghost use Rattle.tune_store.specs.Inside.Lists.{state_with, StaysOrGives};
 
 use crate::command::{Command, Refusal, Reply};
 use crate::tune::{GREATEST_NUMBER, GREATEST_REVISION, LONGEST_TEXT, MOST_TUNES, Tune};
@@ -75,10 +75,10 @@ impl TuneStore for ListArchive {
 
 // One command over the tunes.
 fn answer(alloc: Global, tunes: &mut Vec<Tune>, command: &Command) -> Result<Reply, Refusal>
-    requires { IsState (state_of tunes.old.items) }
-    ensures state { IsState (state_of tunes.new.items) }
+    requires { IsState (state_with tunes.old.items) }
+    ensures state { IsState (state_with tunes.new.items) }
     ensures answer { StaysOrGives tunes.old.items tunes.new.items result
-        (step (state_of tunes.old.items) command.now) }
+        (step (state_with tunes.old.items) command.now) }
 {
     match command {
         Command::Import(book) => import(alloc, tunes, book.as_slice()),
@@ -95,10 +95,10 @@ fn answer(alloc: Global, tunes: &mut Vec<Tune>, command: &Command) -> Result<Rep
 
 // Adds the tunes of a book.
 fn import(alloc: Global, tunes: &mut Vec<Tune>, book: &[u8]) -> Result<Reply, Refusal>
-    requires { IsState (state_of tunes.old.items) }
-    ensures state { IsState (state_of tunes.new.items) }
+    requires { IsState (state_with tunes.old.items) }
+    ensures state { IsState (state_with tunes.new.items) }
     ensures answer { StaysOrGives tunes.old.items tunes.new.items result
-        (import_book (state_of tunes.old.items) (book_answer longest_text book.now)) }
+        (import_book (state_with tunes.old.items) (book_answer longest_text book.now)) }
 {
     let texts = split_book(alloc, book, LONGEST_TEXT)?;
     let count = texts.len();
@@ -153,10 +153,10 @@ fn replace(
     revision: u32,
     book: &[u8],
 ) -> Result<Reply, Refusal>
-    requires { IsState (state_of tunes.old.items) }
-    ensures state { IsState (state_of tunes.new.items) }
+    requires { IsState (state_with tunes.old.items) }
+    ensures state { IsState (state_with tunes.new.items) }
     ensures answer { StaysOrGives tunes.old.items tunes.new.items result
-        (replace_book (state_of tunes.old.items) number revision
+        (replace_book (state_with tunes.old.items) number revision
         (book_answer longest_text book.now)) }
 {
     let texts = split_book(alloc, book, LONGEST_TEXT)?;
@@ -186,8 +186,8 @@ fn replace_text(
 ) -> Result<Reply, Refusal>
     requires rises { RisesFrom 0 tunes.old.items }
     requires each { AllByRecursion IsTune tunes.old.items }
-    ensures { replace_tune (state_of tunes.old.items) number revision text
-        (tune_at number tunes.old.items) ≡ (state_of tunes.new.items, result) }
+    ensures { replace_tune (state_with tunes.old.items) number revision text
+        (tune_at number tunes.old.items) ≡ (state_with tunes.new.items, result) }
 {
     let Some(place) = place_of(tunes, number) else {
         return Err(Refusal::Unknown { number });
@@ -210,10 +210,10 @@ fn replace_text(
 
 // Takes out a tune.
 fn delete(tunes: &mut Vec<Tune>, number: u32) -> Result<Reply, Refusal>
-    requires { IsState (state_of tunes.old.items) }
-    ensures state { IsState (state_of tunes.new.items) }
-    ensures answer { delete_tune (state_of tunes.old.items) number
-        (tune_at number tunes.old.items) ≡ (state_of tunes.new.items, result) }
+    requires { IsState (state_with tunes.old.items) }
+    ensures state { IsState (state_with tunes.new.items) }
+    ensures answer { delete_tune (state_with tunes.old.items) number
+        (tune_at number tunes.old.items) ≡ (state_with tunes.new.items, result) }
 {
     let Some(place) = place_of(tunes, number) else {
         return Err(Refusal::Unknown { number });
@@ -226,8 +226,8 @@ fn delete(tunes: &mut Vec<Tune>, number: u32) -> Result<Reply, Refusal>
 fn show(alloc: Global, tunes: &[Tune], number: u32) -> Result<Reply, Refusal>
     requires { RisesFrom 0 tunes.now }
     ensures { (result ≡ Err Refusal.OutOfMemory)
-        ⊎ (show_tune (state_of tunes.now) number (tune_at number tunes.now)
-        ≡ (state_of tunes.now, result)) }
+        ⊎ (show_tune (state_with tunes.now) number (tune_at number tunes.now)
+        ≡ (state_with tunes.now, result)) }
 {
     let Some(place) = place_of(tunes, number) else {
         return Err(Refusal::Unknown { number });

@@ -12,7 +12,7 @@ use Rattle.tune_scripts.specs.declared.runs.RunEnd.{RunEnd}
 use Rattle.tune_scripts.specs.declared.runs.RunEnd.TheVariants.{WriterFault, DeviceFault}
 use Rattle.tune_scripts.specs.Replies.{answer_bytes}
 use Rattle.tune_scripts.specs.Scripts.{reading_of, reading_of_book, Script}
-use Rattle.tune_scripts.specs.Runs.{Work, RunsScript}
+use Rattle.tune_scripts.specs.ScriptRuns.{Work, RunsScript}
 
 -- A part of a run, with at most so many lines at its beginning and so many at its end: whatever the
 -- rest of the input comes to, the whole comes to this part and then that.

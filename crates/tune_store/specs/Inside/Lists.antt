@@ -8,10 +8,10 @@ use Rattle.tune_store.specs.declared.command.Refusal.{Refusal}
 use Rattle.tune_store.specs.declared.command.Refusal.TheVariants.{OutOfMemory}
 
 -- the state of a list of tunes
-abbrev pub state_of : List Tune → State
-state_of tunes = record { tunes = tunes }
+abbrev pub state_with : List Tune → State
+state_with tunes = record { tunes = tunes }
 
 -- out of memory, and the tunes stay; or the new tunes and the answer are those of an outcome
 abbrev pub StaysOrGives : List Tune → List Tune → Result Reply Refusal → Outcome → Type 0
 StaysOrGives old new answer outcome =
-    ((answer ≡ Err OutOfMemory) × (new ≡ old)) ⊎ (outcome ≡ (state_of new, answer))
+    ((answer ≡ Err OutOfMemory) × (new ≡ old)) ⊎ (outcome ≡ (state_with new, answer))

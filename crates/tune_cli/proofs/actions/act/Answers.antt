@@ -2,7 +2,7 @@ use Rattle.std.proofs.Common.{List, Option, ℕ, subst}
 use Rattle.tune_store.specs.State.{State}
 use Rattle.tune_store.specs.Answers.{open_at}
 use Rattle.tune_scripts.specs.Limits.{most_lines}
-use Rattle.tune_scripts.specs.Runs.{TellsScript}
+use Rattle.tune_scripts.specs.ScriptRuns.{TellsScript}
 use Rattle.tune_scripts.proofs.RunLemmas.{forgets_stops}
 use Rattle.tune_cli.specs.declared.command_line.Action.{Action}
 use Rattle.tune_cli.specs.declared.command_line.Action.TheVariants as action

@@ -34,7 +34,7 @@ returns-clause-copies g c = λ h has.
     subst (λ (a : ℕ). Shows old.seen a c.read.new.into) c.entry_offset.ensures (c.in_ok-read.ensures.read before) in
     let page : c.read_u32-page.result ≡ number (entry_offset c.args.count c.args.entry) old.seen =
     number_of_entry (entry_offset c.args.count c.args.entry) _ c.read.new.into _ size shows (omega (arith, has.long)) c.read_u32-page.ensures in
-    let place : c.page_offset.result ≡ page_offset (number (entry_offset c.args.count c.args.entry) old.seen) =
+    let offset : c.page_offset.result ≡ page_offset (number (entry_offset c.args.count c.args.entry) old.seen) =
     c.page_offset.ensures ∙ ap (λ (p : ℕ). page_offset p) page in
     let part : drop 4 c.read.new.into ≡ window (entry_offset c.args.count c.args.entry + 4) block_bytes old.seen =
     image_of_entry (entry_offset c.args.count c.args.entry) c.read.new.into old.seen size shows (omega (arith, has.long)) in
@@ -46,7 +46,7 @@ returns-clause-copies g c = λ h has.
     (subst (λ (b : List ℕ). Writes (page_offset (number (entry_offset c.args.count c.args.entry) old.seen)) b c.write_at.result (g.D.Disk.state c.read.new.self)
     (g.D.Disk.state c.write_at.new.self)) image
     (subst (λ (p : ℕ). Writes p (take block_bytes (drop 4 c.read.new.into)) c.write_at.result (g.D.Disk.state c.read.new.self)
-    (g.D.Disk.state c.write_at.new.self)) place (c.write_at.ensures.write h)))))
+    (g.D.Disk.state c.write_at.new.self)) offset (c.write_at.ensures.write h)))))
 
 pub returns-clause-least : goal.returns-clause-least
 returns-clause-least g c = on_ok_from c.write_at.result _ (λ h has.

@@ -1,6 +1,6 @@
 use Rattle.std.proofs.Common.{◌-◌}
 use Rattle.tune_scripts.specs.Limits.{most_lines}
-use Rattle.tune_scripts.specs.Runs.{RunsCommands, work_of}
+use Rattle.tune_scripts.specs.ScriptRuns.{RunsCommands, work_of}
 use Rattle.tune_scripts.proofs.RunLemmas.{IsSoFar}
 use Rattle.tune_scripts.proofs.runs.run.Given as goal
 
