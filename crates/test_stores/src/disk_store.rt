@@ -1,6 +1,6 @@
 // A store over any disk.
-ghost use Rattle.std.specs.Prelude.{◌≡◌, ◌≤◌, [], false, OnErr};
-ghost use Rattle.tune_store.specs.State.{State};
+ghost use Rattle.std.specs.Prelude.{◌≡◌, ◌≤◌, false, OnErr};
+ghost use Rattle.tune_store.specs.State.{State, empty_state};
 ghost use Rattle.tune_store.specs.Stops.{HasFailed};
 ghost use Rattle.test_stores.specs.Media.{moment_of, LeftFrom, IsMark, IsMarked};
 ghost use Rattle.test_stores.specs.Inside.Media.{is_mark, left_before, Grows};
@@ -23,7 +23,7 @@ impl<D: Disk> DiskStore<D> {
     /// A store without a tune over a disk, of which a stop leaves at most one byte.
     pub fn new(alloc: Global, disk: D) -> DiskStore<D>
         requires { D.honest disk → (D.state disk).now.reach ≤ 1 }
-        ensures state { ⟦<DiskStore<D> as TuneStore>⟧.state result ≡ record { tunes = [] } }
+        ensures state { ⟦<DiskStore<D> as TuneStore>⟧.state result ≡ empty_state }
         ensures is_open { ⟦<DiskStore<D> as TuneStore>⟧.closed result ≡ false }
         ensures sound { ⟦<DiskStore<D> as TuneStore>⟧.sound result }
     {

@@ -1,6 +1,7 @@
 // A store whose stops leave something.
 ghost use Rattle.std.specs.Prelude.{◌≡◌, ◌+◌, ◌<◌, ◌≤◌, [], ◌∷◌, ◌++◌, false, IfOk, vec_len};
 ghost use Rattle.std.specs.Vec.{vec_capacity};
+ghost use Rattle.tune_store.specs.State.{empty_state};
 ghost use Rattle.test_stores.specs.Record.{LeftSince, IsOfCount, IsRecorded, last_place};
 ghost use Rattle.test_stores.specs.Inside.Settling.{settles, left_earlier};
 
@@ -20,7 +21,7 @@ impl RecordedStore {
     /// A store without a tune, whose record begins with that. The error is out of memory.
     pub fn new(alloc: Global) -> Result<RecordedStore, AllocError>
         ensures state { IfOk result (λ store. ⟦<RecordedStore as TuneStore>⟧.state store
-            ≡ record { tunes = [] }) }
+            ≡ empty_state) }
         ensures entries { IfOk result (λ store. store.entries.items ≡ 0 ∷ []) }
         ensures sound { IfOk result (λ store. ⟦<RecordedStore as TuneStore>⟧.sound store) }
     {

@@ -1,6 +1,6 @@
 -- What the program does for an action, and its status.
 use Rattle.std.specs.Prelude.{◌≡◌, ℕ, List, [], Option, ⊤}
-use Rattle.tune_store.specs.State.{State}
+use Rattle.tune_store.specs.State.{State, empty_state}
 use Rattle.tune_store.specs.Answers.{open_at}
 use Rattle.tune_scripts.specs.Limits.{most_lines}
 use Rattle.tune_scripts.specs.ScriptRuns.{Work, TellsScript}
@@ -9,16 +9,12 @@ use Rattle.tune_scripts.specs.declared.runs.RunEnd.TheVariants.{Ended}
 use Rattle.tune_cli.specs.declared.command_line.Action.{Action}
 use Rattle.tune_cli.specs.declared.command_line.Action.TheVariants as action
 
--- an archive without a tune
-abbrev pub empty_archive : State
-empty_archive = record { tunes = [] }
-
 -- the work of a run from an empty archive in memory, of which a stop leaves nothing, to this one
 abbrev pub work_in_memory : Option (List ℕ) → Option (List ℕ) → State → Work
 work_in_memory was now state = record {
   was = was;
   now = now;
-  before = open_at empty_archive;
+  before = open_at empty_state;
   after = open_at state;
   Stops = λ _. ⊤;
 }

@@ -20,7 +20,7 @@ pub(crate) fn write_answer<W: Write>(
 {
     match answer {
         Ok(reply) => write_reply(writer, reply)?,
-        Err(refusal) => write_refusal(writer, *refusal)?,
+        Err(refusal) => write_refusal(writer, refusal)?,
     }
     writer.flush()
 }
@@ -83,13 +83,13 @@ fn digits_of(number: u32) -> u64
     digits
 }
 
-fn write_refusal<W: Write>(writer: &mut W, refusal: Refusal) -> io::Result<()>
-    ensures { let bytes = refusal_bytes refusal in
+fn write_refusal<W: Write>(writer: &mut W, refusal: &Refusal) -> io::Result<()>
+    ensures { let bytes = refusal_bytes refusal.now in
         OnOk result (Appends (W.contents writer.old) (W.contents writer.new) bytes) }
 {
     match refusal {
         Refusal::NoTune => writer.write_all(b"refused 1 NoTune\n"),
-        Refusal::BadTune { place, fault } => write_bad_tune(writer, place, fault),
+        Refusal::BadTune { place, fault } => write_bad_tune(writer, *place, *fault),
         Refusal::NotOne { count } => write!(writer, "refused 3 NotOne {count}\n"),
         Refusal::Unknown { number } => write!(writer, "refused 4 Unknown {number}\n"),
         Refusal::Stale { revision } => write!(writer, "refused 5 Stale {revision}\n"),

@@ -8,9 +8,8 @@ use Rattle.abc_fields.specs.Books.{Texts, runs_answer, book_of_runs, book_answer
 use Rattle.abc_fields.specs.Limits.{longest_book}
 use Rattle.abc_fields.specs.declared.book.BookFault.TheVariants as fault
 use Rattle.abc_fields.proofs.BookLemmas.{TextsWithin, texts_within}
-use Rattle.tune_store.specs.State.{State, IsState, greatest}
+use Rattle.tune_store.specs.State.{State, IsState, IsTunes, greatest}
 use Rattle.tune_store.specs.Step.{step, tune_at, with_texts, import_book, replace_book, delete_tune}
-use Rattle.tune_store.specs.Step.{show_tune}
 use Rattle.tune_store.specs.declared.tune.Tune.{Tune}
 use Rattle.tune_store.specs.Limits.{longest_text, most_tunes, greatest_number}
 use Rattle.tune_store.specs.declared.command.Command.{Command}
@@ -39,44 +38,39 @@ book_within longest book = book_texts longest (tune_runs (lines_of book)) (ltb l
 
 -- EACH COMMAND
 -- the two tests of an import let only texts through for which there is room
-import_tests : (state : State) (texts : List (List ℕ)) (reply : Reply) (full spent : Bool) → ltb most_tunes (length state.tunes + length texts) ≡ full
-    → ltb greatest_number (greatest state.tunes + length texts) ≡ spent
-    → IsState state → AllByRecursion (IsTextWithin longest_text) texts
-    → KeepsLimits (cond full (state, Err ArchiveFull) (cond spent (state, Err NumbersSpent) (with_texts state texts, Ok reply)))
-import_tests state texts reply true spent room numbers is within = is
-import_tests state texts reply false true room numbers is within = is
-import_tests state texts reply false false room numbers is within = state_after_import state.tunes texts is within (ltb-false _ _ room) (ltb-false _ _ numbers)
+import_tests : (tunes : List Tune) (texts : List (List ℕ)) (reply : Reply) (full spent : Bool) → ltb most_tunes (length tunes + length texts) ≡ full
+    → ltb greatest_number (greatest tunes + length texts) ≡ spent
+    → IsTunes tunes → AllByRecursion (IsTextWithin longest_text) texts
+    → KeepsLimits (cond full (tunes, Err ArchiveFull) (cond spent (tunes, Err NumbersSpent) (with_texts tunes texts, Ok reply)))
+import_tests tunes texts reply true spent room numbers is within = is
+import_tests tunes texts reply false true room numbers is within = is
+import_tests tunes texts reply false false room numbers is within = state_after_import tunes texts is within (ltb-false _ _ room) (ltb-false _ _ numbers)
 
 -- an import keeps the limits, where the texts of its book are within the length
-import_limits : (state : State) (texts : Texts) → IsState state → TextsWithin longest_text texts → KeepsLimits (import_book state texts)
-import_limits state (Err why) is within = is
-import_limits state (Ok texts) is within =
-    import_tests state texts _ (ltb most_tunes (length state.tunes + length texts))
-    (ltb greatest_number (greatest state.tunes + length texts)) refl refl is within
+import_limits : (tunes : List Tune) (texts : Texts) → IsTunes tunes → TextsWithin longest_text texts → KeepsLimits (import_book tunes texts)
+import_limits tunes (Err why) is within = is
+import_limits tunes (Ok texts) is within =
+    import_tests tunes texts _ (ltb most_tunes (length tunes + length texts)) (ltb greatest_number (greatest tunes + length texts)) refl refl is within
 
 -- so does a replacement
-replace_limits : (state : State) (number revision : ℕ) (texts : Texts) → IsState state → TextsWithin longest_text texts
-    → KeepsLimits (replace_book state number revision texts)
-replace_limits state number revision (Err why) is within = is
-replace_limits state number revision (Ok []) is within = is
-replace_limits state number revision (Ok (text ∷ [])) is within = state_after_text state.tunes number revision text (tune_at number state.tunes) is within.0
-replace_limits state number revision (Ok (text ∷ next ∷ texts)) is within = is
+replace_limits : (tunes : List Tune) (number revision : ℕ) (texts : Texts) → IsTunes tunes → TextsWithin longest_text texts
+    → KeepsLimits (replace_book tunes number revision texts)
+replace_limits tunes number revision (Err why) is within = is
+replace_limits tunes number revision (Ok []) is within = is
+replace_limits tunes number revision (Ok (text ∷ [])) is within = state_after_text tunes number revision text (tune_at number tunes) is within.0
+replace_limits tunes number revision (Ok (text ∷ next ∷ texts)) is within = is
 
 -- and a deletion
-delete_limits : (state : State) (number : ℕ) (found : Option Tune) → IsState state → KeepsLimits (delete_tune state number found)
-delete_limits state number None is = is
-delete_limits state number (Some tune) is = state_after_delete number state.tunes is
-
--- and a look at a tune
-show_limits : (state : State) (number : ℕ) (found : Option Tune) → IsState state → KeepsLimits (show_tune state number found)
-show_limits state number None is = is
-show_limits state number (Some tune) is = is
+delete_limits : (tunes : List Tune) (number : ℕ) (found : Option Tune) → IsTunes tunes → KeepsLimits (delete_tune tunes number found)
+delete_limits tunes number None is = is
+delete_limits tunes number (Some tune) is = state_after_delete number tunes is
 
 -- a state within the limits stays within them
 pub step_keeps_limits : (state : State) (command : Command) → IsState state → IsState (step state command).0
-step_keeps_limits state (Import book) is = import_limits state (book_answer longest_text book) is (book_within longest_text book)
+step_keeps_limits state (Import book) is =
+    record { tunes = import_limits state.tunes (book_answer longest_text book) is.tunes (book_within longest_text book) }
 step_keeps_limits state (Replace number revision book) is =
-    replace_limits state number revision (book_answer longest_text book) is (book_within longest_text book)
-step_keeps_limits state (Delete number) is = delete_limits state number (tune_at number state.tunes) is
-step_keeps_limits state (Show number) is = show_limits state number (tune_at number state.tunes) is
+    record { tunes = replace_limits state.tunes number revision (book_answer longest_text book) is.tunes (book_within longest_text book) }
+step_keeps_limits state (Delete number) is = record { tunes = delete_limits state.tunes number (tune_at number state.tunes) is.tunes }
+step_keeps_limits state (Show number) is = is
 step_keeps_limits state ExportAll is = is

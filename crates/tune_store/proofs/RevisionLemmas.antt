@@ -5,12 +5,12 @@ use Rattle.std.specs.Prelude.{IsSome, IsTrue, IsFalse, is_ok, is_some, IfOk, Res
 use Rattle.std.specs.Option.{option_map}
 use Rattle.std.proofs.lemmas.Bool.{eqb-true, eqb-false, cases_Bool, and_parts}
 use Rattle.abc_fields.specs.Books.{Texts, book_answer}
-use Rattle.tune_store.specs.State.{State, IsState, Standing, greatest}
-use Rattle.tune_store.specs.Step.{Outcome, step, tune_at, with_tune, without, revised, with_texts, import_book, replace_tune, replace_book, delete_tune}
-use Rattle.tune_store.specs.Step.{show_tune}
+use Rattle.tune_store.specs.State.{State, IsState, RisesFrom, Standing, greatest}
+use Rattle.tune_store.specs.Step.{Outcome, TunesOutcome, step, tune_at, with_tune, without, revised, with_texts, import_book, replace_tune, replace_book}
+use Rattle.tune_store.specs.Step.{delete_tune}
 use Rattle.tune_store.specs.Answers.{Answers, stepped, no_memory, failed_before, failed_after, is_closed}
 use Rattle.tune_store.specs.Runs.{Answered, Runs}
-use Rattle.tune_store.specs.Revisions.{revision_of, HasTune, accepts, replaces, is_replace_of, is_delete_of, times_replaced, RaisesRevision}
+use Rattle.tune_store.specs.Revisions.{revision_in, revision_of, HasTune, accepts, replaces, is_replace_of, is_delete_of, times_replaced, RaisesRevision}
 use Rattle.tune_store.specs.Revisions.{RaisesReplaced, AcceptedReplaceRaises}
 use Rattle.tune_store.specs.Revisions.{OthersKeepRevision, RevisionCounts, AcceptedReplaceIsCurrent}
 use Rattle.tune_store.specs.declared.tune.Tune.{Tune}
@@ -32,44 +32,50 @@ tune_at-with_tune : (number : ℕ) (new : Tune) (tunes : List Tune) → new.numb
 tune_at-with_tune number new tunes e =
     let P : ℕ → Type 0 = λ n. IsSome (tune_at n tunes) → tune_at n (with_tune new tunes) ≡ Some new in subst P e (tune_at-with_tune_same new tunes)
 
--- an outcome whose reply is no refusal raises the revision
-abbrev RaisesOnOk : ℕ → ℕ → State → Outcome → Type 0
-RaisesOnOk number revision old outcome = IsTrue (is_ok outcome.1) → RaisesRevision number revision old outcome.0
+-- an outcome whose reply is no refusal raises the revision of a tune
+record Raises (number revision : ℕ) (old new : List Tune) : Type 0 where
+  named : revision_in number old ≡ Some revision
+  raised : revision_in number new ≡ Some (revision + 1)
+
+abbrev RaisesOnOk : ℕ → ℕ → List Tune → TunesOutcome → Type 0
+RaisesOnOk number revision old outcome = IsTrue (is_ok outcome.1) → Raises number revision old outcome.0
 
 -- the revision of a tune, where there is one
 abbrev revision : Option Tune → Option ℕ
 revision found = option_map (λ tune. tune.revision) found
 
 -- of a replacement's two tests the first lets only the current revision through
-replace_tests : (state : State) (number named : ℕ) (text : List ℕ) (tune : Tune) (current young : Bool) → tune_at number state.tunes ≡ Some tune
+replace_tests : (tunes : List Tune) (number named : ℕ) (text : List ℕ) (tune : Tune) (current young : Bool) → tune_at number tunes ≡ Some tune
     → eqb tune.revision named ≡ current
-    → RaisesOnOk number named state
-    (cond (not current) (state, Err (Stale tune.revision))
-    (cond (not young) (state, Err Worn) (record { tunes = with_tune (revised tune text) state.tunes }, Ok (Replaced number (tune.revision + 1)))))
-replace_tests state number named text tune false young found test accepted = cc
-replace_tests state number named text tune true false found test accepted = cc
-replace_tests state number named text tune true true found test accepted =
+    → RaisesOnOk number named tunes
+    (cond (not current) (tunes, Err (Stale tune.revision))
+    (cond (not young) (tunes, Err Worn) (with_tune (revised tune text) tunes, Ok (Replaced number (tune.revision + 1)))))
+replace_tests tunes number named text tune false young found test accepted = cc
+replace_tests tunes number named text tune true false found test accepted = cc
+replace_tests tunes number named text tune true true found test accepted =
     let e : tune.revision ≡ named = eqb-true tune.revision named test in
-    let later = tune_at-with_tune number (revised tune text) state.tunes (tune_at-number number state.tunes tune found) (ap is_some found) in
+    let later = tune_at-with_tune number (revised tune text) tunes (tune_at-number number tunes tune found) (ap is_some found) in
     record { named = ap revision found ∙ ap (λ r. Some r) e; raised = ap revision later ∙ ap (λ r. Some (r + 1)) e }
 
 -- a replacement of the tune that was found raises its revision, where it is accepted
-replace_found : (state : State) (number named : ℕ) (text : List ℕ) (found : Option Tune) → tune_at number state.tunes ≡ found
-    → RaisesOnOk number named state (replace_tune state number named text found)
-replace_found state number named text None e accepted = cc
-replace_found state number named text (Some tune) e accepted =
-    replace_tests state number named text tune (eqb tune.revision named) (ltb tune.revision greatest_revision) e refl accepted
+replace_found : (tunes : List Tune) (number named : ℕ) (text : List ℕ) (found : Option Tune) → tune_at number tunes ≡ found
+    → RaisesOnOk number named tunes (replace_tune tunes number named text found)
+replace_found tunes number named text None e accepted = cc
+replace_found tunes number named text (Some tune) e accepted =
+    replace_tests tunes number named text tune (eqb tune.revision named) (ltb tune.revision greatest_revision) e refl accepted
 
 -- so does one by the texts of a book
-replace_raises : (state : State) (number named : ℕ) (texts : Texts) → RaisesOnOk number named state (replace_book state number named texts)
-replace_raises state number named (Err why) accepted = cc
-replace_raises state number named (Ok []) accepted = cc
-replace_raises state number named (Ok (text ∷ [])) accepted = replace_found state number named text (tune_at number state.tunes) refl accepted
-replace_raises state number named (Ok (text ∷ next ∷ texts)) accepted = cc
+replace_raises : (tunes : List Tune) (number named : ℕ) (texts : Texts) → RaisesOnOk number named tunes (replace_book tunes number named texts)
+replace_raises tunes number named (Err why) accepted = cc
+replace_raises tunes number named (Ok []) accepted = cc
+replace_raises tunes number named (Ok (text ∷ [])) accepted = replace_found tunes number named text (tune_at number tunes) refl accepted
+replace_raises tunes number named (Ok (text ∷ next ∷ texts)) accepted = cc
 
 -- an accepted Replace names the current revision, and raises it by one
 pub accepted_replace_raises : (state : State) (number named : ℕ) (book : List ℕ) → AcceptedReplaceRaises state number named book
-accepted_replace_raises state number named book = replace_raises state number named (book_answer longest_text book)
+accepted_replace_raises state number named book accepted =
+    let raises = replace_raises state.tunes number named (book_answer longest_text book) accepted in
+    record { named = raises.named; raised = raises.raised }
 
 -- ANY OTHER COMMAND
 -- an outcome that is a refusal leaves the state
@@ -82,91 +88,88 @@ pub refused_leaves : (state : State) (command : Command) → IsFalse (accepts st
 refused_leaves state command refused = refused_outcome state (step state command) (refused_keeps state command) refused
 
 -- an outcome leaves the revision of a tune
-abbrev LeavesRevision : ℕ → State → Outcome → Type 0
-LeavesRevision number old outcome = revision_of number outcome.0 ≡ revision_of number old
+abbrev LeavesRevision : ℕ → List Tune → TunesOutcome → Type 0
+LeavesRevision number old outcome = revision_in number outcome.0 ≡ revision_in number old
 
 -- an outcome by two tests, of which each refuses
-two_tests_leave : (number : ℕ) (old new : State) (a b : Bool) (x y : Refusal) (reply : Reply) → tune_at number new.tunes ≡ tune_at number old.tunes
+two_tests_leave : (number : ℕ) (old new : List Tune) (a b : Bool) (x y : Refusal) (reply : Reply) → tune_at number new ≡ tune_at number old
     → LeavesRevision number old (cond a (old, Err x) (cond b (old, Err y) (new, Ok reply)))
 two_tests_leave number old new true b x y reply same = refl
 two_tests_leave number old new false true x y reply same = refl
 two_tests_leave number old new false false x y reply same = ap revision same
 
 -- an import leaves the revision of a tune that was there
-import_leaves : (state : State) (number : ℕ) (texts : Texts) → HasTune number state → LeavesRevision number state (import_book state texts)
-import_leaves state number (Err why) was = refl
-import_leaves state number (Ok texts) was =
-    two_tests_leave number state (with_texts state texts) (ltb most_tunes (length state.tunes + length texts))
-    (ltb greatest_number (greatest state.tunes + length texts)) _ _ _ (tune_at-append number state.tunes _ was)
+import_leaves : (tunes : List Tune) (number : ℕ) (texts : Texts) → IsSome (tune_at number tunes) → LeavesRevision number tunes (import_book tunes texts)
+import_leaves tunes number (Err why) was = refl
+import_leaves tunes number (Ok texts) was =
+    two_tests_leave number tunes (with_texts tunes texts) (ltb most_tunes (length tunes + length texts))
+    (ltb greatest_number (greatest tunes + length texts)) _ _ _ (tune_at-append number tunes _ was)
 
 -- a replacement of another tune that was found leaves it
-replace_found_leaves : (state : State) (number other named : ℕ) (text : List ℕ) (found : Option Tune) → (other ≡ number → ⊥) → tune_at other state.tunes ≡ found
-    → LeavesRevision number state (replace_tune state other named text found)
-replace_found_leaves state number other named text None apart e = refl
-replace_found_leaves state number other named text (Some tune) apart e =
-    let ne = λ (same : tune.number ≡ number). apart (sym (tune_at-number other state.tunes tune e) ∙ same) in
-    two_tests_leave number state record { tunes = with_tune (revised tune text) state.tunes } (not (eqb tune.revision named))
-    (not (ltb tune.revision greatest_revision)) _ _ _ (tune_at-with_tune_other number (revised tune text) state.tunes ne)
+replace_found_leaves : (tunes : List Tune) (number other named : ℕ) (text : List ℕ) (found : Option Tune) → (other ≡ number → ⊥)
+    → tune_at other tunes ≡ found
+    → LeavesRevision number tunes (replace_tune tunes other named text found)
+replace_found_leaves tunes number other named text None apart e = refl
+replace_found_leaves tunes number other named text (Some tune) apart e =
+    let ne = λ (same : tune.number ≡ number). apart (sym (tune_at-number other tunes tune e) ∙ same) in
+    two_tests_leave number tunes (with_tune (revised tune text) tunes) (not (eqb tune.revision named))
+    (not (ltb tune.revision greatest_revision)) _ _ _ (tune_at-with_tune_other number (revised tune text) tunes ne)
 
 -- so does one by the texts of a book
-replace_leaves : (state : State) (number other named : ℕ) (texts : Texts) → (other ≡ number → ⊥)
-    → LeavesRevision number state (replace_book state other named texts)
-replace_leaves state number other named (Err why) apart = refl
-replace_leaves state number other named (Ok []) apart = refl
-replace_leaves state number other named (Ok (text ∷ [])) apart =
-    replace_found_leaves state number other named text (tune_at other state.tunes) apart refl
-replace_leaves state number other named (Ok (text ∷ next ∷ texts)) apart = refl
+replace_leaves : (tunes : List Tune) (number other named : ℕ) (texts : Texts) → (other ≡ number → ⊥)
+    → LeavesRevision number tunes (replace_book tunes other named texts)
+replace_leaves tunes number other named (Err why) apart = refl
+replace_leaves tunes number other named (Ok []) apart = refl
+replace_leaves tunes number other named (Ok (text ∷ [])) apart = replace_found_leaves tunes number other named text (tune_at other tunes) apart refl
+replace_leaves tunes number other named (Ok (text ∷ next ∷ texts)) apart = refl
 
 -- a deletion of another tune leaves it
-delete_other_leaves : (state : State) (number other : ℕ) (found : Option Tune) → (other ≡ number → ⊥)
-    → LeavesRevision number state (delete_tune state other found)
-delete_other_leaves state number other None apart = refl
-delete_other_leaves state number other (Some tune) apart = ap revision (tune_at-without_other number other state.tunes apart)
+delete_other_leaves : (tunes : List Tune) (number other : ℕ) (found : Option Tune) → (other ≡ number → ⊥)
+    → LeavesRevision number tunes (delete_tune tunes other found)
+delete_other_leaves tunes number other None apart = refl
+delete_other_leaves tunes number other (Some tune) apart = ap revision (tune_at-without_other number other tunes apart)
 
 -- a deletion leaves it where the tune is there after it
-delete_leaves : (state : State) (number other : ℕ) (found : Option Tune) → IsState state → HasTune number (delete_tune state other found).0
-    → LeavesRevision number state (delete_tune state other found)
-delete_leaves state number other None is there = refl
-delete_leaves state number other (Some tune) is there = elim (cases_Bool (eqb other number)) [
+delete_leaves : (tunes : List Tune) (number other : ℕ) (found : Option Tune) → RisesFrom 0 tunes
+    → IsSome (tune_at number (delete_tune tunes other found).0)
+    → LeavesRevision number tunes (delete_tune tunes other found)
+delete_leaves tunes number other None rises is_there = refl
+delete_leaves tunes number other (Some tune) rises is_there = elim (cases_Bool (eqb other number)) [
   | inl same ↦
       let e = eqb-true other number same in
-      let P : ℕ → Type 0 = λ n. tune_at number (without n state.tunes) ≡ None in
-      let gone = subst P (sym e) (tune_at-without_same 0 number state.tunes is.rises) in
-      let none = sym there ∙ ap is_some gone in
+      let P : ℕ → Type 0 = λ n. tune_at number (without n tunes) ≡ None in
+      let gone = subst P (sym e) (tune_at-without_same 0 number tunes rises) in
+      let none = sym is_there ∙ ap is_some gone in
       cc
-  | inr differs ↦ delete_other_leaves state number other (Some tune) (eqb-false other number differs)
+  | inr differs ↦ delete_other_leaves tunes number other (Some tune) (eqb-false other number differs)
 ]
-
--- a look at a tune leaves it
-show_leaves : (state : State) (number other : ℕ) (found : Option Tune) → LeavesRevision number state (show_tune state other found)
-show_leaves state number other None = refl
-show_leaves state number other (Some tune) = refl
 
 -- any other command leaves the revision of a tune that is there before and after it
 pub others_keep_revision : (state : State) (number : ℕ) (command : Command) → IsState state → OthersKeepRevision state number command
-others_keep_revision state number (Import book) is other was there = import_leaves state number (book_answer longest_text book) was
+others_keep_revision state number (Import book) is other was there = import_leaves state.tunes number (book_answer longest_text book) was
 others_keep_revision state number (Replace replaced named book) is other was there = elim (cases_Bool (eqb replaced number)) [
   | inl same ↦ let refused = rw same at other in ap (revision_of number) (refused_leaves state (Replace replaced named book) refused)
-  | inr differs ↦ replace_leaves state number replaced named (book_answer longest_text book) (eqb-false replaced number differs)
+  | inr differs ↦ replace_leaves state.tunes number replaced named (book_answer longest_text book) (eqb-false replaced number differs)
 ]
-others_keep_revision state number (Delete deleted) is other was there = delete_leaves state number deleted (tune_at deleted state.tunes) is there
-others_keep_revision state number (Show shown) is other was there = show_leaves state number shown (tune_at shown state.tunes)
+others_keep_revision state number (Delete deleted) is other was there =
+    delete_leaves state.tunes number deleted (tune_at deleted state.tunes) is.tunes.rises there
+others_keep_revision state number (Show shown) is other was there = refl
 others_keep_revision state number ExportAll is other was there = refl
 
 -- a command that is neither an accepted Replace of a tune nor an accepted Delete of it leaves its revision
 keeps_revision : (state : State) (number : ℕ) (command : Command) → IsFalse (replaces number state command)
     → IsFalse (is_delete_of number command && accepts state command) → HasTune number state
     → revision_of number (step state command).0 ≡ revision_of number state
-keeps_revision state number (Import book) other stays was = import_leaves state number (book_answer longest_text book) was
+keeps_revision state number (Import book) other stays was = import_leaves state.tunes number (book_answer longest_text book) was
 keeps_revision state number (Replace replaced named book) other stays was = elim (cases_Bool (eqb replaced number)) [
   | inl same ↦ let refused = rw same at other in ap (revision_of number) (refused_leaves state (Replace replaced named book) refused)
-  | inr differs ↦ replace_leaves state number replaced named (book_answer longest_text book) (eqb-false replaced number differs)
+  | inr differs ↦ replace_leaves state.tunes number replaced named (book_answer longest_text book) (eqb-false replaced number differs)
 ]
 keeps_revision state number (Delete deleted) other stays was = elim (cases_Bool (eqb deleted number)) [
   | inl same ↦ let refused = rw same at stays in ap (revision_of number) (refused_leaves state (Delete deleted) refused)
-  | inr differs ↦ delete_other_leaves state number deleted (tune_at deleted state.tunes) (eqb-false deleted number differs)
+  | inr differs ↦ delete_other_leaves state.tunes number deleted (tune_at deleted state.tunes) (eqb-false deleted number differs)
 ]
-keeps_revision state number (Show shown) other stays was = show_leaves state number shown (tune_at shown state.tunes)
+keeps_revision state number (Show shown) other stays was = refl
 keeps_revision state number ExportAll other stays was = refl
 
 -- RUNS OF COMMANDS

@@ -4,8 +4,8 @@ use Rattle.std.proofs.Common.{Option, Some, None, Ok, Err, refl, ap, sym, subst,
 use Rattle.std.specs.List.{AllByRecursion}
 use Rattle.std.proofs.lemmas.Bool.{eqb-true, ltb-true, cases_Bool}
 use Rattle.abc_fields.specs.Tunes.{IsTextWithin}
-use Rattle.tune_store.specs.State.{RisesFrom, greatest, IsTune, IsState}
-use Rattle.tune_store.specs.Step.{Outcome, numbered, with_tune, without, revised, replace_tune}
+use Rattle.tune_store.specs.State.{RisesFrom, greatest, IsTune, IsTunes}
+use Rattle.tune_store.specs.Step.{TunesOutcome, numbered, with_texts, with_tune, without, revised, replace_tune}
 use Rattle.tune_store.specs.declared.tune.Tune.{Tune}
 use Rattle.tune_store.specs.Limits.{longest_text, most_tunes, greatest_number, greatest_revision}
 use Rattle.tune_store.specs.declared.command.Reply.TheVariants.{Replaced}
@@ -81,9 +81,9 @@ each-numbered number (text ∷ texts) within =
     (record { revised = omega arith; revision = omega arith; text = within.0.tune_text; fits = within.0.fits }, each-numbered (number + 1) texts within.1)
 
 -- new tunes of good texts keep the limits, where there is room for them
-pub state_after_import : (tunes : List Tune) (texts : List (List ℕ)) → IsState (record { tunes = tunes }) → AllByRecursion (IsTextWithin longest_text) texts
+pub state_after_import : (tunes : List Tune) (texts : List (List ℕ)) → IsTunes tunes → AllByRecursion (IsTextWithin longest_text) texts
     → length tunes + length texts ≤ most_tunes → greatest tunes + length texts ≤ greatest_number
-    → IsState (record { tunes = tunes ++ numbered (greatest tunes + 1) texts })
+    → IsTunes (with_texts tunes texts)
 state_after_import tunes texts is within room numbers =
     let P : ℕ → Type 0 = λ n. RisesFrom n (numbered (greatest tunes + 1) texts) in
     let low : greatest tunes ≡ max 0 (greatest tunes) = omega arith in
@@ -91,7 +91,7 @@ state_after_import tunes texts is within room numbers =
     record {
       rises = rises-append 0 tunes _ is.rises (subst P low (rises-numbered (greatest tunes) (greatest tunes + 1) texts (omega arith)));
       numbers = top;
-      tunes = each-append tunes _ is.tunes (each-numbered (greatest tunes + 1) texts within);
+      each = each-append tunes _ is.each (each-numbered (greatest tunes + 1) texts within);
       count = omega (arith, length-append tunes (numbered (greatest tunes + 1) texts), length-numbered (greatest tunes + 1) texts);
     }
   where
@@ -140,11 +140,11 @@ each-with_tune new (tune ∷ tunes) is each = elim (cases_Bool (eqb tune.number 
 ]
 
 -- a good tune in the place of one keeps the limits
-pub state_after_replace : (new : Tune) (tunes : List Tune) → IsTune new → IsState (record { tunes = tunes }) → IsState (record { tunes = with_tune new tunes })
+pub state_after_replace : (new : Tune) (tunes : List Tune) → IsTune new → IsTunes tunes → IsTunes (with_tune new tunes)
 state_after_replace new tunes is state = record {
   rises = rises-with_tune new 0 tunes state.rises;
   numbers = omega (arith, greatest-with_tune new tunes, state.numbers);
-  tunes = each-with_tune new tunes is state.tunes;
+  each = each-with_tune new tunes is state.each;
   count = omega (arith, length-with_tune new tunes, state.count);
 }
 
@@ -152,25 +152,25 @@ state_after_replace new tunes is state = record {
 pub revised_is_tune : (tune : Tune) (text : List ℕ) → IsTextWithin longest_text text → tune.revision < greatest_revision → IsTune (revised tune text)
 revised_is_tune tune text within less = record { revised = omega arith; revision = omega arith; text = within.tune_text; fits = within.fits }
 
--- an outcome whose state keeps the limits
-abbrev pub KeepsLimits : Outcome → Type 0
-KeepsLimits outcome = IsState outcome.0
+-- an outcome whose tunes keep the limits
+abbrev pub KeepsLimits : TunesOutcome → Type 0
+KeepsLimits outcome = IsTunes outcome.0
 
 -- of a replacement's two tests the second lets only a tune through that has not the greatest revision
 by_tests : (tune : Tune) (tunes : List Tune) (number : ℕ) (text : List ℕ) (stale young : Bool) → IsTextWithin longest_text text
-    → ltb tune.revision greatest_revision ≡ young → IsState (record { tunes = tunes })
-    → KeepsLimits (cond stale (record { tunes = tunes }, Err (Stale tune.revision))
-    (cond (not young) (record { tunes = tunes }, Err Worn)
-    (record { tunes = with_tune (revised tune text) tunes }, Ok (Replaced number (tune.revision + 1)))))
+    → ltb tune.revision greatest_revision ≡ young → IsTunes tunes
+    → KeepsLimits (cond stale (tunes, Err (Stale tune.revision))
+    (cond (not young) (tunes, Err Worn)
+    (with_tune (revised tune text) tunes, Ok (Replaced number (tune.revision + 1)))))
 by_tests tune tunes number text true young within y state = state
 by_tests tune tunes number text false false within y state = state
 by_tests tune tunes number text false true within y state =
     state_after_replace (revised tune text) tunes (revised_is_tune tune text within (ltb-true tune.revision greatest_revision y)) state
 
 -- a replacement keeps the limits, where its text is good
-pub state_after_text : (tunes : List Tune) (number revision : ℕ) (text : List ℕ) (found : Option Tune) → IsState (record { tunes = tunes })
+pub state_after_text : (tunes : List Tune) (number revision : ℕ) (text : List ℕ) (found : Option Tune) → IsTunes tunes
     → IsTextWithin longest_text text
-    → KeepsLimits (replace_tune (record { tunes = tunes }) number revision text found)
+    → KeepsLimits (replace_tune tunes number revision text found)
 state_after_text tunes number revision text None state within = state
 state_after_text tunes number revision text (Some tune) state within =
     by_tests tune tunes number text (not (eqb tune.revision revision)) (ltb tune.revision greatest_revision) within refl state
@@ -219,10 +219,10 @@ each-without number (tune ∷ tunes) each = elim (cases_Bool (eqb tune.number nu
 ]
 
 -- a tune less keeps the limits
-pub state_after_delete : (number : ℕ) (tunes : List Tune) → IsState (record { tunes = tunes }) → IsState (record { tunes = without number tunes })
+pub state_after_delete : (number : ℕ) (tunes : List Tune) → IsTunes tunes → IsTunes (without number tunes)
 state_after_delete number tunes state = record {
   rises = rises-without number 0 tunes state.rises;
   numbers = omega (arith, greatest-without number tunes, state.numbers);
-  tunes = each-without number tunes state.tunes;
+  each = each-without number tunes state.each;
   count = omega (arith, length-without number tunes, state.count);
 }

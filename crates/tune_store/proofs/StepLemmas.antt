@@ -7,7 +7,8 @@ use Rattle.abc_fields.specs.Books.{Texts, book_answer}
 use Rattle.abc_fields.specs.declared.book.BookFault.{BookFault}
 use Rattle.abc_fields.specs.declared.book.BookFault.TheVariants as fault
 use Rattle.tune_store.specs.State.{State, IsState, Standing, greatest}
-use Rattle.tune_store.specs.Step.{Outcome, refusal_of, step, import_book, replace_book, replace_texts, replace_tune, delete_tune, show_tune, tune_at}
+use Rattle.tune_store.specs.Step.{Outcome, TunesOutcome, tunes_step, refusal_of, step, import_book, replace_book, replace_texts, replace_tune}
+use Rattle.tune_store.specs.Step.{delete_tune, shown, tune_at}
 use Rattle.tune_store.specs.Answers.{Answers, open_at, stepped, no_memory, failed_before, failed_after, is_closed, passed}
 use Rattle.tune_store.specs.Answers.{stays_open, IsRefusalOf, IsRefusalOfAny, IsRefusalOfOwn}
 use Rattle.tune_store.specs.Stops.{Among, Passes}
@@ -22,56 +23,57 @@ use Rattle.tune_store.specs.declared.command.Refusal.TheVariants.{BookTooLong, N
 use Rattle.tune_store.specs.declared.command.Refusal.TheVariants.{NumbersSpent, OutOfMemory, Device, Closed}
 
 -- A REFUSED COMMAND CHANGES NOTHING
--- where the answer is a refusal, the state is this one
-abbrev pub KeepsOnErr : State → Outcome → Type 0
+-- where the answer is a refusal, the tunes or the state are these
+abbrev pub KeepsOnErr : {A : Type 0} → A → A × Result Reply Refusal → Type 0
 KeepsOnErr old outcome = (refusal : Refusal) → outcome.1 ≡ Err refusal → outcome.0 ≡ old
 
 -- an outcome by two tests, of which each refuses
-two_tests_keep : (old new : State) (a b : Bool) (x y : Refusal) (reply : Reply) → KeepsOnErr old (cond a (old, Err x) (cond b (old, Err y) (new, Ok reply)))
+two_tests_keep : (old new : List Tune) (a b : Bool) (x y : Refusal) (reply : Reply)
+    → KeepsOnErr old (cond a (old, Err x) (cond b (old, Err y) (new, Ok reply)))
 two_tests_keep old new true b x y reply refusal h = refl
 two_tests_keep old new false true x y reply refusal h = refl
 two_tests_keep old new false false x y reply refusal h = cc
 
--- an import that is refused keeps the state
-import_keeps : (old : State) (texts : Texts) → KeepsOnErr old (import_book old texts)
+-- an import that is refused keeps the tunes
+import_keeps : (old : List Tune) (texts : Texts) → KeepsOnErr old (import_book old texts)
 import_keeps old (Err fault) refusal h = refl
 import_keeps old (Ok texts) refusal h =
-    two_tests_keep old _ (ltb most_tunes (length old.tunes + length texts)) (ltb greatest_number (greatest old.tunes + length texts)) _ _ _ refusal h
+    two_tests_keep old _ (ltb most_tunes (length old + length texts)) (ltb greatest_number (greatest old + length texts)) _ _ _ refusal h
 
 -- so does a replacement, of the tune that was found
-replace_tune_keeps : (old : State) (number revision : ℕ) (text : List ℕ) (found : Option Tune) → KeepsOnErr old (replace_tune old number revision text found)
+replace_tune_keeps : (old : List Tune) (number revision : ℕ) (text : List ℕ) (found : Option Tune)
+    → KeepsOnErr old (replace_tune old number revision text found)
 replace_tune_keeps old number revision text None refusal h = refl
 replace_tune_keeps old number revision text (Some tune) refusal h =
     two_tests_keep old _ (not (eqb tune.revision revision)) (not (ltb tune.revision greatest_revision)) _ _ _ refusal h
 
 -- by the texts of a book
-replace_texts_keep : (old : State) (number revision : ℕ) (texts : List (List ℕ)) → KeepsOnErr old (replace_texts old number revision texts)
+replace_texts_keep : (old : List Tune) (number revision : ℕ) (texts : List (List ℕ)) → KeepsOnErr old (replace_texts old number revision texts)
 replace_texts_keep old number revision [] refusal h = refl
-replace_texts_keep old number revision (text ∷ []) refusal h = replace_tune_keeps old number revision text (tune_at number old.tunes) refusal h
+replace_texts_keep old number revision (text ∷ []) refusal h = replace_tune_keeps old number revision text (tune_at number old) refusal h
 replace_texts_keep old number revision (text ∷ next ∷ texts) refusal h = refl
 
 -- or by a book that has none
-replace_keeps : (old : State) (number revision : ℕ) (texts : Texts) → KeepsOnErr old (replace_book old number revision texts)
+replace_keeps : (old : List Tune) (number revision : ℕ) (texts : Texts) → KeepsOnErr old (replace_book old number revision texts)
 replace_keeps old number revision (Err fault) refusal h = refl
 replace_keeps old number revision (Ok texts) refusal h = replace_texts_keep old number revision texts refusal h
 
 -- and a deletion
-delete_keeps : (old : State) (number : ℕ) (found : Option Tune) → KeepsOnErr old (delete_tune old number found)
+delete_keeps : (old : List Tune) (number : ℕ) (found : Option Tune) → KeepsOnErr old (delete_tune old number found)
 delete_keeps old number None refusal h = refl
 delete_keeps old number (Some tune) refusal h = cc
 
--- and a look at a tune
-show_keeps : (old : State) (number : ℕ) (found : Option Tune) → KeepsOnErr old (show_tune old number found)
-show_keeps old number None refusal h = refl
-show_keeps old number (Some tune) refusal h = cc
+-- what keeps the tunes of a state keeps the state
+step_keeps : (old : State) (outcome : TunesOutcome) → KeepsOnErr old.tunes outcome → KeepsOnErr old (tunes_step old outcome)
+step_keeps old outcome keeps refusal h = ap (λ tunes. record old { tunes = tunes }) (keeps refusal h)
 
 -- a command that is refused keeps the state
 pub refused_keeps : (old : State) (command : Command) → KeepsOnErr old (step old command)
-refused_keeps old (Import book) = import_keeps old (book_answer longest_text book)
-refused_keeps old (Replace number revision book) = replace_keeps old number revision (book_answer longest_text book)
-refused_keeps old (Delete number) = delete_keeps old number (tune_at number old.tunes)
-refused_keeps old ExportAll = λ refusal h. cc
-refused_keeps old (Show number) = show_keeps old number (tune_at number old.tunes)
+refused_keeps old (Import book) = step_keeps old _ (import_keeps old.tunes (book_answer longest_text book))
+refused_keeps old (Replace number revision book) = step_keeps old _ (replace_keeps old.tunes number revision (book_answer longest_text book))
+refused_keeps old (Delete number) = step_keeps old _ (delete_keeps old.tunes number (tune_at number old.tunes))
+refused_keeps old (Show number) = λ refusal h. refl
+refused_keeps old ExportAll = λ refusal h. refl
 
 -- WHICH REFUSALS A COMMAND IS GIVEN
 -- a refusal that the plain list gives a command
@@ -79,12 +81,16 @@ abbrev pub IsListRefusal : Command → Refusal → Type 0
 IsListRefusal command refusal = IsRefusalOfOwn command refusal ⊎ (refusal ≡ OutOfMemory)
 
 -- where the answer is a refusal, it is one of these
-abbrev pub Refuses : (Refusal → Type 0) → Outcome → Type 0
-Refuses P outcome = (refusal : Refusal) → outcome.1 ≡ Err refusal → P refusal
+abbrev pub Refuses : (Refusal → Type 0) → Result Reply Refusal → Type 0
+Refuses P answer = (refusal : Refusal) → answer ≡ Err refusal → P refusal
+
+-- the same of the answer of an outcome
+abbrev OutcomeRefuses : (Refusal → Type 0) → TunesOutcome → Type 0
+OutcomeRefuses P outcome = Refuses P outcome.1
 
 -- an outcome by two tests, of which each refuses
-two_tests_refuse : (P : Refusal → Type 0) (old new : State) (a b : Bool) (x y : Refusal) (reply : Reply) → P x → P y
-    → Refuses P (cond a (old, Err x) (cond b (old, Err y) (new, Ok reply)))
+two_tests_refuse : (P : Refusal → Type 0) (old new : List Tune) (a b : Bool) (x y : Refusal) (reply : Reply) → P x → P y
+    → OutcomeRefuses P (cond a (old, Err x) (cond b (old, Err y) (new, Ok reply)))
 two_tests_refuse P old new true b x y reply is_x is_y refusal h = let same : x ≡ refusal = cc in subst P same is_x
 two_tests_refuse P old new false true x y reply is_x is_y refusal h = let same : y ≡ refusal = cc in subst P same is_y
 two_tests_refuse P old new false false x y reply is_x is_y refusal h = cc
@@ -106,15 +112,15 @@ replace_fault number revision book (fault.BadTune place why) = inl tt
 replace_fault number revision book fault.OutOfMemory = inr refl
 
 -- the refusals of an import
-import_refuses : (old : State) (book : List ℕ) (texts : Texts) → Refuses (IsListRefusal (Import book)) (import_book old texts)
+import_refuses : (old : List Tune) (book : List ℕ) (texts : Texts) → Refuses (IsListRefusal (Import book)) (import_book old texts).1
 import_refuses old book (Err fault) refusal h = let same : refusal_of fault ≡ refusal = cc in subst (IsListRefusal (Import book)) same (import_fault book fault)
 import_refuses old book (Ok texts) refusal h =
-    two_tests_refuse (IsListRefusal (Import book)) old _ (ltb most_tunes (length old.tunes + length texts))
-    (ltb greatest_number (greatest old.tunes + length texts)) _ _ _ (inl tt) (inl tt) refusal h
+    two_tests_refuse (IsListRefusal (Import book)) old _ (ltb most_tunes (length old + length texts))
+    (ltb greatest_number (greatest old + length texts)) _ _ _ (inl tt) (inl tt) refusal h
 
 -- those of a replacement, of the tune that was found
-replace_tune_refuses : (old : State) (number revision : ℕ) (book text : List ℕ) (found : Option Tune)
-    → Refuses (IsListRefusal (Replace number revision book)) (replace_tune old number revision text found)
+replace_tune_refuses : (old : List Tune) (number revision : ℕ) (book text : List ℕ) (found : Option Tune)
+    → Refuses (IsListRefusal (Replace number revision book)) (replace_tune old number revision text found).1
 replace_tune_refuses old number revision book text None refusal h =
     let same : Unknown number ≡ refusal = cc in subst (IsListRefusal (Replace number revision book)) same (inl refl)
 replace_tune_refuses old number revision book text (Some tune) refusal h =
@@ -122,40 +128,39 @@ replace_tune_refuses old number revision book text (Some tune) refusal h =
     (not (ltb tune.revision greatest_revision)) _ _ _ (inl tt) (inl tt) refusal h
 
 -- by the texts of a book
-replace_texts_refuse : (old : State) (number revision : ℕ) (book : List ℕ) (texts : List (List ℕ))
-    → Refuses (IsListRefusal (Replace number revision book)) (replace_texts old number revision texts)
+replace_texts_refuse : (old : List Tune) (number revision : ℕ) (book : List ℕ) (texts : List (List ℕ))
+    → Refuses (IsListRefusal (Replace number revision book)) (replace_texts old number revision texts).1
 replace_texts_refuse old number revision book [] refusal h =
     let same : NotOne 0 ≡ refusal = cc in subst (IsListRefusal (Replace number revision book)) same (inl tt)
-replace_texts_refuse old number revision book (text ∷ []) refusal h =
-    replace_tune_refuses old number revision book text (tune_at number old.tunes) refusal h
+replace_texts_refuse old number revision book (text ∷ []) refusal h = replace_tune_refuses old number revision book text (tune_at number old) refusal h
 replace_texts_refuse old number revision book (text ∷ next ∷ texts) refusal h =
     let same : NotOne (length (text ∷ next ∷ texts)) ≡ refusal = cc in subst (IsListRefusal (Replace number revision book)) same (inl tt)
 
 -- or by a book that has none
-replace_refuses : (old : State) (number revision : ℕ) (book : List ℕ) (texts : Texts)
-    → Refuses (IsListRefusal (Replace number revision book)) (replace_book old number revision texts)
+replace_refuses : (old : List Tune) (number revision : ℕ) (book : List ℕ) (texts : Texts)
+    → Refuses (IsListRefusal (Replace number revision book)) (replace_book old number revision texts).1
 replace_refuses old number revision book (Err fault) refusal h =
     let same : refusal_of fault ≡ refusal = cc in
     subst (IsListRefusal (Replace number revision book)) same (replace_fault number revision book fault)
 replace_refuses old number revision book (Ok texts) refusal h = replace_texts_refuse old number revision book texts refusal h
 
 -- those of a deletion
-delete_refuses : (old : State) (number : ℕ) (found : Option Tune) → Refuses (IsListRefusal (Delete number)) (delete_tune old number found)
+delete_refuses : (old : List Tune) (number : ℕ) (found : Option Tune) → Refuses (IsListRefusal (Delete number)) (delete_tune old number found).1
 delete_refuses old number None refusal h = let same : Unknown number ≡ refusal = cc in subst (IsListRefusal (Delete number)) same (inl refl)
 delete_refuses old number (Some tune) refusal h = cc
 
 -- and of a look at a tune
-show_refuses : (old : State) (number : ℕ) (found : Option Tune) → Refuses (IsListRefusal (Show number)) (show_tune old number found)
-show_refuses old number None refusal h = let same : Unknown number ≡ refusal = cc in subst (IsListRefusal (Show number)) same (inl refl)
-show_refuses old number (Some tune) refusal h = cc
+show_refuses : (number : ℕ) (found : Option Tune) → Refuses (IsListRefusal (Show number)) (shown number found)
+show_refuses number None refusal h = let same : Unknown number ≡ refusal = cc in subst (IsListRefusal (Show number)) same (inl refl)
+show_refuses number (Some tune) refusal h = cc
 
 -- the refusals of each command
-step_refuses : (old : State) (command : Command) → Refuses (IsListRefusal command) (step old command)
-step_refuses old (Import book) = import_refuses old book (book_answer longest_text book)
-step_refuses old (Replace number revision book) = replace_refuses old number revision book (book_answer longest_text book)
-step_refuses old (Delete number) = delete_refuses old number (tune_at number old.tunes)
+pub step_refuses : (old : State) (command : Command) → Refuses (IsListRefusal command) (step old command).1
+step_refuses old (Import book) = import_refuses old.tunes book (book_answer longest_text book)
+step_refuses old (Replace number revision book) = replace_refuses old.tunes number revision book (book_answer longest_text book)
+step_refuses old (Delete number) = delete_refuses old.tunes number (tune_at number old.tunes)
+step_refuses old (Show number) = show_refuses number (tune_at number old.tunes)
 step_refuses old ExportAll = λ refusal h. cc
-step_refuses old (Show number) = show_refuses old number (tune_at number old.tunes)
 
 -- NO COMMAND ANSWERS FOR THE DEVICE
 -- the refusals that a state's own step does not give
@@ -269,11 +274,17 @@ answers_reach _ _ _ _ (failed_after old command) = inr (inl refl)
 answers_reach _ _ _ _ (is_closed old command) = inl refl
 
 -- A STORE IN MEMORY
+-- what comes of its tunes comes of its state
+pub tunes_give : (old new : List Tune) (answer : Result Reply Refusal) (outcome : TunesOutcome) → StaysOrGives old new answer outcome
+    → StaysOrGives (state_with old) (state_with new) answer (tunes_step (state_with old) outcome)
+tunes_give old new answer outcome (inl h) = inl (h.0, ap state_with h.1)
+tunes_give old new answer outcome (inr h) = inr (ap (tunes_step (state_with old)) h)
+
 -- it is out of memory and stays, or its answer is that of the plain list
-pub in_memory : (old new : List Tune) (command : Command) (answer : Result Reply Refusal)
-    → StaysOrGives old new answer (step (state_with old) command) → Answers (open_at (state_with old)) command answer (open_at (state_with new))
-in_memory old new command answer (inl h) = rw (h.0, h.1) (no_memory (state_with old) command)
-in_memory old new command answer (inr h) = stepped (state_with old) (state_with new) command answer h
+pub in_memory : (old new : State) (command : Command) (answer : Result Reply Refusal)
+    → StaysOrGives old new answer (step old command) → Answers (open_at old) command answer (open_at new)
+in_memory old new command answer (inl h) = rw (h.0, h.1) (no_memory old command)
+in_memory old new command answer (inr h) = stepped old new command answer h
 
 -- it has no device that fails
 pub never_fails : (old new : State) (command : Command) (answer : Result Reply Refusal)

@@ -6,14 +6,19 @@ use Rattle.tune_store.specs.State.{State, Standing}
 use Rattle.tune_store.specs.Step.{step, tune_at}
 use Rattle.tune_store.specs.Answers.{Answers}
 use Rattle.tune_store.specs.Runs.{Answered, Runs}
+use Rattle.tune_store.specs.declared.tune.Tune.{Tune}
 use Rattle.tune_store.specs.declared.command.Command.{Command}
 use Rattle.tune_store.specs.declared.command.Command.TheVariants.{Replace, Delete}
 use Rattle.tune_store.specs.declared.command.Reply.{Reply}
 
 -- THE REVISION OF A TUNE
--- the revision of the tune of a number
+-- the revision of the tune of a number, in a list of tunes
+abbrev pub revision_in : ℕ → List Tune → Option ℕ
+revision_in number tunes = option_map (λ tune. tune.revision) (tune_at number tunes)
+
+-- and in a state
 abbrev pub revision_of : ℕ → State → Option ℕ
-revision_of number state = option_map (λ tune. tune.revision) (tune_at number state.tunes)
+revision_of number state = revision_in number state.tunes
 
 -- there is a tune of the number
 abbrev pub HasTune : ℕ → State → Type 0

@@ -9,6 +9,10 @@ use Rattle.tune_store.specs.Limits.{longest_text, most_tunes, greatest_number, g
 pub record State : Type 0 where
   pub tunes : List Tune
 
+-- the state of an archive in which nothing is yet
+abbrev pub empty_state : State
+empty_state = record { tunes = [] }
+
 -- what a store stands for, and whether an earlier call was answered by a fault of its device
 pub record Standing : Type 0 where
   pub state : State
@@ -35,9 +39,13 @@ pub record IsTune (tune : Tune) : Type 0 where
   pub text : IsTuneText tune.text
   pub fits : length tune.text ≤ longest_text
 
+-- tunes within the limits, by rising number
+pub record IsTunes (tunes : List Tune) : Type 0 where
+  pub rises : RisesFrom 0 tunes
+  pub numbers : greatest tunes ≤ greatest_number
+  pub each : AllByRecursion IsTune tunes
+  pub count : length tunes ≤ most_tunes
+
 -- a state within the limits
 pub record IsState (state : State) : Type 0 where
-  pub rises : RisesFrom 0 state.tunes
-  pub numbers : greatest state.tunes ≤ greatest_number
-  pub tunes : AllByRecursion IsTune state.tunes
-  pub count : length state.tunes ≤ most_tunes
+  pub tunes : IsTunes state.tunes

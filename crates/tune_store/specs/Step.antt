@@ -24,6 +24,14 @@ use Rattle.tune_store.specs.declared.command.Refusal.TheVariants.{OutOfMemory}
 abbrev pub Outcome : Type 0
 Outcome = State × Result Reply Refusal
 
+-- a list of tunes, and the answer beside it
+abbrev pub TunesOutcome : Type 0
+TunesOutcome = List Tune × Result Reply Refusal
+
+-- what comes of the tunes of a state comes of the state; its other parts stay
+abbrev pub tunes_step : State → TunesOutcome → Outcome
+tunes_step state outcome = (record state { tunes = outcome.0 }, outcome.1)
+
 -- IMPORT
 -- the refusal of a book as one of a command
 abbrev pub refusal_of : BookFault → Refusal
@@ -40,25 +48,24 @@ numbered number (text ∷ texts) =
     record { number = number; revision = 1; text = text } ∷ numbered (number + 1) texts
 
 -- the tunes with those of these texts after them, numbered from the greatest number on
-abbrev pub with_texts : State → List (List ℕ) → State
-with_texts state texts =
-    record { tunes = state.tunes ++ numbered (greatest state.tunes + 1) texts }
+abbrev pub with_texts : List Tune → List (List ℕ) → List Tune
+with_texts tunes texts = tunes ++ numbered (greatest tunes + 1) texts
 
 -- the texts of a book: all of them are added, or none
-abbrev pub import_texts : State → List (List ℕ) → Outcome
-import_texts state texts =
-    if nat_lt most_tunes (length state.tunes + length texts) then (state, Err ArchiveFull)
-    else if nat_lt greatest_number (greatest state.tunes + length texts)
-    then (state, Err NumbersSpent)
+abbrev pub import_texts : List Tune → List (List ℕ) → TunesOutcome
+import_texts tunes texts =
+    if nat_lt most_tunes (length tunes + length texts) then (tunes, Err ArchiveFull)
+    else if nat_lt greatest_number (greatest tunes + length texts)
+    then (tunes, Err NumbersSpent)
     else (
-      with_texts state texts,
-      Ok (Imported (greatest state.tunes + 1) (greatest state.tunes + length texts)),
+      with_texts tunes texts,
+      Ok (Imported (greatest tunes + 1) (greatest tunes + length texts)),
     )
 
 -- the tunes of a book, or why it has none
-abbrev pub import_book : State → Texts → Outcome
-import_book state (Ok texts) = import_texts state texts
-import_book state (Err why) = (state, Err (refusal_of why))
+abbrev pub import_book : List Tune → Texts → TunesOutcome
+import_book tunes (Ok texts) = import_texts tunes texts
+import_book tunes (Err why) = (tunes, Err (refusal_of why))
 
 -- THE TUNE OF A NUMBER
 -- the tune of a number
@@ -84,41 +91,37 @@ abbrev pub revised : Tune → List ℕ → Tune
 revised tune text = record { number = tune.number; revision = tune.revision + 1; text = text }
 
 -- a tune is replaced by who knows its revision
-abbrev pub replace_tune : State → ℕ → ℕ → List ℕ → Option Tune → Outcome
-replace_tune state number revision text None = (state, Err (Unknown number))
-replace_tune state number revision text (Some tune) =
-    if not (tune.revision == revision) then (state, Err (Stale tune.revision))
-    else if not (nat_lt tune.revision greatest_revision) then (state, Err Worn)
-    else (
-      record { tunes = with_tune (revised tune text) state.tunes },
-      Ok (Replaced number (tune.revision + 1)),
-    )
+abbrev pub replace_tune : List Tune → ℕ → ℕ → List ℕ → Option Tune → TunesOutcome
+replace_tune tunes number revision text None = (tunes, Err (Unknown number))
+replace_tune tunes number revision text (Some tune) =
+    if not (tune.revision == revision) then (tunes, Err (Stale tune.revision))
+    else if not (nat_lt tune.revision greatest_revision) then (tunes, Err Worn)
+    else (with_tune (revised tune text) tunes, Ok (Replaced number (tune.revision + 1)))
 
 -- the texts of a book, which has to have one
-abbrev pub replace_texts : State → ℕ → ℕ → List (List ℕ) → Outcome
-replace_texts state number revision [] = (state, Err (NotOne 0))
-replace_texts state number revision (text ∷ []) =
-    replace_tune state number revision text (tune_at number state.tunes)
-replace_texts state number revision (text ∷ next ∷ texts) =
-    (state, Err (NotOne (length (text ∷ next ∷ texts))))
+abbrev pub replace_texts : List Tune → ℕ → ℕ → List (List ℕ) → TunesOutcome
+replace_texts tunes number revision [] = (tunes, Err (NotOne 0))
+replace_texts tunes number revision (text ∷ []) =
+    replace_tune tunes number revision text (tune_at number tunes)
+replace_texts tunes number revision (text ∷ next ∷ texts) =
+    (tunes, Err (NotOne (length (text ∷ next ∷ texts))))
 
 -- the one tune of a book, or why it has none
-abbrev pub replace_book : State → ℕ → ℕ → Texts → Outcome
-replace_book state number revision (Ok texts) = replace_texts state number revision texts
-replace_book state number revision (Err why) = (state, Err (refusal_of why))
+abbrev pub replace_book : List Tune → ℕ → ℕ → Texts → TunesOutcome
+replace_book tunes number revision (Ok texts) = replace_texts tunes number revision texts
+replace_book tunes number revision (Err why) = (tunes, Err (refusal_of why))
 
 -- DELETE
 -- a tune is taken out, where there is one
-abbrev pub delete_tune : State → ℕ → Option Tune → Outcome
-delete_tune state number None = (state, Err (Unknown number))
-delete_tune state number (Some tune) =
-    (record { tunes = without number state.tunes }, Ok (Deleted number))
+abbrev pub delete_tune : List Tune → ℕ → Option Tune → TunesOutcome
+delete_tune tunes number None = (tunes, Err (Unknown number))
+delete_tune tunes number (Some tune) = (without number tunes, Ok (Deleted number))
 
 -- SHOW
 -- a tune is shown, where there is one
-abbrev pub show_tune : State → ℕ → Option Tune → Outcome
-show_tune state number None = (state, Err (Unknown number))
-show_tune state number (Some tune) = (state, Ok (Shown tune))
+abbrev pub shown : ℕ → Option Tune → Result Reply Refusal
+shown number None = Err (Unknown number)
+shown number (Some tune) = Ok (Shown tune)
 
 -- EXPORT
 -- the written book of tunes
@@ -128,9 +131,12 @@ exported tunes = written_book (map (λ tune. tune.number) tunes) (map (λ tune. 
 -- EACH COMMAND
 -- the state after a command, and its answer
 abbrev pub step : State → Command → Outcome
-step state (Import book) = import_book state (book_answer longest_text book)
+step state (Import book) =
+    tunes_step state (import_book state.tunes (book_answer longest_text book))
 step state (Replace number revision book) =
-    replace_book state number revision (book_answer longest_text book)
-step state (Delete number) = delete_tune state number (tune_at number state.tunes)
-step state (Show number) = show_tune state number (tune_at number state.tunes)
+    tunes_step state
+    (replace_book state.tunes number revision (book_answer longest_text book))
+step state (Delete number) =
+    tunes_step state (delete_tune state.tunes number (tune_at number state.tunes))
+step state (Show number) = (state, shown number (tune_at number state.tunes))
 step state ExportAll = (state, Ok (Exported (exported state.tunes)))

@@ -41,7 +41,7 @@ pub enum Reply {
 }
 
 /// Why a command is refused. After each refusal but `Device` the archive is as it was.
-#[derive(Clone, Copy, Debug, PartialEq, Eq, Error)]
+#[derive(Debug, PartialEq, Eq, Drop, Error)]
 pub enum Refusal {
     /// No line of the book begins with `X:`.
     #[error("the book has no tune")]

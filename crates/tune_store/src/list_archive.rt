@@ -7,9 +7,10 @@ ghost use Rattle.std.specs.Vec.{vec_capacity};
 ghost use Rattle.abc_fields.specs.Books.{book_answer};
 ghost use Rattle.tune_store.specs.declared.tune.Tune.{Tune};
 ghost use Rattle.tune_store.specs.Limits.{longest_text};
-ghost use Rattle.tune_store.specs.State.{State, IsState, IsTune, RisesFrom, greatest};
+ghost use Rattle.tune_store.specs.State.{State, IsState, IsTunes, IsTune, RisesFrom, greatest};
+ghost use Rattle.tune_store.specs.State.{empty_state};
 ghost use Rattle.tune_store.specs.Step.{step, numbered, tune_at, import_book, replace_book};
-ghost use Rattle.tune_store.specs.Step.{replace_tune, delete_tune, show_tune, exported};
+ghost use Rattle.tune_store.specs.Step.{replace_tune, delete_tune, shown, exported};
 ghost use Rattle.tune_store.specs.Inside.Lists.{state_with, StaysOrGives};
 
 use crate::command::{Command, Refusal, Reply};
@@ -32,15 +33,17 @@ impl Model for ListArchive {
 
     ghost Value = { State };
 
-    ghost view = { λ archive. record { tunes = archive.tunes.items } };
+    ghost use Rattle.tune_store.specs.Inside.Lists.{state_with};
 
-    ghost invariant = { λ archive. IsState (record { tunes = archive.tunes.items }) };
+    ghost view = { λ archive. state_with archive.tunes.items };
+
+    ghost invariant = { λ archive. IsState (state_with archive.tunes.items) };
 }
 
 impl ListArchive {
     /// An archive without a tune. It takes no memory, and keeps the allocator for its tunes.
     pub fn new(alloc: Global) -> ListArchive
-        ensures empty { result ≡ record { tunes = [] } }
+        ensures empty { result ≡ empty_state }
         ensures limits { IsState result }
     {
         ListArchive {
@@ -75,9 +78,9 @@ impl TuneStore for ListArchive {
 
 // One command over the tunes.
 fn answer(alloc: Global, tunes: &mut Vec<Tune>, command: &Command) -> Result<Reply, Refusal>
-    requires { IsState (state_with tunes.old.items) }
-    ensures state { IsState (state_with tunes.new.items) }
-    ensures answer { StaysOrGives tunes.old.items tunes.new.items result
+    requires { IsTunes tunes.old.items }
+    ensures state { IsTunes tunes.new.items }
+    ensures answer { StaysOrGives (state_with tunes.old.items) (state_with tunes.new.items) result
         (step (state_with tunes.old.items) command.now) }
 {
     match command {
@@ -95,10 +98,10 @@ fn answer(alloc: Global, tunes: &mut Vec<Tune>, command: &Command) -> Result<Rep
 
 // Adds the tunes of a book.
 fn import(alloc: Global, tunes: &mut Vec<Tune>, book: &[u8]) -> Result<Reply, Refusal>
-    requires { IsState (state_with tunes.old.items) }
-    ensures state { IsState (state_with tunes.new.items) }
+    requires { IsTunes tunes.old.items }
+    ensures state { IsTunes tunes.new.items }
     ensures answer { StaysOrGives tunes.old.items tunes.new.items result
-        (import_book (state_with tunes.old.items) (book_answer longest_text book.now)) }
+        (import_book tunes.old.items (book_answer longest_text book.now)) }
 {
     let texts = split_book(alloc, book, LONGEST_TEXT)?;
     let count = texts.len();
@@ -153,11 +156,10 @@ fn replace(
     revision: u32,
     book: &[u8],
 ) -> Result<Reply, Refusal>
-    requires { IsState (state_with tunes.old.items) }
-    ensures state { IsState (state_with tunes.new.items) }
+    requires { IsTunes tunes.old.items }
+    ensures state { IsTunes tunes.new.items }
     ensures answer { StaysOrGives tunes.old.items tunes.new.items result
-        (replace_book (state_with tunes.old.items) number revision
-        (book_answer longest_text book.now)) }
+        (replace_book tunes.old.items number revision (book_answer longest_text book.now)) }
 {
     let texts = split_book(alloc, book, LONGEST_TEXT)?;
     let text = only_text(texts)?;
@@ -186,8 +188,8 @@ fn replace_text(
 ) -> Result<Reply, Refusal>
     requires rises { RisesFrom 0 tunes.old.items }
     requires each { AllByRecursion IsTune tunes.old.items }
-    ensures { replace_tune (state_with tunes.old.items) number revision text
-        (tune_at number tunes.old.items) ≡ (state_with tunes.new.items, result) }
+    ensures { replace_tune tunes.old.items number revision text
+        (tune_at number tunes.old.items) ≡ (tunes.new.items, result) }
 {
     let Some(place) = place_of(tunes, number) else {
         return Err(Refusal::Unknown { number });
@@ -210,10 +212,10 @@ fn replace_text(
 
 // Takes out a tune.
 fn delete(tunes: &mut Vec<Tune>, number: u32) -> Result<Reply, Refusal>
-    requires { IsState (state_with tunes.old.items) }
-    ensures state { IsState (state_with tunes.new.items) }
-    ensures answer { delete_tune (state_with tunes.old.items) number
-        (tune_at number tunes.old.items) ≡ (state_with tunes.new.items, result) }
+    requires { IsTunes tunes.old.items }
+    ensures state { IsTunes tunes.new.items }
+    ensures answer { delete_tune tunes.old.items number
+        (tune_at number tunes.old.items) ≡ (tunes.new.items, result) }
 {
     let Some(place) = place_of(tunes, number) else {
         return Err(Refusal::Unknown { number });
@@ -226,8 +228,7 @@ fn delete(tunes: &mut Vec<Tune>, number: u32) -> Result<Reply, Refusal>
 fn show(alloc: Global, tunes: &[Tune], number: u32) -> Result<Reply, Refusal>
     requires { RisesFrom 0 tunes.now }
     ensures { (result ≡ Err Refusal.OutOfMemory)
-        ⊎ (show_tune (state_with tunes.now) number (tune_at number tunes.now)
-        ≡ (state_with tunes.now, result)) }
+        ⊎ (result ≡ shown number (tune_at number tunes.now)) }
 {
     let Some(place) = place_of(tunes, number) else {
         return Err(Refusal::Unknown { number });

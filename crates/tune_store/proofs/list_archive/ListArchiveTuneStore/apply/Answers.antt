@@ -6,7 +6,7 @@ use Rattle.tune_store.proofs.list_archive.ListArchiveTuneStore.apply.Goals as go
 
 answered : (c : goal.After-answer)
     → Answers (open_at c.args.self.now) c.args.command.now c.answer.result (open_at (state_with c.answer.new.tunes.items))
-answered c = rw (← c.self.view_is) (in_memory c.self.inside.tunes.items c.answer.new.tunes.items _ c.answer.result c.answer.ensures.answer)
+answered c = rw (← c.self.view_is) (in_memory _ _ _ c.answer.result c.answer.ensures.answer)
 
 pub returns : goal.returns
 returns c =
@@ -21,6 +21,6 @@ returns c =
       closes = answers_close _ _ _ _ answers;
       when_closed = closed_answers _ _ _ _ answers;
       idle = λ closed. cc;
-      stops = passes_in_memory old new _ c.answer.result answers c.answer.ensures.state;
+      stops = passes_in_memory old new _ c.answer.result answers (record { tunes = c.answer.ensures.state });
       cause = λ honest failed. absurd (never_fails old new _ c.answer.result answers failed);
     }
