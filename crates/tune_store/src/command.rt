@@ -41,7 +41,7 @@ pub enum Reply {
 }
 
 /// Why a command is refused. After each refusal but `Device` the archive is as it was.
-#[derive(Debug, PartialEq, Eq, Drop, Error)]
+#[derive(Clone, Copy, Debug, PartialEq, Eq, Error)]
 pub enum Refusal {
     /// No line of the book begins with `X:`.
     #[error("the book has no tune")]
