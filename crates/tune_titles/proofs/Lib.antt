@@ -1,0 +1,6 @@
+pub mod CutLemmas
+pub mod FrontLemmas
+pub mod ArticleLaw
+pub mod SortLaw
+pub mod OrderLemmas
+pub mod Examples

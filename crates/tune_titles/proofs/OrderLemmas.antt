@@ -1,0 +1,54 @@
+-- The order of texts, byte by byte, and of rows.
+use Rattle.std.proofs.Common.{◌≡◌, ℕ, zero, suc, ◌<◌, ◌≤◌, List, [], ◌∷◌, length, drop, get_or, refl, ap, sym, ◌∙◌, arith, ◌⊎◌, inl, inr, ⊎_elim, eqb}
+use Rattle.std.proofs.lemmas.Bool.{lt-ltb, le-ltb, ne_eqb, eq-eqb, eqb-true, cases_lt}
+use Rattle.std.specs.Char.{to_ascii_lowercase}
+use Rattle.std.specs.Ordering.{nat_cmp, ordering_then}
+use Rattle.std.specs.Cmp.{both_ways, IsTotalOrder, then_total, nat_cmp_total, on_total}
+use Rattle.std.specs.Cmp.Lexicographic.{nat_list_cmp_total}
+use Rattle.tune_titles.specs.Titles.{sorting_title}
+use Rattle.tune_titles.specs.Order.{Row, small_order, row_order, LawOfOrder}
+use Rattle.tune_titles.proofs.SortLaw.{in_order-same, in_order-rises, only_order}
+
+-- from a place on, where both have a byte, the bytes at it come first
+pub order_at : (a b : List ℕ) (i : ℕ) → i < length a → i < length b → small_order (drop i a) (drop i b)
+    ≡ ordering_then (nat_cmp (to_ascii_lowercase (get_or a i 0)) (to_ascii_lowercase (get_or b i 0))) (small_order (drop (suc i) a) (drop (suc i) b))
+order_at [] b i p q = absurd (omega arith)
+order_at (x ∷ a) [] i p q = absurd (omega arith)
+order_at (x ∷ a) (y ∷ b) zero p q = refl
+order_at (x ∷ a) (y ∷ b) (suc i) p q = order_at a b i (omega arith) (omega arith)
+
+same_test : (n m : ℕ) → eqb (suc n) (suc m) ≡ eqb n m
+same_test n m = both_ways (eqb (suc n) (suc m)) (eqb n m) (λ e. let same = eqb-true (suc n) (suc m) e in eq-eqb n m (omega arith))
+    (λ e. eq-eqb (suc n) (suc m) (ap suc (eqb-true n m e)))
+
+nat_cmp_suc : (n m : ℕ) → nat_cmp (suc n) (suc m) ≡ nat_cmp n m
+nat_cmp_suc n m = ⊎_elim
+    (λ l. rw (lt-ltb n m l, lt-ltb (suc n) (suc m) (omega arith)) refl)
+    (λ g. rw (le-ltb n m g, le-ltb (suc n) (suc m) (omega arith), same_test n m) refl)
+    (cases_lt n m)
+
+-- where one of them has no byte more, their lengths decide
+pub order_at_end : (a b : List ℕ) (i : ℕ) → i ≤ length a → i ≤ length b → (length a ≡ i) ⊎ (length b ≡ i)
+    → small_order (drop i a) (drop i b) ≡ nat_cmp (length a) (length b)
+order_at_end [] [] zero p q e = refl
+order_at_end [] (y ∷ b) zero p q e = rw (lt-ltb 0 (suc (length b)) (omega arith)) refl
+order_at_end (x ∷ a) [] zero p q e = rw (le-ltb (suc (length a)) 0 (omega arith), ne_eqb (suc (length a)) 0 (λ s. omega arith)) refl
+order_at_end (x ∷ a) (y ∷ b) zero p q (inl e) = absurd (omega arith)
+order_at_end (x ∷ a) (y ∷ b) zero p q (inr e) = absurd (omega arith)
+order_at_end [] b (suc i) p q e = absurd (omega arith)
+order_at_end (x ∷ a) [] (suc i) p q e = absurd (omega arith)
+order_at_end (x ∷ a) (y ∷ b) (suc i) p q (inl e) = order_at_end a b i (omega arith) (omega arith) (inl (omega arith)) ∙ sym (nat_cmp_suc (length a) (length b))
+order_at_end (x ∷ a) (y ∷ b) (suc i) p q (inr e) = order_at_end a b i (omega arith) (omega arith) (inr (omega arith)) ∙ sym (nat_cmp_suc (length a) (length b))
+
+-- rows are in a total order
+pub row_order_total : IsTotalOrder row_order
+row_order_total =
+    then_total (on_total (λ (r : Row). sorting_title r.title) nat_list_cmp_total)
+    (then_total (on_total (λ (r : Row). r.number) nat_cmp_total) (on_total (λ (r : Row). r.place) nat_cmp_total))
+
+pub law_of_order : (rows : List Row) → LawOfOrder rows
+law_of_order rows = record {
+  same = in_order-same row_order row_order_total rows;
+  rises = in_order-rises row_order row_order_total rows;
+  only = only_order row_order row_order_total rows;
+}

@@ -1,0 +1,3 @@
+pub mod Articles
+pub mod Titles
+pub mod Order

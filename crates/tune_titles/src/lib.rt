@@ -1,0 +1,18 @@
+//! Titles of tunes: the text by which one is sorted, the text that an index shows, which titles and
+//! rhythms a query finds, and the order of an index.
+//!
+//! The articles `The`, `A` and `An` are told apart from the rest of a title by this archive's
+//! profile. The bytes of a title need not be UTF-8: letters are ASCII letters, and all other bytes
+//! stay as they are. What takes memory says so by an `AllocError`, its only error.
+#![tactic(auto)]
+
+mod articles;
+mod lists;
+mod matching;
+mod rows;
+mod shown;
+
+pub use lists::{TitleList, titles_of};
+pub use matching::{TitlePrefix, prefix_matches, rhythm_matches, title_matches_tune};
+pub use rows::{TitleRow, sort_rows};
+pub use shown::{index_title, sort_title};
