@@ -1,10 +1,12 @@
 // A store that keeps a record of its device, and one over a disk that fails.
 use crate::{DiskStore, RecordedStore, apply_to_open};
 use abc_fields::ByteText;
+use std::process::Abort;
 use std::test::Fail;
+use tune_cli::status;
 use tune_disk::{FuseDisk, MemoryDisk};
 use tune_scripts::{RunEnd, run};
-use tune_store::{Command, Refusal, Reply};
+use tune_store::{Command, Refusal, Reply, TuneStore};
 
 #[test]
 fn records_an_import(rt: HostRuntime) -> Result<(), Fail> {
@@ -61,22 +63,75 @@ fn carries_out_changes(rt: HostRuntime) -> Result<(), Fail> {
     Ok(())
 }
 
-// Four device calls are made, two for each mark, and the fifth fails.
+const SCRIPT: &[u8] = b"import 8\nX:1\nK:C\nshow 1\nshow 2\nshow 1\nshow 1\n";
+
+// The script has four commands that are accepted, and each makes two calls of the disk.
+const REPLIES: [&[u8]; 5] = [
+    b"ok import 1 1\n",
+    b"ok show 1 1 8\nX:1\nK:C\n",
+    b"refused 4 Unknown 2\n",
+    b"ok show 1 1 8\nX:1\nK:C\n",
+    b"ok show 1 1 8\nX:1\nK:C\n",
+];
+
+// How many of these replies are written where the call of the disk after so many fails.
+const WRITTEN: [usize; 9] = [0, 0, 1, 1, 3, 3, 4, 4, 5];
+
 #[test]
-fn runs_a_script_over_a_disk_that_fails(rt: HostRuntime) -> Result<(), Fail> {
-    let disk = FuseDisk::new(MemoryDisk::new(rt.alloc()), 4);
-    let mut store = DiskStore::new(rt.alloc(), disk);
-    let mut script = b"import 8\nX:1\nK:C\nshow 1\nshow 2\nshow 1\nshow 1\n".as_slice();
+fn ends_where_the_disk_fails(rt: HostRuntime) -> Result<(), Fail> {
+    for (calls, written) in WRITTEN.iter().enumerate() {
+        let fails = calls < 8;
+        let disk = FuseDisk::new(MemoryDisk::new(rt.alloc()), calls as u64);
+        let mut store = DiskStore::new(rt.alloc(), disk);
+        let mut script = SCRIPT;
+        let mut replies = Vec::new(rt.alloc());
+        let end = run(rt.alloc(), &mut script, &mut replies, &mut store);
+        let mut wanted = Vec::new(rt.alloc());
+        for reply in REPLIES.iter().take(*written) {
+            wanted.extend_from_slice(reply)?;
+        }
+        if fails {
+            wanted.extend_from_slice(b"refused 22 Device\n")?;
+        }
+        assert_eq!(&rt; replies.as_slice(), wanted.as_slice(), "at {calls}");
+        let (wanted_end, wanted_status) = if fails {
+            (RunEnd::DeviceFault, 1)
+        } else {
+            (RunEnd::Ended, 0)
+        };
+        assert_eq!(&rt; end, wanted_end, "at {calls}");
+        assert_eq!(&rt; status(end), wanted_status, "at {calls}");
+        check_next_run(&rt, &mut store, fails, calls)?;
+    }
+    Ok(())
+}
+
+// A store whose disk failed is closed: it answers so, at the first line, and the run ends.
+fn check_next_run<R: AllocGlobal + Abort>(
+    rt: &R,
+    store: &mut DiskStore<FuseDisk<MemoryDisk>>,
+    is_closed: bool,
+    calls: usize,
+) -> Result<(), Fail> {
+    let mut script = b"show 2\nshow 2\n".as_slice();
     let mut replies = Vec::new(rt.alloc());
-    let end = run(rt.alloc(), &mut script, &mut replies, &mut store);
-    assert_eq!(&rt; end, RunEnd::DeviceFault);
-    let written =
-        b"ok import 1 1\nok show 1 1 8\nX:1\nK:C\nrefused 4 Unknown 2\nrefused 22 Device\n";
-    assert_eq!(&rt; replies.as_slice(), written.as_slice());
-    // The store is closed: the line that was not read is answered so.
-    replies.clear();
-    let end = run(rt.alloc(), &mut script, &mut replies, &mut store);
-    assert_eq!(&rt; end, RunEnd::DeviceFault);
-    assert_eq!(&rt; replies.as_slice(), b"refused 23 Closed\n".as_slice());
+    let end = run(rt.alloc(), &mut script, &mut replies, store);
+    let (wanted, wanted_end) = if is_closed {
+        (b"refused 23 Closed\n".as_slice(), RunEnd::DeviceFault)
+    } else {
+        (
+            b"refused 4 Unknown 2\nrefused 4 Unknown 2\n".as_slice(),
+            RunEnd::Ended,
+        )
+    };
+    assert_eq!(rt; replies.as_slice(), wanted, "at {calls}");
+    assert_eq!(rt; end, wanted_end, "at {calls}");
+    let answer = store.apply(&Command::Show(2)).err();
+    let refusal = if is_closed {
+        Refusal::Closed
+    } else {
+        Refusal::Unknown { number: 2 }
+    };
+    assert_eq!(rt; answer, Some(refusal), "at {calls}");
     Ok(())
 }

@@ -77,7 +77,9 @@ pub fn report<T: Print + Eprint>(rt: &T, fault: &WordsFault) -> io::Result<u8>
 
 /// Does what is asked, and gives the status: 0 where the script was run to its end, and else 1.
 ///
-/// The clause speaks of a reader that tells its bytes. Standard input tells none.
+/// What the clause says of the commands that are carried out, of the device and of the status holds
+/// of every reader. That they are those of the input, and what is written, is said of a reader that
+/// tells its bytes. Standard input tells none.
 pub fn act<R: Read, W: Write, T: AllocGlobal>(
     rt: &T,
     action: &Action,
@@ -96,8 +98,8 @@ pub fn act<R: Read, W: Write, T: AllocGlobal>(
     }
 }
 
-// The status that tells how a run ended.
-fn status(end: RunEnd) -> u8
+/// The status that tells how a run ended: 0 at the input's end, and else 1.
+pub fn status(end: RunEnd) -> u8
     ensures { result ≡ status_of end }
 {
     match end {

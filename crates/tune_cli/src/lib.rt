@@ -4,6 +4,6 @@
 mod actions;
 mod command_line;
 
-pub use actions::{act, action, report};
+pub use actions::{act, action, report, status};
 pub use command_line::{Action, VERSION, WordsFault};
 pub use tune_scripts::{LONGEST_LINE, MOST_LINES, RunEnd, run};

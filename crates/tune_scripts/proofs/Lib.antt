@@ -1,5 +1,6 @@
 pub mod Decimals
 pub mod ReadLemmas
 pub mod TakenFields
+pub mod CarriedLemmas
 pub mod TurnLemmas
 pub mod RunLemmas

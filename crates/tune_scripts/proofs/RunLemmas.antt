@@ -1,24 +1,20 @@
 -- A script's turns, one after another, over a writer and a store of any kind.
-use Rattle.std.proofs.Common.{◌≡◌, ℕ, suc, List, [], ◌∷◌, ◌++◌, Option, None, Some, refl, sym, ap, ◌∙◌, subst}
-use Rattle.std.proofs.Common.{◌≤◌, inl, inr, arith}
-use Rattle.std.specs.Prelude.{IfSome, ⊤}
+use Rattle.std.proofs.Common.{◌≡◌, ℕ, suc, false, List, [], ◌++◌, Option, None, Some, refl, sym, ap, ◌∙◌, subst}
+use Rattle.std.specs.Prelude.{IfSome}
 use Rattle.std.specs.Io.KnownBytes.{Appends}
-use Rattle.std.specs.declared.io.Write.{Ghosts}
 use Rattle.std.proofs.lemmas.List.{append_assoc, append-nil}
-use Rattle.tune_store.specs.State.{State, Standing}
-use Rattle.tune_store.specs.Answers.{passed}
-use Rattle.tune_store.specs.Runs.{Answered, RunsPassing}
 use Rattle.tune_store.specs.Stores.{standing_of}
-use Rattle.tune_store.specs.declared.command.Command.{Command}
 use Rattle.tune_store.specs.declared.tune_store.TuneStore as store
 use Rattle.tune_scripts.specs.declared.runs.RunEnd.{RunEnd}
 use Rattle.tune_scripts.specs.declared.runs.RunEnd.TheVariants.{Ended, LineBound, LongLine, ReaderFault, WriterFault, DeviceFault}
 use Rattle.tune_scripts.specs.declared.runs.RunEnd.TheVariants as run
+use Rattle.tune_scripts.specs.Carried.{Carried, CarriesOut, LeftByRun, run_of}
+use Rattle.tune_scripts.specs.Prefixes.{AreAcknowledged}
 use Rattle.tune_scripts.specs.Scripts.{Script, line_bound}
-use Rattle.tune_scripts.specs.ScriptRuns.{Work, work_of, UnlessWriterFails, RunsScript, RunsCommands, LeftByRun, TellsScript}
-use Rattle.tune_scripts.specs.Inside.Turns.{GoesOn, Turns, CarriesOut}
-use Rattle.tune_scripts.proofs.TurnLemmas.{IsQuiet, appends_none}
-use Rattle.tune_store.proofs.StopLemmas.{passes_none, passes_more}
+use Rattle.tune_scripts.specs.ScriptRuns.{Work, work_by, UnlessWriterFails, WritesScript, TellsScript, RunsScript, EndsAfter, at_other_end}
+use Rattle.tune_scripts.specs.Inside.Turns.{GoesOn, Turns, TurnsOver}
+use Rattle.tune_scripts.proofs.TurnLemmas.{appends_none}
+use Rattle.tune_scripts.proofs.CarriedLemmas.{acknowledged_more, ends_more, run_more, carries_more}
 
 appends_more : (a b c : Option (List ℕ)) (x y : List ℕ) → Appends a b x → Appends b c y → Appends a c (x ++ y)
 appends_more None b c x y h k = tt
@@ -37,164 +33,156 @@ unless_writer_by ReaderFault P Q f h = f h
 unless_writer_by WriterFault P Q f h = tt
 unless_writer_by run.OutOfMemory P Q f h = f h
 
--- a run's output and what it left of the input, whatever else is known of the states that it passed
-pub forgets_stops : (lines : ℕ) (old new : Option (List ℕ)) (work : Work) (end : RunEnd) → TellsScript lines old new work end
-    → TellsScript lines old new (record work { Stops = λ _. ⊤ }) end
-forgets_stops lines None new work end h = tt
-forgets_stops lines (Some xs) new work end h = record {
-  unread = h.unread;
-  out = h.out;
-  states = h.states;
-  leaves = h.leaves;
-  written = h.written;
-  stops = tt;
-  script = h.script;
+-- the work of a part of a run and of the rest
+abbrev pub both : Work → Work → Work
+both a b = record { was = a.was; now = b.now; run = a.run ++ b.run; before = a.before; after = b.after }
+
+-- the second begins where the first ended
+pub record Follows (a b : Work) : Type 0 where
+  pub output : a.now ≡ b.was
+  pub stands : a.after ≡ b.before
+
+-- two parts of a run are one
+joins : (lines mid more : ℕ) (input : List ℕ) (between new : Option (List ℕ)) (a b : Work) → Follows a b → (h : GoesOn lines mid input between a)
+    → GoesOn mid more h.rest new b → GoesOn lines more input new (both a b)
+joins lines mid more input between new a b follows h k = record {
+  rest = k.rest;
+  out = h.out ++ k.out;
+  leaves = k.leaves;
+  written = appends_more a.was b.was b.now h.out k.out (subst (λ now. Appends a.was now h.out) follows.output h.written) k.written;
+  onward = λ tail unread later end last s.
+      let then = k.onward tail unread later end last s in
+      let whole = h.onward (k.out ++ tail) unread (b.run ++ later) end last
+      (subst (λ from. Script mid from h.rest (k.out ++ tail) (b.run ++ later) end last unread) (sym follows.stands) then) in
+      rw (append_assoc h.out k.out tail, append_assoc a.run b.run later) whole;
 }
 
--- What the turns so far came to, with at most so many lines from the start and so many from here.
-pub record IsSoFar (lines more : ℕ) (old new : Option (List ℕ)) (work : Work) : Type 0 where
-  pub came : IfSome old (λ input. GoesOn lines more input new work)
+-- a part of a run and the run of the rest are one run
+joins_end : (lines mid : ℕ) (input : List ℕ) (between new : Option (List ℕ)) (end : RunEnd) (a b : Work) → Follows a b
+    → (h : GoesOn lines mid input between a) → WritesScript mid h.rest new b end → WritesScript lines input new (both a b) end
+joins_end lines mid input between new end a b follows h k = record {
+  unread = k.unread;
+  out = h.out ++ k.out;
+  leaves = k.leaves;
+  written =
+      let first = subst (λ now. Appends a.was now h.out) follows.output h.written in
+      unless_writer_by end _ _ (appends_more a.was b.was b.now h.out k.out first) k.written;
+  script = h.onward k.out k.unread b.run end b.after
+      (subst (λ from. Script mid from h.rest k.out b.run end b.after k.unread) (sym follows.stands) k.script);
+}
 
--- one run of commands after another
-runs_more : (first second : List Answered) (a b : List State) (old mid new : Standing) → RunsPassing old first a mid → RunsPassing mid second b new
-    → RunsPassing old (first ++ second) (a ++ b) new
-runs_more [] second a b old mid new h k =
-    let P : List State → Type 0 = λ states. RunsPassing old second (states ++ b) new in
-    let Q : Standing → Type 0 = λ from. RunsPassing from second b new in
-    subst P (sym h.0) (subst Q h.1 k)
-runs_more (next ∷ first) second a b old mid new h k =
-    let gone = passed old.state next.command next.answer in
-    let same : a ++ b ≡ gone ++ (h.1 ++ b) = ap (λ states. states ++ b) h.3 ∙ append_assoc gone h.1 b in
-    (h.0, h.1 ++ b, h.2, same, runs_more first second h.1 b h.0 mid new h.4 k)
+-- no lines are left: the run ends here, and what the turns so far left is unread
+ends_at_bound : (lines : ℕ) (input : List ℕ) (new : Option (List ℕ)) (a : Work) → GoesOn lines 0 input new a → WritesScript lines input new a LineBound
+ends_at_bound lines input new a h = record {
+  unread = h.rest;
+  out = h.out;
+  leaves = h.leaves;
+  written = h.written;
+  script =
+      subst (λ r. Script lines a.before input h.out r LineBound a.after h.rest) (append-nil a.run)
+      (subst (λ out. Script lines a.before input out (a.run ++ []) LineBound a.after h.rest) (append-nil h.out)
+      (h.onward [] h.rest [] LineBound a.after (line_bound a.after h.rest)));
+}
 
-module _ {W S : Type 0} (w : Ghosts W) (s : store.Ghosts S) where
-  -- no call of the store, whatever was written
-  pub quiet : (was now : W) (here : S) → IsQuiet (work_of w s was now here here)
-  quiet was now here = record { same = refl; stops = passes_none s here }
+-- THE LOOP
+module _ {S : Type 0} (s : store.Ghosts S) where
+  -- What the turns so far came to, with at most so many lines from the start and so many from here.
+  pub record IsSoFar (lines more : ℕ) (old_input new_input was now : Option (List ℕ)) (old new : S) : Type 0 where
+    pub carried : List (Carried S)
+    pub carries_out : CarriesOut s old carried new
+    pub acknowledged : AreAcknowledged (run_of carried)
+    pub came : IfSome old_input (λ input. GoesOn lines more input new_input (work_by s was now old carried new))
+
+  -- the work of two parts of a run
+  both_by : (was between now : Option (List ℕ)) (a b : List (Carried S)) (old mid new : S)
+      → both (work_by s was between old a mid) (work_by s between now mid b new) ≡ work_by s was now old (a ++ b) new
+  both_by was between now a b old mid new =
+      ap (λ run. record { was = was; now = now; run = run; before = standing_of s old; after = standing_of s new }) (sym (run_more a b))
 
   -- before the first turn
-  pub so_far_none : (lines : ℕ) (old : Option (List ℕ)) (was : W) (here : S) → IsSoFar lines lines old old (work_of w s was was here here)
-  so_far_none lines None was here = record { came = tt }
+  pub so_far_none : (lines : ℕ) (input was : Option (List ℕ)) (here : S) → IsSoFar lines lines input input was was here here
+  so_far_none lines None was here = record { carried = []; carries_out = refl; acknowledged = tt; came = tt }
   so_far_none lines (Some input) was here = record {
+    carried = [];
+    carries_out = refl;
+    acknowledged = tt;
     came = record {
       rest = input;
       out = [];
-      states = [];
       leaves = refl;
-      written = appends_none (w.contents was);
-      stops = passes_none s here;
+      written = appends_none was;
       onward = λ tail unread later end last k. k;
     };
   }
 
-  -- no command
-  pub commands_none : (was now : W) (here : S) → RunsCommands (work_of w s was now here here)
-  commands_none was now here = record { commands = []; states = []; runs = (refl, refl); stops = passes_none s here }
+  module _ (lines more : ℕ) (new_input was between now : Option (List ℕ)) (old mid new : S) where
+    came_more : (old_input between_input : Option (List ℕ)) (a b : List (Carried S))
+        → IfSome old_input (λ input. GoesOn lines (suc more) input between_input (work_by s was between old a mid))
+        → Turns between_input new_input (work_by s between now mid b new) None
+        → IfSome old_input (λ input. GoesOn lines more input new_input (work_by s was now old (a ++ b) new))
+    came_more None between_input a b h k = tt
+    came_more (Some input) between_input a b h k =
+        let F : Option (List ℕ) → Type 0 = λ m. Turns m new_input (work_by s between now mid b new) None in
+        let follows : Follows (work_by s was between old a mid) (work_by s between now mid b new) = record { output = refl; stands = refl } in
+        subst (λ work. GoesOn lines more input new_input work) (both_by was between now a b old mid new)
+        (joins lines (suc more) more input between_input new_input _ _ follows h (subst F h.leaves k more))
 
-  -- one command
-  pub commands_one : (was now : W) (before after : S) (c : Command) (result : Option RunEnd) → CarriesOut (work_of w s was now before after) c result
-      → RunsCommands (work_of w s was now before after)
-  commands_one was now before after c result h = record {
-    commands = record { command = c; answer = h.answer } ∷ [];
-    states = passed (s.state before) c h.answer;
-    runs = (standing_of s after, [], h.answers, sym (append-nil (passed (s.state before) c h.answer)), (refl, refl));
-    stops = h.stops;
-  }
-
-  -- the commands of two parts of a run
-  pub commands_more : (was between now : W) (before middle after : S) → RunsCommands (work_of w s was between before middle)
-      → RunsCommands (work_of w s between now middle after) → RunsCommands (work_of w s was now before after)
-  commands_more was between now before middle after a b = record {
-    commands = a.commands ++ b.commands;
-    states = a.states ++ b.states;
-    runs = runs_more a.commands b.commands a.states b.states (standing_of s before) (standing_of s middle) (standing_of s after) a.runs b.runs;
-    stops = passes_more s before middle after a.states b.states a.stops b.stops;
-  }
-
-  -- what stops leave since a run, by the laws of its store
-  pub left_by : (was now : W) (before after : S) → RunsCommands (work_of w s was now before after) → s.honest after → s.sound before
-      → ((file : List ℕ) → s.left_since before (s.moment before) file → s.stands_for file (s.state before))
-      → ((since earlier : ℕ) (file : List ℕ) → earlier ≤ since → s.left_since after since file → s.left_since after earlier file)
-      → LeftByRun s before after
-  left_by was now before after a honest sound settled earlier = record {
-    commands = a.commands;
-    states = a.states;
-    runs = a.runs;
-    left = λ since file late left.
-        let early : s.moment before ≤ s.moment before = omega arith in
-        elim (a.stops.leaves sound honest (s.moment before) file early (earlier since (s.moment before) file late left)) [
-          | inl was_left ↦ inl (settled file was_left)
-          | inr one ↦ one
-        ];
-  }
-
-  module _ (was between now : W) (before middle after : S) where
-    -- two parts of a run are one
-    joins : (lines mid more : ℕ) (input : List ℕ) (between_input new : Option (List ℕ))
-        (a : GoesOn lines mid input between_input (work_of w s was between before middle))
-        → GoesOn mid more a.rest new (work_of w s between now middle after) → GoesOn lines more input new (work_of w s was now before after)
-    joins lines mid more input between_input new a b = record {
-      rest = b.rest;
-      out = a.out ++ b.out;
-      states = a.states ++ b.states;
-      leaves = b.leaves;
-      written = appends_more (w.contents was) (w.contents between) (w.contents now) a.out b.out a.written b.written;
-      stops = passes_more s before middle after a.states b.states a.stops b.stops;
-      onward = λ tail unread later end last k.
-          let whole = a.onward (b.out ++ tail) unread (b.states ++ later) end last (b.onward tail unread later end last k) in
-          rw (append_assoc a.out b.out tail, append_assoc a.states b.states later) whole;
-    }
-
-    -- a part of a run and the run of the rest are one run
-    joins_end : (lines mid : ℕ) (input : List ℕ) (between_input new : Option (List ℕ)) (end : RunEnd)
-        (a : GoesOn lines mid input between_input (work_of w s was between before middle))
-        → RunsScript mid a.rest new (work_of w s between now middle after) end → RunsScript lines input new (work_of w s was now before after) end
-    joins_end lines mid input between_input new end a b = record {
-      unread = b.unread;
-      out = a.out ++ b.out;
-      states = a.states ++ b.states;
-      leaves = b.leaves;
-      written =
-          unless_writer_by end _ _ (appends_more (w.contents was) (w.contents between) (w.contents now) a.out b.out a.written) b.written;
-      stops = passes_more s before middle after a.states b.states a.stops b.stops;
-      script = a.onward b.out b.unread b.states end (standing_of s after) b.script;
-    }
+    came_end : (end : RunEnd) (old_input between_input : Option (List ℕ)) (a b : List (Carried S))
+        → IfSome old_input (λ input. GoesOn lines (suc more) input between_input (work_by s was between old a mid))
+        → Turns between_input new_input (work_by s between now mid b new) (Some end)
+        → TellsScript lines old_input new_input (work_by s was now old (a ++ b) new) end
+    came_end end None between_input a b h k = tt
+    came_end end (Some input) between_input a b h k =
+        let F : Option (List ℕ) → Type 0 = λ m. Turns m new_input (work_by s between now mid b new) (Some end) in
+        let follows : Follows (work_by s was between old a mid) (work_by s between now mid b new) = record { output = refl; stands = refl } in
+        subst (λ work. WritesScript lines input new_input work end) (both_by was between now a b old mid new)
+        (joins_end lines (suc more) input between_input new_input end _ _ follows h (subst F h.leaves k more))
 
     -- after one turn more, at which the run does not end
-    pub so_far_more : (lines more : ℕ) (old between_input new : Option (List ℕ))
-        → IsSoFar lines (suc more) old between_input (work_of w s was between before middle)
-        → Turns between_input new (work_of w s between now middle after) None → IsSoFar lines more old new (work_of w s was now before after)
-    so_far_more lines more None between_input new h k = record { came = tt }
-    so_far_more lines more (Some input) between_input new h k =
-        let F : Option (List ℕ) → Type 0 = λ m. Turns m new (work_of w s between now middle after) None in
-        record { came = joins lines (suc more) more input between_input new h.came (subst F h.came.leaves k more) }
+    pub so_far_more : (old_input between_input : Option (List ℕ)) → IsSoFar lines (suc more) old_input between_input was between old mid
+        → TurnsOver s between now mid new None (λ work. Turns between_input new_input work None)
+        → IsSoFar lines more old_input new_input was now old new
+    so_far_more old_input between_input h k = record {
+      carried = h.carried ++ k.carried;
+      carries_out = carries_more s h.carried k.carried old mid new h.carries_out k.carries_out;
+      acknowledged = subst AreAcknowledged (sym (run_more h.carried k.carried))
+          (acknowledged_more (run_of h.carried) (run_of k.carried) h.acknowledged k.goes);
+      came = came_more old_input between_input h.carried k.carried h.came k.tells;
+    }
 
     -- after one turn more, at which it ends
-    pub so_far_end : (lines more : ℕ) (old between_input new : Option (List ℕ)) (end : RunEnd)
-        → IsSoFar lines (suc more) old between_input (work_of w s was between before middle)
-        → Turns between_input new (work_of w s between now middle after) (Some end)
-        → TellsScript lines old new (work_of w s was now before after) end
-    so_far_end lines more None between_input new end h k = tt
-    so_far_end lines more (Some input) between_input new end h k =
-        let F : Option (List ℕ) → Type 0 = λ m. Turns m new (work_of w s between now middle after) (Some end) in
-        joins_end lines (suc more) input between_input new end h.came (subst F h.came.leaves k more)
+    pub so_far_end : (end : RunEnd) (old_input between_input : Option (List ℕ)) → IsSoFar lines (suc more) old_input between_input was between old mid
+        → TurnsOver s between now mid new (Some end) (λ work. Turns between_input new_input work (Some end))
+        → ((carried : List (Carried S)) → CarriesOut s old carried new → EndsAfter end (run_of carried)
+        → s.sound old → s.closed old ≡ false → LeftByRun s old carried new)
+        → RunsScript s lines old_input new_input was now old new end
+    so_far_end end old_input between_input h k left =
+        let carries_out = carries_more s h.carried k.carried old mid new h.carries_out k.carries_out in
+        let ends = subst (EndsAfter end) (sym (run_more h.carried k.carried)) (ends_more end (run_of h.carried) (run_of k.carried) h.acknowledged k.goes) in
+        record {
+          carried = h.carried ++ k.carried;
+          carries_out = carries_out;
+          ends = ends;
+          script = came_end end old_input between_input h.carried k.carried h.came k.tells;
+          stops = left (h.carried ++ k.carried) carries_out ends;
+        }
 
-  -- no lines are left: the run ends here, and what the turns so far left is unread
-  pub so_far_all : (lines : ℕ) (old new : Option (List ℕ)) (was now : W) (before after : S)
-      → IsSoFar lines 0 old new (work_of w s was now before after) → TellsScript lines old new (work_of w s was now before after) LineBound
-  so_far_all lines None new was now before after h = tt
-  so_far_all lines (Some input) new was now before after h =
-      let a = h.came in
-      let end = standing_of s after in
+  came_all : (lines : ℕ) (old_input new_input : Option (List ℕ)) (work : Work)
+      → IfSome old_input (λ input. GoesOn lines 0 input new_input work) → TellsScript lines old_input new_input work LineBound
+  came_all lines None new_input work h = tt
+  came_all lines (Some input) new_input work h = ends_at_bound lines input new_input work h
+
+  -- no lines are left
+  pub so_far_all : (lines : ℕ) (old_input new_input was now : Option (List ℕ)) (old new : S) → IsSoFar lines 0 old_input new_input was now old new
+      → ((carried : List (Carried S)) → CarriesOut s old carried new → EndsAfter LineBound (run_of carried)
+      → s.sound old → s.closed old ≡ false → LeftByRun s old carried new)
+      → RunsScript s lines old_input new_input was now old new LineBound
+  so_far_all lines old_input new_input was now old new h left =
+      let ends : EndsAfter LineBound (run_of h.carried) = at_other_end LineBound (run_of h.carried) tt h.acknowledged in
       record {
-        unread = a.rest;
-        out = a.out;
-        states = a.states;
-        leaves = a.leaves;
-        written = a.written;
-        stops = a.stops;
-        script =
-            subst (λ states. Script lines (standing_of s before) input a.out states LineBound end a.rest) (append-nil a.states)
-            (subst (λ out. Script lines (standing_of s before) input out (a.states ++ []) LineBound end a.rest) (append-nil a.out)
-            (a.onward [] a.rest [] LineBound end (line_bound end a.rest)));
+        carried = h.carried;
+        carries_out = h.carries_out;
+        ends = ends;
+        script = came_all lines old_input new_input (work_by s was now old h.carried new) h.came;
+        stops = left h.carried h.carries_out ends;
       }

@@ -1,15 +1,19 @@
 -- What one line of a script, with its book, comes to.
-use Rattle.std.proofs.Common.{◌≡◌, ℕ, suc, ◌+◌, ◌<◌, ◌≤◌, Bool, true, false, cond, List, [], ◌∷◌, ◌++◌, length, drop, Option, None, Some, refl, ap, sym}
-use Rattle.std.proofs.Common.{◌∙◌, subst, inl, inr, arith}
+use Rattle.std.proofs.Common.{◌≡◌, ℕ, suc, ◌+◌, ◌<◌, ◌≤◌, Bool, true, false, cond, List, [], ◌∷◌, ◌++◌, ◌⊎◌, length, drop, Option, None, Some, refl, ap, sym}
+use Rattle.std.proofs.Common.{◌∙◌, subst, inl, inr, arith, Result}
 use Rattle.std.specs.Io.KnownBytes.{Appends, Consumes, IsAtEnd}
 use Rattle.std.proofs.lemmas.List.{append-nil, take_at, drop_at, length-append}
 use Rattle.std.proofs.lemmas.Bool.{le-ltb, lt-ltb}
 use Rattle.abc_fields.specs.Words.{words_of}
 use Rattle.abc_fields.specs.Limits.{longest_book}
-use Rattle.tune_store.specs.State.{State, Standing}
-use Rattle.tune_store.specs.Answers.{passed, stays_open}
+use Rattle.tune_store.specs.State.{Standing}
+use Rattle.tune_store.specs.Answers.{Answers, stays_open}
+use Rattle.tune_store.specs.Runs.{Answered}
 use Rattle.tune_store.specs.declared.command.Command.{Command}
+use Rattle.tune_store.specs.declared.command.Reply.{Reply}
+use Rattle.tune_store.specs.declared.command.Refusal.{Refusal}
 use Rattle.tune_store.specs.declared.command.Refusal.TheVariants.{BookTooLong, OutOfMemory}
+use Rattle.tune_store.specs.declared.tune_store.TuneStore as store
 use Rattle.tune_scripts.specs.declared.script_lines.ScriptLine.{ScriptLine}
 use Rattle.tune_scripts.specs.declared.script_lines.BookUse.{BookUse}
 use Rattle.tune_scripts.specs.declared.runs.RunEnd.{RunEnd}
@@ -18,12 +22,14 @@ use Rattle.tune_scripts.specs.Limits.{longest_line}
 use Rattle.tune_scripts.specs.ScriptLines.{meaning_of, command_of}
 use Rattle.tune_scripts.specs.InputLines.{before_feed, after_feed, has_feed}
 use Rattle.tune_scripts.specs.Replies.{answer_bytes, refusal_bytes, bad_line_bytes}
+use Rattle.tune_scripts.specs.Carried.{Carried}
+use Rattle.tune_scripts.specs.Prefixes.{AreAcknowledged}
 use Rattle.tune_scripts.specs.Scripts.{reading_of, reading_of_book, reading_of_meaning, reading_of_line, line_text, long_line, blank_line, bad_line, cut_book}
 use Rattle.tune_scripts.specs.Scripts.{long_book, whole_command, Script, ended, device_fault, at_long_line, at_cut_book, after_blank_line, after_bad_line}
 use Rattle.tune_scripts.specs.Scripts.{after_long_book, after_no_room, after_answer, reader_fault, writer_fault, writer_fault_after}
-use Rattle.tune_scripts.specs.ScriptRuns.{Work}
+use Rattle.tune_scripts.specs.ScriptRuns.{Work, work_by, at_other_end, at_device_fault}
 use Rattle.tune_scripts.specs.Inside.Reads.{IsLineRead, TakesLine, LosesLongLine, IsCut}
-use Rattle.tune_scripts.specs.Inside.Turns.{GoesOn, TurnOf, Turns, TurnsBook, WritesOut, CarriesOut}
+use Rattle.tune_scripts.specs.Inside.Turns.{GoesOn, TurnOf, Turns, TurnsBook, TurnsOver, GoesBy, WritesOut, IsCarriedOut, next_of}
 
 pub appends_none : (a : Option (List ℕ)) → Appends a a []
 appends_none None = tt
@@ -32,62 +38,73 @@ appends_none (Some xs) = sym (append-nil xs)
 -- the store was left alone
 pub record IsQuiet (work : Work) : Type 0 where
   pub same : work.before ≡ work.after
-  pub stops : work.Stops []
+  pub none : work.run ≡ []
 
 -- what starts where the store stood starts where it stands
-starts_where : {n : ℕ} {rest out unread : List ℕ} {states : List State} {end : RunEnd} {last : Standing} (work : Work) → IsQuiet work
-    → Script n work.after rest out states end last unread → Script n work.before rest out states end last unread
-starts_where {n = n} {rest = rest} {out = out} {unread = unread} {states = states} {end = end} {last = last} work quiet k =
-    subst (λ s. Script n s rest out states end last unread) (sym quiet.same) k
+starts_where : {n : ℕ} {rest out unread : List ℕ} {run : List Answered} {end : RunEnd} {last : Standing} (work : Work) → IsQuiet work
+    → Script n work.after rest out run end last unread → Script n work.before rest out run end last unread
+starts_where {n = n} {rest = rest} {out = out} {unread = unread} {run = run} {end = end} {last = last} work quiet k =
+    subst (λ s. Script n s rest out run end last unread) (sym quiet.same) k
 
--- what ends where the store stood ends where it stands
-ends_where : {n : ℕ} {input out unread : List ℕ} {states : List State} {end : RunEnd} (work : Work) → IsQuiet work
-    → Script n work.before input out states end work.before unread → Script n work.before input out states end work.after unread
-ends_where {n = n} {input = input} {out = out} {unread = unread} {states = states} {end = end} work quiet k =
-    subst (λ s. Script n work.before input out states end s unread) quiet.same k
+-- what ends where the store stood, with no command, ends where it stands
+ends_where : {n : ℕ} {input out unread : List ℕ} {end : RunEnd} (work : Work) → IsQuiet work
+    → Script n work.before input out [] end work.before unread → Script n work.before input out work.run end work.after unread
+ends_where {n = n} {input = input} {out = out} {unread = unread} {end = end} work quiet k =
+    subst (λ run. Script n work.before input out run end work.after unread) (sym quiet.none)
+    (subst (λ s. Script n work.before input out [] end s unread) quiet.same k)
 
 -- ONE TURN
+-- One command was carried out, and its answer was written, or the writer failed.
+pub record IsOne (work : Work) (c : Command) (result : Option RunEnd) : Type 0 where
+  pub answer : Result Reply Refusal
+  pub run : work.run ≡ record { command = c; answer = answer } ∷ []
+  pub answers : Answers work.before c answer work.after
+  pub written : WritesOut work.was work.now (answer_bytes answer) (next_of answer) result
+
 -- after a command, by whether its answer lets the run go on
 turn_goes : (input rest : List ℕ) (left : Option (List ℕ)) (work : Work) (c : Command) (result : Option RunEnd)
-    (h : CarriesOut work c result) (b : Bool) → reading_of input ≡ whole_command c rest → left ≡ Some rest
+    (h : IsOne work c result) (b : Bool) → reading_of input ≡ whole_command c rest → left ≡ Some rest
     → stays_open h.answer ≡ b → Appends work.was work.now (answer_bytes h.answer) → result ≡ cond b None (Some DeviceFault)
     → TurnOf input left work result
 turn_goes input rest left work c result h true r l o w e = rw e (λ n. record {
   rest = rest;
   out = answer_bytes h.answer;
-  states = passed work.before.state c h.answer;
   leaves = l;
   written = w;
-  stops = h.stops;
-  onward = λ tail unread later end last k. after_answer n work.before work.after last input rest tail unread later end c h.answer r h.answers o k;
+  onward = λ tail unread later end last k.
+      let next : Answered = record { command = c; answer = h.answer } in
+      subst (λ run. Script (suc n) work.before input (answer_bytes h.answer ++ tail) (run ++ later) end last unread) (sym h.run)
+      (after_answer n work.before work.after last input rest tail unread next later end r h.answers o k);
 })
 turn_goes input rest left work c result h false r l o w e = rw e (λ n. record {
   unread = rest;
   out = answer_bytes h.answer;
-  states = passed work.before.state c h.answer;
   leaves = l;
   written = w;
-  stops = h.stops;
-  script = device_fault n work.before work.after input rest c h.answer r h.answers o;
+  script =
+      let next : Answered = record { command = c; answer = h.answer } in
+      subst (λ run. Script (suc n) work.before input (answer_bytes h.answer) run DeviceFault work.after rest) (sym h.run)
+      (device_fault n work.before work.after input rest next r h.answers o);
 })
 
 -- after a command whose answer the writer failed to take
 turn_unwritten : (input rest : List ℕ) (left : Option (List ℕ)) (work : Work) (c : Command) (result : Option RunEnd)
-    (h : CarriesOut work c result) → reading_of input ≡ whole_command c rest → left ≡ Some rest → result ≡ Some WriterFault
+    (h : IsOne work c result) → reading_of input ≡ whole_command c rest → left ≡ Some rest → result ≡ Some WriterFault
     → TurnOf input left work result
 turn_unwritten input rest left work c result h r l fault = rw fault (λ n. record {
   unread = rest;
   out = [];
-  states = passed work.before.state c h.answer;
   leaves = l;
   written = tt;
-  stops = h.stops;
-  script = writer_fault_after n work.before work.after input rest c h.answer r h.answers;
+  script =
+      let next : Answered = record { command = c; answer = h.answer } in
+      subst (λ run. Script (suc n) work.before input [] run WriterFault work.after rest) (sym h.run)
+      (writer_fault_after n work.before work.after input rest next r h.answers);
 })
 
 -- after a command
 pub turn_answered : (input rest : List ℕ) (left : Option (List ℕ)) (work : Work) (c : Command) (result : Option RunEnd)
-    → reading_of input ≡ whole_command c rest → left ≡ Some rest → CarriesOut work c result → TurnOf input left work result
+    → reading_of input ≡ whole_command c rest → left ≡ Some rest → IsOne work c result → TurnOf input left work result
 turn_answered input rest left work c result r l h = elim h.written [
   | inl fault ↦ turn_unwritten input rest left work c result h r l fault
   | inr w ↦ turn_goes input rest left work c result h (stays_open h.answer) r l refl w.1 w.0
@@ -99,10 +116,8 @@ quiet_fault : (input rest : List ℕ) (left : Option (List ℕ)) (work : Work) (
 quiet_fault input rest left work result l quiet fault = rw fault (λ n. record {
   unread = rest;
   out = [];
-  states = [];
   leaves = l;
   written = tt;
-  stops = quiet.stops;
   script = ends_where work quiet (writer_fault n work.before input rest);
 })
 
@@ -112,27 +127,25 @@ turn_fault : (input : List ℕ) (left : Option (List ℕ)) (work : Work) → IsQ
 turn_fault input left work quiet w = λ n. record {
   unread = input;
   out = [];
-  states = [];
   leaves = tt;
   written = w;
-  stops = quiet.stops;
   script = ends_where work quiet (reader_fault n work.before input);
 }
 
--- what a turn adds that leaves the store alone: these bytes, and no state
+-- what a turn adds that leaves the store alone: these bytes, and no command
 adds_bytes : (lines more : ℕ) (input rest bytes : List ℕ) (left : Option (List ℕ)) (work : Work) → left ≡ Some rest → IsQuiet work
     → Appends work.was work.now bytes
-    → ((tail unread : List ℕ) (later : List State) (end : RunEnd) (last : Standing) → Script more work.before rest tail later end last unread
+    → ((tail unread : List ℕ) (later : List Answered) (end : RunEnd) (last : Standing) → Script more work.before rest tail later end last unread
     → Script lines work.before input (bytes ++ tail) later end last unread)
     → GoesOn lines more input left work
 adds_bytes lines more input rest bytes left work l quiet w f = record {
   rest = rest;
   out = bytes;
-  states = [];
   leaves = l;
   written = w;
-  stops = quiet.stops;
-  onward = λ tail unread later end last k. f tail unread later end last (starts_where work quiet k);
+  onward = λ tail unread later end last k.
+      subst (λ run. Script lines work.before input (bytes ++ tail) (run ++ later) end last unread) (sym quiet.none)
+      (f tail unread later end last (starts_where work quiet k));
 }
 
 -- after a line without a word
@@ -172,10 +185,8 @@ turn_cut input left work result r l quiet (inl fault) = quiet_fault input [] lef
 turn_cut input left work result r l quiet (inr h) = rw h.0 (λ n. record {
   unread = [];
   out = bad_line_bytes;
-  states = [];
   leaves = l;
   written = h.1;
-  stops = quiet.stops;
   script = ends_where work quiet (at_cut_book n work.before input r);
 })
 
@@ -187,10 +198,8 @@ turn_long input left work result r l quiet (inl fault) = quiet_fault input (drop
 turn_long input left work result r l quiet (inr h) = rw h.0 (λ n. record {
   unread = drop (longest_line + 1) input;
   out = bad_line_bytes;
-  states = [];
   leaves = l;
   written = h.1;
-  stops = quiet.stops;
   script = ends_where work quiet (at_long_line n work.before input r);
 })
 
@@ -238,7 +247,7 @@ book_no_room book_use len (Some xs) (Some ys) work result got e h c quiet w = λ
 
 -- a book that was read, and the command over it carried out
 pub book_whole : (book_use : BookUse) (len : ℕ) (old new : Option (List ℕ)) (work : Work) (result : Option RunEnd) (got : List ℕ)
-    → length got ≡ len → len ≤ longest_book → Consumes old new got → CarriesOut work (command_of book_use got) result
+    → length got ≡ len → len ≤ longest_book → Consumes old new got → IsOne work (command_of book_use got) result
     → TurnsBook book_use len old new work result
 book_whole book_use len None new work result got e h c w = tt
 book_whole book_use len (Some xs) None work result got e h c w = absurd c
@@ -292,10 +301,8 @@ from_end (Some xs) None work h k quiet w = absurd k
 from_end (Some xs) (Some ys) work h k quiet w = λ n. record {
   unread = [];
   out = [];
-  states = [];
   leaves = ap Some (sym k ∙ h);
   written = w;
-  stops = quiet.stops;
   script = ends_where work quiet (ended n work.before xs (ap reading_of h));
 }
 
@@ -316,3 +323,57 @@ pub book_fault : (book_use : BookUse) (len : ℕ) (old new : Option (List ℕ)) 
     → TurnsBook book_use len old new work (Some ReaderFault)
 book_fault book_use len None new work quiet w = tt
 book_fault book_use len (Some xs) new work quiet w = λ input r. turn_fault input new work quiet w
+
+-- TURNS OVER ANY READER
+-- after an answer the run goes on, or ends as the answer asks
+goes_by : (c : Command) (answer : Result Reply Refusal) (b : Bool) (result : Option RunEnd) → stays_open answer ≡ b
+    → (result ≡ Some WriterFault) ⊎ (result ≡ cond b None (Some DeviceFault)) → GoesBy result (record { command = c; answer = answer } ∷ [])
+goes_by c answer true result go (inl fault) =
+    let all : AreAcknowledged (record { command = c; answer = answer } ∷ []) = (go, tt) in rw fault (at_other_end WriterFault _ tt all)
+goes_by c answer true result go (inr on) = rw on (go, tt)
+goes_by c answer false result shut (inl fault) = rw fault (at_device_fault WriterFault _ [] _ refl tt shut tt)
+goes_by c answer false result shut (inr device) = rw device (at_device_fault DeviceFault _ [] _ refl tt shut tt)
+
+module _ {S : Type 0} (s : store.Ghosts S) where
+  -- no call of the store, whatever was written
+  pub quiet_by : (was now : Option (List ℕ)) (here : S) → IsQuiet (work_by s was now here [] here)
+  quiet_by was now here = record { same = refl; none = refl }
+
+  -- a turn without a command
+  pub over_none : (was now : Option (List ℕ)) (here : S) (result : Option RunEnd) (Tells : Work → Type 0) → GoesBy result []
+      → (IsQuiet (work_by s was now here [] here) → Tells (work_by s was now here [] here)) → TurnsOver s was now here here result Tells
+  over_none was now here result Tells goes tells =
+      record { carried = []; carries_out = refl; goes = goes; tells = tells (quiet_by was now here) }
+
+  -- a turn with a command
+  pub over_one : (was now : Option (List ℕ)) (old new : S) (c : Command) (result : Option RunEnd) (Tells : Work → Type 0)
+      → IsCarriedOut s was now old new c result → ((work : Work) → IsOne work c result → Tells work) → TurnsOver s was now old new result Tells
+  over_one was now old new c result Tells h tells =
+      let one : Carried S = record { command = c; answer = h.answer; after = new } in
+      record {
+        carried = one ∷ [];
+        carries_out = (h.carried, refl);
+        goes = goes_by c h.answer (stays_open h.answer) result refl (elim h.written [ inl fault ↦ inl fault | inr w ↦ inr w.0 ]);
+        tells = tells (work_by s was now old (one ∷ []) new) (record {
+          answer = h.answer;
+          run = refl;
+          answers = h.carried.answers;
+          written = h.written;
+        });
+      }
+
+  -- a turn of which more is told
+  pub over_told : (was now : Option (List ℕ)) (old new : S) (result : Option RunEnd) (Knows Tells : Work → Type 0)
+      → TurnsOver s was now old new result Knows → ((work : Work) → Knows work → Tells work) → TurnsOver s was now old new result Tells
+  over_told was now old new result Knows Tells h tells = record {
+    carried = h.carried;
+    carries_out = h.carries_out;
+    goes = h.goes;
+    tells = tells (work_by s was now old h.carried new) h.tells;
+  }
+
+-- what a line without a command that is answered makes of a run
+pub goes_quiet : (was now : Option (List ℕ)) (bytes : List ℕ) (next result : Option RunEnd) → GoesBy next [] → WritesOut was now bytes next result
+    → GoesBy result []
+goes_quiet was now bytes next result goes (inl fault) = rw fault (at_other_end WriterFault [] tt tt)
+goes_quiet was now bytes next result goes (inr w) = rw w.0 goes

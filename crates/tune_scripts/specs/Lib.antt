@@ -2,6 +2,8 @@ pub mod Limits
 pub mod ScriptLines
 pub mod InputLines
 pub mod Replies
+pub mod Prefixes
+pub mod Carried
 pub mod Scripts
 pub mod ScriptRuns
 pub mod Inside

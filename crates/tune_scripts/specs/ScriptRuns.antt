@@ -1,35 +1,64 @@
 -- Runs of scripts, over a reader, a writer and a store of any kind.
-use Rattle.std.specs.Prelude.{◌≡◌, ℕ, List, Option, Some, IfSome, ⊤, ◌≤◌, ◌∷◌}
+use Rattle.std.specs.Prelude.{◌≡◌, ℕ, List, [], ◌∷◌, ◌++◌, false, Option, Some, IfSome, ⊤}
 use Rattle.std.specs.Io.KnownBytes.{Appends}
-use Rattle.std.specs.declared.io.Write.{Ghosts}
-use Rattle.tune_store.specs.State.{State, Standing}
-use Rattle.tune_store.specs.Runs.{Answered, RunsPassing}
-use Rattle.tune_store.specs.Stops.{StandsForOne}
-use Rattle.tune_store.specs.Stores.{StorePasses, standing_of}
+use Rattle.tune_store.specs.State.{Standing}
+use Rattle.tune_store.specs.Answers.{stays_open}
+use Rattle.tune_store.specs.Runs.{Answered}
+use Rattle.tune_store.specs.Stores.{standing_of}
 use Rattle.tune_store.specs.declared.tune_store.TuneStore as store
 use Rattle.tune_scripts.specs.declared.runs.RunEnd.{RunEnd}
 use Rattle.tune_scripts.specs.declared.runs.RunEnd.TheVariants.{ReaderFault, WriterFault}
+use Rattle.tune_scripts.specs.declared.runs.RunEnd.TheVariants.{DeviceFault, OutOfMemory}
+use Rattle.tune_scripts.specs.Carried.{Carried, CarriesOut, LeftByRun, run_of}
+use Rattle.tune_scripts.specs.Prefixes.{AreAcknowledged}
 use Rattle.tune_scripts.specs.Scripts.{Script}
 
--- The work of a run, or of a part of it.
-pub record Work : Type 1 where
+-- HOW A RUN ENDS
+-- an end that comes where the last answer was that the device failed: it is written, or the writer
+-- fails
+abbrev pub IsEndByDevice : RunEnd → Type 0
+IsEndByDevice DeviceFault = ⊤
+IsEndByDevice WriterFault = ⊤
+IsEndByDevice end = ⊥
+
+-- an end that comes where no answer was that the device failed: a run takes no memory before its
+-- first line, so it does not end for want of it
+abbrev pub IsOtherEnd : RunEnd → Type 0
+IsOtherEnd DeviceFault = ⊥
+IsOtherEnd OutOfMemory = ⊥
+IsOtherEnd end = ⊤
+
+-- How a run ends, by the answers to its commands.
+pub data EndsAfter : RunEnd → List Answered → Type 0 where
+  -- none was that the device failed
+  at_other_end : (end : RunEnd) (run : List Answered) → IsOtherEnd end → AreAcknowledged run
+      → EndsAfter end run
+  -- the last was, and it alone
+  at_device_fault : (end : RunEnd) (run before : List Answered) (last : Answered)
+      → run ≡ before ++ last ∷ [] → AreAcknowledged before → stays_open last.answer ≡ false
+      → IsEndByDevice end → EndsAfter end run
+
+-- WHAT A RUN READS AND WRITES
+-- What a run did, or a part of it.
+pub record Work : Type 0 where
   -- the bytes of the output before and after it, where the writer tells them
   pub was : Option (List ℕ)
   pub now : Option (List ℕ)
+  -- the commands that the store carried out, with their answers
+  pub run : List Answered
   -- what the store stands for before and after it
   pub before : Standing
   pub after : Standing
-  -- what stops may leave of the store, by the states that it passed
-  pub Stops : List State → Type 0
 
--- the work between two moments of a writer and a store
-abbrev pub work_of : {W S : Type 0} → Ghosts W → store.Ghosts S → W → W → S → S → Work
-work_of W S old_writer new_writer old_store new_store = record {
-  was = W.contents old_writer;
-  now = W.contents new_writer;
-  before = standing_of S old_store;
-  after = standing_of S new_store;
-  Stops = StorePasses S old_store new_store;
+-- the same by the output, and by what a store carried out
+abbrev pub work_by : {S : Type 0} → store.Ghosts S → Option (List ℕ) → Option (List ℕ) → S
+    → List (Carried S) → S → Work
+work_by kept was now old carried new = record {
+  was = was;
+  now = now;
+  run = run_of carried;
+  before = standing_of kept old;
+  after = standing_of kept new;
 }
 
 -- what holds of what was written: a writer that failed holds any bytes
@@ -42,38 +71,31 @@ abbrev pub UnlessReaderFails : RunEnd → Type 0 → Type 0
 UnlessReaderFails ReaderFault P = ⊤
 UnlessReaderFails end P = P
 
--- A run wrote what the script of this input writes, left unread what the script leaves, and stops
--- leave of the store what the states allow that the script passes. After a fault of the reader what
--- was written is the replies before it, and after one of the writer the store is as the commands so
--- far leave it.
-pub record RunsScript (lines : ℕ) (input : List ℕ) (left : Option (List ℕ)) (work : Work)
+-- A run wrote what the script of this input writes, left unread what the script leaves, and had the
+-- script's commands carried out, and no other. After a fault of the reader what was written is the
+-- replies before it, and after one of the writer the store is as the commands so far leave it.
+pub record WritesScript (lines : ℕ) (input : List ℕ) (left : Option (List ℕ)) (work : Work)
     (end : RunEnd) : Type 0 where
   pub unread : List ℕ
   pub out : List ℕ
-  pub states : List State
   pub leaves : UnlessReaderFails end (left ≡ Some unread)
   pub written : UnlessWriterFails end (Appends work.was work.now out)
-  pub stops : work.Stops states
-  pub script : Script lines work.before input out states end work.after unread
+  pub script : Script lines work.before input out work.run end work.after unread
 
--- Whatever the reader tells, the store carried out commands one after another, and stops leave of
--- it what the states allow that it passed.
-pub record RunsCommands (work : Work) : Type 0 where
-  pub commands : List Answered
-  pub states : List State
-  pub runs : RunsPassing work.before commands states work.after
-  pub stops : work.Stops states
-
--- what a run comes to, where the reader tells its bytes, by what is left of them before and after
--- the run
+-- the same where the reader tells its bytes, by what is left of them before and after the run
 abbrev pub TellsScript : ℕ → Option (List ℕ) → Option (List ℕ) → Work → RunEnd → Type 0
-TellsScript lines old new work end = IfSome old (λ input. RunsScript lines input new work end)
+TellsScript lines old new work end = IfSome old (λ input. WritesScript lines input new work end)
 
--- Stops since a run of commands leave the state before them, or one that they went on to.
-pub record LeftByRun {S : Type 0} (kept : store.Ghosts S) (old new : S) : Type 0 where
-  pub commands : List Answered
-  pub states : List State
-  pub runs : RunsPassing (standing_of kept old) commands states (standing_of kept new)
-  pub left : (since : ℕ) (file : List ℕ) → kept.moment old ≤ since
-      → kept.left_since new since file
-      → StandsForOne kept.stands_for (kept.state old ∷ states) file
+-- THE WHOLE
+-- What a run of a script comes to: one list of commands, of which everything is said.
+pub record RunsScript {S : Type 0} (kept : store.Ghosts S) (lines : ℕ)
+    (input left was now : Option (List ℕ)) (old new : S) (end : RunEnd) : Type 0 where
+  pub carried : List (Carried S)
+  -- the store carried them out, and nothing else
+  pub carries_out : CarriesOut kept old carried new
+  -- the run ended by the device exactly where the last answer was that it failed
+  pub ends : EndsAfter end (run_of carried)
+  -- they are those of the script, and so are the replies
+  pub script : TellsScript lines input left (work_by kept was now old carried new) end
+  -- a stop leaves the state after a prefix of them, and what was acknowledged stays
+  pub stops : kept.sound old → kept.closed old ≡ false → LeftByRun kept old carried new

@@ -1,16 +1,15 @@
 -- What a script means: its commands one by one, the bytes of their replies, how the run ends, and
 -- what it leaves of the input.
 use Rattle.std.specs.Prelude.{◌≡◌, ℕ, suc, ◌+◌, List, [], ◌∷◌, ◌++◌, length, take, drop, Bool}
-use Rattle.std.specs.Prelude.{nat_lt, if◌then◌else◌, Result, true, false}
+use Rattle.std.specs.Prelude.{nat_lt, if◌then◌else◌, true, false}
 use Rattle.std.specs.Io.BufRead.{strip_last}
 use Rattle.abc_fields.specs.Bytes.{carriage_return}
 use Rattle.abc_fields.specs.Words.{words_of}
 use Rattle.abc_fields.specs.Limits.{longest_book}
-use Rattle.tune_store.specs.State.{State, Standing}
-use Rattle.tune_store.specs.Answers.{Answers, passed, stays_open}
+use Rattle.tune_store.specs.State.{Standing}
+use Rattle.tune_store.specs.Answers.{Answers, stays_open}
+use Rattle.tune_store.specs.Runs.{Answered}
 use Rattle.tune_store.specs.declared.command.Command.{Command}
-use Rattle.tune_store.specs.declared.command.Reply.{Reply}
-use Rattle.tune_store.specs.declared.command.Refusal.{Refusal}
 use Rattle.tune_store.specs.declared.command.Refusal.TheVariants.{BookTooLong, OutOfMemory}
 use Rattle.tune_scripts.specs.declared.script_lines.ScriptLine.{ScriptLine}
 use Rattle.tune_scripts.specs.declared.script_lines.ScriptLine.TheVariants.{Blank, Bad, Whole, Book}
@@ -70,10 +69,10 @@ reading_of (b ∷ input) =
     reading_of_line (before_feed (b ∷ input)) (has_feed (b ∷ input)) (after_feed (b ∷ input))
 
 -- WHOLE SCRIPTS
--- With at most so many lines, from what a store stands for, an input writes these bytes, passes
--- these states one after another, ends so, leaves the store standing for this, and has this last
--- part that is not read.
-pub data Script : ℕ → Standing → List ℕ → List ℕ → List State → RunEnd → Standing → List ℕ
+-- With at most so many lines, from what a store stands for, an input writes these bytes, has these
+-- commands carried out and answered, one after another, ends so, leaves the store standing for
+-- this, and has this last part that is not read.
+pub data Script : ℕ → Standing → List ℕ → List ℕ → List Answered → RunEnd → Standing → List ℕ
     → Type 0 where
   -- THE ENDS
   -- no more lines are read, whether there are more or not: all of the input is left
@@ -86,10 +85,10 @@ pub data Script : ℕ → Standing → List ℕ → List ℕ → List State → 
   at_cut_book : (n : ℕ) (s : Standing) (input : List ℕ) → reading_of input ≡ cut_book
       → Script (suc n) s input bad_line_bytes [] Ended s []
   -- the device failed, in this command or before
-  device_fault : (n : ℕ) (s mid : Standing) (input rest : List ℕ) (c : Command)
-      (answer : Result Reply Refusal) → reading_of input ≡ whole_command c rest
-      → Answers s c answer mid → stays_open answer ≡ false
-      → Script (suc n) s input (answer_bytes answer) (passed s.state c answer) DeviceFault mid rest
+  device_fault : (n : ℕ) (s mid : Standing) (input rest : List ℕ) (next : Answered)
+      → reading_of input ≡ whole_command next.command rest
+      → Answers s next.command next.answer mid → stays_open next.answer ≡ false
+      → Script (suc n) s input (answer_bytes next.answer) (next ∷ []) DeviceFault mid rest
   -- the reader failed in the next line or in its book: what was written is the replies before it
   reader_fault : (n : ℕ) (s : Standing) (input : List ℕ)
       → Script (suc n) s input [] [] ReaderFault s input
@@ -97,32 +96,31 @@ pub data Script : ℕ → Standing → List ℕ → List ℕ → List State → 
   writer_fault : (n : ℕ) (s : Standing) (input rest : List ℕ)
       → Script (suc n) s input [] [] WriterFault s rest
   -- or to a command, which took place
-  writer_fault_after : (n : ℕ) (s mid : Standing) (input rest : List ℕ) (c : Command)
-      (answer : Result Reply Refusal) → reading_of input ≡ whole_command c rest
-      → Answers s c answer mid
-      → Script (suc n) s input [] (passed s.state c answer) WriterFault mid rest
+  writer_fault_after : (n : ℕ) (s mid : Standing) (input rest : List ℕ) (next : Answered)
+      → reading_of input ≡ whole_command next.command rest
+      → Answers s next.command next.answer mid
+      → Script (suc n) s input [] (next ∷ []) WriterFault mid rest
   -- ONE LINE, AND THEN THE REST
   after_blank_line : (n : ℕ) (s t : Standing) (input rest out unread : List ℕ)
-      (states : List State) (end : RunEnd) → reading_of input ≡ blank_line rest
-      → Script n s rest out states end t unread
-      → Script (suc n) s input out states end t unread
+      (run : List Answered) (end : RunEnd) → reading_of input ≡ blank_line rest
+      → Script n s rest out run end t unread
+      → Script (suc n) s input out run end t unread
   after_bad_line : (n : ℕ) (s t : Standing) (input rest out unread : List ℕ)
-      (states : List State) (end : RunEnd) → reading_of input ≡ bad_line rest
-      → Script n s rest out states end t unread
-      → Script (suc n) s input (bad_line_bytes ++ out) states end t unread
+      (run : List Answered) (end : RunEnd) → reading_of input ≡ bad_line rest
+      → Script n s rest out run end t unread
+      → Script (suc n) s input (bad_line_bytes ++ out) run end t unread
   after_long_book : (n : ℕ) (s t : Standing) (input rest out unread : List ℕ)
-      (states : List State) (end : RunEnd) → reading_of input ≡ long_book rest
-      → Script n s rest out states end t unread
-      → Script (suc n) s input (refusal_bytes BookTooLong ++ out) states end t unread
-  -- there is no memory for the book of the command: the command does not take place
+      (run : List Answered) (end : RunEnd) → reading_of input ≡ long_book rest
+      → Script n s rest out run end t unread
+      → Script (suc n) s input (refusal_bytes BookTooLong ++ out) run end t unread
+  -- there is no memory for the book of the command: the command does not reach the store
   after_no_room : (n : ℕ) (s t : Standing) (input rest out unread : List ℕ)
-      (states : List State) (end : RunEnd) (book_use : BookUse) (book : List ℕ)
+      (run : List Answered) (end : RunEnd) (book_use : BookUse) (book : List ℕ)
       → reading_of input ≡ whole_command (command_of book_use book) rest
-      → Script n s rest out states end t unread
-      → Script (suc n) s input (refusal_bytes OutOfMemory ++ out) states end t unread
-  after_answer : (n : ℕ) (s mid t : Standing) (input rest out unread : List ℕ)
-      (states : List State) (end : RunEnd) (c : Command) (answer : Result Reply Refusal)
-      → reading_of input ≡ whole_command c rest → Answers s c answer mid → stays_open answer ≡ true
-      → Script n mid rest out states end t unread
-      → Script (suc n) s input (answer_bytes answer ++ out) (passed s.state c answer ++ states)
-      end t unread
+      → Script n s rest out run end t unread
+      → Script (suc n) s input (refusal_bytes OutOfMemory ++ out) run end t unread
+  after_answer : (n : ℕ) (s mid t : Standing) (input rest out unread : List ℕ) (next : Answered)
+      (run : List Answered) (end : RunEnd) → reading_of input ≡ whole_command next.command rest
+      → Answers s next.command next.answer mid → stays_open next.answer ≡ true
+      → Script n mid rest out run end t unread
+      → Script (suc n) s input (answer_bytes next.answer ++ out) (next ∷ run) end t unread

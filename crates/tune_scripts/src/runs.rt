@@ -1,10 +1,11 @@
 // Runs a script.
-ghost use Rattle.std.specs.Prelude.{◌≡◌, length, false, None, Err};
+ghost use Rattle.std.specs.Prelude.{◌≡◌, length, None, Err};
 ghost use Rattle.tune_scripts.specs.Limits.{longest_line, most_lines};
 ghost use Rattle.tune_scripts.specs.Replies.{answer_bytes, bad_line_bytes};
 ghost use Rattle.tune_scripts.specs.Scripts.{line_text};
-ghost use Rattle.tune_scripts.specs.ScriptRuns.{TellsScript, RunsCommands, LeftByRun, work_of};
-ghost use Rattle.tune_scripts.specs.Inside.Turns.{Turns, TurnsBook, WritesOut, CarriesOut, next_of};
+ghost use Rattle.tune_scripts.specs.ScriptRuns.{RunsScript};
+ghost use Rattle.tune_scripts.specs.Inside.Turns.{Turns, TurnsBook, TurnsOver};
+ghost use Rattle.tune_scripts.specs.Inside.Turns.{WritesOut, IsCarriedOut, next_of};
 
 use crate::reading::{BookRead, LineRead, read_book, read_line};
 use crate::replies::{write_answer, write_bad_line};
@@ -43,28 +44,27 @@ pub const MOST_LINES: u32 = 1_000_000;
 /// read in small pieces, so a reader that buffers serves well. `alloc` is for the books alone:
 /// where there is no memory for one, it is read and dropped, and the reply says so.
 ///
-/// The clauses speak of a store whose device has answered as a device does.
+/// The clause speaks of a store whose device has answered as a device does, at every end. It gives
+/// one list, of the commands that the store carried out (`carried`), and says of it:
 ///
-/// - `commands`, of every reader and at every end: the store carried out commands one after
-///   another, and stops leave of it what the states allow that these pass.
-/// - `left`, of every reader, where the store was open: a stop at any moment since the run began
-///   leaves the state before it, or one that a command of it went on to.
-/// - `script`, of a reader that tells its bytes (standard input tells none), at every end: after a
-///   fault of the reader what was written is the replies before it, and after one of the writer the
-///   store is as the commands so far leave it, each of them carried out once.
+/// - `carries_out`, `ends`, of every reader and writer: each command was carried out by one call
+///   and answered by the rules, and the run ended with `DeviceFault` exactly where the last was
+///   answered that the device failed, unless the writer failed in that very answer.
+/// - `script`, of a reader that tells its bytes (standard input tells none): these are the commands
+///   of the script and no others, and what was written is their replies.
+/// - `stops`, of every reader and writer, where the store was open: a stop since the run began
+///   leaves the state after a prefix of the commands; since some of them were answered, and so
+///   since their replies were written, a prefix that holds these; and at the end the state after
+///   all, or after all but the last where the device failed in that.
 pub fn run<R: Read, W: Write, S: TuneStore>(
     alloc: Global,
     reader: &mut R,
     writer: &mut W,
     store: &mut S,
 ) -> RunEnd
-    ensures commands { S.honest store.new
-        → RunsCommands (work_of W.Write S.TuneStore writer.old writer.new store.old store.new) }
-    ensures left { S.honest store.new → S.sound store.old → S.closed store.old ≡ false
-        → LeftByRun S.TuneStore store.old store.new }
-    ensures script { S.honest store.new
-        → let work = work_of W.Write S.TuneStore writer.old writer.new store.old store.new in
-        TellsScript most_lines (R.remaining reader.old) (R.remaining reader.new) work result }
+    ensures runs { S.honest store.new → RunsScript S.TuneStore most_lines
+        (R.remaining reader.old) (R.remaining reader.new)
+        (W.contents writer.old) (W.contents writer.new) store.old store.new result }
 {
     let mut line = [0u8; LONGEST_LINE];
     for lines in 0..MOST_LINES {
@@ -85,11 +85,9 @@ fn turn<R: Read, W: Write, S: TuneStore>(
 ) -> Option<RunEnd>
     requires { length line.old ≡ longest_line }
     ensures was_honest { S.honest store.new → S.honest store.old }
-    ensures commands { S.honest store.new
-        → RunsCommands (work_of W.Write S.TuneStore writer.old writer.new store.old store.new) }
-    ensures turns { S.honest store.new
-        → let work = work_of W.Write S.TuneStore writer.old writer.new store.old store.new in
-        Turns (R.remaining reader.old) (R.remaining reader.new) work result }
+    ensures turns { S.honest store.new → TurnsOver S.TuneStore
+        (W.contents writer.old) (W.contents writer.new) store.old store.new result
+        (λ work. Turns (R.remaining reader.old) (R.remaining reader.new) work result) }
 {
     match read_line(reader, line) {
         LineRead::Fault => Some(RunEnd::ReaderFault),
@@ -129,11 +127,9 @@ fn with_book<R: Read, W: Write, S: TuneStore>(
     len: u32,
 ) -> Option<RunEnd>
     ensures was_honest { S.honest store.new → S.honest store.old }
-    ensures commands { S.honest store.new
-        → RunsCommands (work_of W.Write S.TuneStore writer.old writer.new store.old store.new) }
-    ensures turns { S.honest store.new
-        → let work = work_of W.Write S.TuneStore writer.old writer.new store.old store.new in
-        TurnsBook book_use len (R.remaining reader.old) (R.remaining reader.new) work result }
+    ensures turns { S.honest store.new → TurnsOver S.TuneStore
+        (W.contents writer.old) (W.contents writer.new) store.old store.new result (λ work.
+        TurnsBook book_use len (R.remaining reader.old) (R.remaining reader.new) work result) }
 {
     let len = len as usize;
     let is_wanted = len <= LONGEST_BOOK;
@@ -153,9 +149,8 @@ fn carry_out<W: Write, S: TuneStore>(
     command: &Command,
 ) -> Option<RunEnd>
     ensures was_honest { S.honest store.new → S.honest store.old }
-    ensures carries { S.honest store.new
-        → let work = work_of W.Write S.TuneStore writer.old writer.new store.old store.new in
-        CarriesOut work command.now result }
+    ensures carries { S.honest store.new → IsCarriedOut S.TuneStore
+        (W.contents writer.old) (W.contents writer.new) store.old store.new command.now result }
 {
     let answer = store.apply(command);
     match write_answer(writer, &answer) {

@@ -1,18 +1,22 @@
 -- One line of a script, with its book: a turn of the run.
-use Rattle.std.specs.Prelude.{◌≡◌, ℕ, suc, List, ◌++◌, ◌⊎◌, Option, None, Some, IfSome, Result}
-use Rattle.std.specs.Prelude.{if◌then◌else◌}
+use Rattle.std.specs.Prelude.{◌≡◌, ℕ, suc, List, ◌++◌, ◌⊎◌, Option, None, Some, IfSome}
+use Rattle.std.specs.Prelude.{Result, if◌then◌else◌}
 use Rattle.std.specs.Io.KnownBytes.{Appends}
-use Rattle.tune_store.specs.State.{State, Standing}
-use Rattle.tune_store.specs.Answers.{Answers, passed, stays_open}
+use Rattle.tune_store.specs.State.{Standing}
+use Rattle.tune_store.specs.Answers.{stays_open}
+use Rattle.tune_store.specs.Runs.{Answered}
 use Rattle.tune_store.specs.declared.command.Command.{Command}
 use Rattle.tune_store.specs.declared.command.Reply.{Reply}
 use Rattle.tune_store.specs.declared.command.Refusal.{Refusal}
+use Rattle.tune_store.specs.declared.tune_store.TuneStore as store
 use Rattle.tune_scripts.specs.declared.script_lines.BookUse.{BookUse}
 use Rattle.tune_scripts.specs.declared.runs.RunEnd.{RunEnd}
 use Rattle.tune_scripts.specs.declared.runs.RunEnd.TheVariants.{WriterFault, DeviceFault}
+use Rattle.tune_scripts.specs.Carried.{Carried, IsCarried, CarriesOut, run_of}
+use Rattle.tune_scripts.specs.Prefixes.{AreAcknowledged}
 use Rattle.tune_scripts.specs.Replies.{answer_bytes}
 use Rattle.tune_scripts.specs.Scripts.{reading_of, reading_of_book, Script}
-use Rattle.tune_scripts.specs.ScriptRuns.{Work, RunsScript}
+use Rattle.tune_scripts.specs.ScriptRuns.{Work, work_by, WritesScript, EndsAfter}
 
 -- A part of a run, with at most so many lines at its beginning and so many at its end: whatever the
 -- rest of the input comes to, the whole comes to this part and then that.
@@ -20,18 +24,16 @@ pub record GoesOn (lines more : ℕ) (input : List ℕ) (left : Option (List ℕ
     : Type 0 where
   pub rest : List ℕ
   pub out : List ℕ
-  pub states : List State
   pub leaves : left ≡ Some rest
   pub written : Appends work.was work.now out
-  pub stops : work.Stops states
-  pub onward : (tail unread : List ℕ) (later : List State) (end : RunEnd) (last : Standing)
+  pub onward : (tail unread : List ℕ) (later : List Answered) (end : RunEnd) (last : Standing)
       → Script more work.after rest tail later end last unread
-      → Script lines work.before input (out ++ tail) (states ++ later) end last unread
+      → Script lines work.before input (out ++ tail) (work.run ++ later) end last unread
 
 -- a turn: the run goes on with a line less, or ends here
 abbrev pub TurnOf : List ℕ → Option (List ℕ) → Work → Option RunEnd → Type 0
 TurnOf input left work None = (n : ℕ) → GoesOn (suc n) n input left work
-TurnOf input left work (Some end) = (n : ℕ) → RunsScript (suc n) input left work end
+TurnOf input left work (Some end) = (n : ℕ) → WritesScript (suc n) input left work end
 
 -- the same of a reader that tells its bytes
 abbrev pub Turns : Option (List ℕ) → Option (List ℕ) → Work → Option RunEnd → Type 0
@@ -42,6 +44,20 @@ abbrev pub TurnsBook : BookUse → ℕ → Option (List ℕ) → Option (List �
     → Type 0
 TurnsBook book_use len old new work result = IfSome old (λ rest. (input : List ℕ)
     → reading_of input ≡ reading_of_book book_use len rest → TurnOf input new work result)
+
+-- the answers of a turn let the run go on, or it ends here as they ask
+abbrev pub GoesBy : Option RunEnd → List Answered → Type 0
+GoesBy None run = AreAcknowledged run
+GoesBy (Some end) run = EndsAfter end run
+
+-- A turn over any reader: what the store carried out, how the run goes on, and what of it is said
+-- of a reader that tells its bytes.
+pub record TurnsOver {S : Type 0} (kept : store.Ghosts S) (was now : Option (List ℕ)) (old new : S)
+    (result : Option RunEnd) (Tells : Work → Type 0) : Type 0 where
+  pub carried : List (Carried S)
+  pub carries_out : CarriesOut kept old carried new
+  pub goes : GoesBy result (run_of carried)
+  pub tells : Tells (work_by kept was now old carried new)
 
 -- the writer failed, or these bytes were written and the run goes on so
 abbrev pub WritesOut : Option (List ℕ) → Option (List ℕ) → List ℕ → Option RunEnd → Option RunEnd
@@ -54,8 +70,9 @@ abbrev pub next_of : Result Reply Refusal → Option RunEnd
 next_of answer = if stays_open answer then None else Some DeviceFault
 
 -- a command was answered once, and its answer was written, or the writer failed
-pub record CarriesOut (work : Work) (c : Command) (result : Option RunEnd) : Type 0 where
+pub record IsCarriedOut {S : Type 0} (kept : store.Ghosts S) (was now : Option (List ℕ))
+    (old new : S) (command : Command) (result : Option RunEnd) : Type 0 where
   pub answer : Result Reply Refusal
-  pub answers : Answers work.before c answer work.after
-  pub stops : work.Stops (passed work.before.state c answer)
-  pub written : WritesOut work.was work.now (answer_bytes answer) (next_of answer) result
+  pub carried : IsCarried kept old
+      (record { command = command; answer = answer; after = new })
+  pub written : WritesOut was now (answer_bytes answer) (next_of answer) result

@@ -1,9 +1,11 @@
-use Rattle.std.proofs.Common.{List, Option, ℕ, subst}
+use Rattle.std.proofs.Common.{List, Option, ℕ, refl, subst}
 use Rattle.tune_store.specs.State.{State}
 use Rattle.tune_store.specs.Answers.{open_at}
+use Rattle.tune_store.specs.Runs.{Runs}
+use Rattle.tune_scripts.specs.Carried.{run_of}
 use Rattle.tune_scripts.specs.Limits.{most_lines}
 use Rattle.tune_scripts.specs.ScriptRuns.{TellsScript}
-use Rattle.tune_scripts.proofs.RunLemmas.{forgets_stops}
+use Rattle.tune_scripts.proofs.CarriedLemmas.{runs_carried, never_fails, ends_otherwise}
 use Rattle.tune_cli.specs.declared.command_line.Action.{Action}
 use Rattle.tune_cli.specs.declared.command_line.Action.TheVariants as action
 use Rattle.tune_cli.specs.Acts.{Acts, ListsScript, work_in_memory}
@@ -22,12 +24,18 @@ returns g c =
     let now = g.W.Write.contents c.run-end.new.writer in
     let end = c.run-end.result in
     let archive = c.run-end.new.store in
-    let P : State → Type 0 = λ start.
-    TellsScript most_lines input left (record (work_in_memory was now archive) { before = open_at start }) end in
-    let output = forgets_stops most_lines input left _ end (c.run-end.ensures.script tt) in
+    let runs = c.run-end.ensures.runs tt in
+    let run = run_of runs.carried in
+    let Output : State → Type 0 = λ start.
+    TellsScript most_lines input left (record (work_in_memory was now run archive) { before = open_at start }) end in
+    let From : State → Type 0 = λ start. Runs (open_at start) run (open_at archive) in
+    let empty = c.new-archive.ensures.empty in
     acts_list c.args.action.now input left was now c.status.result record {
       end = end;
+      run = run;
       state = archive;
       ends = c.status.ensures;
-      output = subst P c.new-archive.ensures.empty output;
+      carries_out = subst From empty (runs_carried _ runs.carried _ _ runs.carries_out);
+      no_fault = ends_otherwise end run runs.ends (never_fails _ (λ store. refl) runs.carried _ _ runs.carries_out);
+      output = subst Output empty runs.script;
     }
