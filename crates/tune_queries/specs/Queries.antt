@@ -1,0 +1,70 @@
+-- Which tunes a query finds, and which queries ask for nothing (own profile).
+use Rattle.std.specs.Prelude.{ℕ, ℤ, List, Bool, true, false, not, Option, Some, None}
+use Rattle.std.specs.Prelude.{count_by, nat_lt}
+use Rattle.std.specs.List.{list_any, starts_with}
+use Rattle.std.specs.Option.{option_map_or}
+use Rattle.std.specs.Ordering.{int_eq}
+use Rattle.abc_fields.specs.Bytes.{is_all_blank, begins_with}
+use Rattle.abc_fields.specs.Fields.{titles_of, rhythm_of, key_text_of, has_bytes}
+use Rattle.abc_keys.specs.declared.scales.Scale.{Scale}
+use Rattle.abc_keys.specs.Keys.{key_of_text, scale_of}
+use Rattle.abc_keys.specs.ScaleTable.{same_scale}
+use Rattle.tune_incipit.specs.Incipits.{incipit_of, tune_notes, query_notes}
+use Rattle.tune_incipit.specs.Limits.{fewest_notes, most_notes}
+use Rattle.tune_titles.specs.Titles.{sorting_title, title_matches, same_rhythm}
+use Rattle.tune_queries.specs.declared.queries.Query.{Query}
+use Rattle.tune_queries.specs.declared.queries.Query.TheVariants as query
+use Rattle.tune_queries.specs.declared.sought.Sought.{Sought}
+use Rattle.tune_queries.specs.declared.sought.Sought.TheVariants as sought
+
+-- WHAT A QUERY ASKS FOR
+-- the scale that a key text says, where it says one
+abbrev pub scale_of_text : List ℕ → Option Scale
+scale_of_text text = scale_of (key_of_text text)
+
+-- the notes of a query that count
+abbrev pub counting_notes : List ℕ → ℕ
+counting_notes query = count_by (λ note. note.counts) (query_notes query)
+
+-- whether a list of steps begins with another
+abbrev pub begins_steps : List ℤ → List ℤ → Bool
+begins_steps steps front = starts_with int_eq steps front
+
+-- whether a scale is one that may be missing
+abbrev pub is_scale : Scale → Option Scale → Bool
+is_scale scale found = option_map_or (same_scale scale) found false
+
+-- whether there is none
+abbrev pub is_missing : Option Scale → Bool
+is_missing None = true
+is_missing (Some scale) = false
+
+-- whether the query asks for nothing: a title of spaces and tabs alone, a rhythm without a byte, a
+-- key text that says no scale of the table, or notes of which too few count
+abbrev pub is_bad : Query → Bool
+is_bad (query.Title text) = is_all_blank text
+is_bad (query.Rhythm text) = not (has_bytes text)
+is_bad (query.Key text) = is_missing (scale_of_text text)
+is_bad (query.Notes text) = nat_lt (counting_notes text) fewest_notes
+
+-- WHICH TUNES IT FINDS
+-- a tune of whose titles one has a sorting title that begins with the query's; one of the same
+-- rhythm, but for capitals; one in the same scale; one whose incipit begins with the query's
+abbrev pub matches : Query → List ℕ → Bool
+matches (query.Title text) tune = list_any (title_matches text) (titles_of tune)
+matches (query.Rhythm text) tune = option_map_or (same_rhythm text) (rhythm_of tune) false
+matches (query.Key text) tune =
+    option_map_or (λ scale. is_scale scale (scale_of_text (key_text_of tune)))
+    (scale_of_text text) false
+matches (query.Notes text) tune = begins_steps
+    (incipit_of most_notes (tune_notes tune)) (incipit_of most_notes (query_notes text))
+
+-- the same of a query made ready, which holds a sorting title, a rhythm, a scale, or steps
+abbrev pub finds : Sought → List ℕ → Bool
+finds (sought.Title prefix) tune =
+    list_any (λ title. begins_with (sorting_title title) prefix) (titles_of tune)
+finds (sought.Rhythm rhythm) tune =
+    option_map_or (same_rhythm rhythm.now) (rhythm_of tune) false
+finds (sought.Key scale) tune = is_scale scale (scale_of_text (key_text_of tune))
+finds (sought.Notes steps) tune =
+    begins_steps (incipit_of most_notes (tune_notes tune)) steps

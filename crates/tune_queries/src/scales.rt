@@ -1,0 +1,31 @@
+// Whether two scales are the same.
+ghost use Rattle.std.specs.Prelude.{◌≡◌, ◌==◌};
+ghost use Rattle.abc_keys.specs.ScaleTable.{same_scale, letter_number, sign_number, mode_number};
+
+use abc_keys::{Letter, Mode, Scale, Sign};
+
+pub(crate) fn is_same_scale(one: &Scale, other: &Scale) -> bool
+    ensures { result ≡ same_scale one.now other.now }
+{
+    is_same_letter(one.tonic, other.tonic)
+        && is_same_sign(one.sign, other.sign)
+        && is_same_mode(one.mode, other.mode)
+}
+
+fn is_same_letter(one: Letter, other: Letter) -> bool
+    ensures { result ≡ (letter_number one == letter_number other) }
+{
+    one == other
+}
+
+fn is_same_sign(one: Sign, other: Sign) -> bool
+    ensures { result ≡ (sign_number one == sign_number other) }
+{
+    one == other
+}
+
+fn is_same_mode(one: Mode, other: Mode) -> bool
+    ensures { result ≡ (mode_number one == mode_number other) }
+{
+    one == other
+}

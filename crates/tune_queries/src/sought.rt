@@ -1,0 +1,136 @@
+// Queries made ready, and the tunes that they find.
+ghost use Rattle.std.specs.Prelude.{◌≡◌, ◌↔◌, ℕ, List, true, not, nat_lt, Some, IsErr, IfOk};
+ghost use Rattle.abc_fields.specs.Bytes.{is_all_blank};
+ghost use Rattle.abc_fields.specs.Fields.{has_bytes, key_text_of};
+ghost use Rattle.tune_incipit.specs.Incipits.{incipit_of, tune_notes, query_notes};
+ghost use Rattle.tune_incipit.specs.Limits.{fewest_notes, most_notes};
+ghost use Rattle.tune_titles.specs.Titles.{sorting_title};
+ghost use Rattle.tune_queries.specs.Queries.{matches, is_bad, finds, scale_of_text, counting_notes};
+ghost use Rattle.tune_queries.specs.Queries.{is_scale, is_missing, begins_steps};
+
+use crate::queries::{Query, QueryText};
+use crate::scales::is_same_scale;
+use abc_fields::{TuneText, fields, is_blank};
+use abc_keys::{Scale, key_of};
+use thiserror::Error;
+use tune_incipit::{MOST_NOTES, Steps, begins, query_steps, steps};
+use tune_titles::{TitlePrefix, rhythm_matches};
+
+/// Why a query is refused: it asks for nothing. That is a title of spaces and tabs alone, a rhythm
+/// without a byte, a key text that says no scale of the table, or notes of which fewer than two
+/// count (this archive's profile).
+#[derive(Clone, Copy, Debug, PartialEq, Eq, Error)]
+#[error("a query asks for a title, a rhythm, a scale or two notes at least")]
+pub struct BadQuery;
+
+/// A query that is not bad, made ready once.
+#[derive(Debug, Drop)]
+pub enum Sought<'a> {
+    /// The sorting title of the query.
+    Title(TitlePrefix<'a>),
+    /// The rhythm, in any capitals.
+    Rhythm(&'a [u8]),
+    /// The scale.
+    Key(Scale),
+    /// The steps between the notes of the query.
+    Notes(Steps),
+}
+
+impl Sought<'_> {
+    /// Whether it finds the tune of this text. It reads the tune's header, or the body up to the
+    /// last note that an incipit has.
+    pub fn matches(&self, text: &TuneText) -> bool
+        ensures { result ≡ finds self.now text.now }
+    {
+        match self {
+            Sought::Title(prefix) => prefix.matches_tune(text),
+            Sought::Rhythm(query) => rhythm_matches(query, text),
+            Sought::Key(scale) => is_in_scale(scale, text),
+            Sought::Notes(front) => begins_with_steps(front, text),
+        }
+    }
+}
+
+impl Query {
+    /// The query, made ready to be tried on tunes. It finds exactly the tunes that match the query,
+    /// and it is refused exactly where the query is bad.
+    pub fn sought(&self) -> Result<Sought<'_>, BadQuery>
+        ensures finds { IfOk result (λ ready. (text : List ℕ)
+            → finds ready text ≡ matches self.now text) }
+        ensures bad { IsErr result ↔ is_bad self.now ≡ true }
+    {
+        match self {
+            Query::Title(text) => Ok(Sought::Title(prefix_of(text.bytes())?)),
+            Query::Rhythm(text) => Ok(Sought::Rhythm(rhythm_of(text.bytes())?)),
+            Query::Key(text) => Ok(Sought::Key(scale_of(text.bytes())?)),
+            Query::Notes(text) => Ok(Sought::Notes(steps_of(text)?)),
+        }
+    }
+}
+
+// The title of a query, made ready, unless it is blanks alone.
+fn prefix_of(text: &[u8]) -> Result<TitlePrefix<'_>, BadQuery>
+    ensures ok { IfOk result (λ prefix. prefix ≡ sorting_title text.now) }
+    ensures bad { IsErr result ↔ is_all_blank text.now ≡ true }
+{
+    if is_all_blank(text) {
+        return Err(BadQuery);
+    }
+    Ok(TitlePrefix::of(text))
+}
+
+fn is_all_blank(text: &[u8]) -> bool
+    ensures { result ≡ is_all_blank text.now }
+{
+    text.iter().all(|byte| is_blank(char::from(*byte)))
+}
+
+// The rhythm of a query, unless it is empty.
+fn rhythm_of(text: &[u8]) -> Result<&[u8], BadQuery>
+    ensures ok { IfOk result (λ rhythm. rhythm.now ≡ text.now) }
+    ensures bad { IsErr result ↔ not (has_bytes text.now) ≡ true }
+{
+    if text.is_empty() {
+        return Err(BadQuery);
+    }
+    Ok(text)
+}
+
+// The scale of a query, where its text says one.
+fn scale_of(text: &[u8]) -> Result<Scale, BadQuery>
+    ensures ok { IfOk result (λ scale. scale_of_text text.now ≡ Some scale) }
+    ensures bad { IsErr result ↔ is_missing (scale_of_text text.now) ≡ true }
+{
+    match key_of(text).scale() {
+        Some(scale) => Ok(scale),
+        None => Err(BadQuery),
+    }
+}
+
+// The steps of a query, unless too few of its notes count.
+fn steps_of(text: &QueryText) -> Result<Steps, BadQuery>
+    ensures ok { IfOk result (λ steps. steps ≡ incipit_of most_notes (query_notes text.now)) }
+    ensures bad { IsErr result ↔ nat_lt (counting_notes text.now) fewest_notes ≡ true }
+{
+    match query_steps(text.bytes(), MOST_NOTES) {
+        Ok(steps) => Ok(steps),
+        Err(_) => Err(BadQuery),
+    }
+}
+
+// Whether the key of the tune is in this scale.
+fn is_in_scale(scale: &Scale, text: &TuneText) -> bool
+    ensures { result ≡ is_scale scale.now (scale_of_text (key_text_of text.now)) }
+{
+    match key_of(fields(text).key).scale() {
+        Some(own) => is_same_scale(scale, &own),
+        None => false,
+    }
+}
+
+// Whether the incipit of the tune begins with these steps.
+fn begins_with_steps(front: &Steps, text: &TuneText) -> bool
+    ensures { result ≡ begins_steps (incipit_of most_notes (tune_notes text.now)) front.now }
+{
+    begins(front, &steps(text, MOST_NOTES))
+}
