@@ -1,0 +1,6 @@
+pub mod ByteLemmas
+pub mod NameOrder
+pub mod SearchLemmas
+pub mod ChangeLemmas
+pub mod LimitLemmas
+pub mod PlaceLemmas

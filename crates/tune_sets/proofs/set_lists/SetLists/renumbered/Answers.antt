@@ -1,0 +1,6 @@
+use Rattle.std.proofs.Common.{arith}
+use Rattle.tune_sets.proofs.ChangeLemmas.{are_renumbered}
+use Rattle.tune_sets.proofs.set_lists.SetLists.renumbered.Goals as goal
+
+pub invariant_of-self : goal.invariant_of-self
+invariant_of-self c = rw c.renumber_sets.ensures (are_renumbered c.args.from c.args.to c.self.inside.sets.items (omega (arith, c.ranges.to)) c.self.invariant)

@@ -1,0 +1,2 @@
+pub mod HeldNames
+pub mod Search
