@@ -1,5 +1,5 @@
 // Runs a script.
-ghost use Rattle.std.specs.Prelude.{◌≡◌, length, None, Err};
+ghost use Rattle.std.specs.Prelude.{◌≡◌, length, true, None, Some, Err};
 ghost use Rattle.tune_scripts.specs.Limits.{longest_line, most_lines};
 ghost use Rattle.tune_scripts.specs.Replies.{answer_bytes, bad_line_bytes};
 ghost use Rattle.tune_scripts.specs.Scripts.{line_text};
@@ -44,8 +44,8 @@ pub const MOST_LINES: u32 = 1_000_000;
 /// read in small pieces, so a reader that buffers serves well. `alloc` is for the books alone:
 /// where there is no memory for one, it is read and dropped, and the reply says so.
 ///
-/// The clause speaks of a store whose device has answered as a device does, at every end. It gives
-/// one list, of the commands that the store carried out (`carried`), and says of it:
+/// The clause `runs` speaks of a store whose device has answered as a device does, at every end. It
+/// gives one list, of the commands that the store carried out (`carried`), and says of it:
 ///
 /// - `carries_out`, `ends`, of every reader and writer: each command was carried out by one call
 ///   and answered by the rules, and the run ended with `DeviceFault` exactly where the last was
@@ -56,6 +56,9 @@ pub const MOST_LINES: u32 = 1_000_000;
 ///   leaves the state after a prefix of the commands; since some of them were answered, and so
 ///   since their replies were written, a prefix that holds these; and at the end the state after
 ///   all, or after all but the last where the device failed in that.
+///
+/// Two more clauses hold of every device: a store that was closed is left as it was (`idle`), and
+/// after the end `DeviceFault` the store is closed (`fault`).
 pub fn run<R: Read, W: Write, S: TuneStore>(
     alloc: Global,
     reader: &mut R,
@@ -65,6 +68,8 @@ pub fn run<R: Read, W: Write, S: TuneStore>(
     ensures runs { S.honest store.new → RunsScript S.TuneStore most_lines
         (R.remaining reader.old) (R.remaining reader.new)
         (W.contents writer.old) (W.contents writer.new) store.old store.new result }
+    ensures idle { S.closed store.old ≡ true → store.new ≡ store.old }
+    ensures fault { result ≡ RunEnd.DeviceFault → S.closed store.new ≡ true }
 {
     let mut line = [0u8; LONGEST_LINE];
     for lines in 0..MOST_LINES {
@@ -85,6 +90,8 @@ fn turn<R: Read, W: Write, S: TuneStore>(
 ) -> Option<RunEnd>
     requires { length line.old ≡ longest_line }
     ensures was_honest { S.honest store.new → S.honest store.old }
+    ensures idle { S.closed store.old ≡ true → store.new ≡ store.old }
+    ensures fault { result ≡ Some RunEnd.DeviceFault → S.closed store.new ≡ true }
     ensures turns { S.honest store.new → TurnsOver S.TuneStore
         (W.contents writer.old) (W.contents writer.new) store.old store.new result
         (λ work. Turns (R.remaining reader.old) (R.remaining reader.new) work result) }
@@ -127,6 +134,8 @@ fn with_book<R: Read, W: Write, S: TuneStore>(
     len: u32,
 ) -> Option<RunEnd>
     ensures was_honest { S.honest store.new → S.honest store.old }
+    ensures idle { S.closed store.old ≡ true → store.new ≡ store.old }
+    ensures fault { result ≡ Some RunEnd.DeviceFault → S.closed store.new ≡ true }
     ensures turns { S.honest store.new → TurnsOver S.TuneStore
         (W.contents writer.old) (W.contents writer.new) store.old store.new result (λ work.
         TurnsBook book_use len (R.remaining reader.old) (R.remaining reader.new) work result) }
@@ -149,6 +158,8 @@ fn carry_out<W: Write, S: TuneStore>(
     command: &Command,
 ) -> Option<RunEnd>
     ensures was_honest { S.honest store.new → S.honest store.old }
+    ensures idle { S.closed store.old ≡ true → store.new ≡ store.old }
+    ensures fault { result ≡ Some RunEnd.DeviceFault → S.closed store.new ≡ true }
     ensures carries { S.honest store.new → IsCarriedOut S.TuneStore
         (W.contents writer.old) (W.contents writer.new) store.old store.new command.now result }
 {
