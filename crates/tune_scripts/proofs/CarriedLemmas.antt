@@ -17,7 +17,7 @@ use Rattle.tune_store.proofs.StepLemmas.{refused_stays, answers_close, closed_an
 use Rattle.tune_store.proofs.StopLemmas.{passes_none, passes_more}
 use Rattle.tune_scripts.specs.declared.runs.RunEnd.{RunEnd}
 use Rattle.tune_scripts.specs.Carried.{Carried, CarriesOut, LeftByRun, run_of, moment_after}
-use Rattle.tune_scripts.specs.Prefixes.{state_by, state_after, AreAcknowledged, StandsForPrefix, StandsForEnd}
+use Rattle.tune_scripts.specs.Prefixes.{FailsLast, never_fails, fails_last, state_by, state_after, AreAcknowledged, StandsForPrefix, StandsForEnd}
 use Rattle.tune_scripts.specs.ScriptRuns.{EndsAfter, IsOtherEnd, at_other_end, at_device_fault}
 
 -- ONE ANSWER
@@ -107,6 +107,11 @@ ends_otherwise _ _ (at_other_end end run other all) h = other
 ends_otherwise _ _ (at_device_fault end run before last divides all shut by) h =
     let go = acknowledged_last before last (subst AreAcknowledged divides h) in absurd cc
 
+-- however a run ends, no answer but the last tells that the device failed
+pub ends_by_last : (end : RunEnd) (run : List Answered) → EndsAfter end run → FailsLast run
+ends_by_last _ _ (at_other_end end run other all) = never_fails run all
+ends_by_last _ _ (at_device_fault end run before last divides all shut by) = fails_last run before last divides all shut
+
 -- a file stands for a prefix, seen from one command earlier
 prefix_held : (stands_for : List ℕ → State → Type 0) (state : State) (next : Answered) (done rest : List Answered) (file : List ℕ)
     → StandsForPrefix stands_for (state_by state next.command next.answer) done rest file → StandsForPrefix stands_for state (next ∷ done) rest file
@@ -173,12 +178,12 @@ module _ {S : Type 0} (s : Ghosts S) where
   runs_carried (next ∷ carried) old new h = (standing_of s next.after, h.0.answers, runs_carried carried next.after new h.1)
 
   -- a store that is never closed is not answered that its device failed
-  pub never_fails : ((store : S) → s.closed store ≡ false) → (carried : List (Carried S)) (old new : S) → CarriesOut s old carried new
+  pub acknowledged_open : ((store : S) → s.closed store ≡ false) → (carried : List (Carried S)) (old new : S) → CarriesOut s old carried new
       → AreAcknowledged (run_of carried)
-  never_fails is_open [] old new h = tt
-  never_fails is_open (next ∷ carried) old new h =
+  acknowledged_open is_open [] old new h = tt
+  acknowledged_open is_open (next ∷ carried) old new h =
       let closes = answers_close (standing_of s old) (standing_of s next.after) next.command next.answer h.0.answers in
-      (goes_on next.answer (sym closes ∙ is_open next.after), never_fails is_open carried next.after new h.1)
+      (goes_on next.answer (sym closes ∙ is_open next.after), acknowledged_open is_open carried next.after new h.1)
 
   -- the states that it went on to
   abbrev states_of : S → List (Carried S) → List State
@@ -284,19 +289,19 @@ module _ {S : Type 0} (s : Ghosts S) where
         prefix_held s.stands_for (s.state old) (record { command = next.command; answer = next.answer }) (run_of done) (run_of rest) file
         (subst P told found)
 
-    -- at its end, by how it ended
-    left_at_end : (carried : List (Carried S)) (old new : S) (run : List Answered) (end : RunEnd) (file : List ℕ) → CarriesOut s old carried new
-        → s.sound old → s.honest new → s.closed old ≡ false → run_of carried ≡ run → EndsAfter end run
+    -- at its end
+    left_at_end : (carried : List (Carried S)) (old new : S) (run : List Answered) (file : List ℕ) → CarriesOut s old carried new
+        → s.sound old → s.honest new → s.closed old ≡ false → run_of carried ≡ run → FailsLast run
         → ((since earlier : ℕ) (other : List ℕ) → earlier ≤ since → s.left_since new since other → s.left_since new earlier other)
         → s.left_since new (s.moment new) file → StandsForEnd s.stands_for (s.state old) run file
-    left_at_end carried old new _ _ file h sound honest is_open same (at_other_end end run other all) earlier left =
+    left_at_end carried old new _ file h sound honest is_open same (never_fails run all) earlier left =
         let whole : CarriesOut s old (carried ++ []) new = subst (λ c. CarriesOut s old c new) (sym (append-nil carried)) h in
         let known = subst (λ since. s.left_since new since file) (sym (moment_at carried old new h)) left in
         let all_here = subst AreAcknowledged (sym same) all in
         let found = left_since_answer carried [] old new file whole sound honest is_open all_here known in
         let stands = prefix_whole s.stands_for (s.state old) (run_of carried) found.more found.later file found.divides found.stands in
         inl (subst (λ r. s.stands_for file (state_after (s.state old) r)) same stands)
-    left_at_end carried old new _ _ file h sound honest is_open same (at_device_fault end run before last divides all shut by) earlier left =
+    left_at_end carried old new _ file h sound honest is_open same (fails_last run before last divides all shut) earlier left =
         let parts = split_last carried before last (same ∙ divides) in
         let done = parts.0 in
         let one = parts.1 in
@@ -329,14 +334,13 @@ module _ {S : Type 0} (s : Ghosts S) where
         ]
 
     -- all of it
-    pub left_by : (carried : List (Carried S)) (old new : S) (end : RunEnd) → CarriesOut s old carried new → EndsAfter end (run_of carried)
-        → s.honest new
+    pub left_by : (carried : List (Carried S)) (old new : S) → CarriesOut s old carried new → FailsLast (run_of carried) → s.honest new
         → ((since earlier : ℕ) (other : List ℕ) → earlier ≤ since → s.left_since new since other → s.left_since new earlier other)
         → s.sound old → s.closed old ≡ false → LeftByRun s old carried new
-    left_by carried old new end h ends honest earlier sound is_open = record {
+    left_by carried old new h fails honest earlier sound is_open = record {
       since_start = λ file left. left_since_start carried old new file h sound honest is_open left;
       acknowledged = λ done rest file same all left.
           let whole = subst (λ c. CarriesOut s old c new) same h in
           left_since_answer done rest old new file whole sound honest is_open all left;
-      at_end = λ file left. left_at_end carried old new (run_of carried) end file h sound honest is_open refl ends earlier left;
+      at_end = λ file left. left_at_end carried old new (run_of carried) file h sound honest is_open refl fails earlier left;
     }

@@ -1,5 +1,5 @@
 -- The states after the first commands of a run, and the files that stand for one of them.
-use Rattle.std.specs.Prelude.{◌≡◌, ◌⊎◌, ℕ, List, [], ◌∷◌, ◌++◌, true, Result, Ok, Err, ⊤}
+use Rattle.std.specs.Prelude.{◌≡◌, ◌⊎◌, ℕ, List, [], ◌∷◌, ◌++◌, true, false, Result, Ok, Err, ⊤}
 use Rattle.tune_store.specs.State.{State}
 use Rattle.tune_store.specs.Step.{step}
 use Rattle.tune_store.specs.Answers.{stays_open}
@@ -26,6 +26,13 @@ state_after state (next ∷ run) = state_after (state_by state next.command next
 abbrev pub AreAcknowledged : List Answered → Type 0
 AreAcknowledged [] = ⊤
 AreAcknowledged (next ∷ run) = (stays_open next.answer ≡ true) × AreAcknowledged run
+
+-- No answer but the last tells that the device failed.
+pub data FailsLast : List Answered → Type 0 where
+  -- nor does the last
+  never_fails : (run : List Answered) → AreAcknowledged run → FailsLast run
+  fails_last : (run before : List Answered) (last : Answered) → run ≡ before ++ last ∷ []
+      → AreAcknowledged before → stays_open last.answer ≡ false → FailsLast run
 
 -- FILES
 -- A file stands for the state after a prefix of the commands that holds all of `done`: after these

@@ -2,10 +2,12 @@
 //! replies.
 #![tactic(auto)]
 
+mod laws;
 mod reading;
 mod replies;
 mod runs;
 mod script_lines;
 
+pub use laws::law_of_prefixes;
 pub use runs::{MOST_LINES, RunEnd, run};
 pub use script_lines::LONGEST_LINE;

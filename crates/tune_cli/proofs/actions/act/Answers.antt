@@ -5,7 +5,7 @@ use Rattle.tune_store.specs.Runs.{Runs}
 use Rattle.tune_scripts.specs.Carried.{run_of}
 use Rattle.tune_scripts.specs.Limits.{most_lines}
 use Rattle.tune_scripts.specs.ScriptRuns.{TellsScript}
-use Rattle.tune_scripts.proofs.CarriedLemmas.{runs_carried, never_fails, ends_otherwise}
+use Rattle.tune_scripts.proofs.CarriedLemmas.{runs_carried, acknowledged_open, ends_otherwise}
 use Rattle.tune_cli.specs.declared.command_line.Action.{Action}
 use Rattle.tune_cli.specs.declared.command_line.Action.TheVariants as action
 use Rattle.tune_cli.specs.Acts.{Acts, ListsScript, work_in_memory}
@@ -36,6 +36,6 @@ returns g c =
       state = archive;
       ends = c.status.ensures;
       carries_out = subst From empty (runs_carried _ runs.carried _ _ runs.carries_out);
-      no_fault = ends_otherwise end run runs.ends (never_fails _ (λ store. refl) runs.carried _ _ runs.carries_out);
+      no_fault = ends_otherwise end run runs.ends (acknowledged_open _ (λ store. refl) runs.carried _ _ runs.carries_out);
       output = subst Output empty runs.script;
     }

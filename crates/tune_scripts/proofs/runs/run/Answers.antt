@@ -1,6 +1,6 @@
 use Rattle.std.proofs.Common.{◌≡◌, ◌+◌, ◌-◌, ◌∙◌, suc, ap, refl, arith}
 use Rattle.tune_scripts.specs.Limits.{most_lines}
-use Rattle.tune_scripts.proofs.CarriedLemmas.{left_by}
+use Rattle.tune_scripts.proofs.CarriedLemmas.{left_by, ends_by_last}
 use Rattle.tune_scripts.proofs.RunLemmas.{so_far_none, so_far_more, so_far_end, so_far_all}
 use Rattle.tune_scripts.proofs.runs.run.Goals as goal
 
@@ -38,8 +38,8 @@ returns-in-Some-clause-runs g c = λ honest.
     c.args.store.now c.loop-lines.store c.turn.new.store c.in-Some.end
     (g.R.Read.remaining c.args.reader.now) (g.R.Read.remaining c.loop-lines.reader)
     (rw one at (c.loop-lines.invariant.so_far (turned.was_honest honest))) (turned.turns honest)
-    (λ carried carries_out ends. left_by g.S.TuneStore g.met.S.TuneStore.settled carried c.args.store.now c.turn.new.store c.in-Some.end
-    carries_out ends honest (g.met.S.TuneStore.since_earlier c.turn.new.store))
+    (λ carried carries_out ends. left_by g.S.TuneStore g.met.S.TuneStore.settled carried c.args.store.now c.turn.new.store
+    carries_out (ends_by_last c.in-Some.end _ ends) honest (g.met.S.TuneStore.since_earlier c.turn.new.store))
 
 pub returns-clause-runs : goal.returns-clause-runs
 returns-clause-runs g c = λ honest.
@@ -47,5 +47,5 @@ returns-clause-runs g c = λ honest.
     so_far_all g.S.TuneStore most_lines (g.R.Read.remaining c.args.reader.now) (g.R.Read.remaining c.loop-lines.reader)
     (g.W.Write.contents c.args.writer.now) (g.W.Write.contents c.loop-lines.writer) c.args.store.now c.loop-lines.store
     (rw none at (c.loop-lines.invariant.so_far honest))
-    (λ carried carries_out ends. left_by g.S.TuneStore g.met.S.TuneStore.settled carried c.args.store.now c.loop-lines.store _
-    carries_out ends honest (g.met.S.TuneStore.since_earlier c.loop-lines.store))
+    (λ carried carries_out ends. left_by g.S.TuneStore g.met.S.TuneStore.settled carried c.args.store.now c.loop-lines.store
+    carries_out (ends_by_last _ _ ends) honest (g.met.S.TuneStore.since_earlier c.loop-lines.store))
