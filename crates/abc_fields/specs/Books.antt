@@ -1,37 +1,36 @@
 -- What a book is read as: the texts of its tunes, or why it is refused.
-use Rattle.std.specs.Prelude.{ℕ, ◌+◌, List, [], ◌∷◌, ◌++◌, length, Bool, true, not, ◌&&◌, ◌==◌}
-use Rattle.std.specs.Prelude.{nat_lt, if◌then◌else◌, Result, Ok, Err}
-use Rattle.std.specs.List.{list_any}
-use Rattle.abc_fields.specs.Bytes.{carriage_return, byte_order_mark, begins_with}
+use Rattle.std.specs.Prelude.{ℕ, ◌+◌, List, [], ◌∷◌, ◌++◌, length, map, drop, Bool, not, nat_lt}
+use Rattle.std.specs.Prelude.{if◌then◌else◌, Result, Ok, Err}
+use Rattle.abc_fields.specs.Bytes.{byte_order_mark, begins_with}
 use Rattle.abc_fields.specs.Lines.{lines_of}
-use Rattle.abc_fields.specs.Tunes.{tune_runs, has_key, joined, is_empty_line, is_tune_start}
+use Rattle.abc_fields.specs.Tunes.{tune_runs, has_key, joined}
+use Rattle.abc_fields.specs.FileHeaders.{file_header, with_header}
 use Rattle.abc_fields.specs.Limits.{longest_book}
 use Rattle.abc_fields.specs.declared.book.BookFault.{BookFault}
-use Rattle.abc_fields.specs.declared.book.BookFault.TheVariants.{BookTooLong, NotPlain, NoTune}
-use Rattle.abc_fields.specs.declared.book.BookFault.TheVariants.{BadTune}
+use Rattle.abc_fields.specs.declared.book.BookFault.TheVariants.{BookTooLong, NoTune, BadTune}
 use Rattle.abc_fields.specs.declared.book.TuneFault.TheVariants.{NoKey, TooLong}
 
 -- the texts of tunes, or a refusal
 abbrev pub Texts : Type 0
 Texts = Result (List (List ℕ)) BookFault
 
--- PLAIN BOOKS
--- whether there is a carriage return
-abbrev pub has_return : List ℕ → Bool
-has_return book = list_any (λ byte. byte == carriage_return) book
+-- THE TUNES
+-- a book without the byte order mark at its front
+abbrev pub without_mark : List ℕ → List ℕ
+without_mark book =
+    if begins_with book byte_order_mark then drop (length byte_order_mark) book else book
 
--- whether the first line that is not empty, if there is one, starts a tune
-abbrev pub begins_with_tune : List (List ℕ) → Bool
-begins_with_tune [] = true
-begins_with_tune (line ∷ lines) =
-    if is_empty_line line then begins_with_tune lines else is_tune_start line
+-- for each tune of these lines, its lines with those that it carries of their file header
+abbrev pub whole_runs : List (List ℕ) → List (List (List ℕ))
+whole_runs lines = map (with_header (file_header lines)) (tune_runs lines)
 
--- a book that this archive reads: the lines end at line feeds, and nothing stands before the first
--- tune
-abbrev pub is_plain : List ℕ → Bool
-is_plain book =
-    not (has_return book) && not (begins_with book byte_order_mark)
-    && begins_with_tune (lines_of book)
+-- the same for a book
+abbrev pub book_runs : List ℕ → List (List (List ℕ))
+book_runs book = whole_runs (lines_of (without_mark book))
+
+-- the texts of the tunes of a book, limits aside
+abbrev pub tune_texts : List ℕ → List (List ℕ)
+tune_texts book = map joined (book_runs book)
 
 -- TUNES IN THE ORDER OF THE BOOK
 -- these texts stand before those of an answer
@@ -62,5 +61,4 @@ book_of_runs longest (run ∷ runs) = runs_answer longest 1 (run ∷ runs)
 abbrev pub book_answer : ℕ → List ℕ → Texts
 book_answer longest book =
     if nat_lt longest_book (length book) then Err BookTooLong
-    else if not (is_plain book) then Err NotPlain
-    else book_of_runs longest (tune_runs (lines_of book))
+    else book_of_runs longest (book_runs book)

@@ -1,2 +1,3 @@
 pub mod LineEndings
-pub mod OpenBooks
+pub mod LinesLeft
+pub mod HeaderRows

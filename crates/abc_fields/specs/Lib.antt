@@ -6,6 +6,7 @@ pub mod LineKinds
 pub mod Words
 pub mod Values
 pub mod Tunes
-pub mod Books
 pub mod Fields
+pub mod FileHeaders
+pub mod Books
 pub mod Inside

@@ -5,16 +5,24 @@
 #![tactic(auto)]
 
 mod book;
+mod carried;
+mod carry_rules;
+mod file_header;
 mod header;
 mod header_fields;
+mod judged_book;
+mod letters;
 mod line_kinds;
 mod lines;
 mod texts;
+mod tune_lines;
 mod values;
 
 pub use book::{BookFault, LONGEST_BOOK, TuneFault, split_book};
+pub use carry_rules::CarryRule;
 pub use header::fields;
 pub use header_fields::{Fields, MOST_TITLES, Titles};
+pub use judged_book::{JudgedBook, judge_book};
 pub use line_kinds::{in_part_after, is_comment, is_continuation, is_field_line, is_key_line};
 pub use lines::{Line, Lines};
 pub use texts::{ByteText, TuneText};

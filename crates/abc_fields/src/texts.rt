@@ -1,7 +1,7 @@
 // Bytes that a value owns, and the texts of tunes among them.
 ghost use Rattle.std.specs.Prelude.{◌≡◌, ◌≤◌, ℕ, List, length, IfOk};
 ghost use Rattle.abc_fields.specs.Tunes.{IsTuneText, IsTextWithin};
-ghost use Rattle.abc_fields.specs.Limits.{longest_book};
+ghost use Rattle.abc_fields.specs.Limits.{longest_tune};
 
 use std::alloc::{AllocError, Global};
 use std::marker::Model;
@@ -43,8 +43,7 @@ impl ByteText {
 
 /// The text of one tune: one or more lines, each ended by a line feed, with no carriage return, no
 /// empty line and no `X:` line among them, and a `K:` line (ABC 2.1, 2.2.1; this archive's
-/// profile). It has at most `LONGEST_BOOK` bytes, as has the book that it stands in. A clause sees
-/// the list of its bytes.
+/// profile). It has at most 64,000 bytes. A clause sees the list of its bytes.
 #[derive(Debug, Drop)]
 pub struct TuneText {
     text: Vec<u8>,
@@ -55,13 +54,13 @@ impl Model for TuneText {
 
     ghost view = { λ t. t.text.items };
 
-    ghost invariant = { λ t. IsTextWithin longest_book t.text.items };
+    ghost invariant = { λ t. IsTextWithin longest_tune t.text.items };
 }
 
 impl TuneText {
     // The bytes as a tune text. It takes no memory.
     pub(crate) fn from_vec(text: Vec<u8>) -> TuneText
-        requires { IsTextWithin longest_book text.items }
+        requires { IsTextWithin longest_tune text.items }
         ensures { result ≡ text.items }
     {
         TuneText { text }
@@ -71,7 +70,7 @@ impl TuneText {
     pub fn bytes(&self) -> &[u8]
         ensures value { result.now ≡ self.now }
         ensures tune_text { IsTuneText self.now }
-        ensures short { length self.now ≤ longest_book }
+        ensures short { length self.now ≤ longest_tune }
     {
         self.text.as_slice()
     }

@@ -4,7 +4,7 @@ use Rattle.std.specs.Option.{option_or}
 use Rattle.abc_fields.specs.Tunes.{is_key_line}
 use Rattle.abc_fields.specs.Fields.{header_of, non_empty_values, first_key, key_text_of}
 use Rattle.abc_fields.specs.Limits.{most_titles}
-use Rattle.abc_fields.proofs.BookLemmas.{contents}
+use Rattle.abc_fields.specs.Inside.LinesLeft.{contents_of}
 use Rattle.abc_fields.proofs.FieldLemmas.{few_taken, titles_step, first_step, header_more, key_here, key_later, tune_key}
 use Rattle.abc_fields.proofs.header.fields.Goals as goal
 
@@ -12,9 +12,9 @@ pub loop-line-preserved : goal.loop-line-preserved
 loop-line-preserved c =
     let line = c.in-Some.line.text.now in
     let old = c.loop-line.found in
-    let rest = contents c.next.new.self in
+    let rest = contents_of c.next.new.self in
     let other : is_key_line line ≡ false = sym c.is_key_line.ensures ∙ c.if-is_key_line.false in
-    let header = ap (λ spans. header_of (contents spans)) c.in-Some.ensures.steps ∙ header_more line rest other in
+    let header = ap (λ spans. header_of (contents_of spans)) c.in-Some.ensures.steps ∙ header_more line rest other in
     record {
       within = rw c.take_line.ensures.titles (few_taken most_titles _);
       titles = rw c.take_line.ensures.titles (titles_step most_titles old.titles (codes "T:") line (header_of rest))
@@ -22,19 +22,19 @@ loop-line-preserved c =
       rhythm = rw c.take_line.ensures.rhythm (first_step (option_copied old.rhythm) (codes "R:") line (header_of rest))
           ∙ ap (λ lines. option_or (option_copied old.rhythm) (slice_get (non_empty_values (codes "R:") lines) 0)) (sym header) ∙ c.loop-line.invariant.rhythm;
       no_key = rw c.take_line.ensures.key c.loop-line.invariant.no_key;
-      key = sym (ap (λ spans. first_key (contents spans)) c.in-Some.ensures.steps ∙ key_later line rest other) ∙ c.loop-line.invariant.key;
+      key = sym (ap (λ spans. first_key (contents_of spans)) c.in-Some.ensures.steps ∙ key_later line rest other) ∙ c.loop-line.invariant.key;
     }
 
 pub returns-then-is_key_line-clause-key_line : goal.returns-then-is_key_line-clause-key_line
 returns-then-is_key_line-clause-key_line c =
     let line = c.in-Some.line.text.now in
     let is : is_key_line line ≡ true = sym c.is_key_line.ensures ∙ c.if-is_key_line.true in
-    let first = ap (λ spans. first_key (contents spans)) c.in-Some.ensures.steps ∙ key_here line (contents c.next.new.self) is in
+    let first = ap (λ spans. first_key (contents_of spans)) c.in-Some.ensures.steps ∙ key_here line (contents_of c.next.new.self) is in
     let value : c.field_value-found.result.now ≡ key_text_of c.args.text.now = c.field_value-found.ensures ∙ sym first ∙ c.loop-line.invariant.key in
     rw value (tune_key c.args.text.now c.bytes.ensures.tune_text)
 
 pub returns-clause-key_line : goal.returns-clause-key_line
 returns-clause-key_line c =
-    let none = ap (λ spans. first_key (contents spans)) c.in-None.ensures.steps.0 in
+    let none = ap (λ spans. first_key (contents_of spans)) c.in-None.ensures.steps.0 in
     let value : c.loop-line.found.key.now ≡ key_text_of c.args.text.now = c.loop-line.invariant.no_key ∙ sym none ∙ c.loop-line.invariant.key in
     rw value (tune_key c.args.text.now c.bytes.ensures.tune_text)

@@ -1,0 +1,186 @@
+// The lines of one tune.
+ghost use Rattle.std.specs.Prelude.{◌≡◌, ◌≤◌, ◌<◌, ◌+◌, ◌++◌, ◌||◌, ℕ, List, [], ◌∷◌, length, true, false, IfOk, OnOk};
+ghost use Rattle.std.specs.Prelude.{IfSome, IfNone, MatchOption, MatchResult, Err};
+ghost use Rattle.abc_fields.specs.Bytes.{line_feed};
+ghost use Rattle.abc_fields.specs.Limits.{longest_book, longest_tune};
+ghost use Rattle.abc_fields.specs.Inside.LinesLeft.{contents_of, IsRestAfter, still};
+ghost use Rattle.abc_fields.specs.Tunes.{is_empty_line, is_tune_start, ends_tune, tune_run};
+ghost use Rattle.abc_fields.specs.Tunes.{tune_runs, joined, has_key, IsTextWithin};
+ghost use Rattle.abc_fields.specs.FileHeaders.{before_key, has_letter};
+ghost use Rattle.abc_fields.specs.Books.{Texts, tune_answer};
+ghost use Rattle.abc_fields.specs.Inside.HeaderRows.{with_rows, taken, in_table, IsCarried};
+ghost use Rattle.abc_fields.specs.Inside.LinesLeft.{IsRestAfter};
+ghost use Rattle.abc_fields.specs.Fields.{header_of};
+
+use crate::book::{BookFault, TuneFault};
+use crate::carried::Carried;
+use crate::file_header::FileHeader;
+use crate::letters::Letters;
+use crate::line_kinds::is_key_line;
+use crate::lines::{Line, Lines};
+use crate::texts::TuneText;
+use crate::values::is_blank;
+use std::alloc::{AllocError, Global};
+
+pub(crate) fn is_empty(line: &[u8]) -> bool
+    ensures { result ≡ is_empty_line line.now }
+{
+    line.iter().all(|byte| is_blank(char::from(*byte)))
+}
+
+pub(crate) fn starts_tune(line: &[u8]) -> bool
+    ensures { result ≡ is_tune_start line.now }
+{
+    line.starts_with(b"X:")
+}
+
+pub(crate) fn ends_tune(line: &[u8]) -> bool
+    ensures { result ≡ ends_tune line.now }
+{
+    is_empty(line) || starts_tune(line)
+}
+
+pub(crate) fn push_line(out: &mut Vec<u8>, line: &[u8]) -> Result<(), AllocError>
+    ensures { OnOk result (out.new.items ≡ out.old.items ++ (line.now ++ line_feed ∷ [])) }
+{
+    out.extend_from_slice(line)?;
+    out.push(b'\n')
+        .map_err(|_| AllocError)
+}
+
+// The next line of a tune, where it does not end before it.
+fn next_of_tune<'a>(lines: &mut Lines<'a>) -> Option<Line<'a>>
+    ensures { MatchOption result
+        ((tune_run (contents_of lines.old) ≡ []) × (lines.new ≡ lines.old))
+        (λ line. (ends_tune line.text.now ≡ false)
+        × (contents_of lines.old ≡ line.text.now ∷ contents_of lines.new)) }
+{
+    let start = lines.again();
+    let line = lines.next()?;
+    if ends_tune(line.text) {
+        *lines = start;
+        return None;
+    }
+    Some(line)
+}
+
+// What the lines of a tune have come to.
+#[derive(Clone, Copy)]
+struct Measured {
+    // How many bytes the text of the lines has.
+    length: usize,
+    // Whether one of them gives the key.
+    has_key: bool,
+}
+
+// Reads the lines of a tune to their end.
+fn measure(lines: &mut Lines) -> Measured
+    requires { length (joined (contents_of lines.old)) ≤ longest_book + 1 }
+    ensures length { result.length ≡ length (joined (tune_run (contents_of lines.old))) }
+    ensures key { result.has_key ≡ has_key (tune_run (contents_of lines.old)) }
+    ensures rest { IsRestAfter (contents_of lines.old) (contents_of lines.new) }
+    ensures few { result.length ≤ longest_book + 1 }
+{
+    let mut length = 0;
+    let mut has_key = false;
+    while let Some(line) = next_of_tune(lines) {
+        length += line.text.len() + 1;
+        has_key = has_key || is_key_line(line.text);
+    }
+    Measured { length, has_key }
+}
+
+// Judges the tune of this place, of which these are the lines, with what stands behind it.
+pub(crate) fn judge_tune(
+    lines: &mut Lines,
+    header: &FileHeader,
+    longest: usize,
+    place: usize,
+) -> Result<(), BookFault>
+    requires { length (joined (contents_of lines.old)) ≤ longest_book + 1 }
+    ensures answer { let run = with_rows header.now (tune_run (contents_of lines.old)) in
+        MatchResult result (λ _. (has_key run ≡ true) × (length (joined run) ≤ longest))
+        (λ fault. (later : Texts)
+            → tune_answer longest place (has_key run) (joined run) later ≡ Err fault) }
+    ensures rest { IsRestAfter (contents_of lines.old) (contents_of lines.new) }
+{
+    let start = lines.again();
+    let measured = measure(lines);
+    if !measured.has_key {
+        let fault = TuneFault::NoKey;
+        return Err(BookFault::BadTune { place, fault });
+    }
+    let length = measured.length + length_carried(header, start);
+    if length > longest {
+        let fault = TuneFault::TooLong;
+        return Err(BookFault::BadTune { place, fault });
+    }
+    Ok(())
+}
+
+// How many bytes the lines have that a tune carries, of which these are the lines.
+fn length_carried(header: &FileHeader, lines: Lines) -> usize
+    ensures value { let run = tune_run (contents_of lines.entry) in
+        result ≡ length (joined (taken (has_letter (header_of run)) header.now)) }
+    ensures few { result ≤ longest_book + 1 }
+{
+    if header.is_empty() {
+        return 0;
+    }
+    header.length_for(&Letters::of_tune(lines))
+}
+
+// Reads the text of the tune of which these are the lines, with the lines that it carries.
+pub(crate) fn text_of_tune(
+    alloc: Global,
+    lines: &mut Lines,
+    header: &FileHeader,
+    carried: &mut Carried,
+    text: &mut Vec<u8>,
+) -> Result<TuneText, AllocError>
+    requires good { IsTextWithin longest_tune
+        (joined (with_rows header.now (tune_run (contents_of lines.old)))) }
+    requires carried { IsCarried header.now carried.old }
+    ensures text { IfOk result (λ text.
+        text ≡ joined (with_rows header.now (tune_run (contents_of lines.old)))) }
+    ensures carried { OnOk result (IsCarried header.now carried.new) }
+    ensures rest { OnOk result (IsRestAfter (contents_of lines.old) (contents_of lines.new)) }
+{
+    carried.change_to(header, lines.again())?;
+    text.clear();
+    write_tune(text, lines, carried.bytes.as_slice())?;
+    Ok(TuneText::from_vec(Vec::from_slice(alloc, text.as_slice())?))
+}
+
+// Writes the lines of a tune, and these bytes directly before the first that gives the key.
+fn write_tune(out: &mut Vec<u8>, lines: &mut Lines, put: &[u8]) -> Result<(), AllocError>
+    ensures text { OnOk result ((carried : List (List ℕ)) → joined carried ≡ put.now → out.new.items
+        ≡ out.old.items ++ joined (before_key carried (tune_run (contents_of lines.old)))) }
+    ensures rest { OnOk result (IsRestAfter (contents_of lines.old) (contents_of lines.new)) }
+{
+    let mut has_key = false;
+    while let Some(line) = next_of_tune(lines) {
+        has_key = write_line(out, line.text, put, has_key)?;
+    }
+    Ok(())
+}
+
+// Writes the next line of a tune, and tells whether its key has come.
+fn write_line(
+    out: &mut Vec<u8>,
+    line: &[u8],
+    put: &[u8],
+    has_key: bool,
+) -> Result<bool, AllocError>
+    ensures { IfOk result (λ now. (carried rest : List (List ℕ)) → joined carried ≡ put.now
+        → out.new.items ++ joined (still now carried rest)
+        ≡ out.old.items ++ joined (still has_key carried (line.now ∷ rest))) }
+{
+    if !has_key && is_key_line(line) {
+        out.extend_from_slice(put)?;
+        push_line(out, line)?;
+        return Ok(true);
+    }
+    push_line(out, line)?;
+    Ok(has_key)
+}
