@@ -132,13 +132,35 @@ end
 begin 'a book with carriage returns'
 cp "$returns" mine.abc
 run own-tunes
-ends_with 1
-says 'refused 24 NotPlain'
-has 'mine.abc'
+ends_with 0
+says 'ok import 1 15'
+same book.abc "$export"
+same mine.abc "$returns"
+has 'book.abc mine.abc'
 end
 
-begin 'a book with carriage returns, beside an older book'
-cp "$returns" mine.abc
+begin 'an export of the archive'
+cp "$export" mine.abc
+run own-tunes
+ends_with 0
+says 'ok import 1 15'
+same book.abc "$export"
+end
+
+begin 'a book with a byte order mark and a file header'
+{
+    printf '\357\273\277%%abc-2.1\r\nM:6/8\r\nT:All\r\n\r\n'
+    printf 'X:9\rM:4/4\rK:C\rX:8\nK:D\n'
+} > mine.abc
+run own-tunes
+ends_with 0
+says 'ok import 1 2'
+printf '%%abc-2.1\n\nX:1\nM:4/4\nK:C\n\nX:2\nM:6/8\nK:D\n' > "$work/wanted"
+same book.abc "$work/wanted"
+end
+
+begin 'a refused book beside an older one'
+printf 'X:1\nT:Keyless\n' > mine.abc
 echo older > book.abc
 run own-tunes
 ends_with 1
@@ -147,42 +169,24 @@ same book.abc "$work/wanted"
 has 'book.abc mine.abc'
 end
 
-begin 'a book with carriage returns, made plain'
-cp "$returns" mine.abc
-run plain
+begin 'a folder of books'
+printf 'X:4\nK:C\n' > a.abc
+printf 'X:1\nT:Keyless\n' > b.abc
+printf 'R:jig\r\n\r\nX:1\r\nK:D\r\n' > c.abc
+run folder
 ends_with 0
-same plain.abc "$book"
-run own-tunes plain.abc
-ends_with 0
-says 'ok import 1 15'
-same book.abc "$export"
-same mine.abc "$returns"
-has 'book.abc mine.abc plain.abc'
-end
-
-begin 'an export of the archive'
-cp "$export" mine.abc
-run own-tunes
-ends_with 1
-says 'refused 24 NotPlain'
-has 'mine.abc'
-end
-
-begin 'an export of the archive, made plain'
-cp "$export" mine.abc
-run plain
-ends_with 0
-run own-tunes plain.abc
-ends_with 0
-says 'ok import 1 15'
-same book.abc "$export"
+says 'a.abc: ok import 1 1
+b.abc: refused 2 BadTune 1 NoKey
+c.abc: ok import 2 2'
+printf '%%abc-2.1\n\nX:1\nK:C\n\nX:2\nR:jig\nK:D\n' > "$work/wanted"
+same all.new "$work/wanted"
 end
 
 begin 'a book without a tune'
 echo 'a remark' > mine.abc
 run own-tunes
 ends_with 1
-says 'refused 24 NotPlain'
+says 'refused 1 NoTune'
 has 'mine.abc'
 end
 
@@ -219,19 +223,6 @@ cp "$book" mine.abc
 run own-tunes
 ends_with 1
 has 'mine.abc tunes'
-end
-
-begin 'the front of a book'
-{ printf '\357\273\277%%abc-2.1\r\nM:6/8\r\n\r\n' && cat "$returns"; } > mine.abc
-run front
-ends_with 0
-printf '\357\273\277%%abc-2.1\r\nM:6/8\r\n\r\n' > "$work/wanted"
-same "$work/out" "$work/wanted"
-run no-front
-ends_with 0
-same plain.abc "$book"
-run own-tunes plain.abc
-says 'ok import 1 15'
 end
 
 begin 'one tune of a book'

@@ -8,9 +8,11 @@ use Rattle.std.proofs.lemmas.Bool.{le-ltb, lt-ltb, ltb-false, cond_both, and_par
 use Rattle.abc_fields.specs.Bytes.{byte_order_mark, begins_with}
 use Rattle.abc_fields.specs.Lines.{Piece, Span, pieces_of, lines_of, spans_of, text_of, has_no_ending, ArePieces, IsEnding, IsUnended}
 use Rattle.abc_fields.specs.LineKinds.{is_field_line, is_continuation, is_comment}
-use Rattle.abc_fields.specs.Tunes.{is_key_line, is_tune_start, is_empty_line, ends_tune, tune_run, tune_runs, joined, has_key, IsTuneLine, IsTuneText, IsTextWithin}
+use Rattle.abc_fields.specs.Tunes.{is_key_line, is_tune_start, is_empty_line, ends_tune, tune_run, tune_runs, joined, has_key, IsTuneLine, IsTuneText}
+use Rattle.abc_fields.specs.Tunes.{IsTextWithin}
 use Rattle.abc_fields.specs.Fields.{header_of}
-use Rattle.abc_fields.specs.FileHeaders.{block_of, first_block, file_header, is_header_line, rule_of, rule_below, carries, carried, has_letter, before_key, with_header}
+use Rattle.abc_fields.specs.FileHeaders.{block_of, first_block, file_header, is_header_line, rule_of, rule_below, carries, carried, has_letter, before_key}
+use Rattle.abc_fields.specs.FileHeaders.{with_header}
 use Rattle.abc_fields.specs.Books.{Texts, before_texts, tune_answer, runs_answer, book_answer, book_of_runs, whole_runs, book_runs, without_mark}
 use Rattle.abc_fields.specs.Inside.LinesLeft.{contents_of, IsRestAfter}
 use Rattle.abc_fields.specs.Inside.HeaderRows.{Row, header_rows, with_rows, runs_with, texts_with}
@@ -130,7 +132,8 @@ header_lines : (lines : List (List ℕ)) → AllPlain lines → AllByRecursion I
 header_lines lines plain = cond_both (list_all is_header_line (first_block lines)) (first_block lines) [] (λ ls. AllByRecursion IsTuneLine ls)
     (λ all. header_block (first_block lines) (first_lines lines plain) all) (λ none. tt)
 
-carried_lines : (owns : ℕ → Bool) (above : CarryRule) (header : List (List ℕ)) → AllByRecursion IsTuneLine header → AllByRecursion IsTuneLine (carried owns above header)
+carried_lines : (owns : ℕ → Bool) (above : CarryRule) (header : List (List ℕ)) → AllByRecursion IsTuneLine header
+    → AllByRecursion IsTuneLine (carried owns above header)
 carried_lines owns above [] each = tt
 carried_lines owns above (line ∷ header) each =
     let later = carried_lines owns (rule_below above line) header each.1 in
@@ -146,11 +149,13 @@ before_lines put [] each lines = tt
 before_lines put (line ∷ run) each lines = cond_both (is_key_line line) (put ++ (line ∷ run)) (line ∷ before_key put run) (λ ls. AllByRecursion IsTuneLine ls)
     (λ is. all_append put (line ∷ run) each lines) (λ no. (lines.0, before_lines put run each lines.1))
 
-with_lines : (header : List (List ℕ)) (runs : List (List (List ℕ))) → AllByRecursion IsTuneLine header → TuneLines runs → TuneLines (map (with_header header) runs)
+with_lines : (header : List (List ℕ)) (runs : List (List (List ℕ))) → AllByRecursion IsTuneLine header → TuneLines runs
+    → TuneLines (map (with_header header) runs)
 with_lines header [] each lines = tt
-with_lines header (run ∷ runs) each lines =
-    (before_lines (carried (has_letter (header_of run)) Never header) run (carried_lines (has_letter (header_of run)) Never header each) lines.0,
-    with_lines header runs each lines.1)
+with_lines header (run ∷ runs) each lines = (
+  before_lines (carried (has_letter (header_of run)) Never header) run (carried_lines (has_letter (header_of run)) Never header each) lines.0,
+  with_lines header runs each lines.1,
+)
 
 whole_lines : (lines : List (List ℕ)) → AllPlain lines → TuneLines (whole_runs lines)
 whole_lines lines plain = with_lines (file_header lines) (tune_runs lines) (header_lines lines plain) (runs_lines lines plain)
@@ -186,7 +191,8 @@ some_within longest (run ∷ runs) h = runs_within longest 1 (run ∷ runs) h
 
 -- the texts of a book are tune texts within the length
 pub book_within : (longest : ℕ) (book : List ℕ) → TextsWithin longest (book_answer longest book)
-book_within longest book = cond_both (ltb longest_book (length book)) (Err BookTooLong) (book_of_runs longest (book_runs book)) (λ answer. TextsWithin longest answer)
+book_within longest book =
+    cond_both (ltb longest_book (length book)) (Err BookTooLong) (book_of_runs longest (book_runs book)) (λ answer. TextsWithin longest answer)
     (λ long. tt) (λ short. some_within longest (book_runs book) (whole_lines (lines_of (without_mark book)) (lines_plain (without_mark book))))
 
 -- the same of the texts that the answer is
@@ -196,7 +202,8 @@ texts_within longest book texts e =
     subst P e (book_within longest book)
 
 -- a longer limit holds as well
-pub within_more : (longest more : ℕ) (texts : List (List ℕ)) → longest ≤ more → AllByRecursion (IsTextWithin longest) texts → AllByRecursion (IsTextWithin more) texts
+pub within_more : (longest more : ℕ) (texts : List (List ℕ)) → longest ≤ more → AllByRecursion (IsTextWithin longest) texts
+    → AllByRecursion (IsTextWithin more) texts
 within_more longest more [] le each = tt
 within_more longest more (text ∷ texts) le each =
     (record { tune_text = each.0.tune_text; fits = omega (arith, each.0.fits) }, within_more longest more texts le each.1)
@@ -235,7 +242,8 @@ tune_ok longest place run false true later texts rest e same = cc
 tune_ok longest place run false false later texts rest e same = before_ok (joined run) later texts rest e same
 
 -- the texts that an answer gives are those of the tunes
-pub answer_texts : (longest place : ℕ) (runs : List (List (List ℕ))) (texts : List (List ℕ)) → runs_answer longest place runs ≡ Ok texts → texts ≡ map joined runs
+pub answer_texts : (longest place : ℕ) (runs : List (List (List ℕ))) (texts : List (List ℕ)) → runs_answer longest place runs ≡ Ok texts
+    → texts ≡ map joined runs
 answer_texts longest place [] texts e = cc
 answer_texts longest place (run ∷ runs) texts e =
     tune_ok longest place run (not (has_key run)) (ltb longest (length (joined run))) (runs_answer longest (place + 1) runs) texts (map joined runs) e
@@ -243,7 +251,8 @@ answer_texts longest place (run ∷ runs) texts e =
 
 -- a good tune comes before the later ones
 pub good_tune : (longest place : ℕ) (run : List (List ℕ)) (later : Texts) → has_key run ≡ true → length (joined run) ≤ longest
-    → cond (not (has_key run)) (Err (BadTune place NoKey)) (cond (ltb longest (length (joined run))) (Err (BadTune place TooLong)) (before_texts (joined run ∷ []) later))
+    → cond (not (has_key run)) (Err (BadTune place NoKey)) (cond (ltb longest (length (joined run))) (Err (BadTune place TooLong))
+    (before_texts (joined run ∷ []) later))
     ≡ before_texts (joined run ∷ []) later
 good_tune longest place run later keyed fits = rw (keyed, le-ltb longest (length (joined run)) fits) refl
 
@@ -272,23 +281,32 @@ pub record IsJudged (longest : ℕ) (rows : List Row) (whole : Texts) (count : �
   pub counted : length done ≡ count
   pub answer : whole ≡ before_texts done (runs_answer longest (count + 1) (runs_with rows (tune_runs left)))
 
-pub judged_start : (longest : ℕ) (rows : List Row) (lines : List (List ℕ)) → IsJudged longest rows (runs_answer longest 1 (runs_with rows (tune_runs lines))) 0 lines
+pub judged_start : (longest : ℕ) (rows : List Row) (lines : List (List ℕ))
+    → IsJudged longest rows (runs_answer longest 1 (runs_with rows (tune_runs lines))) 0 lines
 judged_start longest rows lines = record { done = []; counted = refl; answer = before_none _ }
 
 -- a line that starts no tune
-pub judged_other : (longest : ℕ) (rows : List Row) (whole : Texts) (count : ℕ) (old : List (List ℕ)) (line : List ℕ) (new : List (List ℕ)) → IsJudged longest rows whole count old
+pub judged_other : (longest : ℕ) (rows : List Row) (whole : Texts) (count : ℕ) (old : List (List ℕ)) (line : List ℕ) (new : List (List ℕ))
+    → IsJudged longest rows whole count old
     → old ≡ line ∷ new → is_tune_start line ≡ false → IsJudged longest rows whole count new
 judged_other longest rows whole count old line new is step other =
     let runs : tune_runs old ≡ tune_runs new = ap tune_runs step ∙ runs_other line new other in
-    record { done = is.done; counted = is.counted; answer = is.answer ∙ ap (λ rs. before_texts is.done (runs_answer longest (count + 1) (runs_with rows rs))) runs }
+    record {
+      done = is.done;
+      counted = is.counted;
+      answer = is.answer ∙ ap (λ rs. before_texts is.done (runs_answer longest (count + 1) (runs_with rows rs)))
+          runs;
+    }
 
 -- a good tune
-pub judged_more : (longest : ℕ) (rows : List Row) (whole : Texts) (count : ℕ) (old : List (List ℕ)) (line : List ℕ) (next new : List (List ℕ)) → IsJudged longest rows whole count old
+pub judged_more : (longest : ℕ) (rows : List Row) (whole : Texts) (count : ℕ) (old : List (List ℕ)) (line : List ℕ) (next new : List (List ℕ))
+    → IsJudged longest rows whole count old
     → old ≡ line ∷ next → is_tune_start line ≡ true → IsRestAfter next new → has_key (with_rows rows (tune_run next)) ≡ true
     → length (joined (with_rows rows (tune_run next))) ≤ longest → IsJudged longest rows whole (count + 1) new
 judged_more longest rows whole count old line next new is step starts rest keyed fits =
     let run = with_rows rows (tune_run next) in
-    let runs : tune_runs old ≡ tune_run next ∷ tune_runs new = ap tune_runs step ∙ runs_start line next starts ∙ ap (λ rs. tune_run next ∷ rs) (sym rest.runs) in
+    let runs : tune_runs old ≡ tune_run next ∷ tune_runs new = ap tune_runs step ∙ runs_start line next starts
+    ∙ ap (λ rs. tune_run next ∷ rs) (sym rest.runs) in
     let later = runs_answer longest (count + 1 + 1) (runs_with rows (tune_runs new)) in
     record {
       done = is.done ++ joined run ∷ [];
@@ -308,10 +326,12 @@ judged_bad longest rows whole count old line next fault is step starts refused =
     ∙ ap (before_texts is.done) (refused (runs_answer longest (count + 1 + 1) (runs_with rows (tune_runs next))))
 
 -- no line is left
-pub judged_end : (longest : ℕ) (rows : List Row) (runs : List (List (List ℕ))) (count : ℕ) (left : List (List ℕ)) → IsJudged longest rows (runs_answer longest 1 runs) count left → left ≡ []
+pub judged_end : (longest : ℕ) (rows : List Row) (runs : List (List (List ℕ))) (count : ℕ) (left : List (List ℕ))
+    → IsJudged longest rows (runs_answer longest 1 runs) count left → left ≡ []
     → (runs_answer longest 1 runs ≡ Ok (map joined runs)) × (count ≡ length runs)
 judged_end longest rows runs count left is none =
-    let ends : runs_answer longest 1 runs ≡ Ok is.done = is.answer ∙ ap (λ ls. before_texts is.done (runs_answer longest (count + 1) (runs_with rows (tune_runs ls)))) none
+    let ends : runs_answer longest 1 runs ≡ Ok is.done = is.answer
+    ∙ ap (λ ls. before_texts is.done (runs_answer longest (count + 1) (runs_with rows (tune_runs ls)))) none
     ∙ ap (λ ts. Ok ts) (append-nil is.done) in
     let texts = answer_texts longest 1 runs is.done ends in
     (ends ∙ ap (λ ts. Ok ts) texts, sym is.counted ∙ ap length texts ∙ length-map runs joined)

@@ -6,7 +6,8 @@ use Rattle.abc_fields.specs.Fields.{header_of}
 use Rattle.abc_fields.specs.Tunes.{joined, tune_runs}
 use Rattle.abc_fields.specs.Books.{whole_runs}
 use Rattle.abc_fields.specs.FileHeaders.{first_block, file_header, is_header_line, rule_of, rule_below, carries, carried, has_letter, before_key, with_header}
-use Rattle.abc_fields.specs.Inside.HeaderRows.{Row, rows_with, rows_after, header_rows, taken, with_rows, runs_with, in_table, IsTableOf, IsByteRule, AreByteRows}
+use Rattle.abc_fields.specs.Inside.HeaderRows.{Row, rows_with, rows_after, header_rows, taken, with_rows, runs_with, in_table, IsTableOf, IsByteRule}
+use Rattle.abc_fields.specs.Inside.HeaderRows.{AreByteRows}
 use Rattle.abc_fields.specs.declared.carry_rules.CarryRule.{CarryRule}
 use Rattle.abc_fields.specs.declared.carry_rules.CarryRule.TheVariants.{Never, Always, Unless}
 use Rattle.abc_fields.proofs.RuleSums.{one_if, taken-with}
@@ -25,7 +26,8 @@ taken-after owns rows above (line ∷ block) =
     ∙ append_assoc (taken owns rows) (one_if (carries owns (rule_of above line)) line) rest
     ∙ ap (λ ls. taken owns rows ++ ls) (taken_step (carries owns (rule_of above line)) line rest)
 
-taken_if : (owns : ℕ → Bool) (block : List (List ℕ)) (all : Bool) → taken owns (cond all (rows_after [] Never block) []) ≡ carried owns Never (cond all block [])
+taken_if : (owns : ℕ → Bool) (block : List (List ℕ)) (all : Bool)
+    → taken owns (cond all (rows_after [] Never block) []) ≡ carried owns Never (cond all block [])
 taken_if owns block true = taken-after owns [] Never block
 taken_if owns block false = refl
 

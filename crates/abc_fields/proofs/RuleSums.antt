@@ -1,5 +1,6 @@
 -- The sums of rules tell how many bytes the lines have that a tune carries.
-use Rattle.std.proofs.Common.{◌≡◌, ℕ, zero, suc, ◌+◌, ◌<◌, ◌≤◌, Bool, true, false, cond, List, [], ◌∷◌, ◌++◌, length, get_or, set, drop, refl, ap, sym, ◌∙◌, subst, arith}
+use Rattle.std.proofs.Common.{◌≡◌, ℕ, zero, suc, ◌+◌, ◌<◌, ◌≤◌, Bool, true, false, cond, List, [], ◌∷◌, ◌++◌, length, get_or, set, drop, refl, ap, sym, ◌∙◌}
+use Rattle.std.proofs.Common.{subst, arith}
 use Rattle.std.specs.List.{AllByRecursion}
 use Rattle.std.proofs.lemmas.Bool.{cond_both}
 use Rattle.std.proofs.lemmas.List.{append_assoc, append-nil, length-append, map-append, at_drop_more}
@@ -132,7 +133,8 @@ pub carried_at : (owns : ℕ → Bool) (sums : List RuleSum) (i : ℕ) (d : Rule
     → sum_carried owns (drop i sums) ≡ bytes_if owns (get_or sums i d).rule (get_or sums i d).length + sum_carried owns (drop (i + 1) sums)
 carried_at owns sums i d within = at_drop_more (sum_carried owns) sums i d within
 
-row_case : (rows : List Row) (rule : CarryRule) (text : List ℕ) → (rule ≡ Never → ⊥) → rows ++ record { rule = rule; text = text } ∷ [] ≡ rows_with rows rule text
+row_case : (rows : List Row) (rule : CarryRule) (text : List ℕ) → (rule ≡ Never → ⊥)
+    → rows ++ record { rule = rule; text = text } ∷ [] ≡ rows_with rows rule text
 row_case rows Never text some = absurd (some refl)
 row_case rows Always text some = refl
 row_case rows (Unless letter) text some = refl
@@ -147,7 +149,8 @@ row_push lines line some =
 pub carried_grown : (owns : ℕ → Bool) (sums : List RuleSum) (place n : ℕ) (sum : RuleSum) → place < length sums → sum ≡ get_or sums place sum
     → sum_carried owns (set sums place (record { rule = sum.rule; length = sum.length + n })) ≡ sum_carried owns sums + bytes_if owns sum.rule n
 carried_grown owns sums place n sum within read =
-    let P : RuleSum → Type 0 = λ s. sum_carried owns (set sums place (record { rule = s.rule; length = s.length + n })) ≡ sum_carried owns sums + bytes_if owns s.rule n in
+    let P : RuleSum
+    → Type 0 = λ s. sum_carried owns (set sums place (record { rule = s.rule; length = s.length + n })) ≡ sum_carried owns sums + bytes_if owns s.rule n in
     subst P (sym read) (sum_carried-set owns sums place n sum within)
 
 pub all_grown : (sums : List RuleSum) (place n : ℕ) (sum : RuleSum) → place < length sums → sum ≡ get_or sums place sum

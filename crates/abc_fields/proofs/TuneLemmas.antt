@@ -13,7 +13,8 @@ use Rattle.abc_fields.proofs.RuleSums.{joined-append, joined-length}
 
 -- THE LINES LEFT
 -- a line of a tune was read
-pub rest_more : (all old : List (List ℕ)) (line : List ℕ) (new : List (List ℕ)) → IsRestAfter all old → old ≡ line ∷ new → ends_tune line ≡ false → IsRestAfter all new
+pub rest_more : (all old : List (List ℕ)) (line : List ℕ) (new : List (List ℕ)) → IsRestAfter all old → old ≡ line ∷ new → ends_tune line ≡ false
+    → IsRestAfter all new
 rest_more all old line new is whole within =
     let at : IsRestAfter all (line ∷ new) = subst (IsRestAfter all) whole is in
     let parts = or_parts (is_empty_line line) (is_tune_start line) within in
@@ -63,8 +64,8 @@ before_length put (line ∷ run) keyed =
     (λ ls. length (joined ls) ≡ length (joined (line ∷ run)) + length (joined put))
     (λ is. omega (arith, ap length (joined-append put (line ∷ run)), length-append (joined put) (joined (line ∷ run))))
     (λ other.
-        let later = before_length put run (rw other at keyed) in
-        omega (arith, joined-length line (before_key put run), joined-length line run))
+    let later = before_length put run (rw other at keyed) in
+    omega (arith, joined-length line (before_key put run), joined-length line run))
 
 -- WRITING
 -- the key comes

@@ -68,9 +68,9 @@ impl<T: Drop> From<AllocFailed<T>> for BookFault {
 /// lines, each ended by a line feed, with those that it carries of the file header before its first
 /// `K:` line. `longest` is how many bytes a text may have, at most 64,000.
 ///
-/// The first of these that holds is the error: `BookTooLong`, `NoTune`, `BadTune` for the first tune
-/// that has no `K:` line or a text that is too long. `OutOfMemory` comes in place of any but the
-/// first.
+/// The first of these that holds is the error: `BookTooLong`, `NoTune`, `BadTune` for the first
+/// tune that has no `K:` line or a text that is too long. `OutOfMemory` comes in place of any but
+/// the first.
 pub fn split_book(alloc: Global, book: &[u8], longest: usize) -> Result<Vec<TuneText>, BookFault>
     requires { longest ≤ longest_tune }
     ensures texts { IfOk result (λ tunes. book_answer longest book.now ≡ Ok tunes.items) }

@@ -31,11 +31,7 @@ impl Carried {
     }
 
     // Makes it what the tune carries of which these are the lines, with what stands behind it.
-    pub(crate) fn change_to(
-        &mut self,
-        header: &FileHeader,
-        lines: Lines,
-    ) -> Result<(), AllocError>
+    pub(crate) fn change_to(&mut self, header: &FileHeader, lines: Lines) -> Result<(), AllocError>
         requires { IsCarried header.now self.old }
         ensures kept { OnOk result (IsCarried header.now self.new) }
         ensures bytes { OnOk result (self.new.bytes.items ≡ joined (taken

@@ -121,7 +121,7 @@ fn judge_tunes(mut lines: Lines, header: &FileHeader, longest: usize) -> Result<
     requires { length (joined (contents_of lines)) ≤ longest_book + 1 }
     ensures { let runs = runs_with header.now (tune_runs (contents_of lines.entry)) in
         MatchResult result (λ count.
-            (runs_answer longest 1 runs ≡ Ok (map joined runs)) × (count ≡ length runs))
+        (runs_answer longest 1 runs ≡ Ok (map joined runs)) × (count ≡ length runs))
         (λ fault. runs_answer longest 1 runs ≡ Err fault) }
 {
     let mut count = 0;

@@ -1,6 +1,6 @@
 // The lines of one tune.
-ghost use Rattle.std.specs.Prelude.{◌≡◌, ◌≤◌, ◌<◌, ◌+◌, ◌++◌, ◌||◌, ℕ, List, [], ◌∷◌, length, true, false, IfOk, OnOk};
-ghost use Rattle.std.specs.Prelude.{IfSome, IfNone, MatchOption, MatchResult, Err};
+ghost use Rattle.std.specs.Prelude.{◌≡◌, ◌≤◌, ◌+◌, ◌++◌, List, [], ◌∷◌, length, true, false};
+ghost use Rattle.std.specs.Prelude.{IfOk, OnOk, MatchOption, MatchResult, Err, ℕ};
 ghost use Rattle.abc_fields.specs.Bytes.{line_feed};
 ghost use Rattle.abc_fields.specs.Limits.{longest_book, longest_tune};
 ghost use Rattle.abc_fields.specs.Inside.LinesLeft.{contents_of, IsRestAfter, still};
@@ -44,8 +44,7 @@ pub(crate) fn push_line(out: &mut Vec<u8>, line: &[u8]) -> Result<(), AllocError
     ensures { OnOk result (out.new.items ≡ out.old.items ++ (line.now ++ line_feed ∷ [])) }
 {
     out.extend_from_slice(line)?;
-    out.push(b'\n')
-        .map_err(|_| AllocError)
+    out.push(b'\n').map_err(|_| AllocError)
 }
 
 // The next line of a tune, where it does not end before it.
@@ -101,7 +100,7 @@ pub(crate) fn judge_tune(
     ensures answer { let run = with_rows header.now (tune_run (contents_of lines.old)) in
         MatchResult result (λ _. (has_key run ≡ true) × (length (joined run) ≤ longest))
         (λ fault. (later : Texts)
-            → tune_answer longest place (has_key run) (joined run) later ≡ Err fault) }
+        → tune_answer longest place (has_key run) (joined run) later ≡ Err fault) }
     ensures rest { IsRestAfter (contents_of lines.old) (contents_of lines.new) }
 {
     let start = lines.again();
@@ -166,12 +165,7 @@ fn write_tune(out: &mut Vec<u8>, lines: &mut Lines, put: &[u8]) -> Result<(), Al
 }
 
 // Writes the next line of a tune, and tells whether its key has come.
-fn write_line(
-    out: &mut Vec<u8>,
-    line: &[u8],
-    put: &[u8],
-    has_key: bool,
-) -> Result<bool, AllocError>
+fn write_line(out: &mut Vec<u8>, line: &[u8], put: &[u8], has_key: bool) -> Result<bool, AllocError>
     ensures { IfOk result (λ now. (carried rest : List (List ℕ)) → joined carried ≡ put.now
         → out.new.items ++ joined (still now carried rest)
         ≡ out.old.items ++ joined (still has_key carried (line.now ∷ rest))) }

@@ -1,5 +1,7 @@
 // Lines, books and archives, called as a library.
-use abc_fields::{BookFault, ByteText, Lines, TuneFault, split_book};
+ghost use Rattle.std.specs.Prelude.{◌≤◌};
+
+use abc_fields::{BookFault, ByteText, Lines, TuneFault, judge_book, split_book};
 use std::alloc::Global;
 use std::test::Fail;
 use tune_books::write_book;
@@ -43,8 +45,31 @@ fn splits_a_book_into_the_texts_of_its_tunes(rt: HostRuntime) -> Result<(), Fail
     Ok(())
 }
 
+#[test]
+fn judges_a_book_before_it_makes_texts(rt: HostRuntime) -> Result<(), Fail> {
+    let book = b"\xef\xbb\xbfR:reel\r\n\r\nX:1\r\nK:C\r\nX:2\rR:jig\rK:D";
+    let judged = judge_book(rt.alloc(), book, 11)?;
+    assert_eq!(&rt; judged.count(), 2);
+    let tunes = judged.texts(rt.alloc())?;
+    assert_eq!(&rt; tunes.len(), 2);
+    for (place, wanted) in [(0, b"R:reel\nK:C\n".as_slice()), (1, b"R:jig\nK:D\n")] {
+        assert_eq!(&rt; tunes.get(place).map(|tune| tune.bytes()), Some(wanted));
+    }
+    let fault = judge_book(rt.alloc(), book, 10).err();
+    assert_eq!(&rt;
+        fault,
+        Some(BookFault::BadTune {
+            place: 1,
+            fault: TuneFault::TooLong,
+        })
+    );
+    Ok(())
+}
+
 // The refusal of a book.
-fn refusal(alloc: Global, book: &[u8], longest: usize) -> Option<BookFault> {
+fn refusal(alloc: Global, book: &[u8], longest: usize) -> Option<BookFault>
+    requires { longest ≤ 64000 }
+{
     split_book(alloc, book, longest).err()
 }
 
@@ -55,10 +80,8 @@ fn refuses_books(rt: HostRuntime) {
     for (book, longest, wanted) in [
         (b"".as_slice(), 14, BookFault::NoTune),
         (b" \n\t\n", 14, BookFault::NoTune),
-        (b"a\n", 14, BookFault::NotPlain),
-        (b"X:1\r\nK:C\r\n", 14, BookFault::NotPlain),
-        (b"\xef\xbb\xbfX:1\nK:C\n", 14, BookFault::NotPlain),
-        (b"T:a\nX:1\nK:C\n", 14, BookFault::NotPlain),
+        (b"a\n", 14, BookFault::NoTune),
+        (b"\xef\xbb\xbf\xef\xbb\xbfX:1\nK:C\n", 14, BookFault::NoTune),
         (
             b"X:1\nK:C\nX:2\nT:a\n",
             14,

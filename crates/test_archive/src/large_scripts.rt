@@ -148,7 +148,7 @@ fn wears_a_tune_out(rt: HostRuntime) -> Result<(), Fail> {
             ),
             ("replace 1 9999", b"X:1\n", b"refused 2 BadTune 1 NoKey\n"),
             ("replace 1 9999", b"", b"refused 1 NoTune\n"),
-            ("replace 1 9999", b"T:a\n", b"refused 24 NotPlain\n"),
+            ("replace 1 9999", b"T:a\n", b"refused 1 NoTune\n"),
         ],
     )?;
     script.extend_from_slice(b"show 1\ndelete 1\n")?;
@@ -185,7 +185,7 @@ fn holds_as_many_tunes_as_one_import_may_bring(rt: HostRuntime) -> Result<(), Fa
         &rt,
         "a full archive",
         script.as_slice(),
-        b"ok import 1 20000\nrefused 9 ArchiveFull\nrefused 1 NoTune\nrefused 2 BadTune 1 NoKey\nrefused 24 NotPlain\nok replace 20000 2\nok show 20000 2 12\nX:20000\nK:D\nrefused 4 Unknown 20001\nok delete 1\nrefused 9 ArchiveFull\nok import 20001 20001\nok show 20001 1 12\nX:20001\nK:C\nrefused 4 Unknown 1\nrefused 9 ArchiveFull\n",
+        b"ok import 1 20000\nrefused 9 ArchiveFull\nrefused 1 NoTune\nrefused 2 BadTune 1 NoKey\nrefused 1 NoTune\nok replace 20000 2\nok show 20000 2 12\nX:20000\nK:D\nrefused 4 Unknown 20001\nok delete 1\nrefused 9 ArchiveFull\nok import 20001 20001\nok show 20001 1 12\nX:20001\nK:C\nrefused 4 Unknown 1\nrefused 9 ArchiveFull\n",
     )
 }
 

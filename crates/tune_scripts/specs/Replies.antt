@@ -9,7 +9,7 @@ use Rattle.tune_store.specs.declared.command.Reply.{Reply}
 use Rattle.tune_store.specs.declared.command.Reply.TheVariants.{Imported, Replaced, Deleted, Shown}
 use Rattle.tune_store.specs.declared.command.Reply.TheVariants.{Exported}
 use Rattle.tune_store.specs.declared.command.Refusal.{Refusal}
-use Rattle.tune_store.specs.declared.command.Refusal.TheVariants.{BookTooLong, NotPlain, NoTune}
+use Rattle.tune_store.specs.declared.command.Refusal.TheVariants.{BookTooLong, NoTune}
 use Rattle.tune_store.specs.declared.command.Refusal.TheVariants.{BadTune, NotOne, Unknown, Stale}
 use Rattle.tune_store.specs.declared.command.Refusal.TheVariants.{Worn, ArchiveFull, NumbersSpent}
 use Rattle.tune_store.specs.declared.command.Refusal.TheVariants.{OutOfMemory, Device, Closed}
@@ -56,7 +56,6 @@ refusal_bytes BookTooLong = codes "refused 19 BookTooLong\n"
 refusal_bytes OutOfMemory = codes "refused 21 OutOfMemory\n"
 refusal_bytes Device = codes "refused 22 Device\n"
 refusal_bytes Closed = codes "refused 23 Closed\n"
-refusal_bytes NotPlain = codes "refused 24 NotPlain\n"
 
 abbrev pub answer_bytes : Result Reply Refusal → List ℕ
 answer_bytes (Ok reply) = reply_bytes reply

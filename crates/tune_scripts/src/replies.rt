@@ -100,7 +100,6 @@ fn write_refusal<W: Write>(writer: &mut W, refusal: &Refusal) -> io::Result<()>
         Refusal::OutOfMemory => writer.write_all(b"refused 21 OutOfMemory\n"),
         Refusal::Device => writer.write_all(b"refused 22 Device\n"),
         Refusal::Closed => writer.write_all(b"refused 23 Closed\n"),
-        Refusal::NotPlain => writer.write_all(b"refused 24 NotPlain\n"),
     }
 }
 

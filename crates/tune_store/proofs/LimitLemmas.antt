@@ -2,12 +2,9 @@
 use Rattle.std.proofs.Common.{◌≡◌, ℕ, ◌+◌, Bool, true, false, not, cond, ltb, List, [], ◌∷◌, length, Option, Some, None, Ok, Err, refl}
 use Rattle.std.specs.List.{AllByRecursion}
 use Rattle.std.proofs.lemmas.Bool.{ltb-false}
-use Rattle.abc_fields.specs.Lines.{lines_of}
-use Rattle.abc_fields.specs.Tunes.{tune_runs, IsTextWithin}
-use Rattle.abc_fields.specs.Books.{Texts, runs_answer, book_of_runs, book_answer, is_plain}
-use Rattle.abc_fields.specs.Limits.{longest_book}
-use Rattle.abc_fields.specs.declared.book.BookFault.TheVariants as fault
-use Rattle.abc_fields.proofs.BookLemmas.{TextsWithin, texts_within}
+use Rattle.abc_fields.specs.Tunes.{IsTextWithin}
+use Rattle.abc_fields.specs.Books.{Texts, book_answer}
+use Rattle.abc_fields.proofs.BookLemmas.{TextsWithin, book_within}
 use Rattle.tune_store.specs.State.{State, IsState, IsTunes, greatest}
 use Rattle.tune_store.specs.Step.{step, tune_at, with_texts, import_book, replace_book, delete_tune}
 use Rattle.tune_store.specs.declared.tune.Tune.{Tune}
@@ -17,24 +14,6 @@ use Rattle.tune_store.specs.declared.command.Command.TheVariants.{Import, Replac
 use Rattle.tune_store.specs.declared.command.Reply.{Reply}
 use Rattle.tune_store.specs.declared.command.Refusal.TheVariants.{ArchiveFull, NumbersSpent}
 use Rattle.tune_store.proofs.StateLemmas.{KeepsLimits, state_after_import, state_after_text, state_after_delete}
-
--- THE TEXTS OF A BOOK
--- the texts of runs of lines are within the length, where there are any
-runs_texts : (longest : ℕ) (book : List ℕ) (answer : Texts) → runs_answer longest 1 (tune_runs (lines_of book)) ≡ answer → TextsWithin longest answer
-runs_texts longest book (Ok texts) e = texts_within longest book texts e
-runs_texts longest book (Err why) e = tt
-
--- a book is refused as a whole, or its texts are those of its runs
-book_texts : (longest : ℕ) (runs : List (List (List ℕ))) (long plain : Bool) → TextsWithin longest (runs_answer longest 1 runs)
-    → TextsWithin longest (cond long (Err fault.BookTooLong) (cond (not plain) (Err fault.NotPlain) (book_of_runs longest runs)))
-book_texts longest runs true plain within = tt
-book_texts longest runs false false within = tt
-book_texts longest [] false true within = tt
-book_texts longest (run ∷ runs) false true within = within
-
--- the texts of a book are tune texts within the length
-book_within : (longest : ℕ) (book : List ℕ) → TextsWithin longest (book_answer longest book)
-book_within longest book = book_texts longest (tune_runs (lines_of book)) (ltb longest_book (length book)) (is_plain book) (runs_texts longest book _ refl)
 
 -- EACH COMMAND
 -- the two tests of an import let only texts through for which there is room

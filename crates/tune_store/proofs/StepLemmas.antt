@@ -19,7 +19,7 @@ use Rattle.tune_store.specs.declared.command.Command.{Command}
 use Rattle.tune_store.specs.declared.command.Command.TheVariants.{Import, Replace, Delete, Show, ExportAll}
 use Rattle.tune_store.specs.declared.command.Reply.{Reply}
 use Rattle.tune_store.specs.declared.command.Refusal.{Refusal}
-use Rattle.tune_store.specs.declared.command.Refusal.TheVariants.{BookTooLong, NotPlain, NoTune, BadTune, NotOne, Unknown, Stale, Worn, ArchiveFull}
+use Rattle.tune_store.specs.declared.command.Refusal.TheVariants.{BookTooLong, NoTune, BadTune, NotOne, Unknown, Stale, Worn, ArchiveFull}
 use Rattle.tune_store.specs.declared.command.Refusal.TheVariants.{NumbersSpent, OutOfMemory, Device, Closed}
 
 -- A REFUSED COMMAND CHANGES NOTHING
@@ -98,7 +98,6 @@ two_tests_refuse P old new false false x y reply is_x is_y refusal h = cc
 -- the faults of a book are refusals of an import
 import_fault : (book : List ℕ) (fault : BookFault) → IsListRefusal (Import book) (refusal_of fault)
 import_fault book fault.BookTooLong = inl tt
-import_fault book fault.NotPlain = inl tt
 import_fault book fault.NoTune = inl tt
 import_fault book (fault.BadTune place why) = inl tt
 import_fault book fault.OutOfMemory = inr refl
@@ -106,7 +105,6 @@ import_fault book fault.OutOfMemory = inr refl
 -- and of a replacement
 replace_fault : (number revision : ℕ) (book : List ℕ) (fault : BookFault) → IsListRefusal (Replace number revision book) (refusal_of fault)
 replace_fault number revision book fault.BookTooLong = inl tt
-replace_fault number revision book fault.NotPlain = inl tt
 replace_fault number revision book fault.NoTune = inl tt
 replace_fault number revision book (fault.BadTune place why) = inl tt
 replace_fault number revision book fault.OutOfMemory = inr refl
@@ -207,7 +205,6 @@ open_after BookTooLong other = refl
 open_after OutOfMemory other = refl
 open_after Device other = absurd (other (inl refl))
 open_after Closed other = absurd (other (inr refl))
-open_after NotPlain other = refl
 
 -- WHAT AN ANSWER SAYS OF THE STORE
 -- after each refusal but that of a device that failed, the store stands for what it stood for

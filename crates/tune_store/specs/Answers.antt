@@ -7,7 +7,7 @@ use Rattle.tune_store.specs.declared.command.Command.{Command}
 use Rattle.tune_store.specs.declared.command.Command.TheVariants.{Import, Replace, Delete, Show}
 use Rattle.tune_store.specs.declared.command.Reply.{Reply}
 use Rattle.tune_store.specs.declared.command.Refusal.{Refusal}
-use Rattle.tune_store.specs.declared.command.Refusal.TheVariants.{BookTooLong, NotPlain, NoTune}
+use Rattle.tune_store.specs.declared.command.Refusal.TheVariants.{BookTooLong, NoTune}
 use Rattle.tune_store.specs.declared.command.Refusal.TheVariants.{BadTune, NotOne, Unknown, Stale}
 use Rattle.tune_store.specs.declared.command.Refusal.TheVariants.{Worn, ArchiveFull, NumbersSpent}
 use Rattle.tune_store.specs.declared.command.Refusal.TheVariants.{OutOfMemory, Device, Closed}
@@ -54,7 +54,6 @@ stays_open (Err refusal) = true
 -- the refusals of a book that has no tunes to give
 abbrev pub IsRefusalOfBook : Refusal → Type 0
 IsRefusalOfBook BookTooLong = ⊤
-IsRefusalOfBook NotPlain = ⊤
 IsRefusalOfBook NoTune = ⊤
 IsRefusalOfBook (BadTune place why) = ⊤
 IsRefusalOfBook refusal = ⊥

@@ -15,7 +15,7 @@ use Rattle.tune_store.specs.declared.command.Reply.{Reply}
 use Rattle.tune_store.specs.declared.command.Reply.TheVariants.{Imported, Replaced, Deleted, Shown}
 use Rattle.tune_store.specs.declared.command.Reply.TheVariants.{Exported}
 use Rattle.tune_store.specs.declared.command.Refusal.{Refusal}
-use Rattle.tune_store.specs.declared.command.Refusal.TheVariants.{BookTooLong, NotPlain, NoTune}
+use Rattle.tune_store.specs.declared.command.Refusal.TheVariants.{BookTooLong, NoTune}
 use Rattle.tune_store.specs.declared.command.Refusal.TheVariants.{BadTune, NotOne, Unknown, Stale}
 use Rattle.tune_store.specs.declared.command.Refusal.TheVariants.{Worn, ArchiveFull, NumbersSpent}
 use Rattle.tune_store.specs.declared.command.Refusal.TheVariants.{OutOfMemory}
@@ -36,7 +36,6 @@ tunes_step state outcome = (record state { tunes = outcome.0 }, outcome.1)
 -- the refusal of a book as one of a command
 abbrev pub refusal_of : BookFault → Refusal
 refusal_of fault.BookTooLong = BookTooLong
-refusal_of fault.NotPlain = NotPlain
 refusal_of fault.NoTune = NoTune
 refusal_of (fault.BadTune place why) = BadTune place why
 refusal_of fault.OutOfMemory = OutOfMemory

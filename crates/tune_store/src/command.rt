@@ -79,10 +79,6 @@ pub enum Refusal {
     /// The device failed in an earlier call.
     #[error("the archive is closed")]
     Closed,
-    /// The book has a carriage return, begins with a byte order mark, or its first line that is not
-    /// empty does not begin with `X:`.
-    #[error("the book is not plain")]
-    NotPlain,
 }
 
 impl From<BookFault> for Refusal {
@@ -94,7 +90,6 @@ impl From<BookFault> for Refusal {
     fn from(fault: BookFault) -> Refusal {
         match fault {
             BookFault::BookTooLong => Refusal::BookTooLong,
-            BookFault::NotPlain => Refusal::NotPlain,
             BookFault::NoTune => Refusal::NoTune,
             BookFault::BadTune { place, fault } => Refusal::BadTune { place, fault },
             BookFault::OutOfMemory => Refusal::OutOfMemory,

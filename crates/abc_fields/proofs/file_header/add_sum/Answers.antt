@@ -26,7 +26,8 @@ returns-in-Some-clause-all c =
 
 pub returns-in_ok-push-in-None-clause-each : goal.returns-in_ok-push-in-None-clause-each
 returns-in_ok-push-in-None-clause-each c = λ owns.
-    ap (sum_carried owns) c.in_ok-push-in-None.ensures.items ∙ sum_carried-push owns c.args.sums.now.items (record { rule = c.args.rule; length = c.args.length })
+    ap (sum_carried owns) c.in_ok-push-in-None.ensures.items
+    ∙ sum_carried-push owns c.args.sums.now.items (record { rule = c.args.rule; length = c.args.length })
 
 pub returns-in_ok-push-in-None-clause-all : goal.returns-in_ok-push-in-None-clause-all
 returns-in_ok-push-in-None-clause-all c =

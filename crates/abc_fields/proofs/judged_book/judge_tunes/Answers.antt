@@ -12,8 +12,13 @@ loop-line-preserved-in-Continue-1 c =
     let good = c.in_ok-judge_tune.ensures.answer in
     record {
       judged = judged_more _ _ _ _ _ c.in-Some.line.text.now _ _ c.loop-line.invariant.judged step starts c.judge_tune.ensures.rest good.0 good.1;
-      room = omega (arith, c.loop-line.invariant.room, ap (λ lines. length (joined lines)) step,
-        joined-length c.in-Some.line.text.now (contents_of c.next.new.self), c.judge_tune.ensures.rest.shorter);
+      room = omega (
+        arith,
+        c.loop-line.invariant.room,
+        ap (λ lines. length (joined lines)) step,
+        joined-length c.in-Some.line.text.now (contents_of c.next.new.self),
+        c.judge_tune.ensures.rest.shorter,
+      );
     }
 
 pub returns : goal.returns

@@ -8,4 +8,5 @@ use Rattle.abc_fields.proofs.tune_lines.length_carried.Goals as goal
 pub returns-clause-value : goal.returns-clause-value
 returns-clause-value c =
     c.length_for.ensures.value
-    ∙ ap (λ lines. length (joined lines)) (taken_by_table c.of_tune.result.table (header_of (tune_run (contents_of c.args.lines))) c.args.header.now c.of_tune.ensures c.is_empty.ensures.bytes)
+    ∙ ap (λ lines. length (joined lines)) (taken_by_table c.of_tune.result.table (header_of (tune_run (contents_of c.args.lines))) c.args.header.now
+    c.of_tune.ensures c.is_empty.ensures.bytes)

@@ -14,7 +14,8 @@ from_vec-requires c =
     let bytes = rw c.again.ensures at c.in_ok-change_to.ensures.bytes in
     let same : joined put ≡ c.as_slice.result.now = sym (c.as_slice.ensures.value ∙ bytes) in
     let written = rw c.clear.ensures.items at (c.in_ok-write_tune.ensures.text put same) in
-    let text : c.in_ok-from_slice.field-0.items ≡ joined (with_rows c.args.header.now run) = c.in_ok-from_slice.ensures.items ∙ c.as_slice-2.ensures.value ∙ written in
+    let text : c.in_ok-from_slice.field-0.items ≡ joined (with_rows c.args.header.now run) = c.in_ok-from_slice.ensures.items ∙ c.as_slice-2.ensures.value
+    ∙ written in
     rw text c.requires.good
 
 pub returns-clause-text : goal.returns-clause-text

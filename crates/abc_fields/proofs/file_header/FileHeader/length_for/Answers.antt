@@ -9,7 +9,14 @@ overflow_add-length c =
     let items = c.deref-sum-items.result.now in
     let same : sum_all items ≡ sum_all c.self.inside.sums.items = ap sum_all c.deref-sum-items.ensures.value in
     let within : c.loop-sum.sum-index < length items = omega arith in
-    omega (arith, same, c.self.invariant.few, carried_within (in_table c.args.letters.now.table) items, sum_within items c.loop-sum.sum-index (record { rule = Never; length = 0 }) within)
+    omega (
+      arith,
+      same,
+      c.self.invariant.few,
+      carried_within (in_table c.args.letters.now.table) items,
+      sum_within items c.loop-sum.sum-index
+          (record { rule = Never; length = 0 }) within,
+    )
 
 pub returns-clause-few : goal.returns-clause-few
 returns-clause-few c =

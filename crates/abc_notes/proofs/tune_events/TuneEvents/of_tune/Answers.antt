@@ -1,6 +1,5 @@
 use Rattle.std.proofs.Common.{◌≡◌, ◌≤◌, ◌∙◌, sym, ap, subst, ℕ, List, [], ◌++◌, length, false, arith}
 use Rattle.std.specs.Prelude.{codes, slice_get, unwrap_or}
-use Rattle.abc_fields.specs.Limits.{longest_book}
 use Rattle.abc_fields.specs.Fields.{values_of, key_text_of}
 use Rattle.abc_fields.specs.Lines.{Span as Line, spans_of}
 use Rattle.abc_keys.specs.Keys.{key_of_text, signature_of}
@@ -16,7 +15,7 @@ invariant_of-events c =
     c.read_header-in_part.ensures.short
     (subst (λ (lines : List Line). LinesAreShort lines) (sym c.new-lines.ensures.lines)
     (lines_are_short c.bytes.result.now 0 _ c.new-lines.ensures.rising
-    (subst (λ (text : List ℕ). length text ≤ longest_book) (sym c.bytes.ensures.value) c.bytes.ensures.short)))
+    (omega (arith, ap length c.bytes.ensures.value, c.bytes.ensures.short))))
 
 pub returns-clause-signature : goal.returns-clause-signature
 returns-clause-signature c =
