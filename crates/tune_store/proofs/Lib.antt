@@ -4,3 +4,4 @@ pub mod StepLemmas
 pub mod LimitLemmas
 pub mod RevisionLemmas
 pub mod StopLemmas
+pub mod PlanLemmas

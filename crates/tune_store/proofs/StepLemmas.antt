@@ -12,7 +12,7 @@ use Rattle.tune_store.specs.Step.{delete_tune, shown, tune_at}
 use Rattle.tune_store.specs.Answers.{Answers, open_at, stepped, no_memory, failed_before, failed_after, is_closed, passed}
 use Rattle.tune_store.specs.Answers.{stays_open, IsRefusalOf, IsRefusalOfAny, IsRefusalOfOwn}
 use Rattle.tune_store.specs.Stops.{Among, Passes}
-use Rattle.tune_store.specs.Inside.Lists.{state_with, StaysOrGives}
+use Rattle.tune_store.specs.Inside.Plans.{IsOwnOrMemory}
 use Rattle.tune_store.specs.declared.tune.Tune.{Tune}
 use Rattle.tune_store.specs.Limits.{longest_text, most_tunes, greatest_number, greatest_revision}
 use Rattle.tune_store.specs.declared.command.Command.{Command}
@@ -76,10 +76,6 @@ refused_keeps old (Show number) = λ refusal h. refl
 refused_keeps old ExportAll = λ refusal h. refl
 
 -- WHICH REFUSALS A COMMAND IS GIVEN
--- a refusal that the plain list gives a command
-abbrev pub IsListRefusal : Command → Refusal → Type 0
-IsListRefusal command refusal = IsRefusalOfOwn command refusal ⊎ (refusal ≡ OutOfMemory)
-
 -- where the answer is a refusal, it is one of these
 abbrev pub Refuses : (Refusal → Type 0) → Result Reply Refusal → Type 0
 Refuses P answer = (refusal : Refusal) → answer ≡ Err refusal → P refusal
@@ -96,64 +92,64 @@ two_tests_refuse P old new false true x y reply is_x is_y refusal h = let same :
 two_tests_refuse P old new false false x y reply is_x is_y refusal h = cc
 
 -- the faults of a book are refusals of an import
-import_fault : (book : List ℕ) (fault : BookFault) → IsListRefusal (Import book) (refusal_of fault)
+import_fault : (book : List ℕ) (fault : BookFault) → IsOwnOrMemory (Import book) (refusal_of fault)
 import_fault book fault.BookTooLong = inl tt
 import_fault book fault.NoTune = inl tt
 import_fault book (fault.BadTune place why) = inl tt
 import_fault book fault.OutOfMemory = inr refl
 
 -- and of a replacement
-replace_fault : (number revision : ℕ) (book : List ℕ) (fault : BookFault) → IsListRefusal (Replace number revision book) (refusal_of fault)
+replace_fault : (number revision : ℕ) (book : List ℕ) (fault : BookFault) → IsOwnOrMemory (Replace number revision book) (refusal_of fault)
 replace_fault number revision book fault.BookTooLong = inl tt
 replace_fault number revision book fault.NoTune = inl tt
 replace_fault number revision book (fault.BadTune place why) = inl tt
 replace_fault number revision book fault.OutOfMemory = inr refl
 
 -- the refusals of an import
-import_refuses : (old : List Tune) (book : List ℕ) (texts : Texts) → Refuses (IsListRefusal (Import book)) (import_book old texts).1
-import_refuses old book (Err fault) refusal h = let same : refusal_of fault ≡ refusal = cc in subst (IsListRefusal (Import book)) same (import_fault book fault)
+import_refuses : (old : List Tune) (book : List ℕ) (texts : Texts) → Refuses (IsOwnOrMemory (Import book)) (import_book old texts).1
+import_refuses old book (Err fault) refusal h = let same : refusal_of fault ≡ refusal = cc in subst (IsOwnOrMemory (Import book)) same (import_fault book fault)
 import_refuses old book (Ok texts) refusal h =
-    two_tests_refuse (IsListRefusal (Import book)) old _ (ltb most_tunes (length old + length texts))
+    two_tests_refuse (IsOwnOrMemory (Import book)) old _ (ltb most_tunes (length old + length texts))
     (ltb greatest_number (greatest old + length texts)) _ _ _ (inl tt) (inl tt) refusal h
 
 -- those of a replacement, of the tune that was found
 replace_tune_refuses : (old : List Tune) (number revision : ℕ) (book text : List ℕ) (found : Option Tune)
-    → Refuses (IsListRefusal (Replace number revision book)) (replace_tune old number revision text found).1
+    → Refuses (IsOwnOrMemory (Replace number revision book)) (replace_tune old number revision text found).1
 replace_tune_refuses old number revision book text None refusal h =
-    let same : Unknown number ≡ refusal = cc in subst (IsListRefusal (Replace number revision book)) same (inl refl)
+    let same : Unknown number ≡ refusal = cc in subst (IsOwnOrMemory (Replace number revision book)) same (inl refl)
 replace_tune_refuses old number revision book text (Some tune) refusal h =
-    two_tests_refuse (IsListRefusal (Replace number revision book)) old _ (not (eqb tune.revision revision))
+    two_tests_refuse (IsOwnOrMemory (Replace number revision book)) old _ (not (eqb tune.revision revision))
     (not (ltb tune.revision greatest_revision)) _ _ _ (inl tt) (inl tt) refusal h
 
 -- by the texts of a book
 replace_texts_refuse : (old : List Tune) (number revision : ℕ) (book : List ℕ) (texts : List (List ℕ))
-    → Refuses (IsListRefusal (Replace number revision book)) (replace_texts old number revision texts).1
+    → Refuses (IsOwnOrMemory (Replace number revision book)) (replace_texts old number revision texts).1
 replace_texts_refuse old number revision book [] refusal h =
-    let same : NotOne 0 ≡ refusal = cc in subst (IsListRefusal (Replace number revision book)) same (inl tt)
+    let same : NotOne 0 ≡ refusal = cc in subst (IsOwnOrMemory (Replace number revision book)) same (inl tt)
 replace_texts_refuse old number revision book (text ∷ []) refusal h = replace_tune_refuses old number revision book text (tune_at number old) refusal h
 replace_texts_refuse old number revision book (text ∷ next ∷ texts) refusal h =
-    let same : NotOne (length (text ∷ next ∷ texts)) ≡ refusal = cc in subst (IsListRefusal (Replace number revision book)) same (inl tt)
+    let same : NotOne (length (text ∷ next ∷ texts)) ≡ refusal = cc in subst (IsOwnOrMemory (Replace number revision book)) same (inl tt)
 
 -- or by a book that has none
 replace_refuses : (old : List Tune) (number revision : ℕ) (book : List ℕ) (texts : Texts)
-    → Refuses (IsListRefusal (Replace number revision book)) (replace_book old number revision texts).1
+    → Refuses (IsOwnOrMemory (Replace number revision book)) (replace_book old number revision texts).1
 replace_refuses old number revision book (Err fault) refusal h =
     let same : refusal_of fault ≡ refusal = cc in
-    subst (IsListRefusal (Replace number revision book)) same (replace_fault number revision book fault)
+    subst (IsOwnOrMemory (Replace number revision book)) same (replace_fault number revision book fault)
 replace_refuses old number revision book (Ok texts) refusal h = replace_texts_refuse old number revision book texts refusal h
 
 -- those of a deletion
-delete_refuses : (old : List Tune) (number : ℕ) (found : Option Tune) → Refuses (IsListRefusal (Delete number)) (delete_tune old number found).1
-delete_refuses old number None refusal h = let same : Unknown number ≡ refusal = cc in subst (IsListRefusal (Delete number)) same (inl refl)
+delete_refuses : (old : List Tune) (number : ℕ) (found : Option Tune) → Refuses (IsOwnOrMemory (Delete number)) (delete_tune old number found).1
+delete_refuses old number None refusal h = let same : Unknown number ≡ refusal = cc in subst (IsOwnOrMemory (Delete number)) same (inl refl)
 delete_refuses old number (Some tune) refusal h = cc
 
 -- and of a look at a tune
-show_refuses : (number : ℕ) (found : Option Tune) → Refuses (IsListRefusal (Show number)) (shown number found)
-show_refuses number None refusal h = let same : Unknown number ≡ refusal = cc in subst (IsListRefusal (Show number)) same (inl refl)
+show_refuses : (number : ℕ) (found : Option Tune) → Refuses (IsOwnOrMemory (Show number)) (shown number found)
+show_refuses number None refusal h = let same : Unknown number ≡ refusal = cc in subst (IsOwnOrMemory (Show number)) same (inl refl)
 show_refuses number (Some tune) refusal h = cc
 
 -- the refusals of each command
-pub step_refuses : (old : State) (command : Command) → Refuses (IsListRefusal command) (step old command).1
+step_refuses : (old : State) (command : Command) → Refuses (IsOwnOrMemory command) (step old command).1
 step_refuses old (Import book) = import_refuses old.tunes book (book_answer longest_text book)
 step_refuses old (Replace number revision book) = replace_refuses old.tunes number revision book (book_answer longest_text book)
 step_refuses old (Delete number) = delete_refuses old.tunes number (tune_at number old.tunes)
@@ -271,18 +267,6 @@ answers_reach _ _ _ _ (failed_after old command) = inr (inl refl)
 answers_reach _ _ _ _ (is_closed old command) = inl refl
 
 -- A STORE IN MEMORY
--- what comes of its tunes comes of its state
-pub tunes_give : (old new : List Tune) (answer : Result Reply Refusal) (outcome : TunesOutcome) → StaysOrGives old new answer outcome
-    → StaysOrGives (state_with old) (state_with new) answer (tunes_step (state_with old) outcome)
-tunes_give old new answer outcome (inl h) = inl (h.0, ap state_with h.1)
-tunes_give old new answer outcome (inr h) = inr (ap (tunes_step (state_with old)) h)
-
--- it is out of memory and stays, or its answer is that of the plain list
-pub in_memory : (old new : State) (command : Command) (answer : Result Reply Refusal)
-    → StaysOrGives old new answer (step old command) → Answers (open_at old) command answer (open_at new)
-in_memory old new command answer (inl h) = rw (h.0, h.1) (no_memory old command)
-in_memory old new command answer (inr h) = stepped old new command answer h
-
 -- it has no device that fails
 pub never_fails : (old new : State) (command : Command) (answer : Result Reply Refusal)
     → Answers (open_at old) command answer (open_at new) → answer ≡ Err Device → ⊥

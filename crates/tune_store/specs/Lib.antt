@@ -6,4 +6,6 @@ pub mod Runs
 pub mod Stops
 pub mod Revisions
 pub mod Stores
+pub mod Labels
+pub mod Plans
 pub mod Inside

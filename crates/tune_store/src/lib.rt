@@ -1,14 +1,18 @@
 //! An archive of tunes: the commands, their answers, and the stores that carry them out.
 #![tactic(auto)]
 
+mod catalog;
 mod command;
 mod laws;
 mod list_archive;
+mod plans;
 mod tune;
 mod tune_store;
 
+pub use catalog::{Catalog, Label};
 pub use command::{Command, Refusal, Reply};
 pub use laws::law_of_revisions;
 pub use list_archive::ListArchive;
+pub use plans::{Change, Plan, decide};
 pub use tune::{GREATEST_NUMBER, GREATEST_REVISION, LONGEST_TEXT, MOST_TUNES, Tune};
 pub use tune_store::TuneStore;

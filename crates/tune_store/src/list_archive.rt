@@ -1,25 +1,22 @@
 // An archive in memory.
-ghost use Rattle.std.specs.Prelude.{◌≡◌, ◌≢◌, ℕ, ◌+◌, ◌^◌, ◌<◌, ◌≤◌, ◌⊎◌, List, [], ◌∷◌, ◌++◌};
-ghost use Rattle.std.specs.Prelude.{length, false, None, Some, Ok, Err, IfOk, IfErr, IfNone};
-ghost use Rattle.std.specs.Prelude.{IfSome, vec_len, slice_index_or};
-ghost use Rattle.std.specs.List.{AllByRecursion};
+ghost use Rattle.std.specs.Prelude.{◌≡◌, ◌≢◌, ℕ, ◌+◌, ◌^◌, ◌<◌, ◌≤◌, ◌++◌, length, OnOk, OnErr};
+ghost use Rattle.std.specs.Prelude.{IfSome, IfNone, slice_index_or, vec_len};
 ghost use Rattle.std.specs.Vec.{vec_capacity};
-ghost use Rattle.abc_fields.specs.Books.{book_answer};
-ghost use Rattle.tune_store.specs.declared.tune.Tune.{Tune};
-ghost use Rattle.tune_store.specs.Limits.{longest_text};
-ghost use Rattle.tune_store.specs.State.{State, IsState, IsTunes, IsTune, RisesFrom, greatest};
-ghost use Rattle.tune_store.specs.State.{empty_state};
-ghost use Rattle.tune_store.specs.Step.{step, numbered, tune_at, import_book, replace_book};
-ghost use Rattle.tune_store.specs.Step.{replace_tune, delete_tune, shown, exported};
-ghost use Rattle.tune_store.specs.Inside.Lists.{state_with, StaysOrGives};
+ghost use Rattle.tune_store.specs.State.{State, IsState, RisesFrom, empty_state};
+ghost use Rattle.tune_store.specs.Step.{numbered};
+ghost use Rattle.tune_store.specs.Labels.{labels_of};
+ghost use Rattle.tune_store.specs.declared.catalog.Label.{Label};
+ghost use Rattle.tune_store.specs.Plans.{CanChange, CanChangeTo, changed};
+ghost use Rattle.tune_store.specs.Inside.Lists.{CarriedOut};
 
+use crate::catalog::{Catalog, Label};
 use crate::command::{Command, Refusal, Reply};
-use crate::tune::{GREATEST_NUMBER, GREATEST_REVISION, LONGEST_TEXT, MOST_TUNES, Tune};
+use crate::plans::{Change, Plan, decide};
+use crate::tune::Tune;
 use crate::tune_store::TuneStore;
-use abc_fields::{TuneText, split_book};
-use std::alloc::Global;
+use abc_fields::TuneText;
+use std::alloc::{AllocError, Global};
 use std::marker::Model;
-use tune_books::BookWriter;
 
 /// A list of tunes in memory. A clause sees the list.
 #[derive(Drop)]
@@ -60,6 +57,73 @@ impl ListArchive {
     }
 }
 
+impl Catalog for ListArchive {
+    ghost use Rattle.std.proofs.Common.{◌≡◌, refl, ap, ◌∙◌};
+    ghost use Rattle.std.specs.Prelude.{⊤};
+    ghost use Rattle.tune_store.specs.Labels.{labels_of};
+
+    ghost labels = { λ archive. labels_of archive.tunes };
+
+    ghost tunes = { λ archive. archive.tunes };
+
+    ghost at_hand = { λ _ _. ⊤ };
+
+    ghost fetched = { λ old new. new ≡ old };
+
+    ghost none_fetched = { λ archive. refl };
+
+    ghost more_fetched = { λ old mid new before then. then ∙ before };
+
+    ghost fetched_and_failed = { λ old mid new before then. then };
+
+    ghost labels_stay = { λ old new same. ap (λ state. labels_of state.tunes) same };
+
+    ghost was_honest = { λ old new same honest. honest };
+
+    ghost tunes_stay = { λ old new same honest. ap (λ state. state.tunes) same };
+
+    ghost labels_are = { λ archive honest. refl };
+
+    fn len(&self) -> usize {
+        self.tunes.as_slice().len()
+    }
+
+    fn label(&self, place: usize) -> Label {
+        let tune = &self.tunes[place];
+        Label {
+            number: tune.number,
+            revision: tune.revision,
+        }
+    }
+
+    fn place_of(&self, number: u32) -> Option<usize> {
+        place_of(&self.tunes, number)
+    }
+
+    fn fetch(&mut self, _place: usize) -> Result<(), Refusal> {
+        Ok(())
+    }
+
+    fn text(&self, place: usize) -> &TuneText {
+        &self.tunes[place].text
+    }
+}
+
+// The place of the tune of a number.
+fn place_of(tunes: &[Tune], number: u32) -> Option<usize>
+    requires { RisesFrom 0 tunes.now }
+    ensures within { IfSome result (λ place. place < length (labels_of tunes.now)) }
+    ensures found { IfSome result (λ place. (d : Label)
+        → (slice_index_or (labels_of tunes.now) place d).number ≡ number) }
+    ensures none { IfNone result ((place : ℕ) (d : Label) → place < length (labels_of tunes.now)
+        → (slice_index_or (labels_of tunes.now) place d).number ≢ number) }
+{
+    match tunes.binary_search_by_key(&number, |tune| tune.number) {
+        Ok(place) => Some(place),
+        Err(_) => None,
+    }
+}
+
 impl TuneStore for ListArchive {
     ghost state = { λ archive. archive };
 
@@ -72,51 +136,40 @@ impl TuneStore for ListArchive {
     ghost since_earlier = { λ archive since earlier file le left. left };
 
     fn apply(&mut self, command: &Command) -> Result<Reply, Refusal> {
-        answer(self.alloc, &mut self.tunes, command)
+        let plan = decide(self.alloc, self, command)?;
+        carry_out(&mut self.tunes, plan)
     }
 }
 
-// One command over the tunes.
-fn answer(alloc: Global, tunes: &mut Vec<Tune>, command: &Command) -> Result<Reply, Refusal>
-    requires { IsTunes tunes.old.items }
-    ensures state { IsTunes tunes.new.items }
-    ensures answer { StaysOrGives (state_with tunes.old.items) (state_with tunes.new.items) result
-        (step (state_with tunes.old.items) command.now) }
+// Makes the change of a plan, and gives its reply. The one refusal is out of memory.
+fn carry_out(tunes: &mut Vec<Tune>, plan: Plan) -> Result<Reply, Refusal>
+    requires { CanChangeTo plan.change (length tunes.old.items) }
+    ensures { CarriedOut tunes.old.items plan result tunes.new.items }
 {
-    match command {
-        Command::Import(book) => import(alloc, tunes, book.as_slice()),
-        Command::Replace {
-            number,
-            revision,
-            book,
-        } => replace(alloc, tunes, *number, *revision, book.as_slice()),
-        Command::Delete(number) => delete(tunes, *number),
-        Command::Show(number) => show(alloc, tunes, *number),
-        Command::ExportAll => export(alloc, tunes),
+    let Plan { change, reply } = plan;
+    if let Some(change) = change {
+        make(tunes, change)?;
     }
+    Ok(reply)
 }
 
-// Adds the tunes of a book.
-fn import(alloc: Global, tunes: &mut Vec<Tune>, book: &[u8]) -> Result<Reply, Refusal>
-    requires { IsTunes tunes.old.items }
-    ensures state { IsTunes tunes.new.items }
-    ensures answer { StaysOrGives tunes.old.items tunes.new.items result
-        (import_book tunes.old.items (book_answer longest_text book.now)) }
+// Makes a change. The error is out of memory, and the tunes stay then.
+fn make(tunes: &mut Vec<Tune>, change: Change) -> Result<(), AllocError>
+    requires { CanChange change (length tunes.old.items) }
+    ensures changed { OnOk result (tunes.new.items ≡ changed change tunes.old.items) }
+    ensures stays { OnErr result (tunes.new.items ≡ tunes.old.items) }
 {
-    let texts = split_book(alloc, book, LONGEST_TEXT)?;
-    let count = texts.len();
-    if count > MOST_TUNES - tunes.len() {
-        return Err(Refusal::ArchiveFull);
+    match change {
+        Change::Add { first, texts } => {
+            tunes.reserve(texts.len())?;
+            add_tunes(tunes, texts, first);
+        }
+        Change::Put { place, tune } => tunes[place] = tune,
+        Change::Take { place } => {
+            tunes.remove(place);
+        }
     }
-    let greatest = last_number(tunes);
-    let last = greatest + count as u32;
-    if last > GREATEST_NUMBER {
-        return Err(Refusal::NumbersSpent);
-    }
-    tunes.reserve(count)?;
-    let first = greatest + 1;
-    add_tunes(tunes, texts, first);
-    Ok(Reply::Imported { first, last })
+    Ok(())
 }
 
 // Adds tunes of these texts, with numbers from `first` on, for which there is room.
@@ -134,131 +187,5 @@ fn add_tunes(tunes: &mut Vec<Tune>, texts: Vec<TuneText>, first: u32)
         };
         tunes.push(tune).unwrap();
         number += 1;
-    }
-}
-
-// The greatest number, or 0.
-fn last_number(tunes: &[Tune]) -> u32
-    requires { RisesFrom 0 tunes.now }
-    ensures { result ≡ greatest tunes.now }
-{
-    match tunes.last() {
-        None => 0,
-        Some(tune) => tune.number,
-    }
-}
-
-// Puts the one tune of a book in the place of a tune.
-fn replace(
-    alloc: Global,
-    tunes: &mut Vec<Tune>,
-    number: u32,
-    revision: u32,
-    book: &[u8],
-) -> Result<Reply, Refusal>
-    requires { IsTunes tunes.old.items }
-    ensures state { IsTunes tunes.new.items }
-    ensures answer { StaysOrGives tunes.old.items tunes.new.items result
-        (replace_book tunes.old.items number revision (book_answer longest_text book.now)) }
-{
-    let texts = split_book(alloc, book, LONGEST_TEXT)?;
-    let text = only_text(texts)?;
-    replace_text(tunes, number, revision, text)
-}
-
-// The one text of a book.
-fn only_text(mut texts: Vec<TuneText>) -> Result<TuneText, Refusal>
-    ensures one { IfOk result (λ text. texts.items ≡ text ∷ []) }
-    ensures count { IfErr result (λ refusal.
-        (refusal ≡ Refusal.NotOne (vec_len texts)) × (vec_len texts ≢ 1)) }
-{
-    let count = texts.len();
-    match texts.pop() {
-        Some(text) if count == 1 => Ok(text),
-        _ => Err(Refusal::NotOne { count }),
-    }
-}
-
-// Puts a text in the place of a tune's.
-fn replace_text(
-    tunes: &mut Vec<Tune>,
-    number: u32,
-    revision: u32,
-    text: TuneText,
-) -> Result<Reply, Refusal>
-    requires rises { RisesFrom 0 tunes.old.items }
-    requires each { AllByRecursion IsTune tunes.old.items }
-    ensures { replace_tune tunes.old.items number revision text
-        (tune_at number tunes.old.items) ≡ (tunes.new.items, result) }
-{
-    let Some(place) = place_of(tunes, number) else {
-        return Err(Refusal::Unknown { number });
-    };
-    let current = tunes[place].revision;
-    if u32::from(current) != revision {
-        return Err(Refusal::Stale { revision: current });
-    }
-    if current >= GREATEST_REVISION {
-        return Err(Refusal::Worn);
-    }
-    let revision = current + 1;
-    tunes[place] = Tune {
-        number,
-        revision,
-        text,
-    };
-    Ok(Reply::Replaced { number, revision })
-}
-
-// Takes out a tune.
-fn delete(tunes: &mut Vec<Tune>, number: u32) -> Result<Reply, Refusal>
-    requires { IsTunes tunes.old.items }
-    ensures state { IsTunes tunes.new.items }
-    ensures answer { delete_tune tunes.old.items number
-        (tune_at number tunes.old.items) ≡ (tunes.new.items, result) }
-{
-    let Some(place) = place_of(tunes, number) else {
-        return Err(Refusal::Unknown { number });
-    };
-    tunes.remove(place);
-    Ok(Reply::Deleted { number })
-}
-
-// A copy of the tune of a number.
-fn show(alloc: Global, tunes: &[Tune], number: u32) -> Result<Reply, Refusal>
-    requires { RisesFrom 0 tunes.now }
-    ensures { (result ≡ Err Refusal.OutOfMemory)
-        ⊎ (result ≡ shown number (tune_at number tunes.now)) }
-{
-    let Some(place) = place_of(tunes, number) else {
-        return Err(Refusal::Unknown { number });
-    };
-    Ok(Reply::Shown(tunes[place].copy(alloc)?))
-}
-
-// The written book of all tunes.
-fn export(alloc: Global, tunes: &[Tune]) -> Result<Reply, Refusal>
-    ensures { (result ≡ Err Refusal.OutOfMemory)
-        ⊎ (result ≡ Ok (Reply.Exported (exported tunes.now))) }
-{
-    let mut book = BookWriter::new(alloc)?;
-    for tune in tunes {
-        book = book.with_tune(tune.number, &tune.text)?;
-    }
-    Ok(Reply::Exported(book.into_book()))
-}
-
-// The place of the tune of a number.
-fn place_of(tunes: &[Tune], number: u32) -> Option<usize>
-    requires { RisesFrom 0 tunes.now }
-    ensures none { IfNone result (tune_at number tunes.now ≡ None) }
-    ensures within { IfSome result (λ place. place < length tunes.now) }
-    ensures found { IfSome result (λ place. (d : Tune) →
-        (tune_at number tunes.now ≡ Some (slice_index_or tunes.now place d))
-        × ((slice_index_or tunes.now place d).number ≡ number)) }
-{
-    match tunes.binary_search_by_key(&number, |tune| tune.number) {
-        Ok(place) => Some(place),
-        Err(_) => None,
     }
 }

@@ -1,7 +1,9 @@
 -- What the calls of an archive in memory give, over its list of tunes.
-use Rattle.std.specs.Prelude.{◌≡◌, ◌⊎◌, List, Result, Err}
+use Rattle.std.specs.Prelude.{◌≡◌, List, Result, Ok, Err}
 use Rattle.tune_store.specs.State.{State}
+use Rattle.tune_store.specs.Plans.{after}
 use Rattle.tune_store.specs.declared.tune.Tune.{Tune}
+use Rattle.tune_store.specs.declared.plans.Plan.{Plan}
 use Rattle.tune_store.specs.declared.command.Reply.{Reply}
 use Rattle.tune_store.specs.declared.command.Refusal.{Refusal}
 use Rattle.tune_store.specs.declared.command.Refusal.TheVariants.{OutOfMemory}
@@ -10,9 +12,8 @@ use Rattle.tune_store.specs.declared.command.Refusal.TheVariants.{OutOfMemory}
 abbrev pub state_with : List Tune → State
 state_with tunes = record { tunes = tunes }
 
--- out of memory, and the tunes or the state stay; or the new ones and the answer are those of an
--- outcome
-abbrev pub StaysOrGives : {A : Type 0} → A → A → Result Reply Refusal
-    → A × Result Reply Refusal → Type 0
-StaysOrGives old new answer outcome =
-    ((answer ≡ Err OutOfMemory) × (new ≡ old)) ⊎ (outcome ≡ (new, answer))
+-- from these tunes to those a plan was carried out, and its reply given; or memory ran out, and
+-- they are as they were
+abbrev pub CarriedOut : List Tune → Plan → Result Reply Refusal → List Tune → Type 0
+CarriedOut old plan (Ok reply) new = (reply ≡ plan.reply) × (new ≡ after plan.change old)
+CarriedOut old plan (Err refusal) new = (refusal ≡ OutOfMemory) × (new ≡ old)

@@ -1,0 +1,100 @@
+// What a store tells of its tunes.
+ghost use Rattle.std.specs.Prelude.{◌≡◌, ◌≢◌, ◌<◌, ℕ, List, length, slice_index_or, ⊤};
+ghost use Rattle.std.specs.Prelude.{IfSome, IfNone, MatchResult};
+ghost use Rattle.tune_store.specs.Labels.{labels_of};
+ghost use Rattle.tune_store.specs.Plans.{EndsFetch, IsRefusalOfFetch};
+ghost use Rattle.tune_store.specs.declared.tune.Tune.{Tune};
+ghost use Rattle.tune_store.specs.declared.catalog.Label.{Label};
+
+use crate::command::Refusal;
+use abc_fields::TuneText;
+
+/// What every store knows of a tune without reading its text.
+#[derive(Clone, Copy, Debug, PartialEq, Eq)]
+pub struct Label {
+    /// The tune's number.
+    pub number: u32,
+    /// Its revision.
+    pub revision: u16,
+}
+
+/// What a store tells of its tunes: the label of each, which it knows at once, and a text when it
+/// is asked for, which may take a device. It is all that is needed to decide a command (`decide`).
+///
+/// A place is the index of a tune in the list of them by rising number, from 0.
+pub trait Catalog {
+    /// The labels of its tunes, by rising number. They are known whatever a device does.
+    ghost labels: { Self → List Label };
+
+    /// Its tunes.
+    ghost tunes: { Self → List Tune };
+
+    /// Its device has answered as a device does, in every call so far.
+    ghost honest: { Self → Type 0 } = { λ _. ⊤ };
+
+    /// Whether the text of the tune at a place is at hand.
+    ghost at_hand: { Self → ℕ → Type 0 };
+
+    /// What is so of it before and after texts were fetched, or there was no memory for one.
+    ghost fetched: { Self → Self → Type 0 };
+
+    /// What is so of it before and after a fetch in which the device failed.
+    ghost failed: { Self → Self → Type 0 } = { λ _ _. ⊥ };
+
+    /// How many tunes there are.
+    fn len(&self) -> usize
+        ensures { result ≡ length (labels self.now) };
+
+    /// The label of the tune at a place.
+    fn label(&self, place: usize) -> Label
+        requires { place < length (labels self.now) }
+        ensures { (d : Label) → result ≡ slice_index_or (labels self.now) place d };
+
+    /// The place of the tune of a number.
+    fn place_of(&self, number: u32) -> Option<usize>
+        ensures within { IfSome result (λ place. place < length (labels self.now)) }
+        ensures found { IfSome result (λ place. (d : Label)
+            → (slice_index_or (labels self.now) place d).number ≡ number) }
+        ensures none { IfNone result ((place : ℕ) (d : Label) → place < length (labels self.now)
+            → (slice_index_or (labels self.now) place d).number ≢ number) };
+
+    /// Makes the text of the tune at a place ready for `text`. It is refused where memory ran out,
+    /// or the device failed.
+    fn fetch(&mut self, place: usize) -> Result<(), Refusal>
+        requires { place < length (labels self.old) }
+        ensures { MatchResult result
+            (λ _. fetched self.old self.new × at_hand self.new place)
+            (λ refusal. IsRefusalOfFetch refusal
+            × EndsFetch fetched failed self.old refusal self.new) };
+
+    /// The text of the tune at a place, which was fetched.
+    fn text(&self, place: usize) -> &TuneText
+        requires at_hand { at_hand self.now place }
+        requires within { place < length (labels self.now) }
+        ensures { honest self.now
+            → (d : Tune) → result.now ≡ (slice_index_or (tunes self.now) place d).text };
+
+    /// Nothing was fetched.
+    ghost none_fetched: { (catalog : Self) → fetched catalog catalog };
+
+    /// Texts were fetched, and more.
+    ghost more_fetched: { (old mid new : Self) → fetched old mid → fetched mid new
+        → fetched old new };
+
+    /// Texts were fetched, and then the device failed.
+    ghost fetched_and_failed: { (old mid new : Self) → fetched old mid → failed mid new
+        → failed old new };
+
+    /// A fetch changes no label.
+    ghost labels_stay: { (old new : Self) → fetched old new → labels new ≡ labels old };
+
+    /// Whether a device was honest is known only after it answered.
+    ghost was_honest: { (old new : Self) → fetched old new → honest new → honest old };
+
+    /// Nor does a fetch change the tunes.
+    ghost tunes_stay: { (old new : Self) → fetched old new → honest new → tunes new ≡ tunes old };
+
+    /// The labels are those of the tunes.
+    ghost labels_are: { (catalog : Self) → honest catalog
+        → labels catalog ≡ labels_of (tunes catalog) };
+}
