@@ -1,7 +1,7 @@
 -- Which tunes a query finds, and which queries ask for nothing (own profile).
-use Rattle.std.specs.Prelude.{ℕ, ℤ, List, Bool, true, false, not, Option, Some, None}
-use Rattle.std.specs.Prelude.{count_by, nat_lt}
-use Rattle.std.specs.List.{list_any, starts_with}
+use Rattle.std.specs.Prelude.{◌≡◌, ◌↔◌, ℕ, ℤ, List, ◌++◌, Bool, true, false, not}
+use Rattle.std.specs.Prelude.{Option, Some, None, count_by, nat_lt}
+use Rattle.std.specs.List.{list_any, starts_with, Contains}
 use Rattle.std.specs.Option.{option_map_or}
 use Rattle.std.specs.Ordering.{int_eq}
 use Rattle.abc_fields.specs.Bytes.{is_all_blank, begins_with}
@@ -11,6 +11,7 @@ use Rattle.abc_keys.specs.Keys.{key_of_text, scale_of}
 use Rattle.abc_keys.specs.ScaleTable.{same_scale}
 use Rattle.tune_incipit.specs.Incipits.{incipit_of, tune_notes, query_notes}
 use Rattle.tune_incipit.specs.Limits.{fewest_notes, most_notes}
+use Rattle.tune_titles.specs.Articles.{small_letters}
 use Rattle.tune_titles.specs.Titles.{sorting_title, title_matches, same_rhythm}
 use Rattle.tune_queries.specs.declared.queries.Query.{Query}
 use Rattle.tune_queries.specs.declared.queries.Query.TheVariants as query
@@ -68,3 +69,23 @@ finds (sought.Rhythm rhythm) tune =
 finds (sought.Key scale) tune = is_scale scale (scale_of_text (key_text_of tune))
 finds (sought.Notes steps) tune =
     begins_steps (incipit_of most_notes (tune_notes tune)) steps
+
+-- THE SAME IN A READER'S WORDS
+-- a text or a list of steps that begins with another
+abbrev pub BeginsWith : {X : Type 0} → List X → List X → Type 0
+BeginsWith {X} whole front = (rest : List X) × (front ++ rest ≡ whole)
+
+-- the query finds the tune of this text
+abbrev pub Matches : Query → List ℕ → Type 0
+Matches (query.Title text) tune = (title : List ℕ) × Contains (titles_of tune) title
+    × BeginsWith (sorting_title title) (sorting_title text)
+Matches (query.Rhythm text) tune = (rhythm : List ℕ) × (rhythm_of tune ≡ Some rhythm)
+    × (small_letters text ≡ small_letters rhythm)
+Matches (query.Key text) tune = (scale : Scale) × (scale_of_text text ≡ Some scale)
+    × (scale_of_text (key_text_of tune) ≡ Some scale)
+Matches (query.Notes text) tune = BeginsWith
+    (incipit_of most_notes (tune_notes tune)) (incipit_of most_notes (query_notes text))
+
+-- which tunes the query finds, and none else
+abbrev pub LawOfQuery : Query → Type 0
+LawOfQuery query = (text : List ℕ) → (matches query text ≡ true) ↔ Matches query text

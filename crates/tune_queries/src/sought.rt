@@ -6,7 +6,7 @@ ghost use Rattle.tune_incipit.specs.Incipits.{incipit_of, tune_notes, query_note
 ghost use Rattle.tune_incipit.specs.Limits.{fewest_notes, most_notes};
 ghost use Rattle.tune_titles.specs.Titles.{sorting_title};
 ghost use Rattle.tune_queries.specs.Queries.{matches, is_bad, finds, scale_of_text, counting_notes};
-ghost use Rattle.tune_queries.specs.Queries.{is_scale, is_missing, begins_steps};
+ghost use Rattle.tune_queries.specs.Queries.{is_scale, is_missing, begins_steps, LawOfQuery};
 
 use crate::queries::{Query, QueryText};
 use crate::scales::is_same_scale;
@@ -54,10 +54,13 @@ impl Sought<'_> {
 impl Query {
     /// The query, made ready to be tried on tunes. It finds exactly the tunes that match the query,
     /// and it is refused exactly where the query is bad.
+    ///
+    /// The law of queries stands beside it: which tunes match, in a reader's words.
     pub fn sought(&self) -> Result<Sought<'_>, BadQuery>
         ensures finds { IfOk result (λ ready. (text : List ℕ)
             → finds ready text ≡ matches self.now text) }
         ensures bad { IsErr result ↔ is_bad self.now ≡ true }
+        ensures law { LawOfQuery self.now }
     {
         match self {
             Query::Title(text) => Ok(Sought::Title(prefix_of(text.bytes())?)),
