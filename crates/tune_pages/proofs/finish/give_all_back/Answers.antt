@@ -1,0 +1,27 @@
+use Rattle.std.proofs.Common.{◌≡◌, ◌<◌, ◌+◌, ◌++◌, ℕ, All, List, [], ◌∷◌, Bool, false, set, length, get_or, sym, refl, ◌∙◌, ap, subst, arith}
+use Rattle.std.proofs.lemmas.List.Elements.{All-tail}
+use Rattle.tune_pages.specs.Stand.{marked}
+use Rattle.tune_pages.proofs.Chains.{length-marked}
+use Rattle.tune_pages.proofs.finish.give_all_back.Goals as goal
+
+marked_both : (a b : List ℕ) (m : List Bool) → marked false (a ++ b) m ≡ marked false b (marked false a m)
+marked_both [] b m = refl
+marked_both (p ∷ a) b m = marked_both a b (set m p false)
+
+all_second : (Q : ℕ → Type 0) (a b : List ℕ) → All Q (a ++ b) → All Q b
+all_second Q [] b all = all
+all_second Q (p ∷ a) b all = all_second Q a b (All-tail Q p (a ++ b) all)
+
+pub give_back-requires-2 : goal.give_back-requires-2
+give_back-requires-2 c =
+    let all = subst (All (λ p. p < length c.args.used.now.items)) (sym c.as_slices.ensures.items) c.requires in
+    let long : length c.give_back.new.used.items ≡ length c.args.used.now.items = ap (λ (m : List Bool). length m) c.give_back.ensures
+    ∙ length-marked false c.as_slices.result.0.now c.args.used.now.items in
+    λ k d lt. (let a = all_second (λ p. p < length c.args.used.now.items) c.as_slices.result.0.now c.as_slices.result.1.now all k d lt in
+    omega (arith, a, long))
+
+pub returns : goal.returns
+returns c =
+    c.give_back-2.ensures ∙ ap (marked false c.as_slices.result.1.now) c.give_back.ensures
+    ∙ sym (marked_both c.as_slices.result.0.now c.as_slices.result.1.now c.args.used.now.items)
+    ∙ ap (λ (l : List ℕ). marked false l c.args.used.now.items) c.as_slices.ensures.items

@@ -1,0 +1,7 @@
+pub mod Claiming
+pub mod Codes
+pub mod Freed
+pub mod Held
+pub mod Link
+pub mod NextFree
+pub mod Walking

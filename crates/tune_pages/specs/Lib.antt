@@ -1,0 +1,12 @@
+pub mod Chain
+pub mod Claim
+pub mod Claims
+pub mod Faults
+pub mod Frame
+pub mod Inside
+pub mod Kept
+pub mod Layout
+pub mod Opened
+pub mod Reading
+pub mod Stand
+pub mod Work

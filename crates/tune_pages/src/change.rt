@@ -1,0 +1,142 @@
+// What a work changes.
+ghost use Rattle.std.specs.Prelude.{◌≡◌, ◌<◌, ◌≤◌, ℕ, List, [], length, IfOk, IfSome, IfNone, OnOk};
+ghost use Rattle.tune_journal.specs.Layout.{most_pages};
+ghost use Rattle.tune_pages.specs.Faults.{AnswersWork, free_pages, pages_for};
+ghost use Rattle.tune_pages.specs.Inside.NextFree.{IsNextFree};
+ghost use Rattle.tune_pages.specs.Stand.{IsUsed, IsFull, IsLeastFree, PutsChain};
+ghost use Rattle.tune_pages.specs.Stand.{with_page, without_page, taken};
+ghost use Rattle.tune_pages.specs.Work.{stand, Fits, IsIdle, used_in};
+
+use crate::fault::Fault;
+use crate::link::{ROOM, link};
+use crate::pages::{Pages, first_free};
+use crate::work::Work;
+use tune_disk::Disk;
+use tune_journal::PageImage;
+
+impl<D: Disk> Pages<D> {
+    /// Takes the least free page, those that this work freed included. It holds zeros.
+    ///
+    /// # Errors
+    ///
+    /// `FileFull` exactly where all pages up to the limit are in use; `OutOfMemory` where there is
+    /// no memory; `Closed` exactly where the pages are closed. The work is then to be dropped.
+    pub fn allocate(&self, work: &mut Work) -> Result<u32, Fault>
+        requires { Fits self.now work.old }
+        ensures fits { OnOk result (Fits self.now work.new) }
+        ensures least { IfOk result (λ page. IsLeastFree (stand self.now work.old).used page) }
+        ensures within { IfOk result (λ page. (0 < page) × (page < most_pages)
+            × (page ≤ length (stand self.now work.old).pages)) }
+        ensures stand { IfOk result (λ page.
+            stand self.now work.new ≡ taken page (stand self.now work.old)) }
+        ensures answer { AnswersWork result self.now.closed
+            (IsFull (stand self.now work.old).used) }
+    {
+        if self.closed {
+            return Err(Fault::Closed);
+        }
+        let page = match self.least_free(work) {
+            Some(page) => page,
+            None => return Err(Fault::FileFull),
+        };
+        match work.take(page) {
+            Ok(()) => Ok(page),
+            Err(_) => Err(Fault::OutOfMemory),
+        }
+    }
+
+    /// The least free page, as the work stands; none where all up to the limit are in use.
+    fn least_free(&self, work: &Work) -> Option<u32>
+        requires { Fits self.now work.now }
+        ensures some { IfSome result (λ page. IsNextFree self.now.used work.now page) }
+        ensures none { IfNone result (IsFull (used_in self.now.used work.now)) }
+    {
+        let end = work.end(self.limit);
+        let page = first_free(&self.used, work.frontier.min(end), end);
+        if page < self.limit { Some(page) } else { None }
+    }
+
+    /// Frees a page that is in use and not the root.
+    ///
+    /// # Errors
+    ///
+    /// `OutOfMemory` where there is no memory; `Closed` exactly where the pages are closed. The
+    /// work is then to be dropped.
+    pub fn free(&self, work: &mut Work, page: u32) -> Result<(), Fault>
+        requires fits { Fits self.now work.old }
+        requires used { IsUsed (stand self.now work.old).used page }
+        requires root { 0 < page }
+        ensures fits { OnOk result (Fits self.now work.new) }
+        ensures stand { OnOk result
+            (stand self.now work.new ≡ without_page page (stand self.now work.old)) }
+        ensures idle { IsIdle work.old → IsIdle work.new }
+        ensures answer { AnswersWork result self.now.closed ⊥ }
+    {
+        if self.closed {
+            return Err(Fault::Closed);
+        }
+        match work.give(page) {
+            Ok(()) => Ok(()),
+            Err(_) => Err(Fault::OutOfMemory),
+        }
+    }
+
+    /// Puts an image on a page that is in use.
+    ///
+    /// # Errors
+    ///
+    /// `OutOfMemory` where there is no memory; `Closed` exactly where the pages are closed. The
+    /// work is then to be dropped.
+    pub fn put_page(&self, work: &mut Work, page: u32, image: &PageImage) -> Result<(), Fault>
+        requires fits { Fits self.now work.old }
+        requires used { IsUsed (stand self.now work.old).used page }
+        ensures fits { OnOk result (Fits self.now work.new) }
+        ensures stand { OnOk result (stand self.now work.new
+            ≡ with_page page image.now.bytes (stand self.now work.old)) }
+        ensures answer { AnswersWork result self.now.closed ⊥ }
+    {
+        if self.closed {
+            return Err(Fault::Closed);
+        }
+        match work.changes.put(page, image) {
+            Ok(()) => Ok(()),
+            Err(_) => Err(Fault::OutOfMemory),
+        }
+    }
+
+    /// Puts bytes on a chain of the least free pages, and gives its first page: 0 for no bytes.
+    ///
+    /// # Errors
+    ///
+    /// `FileFull` exactly where fewer pages are free than the chain wants; `OutOfMemory` where
+    /// there is no memory; `Closed` exactly where the pages are closed. The work is then to be
+    /// dropped.
+    pub fn put_chain(&self, work: &mut Work, bytes: &[u8]) -> Result<u32, Fault>
+        requires { Fits self.now work.old }
+        ensures fits { OnOk result (Fits self.now work.new) }
+        ensures chain { IfOk result (λ first. (trail : List ℕ)
+            × PutsChain (stand self.now work.old) (stand self.now work.new) first trail bytes.now) }
+        ensures none { bytes.now ≡ []
+            → IfOk result (λ first. (first ≡ 0) × (work.new ≡ work.old)) }
+        ensures answer { AnswersWork result self.now.closed
+            (free_pages (stand self.now work.old).used < pages_for (length bytes.now)) }
+    {
+        if self.closed {
+            return Err(Fault::Closed);
+        }
+        if bytes.is_empty() {
+            return Ok(0);
+        }
+        let first = self.allocate(work)?;
+        let mut page = first;
+        let mut at = 0;
+        while bytes.len() - at > ROOM {
+            let next = self.allocate(work)?;
+            self.put_page(work, page, &link(next, &bytes[at..at + ROOM]))?;
+            page = next;
+            at += ROOM;
+        }
+        self.put_page(work, page, &link(0, &bytes[at..]))?;
+        Ok(first)
+    }
+}

@@ -1,0 +1,24 @@
+//! Pages of an archive: which of them are in use, chains of them that hold bytes, and works, which
+//! change them as a whole or not at all.
+//!
+//! A work is begun, takes and frees pages and puts images and chains on them, and is finished. A
+//! work that is dropped changed nothing. At every moment of `finish` a stop (a crash or power loss)
+//! leaves the pages from before the work or those from after it.
+#![tactic(auto)]
+
+mod change;
+mod fault;
+mod finish;
+mod laws;
+mod link;
+mod opening;
+mod pages;
+mod read;
+mod walk;
+mod work;
+
+pub use fault::{ClaimFault, Fault};
+pub use laws::{law_of_chains, law_of_frames, law_of_works};
+pub use opening::Opening;
+pub use pages::Pages;
+pub use work::Work;

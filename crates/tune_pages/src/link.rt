@@ -1,0 +1,83 @@
+// Pages of chains, as bytes.
+ghost use Rattle.std.specs.Prelude.{◌≡◌, ◌↔◌, ◌≤◌, ◌-◌, ◌++◌, length, replicate, IsTrue, OnOk};
+ghost use Rattle.std.specs.Int.{w16, w32, to_be_bytes};
+ghost use Rattle.tune_pages.specs.Chain.{next_of, size_of, piece_of, IsLink};
+ghost use Rattle.tune_pages.specs.Inside.Link.{link_bytes};
+ghost use Rattle.tune_pages.specs.Layout.{piece_room};
+
+use std::alloc::AllocError;
+use tune_journal::PageImage;
+
+/// The most bytes that a page of a chain holds.
+pub(crate) const ROOM: usize = 4090;
+
+/// The number of the next page, 0 at the end.
+#[tactic(auto, unfolding(crate::specs::Chain::next_of))]
+pub(crate) fn next_page(image: &PageImage) -> u32
+    ensures { result ≡ next_of image.now.bytes }
+{
+    let mut number = [0; 4];
+    number.copy_from_slice(&image.bytes[..4]);
+    u32::from_be_bytes(number)
+}
+
+/// How many of the bytes count.
+#[tactic(auto, unfolding(crate::specs::Chain::size_of))]
+pub(crate) fn size_in(image: &PageImage) -> u16
+    ensures { result ≡ size_of image.now.bytes }
+{
+    let mut number = [0; 2];
+    number.copy_from_slice(&image.bytes[4..6]);
+    u16::from_be_bytes(number)
+}
+
+/// Whether this is a page of a chain: full, or the last and not empty.
+pub(crate) fn is_link(image: &PageImage) -> bool
+    ensures { IsTrue result ↔ IsLink image.now.bytes }
+{
+    let size = size_in(image) as usize;
+    size != 0 && (size == ROOM || (size < ROOM && next_page(image) == 0))
+}
+
+/// Adds the bytes that count.
+#[tactic(auto, unfolding(crate::specs::Chain::piece_of))]
+pub(crate) fn add_piece(image: &PageImage, bytes: &mut Vec<u8>) -> Result<(), AllocError>
+    requires { size_of image.now.bytes ≤ piece_room }
+    ensures ok { OnOk result (bytes.new.items ≡ bytes.old.items ++ piece_of image.now.bytes) }
+{
+    let size = size_in(image) as usize;
+    bytes.extend_from_slice(&image.bytes[6..6 + size])?;
+    Ok(())
+}
+
+// The next page, and how many bytes count.
+fn head_of(next: u32, size: u16) -> [u8; 6]
+    ensures { result ≡ to_be_bytes w32 next ++ to_be_bytes w16 size }
+{
+    let mut head = [0; 6];
+    head[..4].copy_from_slice(&next.to_be_bytes());
+    head[4..].copy_from_slice(&size.to_be_bytes());
+    head
+}
+
+// The bytes that count, and zeros.
+fn body_of(piece: &[u8]) -> [u8; 4090]
+    requires { length piece.now ≤ 4090 }
+    ensures { result ≡ piece.now ++ replicate (4090 - length piece.now) 0 }
+{
+    let mut body = [0; 4090];
+    body[..piece.len()].copy_from_slice(piece);
+    body
+}
+
+/// A page of a chain.
+#[tactic(auto, unfolding(crate::specs::Inside::Link::link_bytes))]
+pub(crate) fn link(next: u32, piece: &[u8]) -> PageImage
+    requires { length piece.now ≤ piece_room }
+    ensures { result.bytes ≡ link_bytes next piece.now }
+{
+    let mut bytes = [0; 4096];
+    bytes[..6].copy_from_slice(&head_of(next, piece.len() as u16));
+    bytes[6..].copy_from_slice(&body_of(piece));
+    PageImage { bytes }
+}

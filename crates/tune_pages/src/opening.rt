@@ -1,0 +1,324 @@
+// Pages that are made, and pages that are being opened, of which each is claimed once.
+ghost use Rattle.std.specs.Prelude.{◌≡◌, ◌<◌, ◌≤◌, ◌-◌, ◌++◌, [], ◌∷◌, ℕ, true, false, List, Some};
+ghost use Rattle.std.specs.Prelude.{length, replicate, slice_set, MatchResult, IfOk, IfErr};
+ghost use Rattle.std.specs.Prelude.{IfSome, OnOk};
+ghost use Rattle.tune_disk.specs.Disk.{Looks};
+ghost use Rattle.tune_disk.specs.Stops.{SinceThen, LeavesOnly};
+ghost use Rattle.tune_journal.specs.Image.{StandsFor};
+ghost use Rattle.tune_journal.specs.Layout.{most_pages};
+ghost use Rattle.tune_journal.specs.Making.{IsEmptyFile, StandsForNoneOr};
+ghost use Rattle.tune_journal.specs.Moments.{KeepsEither, LeftOrSame, LeavesPages};
+ghost use Rattle.tune_journal.specs.Pages.{page_at};
+ghost use Rattle.tune_journal.specs.Refusal.{CountsFailureIf, CountsFailureWhere};
+ghost use Rattle.tune_pages.specs.Chain.{next_of, piece_of, IsLink};
+ghost use Rattle.tune_pages.specs.Claim.{Claimable, IsClaimable, IsChainFault, IsPageFault};
+ghost use Rattle.tune_pages.specs.Claim.{LooksOpening};
+ghost use Rattle.tune_pages.specs.Inside.Claiming.{CanLink};
+ghost use Rattle.tune_pages.specs.Kept.{HonestAt, state_at, failures_at};
+ghost use Rattle.tune_pages.specs.Opened.{only_root, disk_of_pages, disk_of_claims};
+ghost use Rattle.tune_pages.specs.Opened.{IsUnopenedFor, IsPagesOpenReason, IsUnmadePagesFor};
+ghost use Rattle.tune_pages.specs.Opened.{IsPagesMakeReason, IsUndoneFor};
+ghost use Rattle.tune_pages.specs.Stand.{IsFree, marked};
+ghost use Rattle.tune_pages.specs.declared.fault.ClaimFault.TheVariants.{Device};
+
+use crate::fault::ClaimFault;
+use crate::link::{ROOM, add_piece, next_page, size_in};
+use crate::pages::Pages;
+use std::alloc::Global;
+use std::marker::Model;
+use tune_disk::{DeviceFault, Disk};
+use tune_journal::{Journal, OpenFault, PageImage, Refused};
+
+/// Pages that are being opened: who uses a page claims it, and none is claimed twice. The root is
+/// claimed from the start. After a refusal an opening is good for `into_disk` alone.
+#[derive(Drop)]
+pub struct Opening<D: Disk> {
+    alloc: Global,
+    journal: Journal<D>,
+    claimed: Vec<bool>,
+}
+
+impl<D: Disk> Model for Opening<D> {
+    ghost use Rattle.tune_pages.specs.Claims.{Claims};
+    ghost use Rattle.tune_pages.specs.Inside.Claiming.{IsClaiming};
+    ghost use Rattle.tune_pages.specs.Inside.Codes.{claims_code};
+
+    ghost Value = { Claims D };
+
+    ghost coded = { claims_code D.code };
+
+    ghost view = { λ o. record {
+      disk = o.journal.disk;
+      pages = o.journal.pages;
+      claimed = o.claimed.items;
+    } };
+
+    ghost invariant = { λ o. IsClaiming o.journal.pages o.claimed.items };
+}
+
+/// Hands back the disk of a journal for want of memory.
+fn out_of_memory<D: Disk>(journal: Journal<D>) -> Refused<D>
+    ensures disk { result.disk ≡ journal.disk }
+    ensures why { result.why ≡ OpenFault.OutOfMemory }
+    ensures rest { LeavesPages D.honest D.state result.disk journal.pages }
+{
+    Refused {
+        disk: journal.into_disk(),
+        why: OpenFault::OutOfMemory,
+    }
+}
+
+/// Reads a page of a journal.
+fn read_image<D: Disk>(journal: &mut Journal<D>, page: u32) -> Result<PageImage, ClaimFault>
+    requires { page < length journal.old.pages }
+    ensures image { IfOk result (λ image. D.honest journal.new.disk
+        → image.bytes ≡ page_at journal.old.pages page) }
+    ensures pages { D.honest journal.new.disk → journal.new.pages ≡ journal.old.pages }
+    ensures count { length journal.new.pages ≡ length journal.old.pages }
+    ensures looks { Looks D.honest D.failures D.state result journal.old.disk journal.new.disk }
+    ensures err { IfErr result (λ fault. fault ≡ Device) }
+{
+    let mut image = PageImage::blank();
+    match journal.read(page, &mut image) {
+        Ok(()) => Ok(image),
+        Err(DeviceFault) => Err(ClaimFault::Device),
+    }
+}
+
+impl<D: Disk> Opening<D> {
+    /// Claims a page of a chain, adds its bytes, and gives the page behind it.
+    fn claim_link(&mut self, page: u32, bytes: &mut Vec<u8>) -> Result<u32, ClaimFault>
+        ensures free { OnOk result (IsFree self.old.claimed page
+            × (self.new.claimed ≡ slice_set self.old.claimed page true)) }
+        ensures link { IfOk result (λ next. D.honest self.new.disk
+            → IsLink (page_at self.old.pages page) × (next ≡ next_of (page_at self.old.pages page))
+            × (page < length self.old.pages)) }
+        ensures bytes { OnOk result (D.honest self.new.disk
+            → bytes.new.items ≡ bytes.old.items ++ piece_of (page_at self.old.pages page)) }
+        ensures damaged { IfErr result (λ fault. D.honest self.new.disk
+            → IsChainFault fault (CanLink self.old.pages self.old.claimed page)) }
+        ensures looks { LooksOpening D.honest D.failures D.state result self.old self.new }
+    {
+        let image = self.claim_page(page)?;
+        let size = size_in(&image) as usize;
+        let next = next_page(&image);
+        if size == 0 || size > ROOM || (next != 0 && size < ROOM) {
+            return Err(ClaimFault::Damaged);
+        }
+        match add_piece(&image, bytes) {
+            Ok(()) => Ok(next),
+            Err(_) => Err(ClaimFault::OutOfMemory),
+        }
+    }
+
+    /// Claims the pages of the chain that begins at `first`, and gives its bytes. No bytes are no
+    /// chain, at 0.
+    ///
+    /// # Errors
+    ///
+    /// `Damaged` where no chain begins there whose pages are all still to be claimed;
+    /// `OutOfMemory`; `Device` where the disk failed.
+    pub fn claim_chain(&mut self, first: u32) -> Result<Vec<u8>, ClaimFault>
+        ensures chain { IfOk result (λ bytes. D.honest self.new.disk → (trail : List ℕ)
+            × Claimable self.old.pages self.old.claimed first trail bytes.items
+            × (self.new.claimed ≡ marked true trail self.old.claimed)) }
+        ensures damaged { IfErr result (λ fault. D.honest self.new.disk
+            → IsChainFault fault (IsClaimable self.old.pages self.old.claimed first)) }
+        ensures looks { LooksOpening D.honest D.failures D.state result self.old self.new }
+    {
+        let mut bytes = Vec::new(self.alloc);
+        let mut page = first;
+        while page != 0 {
+            page = self.claim_link(page, &mut bytes)?;
+        }
+        Ok(bytes)
+    }
+
+    /// The image of the root, which is claimed from the start.
+    ///
+    /// # Errors
+    ///
+    /// `Device` where the disk failed.
+    pub fn read_root(&mut self) -> Result<PageImage, ClaimFault>
+        ensures image { IfOk result (λ image. D.honest self.new.disk
+            → image.bytes ≡ page_at self.old.pages 0) }
+        ensures claimed { self.new.claimed ≡ self.old.claimed }
+        ensures err { IfErr result (λ fault. fault ≡ Device) }
+        ensures looks { LooksOpening D.honest D.failures D.state result self.old self.new }
+    {
+        read_image(&mut self.journal, 0)
+    }
+
+    /// Claims a page, and gives its image.
+    ///
+    /// # Errors
+    ///
+    /// `Damaged` where it was claimed before, or is past the last page; `Device` where the disk
+    /// failed.
+    pub fn claim_page(&mut self, page: u32) -> Result<PageImage, ClaimFault>
+        ensures image { IfOk result (λ image. D.honest self.new.disk
+            → image.bytes ≡ page_at self.old.pages page) }
+        ensures free { OnOk result (IsFree self.old.claimed page
+            × (self.new.claimed ≡ slice_set self.old.claimed page true)) }
+        ensures damaged { IfErr result (λ fault.
+            IsPageFault fault (IsFree self.old.claimed page)) }
+        ensures looks { LooksOpening D.honest D.failures D.state result self.old self.new }
+    {
+        let place = page as usize;
+        if place >= self.claimed.len() || self.claimed[place] {
+            return Err(ClaimFault::Damaged);
+        }
+        self.claimed[place] = true;
+        read_image(&mut self.journal, page)
+    }
+
+    /// The disk, which stands for the pages.
+    pub fn into_disk(self) -> D
+        ensures disk { result ≡ self.disk }
+        ensures rest { LeavesPages D.honest D.state result self.pages }
+    {
+        let Opening {
+            alloc: _,
+            journal,
+            claimed: _,
+        } = self;
+        journal.into_disk()
+    }
+
+    /// The pages, of which there may be up to `limit`. Those that were not claimed are free.
+    ///
+    /// # Errors
+    ///
+    /// `Damaged` where there are more; `OutOfMemory`. The disk is handed back.
+    pub fn done(self, limit: u32) -> Result<Pages<D>, Refused<D>>
+        requires { (1 ≤ limit) × (limit ≤ most_pages) }
+        ensures disk { disk_of_pages result ≡ Some self.disk }
+        ensures rest { LeavesPages D.honest D.state self.disk self.pages }
+        ensures pages { IfOk result (λ pages. pages.pages ≡ self.pages) }
+        ensures used { IfOk result (λ pages.
+            pages.used ≡ self.claimed ++ replicate (limit - length self.pages) false) }
+        ensures limit { IfOk result (λ pages. (pages.limit ≡ limit) × (pages.closed ≡ false)) }
+        ensures few { OnOk result (length self.pages ≤ limit) }
+        ensures refused { IfErr result (λ refused.
+            IsUndoneFor refused.why limit (length self.pages)) }
+    {
+        let Opening {
+            alloc,
+            journal,
+            mut claimed,
+        } = self;
+        if journal.count() > limit {
+            return Err(Refused {
+                disk: journal.into_disk(),
+                why: OpenFault::Damaged,
+            });
+        }
+        match claimed.resize(limit as usize, false) {
+            Ok(()) => Ok(Pages::over(alloc, journal, claimed, limit)),
+            Err(_) => Err(out_of_memory(journal)),
+        }
+    }
+}
+
+/// Marks of so many pages, of which the root alone is in use.
+fn mark_root(alloc: Global, count: u32) -> Option<Vec<bool>>
+    requires { 1 ≤ count }
+    ensures { IfSome result (λ marks. marks.items ≡ only_root count) }
+{
+    let mut marks = Vec::new(alloc);
+    match marks.resize(count as usize, false) {
+        Ok(()) => {
+            marks[0] = true;
+            Some(marks)
+        }
+        Err(_) => None,
+    }
+}
+
+impl<D: Disk> Pages<D> {
+    /// Opens the pages of a disk, to be claimed.
+    ///
+    /// # Errors
+    ///
+    /// As of a journal: `NotArchive`, `Damaged`, `Device`; and `OutOfMemory`, where the file stands
+    /// for the pages that it stood for. The disk is handed back.
+    pub fn open(alloc: Global, disk: D) -> Result<Opening<D>, Refused<D>>
+        ensures honest { D.honest (disk_of_claims result) → D.honest disk }
+        ensures leaves { let old = D.state disk in let new = D.state (disk_of_claims result) in
+            D.honest (disk_of_claims result) → SinceThen old new (LeftOrSame old) }
+        ensures moments { let new = D.state (disk_of_claims result) in
+            D.honest (disk_of_claims result) → KeepsEither (D.state disk) new }
+        ensures pages { IfOk result (λ opening. D.honest opening.disk
+            → StandsFor opening.pages (D.state disk).seen) }
+        ensures only { IfOk result (λ opening. D.honest opening.disk
+            → (pages : List (List ℕ)) → StandsFor pages (D.state disk).seen
+            → pages ≡ opening.pages) }
+        ensures claimed { IfOk result (λ opening.
+            opening.claimed ≡ only_root (length opening.pages)) }
+        ensures rest { IfOk result (λ opening.
+            LeavesPages D.honest D.state opening.disk opening.pages) }
+        ensures refused { IfErr result (λ refused. D.honest refused.disk
+            → IsUnopenedFor refused.why (D.state disk) (D.state refused.disk)) }
+        ensures reason { IfErr result (λ refused. IsPagesOpenReason refused.why) }
+        ensures failures { MatchResult result
+            (λ opening. D.failures opening.disk ≡ D.failures disk)
+            (λ refused. let honest = D.honest refused.disk in
+            CountsFailureWhere honest refused.why (D.failures disk) (D.failures refused.disk)) }
+    {
+        let journal = Journal::open(disk)?;
+        match mark_root(alloc, journal.count()) {
+            Some(claimed) => Ok(Opening {
+                alloc,
+                journal,
+                claimed,
+            }),
+            None => Err(out_of_memory(journal)),
+        }
+    }
+
+    /// Makes pages on a disk without a byte: the root alone. There may be up to `limit`.
+    ///
+    /// # Errors
+    ///
+    /// `OutOfMemory` before anything is done; as of a journal `NotEmpty` where the disk has a byte,
+    /// and `Device`. The disk is handed back.
+    pub fn make(
+        alloc: Global,
+        disk: D,
+        root: &PageImage,
+        limit: u32,
+    ) -> Result<Pages<D>, Refused<D>>
+        requires { (1 ≤ limit) × (limit ≤ most_pages) }
+        ensures honest { HonestAt D.honest (disk_of_pages result) → D.honest disk }
+        // Where each file that a stop may leave at the start has no byte, a stop during the call
+        // leaves no pages or these.
+        ensures moments { let new = state_at D.state (disk_of_pages result) in
+            HonestAt D.honest (disk_of_pages result) → LeavesOnly (D.state disk).now IsEmptyFile
+            → SinceThen (D.state disk) new (StandsForNoneOr root.now.bytes) }
+        // At `Ok` it leaves these, whatever it might have left at the start.
+        ensures rest { IfOk result (λ pages. HonestAt D.honest pages.disk
+            → LeavesOnly (state_at D.state pages.disk).now (StandsFor (root.now.bytes ∷ []))) }
+        ensures pages { IfOk result (λ pages. HonestAt D.honest pages.disk
+            → pages.pages ≡ root.now.bytes ∷ []) }
+        ensures count { IfOk result (λ pages. length pages.pages ≡ 1) }
+        ensures used { IfOk result (λ pages. pages.used ≡ only_root limit) }
+        ensures limit { IfOk result (λ pages. (pages.limit ≡ limit) × (pages.closed ≡ false)) }
+        ensures empty { IfOk result (λ pages. HonestAt D.honest pages.disk
+            → (D.state disk).seen ≡ []) }
+        ensures refused { IfErr result (λ refused. D.honest refused.disk
+            → IsUnmadePagesFor refused.why (D.state disk) (D.state refused.disk)) }
+        ensures reason { IfErr result (λ refused. IsPagesMakeReason refused.why) }
+        ensures failures { MatchResult result
+            (λ pages. failures_at D.failures pages.disk ≡ D.failures disk)
+            (λ refused. CountsFailureIf refused.why (D.failures disk) (D.failures refused.disk)) }
+    {
+        let Some(used) = mark_root(alloc, limit) else {
+            return Err(Refused {
+                disk,
+                why: OpenFault::OutOfMemory,
+            });
+        };
+        let journal = Journal::make(disk, root)?;
+        Ok(Pages::over(alloc, journal, used, limit))
+    }
+}

@@ -1,0 +1,160 @@
+// The pages of an open archive.
+ghost use Rattle.std.specs.Prelude.{◌≡◌, ℕ, ◌<◌, ◌≤◌, false, Some, length, IfOk, MatchResult};
+ghost use Rattle.std.specs.Prelude.{true};
+ghost use Rattle.tune_journal.specs.Layout.{most_pages};
+ghost use Rattle.tune_journal.specs.Moments.{LeavesPages};
+ghost use Rattle.tune_pages.specs.Faults.{AnswersBegin};
+ghost use Rattle.tune_pages.specs.Stand.{IsUsed, IsFree};
+ghost use Rattle.tune_pages.specs.Work.{stand, Fits, IsIdle};
+
+use crate::fault::Fault;
+use crate::work::Work;
+use std::alloc::Global;
+use std::collections::VecDeque;
+use std::marker::Model;
+use tune_disk::Disk;
+use tune_journal::{Changes, Journal};
+
+// A journal; its disk alone, once a call of it failed; nothing while a call has it.
+#[derive(Drop)]
+pub(crate) enum Held<D: Disk> {
+    Open(Journal<D>),
+    Broken(D),
+    Gone,
+}
+
+/// The pages of an open archive, of which page 0 is the root. It keeps which of them are in use;
+/// the others are free. Once the device failed in a call it is closed, and every call that can be
+/// refused answers `Closed`.
+#[derive(Drop)]
+pub struct Pages<D: Disk> {
+    pub(crate) alloc: Global,
+    pub(crate) held: Held<D>,
+    // a mark for each page up to the limit
+    pub(crate) used: Vec<bool>,
+    // no page below it is free
+    pub(crate) low: u32,
+    pub(crate) limit: u32,
+    pub(crate) closed: bool,
+}
+
+impl<D: Disk> Model for Pages<D> {
+    ghost use Rattle.std.specs.Prelude.{◌≡◌, false};
+    ghost use Rattle.tune_pages.specs.Inside.Codes.{kept_code};
+    ghost use Rattle.tune_pages.specs.Inside.Held.{held_disk, held_pages, IsKept, IsOpen};
+    ghost use Rattle.tune_pages.specs.Inside.Held.{AllUsedBelow};
+    ghost use Rattle.tune_pages.specs.Kept.{Kept};
+
+    ghost Value = { Kept D };
+
+    ghost coded = { kept_code D.code };
+
+    ghost view = { λ p. record {
+      disk = held_disk p.held;
+      pages = held_pages p.held;
+      used = p.used.items;
+      limit = p.limit;
+      closed = p.closed;
+    } };
+
+    ghost invariant = { λ p.
+        IsKept (held_disk p.held) (held_pages p.held) p.used.items p.limit p.closed
+        × (p.closed ≡ false → IsOpen p.held) × AllUsedBelow p.low p.used.items };
+}
+
+// The first page from `from` on that is not in use; `end` where none before it is free.
+pub(crate) fn first_free(used: &[bool], from: u32, end: u32) -> u32
+    requires { (from ≤ end) × (end ≤ length used.now) }
+    ensures range { (from ≤ result) × (result ≤ end) }
+    ensures full { (q : ℕ) → from ≤ q → q < result → IsUsed used.now q }
+    ensures free { result < end → IsFree used.now result }
+{
+    for page in from..end {
+        if !used[page as usize] {
+            return page;
+        }
+    }
+    end
+}
+
+impl<D: Disk> Pages<D> {
+    // The pages of a journal, with these marks.
+    pub(crate) fn over(alloc: Global, journal: Journal<D>, used: Vec<bool>, limit: u32) -> Pages<D>
+        requires limit { (1 ≤ limit) × (limit ≤ most_pages) × (length used.items ≡ limit) }
+        requires root { IsUsed used.items 0 }
+        requires below { (p : ℕ) → IsUsed used.items p → p < length journal.pages }
+        requires few { length journal.pages ≤ limit }
+        ensures disk { result.disk ≡ Some journal.disk }
+        ensures pages { (result.pages ≡ journal.pages) × (result.used ≡ used.items) }
+        ensures limit { (result.limit ≡ limit) × (result.closed ≡ false) }
+    {
+        let low = first_free(&used, 0, limit);
+        Pages {
+            alloc,
+            held: Held::Open(journal),
+            used,
+            low,
+            limit,
+            closed: false,
+        }
+    }
+
+    /// A work that changes nothing yet. It takes no memory.
+    ///
+    /// # Errors
+    ///
+    /// `Closed` exactly where the pages are closed.
+    #[tactic(auto, unfolding(crate::specs::Work::stand_on))]
+    pub fn begin(&self) -> Result<Work, Fault>
+        ensures fits { IfOk result (λ work. Fits self.now work) }
+        ensures stand { IfOk result (λ work. stand self.now work
+            ≡ record { pages = self.now.pages; used = self.now.used }) }
+        ensures idle { IfOk result IsIdle }
+        ensures answer { AnswersBegin result self.now.closed }
+    {
+        if self.closed {
+            return Err(Fault::Closed);
+        }
+        Ok(Work {
+            changes: Changes::new(self.alloc),
+            frontier: self.low,
+            freed: VecDeque::new(self.alloc),
+        })
+    }
+
+    /// How many pages there may be, the root among them, from 1 to 4,000,000.
+    pub fn limit(&self) -> u32
+        ensures limit { result ≡ self.now.limit }
+        ensures bounds { (1 ≤ result) × (result ≤ most_pages) }
+        // There is a mark for each of them.
+        ensures marks { length self.now.used ≡ result }
+        ensures root { IsUsed self.now.used 0 }
+        // Pages in use are there, and there are no more pages than there may be.
+        ensures below { self.now.closed ≡ false
+            → (p : ℕ) → IsUsed self.now.used p → p < length self.now.pages }
+        ensures few { self.now.closed ≡ false → length self.now.pages ≤ result }
+    {
+        self.limit
+    }
+
+    /// The disk, which stands for the pages where these are not closed.
+    pub fn into_disk(self) -> D
+        ensures disk { self.disk ≡ Some result }
+        // Pages that are not closed are at rest: a stop leaves them alone.
+        ensures rest { self.closed ≡ false → LeavesPages D.honest D.state result self.pages }
+    {
+        let Pages {
+            alloc: _,
+            held,
+            used: _,
+            low: _,
+            limit: _,
+            closed: _,
+        } = self;
+        match held {
+            Held::Open(journal) => journal.into_disk(),
+            Held::Broken(disk) => disk,
+            Held::Gone => unreachable!(),
+        }
+    }
+}

@@ -1,0 +1,92 @@
+// Pages and chains as a work stands for them.
+ghost use Rattle.std.specs.Prelude.{◌≡◌, ◌↔◌, ◌<◌, false, true, length};
+ghost use Rattle.std.specs.Prelude.{IsTrue, MatchResult, IfOk, OnOk};
+ghost use Rattle.tune_journal.specs.Pages.{page_at};
+ghost use Rattle.tune_pages.specs.Faults.{AnswersRead};
+ghost use Rattle.tune_pages.specs.Kept.{HonestAt};
+ghost use Rattle.tune_pages.specs.Reading.{LooksAt, SameStand};
+ghost use Rattle.tune_pages.specs.Stand.{IsUsed};
+ghost use Rattle.tune_pages.specs.Work.{stand, Fits};
+ghost use Rattle.tune_pages.specs.declared.fault.Fault.TheVariants.{Device};
+
+use crate::fault::Fault;
+use crate::pages::{Held, Pages};
+use crate::work::Work;
+use std::mem;
+use tune_disk::{DeviceFault, Disk};
+use tune_journal::PageImage;
+
+fn copy_of(image: &PageImage) -> PageImage
+    ensures { result.bytes ≡ image.now.bytes }
+{
+    *image
+}
+
+// Whether a page is marked.
+fn is_marked(used: &[bool], page: u32) -> bool
+    ensures { IsTrue result ↔ IsUsed used.now page }
+{
+    used.get(page as usize) == Some(&true)
+}
+
+impl<D: Disk> Pages<D> {
+    /// Whether a page is in use, as the work stands.
+    pub fn in_use(&self, work: &Work, page: u32) -> bool
+        requires { Fits self.now work.now }
+        ensures { IsTrue result ↔ IsUsed (stand self.now work.now).used page }
+    {
+        !work.has_freed(page) && (page < work.frontier || is_marked(&self.used, page))
+    }
+
+    /// The image of a page that is in use, as the work stands.
+    ///
+    /// # Errors
+    ///
+    /// `Device` where the disk failed: the pages are then closed. `Closed` exactly where they were.
+    pub fn read_page(&mut self, work: &Work, page: u32) -> Result<PageImage, Fault>
+        requires fits { Fits self.old work.now }
+        requires used { IsUsed (stand self.old work.now).used page }
+        ensures image { IfOk result (λ image. HonestAt D.honest self.new.disk
+            → image.bytes ≡ page_at (stand self.old work.now).pages page) }
+        ensures fits { OnOk result (Fits self.new work.now) }
+        ensures stand { OnOk result (SameStand (HonestAt D.honest self.new.disk)
+            (stand self.old work.now) (stand self.new work.now)) }
+        ensures looks { LooksAt D.honest D.failures D.state result self.old self.new }
+        ensures answer { AnswersRead result self.old.closed self.new.closed }
+    {
+        if self.closed {
+            return Err(Fault::Closed);
+        }
+        match work.changes.get(page) {
+            Some(image) => Ok(copy_of(image)),
+            None => self.fetch(page),
+        }
+    }
+
+    // Reads a page that no work changes.
+    fn fetch(&mut self, page: u32) -> Result<PageImage, Fault>
+        requires open { self.old.closed ≡ false }
+        requires below { page < length self.old.pages }
+        ensures image { IfOk result (λ image. HonestAt D.honest self.new.disk
+            → image.bytes ≡ page_at self.old.pages page) }
+        ensures looks { LooksAt D.honest D.failures D.state result self.old self.new }
+        ensures closed { MatchResult result (λ _. self.new.closed ≡ false)
+            (λ fault. (fault ≡ Device) × (self.new.closed ≡ true)) }
+    {
+        let mut image = PageImage::blank();
+        match mem::replace(&mut self.held, Held::Gone) {
+            Held::Open(mut journal) => match journal.read(page, &mut image) {
+                Ok(()) => {
+                    self.held = Held::Open(journal);
+                    Ok(image)
+                }
+                Err(DeviceFault) => {
+                    self.held = Held::Broken(journal.into_disk());
+                    self.closed = true;
+                    Err(Fault::Device)
+                }
+            },
+            _ => unreachable!(),
+        }
+    }
+}

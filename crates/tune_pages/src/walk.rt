@@ -1,0 +1,199 @@
+// Chains as a work stands for them: their bytes, and their pages given back.
+ghost use Rattle.std.specs.Prelude.{◌≡◌, ◌++◌, [], ◌<◌, ℕ, List, true, false, slice_set};
+ghost use Rattle.std.specs.Prelude.{IfOk, IfSome, IfNone, OnOk};
+ghost use Rattle.tune_journal.specs.Pages.{page_at};
+ghost use Rattle.tune_pages.specs.Chain.{next_of, piece_of, IsLink};
+ghost use Rattle.tune_pages.specs.Faults.{AnswersRead};
+ghost use Rattle.tune_pages.specs.Inside.Walking.{HasLink};
+ghost use Rattle.tune_pages.specs.Kept.{HonestAt};
+ghost use Rattle.tune_pages.specs.Reading.{LooksAt, SameStand};
+ghost use Rattle.tune_pages.specs.Stand.{IsUsed, HasChain, HasSomeChain};
+ghost use Rattle.tune_pages.specs.Stand.{without_page, without_pages};
+ghost use Rattle.tune_pages.specs.Work.{stand, Fits};
+ghost use Rattle.tune_pages.specs.declared.fault.Fault.TheVariants.{Device};
+
+use crate::fault::Fault;
+use crate::link::{add_piece, is_link, next_page};
+use crate::pages::Pages;
+use crate::work::Work;
+use tune_disk::Disk;
+use tune_journal::PageImage;
+
+impl<D: Disk> Pages<D> {
+    /// The bytes of the chain that begins at `first`, as the work stands: what `put_chain` took. No
+    /// bytes are no chain, at 0.
+    ///
+    /// # Errors
+    ///
+    /// `OutOfMemory`; `Device` where the disk failed, and on a disk that is not honest where it
+    /// shows pages that the chain does not have: the pages are then closed. `Closed` exactly where
+    /// they were.
+    pub fn read_chain(&mut self, work: &Work, first: u32) -> Result<Vec<u8>, Fault>
+        requires fits { Fits self.old work.now }
+        requires chain { HonestAt D.honest self.old.disk → 0 < first
+            → HasSomeChain (stand self.old work.now) first }
+        ensures bytes { IfOk result (λ bytes. HonestAt D.honest self.new.disk → (trail all : List ℕ)
+            → HasChain (stand self.old work.now) first trail all → bytes.items ≡ all) }
+        ensures none { IfOk result (λ bytes. first ≡ 0 → bytes.items ≡ []) }
+        ensures fits { OnOk result (Fits self.new work.now) }
+        ensures stand { OnOk result (SameStand (HonestAt D.honest self.new.disk)
+            (stand self.old work.now) (stand self.new work.now)) }
+        ensures looks { LooksAt D.honest D.failures D.state result self.old self.new }
+        ensures answer { AnswersRead result self.old.closed self.new.closed }
+    {
+        if self.closed {
+            return Err(Fault::Closed);
+        }
+        let mut bytes = Vec::new(self.alloc);
+        let mut page = first;
+        let mut left = self.used.len();
+        while page != 0 {
+            if left == 0 {
+                return Err(self.close());
+            }
+            left -= 1;
+            match self.read_piece(work, page, &mut bytes) {
+                Ok(Some(next)) => page = next,
+                Ok(None) => return Err(self.close()),
+                Err(fault) => return Err(fault),
+            }
+        }
+        Ok(bytes)
+    }
+
+    /// Frees the pages of the chain that begins at `first`, and no others. No bytes are no chain,
+    /// at 0.
+    ///
+    /// # Errors
+    ///
+    /// `OutOfMemory`; `Device` where the disk failed, and on a disk that is not honest where it
+    /// shows pages that the chain does not have: the pages are then closed. `Closed` exactly where
+    /// they were. The work is then to be dropped.
+    pub fn free_chain(&mut self, work: &mut Work, first: u32) -> Result<(), Fault>
+        requires fits { Fits self.old work.old }
+        requires chain { HonestAt D.honest self.old.disk → 0 < first
+            → HasSomeChain (stand self.old work.old) first }
+        ensures fits { OnOk result (Fits self.new work.new) }
+        ensures stand { OnOk result (HonestAt D.honest self.new.disk → (trail all : List ℕ)
+            → HasChain (stand self.old work.old) first trail all
+            → stand self.new work.new ≡ without_pages trail (stand self.old work.old)) }
+        ensures looks { LooksAt D.honest D.failures D.state result self.old self.new }
+        ensures answer { AnswersRead result self.old.closed self.new.closed }
+    {
+        if self.closed {
+            return Err(Fault::Closed);
+        }
+        let mut page = first;
+        while page != 0 {
+            match self.free_link(work, page) {
+                Ok(Some(next)) => page = next,
+                Ok(None) => return Err(self.close()),
+                Err(fault) => return Err(fault),
+            }
+        }
+        Ok(())
+    }
+
+    // Adds the bytes of a page of a chain, and gives the page behind it; none where the page can be
+    // no page of a chain.
+    fn read_piece(
+        &mut self,
+        work: &Work,
+        page: u32,
+        bytes: &mut Vec<u8>,
+    ) -> Result<Option<u32>, Fault>
+        requires { Fits self.old work.now }
+        ensures next { IfOk result (λ found. IfSome found (λ next. HonestAt D.honest self.new.disk
+            → IsLink (page_at (stand self.old work.now).pages page)
+            × (next ≡ next_of (page_at (stand self.old work.now).pages page)))) }
+        ensures bytes { IfOk result (λ found. IfSome found (λ _. HonestAt D.honest self.new.disk
+            → bytes.new.items
+            ≡ bytes.old.items ++ piece_of (page_at (stand self.old work.now).pages page))) }
+        ensures none { IfOk result (λ found. IfNone found (HonestAt D.honest self.new.disk
+            → HasLink (stand self.old work.now) page → ⊥)) }
+        ensures fits { OnOk result (Fits self.new work.now) }
+        ensures stand { OnOk result (SameStand (HonestAt D.honest self.new.disk)
+            (stand self.old work.now) (stand self.new work.now)) }
+        ensures looks { LooksAt D.honest D.failures D.state result self.old self.new }
+        ensures answer { AnswersRead result self.old.closed self.new.closed }
+    {
+        match self.read_link(work, page) {
+            Ok(Some(image)) => match add_piece(&image, bytes) {
+                Ok(()) => Ok(Some(next_page(&image))),
+                Err(_) => Err(Fault::OutOfMemory),
+            },
+            Ok(None) => Ok(None),
+            Err(fault) => Err(fault),
+        }
+    }
+
+    // Frees a page of a chain, and gives the page behind it; none where the page can be no page of
+    // a chain.
+    fn free_link(&mut self, work: &mut Work, page: u32) -> Result<Option<u32>, Fault>
+        requires fits { Fits self.old work.old }
+        requires some { 0 < page }
+        ensures next { IfOk result (λ found. IfSome found (λ next. HonestAt D.honest self.new.disk
+            → IsLink (page_at (stand self.old work.old).pages page)
+            × (next ≡ next_of (page_at (stand self.old work.old).pages page)))) }
+        ensures stand { IfOk result (λ found. IfSome found (λ _. HonestAt D.honest self.new.disk
+            → stand self.new work.new ≡ without_page page (stand self.old work.old))) }
+        ensures used { IfOk result (λ found. IfSome found (λ _.
+            IsUsed (stand self.old work.old).used page
+            × ((stand self.new work.new).used
+            ≡ slice_set (stand self.old work.old).used page false))) }
+        ensures none { IfOk result (λ found. IfNone found (HonestAt D.honest self.new.disk
+            → HasLink (stand self.old work.old) page → ⊥)) }
+        ensures fits { OnOk result (Fits self.new work.new) }
+        ensures looks { LooksAt D.honest D.failures D.state result self.old self.new }
+        ensures answer { AnswersRead result self.old.closed self.new.closed }
+    {
+        match self.read_link(work, page) {
+            Ok(Some(image)) => {
+                let next = next_page(&image);
+                match self.free(work, page) {
+                    Ok(()) => Ok(Some(next)),
+                    Err(_) => Err(Fault::OutOfMemory),
+                }
+            }
+            Ok(None) => Ok(None),
+            Err(fault) => Err(fault),
+        }
+    }
+
+    // The image of a page of a chain that is in use; none where the page can be no such one.
+    fn read_link(&mut self, work: &Work, page: u32) -> Result<Option<PageImage>, Fault>
+        requires { Fits self.old work.now }
+        ensures link { IfOk result (λ found. IfSome found (λ image. IsLink image.bytes
+            × IsUsed (stand self.old work.now).used page)) }
+        ensures image { IfOk result (λ found. IfSome found (λ image. HonestAt D.honest self.new.disk
+            → image.bytes ≡ page_at (stand self.old work.now).pages page)) }
+        ensures none { IfOk result (λ found. IfNone found (HonestAt D.honest self.new.disk
+            → HasLink (stand self.old work.now) page → ⊥)) }
+        ensures fits { OnOk result (Fits self.new work.now) }
+        ensures stand { OnOk result (SameStand (HonestAt D.honest self.new.disk)
+            (stand self.old work.now) (stand self.new work.now)) }
+        ensures looks { LooksAt D.honest D.failures D.state result self.old self.new }
+        ensures answer { AnswersRead result self.old.closed self.new.closed }
+    {
+        if self.closed {
+            return Err(Fault::Closed);
+        }
+        if !self.in_use(work, page) {
+            return Ok(None);
+        }
+        match self.read_page(work, page) {
+            Ok(image) => Ok(if is_link(&image) { Some(image) } else { None }),
+            Err(fault) => Err(fault),
+        }
+    }
+
+    // Closes the pages: the disk showed what cannot be.
+    fn close(&mut self) -> Fault
+        ensures fault { result ≡ Device }
+        ensures disk { self.new.disk ≡ self.old.disk }
+        ensures closed { self.new.closed ≡ true }
+    {
+        self.closed = true;
+        Fault::Device
+    }
+}
