@@ -9,7 +9,7 @@ ghost use Rattle.tune_pages.specs.Kept.{HonestAt};
 ghost use Rattle.tune_pages.specs.Reading.{LooksAt, SameStand};
 ghost use Rattle.tune_pages.specs.Stand.{IsUsed, HasChain, HasSomeChain};
 ghost use Rattle.tune_pages.specs.Stand.{without_page, without_pages};
-ghost use Rattle.tune_pages.specs.Work.{stand, Fits};
+ghost use Rattle.tune_pages.specs.Work.{stand, Fits, IsIdle};
 ghost use Rattle.tune_pages.specs.declared.fault.Fault.TheVariants.{Device};
 
 use crate::fault::Fault;
@@ -35,6 +35,7 @@ impl<D: Disk> Pages<D> {
         ensures bytes { IfOk result (λ bytes. HonestAt D.honest self.new.disk → (trail all : List ℕ)
             → HasChain (stand self.old work.now) first trail all → bytes.items ≡ all) }
         ensures none { IfOk result (λ bytes. first ≡ 0 → bytes.items ≡ []) }
+        ensures still { first ≡ 0 → self.new ≡ self.old }
         ensures fits { OnOk result (Fits self.new work.now) }
         ensures stand { OnOk result (SameStand (HonestAt D.honest self.new.disk)
             (stand self.old work.now) (stand self.new work.now)) }
@@ -77,6 +78,8 @@ impl<D: Disk> Pages<D> {
         ensures stand { OnOk result (HonestAt D.honest self.new.disk → (trail all : List ℕ)
             → HasChain (stand self.old work.old) first trail all
             → stand self.new work.new ≡ without_pages trail (stand self.old work.old)) }
+        ensures still { first ≡ 0 → (self.new ≡ self.old) × (work.new ≡ work.old) }
+        ensures idle { IsIdle work.old → IsIdle work.new }
         ensures looks { LooksAt D.honest D.failures D.state result self.old self.new }
         ensures answer { AnswersRead result self.old.closed self.new.closed }
     {
@@ -144,6 +147,7 @@ impl<D: Disk> Pages<D> {
         ensures none { IfOk result (λ found. IfNone found (HonestAt D.honest self.new.disk
             → HasLink (stand self.old work.old) page → ⊥)) }
         ensures fits { OnOk result (Fits self.new work.new) }
+        ensures idle { IsIdle work.old → IsIdle work.new }
         ensures looks { LooksAt D.honest D.failures D.state result self.old self.new }
         ensures answer { AnswersRead result self.old.closed self.new.closed }
     {

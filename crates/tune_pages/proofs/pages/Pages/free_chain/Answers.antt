@@ -20,6 +20,8 @@ loop-page-preserved g c =
     record {
       looked = so;
       fits = call.fits;
+      none = λ z. absurd (ne (inv.none z).0);
+      idle = λ i. call.idle (inv.idle i);
       walk = λ h. frees_more (stand c.args.self.now c.args.work.now) (stand c.loop-page.self c.loop-page.work) (stand c.free_link.new.self c.free_link.new.work)
           c.args.first c.loop-page.page c.in-Ok-Some.next ne (inv.walk (call.looks.was_honest h)) (some.next h).0 (some.next h).1 (some.stand h);
     }

@@ -1,7 +1,7 @@
 use Rattle.std.proofs.Common.{◌≡◌, ℕ}
 use Rattle.std.specs.List.{count_by}
 use Rattle.tune_pages.specs.Kept.{HonestAt}
-use Rattle.tune_pages.specs.Work.{stand, Fits}
+use Rattle.tune_pages.specs.Work.{stand, Fits, IsIdle}
 use Rattle.tune_pages.proofs.Looking.{Looked}
 use Rattle.tune_pages.proofs.Walks.{FreeWalk}
 use Rattle.tune_pages.proofs.pages.Pages.free_chain.Given as goal
@@ -10,6 +10,8 @@ abbrev pub invariant-loop-page : goal.invariant-loop-page
 invariant-loop-page g l = record {
   looked : Looked g.D.Disk.honest g.D.Disk.failures g.D.Disk.state l.fn.self l.self;
   fits : Fits l.self l.work;
+  none : l.first ≡ 0 → (l.page ≡ 0) × (l.self ≡ l.fn.self) × (l.work ≡ l.fn.work);
+  idle : IsIdle l.fn.work → IsIdle l.work;
   walk : HonestAt g.D.Disk.honest l.self.disk → FreeWalk (stand l.fn.self l.fn.work) (stand l.self l.work) l.first l.page;
 }
 

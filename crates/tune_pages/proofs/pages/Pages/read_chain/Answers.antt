@@ -1,4 +1,4 @@
-use Rattle.std.proofs.Common.{◌≡◌, ◌≢◌, ◌-◌, ◌++◌, length, false, sym, ◌∙◌, ap, subst, arith, rules, Err}
+use Rattle.std.proofs.Common.{◌≡◌, ◌≢◌, ◌-◌, ◌++◌, length, false, refl, sym, ◌∙◌, ap, subst, arith, rules, Err}
 use Rattle.tune_journal.specs.Pages.{page_at}
 use Rattle.tune_pages.specs.Chain.{next_of, piece_of, IsLink}
 use Rattle.tune_pages.specs.Inside.Walking.{HasLink}
@@ -19,7 +19,7 @@ loop-page-init g c =
     record {
       looked = looked_none g.D.Disk.honest g.D.Disk.failures g.D.Disk.state c.args.self.now shut;
       fits = c.requires.fits;
-      none = λ z. (z, c.new-bytes.ensures.items);
+      none = λ z. (z, c.new-bytes.ensures.items, refl);
       walk = λ h. reads_start (stand c.args.self.now c.args.work.now) c.args.first c.new-bytes.result.items c.len-left.result c.new-bytes.ensures.items
           (size ∙ marks ∙ sym (stand_marks c.args.self.now.pages c.args.self.now.used c.args.work.now c.requires.fits));
     }

@@ -9,7 +9,7 @@ abbrev pub invariant-loop-page : goal.invariant-loop-page
 invariant-loop-page g l = record {
   looked : Looked g.D.Disk.honest g.D.Disk.failures g.D.Disk.state l.fn.self l.self;
   fits : Fits l.self l.work;
-  none : l.first ≡ 0 → (l.page ≡ 0) × (l.bytes.items ≡ []);
+  none : l.first ≡ 0 → (l.page ≡ 0) × (l.bytes.items ≡ []) × (l.self ≡ l.fn.self);
   walk : HonestAt g.D.Disk.honest l.self.disk → ReadWalk (stand l.fn.self l.work) l.first l.page l.bytes.items l.left;
 }
 
