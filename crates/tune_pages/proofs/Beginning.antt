@@ -1,5 +1,5 @@
 -- A work that was just begun, and the lowest page from which the next one looks for free pages.
-use Rattle.std.proofs.Common.{◌≡◌, ◌≢◌, inl, inr, ℕ, zero, suc, ◌-◌, ◌<◌, ◌≤◌, max, List, [], ◌∷◌, length, get_or, Bool, true, false, All, refl, sym}
+use Rattle.std.proofs.Common.{◌≡◌, ◌≢◌, inl, inr, ℕ, zero, suc, ◌-◌, ◌<◌, ◌≤◌, max, List, [], length, get_or, Bool, false, All, sym}
 use Rattle.std.proofs.Common.{◌∙◌, ap, subst, arith}
 use Rattle.std.proofs.lemmas.List.{same_lists}
 use Rattle.std.proofs.lemmas.List.Elements.{All-nil}
@@ -12,7 +12,7 @@ use Rattle.tune_pages.specs.Work.{front, used_in, count_in, stand_on, FitsOn, Fa
 use Rattle.tune_pages.specs.declared.work.Work.{Work}
 use Rattle.tune_pages.proofs.Finishing.{used_within}
 use Rattle.tune_pages.proofs.Overlay.{length-front, front_below, front_behind, marked_other, get_or_default_same}
-use Rattle.tune_pages.proofs.Puts.{Rising, HasImages}
+use Rattle.tune_pages.proofs.Puts.{Rising}
 use Rattle.tune_pages.proofs.Taking.{Below}
 
 low_within : (n : ℕ) (used : List Bool) → AllUsedBelow n used → n ≤ length used

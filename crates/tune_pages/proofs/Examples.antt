@@ -1,8 +1,8 @@
 -- The definitions at small cases, worked out by hand.
-use Rattle.std.proofs.Common.{◌≡◌, ℕ, zero, suc, ◌<◌, List, [], ◌∷◌, ◌++◌, Bool, true, false, refl, arith}
-use Rattle.tune_pages.specs.Chain.{next_of, size_of, piece_of, IsLink, IsChain, bytes_along}
+use Rattle.std.proofs.Common.{◌≡◌, ℕ, zero, suc, ◌<◌, List, [], ◌∷◌, Bool, true, false, refl, arith}
+use Rattle.tune_pages.specs.Chain.{next_of, size_of, piece_of, IsLink, IsChain}
 use Rattle.tune_pages.specs.Faults.{free_pages, pages_for}
-use Rattle.tune_pages.specs.Stand.{IsUsed, IsFree, IsLeastFree, AllFree, AllLeastFree, marked, placed, taken, without_pages}
+use Rattle.tune_pages.specs.Stand.{IsUsed, IsFree, IsLeastFree, AllFree, marked, placed}
 
 -- Of five pages these are in use: the root, 1 and 3.
 abbrev marks : List Bool

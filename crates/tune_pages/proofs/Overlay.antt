@@ -1,14 +1,14 @@
 -- Which pages are in use as a work stands.
-use Rattle.std.proofs.Common.{◌≡◌, ◌≢◌, ◌⊎◌, inl, inr, ℕ, zero, suc, ◌+◌, ◌-◌, ◌<◌, ◌≤◌, List, [], ◌∷◌, ◌++◌, length, get_or, set, drop, replicate}
-use Rattle.std.proofs.Common.{Bool, true, false, All, refl, sym, ◌∙◌, ap, subst, arith}
-use Rattle.std.proofs.lemmas.List.{places, same_lists, get_or-set_same, get_or-set_other, get_or_past, get_or_append_left, get_or-append_right}
-use Rattle.std.proofs.lemmas.List.{get_or-replicate, get_or-drop, length-replicate, length-set, length-drop, length-append, set-get_or}
+use Rattle.std.proofs.Common.{◌≡◌, ◌≢◌, inl, inr, ℕ, zero, suc, ◌+◌, ◌-◌, ◌<◌, ◌≤◌, List, [], ◌∷◌, ◌++◌, length, get_or, set, drop, replicate}
+use Rattle.std.proofs.Common.{Bool, true, false, refl, sym, ◌∙◌, ap, arith}
+use Rattle.std.proofs.lemmas.List.{same_lists, get_or-set_same, get_or-set_other, get_or_append_left, get_or-append_right}
+use Rattle.std.proofs.lemmas.List.{get_or-replicate, get_or-drop, length-replicate, length-set, length-drop, length-append}
 use Rattle.std.proofs.lemmas.List.Elements.{All-tail}
 use Rattle.std.proofs.lemmas.Bool.{cases_eq, cases_lt}
-use Rattle.tune_pages.specs.Stand.{IsUsed, IsFree, IsLeastFree, marked, AllUsed}
+use Rattle.tune_pages.specs.Stand.{IsUsed, marked}
 use Rattle.tune_pages.specs.Work.{front}
 use Rattle.tune_pages.proofs.Putting.{Apart}
-use Rattle.tune_pages.proofs.Chains.{marked_more, length-marked}
+use Rattle.tune_pages.proofs.Chains.{marked_more}
 
 pub length-front : (n : ℕ) (used : List Bool) → n ≤ length used → length (front n used) ≡ length used
 length-front n used le = omega (arith, length-append (replicate n true) (drop n used), length-replicate {A = Bool}, length-drop n used)

@@ -1,11 +1,10 @@
 -- One image more among the changes of a work.
-use Rattle.std.proofs.Common.{◌≡◌, ◌≢◌, inl, inr, ℕ, zero, suc, ◌+◌, ◌-◌, ◌<◌, ◌≤◌, max, List, [], ◌∷◌, ◌++◌, length, set, take, drop, map, All, IsSome}
+use Rattle.std.proofs.Common.{◌≡◌, inl, inr, ℕ, zero, suc, ◌+◌, ◌<◌, ◌≤◌, max, List, [], ◌∷◌, ◌++◌, length, set, take, drop, map, All, IsSome}
 use Rattle.std.proofs.Common.{refl, sym, ◌∙◌, ap, subst, arith}
 use Rattle.std.proofs.lemmas.List.{set_split, append-nil, take_at}
 use Rattle.std.proofs.lemmas.Bool.{cases_eq, cases_lt}
 use Rattle.std.specs.List.Sorted.{IsStrictlyIncreasing}
 use Rattle.tune_journal.specs.ChangeList.{with_change, image_of}
-use Rattle.tune_journal.specs.Inside.ChangeOrder.{PagesRise}
 use Rattle.tune_journal.specs.Pages.{pages_after}
 use Rattle.tune_journal.proofs.Above.{length-pages_after}
 use Rattle.tune_journal.proofs.ChangeLists.{Change, rises_with, increasing_from_rises, rises_from_increasing}

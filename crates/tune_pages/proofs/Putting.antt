@@ -1,17 +1,16 @@
 -- Laying a chain, a page at a time.
-use Rattle.std.proofs.Common.{◌≡◌, ◌≢◌, ◌⊎◌, inl, inr, ℕ, zero, suc, ◌+◌, ◌*◌, ◌-◌, ◌<◌, ◌≤◌, max, List, [], ◌∷◌, ◌++◌, length, get_or, set, drop}
-use Rattle.std.proofs.Common.{take, replicate, Bool, true, false, All, refl, sym, ◌∙◌, ap, subst, arith, append_assoc}
+use Rattle.std.proofs.Common.{◌≡◌, ◌≢◌, inl, inr, ℕ, zero, suc, ◌+◌, ◌*◌, ◌<◌, ◌≤◌, max, List, [], ◌∷◌, ◌++◌, length, get_or, set, drop}
+use Rattle.std.proofs.Common.{take, replicate, Bool, true, false, All, refl, sym, ◌∙◌, ap, subst, arith}
 use Rattle.std.proofs.lemmas.List.{places, get_or-set_same, get_or-set_other, get_or_past, get_or_append_left, length-set, length-take, length-drop}
-use Rattle.std.proofs.lemmas.List.{length-append, append-nil}
-use Rattle.std.proofs.lemmas.List.Elements.{All-tail, All-head, All-nil, All-cons, All-append, All-push}
+use Rattle.std.proofs.lemmas.List.{length-append}
+use Rattle.std.proofs.lemmas.List.Elements.{All-tail, All-nil, All-cons, All-push}
 use Rattle.std.proofs.lemmas.Bool.{cases_eq, cases_lt}
 use Rattle.tune_journal.specs.Pages.{page_at}
-use Rattle.tune_pages.specs.Chain.{next_of, size_of, piece_of, IsLink, Leads, bytes_along, IsChain, IsPadded, ArePadded}
-use Rattle.tune_pages.specs.Inside.Link.{link_bytes}
+use Rattle.tune_pages.specs.Chain.{next_of, piece_of, IsLink, Leads, bytes_along, IsPadded, ArePadded}
 use Rattle.tune_pages.specs.Layout.{piece_room}
-use Rattle.tune_pages.specs.Stand.{Stand, IsUsed, IsFree, IsLeastFree, AllLeastFree, marked, AllFree, HasChain, KeepsOthers, PutsChain, placed}
+use Rattle.tune_pages.specs.Stand.{Stand, IsUsed, IsFree, IsLeastFree, AllLeastFree, marked, AllFree, KeepsOthers, PutsChain, placed}
 use Rattle.tune_pages.specs.Stand.{with_page, taken}
-use Rattle.tune_pages.proofs.Chains.{SameAlong, chain_kept, leads_kept, bytes_kept, leads_more, bytes_more, marked_more, free_more}
+use Rattle.tune_pages.proofs.Chains.{SameAlong, leads_kept, bytes_kept, leads_more, bytes_more, marked_more, free_more}
 
 pub length-placed : (p : ℕ) (image : List ℕ) (pages : List (List ℕ)) → p ≤ length pages → length (placed p image pages) ≡ max (length pages) (p + 1)
 length-placed p image pages le = omega (arith, length-append (take p pages) (image ∷ drop (p + 1) pages), length-take p pages, length-drop (p + 1) pages)

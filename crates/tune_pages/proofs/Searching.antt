@@ -1,10 +1,10 @@
 -- Which page is the next free one.
-use Rattle.std.proofs.Common.{◌≡◌, ◌≢◌, ◌⊎◌, inl, inr, ℕ, zero, suc, ◌+◌, ◌-◌, ◌<◌, ◌≤◌, min, List, [], ◌∷◌, ◌++◌, length, get_or, set, replicate}
-use Rattle.std.proofs.Common.{Bool, true, false, Option, All, refl, sym, ◌∙◌, ap, subst, arith}
-use Rattle.std.proofs.lemmas.List.{get_or-append_right, length-append, length-set, get_or-set_same}
+use Rattle.std.proofs.Common.{◌≡◌, inl, inr, ℕ, ◌<◌, ◌≤◌, min, List, [], ◌∷◌, ◌++◌, length, get_or}
+use Rattle.std.proofs.Common.{Bool, true, false, Option, All, sym, ◌∙◌, ap, subst, arith}
+use Rattle.std.proofs.lemmas.List.{get_or-set_same}
 use Rattle.std.proofs.lemmas.List.Elements.{All-nil, All-cons, All-head, All-tail}
 use Rattle.std.proofs.lemmas.Bool.{cases_eq, cases_lt}
-use Rattle.tune_pages.specs.Stand.{IsUsed, IsFree, IsFull, IsLeastFree, AllUsed, marked}
+use Rattle.tune_pages.specs.Stand.{IsUsed, IsFree, IsFull, marked}
 use Rattle.tune_pages.specs.Work.{front, used_in, Falls, FitsOn}
 use Rattle.tune_pages.specs.Inside.NextFree.{IsNextFree}
 use Rattle.tune_pages.specs.Inside.Freed.{IsEnd}

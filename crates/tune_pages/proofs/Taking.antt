@@ -1,21 +1,20 @@
 -- Pages that a work puts, takes and frees.
-use Rattle.std.proofs.Common.{◌≡◌, ◌≢◌, ◌⊎◌, inl, inr, ℕ, zero, suc, ◌+◌, ◌-◌, ◌<◌, ◌≤◌, max, List, [], ◌∷◌, ◌++◌, length, get_or, set, take, drop}
+use Rattle.std.proofs.Common.{◌≡◌, ◌≢◌, ◌⊎◌, inl, inr, ℕ, ◌+◌, ◌-◌, ◌<◌, ◌≤◌, max, List, [], ◌∷◌, ◌++◌, length, get_or, set}
 use Rattle.std.proofs.Common.{replicate, Bool, true, false, All, refl, sym, ◌∙◌, ap, subst, arith}
-use Rattle.std.proofs.lemmas.List.{get_or_append_left, get_or-append_right, length-append, length-set, get_or-set_same, get_or-set_other}
-use Rattle.std.proofs.lemmas.List.Elements.{All-nil, All-cons, All-head, All-tail}
-use Rattle.std.proofs.lemmas.Bool.{cases_eq, cases_lt}
+use Rattle.std.proofs.lemmas.List.{get_or_append_left, length-append}
+use Rattle.std.proofs.lemmas.List.Elements.{All-nil, All-cons, All-tail}
+use Rattle.std.proofs.lemmas.Bool.{cases_lt}
 use Rattle.tune_journal.specs.ChangeList.{with_change}
 use Rattle.tune_journal.specs.Pages.{pages_after}
 use Rattle.tune_journal.proofs.Puts.{below_with, below_more}
-use Rattle.tune_pages.specs.Stand.{Stand, IsUsed, IsFree, IsFull, IsLeastFree, AllUsed, marked, placed, with_page, taken}
+use Rattle.tune_pages.specs.Stand.{Stand, IsUsed, AllUsed, marked, placed, with_page, taken}
 use Rattle.tune_pages.specs.Work.{front, used_in, count_in, stand_on, Falls, FitsOn}
 use Rattle.tune_pages.specs.Inside.NextFree.{IsNextFree}
 use Rattle.tune_pages.specs.Inside.Freed.{Unfrees}
 use Rattle.tune_pages.specs.declared.work.Work.{Work}
-use Rattle.tune_pages.proofs.Chains.{marked_more, length-marked}
 use Rattle.tune_pages.proofs.Putting.{Apart, set_used}
-use Rattle.tune_pages.proofs.Overlay.{length-front, front_below, front_behind, front_on, marked_other, set_apart, use_next, use_freed, use_low, use_below}
-use Rattle.tune_pages.proofs.Finishing.{false_keeps, used_within, set_false}
+use Rattle.tune_pages.proofs.Overlay.{front_below, front_behind, front_on, marked_other, set_apart, use_next, use_freed, use_low}
+use Rattle.tune_pages.proofs.Finishing.{false_keeps}
 use Rattle.tune_pages.proofs.Puts.{Rising, rising_with, HasImages, images_with, after_placed}
 
 abbrev pub Below : List Bool → List (List ℕ) → Type 0

@@ -1,4 +1,4 @@
-use Rattle.std.proofs.Common.{◌≡◌, ◌<◌, ◌+◌, ◌++◌, ℕ, All, List, [], ◌∷◌, Bool, false, set, length, get_or, sym, refl, ◌∙◌, ap, subst, arith}
+use Rattle.std.proofs.Common.{◌≡◌, ◌<◌, ◌++◌, ℕ, All, List, [], ◌∷◌, Bool, false, set, length, sym, refl, ◌∙◌, ap, subst, arith}
 use Rattle.std.proofs.lemmas.List.Elements.{All-tail}
 use Rattle.tune_pages.specs.Stand.{marked}
 use Rattle.tune_pages.proofs.Chains.{length-marked}

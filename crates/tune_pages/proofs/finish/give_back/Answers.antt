@@ -1,4 +1,4 @@
-use Rattle.std.proofs.Common.{◌≡◌, ◌<◌, ℕ, length, take, get_or, set, sym, ◌∙◌, ap, arith, List, Bool, false}
+use Rattle.std.proofs.Common.{ℕ, take, get_or, set, sym, ◌∙◌, ap, arith, List, Bool, false}
 use Rattle.std.proofs.lemmas.List.{take_more}
 use Rattle.tune_pages.specs.Stand.{marked}
 use Rattle.tune_pages.proofs.Chains.{marked_more}

@@ -1,4 +1,4 @@
-use Rattle.std.proofs.Common.{◌≡◌, ◌<◌, ◌≤◌, length, sym, ◌∙◌, ap, arith, List, Bool, true, set}
+use Rattle.std.proofs.Common.{sym, ◌∙◌, ap, arith, List, Bool, true, set}
 use Rattle.tune_pages.proofs.Beginning.{front_low}
 use Rattle.tune_pages.proofs.Overlay.{front_on}
 use Rattle.tune_pages.proofs.finish.take_front.Goals as goal

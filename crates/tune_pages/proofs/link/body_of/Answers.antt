@@ -1,4 +1,4 @@
-use Rattle.std.proofs.Common.{◌≡◌, ◌∙◌, ◌-◌, ◌++◌, ℕ, List, length, drop, replicate, ap}
+use Rattle.std.proofs.Common.{◌∙◌, ◌++◌, ℕ, List, length, drop, replicate, ap}
 use Rattle.std.proofs.lemmas.List.{drop-replicate}
 use Rattle.tune_pages.proofs.link.body_of.Goals as goal
 

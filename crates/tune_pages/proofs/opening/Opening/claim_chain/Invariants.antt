@@ -1,7 +1,5 @@
-use Rattle.std.proofs.Common.{◌≡◌, ℕ, List, not, true, length}
+use Rattle.std.proofs.Common.{◌≡◌, not, length}
 use Rattle.std.specs.List.{count_by}
-use Rattle.tune_pages.specs.Chain.{Leads, bytes_along}
-use Rattle.tune_pages.specs.Stand.{AllFree, marked}
 use Rattle.tune_pages.proofs.Claiming.{Walked}
 use Rattle.tune_pages.proofs.opening.Opening.claim_chain.Given as goal
 

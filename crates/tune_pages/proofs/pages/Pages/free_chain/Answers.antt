@@ -1,7 +1,4 @@
-use Rattle.std.proofs.Common.{◌≡◌, ◌≢◌, ◌<◌, ℕ, List, false, refl, sym, ◌∙◌, ap, subst, arith, Err}
-use Rattle.tune_journal.specs.Pages.{page_at}
-use Rattle.tune_pages.specs.Chain.{next_of, IsLink}
-use Rattle.tune_pages.specs.Kept.{HonestAt}
+use Rattle.std.proofs.Common.{◌≡◌, ◌≢◌, sym, subst, arith, Err}
 use Rattle.tune_pages.specs.Reading.{LooksAt}
 use Rattle.tune_pages.specs.Work.{stand}
 use Rattle.tune_pages.specs.declared.fault.Fault.{Fault}

@@ -1,4 +1,3 @@
-use Rattle.std.proofs.Common.{◌≡◌, ℕ}
 use Rattle.std.specs.List.{count_by}
 use Rattle.tune_pages.specs.Kept.{HonestAt}
 use Rattle.tune_pages.specs.Work.{stand, Fits, IsIdle}

@@ -1,4 +1,4 @@
-use Rattle.std.proofs.Common.{◌≡◌, ◌<◌, ◌≤◌, min, ℕ, List, Bool, length, sym, ◌∙◌, ap, subst, arith}
+use Rattle.std.proofs.Common.{◌≡◌, ◌<◌, ◌≤◌, List, Bool, length, sym, ◌∙◌, ap, subst, arith}
 use Rattle.tune_pages.specs.Kept.{Kept}
 use Rattle.tune_pages.specs.Stand.{IsUsed, IsFree}
 use Rattle.tune_pages.proofs.Searching.{end_within, next_is, none_is}

@@ -1,6 +1,6 @@
-use Rattle.std.proofs.Common.{◌≡◌, ◌<◌, ◌≤◌, ◌≢◌, ℕ, All, List, Bool, false, length, sym, ◌∙◌, ap, subst, arith}
+use Rattle.std.proofs.Common.{◌≡◌, ◌<◌, ◌≤◌, ℕ, All, List, Bool, false, length, sym, ◌∙◌, ap, subst, arith}
 use Rattle.tune_pages.specs.Kept.{Kept}
-use Rattle.tune_pages.specs.Stand.{marked, AllUsed}
+use Rattle.tune_pages.specs.Stand.{marked}
 use Rattle.tune_pages.specs.Work.{front}
 use Rattle.tune_pages.proofs.Beginning.{low_after}
 use Rattle.tune_pages.proofs.Finishing.{used_below, kept_marks}

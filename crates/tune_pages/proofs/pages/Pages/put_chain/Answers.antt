@@ -1,10 +1,10 @@
-use Rattle.std.proofs.Common.{◌≡◌, ◌≢◌, ◌<◌, ◌≤◌, ◌+◌, ◌-◌, ◌^◌, ◌++◌, List, ℕ, length, take, drop, refl, sym, ◌∙◌, ap, subst, arith, rules}
+use Rattle.std.proofs.Common.{◌≡◌, ◌<◌, ◌+◌, ◌-◌, ◌++◌, List, ℕ, length, take, drop, sym, ◌∙◌, ap, subst, arith, rules}
 use Rattle.std.proofs.lemmas.List.{length-drop, length-take, take_all, take-append-drop}
 use Rattle.std.proofs.Math.Seq.{take-add}
 use Rattle.std.proofs.lemmas.Result.{err_from_is_err_and}
 use Rattle.tune_pages.specs.Inside.Link.{link_bytes}
 use Rattle.tune_pages.specs.Stand.{Stand}
-use Rattle.tune_pages.specs.Work.{stand_on, FitsOn}
+use Rattle.tune_pages.specs.Work.{stand_on}
 use Rattle.tune_pages.proofs.Counting.{fault_for, none_at_first, none_left}
 use Rattle.tune_pages.proofs.Putting.{Laid, laid_start, laid_more, laid_end, laid_used, taken_used}
 use Rattle.tune_pages.proofs.Links.{link_full, link_last}

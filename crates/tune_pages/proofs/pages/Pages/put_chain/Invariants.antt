@@ -1,4 +1,4 @@
-use Rattle.std.proofs.Common.{◌≡◌, ℕ, ◌-◌, ◌<◌, ◌≤◌, length, take}
+use Rattle.std.proofs.Common.{◌-◌, ◌<◌, length, take}
 use Rattle.tune_pages.specs.Work.{stand_on, FitsOn}
 use Rattle.tune_pages.proofs.Putting.{Laid}
 use Rattle.tune_pages.proofs.pages.Pages.put_chain.Given as goal

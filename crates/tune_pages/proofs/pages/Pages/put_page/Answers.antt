@@ -1,7 +1,6 @@
 use Rattle.std.proofs.Common.{◌≡◌, ◌<◌, ℕ, false, length, refl, sym, ◌∙◌, ap, subst}
 use Rattle.tune_pages.specs.Kept.{Kept}
 use Rattle.tune_pages.specs.Stand.{IsUsed}
-use Rattle.tune_pages.specs.Work.{count_in}
 use Rattle.tune_pages.proofs.Taking.{stand_used, in_count, put_fits, put_stand}
 use Rattle.tune_pages.proofs.pages.Pages.put_page.Goals as goal
 

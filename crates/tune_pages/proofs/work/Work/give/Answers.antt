@@ -1,4 +1,4 @@
-use Rattle.std.proofs.Common.{◌≡◌, ◌≤◌, length, refl, subst, rules}
+use Rattle.std.proofs.Common.{◌≤◌, length, refl, rules}
 use Rattle.tune_pages.proofs.Giving.{put_in}
 use Rattle.tune_pages.proofs.work.Work.give.Goals as goal
 

@@ -1,4 +1,4 @@
-use Rattle.std.proofs.Common.{ℕ, ◌≤◌, All, arith}
+use Rattle.std.proofs.Common.{arith}
 use Rattle.tune_pages.proofs.Searching.{end_below}
 use Rattle.tune_pages.proofs.work.Work.lowest.Goals as goal
 
