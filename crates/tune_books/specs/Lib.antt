@@ -1,1 +1,2 @@
 pub mod WrittenBooks
+pub mod ReadBack

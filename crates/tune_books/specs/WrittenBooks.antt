@@ -1,6 +1,6 @@
 -- What a written book is, byte for byte: a line that says which abc this is, and the tunes, each
 -- after an empty line (ABC 2.1, 2.1 and 2.2).
-use Rattle.std.specs.Prelude.{ℕ, List, [], ◌∷◌, ◌++◌, codes, decimal}
+use Rattle.std.specs.Prelude.{ℕ, ◌+◌, List, [], ◌∷◌, ◌++◌, codes, decimal}
 
 -- the line by which a reader knows the file (ABC 2.1, 2.1)
 abbrev pub book_header : List ℕ
@@ -21,3 +21,17 @@ written_tunes (number ∷ numbers) (text ∷ texts) =
 -- a book: its first line, and its tunes
 abbrev pub written_book : List ℕ → List (List ℕ) → List ℕ
 written_book numbers texts = book_header ++ written_tunes numbers texts
+
+-- SETS
+-- the numbers from this one on, as many as there are texts
+abbrev pub places_from : ℕ → List (List ℕ) → List ℕ
+places_from place [] = []
+places_from place (text ∷ texts) = place ∷ places_from (place + 1) texts
+
+-- the first lines of a set: that of a book, and a comment that names the set
+abbrev pub set_header : List ℕ → List ℕ
+set_header name = book_header ++ (codes "% set " ++ (name ++ codes "\n"))
+
+-- a set: its first lines, and its tunes, numbered by their places from 1
+abbrev pub written_set : List ℕ → List (List ℕ) → List ℕ
+written_set name texts = set_header name ++ written_tunes (places_from 1 texts) texts

@@ -1,4 +1,5 @@
-//! Writes ABC books: a line that says which abc this is, and the tunes, each after an empty line.
+//! Writes ABC books and sets: a line that says which abc this is, and the tunes, each after an
+//! empty line.
 //!
 //! The form is that of the abc music standard 2.1, sections 2.1 and 2.2, with this archive's
 //! profile where the standard is silent.
@@ -6,4 +7,4 @@
 
 mod book_writer;
 
-pub use book_writer::{BookWriter, write_book};
+pub use book_writer::{BookWriter, write_book, write_set};
