@@ -124,3 +124,7 @@ not_root pages used w p fits root free = elim (cases_eq p 0) [
       let clash : false ≡ true = sym free ∙ subst (λ (q : ℕ). get_or (used_in used w) q true ≡ true) (sym is) yes' in absurd (let e = clash in cc))
   | inr ne ↦ omega (arith, ne)
 ]
+
+-- no page is free among marks that are all set
+pub full_not_free : (m : List Bool) (p : ℕ) → IsFull m → IsFree m p → ⊥
+full_not_free m p full free = (let is = full p true (free_within m p free) in let clash : false ≡ true = sym free ∙ is in absurd (let e = clash in cc))

@@ -1,10 +1,12 @@
 // What a work changes.
-ghost use Rattle.std.specs.Prelude.{◌≡◌, ◌<◌, ◌≤◌, ℕ, List, [], length, IfOk, IfSome, IfNone, OnOk};
+ghost use Rattle.std.specs.Prelude.{◌≡◌, ◌<◌, ◌≤◌, ℕ, List, [], false, Err, length, IfOk, OnOk};
+ghost use Rattle.std.specs.Prelude.{IfSome, IfNone};
 ghost use Rattle.tune_journal.specs.Layout.{most_pages};
 ghost use Rattle.tune_pages.specs.Faults.{AnswersWork, free_pages, pages_for};
 ghost use Rattle.tune_pages.specs.Inside.NextFree.{IsNextFree};
 ghost use Rattle.tune_pages.specs.Stand.{IsUsed, IsFull, IsLeastFree, PutsChain};
 ghost use Rattle.tune_pages.specs.Stand.{with_page, without_page, taken};
+ghost use Rattle.tune_pages.specs.declared.fault.Fault.TheVariants.{FileFull};
 ghost use Rattle.tune_pages.specs.Work.{stand, Fits, IsIdle, used_in};
 
 use crate::fault::Fault;
@@ -31,6 +33,9 @@ impl<D: Disk> Pages<D> {
             stand self.now work.new ≡ taken page (stand self.now work.old)) }
         ensures answer { AnswersWork result self.now.closed
             (IsFull (stand self.now work.old).used) }
+        // There it is `FileFull`, also where there is no memory.
+        ensures full { IsFull (stand self.now work.old).used → self.now.closed ≡ false
+            → result ≡ Err FileFull }
     {
         if self.closed {
             return Err(Fault::Closed);

@@ -4,7 +4,7 @@ use Rattle.tune_pages.specs.Stand.{IsFull, IsLeastFree}
 use Rattle.tune_pages.specs.Work.{stand_on, count_in}
 use Rattle.tune_pages.proofs.Taking.{stand_used, stand_pages, take_within, take_fits, take_stand}
 use Rattle.tune_journal.proofs.Above.{length-pages_after}
-use Rattle.tune_pages.proofs.Searching.{Facts, kept_facts, free_in, not_root}
+use Rattle.tune_pages.proofs.Searching.{full_not_free, Facts, kept_facts, free_in, not_root}
 use Rattle.tune_pages.proofs.pages.Pages.allocate.Goals as goal
 
 pub returns-in-None-clause-answer : goal.returns-in-None-clause-answer
@@ -59,3 +59,12 @@ returns-in-Ok-clause-stand g c =
     let lt = free_in c.args.self.now.pages c.args.self.now.used c.args.work.now c.in-Some.page c.requires c.in-Some.ensures.some.least.free in
     take_stand c.args.self.now.pages c.args.self.now.used c.args.work.now c.take.new.self c.in-Some.page c.requires facts.below lt c.in-Some.ensures.some
     c.in-Ok.ensures.changes c.in-Ok.ensures.frontier c.in-Ok.ensures.freed
+
+-- Where the file is full no page is found.
+pub returns-in-Ok-clause-full : goal.returns-in-Ok-clause-full
+returns-in-Ok-clause-full g c = λ full shut. absurd (full_not_free _ c.in-Some.page
+    (subst (λ (m : List Bool). IsFull m) (stand_used c.args.self.now.pages c.args.self.now.used c.args.work.now) full) c.in-Some.ensures.some.least.free)
+
+pub returns-in-Err-clause-full : goal.returns-in-Err-clause-full
+returns-in-Err-clause-full g c = λ full shut. absurd (full_not_free _ c.in-Some.page
+    (subst (λ (m : List Bool). IsFull m) (stand_used c.args.self.now.pages c.args.self.now.used c.args.work.now) full) c.in-Some.ensures.some.least.free)
