@@ -1,3 +1,4 @@
+use Rattle.std.proofs.Common.{◌≡◌}
 use Rattle.std.specs.List.{count_by}
 use Rattle.tune_pages.specs.Kept.{HonestAt}
 use Rattle.tune_pages.specs.Work.{stand, Fits, IsIdle}
