@@ -5,9 +5,9 @@ use Rattle.std.specs.Prelude.{IfErr, MatchResult, slice_set}
 use Rattle.std.specs.List.{remove}
 use Rattle.std.proofs.lemmas.Bool.{ltb-false, eq-eqb, ne_eqb, lt-ltb, le-ltb}
 use Rattle.std.proofs.lemmas.List.{get_or-map, length-map}
-use Rattle.tune_store.specs.Limits.{greatest_revision}
+use Rattle.tune_store.specs.Limits.{most_tunes, greatest_number, greatest_revision}
 use Rattle.tune_store.specs.State.{State, IsState, Standing, RisesFrom, greatest}
-use Rattle.tune_store.specs.Step.{Outcome, replace_tune, delete_tune}
+use Rattle.tune_store.specs.Step.{Outcome, numbered, import_texts, replace_tune, delete_tune}
 use Rattle.tune_store.specs.Step.{tune_at}
 use Rattle.tune_store.specs.Answers.{Answers, open_at, stepped, no_memory, failed_before, failed_after, is_closed}
 use Rattle.tune_books.specs.WrittenBooks.{written_tune, written_tunes}
@@ -21,7 +21,7 @@ use Rattle.tune_store.specs.declared.plans.Plan.{Plan}
 use Rattle.tune_store.specs.declared.command.Command.{Command}
 use Rattle.tune_store.specs.declared.command.Command.TheVariants.{Replace}
 use Rattle.tune_store.specs.declared.command.Reply.{Reply}
-use Rattle.tune_store.specs.declared.command.Reply.TheVariants.{Replaced, Deleted}
+use Rattle.tune_store.specs.declared.command.Reply.TheVariants.{Imported, Replaced, Deleted}
 use Rattle.tune_store.specs.declared.command.Refusal.{Refusal}
 use Rattle.tune_store.specs.declared.command.Refusal.TheVariants.{Stale, Worn}
 use Rattle.tune_store.proofs.StateLemmas.{greatest_last}
@@ -91,6 +91,14 @@ last_label tunes labels label len rises same count some at =
     let many = labels_long tunes labels same in
     ap (λ (r : Label). r.number) (at no_label ∙ label_at tunes labels (len - 1) no_tune no_label same (omega arith))
     ∙ sym (greatest_last 0 tunes (len - 1) no_tune rises (omega arith))
+
+-- IMPORT
+-- texts for which there is room are added
+pub import_adds : (tunes : List Tune) (texts : List (List ℕ)) (first last : ℕ) → length tunes + length texts ≤ most_tunes
+    → greatest tunes + length texts ≤ greatest_number → first ≡ greatest tunes + 1 → last ≡ greatest tunes + length texts
+    → import_texts tunes texts ≡ (tunes ++ numbered first texts, Ok (Imported first last))
+import_adds tunes texts first last room numbers is_first is_last =
+    rw (is_first, is_last, le-ltb most_tunes (length tunes + length texts) room, le-ltb greatest_number (greatest tunes + length texts) numbers) refl
 
 -- REPLACE
 -- a tune of another revision

@@ -16,7 +16,7 @@ ghost use Rattle.tune_store.specs.Inside.Plans.{IsOwnOrMemory};
 use crate::catalog::Catalog;
 use crate::command::{Command, Refusal, Reply};
 use crate::tune::{GREATEST_NUMBER, GREATEST_REVISION, LONGEST_TEXT, MOST_TUNES, Tune};
-use abc_fields::{TuneText, split_book};
+use abc_fields::{TuneText, judge_book, split_book};
 use std::alloc::Global;
 use tune_books::BookWriter;
 
@@ -109,8 +109,8 @@ fn import<C: Catalog>(alloc: Global, catalog: &C, book: &[u8]) -> Result<Plan, R
     ensures possible { IfOk result
         (λ plan. CanChangeTo plan.change (length (C.labels catalog.now))) }
 {
-    let texts = split_book(alloc, book, LONGEST_TEXT)?;
-    let count = texts.len();
+    let judged = judge_book(alloc, book, LONGEST_TEXT)?;
+    let count = judged.count();
     let len = catalog.len();
     if count > MOST_TUNES || len > MOST_TUNES - count {
         return Err(Refusal::ArchiveFull);
@@ -122,6 +122,7 @@ fn import<C: Catalog>(alloc: Global, catalog: &C, book: &[u8]) -> Result<Plan, R
     }
     let first = greatest + 1;
     let last = last as u32;
+    let texts = judged.texts(alloc)?;
     let add = Change::Add { first, texts };
     Ok(Plan::change(add, Reply::Imported { first, last }))
 }
