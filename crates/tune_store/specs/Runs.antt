@@ -1,7 +1,7 @@
 -- Runs of commands over a store.
-use Rattle.std.specs.Prelude.{◌≡◌, List, [], ◌∷◌, ◌++◌, Result}
-use Rattle.tune_store.specs.State.{State, Standing}
-use Rattle.tune_store.specs.Answers.{Answers, passed}
+use Rattle.std.specs.Prelude.{◌≡◌, List, [], ◌∷◌, Result}
+use Rattle.tune_store.specs.State.{Standing}
+use Rattle.tune_store.specs.Answers.{Answers}
 use Rattle.tune_store.specs.declared.command.Command.{Command}
 use Rattle.tune_store.specs.declared.command.Reply.{Reply}
 use Rattle.tune_store.specs.declared.command.Refusal.{Refusal}
@@ -17,11 +17,3 @@ abbrev pub Runs : Standing → List Answered → Standing → Type 0
 Runs old [] new = new ≡ old
 Runs old (next ∷ run) new =
     (mid : Standing) × Answers old next.command next.answer mid × Runs mid run new
-
--- the same run, and the states that it passes, one after another
-abbrev pub RunsPassing : Standing → List Answered → List State → Standing → Type 0
-RunsPassing old [] states new = (states ≡ []) × (new ≡ old)
-RunsPassing old (next ∷ run) states new =
-    (mid : Standing) × (later : List State) × Answers old next.command next.answer mid
-    × (states ≡ passed old.state next.command next.answer ++ later)
-    × RunsPassing mid run later new
