@@ -1,9 +1,10 @@
 -- How many pages are free, and how many a chain wants.
 use Rattle.std.proofs.Common.{◌≡◌, ℕ, ◌+◌, ◌*◌, ◌<◌, ◌≤◌, List, [], ◌∷◌, ◌++◌, length, get_or, set, Bool, true, not, cond}
 use Rattle.std.proofs.Common.{sym, ap, subst, arith, length-append}
+use Rattle.std.specs.Prelude.{Result, Ok, Err, IfOk}
 use Rattle.std.proofs.lemmas.Grind.{div_ceil_times}
 use Rattle.std.proofs.lemmas.List.Sums.{sum_by-set, sum_by-le}
-use Rattle.tune_pages.specs.Faults.{IsWorkFault, free_pages, pages_for}
+use Rattle.tune_pages.specs.Faults.{IsWorkFault, AnswersWork, free_pages, pages_for}
 use Rattle.tune_pages.specs.Layout.{piece_room}
 use Rattle.tune_pages.specs.Stand.{Stand, IsFree, IsFull, AllFree, marked}
 use Rattle.tune_pages.specs.declared.fault.Fault.{Fault}
@@ -52,3 +53,12 @@ fault_for FileFull closed P Q so is = (so is.0, is.1)
 fault_for OutOfMemory closed P Q so is = is
 fault_for Device closed P Q so is = is
 fault_for Closed closed P Q so is = is
+
+pub answers_for : {T : Type 0} (r : Result T Fault) (closed : Bool) (P Q : Type 0) → (P → Q) → AnswersWork r closed P → AnswersWork r closed Q
+answers_for (Ok x) closed P Q so is = is
+answers_for (Err f) closed P Q so is = fault_for f closed P Q so is
+
+-- what three facts of a value come to
+pub ok_from : {T E : Type 0} (r : Result T E) (L M N Q : T → Type 0) → ((x : T) → L x → M x → N x → Q x) → IfOk r L → IfOk r M → IfOk r N → IfOk r Q
+ok_from (Ok x) L M N Q so l m n = so x l m n
+ok_from (Err e) L M N Q so l m n = tt

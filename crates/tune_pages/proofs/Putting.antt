@@ -1,7 +1,7 @@
 -- Laying a chain, a page at a time.
 use Rattle.std.proofs.Common.{◌≡◌, ◌≢◌, inl, inr, ℕ, zero, suc, ◌+◌, ◌*◌, ◌<◌, ◌≤◌, max, List, [], ◌∷◌, ◌++◌, length, get_or, set, drop}
 use Rattle.std.proofs.Common.{take, replicate, Bool, true, false, All, refl, sym, ◌∙◌, ap, subst, arith}
-use Rattle.std.proofs.lemmas.List.{places, get_or-set_same, get_or-set_other, get_or_past, get_or_append_left, length-set, length-take, length-drop}
+use Rattle.std.proofs.lemmas.List.{append-nil, places, get_or-set_same, get_or-set_other, get_or_past, get_or_append_left, length-set, length-take, length-drop}
 use Rattle.std.proofs.lemmas.List.{length-append}
 use Rattle.std.proofs.lemmas.List.Elements.{All-tail, All-nil, All-cons, All-push}
 use Rattle.std.proofs.lemmas.Bool.{cases_eq, cases_lt}
@@ -9,7 +9,7 @@ use Rattle.tune_journal.specs.Pages.{page_at}
 use Rattle.tune_pages.specs.Chain.{next_of, piece_of, IsLink, Leads, bytes_along, IsPadded, ArePadded}
 use Rattle.tune_pages.specs.Layout.{piece_room}
 use Rattle.tune_pages.specs.Stand.{Stand, IsUsed, IsFree, IsLeastFree, AllLeastFree, marked, AllFree, KeepsOthers, PutsChain, placed}
-use Rattle.tune_pages.specs.Stand.{with_page, taken}
+use Rattle.tune_pages.specs.Stand.{with_page, taken, taken_with}
 use Rattle.tune_pages.proofs.Chains.{SameAlong, leads_kept, bytes_kept, leads_more, bytes_more, marked_more, free_more}
 
 pub length-placed : (p : ℕ) (image : List ℕ) (pages : List (List ℕ)) → p ≤ length pages → length (placed p image pages) ≡ max (length pages) (p + 1)
@@ -296,3 +296,37 @@ laid_used old now first page done laid =
 pub taken_used : (old now one : Stand) (first page next : ℕ) (done : List ℕ) → Laid old now first page done → one ≡ taken next now → IsUsed one.used page
 taken_used old now one first page next done laid is = subst (λ (s : Stand). IsUsed s.used page) (sym is)
     (set_used now.used next page (laid_used old now first page done laid))
+
+-- A chain of one page.
+pub laid_alone : (old now : Stand) (page : ℕ) (image bytes : List ℕ) → now ≡ taken_with page image old → IsLeastFree old.used page → 0 < page
+    → page ≤ length old.pages → IsLink image → next_of image ≡ 0 → piece_of image ≡ bytes → IsPadded image
+    → (trail : List ℕ) × PutsChain old now page trail bytes
+laid_alone old now page image bytes is least some le link ends holds is_padded = (
+  page ∷ [],
+  record {
+    chain = record {
+      leads = (
+        refl,
+        some,
+        omega (arith, size),
+        subst IsLink (sym here) link,
+        ap next_of here ∙ ends,
+      );
+      holds = append-nil (piece_of (page_at now.pages page)) ∙ ap piece_of here ∙ holds;
+    };
+    padded = All-cons (λ p. IsPadded (page_at now.pages p)) page [] (subst IsPadded (sym here) is_padded) (All-nil (λ (p : ℕ). IsPadded (page_at now.pages p)));
+    free = (least.free, tt);
+    least = (least, tt);
+    used = ap (λ (s : Stand). s.used) is;
+    others = record {
+      longer = omega (arith, size);
+      same = λ p apart. ap (λ (s : Stand). page_at s.pages p) is ∙ placed_other page image old.pages p le (λ e. apart 0 0 (omega arith) (sym e));
+    };
+  },
+)
+  where
+    size : length now.pages ≡ max (length old.pages) (page + 1)
+    size = ap (λ (s : Stand). length s.pages) is ∙ length-placed page image old.pages le
+
+    here : page_at now.pages page ≡ image
+    here = ap (λ (s : Stand). page_at s.pages page) is ∙ placed_here page image old.pages le

@@ -7,7 +7,7 @@ use Rattle.std.proofs.lemmas.Bool.{cases_lt}
 use Rattle.tune_journal.specs.ChangeList.{with_change}
 use Rattle.tune_journal.specs.Pages.{pages_after}
 use Rattle.tune_journal.proofs.Puts.{below_with, below_more}
-use Rattle.tune_pages.specs.Stand.{Stand, IsUsed, AllUsed, marked, placed, with_page, taken}
+use Rattle.tune_pages.specs.Stand.{Stand, IsUsed, AllUsed, marked, placed, with_page, taken_with}
 use Rattle.tune_pages.specs.Work.{front, used_in, count_in, stand_on, Falls, FitsOn}
 use Rattle.tune_pages.specs.Inside.NextFree.{IsNextFree}
 use Rattle.tune_pages.specs.Inside.Freed.{Unfrees}
@@ -135,9 +135,9 @@ no_root_front : (t : List ℕ) (p : ℕ) → All (λ q. q ≢ 0) (t ++ p ∷ [])
 no_root_front t p all = λ k d lt. subst (λ (q : ℕ). q ≢ 0) (get_or_append_left t (p ∷ []) d k lt) (all k d (omega (arith, lt, length-append t (p ∷ []))))
 
 -- TAKING
-module _ (pages : List (List ℕ)) (used : List Bool) (w w' : Work) (p : ℕ) (fits : FitsOn pages used w) (below : Below used pages) (within : p < length used)
+module _ (pages : List (List ℕ)) (used : List Bool) (w w' : Work) (p : ℕ) (i : List ℕ) (fits : FitsOn pages used w) (below : Below used pages) (within : p < length used)
     (next : IsNextFree used w p)
-    (ch : w'.changes ≡ with_change p (replicate 4096 0) w.changes) (fr : w'.frontier ≡ max w.frontier (p + 1))
+    (ch : w'.changes ≡ with_change p i w.changes) (fr : w'.frontier ≡ max w.frontier (p + 1))
     (unfrees : Unfrees p w.freed.items w'.freed.items) where
   abbrev pub count : ℕ
   count = count_in pages w
@@ -218,25 +218,25 @@ module _ (pages : List (List ℕ)) (used : List Bool) (w w' : Work) (p : ℕ) (f
     root = fits.root;
     inside = fits.inside;
     within = omega (arith, fr, fits.within, within);
-    rising = subst Rising (sym ch) (rising_with p (replicate 4096 0) w.changes fits.rising);
+    rising = subst Rising (sym ch) (rising_with p i w.changes fits.rising);
     below = subst (λ (n : ℕ). All (λ e. e.0 < n) w'.changes) (sym new_count)
         (subst (λ (cs : List (ℕ × List ℕ)). All (λ e. e.0 < max count (p + 1)) cs) (sym ch)
-        (below_with (max count (p + 1)) p (replicate 4096 0) w.changes (omega arith)
+        (below_with (max count (p + 1)) p i w.changes (omega arith)
         (below_more count (max count (p + 1)) w.changes (omega arith) fits.below)));
     names = subst (λ (n : ℕ). HasImages (length pages) n w'.changes) (sym new_count)
         (subst (λ (cs : List (ℕ × List ℕ)). HasImages (length pages) (max count (p + 1)) cs) (sym ch)
-        (images_with (length pages) count (max count (p + 1)) p (replicate 4096 0) w.changes take_within refl fits.names));
+        (images_with (length pages) count (max count (p + 1)) p i w.changes take_within refl fits.names));
     falls = left.falls;
     freed = take_freed;
     no_root = left.no_root;
   }
 
-  take_pages : pages_after pages (count_in pages w') w'.changes ≡ placed p (replicate 4096 0) (pages_after pages count w.changes)
+  take_pages : pages_after pages (count_in pages w') w'.changes ≡ placed p i (pages_after pages count w.changes)
   take_pages =
       ap (λ (cs : List (ℕ × List ℕ)). pages_after pages (count_in pages w') cs) ch
-      ∙ after_placed pages count (count_in pages w') p (replicate 4096 0) w.changes le_count take_within new_count fits.rising fits.below
+      ∙ after_placed pages count (count_in pages w') p i w.changes le_count take_within new_count fits.rising fits.below
 
-  pub take_stand : stand_on pages used w' ≡ taken p (stand_on pages used w)
+  pub take_stand : stand_on pages used w' ≡ taken_with p i (stand_on pages used w)
   unfolding stand_on
   take_stand = ap (λ (l : List (List ℕ)). made l (used_in used w')) take_pages
-      ∙ ap (made (placed p (replicate 4096 0) (pages_after pages count w.changes))) take_used
+      ∙ ap (made (placed p i (pages_after pages count w.changes))) take_used

@@ -55,12 +55,16 @@ placed p image pages = take p pages ++ (image ∷ drop (p + 1) pages)
 abbrev pub with_page : ℕ → List ℕ → Stand → Stand
 with_page p image s = record { pages = placed p image s.pages; used = s.used }
 
--- page p comes into use, and holds zeros
-abbrev pub taken : ℕ → Stand → Stand
-taken p s = record {
-  pages = placed p (replicate block_bytes 0) s.pages;
+-- page p comes into use, and holds this image
+abbrev pub taken_with : ℕ → List ℕ → Stand → Stand
+taken_with p image s = record {
+  pages = placed p image s.pages;
   used = slice_set s.used p true;
 }
+
+-- page p comes into use, and holds zeros
+abbrev pub taken : ℕ → Stand → Stand
+taken p s = taken_with p (replicate block_bytes 0) s
 
 -- page p is free
 abbrev pub without_page : ℕ → Stand → Stand

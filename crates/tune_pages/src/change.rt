@@ -5,7 +5,7 @@ ghost use Rattle.tune_journal.specs.Layout.{most_pages};
 ghost use Rattle.tune_pages.specs.Faults.{AnswersWork, free_pages, pages_for};
 ghost use Rattle.tune_pages.specs.Inside.NextFree.{IsNextFree};
 ghost use Rattle.tune_pages.specs.Stand.{IsUsed, IsFull, IsLeastFree, PutsChain};
-ghost use Rattle.tune_pages.specs.Stand.{with_page, without_page, taken};
+ghost use Rattle.tune_pages.specs.Stand.{with_page, without_page, taken, taken_with};
 ghost use Rattle.tune_pages.specs.declared.fault.Fault.TheVariants.{FileFull};
 ghost use Rattle.tune_pages.specs.Work.{stand, Fits, IsIdle, used_in};
 
@@ -37,6 +37,23 @@ impl<D: Disk> Pages<D> {
         ensures full { IsFull (stand self.now work.old).used → self.now.closed ≡ false
             → result ≡ Err FileFull }
     {
+        self.take_least(work, &PageImage::blank())
+    }
+
+    // Takes the least free page, with this image on it.
+    fn take_least(&self, work: &mut Work, image: &PageImage) -> Result<u32, Fault>
+        requires { Fits self.now work.old }
+        ensures fits { OnOk result (Fits self.now work.new) }
+        ensures least { IfOk result (λ page. IsLeastFree (stand self.now work.old).used page) }
+        ensures within { IfOk result (λ page. (0 < page) × (page < most_pages)
+            × (page ≤ length (stand self.now work.old).pages)) }
+        ensures stand { IfOk result (λ page. stand self.now work.new
+            ≡ taken_with page image.now.bytes (stand self.now work.old)) }
+        ensures answer { AnswersWork result self.now.closed
+            (IsFull (stand self.now work.old).used) }
+        ensures full { IsFull (stand self.now work.old).used → self.now.closed ≡ false
+            → result ≡ Err FileFull }
+    {
         if self.closed {
             return Err(Fault::Closed);
         }
@@ -44,7 +61,7 @@ impl<D: Disk> Pages<D> {
             Some(page) => page,
             None => return Err(Fault::FileFull),
         };
-        match work.take(page) {
+        match work.take(page, image) {
             Ok(()) => Ok(page),
             Err(_) => Err(Fault::OutOfMemory),
         }
@@ -131,6 +148,9 @@ impl<D: Disk> Pages<D> {
         }
         if bytes.is_empty() {
             return Ok(0);
+        }
+        if bytes.len() <= ROOM {
+            return self.take_least(work, &link(0, bytes));
         }
         let first = self.allocate(work)?;
         let mut page = first;

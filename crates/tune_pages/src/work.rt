@@ -3,7 +3,7 @@ ghost use Rattle.std.specs.Prelude.{◌≡◌, ◌<◌, ◌≤◌, ◌+◌, ℕ,
 ghost use Rattle.std.specs.Prelude.{◌↔◌, slice_index_or, All, Contains, IsTrue};
 ghost use Rattle.std.specs.VecDeque.{deque_len};
 ghost use Rattle.tune_journal.specs.ChangeList.{with_change};
-ghost use Rattle.tune_journal.specs.Layout.{block_bytes, most_pages};
+ghost use Rattle.tune_journal.specs.Layout.{most_pages};
 ghost use Rattle.tune_pages.specs.Inside.Freed.{Unfrees, IsEnd, IsPutIn};
 ghost use Rattle.tune_pages.specs.Work.{Falls};
 
@@ -63,31 +63,22 @@ impl Work {
         at < self.freed.len() && self.freed[at] == page
     }
 
-    // Takes the next free page, with zeros on it. Where there is no memory nothing changes.
-    pub(crate) fn take(&mut self, page: u32) -> Result<(), AllocError>
+    // Takes the next free page, with this image on it. Where there is no memory nothing changes.
+    pub(crate) fn take(&mut self, page: u32, image: &PageImage) -> Result<(), AllocError>
         requires { page < most_pages }
         ensures changes { OnOk result
-            (self.new.changes ≡ with_change page (replicate block_bytes 0) self.old.changes) }
+            (self.new.changes ≡ with_change page image.now.bytes self.old.changes) }
         ensures frontier { OnOk result (self.new.frontier ≡ max self.old.frontier (page + 1)) }
         ensures freed { OnOk result (Unfrees page self.old.freed.items self.new.freed.items) }
         ensures err { OnErr result (self.new ≡ self.old) }
     {
-        put_blank(&mut self.changes, page)?;
+        self.changes.put(page, image)?;
         if self.freed.back() == Some(&page) {
             let _ = self.freed.pop_back();
         }
         self.frontier = self.frontier.max(page + 1);
         Ok(())
     }
-}
-
-// Puts zeros on a page.
-fn put_blank(changes: &mut Changes, page: u32) -> Result<(), AllocError>
-    ensures ok { OnOk result
-        (changes.new ≡ with_change page (replicate block_bytes 0) changes.old) }
-    ensures err { OnErr result (changes.new ≡ changes.old) }
-{
-    changes.put(page, &PageImage::blank())
 }
 
 // The place behind all that are above the page.

@@ -1,12 +1,12 @@
-use Rattle.std.proofs.Common.{◌≡◌, ◌<◌, ◌+◌, ◌-◌, ◌++◌, List, ℕ, length, take, drop, sym, ◌∙◌, ap, subst, arith, rules}
+use Rattle.std.proofs.Common.{◌≡◌, ◌<◌, ◌≤◌, ◌+◌, ◌-◌, ◌++◌, List, ℕ, length, take, drop, sym, ◌∙◌, ap, subst, arith, rules}
 use Rattle.std.proofs.lemmas.List.{length-drop, length-take, take_all, take-append-drop}
 use Rattle.std.proofs.Math.Seq.{take-add}
 use Rattle.std.proofs.lemmas.Result.{err_from_is_err_and}
 use Rattle.tune_pages.specs.Inside.Link.{link_bytes}
 use Rattle.tune_pages.specs.Stand.{Stand}
 use Rattle.tune_pages.specs.Work.{stand_on}
-use Rattle.tune_pages.proofs.Counting.{fault_for, none_at_first, none_left}
-use Rattle.tune_pages.proofs.Putting.{Laid, laid_start, laid_more, laid_end, laid_used, taken_used}
+use Rattle.tune_pages.proofs.Counting.{answers_for, ok_from, fault_for, none_at_first, none_left}
+use Rattle.tune_pages.proofs.Putting.{laid_alone, Laid, laid_start, laid_more, laid_end, laid_used, taken_used}
 use Rattle.tune_pages.proofs.Links.{link_full, link_last}
 use Rattle.tune_pages.proofs.pages.Pages.put_chain.Goals as goal
 
@@ -28,7 +28,7 @@ loop-at-preserved g c =
     let piece : List ℕ = take 4090 (drop c.loop-at.at c.args.bytes.now) in
     let size : length piece ≡ 4090 = omega (arith, length-take 4090 (drop c.loop-at.at c.args.bytes.now), length-drop c.loop-at.at c.args.bytes.now) in
     let whole : c.loop-at.at + 4090 - c.loop-at.at ≡ 4090 = omega arith in
-    let link = link_full c.in_ok-next.next piece c.link.result.bytes (omega (arith, next.within.1)) size (c.link.ensures
+    let link = link_full c.in_ok-next.next piece c.link-in-loop-at.result.bytes (omega (arith, next.within.1)) size (c.link-in-loop-at.ensures
     ∙ ap (λ (n : ℕ). link_bytes c.in_ok-next.next (take n (drop c.loop-at.at c.args.bytes.now))) whole) in
     record {
       fits = c.in_ok-put_page.ensures.fits;
@@ -72,3 +72,23 @@ returns-in_err-next-clause-answer g c =
     rw (p.1, p.2) (fault_for c.in_err-next.field-0.0 c.args.self.now.closed _ _
     (none_left old now c.in_ok-first.first c.loop-at.page (take c.loop-at.at c.args.bytes.now)
     (length c.args.bytes.now) c.loop-at.invariant.laid more) c.in_err-next.ensures.answer)
+
+-- Bytes that one page has room for.
+pub returns-then-bytes-le-ROOM-clause-chain : goal.returns-then-bytes-le-ROOM-clause-chain
+returns-then-bytes-le-ROOM-clause-chain g c =
+    let bytes : List ℕ = c.args.bytes.now in
+    let old : Stand = stand_on c.args.self.now.pages c.args.self.now.used c.args.work.now in
+    let now : Stand = stand_on c.args.self.now.pages c.args.self.now.used c.take_least.new.work in
+    let some : 0 < length bytes = search rules in
+    let few : length bytes ≤ 4090 = omega arith in
+    let link = link_last bytes c.link.result.bytes some few c.link.ensures in
+    let call = c.take_least.ensures in
+    ok_from c.take_least.result _ _ _ _
+    (λ page least within stand. laid_alone old now page c.link.result.bytes bytes stand least within.0 within.2 link.0 link.1 link.2 link.3)
+    call.least call.within call.stand
+
+pub returns-then-bytes-le-ROOM-clause-answer : goal.returns-then-bytes-le-ROOM-clause-answer
+returns-then-bytes-le-ROOM-clause-answer g c =
+    let old : Stand = stand_on c.args.self.now.pages c.args.self.now.used c.args.work.now in
+    let some : 0 < length c.args.bytes.now = search rules in
+    answers_for c.take_least.result c.args.self.now.closed _ _ (none_at_first old (length c.args.bytes.now) some) c.take_least.ensures.answer
