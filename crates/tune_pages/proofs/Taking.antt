@@ -135,7 +135,8 @@ no_root_front : (t : List ℕ) (p : ℕ) → All (λ q. q ≢ 0) (t ++ p ∷ [])
 no_root_front t p all = λ k d lt. subst (λ (q : ℕ). q ≢ 0) (get_or_append_left t (p ∷ []) d k lt) (all k d (omega (arith, lt, length-append t (p ∷ []))))
 
 -- TAKING
-module _ (pages : List (List ℕ)) (used : List Bool) (w w' : Work) (p : ℕ) (i : List ℕ) (fits : FitsOn pages used w) (below : Below used pages) (within : p < length used)
+module _ (pages : List (List ℕ)) (used : List Bool) (w w' : Work) (p : ℕ) (i : List ℕ) (fits : FitsOn pages used w) (below : Below used pages)
+    (within : p < length used)
     (next : IsNextFree used w p)
     (ch : w'.changes ≡ with_change p i w.changes) (fr : w'.frontier ≡ max w.frontier (p + 1))
     (unfrees : Unfrees p w.freed.items w'.freed.items) where
