@@ -60,3 +60,28 @@ for text in '{' '"' '[' '(3' '[K:' '!' '^' '[C' comma 'C,,,,,,,,,' '^C,,,,,,,,,C
     awk -v text="$text" -v total="$total" -v spent=$((nanoseconds - one)) \
         'BEGIN { printf "64,000 bytes of %-24s %8.2f ms  %s\n", text, spent / 20 / 1000000, total }'
 done
+
+# Books of 249 tunes of 16,000 bytes (4 MB), by their openings: `far` is one chord of notes beyond
+# the sixteen octaves, of which the first alone counts.
+book() {
+    awk -v what="$1" 'BEGIN {
+        for (tune = 1; tune <= 249; tune++) {
+            printf "X:%d\nK:C\n", tune
+            part = what == "far" ? "C,,,,,,,,," : what
+            if (what == "far") printf "[^C,,,,,,,,,"
+            for (n = 0; n < 15900; n += length(part)) printf "%s", part
+            print what == "far" ? "]\n" : "\n"
+        }
+    }' > "$work/tunes.abc"
+}
+
+for text in far z '|' '^z|' '[^C]z'; do
+    book "$text"
+    passes steps 1
+    one=$nanoseconds
+    passes steps 21
+    awk -v text="$text" -v total="$total" -v spent=$((nanoseconds - one)) \
+        'BEGIN {
+            printf "openings of a book of %-10s %8.2f ms  %s\n", text, spent / 20 / 1000000, total
+        }'
+done

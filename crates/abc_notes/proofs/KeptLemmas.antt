@@ -1,11 +1,12 @@
 -- A reader of notes keeps its bar, event by event.
-use Rattle.std.proofs.Common.{◌≡◌, ◌+◌, ◌≤◌, List, [], ◌∷◌, length, drop, ap, sym, ◌∙◌, arith, subst}
+use Rattle.std.specs.Prelude.{◌||◌}
+use Rattle.std.proofs.Common.{Bool, true, false, cond, ◌≡◌, ◌+◌, ◌≤◌, List, [], ◌∷◌, length, drop, ap, sym, ◌∙◌, arith, subst}
 use Rattle.abc_fields.specs.Limits.{longest_book}
 use Rattle.abc_keys.specs.declared.signatures.Signature.{Signature}
 use Rattle.abc_notes.specs.declared.bar.Bar.{Bar}
 use Rattle.abc_notes.specs.Events.{WrittenNote, Event, note, bar, change}
-use Rattle.abc_notes.specs.Inside.Kept.{past_of, notes_left, IsKept}
-use Rattle.abc_notes.specs.Pitches.{accidental_of_note, sounded, sounded_notes}
+use Rattle.abc_notes.specs.Inside.Kept.{past_of, notes_left, asked_of, IsKept}
+use Rattle.abc_notes.specs.Pitches.{SoundedNote, accidental_of_note, sounded, sounded_notes, counting}
 use Rattle.abc_notes.specs.Inside.BarTables.{IsBarAfter}
 use Rattle.abc_notes.proofs.BarLemmas.{drop_one, past_one, past_none}
 use Rattle.abc_notes.proofs.PastLemmas.{notes_bar, notes_end}
@@ -43,6 +44,28 @@ unfolding sounded_notes
 notes_change old new bar_events events rest s kept is after start =
     ap (sounded_notes old.start (past_of old.since bar_events)) is
     ∙ (λ i. sounded_notes (sym start i) (sym (past_on old new bar_events events rest (change s) kept is after) i) rest)
+
+-- a bar line, after which the same reader serves
+pub notes_over_bar : (old new : Bar) (bar_events events rest : List Event) → IsKept old bar_events events → events ≡ bar ∷ rest
+    → IsBarAfter (bar ∷ past_of old.since bar_events) new → new.start ≡ old.start
+    → notes_left old bar_events events ≡ notes_left new bar_events rest
+unfolding sounded_notes
+notes_over_bar old new bar_events events rest kept is after start =
+    ap (sounded_notes old.start (past_of old.since bar_events)) is
+    ∙ (λ i. sounded_notes (sym start i) (sym (past_on old new bar_events events rest bar kept is after) i) rest)
+
+-- a note that is not asked for is left out
+pub not_asked : (n : SoundedNote) (notes left : List SoundedNote) (all : Bool) → all ≡ false → n.counts ≡ false → notes ≡ n ∷ left
+    → asked_of all notes ≡ asked_of all left
+not_asked n notes left true some other is = absurd (cc)
+not_asked n notes left false some other is =
+    ap counting is ∙ (λ i. cond (other i) (n ∷ counting left) (counting left))
+
+-- one that is asked for is the first
+pub is_asked : (n : SoundedNote) (notes left : List SoundedNote) (all : Bool) → (all || n.counts) ≡ true → notes ≡ n ∷ left
+    → asked_of all notes ≡ n ∷ asked_of all left
+is_asked n notes left true wanted is = is
+is_asked n notes left false wanted is = ap counting is ∙ (λ i. cond (wanted i) (n ∷ counting left) (counting left))
 
 -- a bar that begins
 pub kept_new : (new : Bar) (events : List Event) → IsBarAfter [] new → length events ≤ longest_book → IsKept new events events

@@ -8,3 +8,4 @@ pub mod BarLemmas
 pub mod KeptLemmas
 pub mod EventCounts
 pub mod NoteParts
+pub mod PartLaw

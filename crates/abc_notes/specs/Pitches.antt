@@ -2,7 +2,7 @@
 -- letter and octave up to the bar).
 use Rattle.std.specs.Prelude.{◌≡◌, ℕ, ◌==◌, ◌&&◌, if◌then◌else◌, is_some, Bool, false, List, []}
 use Rattle.std.specs.Prelude.{◌∷◌, ◌++◌, Option, Some, None, unwrap_or, ℤ, pos, negsuc, ◌+ℤ◌, ◌*ℤ◌}
-use Rattle.std.specs.Prelude.{⊤, ◌⊎◌}
+use Rattle.std.specs.Prelude.{filter, ⊤, ◌⊎◌}
 use Rattle.abc_keys.specs.declared.letters.Letter.{Letter}
 use Rattle.abc_keys.specs.declared.letters.Letter.TheVariants.{C, D, E, F, G, A, B}
 use Rattle.abc_keys.specs.declared.letters.Accidental.{Accidental}
@@ -88,6 +88,10 @@ sounded_notes first past (note n ∷ events) =
     sounded n (accidental_of_note first past n) ∷ sounded_notes first (note n ∷ past) events
 sounded_notes first past (bar ∷ events) = sounded_notes first (bar ∷ past) events
 sounded_notes first past (change s ∷ events) = sounded_notes first (change s ∷ past) events
+
+-- those of the notes that count
+abbrev pub counting : List SoundedNote → List SoundedNote
+counting notes = filter (λ note. note.counts) notes
 
 -- THE RULE OF ACCIDENTALS IN A READER'S WORDS
 -- no bar, and no note that bears an accidental at this note's letter and octave

@@ -3,7 +3,7 @@ ghost use Rattle.std.specs.Prelude.{◌≡◌, ◌+◌, ◌^◌, ◌<◌, ℕ, �
 ghost use Rattle.std.specs.Prelude.{slice_index_or, length, IsTrue, if◌then◌else◌};
 ghost use Rattle.abc_keys.specs.declared.letters.Letter.{Letter as AnyLetter};
 ghost use Rattle.abc_keys.specs.ScaleTable.{letter_number};
-ghost use Rattle.abc_notes.specs.Events.{Event as AnyEvent, note, change};
+ghost use Rattle.abc_notes.specs.Events.{Event as AnyEvent, note, bar, change};
 ghost use Rattle.abc_notes.specs.Inside.EventView.{written_note};
 ghost use Rattle.abc_notes.specs.Inside.BarTables.{IsNear, IsBarAfter, held_in, index_of};
 ghost use Rattle.abc_notes.specs.Pitches.{same_note};
@@ -19,15 +19,16 @@ const OCTAVES: i32 = 16;
 
 const ENTRIES: usize = 112;
 
-// What is kept of a bar so far: the signature where it began and the one in force now, how many
-// events came since, the accidentals that its notes bore, and whether one of them was borne outside
-// the sixteen octaves.
+// What is kept of a bar so far: the signature where its reader stands and the one in force now, how
+// many events came since, those of a few short bars before it among them, the accidentals that its
+// notes bore, and whether one of them was borne within the sixteen octaves, and outside them.
 #[derive(Clone, Copy)]
 pub(crate) struct Bar {
     pub start: Signature,
     pub signature: Signature,
     pub since: usize,
     pub entries: [Option<Accidental>; ENTRIES],
+    pub has_near: bool,
     pub has_far: bool,
 }
 
@@ -42,6 +43,7 @@ impl Bar {
             signature,
             since: 0,
             entries: [None; ENTRIES],
+            has_near: false,
             has_far: false,
         }
     }
@@ -54,7 +56,25 @@ impl Bar {
         self.start = self.signature;
         self.since = 0;
         self.entries = [None; ENTRIES];
+        self.has_near = false;
         self.has_far = false;
+    }
+
+    // Takes a bar line: the accidentals before it hold no more. The table is cleared only where a
+    // note set an entry.
+    pub fn take_bar(&mut self)
+        requires { self.old.since + 1 < 2 ^ 64 }
+        ensures after { (past : List AnyEvent) → IsBarAfter past self.old
+            → IsBarAfter (bar ∷ past) self.new }
+        ensures start { self.new.start ≡ self.old.start }
+    {
+        self.since += 1;
+        self.has_far = false;
+        if !self.has_near {
+            return;
+        }
+        self.entries = [None; ENTRIES];
+        self.has_near = false;
     }
 
     // Takes a change of key.
@@ -79,6 +99,7 @@ impl Bar {
         if let Some(accidental) = written.own {
             if is_near(written) {
                 set_entry(&mut self.entries, written, accidental);
+                self.has_near = true;
             } else {
                 self.has_far = true;
             }

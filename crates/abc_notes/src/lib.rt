@@ -18,4 +18,4 @@ mod tune_events;
 
 pub use abc_keys::{Accidental, Key, Letter, Mode, Scale, Sign, Signature, key_of, signature};
 pub use note_tokens::NoteToken;
-pub use notes::Notes;
+pub use notes::{CountingNotes, Notes};

@@ -3,17 +3,21 @@ ghost use Rattle.std.specs.Prelude.{◌≡◌, ◌+◌, ◌≤◌, ◌∷◌, �
 ghost use Rattle.std.specs.Prelude.{length};
 ghost use Rattle.std.specs.Iterator.{YieldsFirstBy, item_count};
 ghost use Rattle.abc_fields.specs.Limits.{longest_book};
+ghost use Rattle.abc_fields.specs.Lines.{spans_of as lines_of};
 ghost use Rattle.abc_fields.specs.Values.{uncommented};
 ghost use Rattle.abc_items.specs.Grammar.{ItemText, AreItems};
 ghost use Rattle.abc_items.specs.ItemSpans.{ItemSpan, item_spans_from, item_spans_of};
 ghost use Rattle.abc_keys.specs.Keys.{key_of_text, signature_of};
 ghost use Rattle.abc_keys.specs.declared.signatures.Signature.{Signature as AnySignature};
 ghost use Rattle.abc_notes.specs.Events.{Event as AnyEvent, WrittenNote as AnyNote};
+ghost use Rattle.abc_notes.specs.Events.{bar as bar_line};
 ghost use Rattle.abc_notes.specs.Inside.EventView.{event_of, notes_in, written_note};
 ghost use Rattle.abc_notes.specs.Music.{line_events, music_events, tune_events, tune_signature};
-ghost use Rattle.abc_notes.specs.Pitches.{SoundedNote, sounded, sounded_notes, FollowsTheRule};
-ghost use Rattle.abc_notes.specs.Inside.Kept.{past_of, notes_left, IsKept};
+ghost use Rattle.abc_notes.specs.Pitches.{SoundedNote, sounded, sounded_notes, counting};
+ghost use Rattle.abc_notes.specs.Pitches.{FollowsTheRule};
+ghost use Rattle.abc_notes.specs.Inside.Kept.{past_of, notes_left, asked_of, IsKept};
 ghost use Rattle.abc_notes.specs.NoteParts.{AreNoteParts, NotesRise};
+ghost use Rattle.abc_notes.specs.Parts.{AreGiven};
 ghost use Rattle.abc_notes.specs.Inside.BarTables.{IsBarAfter};
 ghost use Rattle.abc_notes.specs.Tokens.{token_note};
 
@@ -35,7 +39,7 @@ use std::marker::Model;
 #[derive(Drop)]
 pub struct Notes<'a> {
     events: TuneEvents<'a>,
-    // The events from where the bar began.
+    // The events from where the bar began, or a few short bars before it.
     bar_events: TuneEvents<'a>,
     bar: Bar,
 }
@@ -57,6 +61,10 @@ impl<'a> Notes<'a> {
         ensures rise { NotesRise 0 result }
         ensures accidentals { (first : AnySignature) (past : List AnyEvent) (note : AnyNote)
             → FollowsTheRule first past note }
+        // The lines after the key are heard that lie in no part, and nothing else is.
+        ensures by_lines { AreGiven [] (lines_of text.now) (tune_events text.now) }
+        ensures no_other_events { (events : List AnyEvent)
+            → AreGiven [] (lines_of text.now) events → events ≡ tune_events text.now }
     {
         let (start, events) = TuneEvents::of_tune(text);
         Notes::new(start, events)
@@ -87,34 +95,54 @@ impl<'a> Notes<'a> {
         }
     }
 
-    // Takes the first note that is left.
+    /// The notes that count alone. Of a note that does not count no pitch is read, so that a chord
+    /// costs no more than its text.
+    pub fn counting(self) -> CountingNotes<'a>
+        ensures { result ≡ counting self.entry }
+    {
+        CountingNotes { notes: self }
+    }
+
+    // Takes the first note that is left; or, where not all are asked for, the first that counts.
     #[inline(always)]
-    fn first_note(&mut self) -> Option<NoteToken<'a>>
-        ensures { YieldsFirstBy token_note (λ notes. notes) self.old result self.new }
+    fn first_note(&mut self, all: bool) -> Option<NoteToken<'a>>
+        ensures { YieldsFirstBy token_note (asked_of all) self.old result self.new }
     {
         'events: loop {
             let Some(event) = self.events.next_plain() else {
                 break;
             };
-            let note = heard(event, &mut self.bar, &mut self.bar_events, &self.events);
+            let note = heard(
+                event,
+                &mut self.bar,
+                &mut self.bar_events,
+                &self.events,
+                all,
+            );
             if note.is_some() {
                 return note;
             }
         }
-        self.searched_note()
+        self.searched_note(all)
     }
 
     // The same, where what comes next is not plain. It stands apart, so that the way of most notes
     // is short.
     #[inline(never)]
-    fn searched_note(&mut self) -> Option<NoteToken<'a>>
-        ensures { YieldsFirstBy token_note (λ notes. notes) self.old result self.new }
+    fn searched_note(&mut self, all: bool) -> Option<NoteToken<'a>>
+        ensures { YieldsFirstBy token_note (asked_of all) self.old result self.new }
     {
         'events: loop {
             let Some(event) = self.events.next() else {
                 return None;
             };
-            let note = heard(event, &mut self.bar, &mut self.bar_events, &self.events);
+            let note = heard(
+                event,
+                &mut self.bar,
+                &mut self.bar_events,
+                &self.events,
+                all,
+            );
             if note.is_some() {
                 return note;
             }
@@ -131,32 +159,67 @@ impl<'a> Iterator for Notes<'a> {
 
     #[inline(always)]
     fn next(&mut self) -> Option<NoteToken<'a>> {
-        self.first_note()
+        self.first_note(true)
     }
 }
 
-// Takes an event into what is kept of its bar, and gives the note that it is, if it is one.
-// `events` are those after it.
+/// The notes of a tune or of a music line that count, in order (this archive's profile: of a chord
+/// the first note counts). A clause sees the list of those that are left.
+#[derive(Drop)]
+pub struct CountingNotes<'a> {
+    notes: Notes<'a>,
+}
+
+impl<'a> Model for CountingNotes<'a> {
+    ghost use Rattle.std.specs.Prelude.{List};
+    ghost use Rattle.abc_notes.specs.Pitches.{SoundedNote, counting};
+
+    ghost Value = { List SoundedNote };
+
+    ghost view = { λ reader. counting reader.notes };
+}
+
+impl<'a> Iterator for CountingNotes<'a> {
+    type Item = NoteToken<'a>;
+
+    ghost next_gives = { YieldsFirstBy token_note (λ notes. notes) };
+
+    ghost remaining = { item_count (λ notes. notes) };
+
+    #[inline(always)]
+    fn next(&mut self) -> Option<NoteToken<'a>> {
+        self.notes.first_note(false)
+    }
+}
+
+// Takes an event into what is kept of its bar, and gives the note that it is, if it is one that is
+// asked for: any, or one that counts. `events` are those after it.
 #[inline(always)]
 fn heard<'a>(
     event: Event<'a>,
     bar: &mut Bar,
     bar_events: &mut TuneEvents<'a>,
     events: &TuneEvents<'a>,
+    all: bool,
 ) -> Option<NoteToken<'a>>
     requires { IsKept bar.old bar_events.old (event_of event ∷ events.now) }
     ensures kept { IsKept bar.new bar_events.new events.now }
-    ensures notes { notes_left bar.old bar_events.old (event_of event.entry ∷ events.now)
-        ≡ notes_in result ++ notes_left bar.new bar_events.new events.now }
+    ensures notes { asked_of all (notes_left bar.old bar_events.old
+        (event_of event.entry ∷ events.now))
+        ≡ notes_in result ++ asked_of all (notes_left bar.new bar_events.new events.now) }
 {
     match event {
         Event::Note(note) => {
-            let accidental = accidental_in_force(bar, bar_events, note);
+            if all || note.counts {
+                let accidental = accidental_in_force(bar, bar_events, note);
+                bar.take_note(note);
+                return Some(token(note, accidental));
+            }
             bar.take_note(note);
-            Some(token(note, accidental))
+            None
         }
         Event::Bar => {
-            begin_bar(bar, bar_events, events);
+            end_bar(bar, bar_events, events);
             None
         }
         Event::Change(text) => {
@@ -164,6 +227,24 @@ fn heard<'a>(
             None
         }
     }
+}
+
+// How many events a bar has to have, those of shorter bars before it among them, for the next one
+// to be read from a reader of its own: to copy a reader costs more than a bar line.
+const LONG_BAR: usize = 16;
+
+// Takes a bar line, after which these are the events.
+fn end_bar<'a>(bar: &mut Bar, bar_events: &mut TuneEvents<'a>, events: &TuneEvents<'a>)
+    requires { IsKept bar.old bar_events.old (bar_line ∷ events.now) }
+    ensures kept { IsKept bar.new bar_events.new events.now }
+    ensures notes { notes_left bar.old bar_events.old (bar_line ∷ events.now)
+        ≡ notes_left bar.new bar_events.new events.now }
+{
+    if bar.since < LONG_BAR {
+        bar.take_bar();
+        return;
+    }
+    begin_bar(bar, bar_events, events);
 }
 
 // Begins a bar, of which these are the events.

@@ -1,9 +1,10 @@
 -- The steps so far, and the notes that are left, are together the incipit.
-use Rattle.std.proofs.Common.{◌≡◌, ℕ, zero, suc, ◌+◌, ◌-◌, ◌<◌, ◌≤◌, List, [], ◌∷◌, ◌++◌, length, take, refl, ap, sym, ◌∙◌, arith, true, false, Option, Some}
+use Rattle.std.proofs.Common.{◌≡◌, ℕ, zero, suc, ◌+◌, ◌-◌, ◌<◌, ◌≤◌, List, [], ◌∷◌, ◌++◌, length, take, refl, ap, sym, ◌∙◌, arith, true, Option, Some, inl, inr}
 use Rattle.std.proofs.Common.{None, ℤ, ◌-ℤ◌, append_assoc, length-append, map, filter}
-use Rattle.std.specs.Prelude.{cond}
+use Rattle.std.specs.Prelude.{cond, Bool, false}
 use Rattle.std.proofs.lemmas.List.{append-nil}
-use Rattle.abc_notes.specs.Pitches.{SoundedNote}
+use Rattle.std.proofs.lemmas.Bool.{cases_Bool}
+use Rattle.abc_notes.specs.Pitches.{SoundedNote, counting}
 use Rattle.tune_incipit.specs.Incipits.{counting_pitches, differences, incipit_of}
 use Rattle.tune_incipit.specs.Inside.NextSteps.{steps_and}
 
@@ -35,18 +36,42 @@ pub length-steps_and : (last : Option ℤ) (steps : List ℤ) (pitch : ℤ) → 
 length-steps_and None steps pitch = refl
 length-steps_and (Some last) steps pitch = length-append steps ((pitch -ℤ last) ∷ [])
 
+-- NOTES THAT COUNT
+-- each of these notes counts
+abbrev pub AllCount : List SoundedNote → Type 0
+AllCount [] = Unit {0}
+AllCount (n ∷ notes) = (n.counts ≡ true) × AllCount notes
+
+pub counting_count : (notes : List SoundedNote) → AllCount (counting notes)
+counting_count [] = tt
+counting_count (n ∷ notes) = elim (cases_Bool n.counts) [
+  | inl counts ↦ rw counts (refl, counting_count notes)
+  | inr silent ↦ rw silent (counting_count notes)
+]
+
+-- those that count alone have the same pitches
+again_by : (n : SoundedNote) (notes : List SoundedNote) (counts : Bool) → n.counts ≡ counts
+    → counting_pitches (counting notes) ≡ counting_pitches notes → counting_pitches (counting (n ∷ notes)) ≡ counting_pitches (n ∷ notes)
+again_by n notes true is e =
+    ap counting_pitches (λ i. cond (is i) (n ∷ counting notes) (counting notes))
+    ∙ counting_yes n (counting notes) is ∙ ap (λ pitches. n.pitch ∷ pitches) e ∙ sym (counting_yes n notes is)
+again_by n notes false is e = ap counting_pitches (λ i. cond (is i) (n ∷ counting notes) (counting notes)) ∙ e ∙ sym (counting_no n notes is)
+
+pub counting_again : (notes : List SoundedNote) → counting_pitches (counting notes) ≡ counting_pitches notes
+counting_again [] = refl
+counting_again (n ∷ notes) = again_by n notes n.counts refl (counting_again notes)
+
+-- and the same incipit
+pub incipit-counting : (count : ℕ) (notes : List SoundedNote) → incipit_of count (counting notes) ≡ incipit_of count notes
+unfolding incipit_of
+incipit-counting count notes = ap (λ pitches. differences (take count pitches)) (counting_again notes)
+
 -- at the beginning all is left
 pub all_steps-start : (count : ℕ) (steps : List ℤ) (notes : List SoundedNote) → steps ≡ [] → all_steps count None steps notes ≡ incipit_of count notes
 unfolding all_steps steps_on incipit_of
 all_steps-start count steps notes e =
     let k : count - 0 ≡ count = omega arith in
     (λ i. e i ++ differences (take (count - length (e i)) (counting_pitches notes))) ∙ ap (λ n. differences (take n (counting_pitches notes))) k
-
--- a note that does not count changes nothing
-pub all_steps-skip : (count : ℕ) (last : Option ℤ) (steps : List ℤ) (n : SoundedNote) (rest : List SoundedNote) → n.counts ≡ false
-    → all_steps count last steps (n ∷ rest) ≡ all_steps count last steps rest
-unfolding all_steps
-all_steps-skip count last steps n rest e = ap (λ p. steps ++ steps_on last (take (count - notes_so_far last steps) p)) (counting_no n rest e)
 
 -- one that counts adds its step
 pub all_steps-more : (count : ℕ) (last : Option ℤ) (steps : List ℤ) (n : SoundedNote) (rest : List SoundedNote) → n.counts ≡ true

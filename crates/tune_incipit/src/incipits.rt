@@ -41,13 +41,11 @@ fn first_steps(notes: Notes, count: usize) -> Steps
 {
     let mut steps = Steps::new();
     let mut last: Option<NoteToken> = None;
-    for token in notes {
-        if token.counts {
-            steps = with_note(steps, last, token);
-            last = Some(token);
-            if steps.len() + 1 == count {
-                return steps;
-            }
+    for token in notes.counting() {
+        steps = with_note(steps, last, token);
+        last = Some(token);
+        if steps.len() + 1 == count {
+            return steps;
         }
     }
     steps

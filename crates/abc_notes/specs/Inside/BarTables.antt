@@ -29,5 +29,7 @@ pub record IsBarAfter (past : List Event) (b : Bar) : Type 0 where
   pub count : b.since ≡ length past
   pub current : b.signature ≡ in_force b.start past
   pub near : Holds b.entries past
+  pub clear : b.has_near ≡ false → (letter : Letter) (octave : ℤ) → IsNear octave
+      → held_in b.entries letter octave ≡ None
   pub far : b.has_far ≡ false → (letter : Letter) (octave : ℤ) → (IsNear octave → ⊥)
       → borne past letter octave ≡ None

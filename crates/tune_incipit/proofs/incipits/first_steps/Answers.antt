@@ -1,55 +1,51 @@
-use Rattle.std.proofs.Common.{◌≡◌, ◌+◌, ◌<◌, length, Option, Some, option_map, ap, sym, ◌∙◌, arith, ℤ, List}
+use Rattle.std.proofs.Common.{◌≡◌, ◌+◌, ◌<◌, length, Option, Some, option_map, ap, sym, ◌∙◌, arith, ℤ, List, subst}
 use Rattle.abc_notes.specs.Tokens.{token_note}
 use Rattle.abc_notes.specs.Pitches.{SoundedNote}
 use Rattle.tune_incipit.specs.Incipits.{incipit_of}
-use Rattle.tune_incipit.proofs.Growing.{all_steps, notes_so_far, notes_so_far-le, length-steps_and, all_steps-start, all_steps-skip, all_steps-more}
+use Rattle.tune_incipit.proofs.Growing.{all_steps, notes_so_far, notes_so_far-le, length-steps_and, all_steps-start, all_steps-more}
+use Rattle.tune_incipit.proofs.Growing.{AllCount, counting_count, incipit-counting}
 use Rattle.tune_incipit.proofs.Growing.{all_steps-full, all_steps-none}
 use Rattle.tune_incipit.proofs.incipits.first_steps.Goals as goal
 
 pub loop-token-init : goal.loop-token-init
 loop-token-init c =
-    let none : length c.new-steps.result ≡ 0 = ap length c.new-steps.ensures in (
+    let none : length c.new-steps.result ≡ 0 = ap length c.new-steps.ensures in
+    let left = c.into_iter-token-iterator.ensures.into_iter_gives ∙ c.counting-token-items.ensures in (
       tt,
       tt,
       omega arith,
       all_steps-start c.args.count c.new-steps.result c.into_iter-token-iterator.result c.new-steps.ensures
-          ∙ ap (incipit_of c.args.count) c.into_iter-token-iterator.ensures.into_iter_gives,
+          ∙ ap (incipit_of c.args.count) left ∙ incipit-counting c.args.count c.args.notes,
+      subst AllCount (sym left) (counting_count c.args.notes),
     )
 
 pub returns-then-len-count : goal.returns-then-len-count
 returns-then-len-count c =
     let last : Option ℤ = option_map (λ note. note.pitch) c.loop-token.last in
     let left : List SoundedNote = c.next.new.self in
+    let counts = subst AllCount c.in-Some.ensures.steps c.loop-token.invariant.4 in
     let room : notes_so_far last c.loop-token.steps < c.args.count = omega (arith, notes_so_far-le last c.loop-token.steps, c.loop-token.invariant.2) in
     let enough : length c.with_note-steps.result + 1 ≡ c.args.count = omega arith in
-    let more = all_steps-more c.args.count last c.loop-token.steps (token_note c.in-Some.token) left c.if-token.true room in
+    let more = all_steps-more c.args.count last c.loop-token.steps (token_note c.in-Some.token) left counts.0 room in
     sym (all_steps-full c.args.count c.in-Some.token.pitch c.with_note-steps.result left enough)
     ∙ ap (λ s. all_steps c.args.count (Some c.in-Some.token.pitch) s left) c.with_note-steps.ensures
     ∙ sym more ∙ ap (all_steps c.args.count last c.loop-token.steps) (sym c.in-Some.ensures.steps) ∙ c.loop-token.invariant.3
 
-pub loop-token-preserved-else-len-count : goal.loop-token-preserved-else-len-count
-loop-token-preserved-else-len-count c =
+pub loop-token-preserved : goal.loop-token-preserved
+loop-token-preserved c =
     let last : Option ℤ = option_map (λ note. note.pitch) c.loop-token.last in
     let left : List SoundedNote = c.next.new.self in
+    let counts = subst AllCount c.in-Some.ensures.steps c.loop-token.invariant.4 in
     let room : notes_so_far last c.loop-token.steps < c.args.count = omega (arith, notes_so_far-le last c.loop-token.steps, c.loop-token.invariant.2) in
     let long : length c.with_note-steps.result ≡ notes_so_far last c.loop-token.steps =
     ap length c.with_note-steps.ensures ∙ length-steps_and last c.loop-token.steps c.in-Some.token.pitch in
-    let more = all_steps-more c.args.count last c.loop-token.steps (token_note c.in-Some.token) left c.if-token.true room in (
+    let more = all_steps-more c.args.count last c.loop-token.steps (token_note c.in-Some.token) left counts.0 room in (
       tt,
       tt,
       omega arith,
       ap (λ s. all_steps c.args.count (Some c.in-Some.token.pitch) s left) c.with_note-steps.ensures
           ∙ sym more ∙ ap (all_steps c.args.count last c.loop-token.steps) (sym c.in-Some.ensures.steps) ∙ c.loop-token.invariant.3,
-    )
-
-pub loop-token-preserved : goal.loop-token-preserved
-loop-token-preserved c =
-    let last : Option ℤ = option_map (λ note. note.pitch) c.loop-token.last in (
-      tt,
-      tt,
-      c.loop-token.invariant.2,
-      sym (all_steps-skip c.args.count last c.loop-token.steps (token_note c.in-Some.token) c.next.new.self c.if-token.false)
-          ∙ ap (all_steps c.args.count last c.loop-token.steps) (sym c.in-Some.ensures.steps) ∙ c.loop-token.invariant.3,
+      counts.1,
     )
 
 pub returns : goal.returns

@@ -10,5 +10,6 @@ returns-clause-after c = record {
   count = refl;
   current = refl;
   near = λ l o near. none_anywhere None 112 (index_of l o) ∙ sym (borne_nothing l o);
+  clear = λ none l o near. none_anywhere None 112 (index_of l o);
   far = λ none l o far. borne_nothing l o;
 }

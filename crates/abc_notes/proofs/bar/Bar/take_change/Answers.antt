@@ -9,5 +9,6 @@ returns-clause-after c = λ past kept. record {
   count = omega (arith, kept.count);
   current = refl;
   near = λ l o near. kept.near l o near ∙ borne_change c.args.signature past l o;
+  clear = kept.clear;
   far = λ none l o far. sym (borne_change c.args.signature past l o) ∙ kept.far none l o far;
 }

@@ -16,6 +16,7 @@ returns-then-is_near-clause-after c =
       near =
           holds_set (written_note c.args.written) c.in-Some.accidental past c.args.self.now.entries c.set_entry.new.entries c.in-Some.is c.set_entry.ensures
           kept.near;
+      clear = λ none l o near. absurd (true≢false none);
       far = λ none l o far. sym (borne_near (written_note c.args.written) past l o near far) ∙ kept.far none l o far;
     }
 
@@ -27,6 +28,7 @@ returns-else-is_near-clause-after c =
       count = omega (arith, kept.count);
       current = kept.current;
       near = λ l o near. kept.near l o near ∙ borne_far (written_note c.args.written) past l o far near;
+      clear = kept.clear;
       far = λ none l o apart. absurd (true≢false none);
     }
 
@@ -36,5 +38,6 @@ returns-in_default-clause-after c = λ past kept. record {
   count = omega (arith, kept.count);
   current = kept.current;
   near = λ l o near. kept.near l o near ∙ borne_none (written_note c.args.written) past l o c.in_default.is;
+  clear = kept.clear;
   far = λ none l o far. sym (borne_none (written_note c.args.written) past l o c.in_default.is) ∙ kept.far none l o far;
 }
