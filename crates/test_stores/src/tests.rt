@@ -63,6 +63,19 @@ fn carries_out_changes(rt: HostRuntime) -> Result<(), Fail> {
     Ok(())
 }
 
+// Each command of a script that is accepted leaves an entry: what a stop just after it leaves.
+#[test]
+fn records_a_script(rt: HostRuntime) -> Result<(), Fail> {
+    let mut store = RecordedStore::new(rt.alloc())?;
+    let mut script = b"import 16\nX:1\nK:C\nX:2\nK:D\ndelete 1\nshow 1\nexport\n".as_slice();
+    let mut replies = Vec::new(rt.alloc());
+    let end = run(rt.alloc(), &mut script, &mut replies, &mut store);
+    assert_eq!(&rt; end, RunEnd::Ended);
+    assert_eq!(&rt; status(end), 0);
+    assert_eq!(&rt; store.entries(), [0, 2, 1, 1].as_slice());
+    Ok(())
+}
+
 const SCRIPT: &[u8] = b"import 8\nX:1\nK:C\nshow 1\nshow 2\nshow 1\nshow 1\n";
 
 // The script has four commands that are accepted, and each makes two calls of the disk.
