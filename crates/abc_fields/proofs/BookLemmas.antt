@@ -1,10 +1,10 @@
 -- The texts of a book's tunes are tune texts, and its answer is that of its tunes.
-use Rattle.std.proofs.Common.{◌≡◌, ℕ, ◌+◌, ◌≤◌, Bool, true, false, cond, not, ltb, ◌||◌, ◌&&◌, List, [], ◌∷◌, ◌++◌, length, map, drop, Ok, Err}
+use Rattle.std.proofs.Common.{◌≡◌, ℕ, ◌+◌, ◌≤◌, Bool, true, false, cond, not, ltb, ◌||◌, List, [], ◌∷◌, ◌++◌, length, map, drop, Ok, Err}
 use Rattle.std.proofs.Common.{refl, ap, sym, ◌∙◌, subst, arith, ◌⊎◌, inl, inr}
 use Rattle.std.specs.Prelude.{IfOk}
 use Rattle.std.specs.List.{AllByRecursion, list_all}
 use Rattle.std.proofs.lemmas.List.{append_assoc, append-nil, length-append, length-map, length-drop}
-use Rattle.std.proofs.lemmas.Bool.{le-ltb, lt-ltb, ltb-false, cond_both, and_parts, not-true, or_from}
+use Rattle.std.proofs.lemmas.Bool.{le-ltb, ltb-false, cond_both, and_parts, not-true, or_from}
 use Rattle.abc_fields.specs.Bytes.{byte_order_mark, begins_with}
 use Rattle.abc_fields.specs.Lines.{Piece, Span, pieces_of, lines_of, spans_of, text_of, has_no_ending, ArePieces, IsEnding, IsUnended}
 use Rattle.abc_fields.specs.LineKinds.{is_field_line, is_continuation, is_comment}
@@ -16,9 +16,9 @@ use Rattle.abc_fields.specs.FileHeaders.{with_header}
 use Rattle.abc_fields.specs.Books.{Texts, before_texts, tune_answer, runs_answer, book_answer, book_of_runs, whole_runs, book_runs, without_mark}
 use Rattle.abc_fields.specs.Inside.LinesLeft.{contents_of, IsRestAfter}
 use Rattle.abc_fields.specs.Inside.HeaderRows.{Row, header_rows, with_rows, runs_with, texts_with}
-use Rattle.abc_fields.specs.Limits.{longest_book, longest_tune}
+use Rattle.abc_fields.specs.Limits.{longest_book}
 use Rattle.abc_fields.specs.declared.book.BookFault.{BookFault}
-use Rattle.abc_fields.specs.declared.book.BookFault.TheVariants.{BookTooLong, BadTune, NoTune, OutOfMemory}
+use Rattle.abc_fields.specs.declared.book.BookFault.TheVariants.{BookTooLong, BadTune, NoTune}
 use Rattle.abc_fields.specs.declared.book.TuneFault.TheVariants.{NoKey, TooLong}
 use Rattle.abc_fields.specs.declared.carry_rules.CarryRule.{CarryRule}
 use Rattle.abc_fields.specs.declared.carry_rules.CarryRule.TheVariants.{Never}
@@ -63,7 +63,7 @@ pieces_length [] are = omega arith
 pieces_length (p ∷ ps) are = piece_step p ps are.0.ending (pieces_length ps are.1)
 
 -- as lines that each end in a line feed, a text has at most one byte more
-lines_length : (text : List ℕ) → length (joined (lines_of text)) ≤ length text + 1
+pub lines_length : (text : List ℕ) → length (joined (lines_of text)) ≤ length text + 1
 lines_length text =
     let divided = pieces_divide text in
     omega (arith, pieces_length (pieces_of text) divided.pieces, ap length divided.whole)

@@ -1,12 +1,11 @@
 -- The lines that a tune carries of the rows of a file header are those that it carries of the header.
-use Rattle.std.proofs.Common.{◌≡◌, ℕ, ◌<◌, Bool, true, false, not, cond, List, [], ◌∷◌, ◌++◌, map, refl, ap, sym, ◌∙◌, append_assoc, append-nil}
-use Rattle.std.specs.List.{list_all, AllByRecursion}
-use Rattle.std.proofs.lemmas.Bool.{cond_both}
+use Rattle.std.proofs.Common.{◌≡◌, ℕ, Bool, true, false, not, cond, List, [], ◌∷◌, ◌++◌, map, refl, ap, sym, ◌∙◌, append_assoc, append-nil}
+use Rattle.std.specs.List.{list_all}
 use Rattle.abc_fields.specs.Fields.{header_of}
-use Rattle.abc_fields.specs.Tunes.{joined, tune_runs}
+use Rattle.abc_fields.specs.Tunes.{tune_runs}
 use Rattle.abc_fields.specs.Books.{whole_runs}
 use Rattle.abc_fields.specs.FileHeaders.{first_block, file_header, is_header_line, rule_of, rule_below, carries, carried, has_letter, before_key, with_header}
-use Rattle.abc_fields.specs.Inside.HeaderRows.{Row, rows_with, rows_after, header_rows, taken, with_rows, runs_with, in_table, IsTableOf, IsByteRule}
+use Rattle.abc_fields.specs.Inside.HeaderRows.{Row, rows_with, rows_after, header_rows, taken, runs_with, in_table, IsTableOf, IsByteRule}
 use Rattle.abc_fields.specs.Inside.HeaderRows.{AreByteRows}
 use Rattle.abc_fields.specs.declared.carry_rules.CarryRule.{CarryRule}
 use Rattle.abc_fields.specs.declared.carry_rules.CarryRule.TheVariants.{Never, Always, Unless}

@@ -1,13 +1,12 @@
 -- What a line does to the tune that it stands in.
-use Rattle.std.proofs.Common.{◌≡◌, ℕ, ◌+◌, ◌≤◌, ◌<◌, Bool, true, false, cond, not, ◌||◌, List, [], ◌∷◌, ◌++◌, length, codes}
+use Rattle.std.proofs.Common.{◌≡◌, ℕ, ◌+◌, Bool, true, false, ◌||◌, List, [], ◌∷◌, ◌++◌, length}
 use Rattle.std.proofs.Common.{refl, ap, sym, ◌∙◌, subst, arith}
-use Rattle.std.specs.List.{AllByRecursion}
 use Rattle.std.proofs.lemmas.List.{append_assoc, length-append}
 use Rattle.std.proofs.lemmas.Bool.{cond_both, or_parts}
-use Rattle.abc_fields.specs.Bytes.{line_feed, begins_with}
+use Rattle.abc_fields.specs.Bytes.{line_feed}
 use Rattle.abc_fields.specs.Tunes.{is_key_line, is_tune_start, is_empty_line, ends_tune, tune_run, tune_runs, joined, has_key}
 use Rattle.abc_fields.specs.Fields.{header_of}
-use Rattle.abc_fields.specs.FileHeaders.{before_key, has_letter}
+use Rattle.abc_fields.specs.FileHeaders.{before_key}
 use Rattle.abc_fields.specs.Inside.LinesLeft.{IsRestAfter, still}
 use Rattle.abc_fields.proofs.RuleSums.{joined-append, joined-length}
 

@@ -1,5 +1,5 @@
 -- Books worked out by hand, computed by the definitions.
-use Rattle.std.proofs.Common.{◌≡◌, ◌++◌, List, [], ◌∷◌, refl}
+use Rattle.std.proofs.Common.{◌≡◌, ◌++◌, [], ◌∷◌, refl}
 use Rattle.std.specs.Prelude.{codes}
 use Rattle.abc_fields.specs.Bytes.{byte_order_mark}
 use Rattle.abc_fields.specs.Books.{tune_texts}

@@ -1,8 +1,9 @@
 // Bytes that a value owns, and the texts of tunes among them.
-ghost use Rattle.std.specs.Prelude.{◌≡◌, ◌≤◌, ℕ, List, length, IfOk};
+ghost use Rattle.std.specs.Prelude.{◌≡◌, ◌≤◌, ℕ, List, length, IfOk, IfErr};
 ghost use Rattle.abc_fields.specs.Tunes.{IsTuneText, IsTextWithin};
 ghost use Rattle.abc_fields.specs.Limits.{longest_tune};
 
+use crate::stored::is_tune_text;
 use std::alloc::{AllocError, Global};
 use std::marker::Model;
 
@@ -64,6 +65,22 @@ impl TuneText {
         ensures { result ≡ text.items }
     {
         TuneText { text }
+    }
+
+    /// The bytes as a tune text, where they are one of at most `longest` bytes, which is at most
+    /// 64,000; else the bytes are handed back. It takes no memory.
+    pub fn from_stored(bytes: ByteText, longest: usize) -> Result<TuneText, ByteText>
+        requires { longest ≤ longest_tune }
+        ensures text { IfOk result (λ text. text ≡ bytes) }
+        ensures good { IfOk result (λ _. IsTextWithin longest bytes) }
+        ensures back { IfErr result (λ back. back ≡ bytes) }
+        ensures bad { IfErr result (λ _. ¬ IsTextWithin longest bytes) }
+    {
+        if bytes.as_slice().len() > longest || !is_tune_text(bytes.as_slice()) {
+            return Err(bytes);
+        }
+        let ByteText { bytes } = bytes;
+        Ok(TuneText::from_vec(bytes))
     }
 
     /// The bytes of the text.

@@ -1,7 +1,8 @@
 -- The lines that a reader of lines has left.
 use Rattle.std.specs.Prelude.{◌≡◌, ◌≤◌, ℕ, List, length, map, Bool, true, false}
+use Rattle.std.specs.List.{AllByRecursion}
 use Rattle.abc_fields.specs.Lines.{Span}
-use Rattle.abc_fields.specs.Tunes.{tune_runs, joined}
+use Rattle.abc_fields.specs.Tunes.{tune_runs, joined, has_key, IsTuneLine}
 use Rattle.abc_fields.specs.FileHeaders.{before_key}
 
 -- the bytes of each of these lines
@@ -19,3 +20,8 @@ pub record IsRestAfter (old new : List (List ℕ)) : Type 0 where
   pub runs : tune_runs new ≡ tune_runs old
   pub fewer : length new ≤ length old
   pub shorter : length (joined new) ≤ length (joined old)
+
+-- the lines of a tune
+pub record AreTuneLines (lines : List (List ℕ)) : Type 0 where
+  pub each : AllByRecursion IsTuneLine lines
+  pub key : has_key lines ≡ true

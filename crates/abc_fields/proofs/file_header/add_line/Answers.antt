@@ -1,4 +1,4 @@
-use Rattle.std.proofs.Common.{◌≡◌, rules, arith, ap, sym, ◌∙◌}
+use Rattle.std.proofs.Common.{◌≡◌, arith, ap, sym, ◌∙◌}
 use Rattle.std.proofs.lemmas.Bool.{true≢false}
 use Rattle.abc_fields.specs.declared.carry_rules.CarryRule.TheVariants.{Never}
 use Rattle.abc_fields.specs.Inside.HeaderRows.{row_list}

@@ -1,13 +1,8 @@
-use Rattle.std.proofs.Common.{◌≡◌, ◌≤◌, ap, sym, ◌∙◌, inr, Ok, arith, length, map, subst, List, ℕ}
-use Rattle.std.specs.List.{AllByRecursion}
-use Rattle.std.proofs.lemmas.List.{length-map}
+use Rattle.std.proofs.Common.{ap, sym, ◌∙◌, inr, arith}
 use Rattle.std.proofs.lemmas.Result.{err_from_is_err_and}
-use Rattle.abc_fields.specs.Limits.{longest_book, longest_tune}
-use Rattle.abc_fields.specs.Lines.{Span, spans_of}
-use Rattle.abc_fields.specs.Tunes.{joined, tune_runs, IsTextWithin}
-use Rattle.abc_fields.specs.Books.{book_answer, book_runs, without_mark, runs_answer}
-use Rattle.abc_fields.specs.Inside.LinesLeft.{contents_of}
-use Rattle.abc_fields.specs.Inside.HeaderRows.{runs_with, texts_with}
+use Rattle.abc_fields.specs.Limits.{longest_tune}
+use Rattle.abc_fields.specs.Lines.{spans_of}
+use Rattle.abc_fields.specs.Books.{book_runs, runs_answer}
 use Rattle.abc_fields.proofs.BookLemmas.{book_room, book_by_rows, book_read, runs_err, good_book, within_more}
 use Rattle.abc_fields.proofs.judged_book.judge_book.Goals as goal
 

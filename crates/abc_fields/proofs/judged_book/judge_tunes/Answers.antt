@@ -1,4 +1,4 @@
-use Rattle.std.proofs.Common.{◌≡◌, ◌∷◌, ap, sym, ◌∙◌, true, false, arith, rules, length}
+use Rattle.std.proofs.Common.{◌≡◌, ◌∷◌, ap, true, arith, rules, length}
 use Rattle.abc_fields.specs.Tunes.{is_tune_start, joined}
 use Rattle.abc_fields.specs.Inside.LinesLeft.{contents_of}
 use Rattle.abc_fields.proofs.BookLemmas.{judged_more, judged_end}

@@ -1,4 +1,4 @@
-use Rattle.std.proofs.Common.{◌≡◌, ◌+◌, ◌<◌, ◌≤◌, ap, sym, ◌∙◌, true, false, arith, rules, length, refl}
+use Rattle.std.proofs.Common.{◌≡◌, ◌<◌, true, false, arith, rules, length, refl}
 use Rattle.std.proofs.lemmas.Bool.{lt-ltb}
 use Rattle.abc_fields.specs.Tunes.{joined, tune_run, has_key}
 use Rattle.abc_fields.specs.Fields.{header_of}

@@ -1,6 +1,5 @@
-use Rattle.std.proofs.Common.{◌≡◌, ap, sym, ◌∙◌}
-use Rattle.abc_fields.specs.Limits.{longest_tune}
-use Rattle.abc_fields.specs.Tunes.{joined, tune_run, IsTextWithin}
+use Rattle.std.proofs.Common.{◌≡◌, sym, ◌∙◌}
+use Rattle.abc_fields.specs.Tunes.{joined, tune_run}
 use Rattle.abc_fields.specs.Fields.{header_of}
 use Rattle.abc_fields.specs.FileHeaders.{has_letter}
 use Rattle.abc_fields.specs.Inside.LinesLeft.{contents_of}

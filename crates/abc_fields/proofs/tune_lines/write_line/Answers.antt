@@ -1,7 +1,6 @@
 use Rattle.std.proofs.Common.{◌≡◌, ◌∙◌, [], ◌∷◌, ◌++◌, ap, sym, true, false, rules}
-use Rattle.std.proofs.lemmas.Bool.{true≢false}
 use Rattle.abc_fields.specs.Bytes.{line_feed}
-use Rattle.abc_fields.specs.Tunes.{is_key_line, joined}
+use Rattle.abc_fields.specs.Tunes.{is_key_line}
 use Rattle.abc_fields.proofs.TuneLemmas.{key_comes, line_comes}
 use Rattle.abc_fields.proofs.tune_lines.write_line.Goals as goal
 use Rattle.abc_fields.proofs.tune_lines.write_line.Goals.{else-not-has_key-via-then-not-has_key+else-is_key_line, else-not-has_key-via-else-not-has_key}
