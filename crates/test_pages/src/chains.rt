@@ -31,6 +31,27 @@ pub(crate) fn a_chain_of_5000_bytes_takes_two_pages<R: AllocGlobal + Abort, D: T
     Ok(())
 }
 
+// The numbers of pages are those of the format: 4,090 bytes a page.
+pub(crate) fn a_chain_takes_as_many_pages_as_its_bytes_want<R: AllocGlobal + Abort, D: TestDisk>(
+    rt: &R,
+) -> Result<(), Fail> {
+    for (len, next) in [
+        (0, 1),
+        (1, 2),
+        (4_090, 2),
+        (4_091, 3),
+        (8_180, 3),
+        (8_181, 4),
+    ] {
+        let mut pages = made_new::<D>(rt.alloc(), 5)?;
+        let first = if len == 0 { 0 } else { 1 };
+        put_chains(rt, &mut pages, &[(len, first), (1, next)])?;
+        check_chain(rt, &mut pages, first, len)?;
+        check_chain(rt, &mut pages, next, 1)?;
+    }
+    Ok(())
+}
+
 pub(crate) fn a_chain_is_refused_where_fewer_pages_are_free<R: AllocGlobal + Abort, D: TestDisk>(
     rt: &R,
 ) -> Result<(), Fail> {
@@ -47,6 +68,29 @@ pub(crate) fn a_chain_is_refused_where_fewer_pages_are_free<R: AllocGlobal + Abo
     let mut work = pages.begin()?;
     assert_eq!(rt; pages.put_chain(&mut work, &[])?, 0);
     Ok(())
+}
+
+pub(crate) fn freed_pages_are_taken_again_and_other_chains_stay<
+    R: AllocGlobal + Abort,
+    D: TestDisk,
+>(rt: &R) -> Result<(), Fail> {
+    let mut pages = made_new::<D>(rt.alloc(), 9)?;
+    put_chains(rt, &mut pages, &[(9_000, 1), (300, 4), (4_091, 5)])?;
+    free_chain(&mut pages, 1)?;
+    check_chain(rt, &mut pages, 4, 300)?;
+    // The pages 1, 2, 3, and then 7 and 8.
+    put_chains(rt, &mut pages, &[(20_000, 1)])?;
+    assert_eq!(rt;
+        &page_in(&mut pages, 3)?.bytes[..4],
+        [0, 0, 0, 7].as_slice()
+    );
+    check_chain(rt, &mut pages, 1, 20_000)?;
+    check_chain(rt, &mut pages, 4, 300)?;
+    check_chain(rt, &mut pages, 5, 4_091)?;
+    free_chain(&mut pages, 0)?;
+    free_chain(&mut pages, 5)?;
+    put_chains(rt, &mut pages, &[(1, 5), (1, 6)])?;
+    check_chain(rt, &mut pages, 1, 20_000)
 }
 
 // Page by page, and all at once.

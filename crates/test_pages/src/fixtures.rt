@@ -6,7 +6,7 @@ use crate::disks::TestDisk;
 use std::alloc::{AllocError, Global};
 use std::process::Abort;
 use std::test::Fail;
-use tune_journal::PageImage;
+use tune_journal::{OpenFault, PageImage};
 use tune_pages::{Fault, Opening, Pages, Work};
 
 /// A page of this byte alone.
@@ -56,6 +56,21 @@ pub(crate) fn done<D: TestDisk>(opening: Opening<D>, limit: u32) -> Result<Pages
     match opening.done(limit) {
         Ok(pages) => Ok(pages),
         Err(_) => Err(Fail::from("not done")),
+    }
+}
+
+/// Compares why a disk is not opened, and hands it back.
+pub(crate) fn check_refused<R: AllocGlobal + Abort, D: TestDisk>(
+    rt: &R,
+    disk: D,
+    why: OpenFault,
+) -> Result<D, Fail> {
+    match Pages::open(rt.alloc(), disk) {
+        Ok(_) => Err(Fail::from("opened")),
+        Err(refused) => {
+            assert_eq!(rt; refused.why, why);
+            Ok(refused.disk)
+        }
     }
 }
 
@@ -118,6 +133,22 @@ pub(crate) fn check_chain<R: AllocGlobal + Abort, D: TestDisk>(
         bytes.as_slice() == wanted.as_slice(),
         "the chain at {first}"
     );
+    Ok(())
+}
+
+/// Compares which pages are in use.
+pub(crate) fn check_used<R: Abort, D: TestDisk>(
+    rt: &R,
+    pages: &Pages<D>,
+    work: &Work,
+    used: &[bool],
+) -> Result<(), Fail>
+    requires { Fits pages.now work.now }
+{
+    for (page, wanted) in used.iter().enumerate() {
+        let page = u32::try_from(page)?;
+        assert_eq!(rt; pages.in_use(work, page), *wanted, "page {page}");
+    }
     Ok(())
 }
 

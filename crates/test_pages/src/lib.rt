@@ -9,8 +9,12 @@ mod claims;
 #[cfg(test)]
 mod disks;
 #[cfg(test)]
+mod faults;
+#[cfg(test)]
 mod fixtures;
 #[cfg(test)]
 mod stops;
 #[cfg(test)]
 mod tests;
+#[cfg(test)]
+mod works;

@@ -2,7 +2,7 @@
 ghost use Rattle.std.specs.Prelude.{◌<◌};
 
 use crate::disks::TestDisk;
-use crate::fixtures::{check_chain, done, made, opened, uneven};
+use crate::fixtures::{check_chain, done, made, opened, put_chains, uneven};
 use std::alloc::Global;
 use std::process::Abort;
 use std::test::Fail;
@@ -62,6 +62,17 @@ pub(crate) fn a_stop_at_each_call_of_a_finish_leaves_the_old_pages_or_the_new<
         check_left(rt, calls, lost, calls > 5)?;
         let kept = stopped::<D>(rt.alloc(), calls, StopChoice::Kept)?;
         check_left(rt, calls, kept, calls > 4)?;
+    }
+    Ok(())
+}
+
+pub(crate) fn a_finish_of_two_pages_makes_twelve_disk_calls<R: AllocGlobal + Abort, D: TestDisk>(
+    rt: &R,
+) -> Result<(), Fail> {
+    for choice in [StopChoice::Lost, StopChoice::Kept] {
+        let mut pages = made(rt.alloc(), D::empty(rt.alloc()).passing(MAKING + 12), 4)?;
+        put_chains(rt, &mut pages, &[(5_000, 1)])?;
+        check_left(rt, 12, pages.into_disk().stopped(choice)?, true)?;
     }
     Ok(())
 }
