@@ -41,13 +41,13 @@ for layer in split fields keys notes steps; do
         'BEGIN { printf "%-8s %8.2f ms  %s\n", layer, spent / 20 / 1000000, total }'
 done
 
-# Hostile tunes of 64,000 bytes of music. Each is read in the time of its length, but for the last:
+# Hostile tunes of 63,900 bytes of music. Each is read in the time of its length, but for the last:
 # there the bar is read again for notes far off.
 hostile() {
     awk -v what="$1" 'BEGIN {
         printf "X:1\nK:C\n"
-        if (what == "comma") { printf "C"; for (n = 1; n < 64000; n++) printf ","; print ""; exit }
-        for (n = length(what); n <= 64000; n += length(what)) printf "%s", what
+        if (what == "comma") { printf "C"; for (n = 1; n < 63900; n++) printf ","; print ""; exit }
+        for (n = length(what); n <= 63900; n += length(what)) printf "%s", what
         print ""
     }' > "$work/tunes.abc"
 }
@@ -58,7 +58,7 @@ for text in '{' '"' '[' '(3' '[K:' '!' '^' '[C' comma 'C,,,,,,,,,' '^C,,,,,,,,,C
     one=$nanoseconds
     passes notes 21
     awk -v text="$text" -v total="$total" -v spent=$((nanoseconds - one)) \
-        'BEGIN { printf "64,000 bytes of %-24s %8.2f ms  %s\n", text, spent / 20 / 1000000, total }'
+        'BEGIN { printf "63,900 bytes of %-24s %8.2f ms  %s\n", text, spent / 20 / 1000000, total }'
 done
 
 # Books of 249 tunes of 16,000 bytes (4 MB), by their openings: `far` is one chord of notes beyond

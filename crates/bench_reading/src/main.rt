@@ -12,7 +12,7 @@ use std::{env, io};
 
 const BUFFER: usize = 65_536;
 
-const LONGEST_TEXT: usize = 64_100;
+const LONGEST_TEXT: usize = 64_000;
 
 fn main(rt: HostRuntime) -> io::Result<()> {
     let words: Vec<String> = env::args(&rt)?.collect(rt.alloc())?;
