@@ -108,3 +108,38 @@ fn a_blank_page_is_zeros(rt: HostRuntime) -> Result<(), Fail> {
     }
     Ok(())
 }
+
+// An image that has one byte which is not zero.
+fn image_with(place: usize) -> PageImage {
+    let mut image = PageImage::blank();
+    if let Some(byte) = image.bytes.get_mut(place) {
+        *byte = 7;
+    }
+    image
+}
+
+fn has(changes: &Changes, page: u32, place: usize) -> bool {
+    match changes.get(page) {
+        Some(image) => image.bytes == image_with(place).bytes,
+        None => false,
+    }
+}
+
+#[test]
+fn keeps_images_that_end_in_zeros_and_others(rt: HostRuntime) -> Result<(), Fail> {
+    let places = [0, 255, 256, 4095];
+    for first in places {
+        for second in places {
+            let mut changes = Changes::new(rt.alloc());
+            for (page, place) in [(4, first), (2, second), (6, second)] {
+                changes.put(page, &image_with(place))?;
+            }
+            assert!(&rt; has(&changes, 2, second) && has(&changes, 4, first));
+            changes.put(4, &image_with(second))?;
+            changes.put(2, &image_with(first))?;
+            assert!(&rt; has(&changes, 2, first) && has(&changes, 4, second));
+            assert!(&rt; has(&changes, 6, second) && changes.len() == 3);
+        }
+    }
+    Ok(())
+}

@@ -4,15 +4,16 @@ use Rattle.std.proofs.Common.{subst, arith, drop-cons}
 use Rattle.std.specs.List.{All, AllByRecursion, insert}
 use Rattle.std.specs.List.Sorted.{IsStrictlyIncreasing, IsStrictlySortedBy}
 use Rattle.std.specs.Ordering.{nat_cmp}
-use Rattle.std.proofs.lemmas.List.{take-append-drop, set_split, map-append, take-map, drop-map, map-set, get_or-map, length-map}
+use Rattle.std.proofs.lemmas.List.{take-append-drop, set_split, map-append, take-map, drop-map, get_or-map, length-map}
 use Rattle.std.proofs.lemmas.List.Elements.{All-cons, All-head, All-tail}
 use Rattle.std.proofs.lemmas.Map.Keys.{sorted_head, sorted_tail, sorted_from_strictly_increasing, IsStrictlyIncreasing-from_sorted}
 use Rattle.std.proofs.lemmas.Bool.{cases_order}
 use Rattle.std.proofs.lemmas.Bool.Decides.{nat_tests}
 use Rattle.tune_journal.specs.declared.changes.ChangedPage.{ChangedPage}
+use Rattle.tune_journal.specs.declared.changes.PageImage.{PageImage}
 use Rattle.tune_journal.specs.ChangeList.{with_change, image_of, change_at, changed_page}
 use Rattle.tune_journal.specs.Inside.ChangeOrder.{IsChangeList, AreBelow, AreAbove, PagesRise, FoundAt, MissingAt}
-use Rattle.tune_journal.specs.Inside.Listed.{change_in, listed}
+use Rattle.tune_journal.specs.Inside.Listed.{image_in, change_in, listed}
 use Rattle.tune_journal.specs.Layout.{block_bytes}
 
 abbrev pub Change : Type 0
@@ -160,28 +161,29 @@ pub rises_from_increasing : (l : List Change) → IsStrictlyIncreasing (map (λ 
 rises_from_increasing l rising = rises_from_sorted l (sorted_from_strictly_increasing (map (λ c. c.0) l) rising)
 
 -- What a value holds, at a place.
-pub in_listed : (items : List ChangedPage) (at : ℕ) → at < length (listed items) → at < length items
-in_listed items at lt = omega (arith, length-map items change_in)
+pub in_listed : (w : List PageImage) (items : List ChangedPage) (at : ℕ) → at < length (listed w items) → at < length items
+in_listed w items at lt = omega (arith, length-map items (change_in w))
 
-pub change_there : (items : List ChangedPage) (at : ℕ) (x : ChangedPage) → at < length (listed items) → x ≡ get_or items at x
-    → change_at (listed items) at ≡ change_in x
-change_there items at x lt is = get_or-map change_in items at x (0, []) (in_listed items at lt) ∙ ap change_in (sym is)
+pub change_there : (w : List PageImage) (items : List ChangedPage) (at : ℕ) (x : ChangedPage) → at < length (listed w items) → x ≡ get_or items at x
+    → change_at (listed w items) at ≡ change_in w x
+change_there w items at x lt is = get_or-map (change_in w) items at x (0, []) (in_listed w items at lt) ∙ ap (change_in w) (sym is)
 
-pub listed_replaced : (page at : ℕ) (items : List ChangedPage) (old new : ChangedPage) → FoundAt page at (listed items) → old ≡ get_or items at old
-    → new.page ≡ old.page
-    → listed (set items at new) ≡ with_change page new.image.value.bytes (listed items)
-listed_replaced page at items old new found is same =
-    let its : new.page ≡ page = same ∙ sym (ap (λ (c : Change). c.0) (change_there items at old found.in_range is)) ∙ found.is_its in
-    map-set change_in items at new ∙ ap (λ (p : ℕ). set (listed items) at (p, new.image.value.bytes)) its
-    ∙ sym (with_change_found page at new.image.value.bytes (listed items) found)
+pub listed_inserted : (w : List PageImage) (at : ℕ) (items : List ChangedPage) (new : ChangedPage) → MissingAt new.page at (listed w items)
+    → listed w (insert items at new) ≡ with_change new.page (image_in w new.kept) (listed w items)
+listed_inserted w at items new missing =
+    map-append (change_in w) (take at items) (new ∷ drop at items)
+    ∙ ap (λ (l : List Change). l ++ change_in w new ∷ listed w (drop at items)) (sym (take-map (change_in w) at items))
+    ∙ ap (λ (l : List Change). take at (listed w items) ++ change_in w new ∷ l) (sym (drop-map (change_in w) at items))
+    ∙ sym (with_change_missing new.page at (image_in w new.kept) (listed w items) missing)
 
-pub listed_inserted : (at : ℕ) (items : List ChangedPage) (new : ChangedPage) → MissingAt new.page at (listed items)
-    → listed (insert items at new) ≡ with_change new.page new.image.value.bytes (listed items)
-listed_inserted at items new missing =
-    map-append change_in (take at items) (new ∷ drop at items)
-    ∙ ap (λ (l : List Change). l ++ change_in new ∷ listed (drop at items)) (sym (take-map change_in at items))
-    ∙ ap (λ (l : List Change). take at (listed items) ++ change_in new ∷ l) (sym (drop-map change_in at items))
-    ∙ sym (with_change_missing new.page at new.image.value.bytes (listed items) missing)
+-- where a change is inserted its page is found
+pub found_inserted : (page at : ℕ) (image : List ℕ) (l : List Change) → MissingAt page at l → FoundAt page at (insert l at (page, image))
+found_inserted page zero image l missing = record { in_range = omega arith; is_its = refl; below = tt }
+found_inserted page (suc at) image [] missing = absurd (omega (arith, missing.in_range))
+found_inserted page (suc at) image (c ∷ cs) missing =
+    let rest : FoundAt page at (insert cs at (page, image)) =
+    found_inserted page at image cs (record { in_range = omega (arith, missing.in_range); below = missing.below.1; above = missing.above }) in
+    record { in_range = omega (arith, rest.in_range); is_its = rest.is_its; below = (missing.below.0, rest.below) }
 
 pub keeps_order : (page : ℕ) (image : List ℕ) (old new : List Change) → new ≡ with_change page image old → length image ≡ block_bytes → IsChangeList old
     → IsChangeList new

@@ -6,6 +6,7 @@ mod CallRuns
 mod Chain
 pub mod ChangeLists
 mod Changed
+mod KeptLists
 mod Loops
 mod Making
 mod Openings

@@ -57,6 +57,18 @@ some_with page image (c ∷ cs) = elim (cases_order page c.0) [
   | inr (inr more) ↦ (let same = with_after page image c cs more in subst (λ (l : List Change). 0 < length l) (sym same) (omega arith))
 ]
 
+-- an image that is put again
+pub with_again : (page : ℕ) (image before : List ℕ) (l : List Change) → with_change page image (with_change page before l) ≡ with_change page image l
+with_again page image before [] = with_same page image (page, before) [] refl
+with_again page image before (c ∷ cs) = elim (cases_order page c.0) [
+  | inl is ↦ ap (with_change page image) (with_same page before c cs (sym is)) ∙ with_same page image (page, before) cs refl
+      ∙ sym (with_same page image c cs (sym is))
+  | inr (inl less) ↦ ap (with_change page image) (with_before page before c cs less) ∙ with_same page image (page, before) (c ∷ cs) refl
+      ∙ sym (with_before page image c cs less)
+  | inr (inr more) ↦ ap (with_change page image) (with_after page before c cs more) ∙ with_after page image c (with_change page before cs) more
+      ∙ ap (λ (l : List Change). c ∷ l) (with_again page image before cs) ∙ sym (with_after page image c cs more)
+]
+
 -- THE CONDITIONS OF A COMMIT: what holds of all changes holds once one more is put
 pub All-with_change : (P : Change → Type 0) (page : ℕ) (image : List ℕ) (l : List Change) → P (page, image) → All P l → All P (with_change page image l)
 All-with_change P page image [] new all = All-cons P (page, image) [] new all

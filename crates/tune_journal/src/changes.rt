@@ -1,9 +1,11 @@
 // Pages that change.
-ghost use Rattle.std.specs.Prelude.{◌≡◌, ◌≢◌, ◌<◌, ◌==◌, ℕ, [], length, map, replicate, All};
-ghost use Rattle.std.specs.Prelude.{Some, IsSome, IsOk, OnOk, OnErr, IfOk, IfErr, option_map};
+ghost use Rattle.std.specs.Prelude.{◌≡◌, ◌≢◌, ◌<◌, ◌==◌, ℕ, [], length, map, replicate, take, drop};
+ghost use Rattle.std.specs.Prelude.{IsTrue, Some, IsSome, IsOk, OnOk, OnErr, IfOk, IfErr, All};
+ghost use Rattle.std.specs.Prelude.{option_map};
 ghost use Rattle.std.specs.List.Sorted.{IsStrictlyIncreasing};
 ghost use Rattle.tune_journal.specs.ChangeList.{with_change, image_of, change_at, changed_page};
 ghost use Rattle.tune_journal.specs.Inside.ChangeOrder.{FoundAt, MissingAt};
+ghost use Rattle.tune_journal.specs.Inside.Listed.{padded};
 ghost use Rattle.tune_journal.specs.Layout.{block_bytes};
 
 use std::alloc::{AllocError, Global};
@@ -26,12 +28,23 @@ impl PageImage {
     }
 }
 
-// A page and what it changes to. The image is on the heap, so that a page among many others moves
-// no images.
+/// How many bytes of an image are held where the others are zeros.
+const START: usize = 256;
+
+// How the image of a change is held: apart, so that a page among many others moves no images.
+#[derive(Drop)]
+enum Kept {
+    // by its first bytes: the others are zeros
+    Start(Box<[u8; 256]>),
+    // at this place among the whole images
+    Whole(usize),
+}
+
+// A page and what it changes to.
 #[derive(Drop)]
 struct ChangedPage {
     page: u32,
-    image: Box<PageImage>,
+    kept: Kept,
 }
 
 /// The pages that a commit changes, each with its new image. Contracts see a list of (page, image)
@@ -41,18 +54,20 @@ pub struct Changes {
     alloc: Global,
     // by rising page; a page at either end moves none of the others
     changed: VecDeque<ChangedPage>,
+    // There is room for the images of all changes, so that each can be replaced; it takes up no
+    // memory of the machine until an image stands there.
+    whole: Vec<PageImage>,
 }
 
 impl Model for Changes {
-    ghost use Rattle.std.specs.Prelude.{ℕ, List};
-    ghost use Rattle.tune_journal.specs.Inside.ChangeOrder.{IsChangeList};
-    ghost use Rattle.tune_journal.specs.Inside.Listed.{listed};
+    ghost use Rattle.std.specs.Prelude.{ℕ, List, vec_capacity};
+    ghost use Rattle.tune_journal.specs.Inside.Listed.{listed, IsKept};
 
     ghost Value = { List (ℕ × List ℕ) };
 
-    ghost view = { λ c. listed c.changed.items };
+    ghost view = { λ c. listed c.whole.items c.changed.items };
 
-    ghost invariant = { λ c. IsChangeList (listed c.changed.items) };
+    ghost invariant = { λ c. IsKept c.whole.items c.changed.items (vec_capacity c.whole) };
 }
 
 impl Changes {
@@ -63,6 +78,7 @@ impl Changes {
         Changes {
             alloc,
             changed: VecDeque::new(alloc),
+            whole: Vec::new(alloc),
         }
     }
 
@@ -83,25 +99,23 @@ impl Changes {
         ensures replaces { IsSome (image_of page self.old) → IsOk result }
     {
         match self.search(page) {
-            Ok(at) => {
-                let changed = &mut self.changed[at];
-                *changed.image = *image;
-                Ok(())
-            }
+            Ok(at) => self.replace(at, page, image),
             Err(at) => {
-                let image = Box::new(self.alloc, *image)?;
-                self.changed.insert(at, ChangedPage { page, image })?;
-                Ok(())
+                self.add(at, page, image)?;
+                if !is_short(image) {
+                    self.replace(at, page, image);
+                }
             }
         }
+        Ok(())
     }
 
     /// The image that the page changes to; `None` exactly where it is not among the changes.
-    pub fn get(&self, page: u32) -> Option<&PageImage>
-        ensures { option_map (λ image. image.now.bytes) result ≡ image_of page self.now }
+    pub fn get(&self, page: u32) -> Option<PageImage>
+        ensures { option_map (λ image. image.bytes) result ≡ image_of page self.now }
     {
         match self.search(page) {
-            Ok(at) => Some(&self.changed[at].image),
+            Ok(at) => Some(self.image_at(at)),
             Err(_) => None,
         }
     }
@@ -131,11 +145,49 @@ impl Changes {
     }
 
     // The image of the change at this place.
-    pub(crate) fn image_at(&self, place: usize) -> &PageImage
+    pub(crate) fn image_at(&self, place: usize) -> PageImage
         requires { place < length self.now }
-        ensures { result.now.bytes ≡ (change_at self.now place).1 }
+        ensures { result.bytes ≡ (change_at self.now place).1 }
     {
-        &self.changed[place].image
+        match &self.changed[place].kept {
+            Kept::Start(start) => restored(start),
+            Kept::Whole(at) => self.whole[*at],
+        }
+    }
+
+    // Adds a change to the first bytes of this image, with zeros behind them.
+    fn add(&mut self, at: usize, page: u32, image: &PageImage) -> Result<(), AllocError>
+        requires { MissingAt page at self.old }
+        ensures ok { OnOk result
+            (self.new ≡ with_change page (padded (take 256 image.now.bytes)) self.old) }
+        ensures found { OnOk result (FoundAt page at self.new) }
+        ensures err { OnErr result (self.new ≡ self.old) }
+    {
+        let count = self.len() + 1;
+        self.whole.reserve(count - self.whole.len())?;
+        let kept = Kept::Start(Box::new(self.alloc, start_of(image))?);
+        self.changed.insert(at, ChangedPage { page, kept })?;
+        Ok(())
+    }
+
+    // Has the page at this place change to this image. There is room for it.
+    fn replace(&mut self, at: usize, page: u32, image: &PageImage)
+        requires { FoundAt page at self.old }
+        ensures { self.new ≡ with_change page image.now.bytes self.old }
+    {
+        if let Kept::Whole(place) = &self.changed[at].kept {
+            let place = *place;
+            self.whole[place] = *image;
+            return;
+        }
+        let place = self.whole.len();
+        match self.whole.push(*image) {
+            Ok(()) => self.changed[at] = ChangedPage {
+                page,
+                kept: Kept::Whole(place),
+            },
+            Err(_) => unreachable!(),
+        }
     }
 
     // Where the page is, or where it would go.
@@ -149,4 +201,42 @@ impl Changes {
             _ => Err(at),
         }
     }
+}
+
+// Whether all but its first bytes are zeros.
+fn is_short(image: &PageImage) -> bool
+    ensures { IsTrue result → image.now.bytes ≡ padded (take 256 image.now.bytes) }
+{
+    is_same(rest_of(image), rest_of(&PageImage::blank()))
+}
+
+fn is_same(some: &[u8], others: &[u8]) -> bool
+    ensures { IsTrue result → some.now ≡ others.now }
+{
+    some == others
+}
+
+// All but the first bytes of an image.
+fn rest_of(image: &PageImage) -> &[u8]
+    ensures { result.now ≡ drop 256 image.now.bytes }
+{
+    &image.bytes[START..]
+}
+
+// The first bytes of an image.
+fn start_of(image: &PageImage) -> [u8; 256]
+    ensures { result ≡ take 256 image.now.bytes }
+{
+    let mut start = [0; START];
+    start.copy_from_slice(&image.bytes[..START]);
+    start
+}
+
+// The image of these first bytes.
+fn restored(start: &[u8; 256]) -> PageImage
+    ensures { result.bytes ≡ padded start.now }
+{
+    let mut bytes = [0; 4096];
+    bytes[..START].copy_from_slice(start);
+    PageImage { bytes }
 }

@@ -73,7 +73,7 @@ fn write_entries<D: Disk>(disk: &mut D, base: u64, changes: &Changes) -> Result<
 {
     let mut at = base;
     for place in 0..changes.len() {
-        write_entry(disk, at, changes.page_at(place), changes.image_at(place))?;
+        write_entry(disk, at, changes.page_at(place), &changes.image_at(place))?;
         at += ENTRY_BYTES as u64;
     }
     Ok(())
@@ -91,7 +91,7 @@ fn write_images<D: Disk>(disk: &mut D, changes: &Changes) -> Result<(), DeviceFa
     ensures calls { Calls D.honest D.failures result disk.old disk.new }
 {
     for place in 0..changes.len() {
-        write_image(disk, changes.page_at(place), changes.image_at(place))?;
+        write_image(disk, changes.page_at(place), &changes.image_at(place))?;
     }
     Ok(())
 }

@@ -89,6 +89,7 @@ pub fn law_of_frames()
 /// - `root`: the root is in use.
 /// - `inside`: each page in use is there.
 /// - `marks`: there is a mark for each page up to the limit.
+/// - `count`: there are no more pages than there may be.
 pub fn law_of_works()
     ensures root { (pages : List (List ℕ)) (used : List Bool) (work : Work)
         → FitsOn pages used work → IsUsed (stand_on pages used work).used 0 }
@@ -97,4 +98,7 @@ pub fn law_of_works()
         → page < length (stand_on pages used work).pages }
     ensures marks { (pages : List (List ℕ)) (used : List Bool) (work : Work)
         → FitsOn pages used work → length (stand_on pages used work).used ≡ length used }
+    ensures count { (pages : List (List ℕ)) (used : List Bool) (work : Work)
+        → FitsOn pages used work → length pages ≤ length used
+        → length (stand_on pages used work).pages ≤ length (stand_on pages used work).used }
 {}

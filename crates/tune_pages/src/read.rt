@@ -16,12 +16,6 @@ use std::mem;
 use tune_disk::{DeviceFault, Disk};
 use tune_journal::PageImage;
 
-fn copy_of(image: &PageImage) -> PageImage
-    ensures { result.bytes ≡ image.now.bytes }
-{
-    *image
-}
-
 // Whether a page is marked.
 fn is_marked(used: &[bool], page: u32) -> bool
     ensures { IsTrue result ↔ IsUsed used.now page }
@@ -58,7 +52,7 @@ impl<D: Disk> Pages<D> {
             return Err(Fault::Closed);
         }
         match work.changes.get(page) {
-            Some(image) => Ok(copy_of(image)),
+            Some(image) => Ok(image),
             None => self.fetch(page),
         }
     }

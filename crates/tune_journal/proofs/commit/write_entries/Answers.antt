@@ -22,7 +22,7 @@ returns-in_err-write_entry-clause-spares g c = λ h.
 pub loop-place-preserved : goal.loop-place-preserved
 loop-place-preserved g c =
     let page : ℕ = c.page_at.result in
-    let image : List ℕ = c.image_at.result.now.bytes in
+    let image : List ℕ = c.image_at.result.bytes in
     let long : length (log_entry page image) ≡ entry_bytes = omega (arith, c.write_entry.ensures.size) in
     record {
       at = omega (arith, c.loop-place.invariant.at);

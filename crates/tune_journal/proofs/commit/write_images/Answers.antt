@@ -18,17 +18,17 @@ pub returns-in_err-write_image-clause-spares : goal.returns-in_err-write_image-c
 returns-in_err-write_image-clause-spares g c = λ h.
     (let lt : c.loop-place.place < length c.args.changes.now = omega (arith, c.loop-place-test.true, c.len-place-end.ensures.len) in
     spares_then _ _ _ _ (c.loop-place.invariant.spares (c.write_image.ensures.calls.was_honest h))
-    (spares_write (IsInNoPage c.args.changes.now) (page_offset c.page_at.result) c.image_at.result.now.bytes c.write_image.result _ _
+    (spares_write (IsInNoPage c.args.changes.now) (page_offset c.page_at.result) c.image_at.result.bytes c.write_image.result _ _
     (c.write_image.ensures.write h)
     (λ i out.
-    outside_image c.args.changes.now c.loop-place.place c.page_at.result i c.image_at.result.now.bytes lt c.page_at.ensures c.write_image.ensures.size out)))
+    outside_image c.args.changes.now c.loop-place.place c.page_at.result i c.image_at.result.bytes lt c.page_at.ensures c.write_image.ensures.size out)))
 
 pub loop-place-preserved : goal.loop-place-preserved
 loop-place-preserved g c =
     let log = c.args.changes.now in
     let k : ℕ = c.loop-place.place in
     let page : ℕ = c.page_at.result in
-    let image : List ℕ = c.image_at.result.now.bytes in
+    let image : List ℕ = c.image_at.result.bytes in
     let lt : k < length log = omega (arith, c.loop-place-test.true, c.len-place-end.ensures.len) in
     record {
       honest = λ h. c.loop-place.invariant.honest (c.write_image.ensures.calls.was_honest h);

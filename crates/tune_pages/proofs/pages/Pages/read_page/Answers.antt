@@ -11,9 +11,9 @@ fetch-requires-clause-below g c =
 
 pub returns-in-Some-clause-image : goal.returns-in-Some-clause-image
 returns-in-Some-clause-image g c =
-    let some : image_of c.args.page c.args.work.now.changes ≡ Some c.in-Some.image.now.bytes = sym c.in-Some.ensures in
-    λ h. c.copy_of.ensures ∙ read_changed c.args.self.now.pages c.args.self.now.used c.args.work.now c.args.page c.requires.fits c.requires.used
-    c.in-Some.image.now.bytes some
+    let some : image_of c.args.page c.args.work.now.changes ≡ Some c.in-Some.image.bytes = sym c.in-Some.ensures in
+    λ h. read_changed c.args.self.now.pages c.args.self.now.used c.args.work.now c.args.page c.requires.fits c.requires.used
+    c.in-Some.image.bytes some
 
 pub returns-in-None-clause-image : goal.returns-in-None-clause-image
 returns-in-None-clause-image g c =

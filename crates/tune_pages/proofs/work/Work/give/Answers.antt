@@ -5,4 +5,6 @@ use Rattle.tune_pages.proofs.work.Work.give.Goals as goal
 pub returns-clause-freed : goal.returns-clause-freed
 returns-clause-freed c =
     let within : c.place_in-at.result ≤ length c.args.self.now.freed.items = search rules in
-    put_in c.args.self.now.freed.items c.args.self.now.freed.items _ c.place_in-at.result c.args.page refl c.in_ok-insert.ensures.items within c.place_in-at.ensures.above c.place_in-at.ensures.below
+    let freed = c.args.self.now.freed.items in
+    put_in freed freed _ c.place_in-at.result c.args.page refl c.in_ok-insert.ensures.items within c.place_in-at.ensures.above
+    c.place_in-at.ensures.below

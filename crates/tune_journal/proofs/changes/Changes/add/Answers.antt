@@ -1,0 +1,61 @@
+use Rattle.std.proofs.Common.{◌≡◌, ℕ, ◌<◌, List, length, take, replicate, vec_capacity, length-append, length-take, refl, sym, ◌∙◌, ap, subst, arith, rules}
+use Rattle.std.proofs.lemmas.List.{length-replicate, length-map}
+use Rattle.tune_journal.specs.declared.changes.ChangedPage.{ChangedPage}
+use Rattle.tune_journal.specs.declared.changes.PageImage.{PageImage}
+use Rattle.tune_journal.specs.ChangeList.{with_change}
+use Rattle.tune_journal.specs.Inside.ChangeOrder.{FoundAt, MissingAt}
+use Rattle.tune_journal.specs.Inside.Listed.{change_in, listed, padded, IsKept}
+use Rattle.tune_journal.specs.Layout.{block_bytes}
+use Rattle.tune_journal.proofs.KeptLists.{added_listed, added_found, added_kept}
+use Rattle.tune_journal.proofs.changes.Changes.add.Goals as goal
+
+pub invariant_of-self-2 : goal.invariant_of-self-2
+invariant_of-self-2 c =
+    let whole = c.self.inside.whole.items in
+    let items = c.self.inside.changed.items in
+    let missing : MissingAt c.args.page c.args.at (listed whole items) = subst (MissingAt c.args.page c.args.at) (sym c.self.view_is) c.requires in
+    let start : List ℕ = take 256 c.args.image.now.bytes in
+    let holds = ap padded (c.in_ok-new.ensures.ok ∙ c.start_of.ensures) in
+    let size : length c.args.image.now.bytes ≡ block_bytes = search rules in
+    let long : length (padded start) ≡ block_bytes =
+    omega (arith, size, length-append start (replicate 3840 0), length-take 256 c.args.image.now.bytes, length-replicate {A = ℕ}) in
+    let same : length (listed whole items) ≡ length c.args.self.now = ap length c.self.view_is in
+    let last : c.self.inside.whole.len ≡ length whole = search rules in
+    let fits : length items < vec_capacity c.reserve.new.self =
+    omega (
+      arith,
+      same,
+      length-map items (change_in whole),
+      last,
+      c.in_ok-reserve.ensures.ok,
+      c.in_ok-reserve.ensures.len,
+      c.len-count.ensures.len,
+      c.len.ensures,
+      c.self.invariant.count,
+    ) in
+    subst (λ (w : List PageImage). IsKept w c.insert.new.self.items (vec_capacity c.reserve.new.self)) (sym c.in_ok-reserve.ensures.items)
+    (subst (λ (l : List ChangedPage). IsKept whole l (vec_capacity c.reserve.new.self)) (sym c.in_ok-insert.ensures.items)
+    (added_kept whole items _ c.self.invariant c.args.page c.args.at missing _ refl (padded start) holds _ fits refl tt long))
+
+pub returns-clause-ok : goal.returns-clause-ok
+returns-clause-ok c =
+    let whole = c.self.inside.whole.items in
+    let items = c.self.inside.changed.items in
+    let missing : MissingAt c.args.page c.args.at (listed whole items) = subst (MissingAt c.args.page c.args.at) (sym c.self.view_is) c.requires in
+    let start : List ℕ = take 256 c.args.image.now.bytes in
+    let holds = ap padded (c.in_ok-new.ensures.ok ∙ c.start_of.ensures) in
+    ap (λ (w : List PageImage). listed w c.insert.new.self.items) c.in_ok-reserve.ensures.items
+    ∙ ap (listed whole) c.in_ok-insert.ensures.items
+    ∙ added_listed whole items _ c.self.invariant c.args.page c.args.at missing _ refl (padded start) holds
+    ∙ ap (with_change c.args.page (padded start)) c.self.view_is
+
+pub returns-clause-found : goal.returns-clause-found
+returns-clause-found c =
+    let whole = c.self.inside.whole.items in
+    let items = c.self.inside.changed.items in
+    let missing : MissingAt c.args.page c.args.at (listed whole items) = subst (MissingAt c.args.page c.args.at) (sym c.self.view_is) c.requires in
+    let start : List ℕ = take 256 c.args.image.now.bytes in
+    let holds = ap padded (c.in_ok-new.ensures.ok ∙ c.start_of.ensures) in
+    subst (λ (w : List PageImage). FoundAt c.args.page c.args.at (listed w c.insert.new.self.items)) (sym c.in_ok-reserve.ensures.items)
+    (subst (λ (l : List ChangedPage). FoundAt c.args.page c.args.at (listed whole l)) (sym c.in_ok-insert.ensures.items)
+    (added_found whole items _ c.self.invariant c.args.page c.args.at missing _ refl (padded start) holds))
