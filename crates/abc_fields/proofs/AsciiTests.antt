@@ -1,9 +1,8 @@
 -- A test that passes no byte of 128 and above cuts bstr's characters and the bytes themselves in the same way.
 use Rattle.std.proofs.Common.{◌≡◌, ◌⊎◌, ◌+◌, ◌-◌, ◌<◌, ◌≤◌, ℕ, zero, suc, Bool, true, false, cond, List, [], ◌∷◌, ◌++◌, Option, Some, None, length, take, drop}
 use Rattle.std.proofs.Common.{slice_index, refl, sym, ap, ◌∙◌, arith, inl, inr, ⊎_elim, append_assoc, append-nil, length-drop}
-use Rattle.std.specs.Prelude.{◌&&◌}
-use Rattle.std.specs.List.{onto_first, list_all}
-use Rattle.std.proofs.lemmas.Bool.{cases_Bool, cases_lt, cond-true, cond-false, true≢false}
+use Rattle.std.specs.List.{onto_first}
+use Rattle.std.proofs.lemmas.Bool.{cases_Bool, cases_lt, cond-true, cond-false}
 use Rattle.std.proofs.lemmas.Bool.Decides.{nat_tests}
 use Rattle.std.proofs.lemmas.List.{drop-drop, drop_all}
 use Rattle.std.proofs.lemmas.Str.{encode_ascii}
@@ -11,13 +10,11 @@ use Rattle.std.proofs.Math.Seq.{take-add}
 use Rattle.bstr.specs.Utf8.{Decoded, decoded, pieces, spans_from, or_replacement}
 use Rattle.bstr.specs.Fields.{fields_acc}
 use Rattle.bstr.specs.Text.{part}
-use Rattle.bstr.specs.Trim.{trim_start_by, trim_end_by, kept_start, kept_end}
 use Rattle.bstr.proofs.lemmas.PieceLemmas.{tail-continues, value-1, piece-bounds, spans-first, spans-nil}
 use Rattle.bstr.proofs.lemmas.FieldLemmas.{fields-skip, fields-start, fields-stop, fields-more, fields-nil, fields-last}
-use Rattle.bstr.proofs.lemmas.TrimLemmas.{kept-skip, kept-stop, kept-nil, kept_end-nil}
 use Rattle.bstr.proofs.lemmas.SoundLemmas.{SpellsChar-decoded}
 use Rattle.abc_fields.specs.Bytes.{is_blank}
-use Rattle.abc_fields.specs.Words.{parts_by, words_of, trimmed_front, trimmed_back}
+use Rattle.abc_fields.specs.Words.{parts_by, words_of}
 
 -- the test passes no number of 128 and above
 abbrev pub IsAsciiTest : (ℕ → Bool) → Type 0
@@ -238,176 +235,6 @@ module _ (test : ℕ → Bool) (ascii : IsAsciiTest test) (whole : List ℕ) whe
 -- bstr's fields by a test that passes ASCII alone are the parts of the bytes, whether they are UTF-8 or not
 pub fields_are_parts : (test : ℕ → Bool) → IsAsciiTest test → (text : List ℕ) → fields_acc test text None (spans_from 0 (pieces text)) ≡ parts_by test text
 fields_are_parts test ascii text = (AreParts-from test ascii text (length text) 0 (omega arith)).0
-
--- TRIMS OF THE FRONT
--- from an index on bstr leaves of the front what the bytes leave
-abbrev IsFrontTrimmed : (ℕ → Bool) → List ℕ → ℕ → Type 0
-IsFrontTrimmed test whole offset = drop (kept_start test (length whole) (spans_at whole offset)) whole ≡ trimmed_front test (drop offset whole)
-
-module _ (test : ℕ → Bool) where
-  -- a byte that passes is trimmed from the front
-  trimmed_front-pass : (text : List ℕ) → 0 < length text → test (slice_index text 0) ≡ true → trimmed_front test text ≡ trimmed_front test (drop 1 text)
-  trimmed_front-pass [] some passes = absurd (omega arith)
-  trimmed_front-pass (byte ∷ text) some passes = cond-true _ _ _ passes
-
-  -- a byte that does not pass ends the trim
-  trimmed_front-stop : (text : List ℕ) → 0 < length text → test (slice_index text 0) ≡ false → trimmed_front test text ≡ text
-  trimmed_front-stop [] some fails = absurd (omega arith)
-  trimmed_front-stop (byte ∷ text) some fails = cond-false _ _ _ fails
-
-module _ (test : ℕ → Bool) (ascii : IsAsciiTest test) (whole : List ℕ) where
-  -- at the end nothing is left to trim
-  IsFrontTrimmed-end : (offset : ℕ) → length whole ≤ offset → IsFrontTrimmed test whole offset
-  IsFrontTrimmed-end offset end =
-      ap (λ spans. drop (kept_start test (length whole) spans) whole) (spans_at-end whole offset end) ∙ ap (λ n. drop n whole) (kept-nil test (length whole))
-      ∙ drop_all (length whole) whole (omega arith) ∙ sym (ap (trimmed_front test) (drop_all offset whole end))
-
-  -- if the front is trimmed alike after the first piece, it is before it
-  IsFrontTrimmed-step : (offset : ℕ) → offset < length whole → IsFrontTrimmed test whole (offset + size_at whole offset) → IsFrontTrimmed test whole offset
-  IsFrontTrimmed-step offset below later =
-      let rest = drop offset whole in
-      let some = rest_some whole offset below in
-      let bounds = size_at-bounds whole offset below in
-      let step = ap (λ spans. drop (kept_start test (length whole) spans) whole) (spans_at-step whole offset below) in
-      ⊎_elim
-      (λ passes. step ∙ ap (λ n. drop n whole) (kept-skip test (length whole) _ _ passes.0) ∙ later
-      ∙ sym (trimmed_front-pass test rest some passes.2 ∙ ap (λ n. trimmed_front test (drop n rest)) (sym passes.1)
-      ∙ ap (trimmed_front test) (rest_later whole offset below)))
-      (λ fails. step ∙ ap (λ n. drop n whole) (kept-stop test (length whole) _ _ fails.0) ∙ sym (trimmed_front-stop test rest some (fails.1 0 (omega arith))))
-      (first_piece test ascii rest some)
-
-  -- the front is trimmed alike from each index on: fuel is at least the number of bytes that are left
-  IsFrontTrimmed-from : (fuel offset : ℕ) → length whole ≤ offset + fuel → IsFrontTrimmed test whole offset
-  IsFrontTrimmed-from zero offset within = IsFrontTrimmed-end offset (omega arith)
-  IsFrontTrimmed-from (suc fuel) offset within = ⊎_elim
-      (λ below.
-      let bounds = size_at-bounds whole offset below in
-      IsFrontTrimmed-step offset below (IsFrontTrimmed-from fuel (offset + size_at whole offset) (omega arith)))
-      (λ end. IsFrontTrimmed-end offset end)
-      (cases_lt offset (length whole))
-
--- bstr trims from the front, by such a test, the bytes that pass
-pub trim_front_is_bytes : (test : ℕ → Bool) → IsAsciiTest test → (text : List ℕ) → trim_start_by test text ≡ trimmed_front test text
-trim_front_is_bytes test ascii text = IsFrontTrimmed-from test ascii text (length text) 0 (omega arith)
-
--- TRIMS OF THE BACK
--- from an index on bstr leaves of the back what the bytes leave: what ends at end where all pass, or else up to the last byte that does not
-abbrev IsBackTrimmed : (ℕ → Bool) → List ℕ → ℕ → Type 0
-IsBackTrimmed test whole offset =
-    ((end : ℕ) → list_all test (drop offset whole) ≡ true → take (kept_end test end (spans_at whole offset)) whole ≡ take end whole)
-    × ((end : ℕ) → list_all test (drop offset whole) ≡ false
-    → take (kept_end test end (spans_at whole offset)) whole ≡ take offset whole ++ trimmed_back test (drop offset whole))
-
-module _ (test : ℕ → Bool) where
-  -- a span that passes leaves the end where it was
-  kept_end-pass : (end : ℕ) (span : ℕ × ℕ × ℕ) (spans : List (ℕ × ℕ × ℕ)) → test span.2 ≡ true → kept_end test end (span ∷ spans) ≡ kept_end test end spans
-  unfolding kept_end
-  kept_end-pass end span spans passes = ap (λ n. kept_end test n spans) (cond-true _ _ _ passes)
-
-  -- a span that does not pass moves the end to its own
-  kept_end-fail : (end : ℕ) (span : ℕ × ℕ × ℕ) (spans : List (ℕ × ℕ × ℕ)) → test span.2 ≡ false → kept_end test end (span ∷ spans) ≡ kept_end test span.1 spans
-  unfolding kept_end
-  kept_end-fail end span spans fails = ap (λ n. kept_end test n spans) (cond-false _ _ _ fails)
-
-  -- all pass if the first does and the others do
-  list_all-pass : (text : List ℕ) → 0 < length text → test (slice_index text 0) ≡ true → list_all test text ≡ list_all test (drop 1 text)
-  list_all-pass [] some passes = absurd (omega arith)
-  list_all-pass (byte ∷ text) some passes = ap (λ b. b && list_all test text) passes
-
-  -- not all pass if the first does not
-  list_all-fail : (text : List ℕ) → 0 < length text → test (slice_index text 0) ≡ false → list_all test text ≡ false
-  list_all-fail [] some fails = absurd (omega arith)
-  list_all-fail (byte ∷ text) some fails = ap (λ b. b && list_all test text) fails
-
-  -- nothing is left where all pass
-  trimmed_back-all : (text : List ℕ) → list_all test text ≡ true → trimmed_back test text ≡ []
-  trimmed_back-all [] all = refl
-  trimmed_back-all (byte ∷ text) all = cond-true _ _ _ all
-
-  -- the first byte stays where not all pass
-  trimmed_back-one : (text : List ℕ) → list_all test text ≡ false → trimmed_back test text ≡ take 1 text ++ trimmed_back test (drop 1 text)
-  trimmed_back-one [] not_all = cc
-  trimmed_back-one (byte ∷ text) not_all = cond-false _ _ _ not_all
-
-  -- a run of which no byte passes stays
-  trimmed_back-run : (n : ℕ) (text : List ℕ) → n ≤ length text → NonePasses test n text
-      → trimmed_back test text ≡ take n text ++ trimmed_back test (drop n text)
-  trimmed_back-run zero text fits none = refl
-  trimmed_back-run (suc n) [] fits none = absurd (omega arith)
-  trimmed_back-run (suc n) (byte ∷ text) fits none =
-      trimmed_back-one (byte ∷ text) (list_all-fail (byte ∷ text) (omega arith) (none 0 (omega arith)))
-      ∙ ap (λ rest. byte ∷ rest) (trimmed_back-run n text (omega arith) (λ k lt. none (suc k) (omega arith)))
-
-module _ (test : ℕ → Bool) (ascii : IsAsciiTest test) (whole : List ℕ) where
-  -- at the end nothing is left to trim
-  IsBackTrimmed-end : (offset : ℕ) → length whole ≤ offset → IsBackTrimmed test whole offset
-  IsBackTrimmed-end offset over =
-      let nothing = ap (list_all test) (drop_all offset whole over) in (
-        λ end all. ap (λ spans. take (kept_end test end spans) whole) (spans_at-end whole offset over) ∙ ap (λ n. take n whole) (kept_end-nil test end),
-        λ end not_all. absurd (true≢false (sym nothing ∙ not_all)),
-      )
-
-  -- what stays of a piece stays before what stays after it
-  back-grow : (offset : ℕ) → offset < length whole
-      → trimmed_back test (drop offset whole)
-      ≡ take (size_at whole offset) (drop offset whole) ++ trimmed_back test (drop (size_at whole offset) (drop offset whole))
-      → take (offset + size_at whole offset) whole ++ trimmed_back test (drop (offset + size_at whole offset) whole)
-      ≡ take offset whole ++ trimmed_back test (drop offset whole)
-  back-grow offset below stays =
-      let size = size_at whole offset in
-      ap (λ front. front ++ trimmed_back test (drop (offset + size) whole)) (take-add offset size whole)
-      ∙ append_assoc (take offset whole) (take size (drop offset whole)) _
-      ∙ ap (λ text. take offset whole ++ (take size (drop offset whole) ++ trimmed_back test text)) (sym (rest_later whole offset below))
-      ∙ ap (λ text. take offset whole ++ text) (sym stays)
-
-  -- past a piece of which no byte passes
-  back-past : (offset : ℕ) → IsBackTrimmed test whole offset
-      → take (kept_end test offset (spans_at whole offset)) whole ≡ take offset whole ++ trimmed_back test (drop offset whole)
-  back-past offset here = ⊎_elim
-      (λ all. here.0 offset all ∙ sym (ap (λ text. take offset whole ++ text) (trimmed_back-all test _ all) ∙ append-nil _))
-      (λ not_all. here.1 offset not_all)
-      (cases_Bool (list_all test (drop offset whole)))
-
-  -- if the back is trimmed alike after the first piece, it is before it
-  IsBackTrimmed-step : (offset : ℕ) → offset < length whole → IsBackTrimmed test whole (offset + size_at whole offset) → IsBackTrimmed test whole offset
-  IsBackTrimmed-step offset below later =
-      let rest = drop offset whole in
-      let some = rest_some whole offset below in
-      let size = size_at whole offset in
-      let bounds = size_at-bounds whole offset below in
-      let fits : size ≤ length rest = omega (arith, length-drop offset whole) in
-      let step = λ (end : ℕ). ap (λ spans. take (kept_end test end spans) whole) (spans_at-step whole offset below) in
-      ⊎_elim
-      (λ passes.
-      let skip = λ (end : ℕ). step end ∙ ap (λ n. take n whole) (kept_end-pass test end _ _ passes.0) in
-      let same : list_all test (drop (offset + size) whole) ≡ list_all test rest =
-      sym (list_all-pass test rest some passes.2 ∙ ap (λ n. list_all test (drop n rest)) (sym passes.1)
-      ∙ ap (list_all test) (rest_later whole offset below)) in (
-        λ end all. skip end ∙ later.0 end (same ∙ all),
-        λ end not_all. skip end ∙ later.1 end (same ∙ not_all)
-            ∙ back-grow offset below (trimmed_back-one test rest not_all ∙ ap (λ n. take n rest ++ trimmed_back test (drop n rest)) (sym passes.1)),
-      ))
-      (λ fails.
-      let first = fails.1 0 (omega arith) in (
-        λ end all. absurd (true≢false (sym all ∙ list_all-fail test rest some first)),
-        λ end not_all. step end ∙ ap (λ n. take n whole) (kept_end-fail test end _ _ fails.0) ∙ back-past (offset + size) later
-            ∙ back-grow offset below (trimmed_back-run test size rest fits fails.1),
-      ))
-      (first_piece test ascii rest some)
-
-  -- the back is trimmed alike from each index on: fuel is at least the number of bytes that are left
-  IsBackTrimmed-from : (fuel offset : ℕ) → length whole ≤ offset + fuel → IsBackTrimmed test whole offset
-  IsBackTrimmed-from zero offset within = IsBackTrimmed-end offset (omega arith)
-  IsBackTrimmed-from (suc fuel) offset within = ⊎_elim
-      (λ below.
-      let bounds = size_at-bounds whole offset below in
-      IsBackTrimmed-step offset below (IsBackTrimmed-from fuel (offset + size_at whole offset) (omega arith)))
-      (λ end. IsBackTrimmed-end offset end)
-      (cases_lt offset (length whole))
-
--- bstr trims from the back, by such a test, the bytes that pass
-pub trim_back_is_bytes : (test : ℕ → Bool) → IsAsciiTest test → (text : List ℕ) → trim_end_by test text ≡ trimmed_back test text
-trim_back_is_bytes test ascii text = back-past test ascii text 0 (IsBackTrimmed-from test ascii text (length text) 0 (omega arith))
 
 -- SPACES AND TABS
 -- a space and a tab are below 128

@@ -1,7 +1,9 @@
 -- What a text without blanks at its ends is, and that blanks put round a text change nothing.
-use Rattle.std.proofs.Common.{◌≡◌, ℕ, Bool, true, false, List, [], ◌∷◌, ◌++◌, refl, ap, sym, ◌∙◌, ⊎_elim}
+use Rattle.std.proofs.Common.{◌≡◌, ℕ, ◌+◌, ◌-◌, ◌≤◌, Bool, true, false, List, [], ◌∷◌, ◌++◌, length, get_or, take, refl, ap, sym, ◌∙◌, ⊎_elim, arith}
 use Rattle.std.specs.List.{list_all}
-use Rattle.std.proofs.lemmas.Bool.{cases_Bool, cond_both, cond-true, cond-false, true≢false}
+use Rattle.std.proofs.lemmas.Bool.{and_right, cases_Bool, cond_both, cond-true, cond-false, true≢false}
+use Rattle.std.proofs.lemmas.List.{take_more}
+use Rattle.std.proofs.Math.Seq.{take-length}
 use Rattle.abc_fields.specs.Bytes.{is_blank, is_all_blank}
 use Rattle.abc_fields.specs.Values.{IsTrimmed}
 use Rattle.abc_fields.specs.Words.{trimmed_front, trimmed_back, trimmed}
@@ -98,6 +100,35 @@ module _ (test : ℕ → Bool) where
       (λ is. ap (trimmed_back test) (cond-true _ _ _ is) ∙ both-passing text back all ∙ sym (ap (trimmed_back test) (cond-true _ _ _ is)))
       (λ no. ap (trimmed_back test) (cond-false _ _ _ no) ∙ back-passing (byte ∷ text) back all ∙ sym (ap (trimmed_back test) (cond-false _ _ _ no)))
       (cases_Bool (test byte))
+
+  -- A BYTE FROM THE BACK
+  -- a text with a byte that does not pass behind it
+  not_all : (text : List ℕ) (byte : ℕ) → test byte ≡ false → list_all test (text ++ byte ∷ []) ≡ false
+  not_all [] byte fails = rw fails refl
+  not_all (b ∷ text) byte fails = and_right (test b) (list_all test (text ++ byte ∷ [])) (not_all text byte fails)
+
+  back-stays : (text : List ℕ) (byte : ℕ) → test byte ≡ false → trimmed_back test (text ++ byte ∷ []) ≡ text ++ byte ∷ []
+  back-stays [] byte fails = rw fails refl
+  back-stays (b ∷ text) byte fails = cond-false _ _ _ (not_all (b ∷ text) byte fails) ∙ ap (λ kept. b ∷ kept) (back-stays text byte fails)
+
+  -- the text is what stands before its last byte, and that byte
+  with_last : (text : List ℕ) (byte : ℕ) → 1 ≤ length text → byte ≡ get_or text (length text - 1) 0 → take (length text - 1) text ++ byte ∷ [] ≡ text
+  with_last text byte some is =
+      let all : length text - 1 + 1 ≡ length text = omega arith in
+      ap (λ b. take (length text - 1) text ++ b ∷ []) is
+      ∙ sym (take_more text (length text - 1) 0 (omega arith)) ∙ ap (λ n. take n text) all ∙ take-length text
+
+  -- a last byte that passes is trimmed, and one that does not stays with the whole text
+  pub back-shorter : (text : List ℕ) (byte : ℕ) → 1 ≤ length text → byte ≡ get_or text (length text - 1) 0 → test byte ≡ true
+      → trimmed_back test (take (length text - 1) text) ≡ trimmed_back test text
+  back-shorter text byte some is passes =
+      sym (back-passing (take (length text - 1) text) (byte ∷ []) (rw passes refl)) ∙ ap (trimmed_back test) (with_last text byte some is)
+
+  pub back-whole : (text : List ℕ) (byte : ℕ) → 1 ≤ length text → byte ≡ get_or text (length text - 1) 0 → test byte ≡ false
+      → trimmed_back test text ≡ text
+  back-whole text byte some is fails =
+      let whole = with_last text byte some is in
+      ap (trimmed_back test) (sym whole) ∙ back-stays (take (length text - 1) text) byte fails ∙ whole
 
 -- the trimmed text is the text but for blanks at its ends, and is not blank at either end itself
 pub is_trimmed : (text : List ℕ) → IsTrimmed text (trimmed text)

@@ -1,3 +1,5 @@
 pub mod LineEndings
 pub mod LinesLeft
 pub mod HeaderRows
+pub mod Shares
+pub mod CarriedBytes

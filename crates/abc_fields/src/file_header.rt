@@ -108,7 +108,7 @@ impl<'a> FileHeader<'a> {
         length
     }
 
-    // Writes the lines that a tune with these letters carries.
+    // Writes the lines that a tune with these letters carries, and looks at each line.
     pub(crate) fn write_for(&self, letters: &Letters, out: &mut Vec<u8>) -> Result<(), AllocError>
         ensures { OnOk result (out.new.items
             ≡ out.old.items ++ joined (taken (in_table letters.now.table) self.now)) }
@@ -119,6 +119,13 @@ impl<'a> FileHeader<'a> {
             }
         }
         Ok(())
+    }
+
+    // Its lines, in order.
+    pub(crate) fn lines(&self) -> &[HeaderLine<'a>]
+        ensures { row_list result.now ≡ self.now }
+    {
+        self.lines.as_slice()
     }
 }
 

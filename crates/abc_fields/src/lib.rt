@@ -14,6 +14,7 @@ mod judged_book;
 mod letters;
 mod line_kinds;
 mod lines;
+mod shares;
 mod stored;
 mod texts;
 mod tune_lines;

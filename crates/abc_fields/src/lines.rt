@@ -74,6 +74,7 @@ impl<'a> Iterator for Lines<'a> {
 
     ghost remaining = { item_count (λ lines. lines) };
 
+    #[inline(always)]
     fn next(&mut self) -> Option<Line<'a>> {
         if self.rest.is_empty() {
             return None;

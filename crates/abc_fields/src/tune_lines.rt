@@ -8,7 +8,8 @@ ghost use Rattle.abc_fields.specs.Tunes.{is_empty_line, is_tune_start, ends_tune
 ghost use Rattle.abc_fields.specs.Tunes.{tune_runs, joined, has_key, IsTextWithin};
 ghost use Rattle.abc_fields.specs.FileHeaders.{before_key, has_letter};
 ghost use Rattle.abc_fields.specs.Books.{Texts, tune_answer};
-ghost use Rattle.abc_fields.specs.Inside.HeaderRows.{with_rows, taken, in_table, IsCarried};
+ghost use Rattle.abc_fields.specs.Inside.HeaderRows.{with_rows, taken, in_table};
+ghost use Rattle.abc_fields.specs.Inside.CarriedBytes.{IsCarried};
 ghost use Rattle.abc_fields.specs.Inside.LinesLeft.{IsRestAfter};
 ghost use Rattle.abc_fields.specs.Fields.{header_of};
 
@@ -145,9 +146,9 @@ pub(crate) fn text_of_tune(
     ensures carried { OnOk result (IsCarried header.now carried.new) }
     ensures rest { OnOk result (IsRestAfter (contents_of lines.old) (contents_of lines.new)) }
 {
-    carried.change_to(header, lines.again())?;
+    carried.change_to(alloc, header, lines.again())?;
     text.clear();
-    write_tune(text, lines, carried.bytes.as_slice())?;
+    write_tune(text, lines, carried.last.bytes.as_slice())?;
     Ok(TuneText::from_vec(Vec::from_slice(alloc, text.as_slice())?))
 }
 

@@ -3,9 +3,8 @@ ghost use Rattle.std.specs.Prelude.{◌≡◌, ℕ, ◌-◌, ◌<◌, List, ◌+
 ghost use Rattle.std.specs.Prelude.{slice_index, nat_lt};
 ghost use Rattle.abc_fields.specs.Bytes.{backslash, is_blank, is_all_blank};
 ghost use Rattle.abc_fields.specs.Values.{uncommented, field_value, IsUncommented, IsTrimmed};
-ghost use Rattle.abc_fields.specs.Words.{trimmed};
+ghost use Rattle.abc_fields.specs.Words.{trimmed, trimmed_front, trimmed_back};
 
-use bstr::ByteSlice;
 use memchr::memchr;
 
 /// The value of a field line: what follows the colon, without a comment, and without the spaces and
@@ -68,5 +67,33 @@ pub fn trim_blanks(text: &[u8]) -> &[u8]
         → is_all_blank front ≡ true → is_all_blank back ≡ true
         → trimmed (front ++ (text.now ++ back)) ≡ trimmed text.now }
 {
-    text.trim_with(is_blank)
+    trim_back(trim_front(text))
+}
+
+// The text from the first byte on that is no space and no tab.
+fn trim_front(text: &[u8]) -> &[u8]
+    ensures { result.now ≡ trimmed_front is_blank text.now }
+{
+    let mut kept = text;
+    while let [byte, later @ ..] = kept {
+        if !is_blank(char::from(*byte)) {
+            return kept;
+        }
+        kept = later;
+    }
+    kept
+}
+
+// The text up to the last byte that is no space and no tab.
+fn trim_back(text: &[u8]) -> &[u8]
+    ensures { result.now ≡ trimmed_back is_blank text.now }
+{
+    let mut kept = text;
+    while let [earlier @ .., byte] = kept {
+        if !is_blank(char::from(*byte)) {
+            return kept;
+        }
+        kept = earlier;
+    }
+    kept
 }

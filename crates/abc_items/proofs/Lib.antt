@@ -1,4 +1,3 @@
-pub mod ByteRuns
 pub mod ClosingMarks
 pub mod RowLengths
 pub mod ClosedRows

@@ -13,9 +13,10 @@ use Rattle.abc_fields.specs.Bytes.{is_one_of}
 use Rattle.abc_keys.specs.Letters.{accidental_of, doubled, letter_of}
 use Rattle.abc_fields.specs.Bytes.{begins}
 use Rattle.abc_items.specs.Marks.{is_octave_mark, flat_sign, natural_sign, sharp_sign}
-use Rattle.abc_items.specs.Grammar.{IsRun, IsNote, spelling_of}
+use Rattle.abc_keys.specs.Runs.{IsRun}
+use Rattle.abc_items.specs.Grammar.{IsNote, spelling_of}
 use Rattle.abc_items.specs.Rows.{own_accidental, is_note_name, note}
-use Rattle.abc_items.proofs.ByteRuns.{front_is_run, run_is_longest}
+use Rattle.abc_keys.proofs.ByteRuns.{front_is_run, run_is_longest}
 use Rattle.abc_items.proofs.RowLengths.{IsOfRow, GivesEach}
 
 -- A LETTER IS NO SIGN

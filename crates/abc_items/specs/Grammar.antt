@@ -1,13 +1,14 @@
 -- The items of a music line, as the table of items says them: row by row, and the first row that
 -- fits. The rows are those of ABC 2.1, 3.2 and 4.1 to 4.19. That the first row counts, and that
 -- what is unclosed fits no row but the last, is own profile.
-use Rattle.std.specs.Prelude.{◌≡◌, ◌⊎◌, ℕ, zero, suc, ◌<◌, Bool, true, false, List, [], ◌∷◌, ◌++◌}
+use Rattle.std.specs.Prelude.{◌≡◌, ◌⊎◌, ℕ, zero, suc, ◌<◌, true, false, List, [], ◌∷◌, ◌++◌}
 use Rattle.std.specs.Prelude.{length, codes, Option, Some, None, ⊤}
 use Rattle.std.specs.List.{list_all}
 use Rattle.std.specs.Char.{is_ascii_alphabetic, is_ascii_digit}
 use Rattle.abc_keys.specs.declared.letters.Accidental.{Accidental}
 use Rattle.abc_keys.specs.declared.letters.Letter.{Letter}
 use Rattle.abc_keys.specs.Letters.{letter_of, spelling}
+use Rattle.abc_keys.specs.Runs.{IsRun}
 use Rattle.abc_fields.specs.Bytes.{colon, begins}
 use Rattle.abc_items.specs.declared.kinds.Kind.{Kind}
 use Rattle.abc_items.specs.declared.kinds.Kind.TheVariants.{Quoted, Decoration, Grace, InlineField}
@@ -17,13 +18,9 @@ use Rattle.abc_items.specs.Marks.{closing_brace, opening_bracket, closing_bracke
 use Rattle.abc_items.specs.Marks.{opening_parenthesis, is_colon, is_octave_mark}
 use Rattle.abc_items.specs.Marks.{is_chord_byte, has_no}
 
--- bytes that pass, as many as there are: this rest begins with no further one
-pub record IsRun (passes : ℕ → Bool) (run rest : List ℕ) : Type 0 where
-  pub all : list_all passes run ≡ true
-  pub ends : begins passes rest ≡ false
-
--- THE ROWS, EACH BY ITSELF an opening mark, bytes other than the closing mark, or none, and the
--- closing mark (ABC 2.1, 4.12, 4.14, 4.18 and 4.19)
+-- THE ROWS, EACH BY ITSELF
+-- an opening mark, bytes other than the closing mark, or none, and the closing mark (ABC 2.1, 4.12,
+-- 4.14, 4.18 and 4.19)
 pub record IsEnclosed (opening closing : ℕ) (text : List ℕ) : Type 0 where
   pub inside : List ℕ
   pub plain : has_no closing inside ≡ true

@@ -1,7 +1,9 @@
+pub mod Runs
 pub mod Letters
 pub mod Signatures
 pub mod ScaleTable
 pub mod Accidentals
 pub mod ModeWords
 pub mod Keys
+pub mod KeyCases
 pub mod Inside

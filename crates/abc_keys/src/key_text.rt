@@ -8,6 +8,8 @@ ghost use Rattle.abc_keys.specs.declared.scales.Scale.{Scale as AnyScale};
 ghost use Rattle.abc_keys.specs.Signatures.{of_count, HasCount};
 ghost use Rattle.abc_keys.specs.ScaleTable.{listed_count};
 ghost use Rattle.abc_keys.specs.Accidentals.{Setting, SetsItsPairs, LastCounts};
+ghost use Rattle.abc_keys.specs.declared.keys.Key.{Key as AnyKey};
+ghost use Rattle.abc_keys.specs.KeyCases.{IsKeyText};
 ghost use Rattle.abc_keys.specs.Keys.{is_ink, is_none, pipes_signature, key_of_scale, key_of_mode};
 ghost use Rattle.abc_keys.specs.Keys.{key_after_tonic, key_after_sign, key_after_letter};
 ghost use Rattle.abc_keys.specs.Keys.{key_with_tonic, key_of_trimmed, key_of_text, SkipsBlanks};
@@ -23,13 +25,20 @@ use abc_fields::{is_blank, trim_blanks};
 /// What a key text says (ABC 2.1, 3.1.14; this archive's profile). The text is a field's value, or
 /// what follows `K:` in an inline field.
 ///
-/// Laws of the rules stand beside it. Words that set accidentals are pairs of an accidental and a
-/// letter, one after another, of which the last one for a letter counts; other words set none. A
-/// scale of the table has as many sharps or flats as its count says, in their order, and no others.
-/// Spaces and tabs at the ends of a text say nothing.
+/// Its law stands beside it: a text without spaces and tabs at its ends is nothing; or it begins
+/// with the word `none`, `HP` or `Hp`; or with a tonic and its sign, and then a mode word, no word
+/// or another word. Each of these cases says its key, no text has two, and a text of no case is
+/// unread.
+///
+/// Words that set accidentals are pairs of an accidental and a letter, one after another, of which
+/// the last one for a letter counts; other words set none. A scale of the table has as many sharps
+/// or flats as its count says, in their order, and no others. Spaces and tabs at the ends of a text
+/// say nothing.
 #[tactic(auto, unfolding(crate::specs::Keys::key_of_text))]
 pub fn key_of(text: &[u8]) -> Key
     ensures key { result ≡ key_of_text text.now }
+    ensures is_key { IsKeyText text.now (key_of_text text.now) }
+    ensures no_other_key { (said : AnyKey) → IsKeyText text.now said → said ≡ key_of_text text.now }
     ensures words { (word : List ℕ) → SetsItsPairs word }
     ensures last_counts { (signature : AnySignature) (pairs : List Setting)
         → LastCounts signature pairs }

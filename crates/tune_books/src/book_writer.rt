@@ -35,8 +35,9 @@ impl BookWriter {
         Ok(BookWriter { bytes })
     }
 
-    // A set without tunes: the first line of a book, and a comment that names the set.
-    fn of_set(alloc: Global, name: &[u8]) -> Result<BookWriter, AllocError>
+    /// A set without tunes: the first line of a book, and a comment that names the set (this
+    /// archive's profile). The error is out of memory.
+    pub fn of_set(alloc: Global, name: &[u8]) -> Result<BookWriter, AllocError>
         ensures { IfOk result (λ writer. writer ≡ set_header name.now) }
     {
         let mut bytes = Vec::from_slice(alloc, b"%abc-2.1\n% set ")?;

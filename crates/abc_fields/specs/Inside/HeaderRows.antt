@@ -11,7 +11,6 @@ use Rattle.abc_fields.specs.declared.carry_rules.CarryRule.{CarryRule}
 use Rattle.abc_fields.specs.declared.carry_rules.CarryRule.TheVariants.{Never, Always, Unless}
 use Rattle.abc_fields.specs.declared.file_header.HeaderLine.{HeaderLine}
 use Rattle.abc_fields.specs.declared.file_header.RuleSum.{RuleSum}
-use Rattle.abc_fields.specs.declared.carried.Carried.{Carried}
 
 -- a line, and which tunes carry it
 pub record Row : Type 0 where
@@ -99,7 +98,3 @@ runs_with rows runs = map (with_rows rows) runs
 -- their texts
 abbrev pub texts_with : List Row → List (List (List ℕ)) → List (List ℕ)
 texts_with rows runs = map joined (runs_with rows runs)
-
--- what is kept for these letters is what a tune carries that has them
-abbrev pub IsCarried : List Row → Carried → Type 0
-IsCarried rows kept = kept.bytes.items ≡ joined (taken (in_table kept.letters.table) rows)

@@ -3,7 +3,8 @@ use Rattle.std.specs.List.{AllByRecursion}
 use Rattle.abc_fields.specs.Limits.{longest_tune}
 use Rattle.abc_fields.specs.Tunes.{tune_runs, IsTextWithin}
 use Rattle.abc_fields.specs.Inside.LinesLeft.{contents_of}
-use Rattle.abc_fields.specs.Inside.HeaderRows.{texts_with, IsCarried}
+use Rattle.abc_fields.specs.Inside.HeaderRows.{texts_with}
+use Rattle.abc_fields.specs.Inside.CarriedBytes.{IsCarried}
 use Rattle.abc_fields.proofs.judged_book.texts_of.Given as goal
 
 abbrev pub invariant-loop-line : goal.invariant-loop-line

@@ -1,10 +1,10 @@
 -- The longest front of a text whose bytes pass a test.
-use Rattle.std.proofs.Common.{◌≡◌, ℕ, suc, ◌+◌, Bool, true, false, cond, List, [], ◌∷◌, ◌++◌, length, take, drop, refl, ap, ◌∙◌, arith}
+use Rattle.std.proofs.Common.{◌≡◌, ℕ, suc, ◌+◌, Bool, true, false, cond, List, [], ◌∷◌, ◌++◌, length, take, drop, refl, ap, sym, ◌∙◌, arith}
 use Rattle.std.specs.List.{prefix_len, list_all}
 use Rattle.std.proofs.lemmas.Bool.{and_parts, and_from}
-use Rattle.std.proofs.lemmas.List.{take-append-drop}
+use Rattle.std.proofs.lemmas.List.{take-append-drop, take_at, drop_at}
 use Rattle.abc_fields.specs.Bytes.{begins}
-use Rattle.abc_items.specs.Grammar.{IsRun}
+use Rattle.abc_keys.specs.Runs.{IsRun}
 
 -- one byte more, or none
 front_step : (p : ℕ → Bool) (byte n : ℕ) (text : List ℕ) (c : Bool) → p byte ≡ c → list_all p (take n text) ≡ true
@@ -50,3 +50,10 @@ run_is_longest p run rest is = longest p run rest is.all is.ends
 -- a run before a text that is cut in two
 pub run_before : (p : ℕ → Bool) (run text : List ℕ) (n : ℕ) → IsRun p run text → IsRun p run (take n text ++ drop n text)
 run_before p run text n is = record { all = is.all; ends = ap (begins p) (take-append-drop n text) ∙ is.ends }
+
+-- so it is taken from the text by that front, and the rest is what is past it
+pub run_taken : (p : ℕ → Bool) (run rest : List ℕ) → IsRun p run rest → take (prefix_len p (run ++ rest)) (run ++ rest) ≡ run
+run_taken p run rest is = take_at run rest (prefix_len p (run ++ rest)) (sym (run_is_longest p run rest is))
+
+pub run_past : (p : ℕ → Bool) (run rest : List ℕ) → IsRun p run rest → drop (prefix_len p (run ++ rest)) (run ++ rest) ≡ rest
+run_past p run rest is = drop_at run rest (prefix_len p (run ++ rest)) (sym (run_is_longest p run rest is))
