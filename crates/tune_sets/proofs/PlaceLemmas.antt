@@ -8,9 +8,9 @@ use Rattle.std.proofs.lemmas.Slice.Eq.{bytes_eq-Decides}
 use Rattle.tune_sets.specs.Names.{is_good_name, is_before}
 use Rattle.tune_sets.specs.Limits.{most_places, most_sets}
 use Rattle.tune_sets.specs.Numbers.{renumbered, renumbered_all, is_among, has_place}
-use Rattle.tune_sets.specs.Sets.{RisesFrom, set_at, holder, inserted, empty_set, with_numbers, without, renumbered_set, renumbered_sets}
+use Rattle.tune_sets.specs.Sets.{RisesFrom, AreSetLists, set_at, holder, inserted, empty_set, with_numbers, without, renumbered_set, renumbered_sets}
 use Rattle.tune_sets.specs.Calls.{create_unless, create_set, add_to, add_number, cut_from, cut_place, drop_found, drop_set, places_found, places_of}
-use Rattle.tune_sets.specs.Laws.{Leaves}
+use Rattle.tune_sets.specs.Laws.{Leaves, Holds, IsLeastHolder}
 use Rattle.tune_sets.specs.declared.faults.SetFault.TheVariants.{NoSuchSet}
 use Rattle.tune_sets.specs.declared.set_lists.TuneSet.{TuneSet}
 use Rattle.tune_sets.proofs.NameOrder.{same_name, before_other, before_differs, before_trans}
@@ -80,7 +80,7 @@ set_at-without_same low name (set ∷ sets) rises = elim (cases_Bool (bytes_eq s
   | inr nay ↦ rw (nay, nay) (set_at-without_same set.name name sets rises.1)
 ]
 
-set_at-without_other : (name other : List ℕ) (sets : List TuneSet) → other ≢ name → set_at other (without name sets) ≡ set_at other sets
+pub set_at-without_other : (name other : List ℕ) (sets : List TuneSet) → other ≢ name → set_at other (without name sets) ≡ set_at other sets
 set_at-without_other name other [] ne = refl
 set_at-without_other name other (set ∷ sets) ne = elim (cases_Bool (bytes_eq set.name name)) [
   | inl same ↦
@@ -174,6 +174,25 @@ holder-least low number (first ∷ sets) name other set rises holds lesser found
   where
     set_at-low : (name low : List ℕ) (sets : List TuneSet) → is_before name low ≡ true → RisesFrom low sets → set_at name sets ≡ None
     set_at-low name low sets before rises = set_at-below name sets (rises-below name low sets before rises)
+
+-- so the holder is the least one
+pub least_holder : (number : ℕ) (name : List ℕ) (sets : List TuneSet) → AreSetLists sets → holder number sets ≡ Some name → IsLeastHolder number name sets
+least_holder number name sets are holds =
+    let found = holder-holds [] number sets name are.rises holds in
+    record {
+      holds = record { set = found.0; named = found.1; among = found.2 };
+      least = λ other lesser its.
+          let nay = holder-least [] number sets name other its.set are.rises holds lesser its.named in
+          let e : true ≡ false = sym its.among ∙ nay in
+          cc;
+    }
+
+-- and where there is none no set holds the number
+pub no_holder : (number : ℕ) (name : List ℕ) (sets : List TuneSet) → holder number sets ≡ None → Holds number name sets → ⊥
+no_holder number name sets none its =
+    let nay = holder-none number sets name its.set none its.named in
+    let e : true ≡ false = sym its.among ∙ nay in
+    cc
 
 -- THE CALLS
 places_same : (name : List ℕ) (sets others : List TuneSet) → set_at name sets ≡ set_at name others → places_of name sets ≡ places_of name others

@@ -1,8 +1,7 @@
-use Rattle.std.proofs.Common.{◌≡◌, [], sym, ◌∙◌, true, false}
 use Rattle.tune_sets.proofs.ByteLemmas.{sets_same}
 use Rattle.tune_sets.proofs.ChangeLemmas.{are_renumbered}
 use Rattle.tune_sets.proofs.LimitLemmas.{create_keeps, add_keeps, cut_keeps, drop_keeps}
-use Rattle.tune_sets.proofs.PlaceLemmas.{created, added, cut_one, dropped, renumbers, holder-renumbered, holder-none, holder-holds, holder-least}
+use Rattle.tune_sets.proofs.PlaceLemmas.{created, added, cut_one, dropped, renumbers, holder-renumbered, least_holder, no_holder}
 use Rattle.tune_sets.proofs.laws.law_of_set_lists.Goals as goal
 
 pub returns : goal.returns
@@ -13,19 +12,8 @@ returns c = record {
   dropped = λ name sets are. dropped name sets are.rises;
   renumbered = renumbers;
   gone = holder-renumbered;
-  held = λ number name sets are holds.
-      let found = holder-holds [] number sets name are.rises holds in
-      record {
-        holds = record { set = found.0; named = found.1; among = found.2 };
-        least = λ other lesser its.
-            let no = holder-least [] number sets name other its.set are.rises holds lesser its.named in
-            let e : true ≡ false = sym its.among ∙ no in
-            cc;
-      };
-  free = λ number name sets none its.
-      let no = holder-none number sets name its.set none its.named in
-      let e : true ≡ false = sym its.among ∙ no in
-      cc;
+  held = least_holder;
+  free = no_holder;
   limits_create = create_keeps;
   limits_add = add_keeps;
   limits_cut = cut_keeps;
