@@ -3,9 +3,10 @@ ghost use Rattle.std.specs.Prelude.{◌≤◌};
 
 use abc_fields::{BookFault, ByteText, Lines, TuneFault, judge_book, split_book};
 use std::alloc::Global;
+use std::process::Abort;
 use std::test::Fail;
 use tune_books::write_book;
-use tune_store::{Command, ListArchive, Refusal, Reply, TuneStore};
+use tune_store::{Command, ListArchive, Refusal, Reply, Tune, TuneStore};
 
 #[test]
 fn reads_lines_with_each_ending(rt: HostRuntime) {
@@ -132,31 +133,49 @@ fn copies_are_their_sources(rt: HostRuntime) -> Result<(), Fail> {
     Ok(())
 }
 
+// An archive of 20,000 tunes `K:C`, imported one by one.
+fn full_archive(alloc: Global, import: &Command) -> Result<ListArchive, Fail> {
+    let mut archive = ListArchive::new(alloc);
+    for _ in 0..20_000 {
+        archive.apply(import)?;
+    }
+    Ok(archive)
+}
+
+// Checks the tune of a number in that archive.
+fn check_tune<R: AllocGlobal + Abort>(
+    rt: &R,
+    archive: &mut ListArchive,
+    number: u32,
+) -> Result<(), Fail> {
+    let tune = shown(archive.apply(&Command::Show(number))?)?;
+    assert_eq!(rt; (tune.number, tune.revision), (number, 1));
+    assert_eq!(rt; tune.text.bytes(), b"K:C\n".as_slice());
+    let copy = tune.copy(rt.alloc())?;
+    assert_eq!(rt; copy.text.bytes(), b"K:C\n".as_slice());
+    Ok(())
+}
+
 #[test]
 fn holds_as_many_tunes_as_it_may(rt: HostRuntime) -> Result<(), Fail> {
     let import = Command::Import(ByteText::copy_of(rt.alloc(), b"X:1\nK:C\n")?);
-    let mut archive = ListArchive::new(rt.alloc());
-    for _ in 0..20_000 {
-        assert!(&rt; archive.apply(&import).is_ok());
-    }
-    assert_eq!(&rt; archive.apply(&import).err(), Some(Refusal::ArchiveFull));
-    assert_eq!(&rt;
-        archive.apply(&Command::Show(20_001)).err(),
-        Some(Refusal::Unknown { number: 20_001 })
-    );
+    let mut archive = full_archive(rt.alloc(), &import)?;
+    let refusal = archive.apply(&import).err();
+    assert_eq!(&rt; refusal, Some(Refusal::ArchiveFull));
+    let refusal = archive.apply(&Command::Show(20_001)).err();
+    assert_eq!(&rt; refusal, Some(Refusal::Unknown { number: 20_001 }));
     for number in [1, 2, 9_999, 10_000, 19_999, 20_000] {
-        match archive.apply(&Command::Show(number))? {
-            Reply::Shown(tune) => {
-                assert_eq!(&rt;
-                    (tune.number, tune.revision, tune.text.bytes()),
-                    (number, 1, b"K:C\n".as_slice())
-                );
-                assert_eq!(&rt; tune.copy(rt.alloc())?.text.bytes(), b"K:C\n".as_slice());
-            }
-            _ => return Err(Fail::from("no tune is shown")),
-        }
+        check_tune(&rt, &mut archive, number)?;
     }
     Ok(())
+}
+
+// The tune of a reply that shows one.
+fn shown(reply: Reply) -> Result<Tune, Fail> {
+    match reply {
+        Reply::Shown(tune) => Ok(tune),
+        _ => Err(Fail::from("no tune is shown")),
+    }
 }
 
 #[test]

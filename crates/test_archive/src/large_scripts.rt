@@ -185,7 +185,10 @@ fn holds_as_many_tunes_as_one_import_may_bring(rt: HostRuntime) -> Result<(), Fa
         &rt,
         "a full archive",
         script.as_slice(),
-        b"ok import 1 20000\nrefused 9 ArchiveFull\nrefused 1 NoTune\nrefused 2 BadTune 1 NoKey\nrefused 1 NoTune\nok replace 20000 2\nok show 20000 2 12\nX:20000\nK:D\nrefused 4 Unknown 20001\nok delete 1\nrefused 9 ArchiveFull\nok import 20001 20001\nok show 20001 1 12\nX:20001\nK:C\nrefused 4 Unknown 1\nrefused 9 ArchiveFull\n",
+        b"ok import 1 20000\nrefused 9 ArchiveFull\nrefused 1 NoTune\nrefused 2 BadTune 1 NoKey\n\
+          refused 1 NoTune\nok replace 20000 2\nok show 20000 2 12\nX:20000\nK:D\n\
+          refused 4 Unknown 20001\nok delete 1\nrefused 9 ArchiveFull\nok import 20001 20001\n\
+          ok show 20001 1 12\nX:20001\nK:C\nrefused 4 Unknown 1\nrefused 9 ArchiveFull\n",
     )
 }
 
@@ -214,7 +217,9 @@ fn adds_no_tune_of_an_import_that_passes_the_most(rt: HostRuntime) -> Result<(),
         &rt,
         "a book of too many tunes",
         script.as_slice(),
-        b"refused 9 ArchiveFull\nok export 9\n%abc-2.1\nrefused 2 BadTune 20002 NoKey\nok import 1 1\nrefused 9 ArchiveFull\nok import 2 20000\nok show 20000 1 12\nX:20000\nK:C\n",
+        b"refused 9 ArchiveFull\nok export 9\n%abc-2.1\nrefused 2 BadTune 20002 NoKey\n\
+          ok import 1 1\nrefused 9 ArchiveFull\nok import 2 20000\nok show 20000 1 12\nX:20000\n\
+          K:C\n",
     )
 }
 

@@ -12,3 +12,5 @@ mod command_lines;
 mod large_scripts;
 #[cfg(test)]
 mod pipes;
+#[cfg(test)]
+mod tune_texts;

@@ -4,7 +4,8 @@ use Rattle.std.proofs.Common.{length-append, Bool, true, false, Result, Ok, Err}
 use Rattle.std.specs.Prelude.{IfOk}
 use Rattle.tune_disk.specs.Disk.{Medium, MayLeave, DiskState, GoesTo, Torn, Syncs, touched, settled}
 use Rattle.tune_store.specs.State.{State, IsState, Standing}
-use Rattle.tune_store.specs.Step.{Outcome, step}
+use Rattle.tune_store.specs.TuneSteps.{Outcome}
+use Rattle.tune_store.specs.Step.{step}
 use Rattle.tune_store.specs.Answers.{Answers, open_at, closed_at, stepped, no_memory, failed_before, failed_after, is_closed}
 use Rattle.tune_store.specs.declared.command.Command.{Command}
 use Rattle.tune_store.specs.declared.command.Reply.{Reply}

@@ -6,7 +6,7 @@ use std::test::Fail;
 use tune_cli::status;
 use tune_disk::{FuseDisk, MemoryDisk};
 use tune_scripts::{RunEnd, run};
-use tune_store::{Command, Refusal, Reply, TuneStore};
+use tune_store::{Command, Refusal, Reply, Tune, TuneStore};
 
 #[test]
 fn records_an_import(rt: HostRuntime) -> Result<(), Fail> {
@@ -18,15 +18,21 @@ fn records_an_import(rt: HostRuntime) -> Result<(), Fail> {
         _ => return Err(Fail::from("no tune is imported")),
     }
     assert_eq!(&rt; store.entries(), [0, 1].as_slice());
-    match apply_to_open(&mut store, &Command::Show(1))? {
-        Reply::Shown(tune) => assert_eq!(&rt; tune.text.bytes(), b"K:C\n".as_slice()),
-        _ => return Err(Fail::from("no tune is shown")),
-    }
+    let tune = shown(apply_to_open(&mut store, &Command::Show(1))?)?;
+    assert_eq!(&rt; tune.text.bytes(), b"K:C\n".as_slice());
     let refusal = apply_to_open(&mut store, &Command::Show(2)).err();
     assert_eq!(&rt; refusal, Some(Refusal::Unknown { number: 2 }));
     // The tune that is shown is one more entry, and the refusal none.
     assert_eq!(&rt; store.entries(), [0, 1, 1].as_slice());
     Ok(())
+}
+
+// The tune of a reply that shows one.
+fn shown(reply: Reply) -> Result<Tune, Fail> {
+    match reply {
+        Reply::Shown(tune) => Ok(tune),
+        _ => Err(Fail::from("no tune is shown")),
+    }
 }
 
 #[test]

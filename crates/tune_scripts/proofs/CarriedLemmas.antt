@@ -3,7 +3,8 @@ use Rattle.std.proofs.Common.{◌≡◌, ℕ, ◌≤◌, Bool, true, false, not,
 use Rattle.std.specs.Prelude.{IfOk}
 use Rattle.std.proofs.lemmas.List.{append_assoc, append-nil}
 use Rattle.tune_store.specs.State.{State, Standing}
-use Rattle.tune_store.specs.Step.{Outcome, step}
+use Rattle.tune_store.specs.Step.{step}
+use Rattle.tune_store.specs.TuneSteps.{Outcome}
 use Rattle.tune_store.specs.Answers.{Answers, passed, stays_open, stepped, no_memory, failed_before, failed_after, is_closed}
 use Rattle.tune_store.specs.Runs.{Answered, Runs}
 use Rattle.tune_store.specs.Stops.{StandsForOne}

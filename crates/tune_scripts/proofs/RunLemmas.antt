@@ -1,5 +1,5 @@
 -- A script's turns, one after another, over a writer and a store of any kind.
-use Rattle.std.proofs.Common.{◌≡◌, ℕ, suc, false, List, [], ◌++◌, Option, None, Some, refl, sym, ap, ◌∙◌, subst}
+use Rattle.std.proofs.Common.{◌≡◌, ℕ, suc, false, List, [], ◌++◌, Option, None, Some, refl, sym, ap, subst}
 use Rattle.std.specs.Prelude.{IfSome}
 use Rattle.std.specs.Io.KnownBytes.{Appends}
 use Rattle.std.proofs.lemmas.List.{append_assoc, append-nil}
@@ -13,14 +13,9 @@ use Rattle.tune_scripts.specs.Prefixes.{AreAcknowledged}
 use Rattle.tune_scripts.specs.Scripts.{Script, line_bound}
 use Rattle.tune_scripts.specs.ScriptRuns.{Work, work_by, UnlessWriterFails, WritesScript, TellsScript, RunsScript, EndsAfter, at_other_end}
 use Rattle.tune_scripts.specs.Inside.Turns.{GoesOn, Turns, TurnsOver}
+use Rattle.tune_scripts.proofs.AppendLemmas.{appends_more}
 use Rattle.tune_scripts.proofs.TurnLemmas.{appends_none}
 use Rattle.tune_scripts.proofs.CarriedLemmas.{acknowledged_more, ends_more, run_more, carries_more}
-
-appends_more : (a b c : Option (List ℕ)) (x y : List ℕ) → Appends a b x → Appends b c y → Appends a c (x ++ y)
-appends_more None b c x y h k = tt
-appends_more (Some xs) None c x y h k = absurd h
-appends_more (Some xs) (Some ys) None x y h k = absurd k
-appends_more (Some xs) (Some ys) (Some zs) x y h k = k ∙ ap (λ r. r ++ y) h ∙ append_assoc xs x y
 
 -- ENDS
 -- what holds of the output follows where the writer did not fail

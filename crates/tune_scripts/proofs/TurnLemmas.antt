@@ -4,7 +4,6 @@ use Rattle.std.proofs.Common.{◌∙◌, subst, inl, inr, arith, Result}
 use Rattle.std.specs.Io.KnownBytes.{Appends, Consumes, IsAtEnd}
 use Rattle.std.proofs.lemmas.List.{append-nil, take_at, drop_at, length-append}
 use Rattle.std.proofs.lemmas.Bool.{le-ltb, lt-ltb}
-use Rattle.abc_fields.specs.Words.{words_of}
 use Rattle.abc_fields.specs.Limits.{longest_book}
 use Rattle.tune_store.specs.State.{Standing}
 use Rattle.tune_store.specs.Answers.{Answers, stays_open}
@@ -15,11 +14,13 @@ use Rattle.tune_store.specs.declared.command.Refusal.{Refusal}
 use Rattle.tune_store.specs.declared.command.Refusal.TheVariants.{BookTooLong, OutOfMemory}
 use Rattle.tune_store.specs.declared.tune_store.TuneStore as store
 use Rattle.tune_scripts.specs.declared.script_lines.ScriptLine.{ScriptLine}
+use Rattle.tune_scripts.specs.declared.script_lines.ScriptLine.TheVariants.{Blank, Bad, Whole, Book}
 use Rattle.tune_scripts.specs.declared.script_lines.BookUse.{BookUse}
+use Rattle.tune_scripts.specs.declared.script_lines.BookUse.TheVariants as use_of
 use Rattle.tune_scripts.specs.declared.runs.RunEnd.{RunEnd}
 use Rattle.tune_scripts.specs.declared.runs.RunEnd.TheVariants.{Ended, LongLine, ReaderFault, WriterFault, DeviceFault}
 use Rattle.tune_scripts.specs.Limits.{longest_line}
-use Rattle.tune_scripts.specs.ScriptLines.{meaning_of, command_of}
+use Rattle.tune_scripts.specs.ScriptLines.{meaning_of_line, command_of, holds_text, line_holds_text}
 use Rattle.tune_scripts.specs.InputLines.{before_feed, after_feed, has_feed}
 use Rattle.tune_scripts.specs.Replies.{answer_bytes, refusal_bytes, bad_line_bytes}
 use Rattle.tune_scripts.specs.Carried.{Carried}
@@ -161,14 +162,28 @@ turn_bad input rest left work result r l quiet (inl fault) = quiet_fault input r
 turn_bad input rest left work result r l quiet (inr h) = rw h.0 (λ n. adds_bytes (suc n) n input rest bad_line_bytes left work l quiet h.1
     (λ tail unread later end last k. after_bad_line n work.before last input rest tail unread later end r k))
 
--- after a book for which there is no memory
-turn_no_room : (input rest : List ℕ) (left : Option (List ℕ)) (work : Work) (book_use : BookUse) (book : List ℕ) (result : Option RunEnd)
-    → reading_of input ≡ whole_command (command_of book_use book) rest → left ≡ Some rest → IsQuiet work
+-- after a command for whose text there is no memory
+turn_no_room : (input rest : List ℕ) (left : Option (List ℕ)) (work : Work) (command : Command) (result : Option RunEnd)
+    → reading_of input ≡ whole_command command rest → holds_text command ≡ true → left ≡ Some rest → IsQuiet work
     → WritesOut work.was work.now (refusal_bytes OutOfMemory) None result → TurnOf input left work result
-turn_no_room input rest left work book_use book result r l quiet (inl fault) = quiet_fault input rest left work result l quiet fault
-turn_no_room input rest left work book_use book result r l quiet (inr h) =
+turn_no_room input rest left work command result r holds l quiet (inl fault) = quiet_fault input rest left work result l quiet fault
+turn_no_room input rest left work command result r holds l quiet (inr h) =
     rw h.0 (λ n. adds_bytes (suc n) n input rest (refusal_bytes OutOfMemory) left work l quiet h.1
-    (λ tail unread later end last k. after_no_room n work.before last input rest tail unread later end book_use book r k))
+    (λ tail unread later end last k. after_no_room n work.before last input rest tail unread later end command r holds k))
+
+-- the same by what a line asks for
+pub turn_no_text : (m : ScriptLine) (input rest : List ℕ) (left : Option (List ℕ)) (work : Work) (result : Option RunEnd) → line_holds_text m ≡ true
+    → reading_of input ≡ reading_of_meaning m rest → left ≡ Some rest → IsQuiet work
+    → WritesOut work.was work.now (refusal_bytes OutOfMemory) None result → TurnOf input left work result
+turn_no_text Blank input rest left work result holds r l quiet w = absurd cc
+turn_no_text Bad input rest left work result holds r l quiet w = absurd cc
+turn_no_text (Whole command) input rest left work result holds r l quiet w = turn_no_room input rest left work command result r holds l quiet w
+turn_no_text (Book book_use len) input rest left work result holds r l quiet w = absurd cc
+
+-- a command over a book holds a text
+book_is_text : (book_use : BookUse) (book : List ℕ) → holds_text (command_of book_use book) ≡ true
+book_is_text use_of.Import book = refl
+book_is_text (use_of.Replace number revision) book = refl
 
 -- after a book that is too long
 turn_over : (input rest : List ℕ) (left : Option (List ℕ)) (work : Work) (result : Option RunEnd) → reading_of input ≡ long_book rest
@@ -243,7 +258,7 @@ book_no_room book_use len None new work result got e h c quiet w = tt
 book_no_room book_use len (Some xs) None work result got e h c quiet w = absurd c
 book_no_room book_use len (Some xs) (Some ys) work result got e h c quiet w = λ input r.
     let reads = r ∙ ap (reading_of_book book_use len) c ∙ reads_whole book_use len got ys e h in
-    turn_no_room input ys (Some ys) work book_use got result reads refl quiet w
+    turn_no_room input ys (Some ys) work (command_of book_use got) result reads (book_is_text book_use got) refl quiet w
 
 -- a book that was read, and the command over it carried out
 pub book_whole : (book_use : BookUse) (len : ℕ) (old new : Option (List ℕ)) (work : Work) (result : Option RunEnd) (got : List ℕ)
@@ -262,11 +277,11 @@ reading_by_parts [] h = absurd (omega arith)
 reading_by_parts (b ∷ bs) h = refl
 
 parts_short : (line rest : List ℕ) (fed : Bool) → length line ≤ longest_line
-    → reading_of_line line fed rest ≡ reading_of_meaning (meaning_of (words_of (line_text fed line))) rest
+    → reading_of_line line fed rest ≡ reading_of_meaning (meaning_of_line (line_text fed line)) rest
 parts_short line rest fed h = rw (le-ltb longest_line (length line) h) refl
 
 reading_line : (input line rest : List ℕ) (fed : Bool) (m : ScriptLine) → IsLineRead input line rest fed → length line ≤ longest_line
-    → meaning_of (words_of (line_text fed line)) ≡ m → reading_of input ≡ reading_of_meaning m rest
+    → meaning_of_line (line_text fed line) ≡ m → reading_of input ≡ reading_of_meaning m rest
 reading_line input line rest fed m h l e =
     reading_by_parts input h.some
     ∙ ap (λ x. reading_of_line x (has_feed input) (after_feed input)) h.bytes
@@ -281,7 +296,7 @@ reading_long (b ∷ bs) h = rw (lt-ltb longest_line (length (before_feed (b ∷ 
 
 -- a line was read, and what follows is a turn for each rest
 pub from_line : (old mid new : Option (List ℕ)) (work : Work) (result : Option RunEnd) (line : List ℕ) (fed : Bool) (m : ScriptLine)
-    → TakesLine old mid line fed → length line ≤ longest_line → meaning_of (words_of (line_text fed line)) ≡ m
+    → TakesLine old mid line fed → length line ≤ longest_line → meaning_of_line (line_text fed line) ≡ m
     → ((input rest : List ℕ) → reading_of input ≡ reading_of_meaning m rest → mid ≡ Some rest → TurnOf input new work result)
     → Turns old new work result
 from_line None mid new work result line fed m h l e f = tt

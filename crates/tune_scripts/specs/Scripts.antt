@@ -4,7 +4,6 @@ use Rattle.std.specs.Prelude.{◌≡◌, ℕ, suc, ◌+◌, List, [], ◌∷◌,
 use Rattle.std.specs.Prelude.{nat_lt, if◌then◌else◌, true, false}
 use Rattle.std.specs.Io.BufRead.{strip_last}
 use Rattle.abc_fields.specs.Bytes.{carriage_return}
-use Rattle.abc_fields.specs.Words.{words_of}
 use Rattle.abc_fields.specs.Limits.{longest_book}
 use Rattle.tune_store.specs.State.{Standing}
 use Rattle.tune_store.specs.Answers.{Answers, stays_open}
@@ -19,7 +18,7 @@ use Rattle.tune_scripts.specs.declared.runs.RunEnd.TheVariants.{Ended, LineBound
 use Rattle.tune_scripts.specs.declared.runs.RunEnd.TheVariants.{ReaderFault, WriterFault}
 use Rattle.tune_scripts.specs.declared.runs.RunEnd.TheVariants.{DeviceFault}
 use Rattle.tune_scripts.specs.Limits.{longest_line}
-use Rattle.tune_scripts.specs.ScriptLines.{meaning_of, command_of}
+use Rattle.tune_scripts.specs.ScriptLines.{meaning_of_line, command_of, holds_text}
 use Rattle.tune_scripts.specs.InputLines.{before_feed, after_feed, has_feed}
 use Rattle.tune_scripts.specs.Replies.{answer_bytes, refusal_bytes, bad_line_bytes}
 
@@ -61,7 +60,7 @@ reading_of_meaning (Book book_use len) rest = reading_of_book book_use len rest
 abbrev pub reading_of_line : List ℕ → Bool → List ℕ → Reading
 reading_of_line line fed rest =
     if nat_lt longest_line (length line) then long_line
-    else reading_of_meaning (meaning_of (words_of (line_text fed line))) rest
+    else reading_of_meaning (meaning_of_line (line_text fed line)) rest
 
 abbrev pub reading_of : List ℕ → Reading
 reading_of [] = at_end
@@ -113,10 +112,10 @@ pub data Script : ℕ → Standing → List ℕ → List ℕ → List Answered �
       (run : List Answered) (end : RunEnd) → reading_of input ≡ long_book rest
       → Script n s rest out run end t unread
       → Script (suc n) s input (refusal_bytes BookTooLong ++ out) run end t unread
-  -- there is no memory for the book of the command: the command does not reach the store
+  -- there is no memory for the text that the command holds: the command does not reach the store
   after_no_room : (n : ℕ) (s t : Standing) (input rest out unread : List ℕ)
-      (run : List Answered) (end : RunEnd) (book_use : BookUse) (book : List ℕ)
-      → reading_of input ≡ whole_command (command_of book_use book) rest
+      (run : List Answered) (end : RunEnd) (command : Command)
+      → reading_of input ≡ whole_command command rest → holds_text command ≡ true
       → Script n s rest out run end t unread
       → Script (suc n) s input (refusal_bytes OutOfMemory ++ out) run end t unread
   after_answer : (n : ℕ) (s mid t : Standing) (input rest out unread : List ℕ) (next : Answered)

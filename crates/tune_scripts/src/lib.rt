@@ -5,6 +5,7 @@
 mod laws;
 mod reading;
 mod replies;
+mod rows;
 mod runs;
 mod script_lines;
 

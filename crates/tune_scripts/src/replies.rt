@@ -4,11 +4,14 @@ ghost use Rattle.std.specs.Fmt.{decimal};
 ghost use Rattle.std.specs.Io.KnownBytes.{Appends};
 ghost use Rattle.tune_scripts.specs.Replies.{reply_bytes, shown_bytes, exported_bytes};
 ghost use Rattle.tune_scripts.specs.Replies.{refusal_bytes, answer_bytes, bad_line_bytes};
+ghost use Rattle.tune_store.specs.declared.command.Reply.TheVariants as reply;
 
-use abc_fields::TuneFault;
+use crate::rows::{write_name, write_name_number, write_places, write_rows, write_set_rows};
+use abc_fields::{ByteText, TuneFault};
 use std::io;
 use std::io::Write;
-use tune_store::{Refusal, Reply, Tune};
+use tune_sets::{SetName, SetRowList};
+use tune_store::{Refusal, Reply, RowList, Tune};
 
 // Writes an answer, and flushes it.
 pub(crate) fn write_answer<W: Write>(
@@ -43,8 +46,22 @@ fn write_reply<W: Write>(writer: &mut W, reply: &Reply) -> io::Result<()>
             write!(writer, "ok replace {number} {revision}\n")
         }
         Reply::Deleted { number } => write!(writer, "ok delete {number}\n"),
+        Reply::Renumbered { number, to } => write!(writer, "ok renumber {number} {to}\n"),
         Reply::Shown(tune) => write_shown(writer, tune),
+        Reply::Found(rows) => write_found(writer, rows),
+        Reply::Titled(rows) => write_titled(writer, rows),
+        Reply::SetMade { name } => write_name(writer, b"ok set-new ", name),
+        Reply::SetAdded { name, place } => {
+            write_name_number(writer, b"ok set-add ", name, *place)
+        }
+        Reply::SetCut { name, place } => {
+            write_name_number(writer, b"ok set-cut ", name, *place as usize)
+        }
+        Reply::SetDropped { name } => write_name(writer, b"ok set-drop ", name),
+        Reply::Sets(rows) => write_sets(writer, rows),
+        Reply::SetShown { name, rows } => write_set_shown(writer, name, rows),
         Reply::Exported(book) => write_exported(writer, book.as_slice()),
+        Reply::SetExported { name, book } => write_set_exported(writer, name, book),
     }
 }
 
@@ -66,6 +83,54 @@ fn write_exported<W: Write>(writer: &mut W, book: &[u8]) -> io::Result<()>
 {
     let len = book.len();
     write!(writer, "ok export {len}\n")?;
+    writer.write_all(book)
+}
+
+fn write_found<W: Write>(writer: &mut W, rows: &RowList) -> io::Result<()>
+    ensures { let bytes = reply_bytes (reply.Found rows.now) in
+        OnOk result (Appends (W.contents writer.old) (W.contents writer.new) bytes) }
+{
+    let rows = rows.as_slice();
+    let count = rows.len();
+    write!(writer, "ok find {count}\n")?;
+    write_rows(writer, rows)
+}
+
+fn write_titled<W: Write>(writer: &mut W, rows: &RowList) -> io::Result<()>
+    ensures { let bytes = reply_bytes (reply.Titled rows.now) in
+        OnOk result (Appends (W.contents writer.old) (W.contents writer.new) bytes) }
+{
+    let rows = rows.as_slice();
+    let count = rows.len();
+    write!(writer, "ok titles {count}\n")?;
+    write_rows(writer, rows)
+}
+
+fn write_sets<W: Write>(writer: &mut W, rows: &SetRowList) -> io::Result<()>
+    ensures { let bytes = reply_bytes (reply.Sets rows.now) in
+        OnOk result (Appends (W.contents writer.old) (W.contents writer.new) bytes) }
+{
+    let rows = rows.as_slice();
+    let count = rows.len();
+    write!(writer, "ok sets {count}\n")?;
+    write_set_rows(writer, rows)
+}
+
+fn write_set_shown<W: Write>(writer: &mut W, name: &SetName, rows: &RowList) -> io::Result<()>
+    ensures { let bytes = reply_bytes (reply.SetShown name.now rows.now) in
+        OnOk result (Appends (W.contents writer.old) (W.contents writer.new) bytes) }
+{
+    let rows = rows.as_slice();
+    write_name_number(writer, b"ok set-show ", name, rows.len())?;
+    write_places(writer, rows)
+}
+
+fn write_set_exported<W: Write>(writer: &mut W, name: &SetName, book: &ByteText) -> io::Result<()>
+    ensures { let bytes = reply_bytes (reply.SetExported name.now book.now) in
+        OnOk result (Appends (W.contents writer.old) (W.contents writer.new) bytes) }
+{
+    let book = book.as_slice();
+    write_name_number(writer, b"ok export-set ", name, book.len())?;
     writer.write_all(book)
 }
 
@@ -94,8 +159,18 @@ fn write_refusal<W: Write>(writer: &mut W, refusal: &Refusal) -> io::Result<()>
         Refusal::Unknown { number } => write!(writer, "refused 4 Unknown {number}\n"),
         Refusal::Stale { revision } => write!(writer, "refused 5 Stale {revision}\n"),
         Refusal::Worn => writer.write_all(b"refused 6 Worn\n"),
+        Refusal::Taken { number } => write!(writer, "refused 7 Taken {number}\n"),
+        Refusal::InSet { name } => write_name(writer, b"refused 8 InSet ", name),
         Refusal::ArchiveFull => writer.write_all(b"refused 9 ArchiveFull\n"),
         Refusal::NumbersSpent => writer.write_all(b"refused 10 NumbersSpent\n"),
+        Refusal::NoSuchSet => writer.write_all(b"refused 11 NoSuchSet\n"),
+        Refusal::SetTaken => writer.write_all(b"refused 12 SetTaken\n"),
+        Refusal::SetFull => writer.write_all(b"refused 13 SetFull\n"),
+        Refusal::SetsFull => writer.write_all(b"refused 14 SetsFull\n"),
+        Refusal::NoSuchPlace => writer.write_all(b"refused 15 NoSuchPlace\n"),
+        Refusal::BadName => writer.write_all(b"refused 16 BadName\n"),
+        Refusal::BadNumber => writer.write_all(b"refused 17 BadNumber\n"),
+        Refusal::BadQuery => writer.write_all(b"refused 18 BadQuery\n"),
         Refusal::BookTooLong => writer.write_all(b"refused 19 BookTooLong\n"),
         Refusal::OutOfMemory => writer.write_all(b"refused 21 OutOfMemory\n"),
         Refusal::Device => writer.write_all(b"refused 22 Device\n"),

@@ -1,5 +1,5 @@
 // Runs a script.
-ghost use Rattle.std.specs.Prelude.{◌≡◌, length, true, None, Some, Err};
+ghost use Rattle.std.specs.Prelude.{◌≡◌, ◌≤◌, length, true, None, Some, Err};
 ghost use Rattle.tune_scripts.specs.Limits.{longest_line, most_lines};
 ghost use Rattle.tune_scripts.specs.Replies.{answer_bytes, bad_line_bytes};
 ghost use Rattle.tune_scripts.specs.Scripts.{line_text};
@@ -41,8 +41,9 @@ pub const MOST_LINES: u32 = 1_000_000;
 /// line is looked at.
 ///
 /// `reader` gives the script: a line, and directly after it the book that it asks for. Both are
-/// read in small pieces, so a reader that buffers serves well. `alloc` is for the books alone:
-/// where there is no memory for one, it is read and dropped, and the reply says so.
+/// read in small pieces, so a reader that buffers serves well. `alloc` is for the texts that
+/// commands hold (a book, a query's text, or the name of a set list): where there is no memory for
+/// one, a book is read and dropped, and the reply says so. No other command is so answered here.
 ///
 /// The clause `runs` speaks of a store whose device has answered as a device does, at every end. It
 /// gives one list, of the commands that the store carried out (`carried`), and says of it:
@@ -102,11 +103,12 @@ fn turn<R: Read, W: Write, S: TuneStore>(
         LineRead::Long => bad_line(writer, Some(RunEnd::LongLine)),
         LineRead::Line(len, fed) => {
             let line = without_return(&line[..len], fed);
-            match meaning(line) {
-                ScriptLine::Blank => None,
-                ScriptLine::Bad => bad_line(writer, None),
-                ScriptLine::Whole(command) => carry_out(writer, store, &command),
-                ScriptLine::Book(book_use, len) => {
+            match meaning(alloc, line) {
+                Err(_) => refuse(writer, Refusal::OutOfMemory),
+                Ok(ScriptLine::Blank) => None,
+                Ok(ScriptLine::Bad) => bad_line(writer, None),
+                Ok(ScriptLine::Whole(command)) => carry_out(writer, store, &command),
+                Ok(ScriptLine::Book(book_use, len)) => {
                     with_book(alloc, reader, writer, store, book_use, len)
                 }
             }
@@ -116,7 +118,8 @@ fn turn<R: Read, W: Write, S: TuneStore>(
 
 // The line without the carriage return before its line feed.
 fn without_return(line: &[u8], fed: bool) -> &[u8]
-    ensures { result.now ≡ line_text fed line.now }
+    ensures text { result.now ≡ line_text fed line.now }
+    ensures size { length result.now ≤ length line.now }
 {
     match line {
         [rest @ .., b'\r'] if fed => rest,

@@ -1,12 +1,19 @@
 // The words of a script line, and what they ask for.
-ghost use Rattle.std.specs.Prelude.{◌≡◌, ◌∷◌, []};
+ghost use Rattle.std.specs.Prelude.{◌≡◌, ◌≤◌, ◌∷◌, [], length, true, IfOk, IfSome, OnErr};
 ghost use Rattle.abc_fields.specs.Bytes.{is_blank};
 ghost use Rattle.abc_fields.specs.Words.{words_of};
 ghost use Rattle.tune_scripts.specs.Inside.FirstWords.{AreFirstFive};
-ghost use Rattle.tune_scripts.specs.ScriptLines.{meaning_of, number_of, command_of};
+ghost use Rattle.tune_scripts.specs.Limits.{longest_line};
+ghost use Rattle.tune_scripts.specs.ScriptLines.{meaning_of, meaning_of_line, meaning_of_find};
+ghost use Rattle.tune_scripts.specs.ScriptLines.{meaning_of_number, renumber_of, number_of};
+ghost use Rattle.tune_scripts.specs.ScriptLines.{command_of, kind_of, query_of, word_of, rest_of};
+ghost use Rattle.tune_scripts.specs.ScriptLines.{line_holds_text};
 
-use abc_fields::{ByteText, is_blank};
+use abc_fields::{ByteText, is_blank, trim_blanks};
 use bstr::ByteSlice;
+use memchr::memchr2;
+use std::alloc::{AllocError, Global};
+use tune_queries::{Query, QueryText};
 use tune_store::Command;
 
 /// How many bytes a line of a script has at most before its line feed, or the input's end (this
@@ -36,6 +43,46 @@ impl BookUse {
     }
 }
 
+/// What a query is for.
+#[derive(Clone, Copy, Debug, PartialEq, Eq)]
+pub(crate) enum QueryKind {
+    Title,
+    Rhythm,
+    Key,
+    Notes,
+}
+
+impl QueryKind {
+    // The kind that a word names.
+    fn named(word: &[u8]) -> Option<QueryKind>
+        ensures { result ≡ kind_of word.now }
+    {
+        if word == b"title".as_slice() {
+            Some(QueryKind::Title)
+        } else if word == b"rhythm".as_slice() {
+            Some(QueryKind::Rhythm)
+        } else if word == b"key".as_slice() {
+            Some(QueryKind::Key)
+        } else if word == b"notes".as_slice() {
+            Some(QueryKind::Notes)
+        } else {
+            None
+        }
+    }
+
+    // The query of this text.
+    fn query(self, text: QueryText) -> Query
+        ensures { result ≡ query_of self text }
+    {
+        match self {
+            QueryKind::Title => Query::Title(text),
+            QueryKind::Rhythm => Query::Rhythm(text),
+            QueryKind::Key => Query::Key(text),
+            QueryKind::Notes => Query::Notes(text),
+        }
+    }
+}
+
 /// What a script line asks for.
 #[derive(Debug, Drop)]
 pub(crate) enum ScriptLine {
@@ -49,18 +96,60 @@ pub(crate) enum ScriptLine {
     Book(BookUse, u32),
 }
 
-// What a line asks for.
-pub(crate) fn meaning(line: &[u8]) -> ScriptLine
-    ensures { result ≡ meaning_of (words_of line.now) }
+// What a line asks for. The error is out of memory, and comes to a command alone that holds a text.
+pub(crate) fn meaning(alloc: Global, line: &[u8]) -> Result<ScriptLine, AllocError>
+    requires { length line.now ≤ longest_line }
+    ensures ok { IfOk result (λ meaning. meaning ≡ meaning_of_line line.now) }
+    ensures err { OnErr result (line_holds_text (meaning_of_line line.now) ≡ true) }
 {
+    let (name, rest) = split_word(line);
+    if name == b"find".as_slice() {
+        return find(alloc, rest);
+    }
     match first_words(line) {
-        (None, _, _, _, _) => ScriptLine::Blank,
-        (Some(name), None, _, _, _) => one_word(name),
-        (Some(name), Some(word), None, _, _) => two_words(name, word),
-        (Some(name), Some(number), Some(revision), Some(length), None) => {
-            four_words(name, number, revision, length)
+        (None, _, _, _, _) => Ok(ScriptLine::Blank),
+        (Some(name), None, _, _, _) => Ok(one_word(name)),
+        (Some(name), Some(word), None, _, _) => two_words(alloc, name, word),
+        (Some(name), Some(first), Some(second), None, _) => {
+            three_words(alloc, name, first, second)
         }
-        _ => ScriptLine::Bad,
+        (Some(name), Some(number), Some(revision), Some(length), None) => {
+            Ok(four_words(name, number, revision, length))
+        }
+        _ => Ok(ScriptLine::Bad),
+    }
+}
+
+// The first word of a line, and the line after it, without blanks at its ends.
+fn split_word(line: &[u8]) -> (&[u8], &[u8])
+    ensures word { result.0.now ≡ word_of line.now }
+    ensures rest { result.1.now ≡ rest_of line.now }
+    ensures size { length result.1.now ≤ length line.now }
+{
+    let text = trim_blanks(line);
+    match memchr2(b' ', b'\t', text) {
+        Some(end) => {
+            let (word, rest) = text.split_at(end);
+            (word, trim_blanks(rest))
+        }
+        None => (text, &[]),
+    }
+}
+
+// What a line asks for that begins with `find`, by what follows.
+fn find(alloc: Global, rest: &[u8]) -> Result<ScriptLine, AllocError>
+    requires { length rest.now ≤ longest_line }
+    ensures ok { IfOk result (λ meaning. meaning ≡ meaning_of_find rest.now) }
+    ensures err { OnErr result (line_holds_text (meaning_of_find rest.now) ≡ true) }
+{
+    let (word, text) = split_word(rest);
+    let Some(kind) = QueryKind::named(word) else {
+        return Ok(ScriptLine::Bad);
+    };
+    let text = ByteText::copy_of(alloc, text)?;
+    match QueryText::new(text) {
+        Some(text) => Ok(ScriptLine::Whole(Command::Find(kind.query(text)))),
+        None => Ok(ScriptLine::Bad),
     }
 }
 
@@ -95,13 +184,35 @@ fn one_word(name: &[u8]) -> ScriptLine
 {
     if name == b"export".as_slice() {
         ScriptLine::Whole(Command::ExportAll)
+    } else if name == b"titles".as_slice() {
+        ScriptLine::Whole(Command::Titles)
+    } else if name == b"sets".as_slice() {
+        ScriptLine::Whole(Command::Sets)
     } else {
         ScriptLine::Bad
     }
 }
 
-fn two_words(name: &[u8], word: &[u8]) -> ScriptLine
-    ensures { result ≡ meaning_of (name.now ∷ word.now ∷ []) }
+fn two_words(alloc: Global, name: &[u8], word: &[u8]) -> Result<ScriptLine, AllocError>
+    ensures ok { IfOk result (λ meaning. meaning ≡ meaning_of (name.now ∷ word.now ∷ [])) }
+    ensures err { OnErr result (line_holds_text (meaning_of (name.now ∷ word.now ∷ [])) ≡ true) }
+{
+    let command = if name == b"set-new".as_slice() {
+        Command::SetNew(ByteText::copy_of(alloc, word)?)
+    } else if name == b"set-drop".as_slice() {
+        Command::SetDrop(ByteText::copy_of(alloc, word)?)
+    } else if name == b"set-show".as_slice() {
+        Command::SetShow(ByteText::copy_of(alloc, word)?)
+    } else if name == b"export-set".as_slice() {
+        Command::ExportSet(ByteText::copy_of(alloc, word)?)
+    } else {
+        return Ok(word_and_number(name, word));
+    };
+    Ok(ScriptLine::Whole(command))
+}
+
+fn word_and_number(name: &[u8], word: &[u8]) -> ScriptLine
+    ensures { result ≡ meaning_of_number name.now (number_of word.now) }
 {
     let Some(number) = number(word) else {
         return ScriptLine::Bad;
@@ -114,6 +225,48 @@ fn two_words(name: &[u8], word: &[u8]) -> ScriptLine
         ScriptLine::Whole(Command::Delete(number))
     } else {
         ScriptLine::Bad
+    }
+}
+
+fn three_words(
+    alloc: Global,
+    name: &[u8],
+    first: &[u8],
+    second: &[u8],
+) -> Result<ScriptLine, AllocError>
+    ensures ok { IfOk result (λ meaning.
+        meaning ≡ meaning_of (name.now ∷ first.now ∷ second.now ∷ [])) }
+    ensures err { OnErr result
+        (line_holds_text (meaning_of (name.now ∷ first.now ∷ second.now ∷ [])) ≡ true) }
+{
+    if name == b"renumber".as_slice() {
+        return Ok(renumber(first, second));
+    }
+    let Some(number) = number(second) else {
+        return Ok(ScriptLine::Bad);
+    };
+    let command = if name == b"set-add".as_slice() {
+        Command::SetAdd {
+            name: ByteText::copy_of(alloc, first)?,
+            number,
+        }
+    } else if name == b"set-cut".as_slice() {
+        Command::SetCut {
+            name: ByteText::copy_of(alloc, first)?,
+            place: number,
+        }
+    } else {
+        return Ok(ScriptLine::Bad);
+    };
+    Ok(ScriptLine::Whole(command))
+}
+
+fn renumber(number_word: &[u8], to: &[u8]) -> ScriptLine
+    ensures { result ≡ renumber_of (number_of number_word.now) (number_of to.now) }
+{
+    match (number(number_word), number(to)) {
+        (Some(number), Some(to)) => ScriptLine::Whole(Command::Renumber { number, to }),
+        _ => ScriptLine::Bad,
     }
 }
 

@@ -1,7 +1,14 @@
 pub mod StateLemmas
+pub mod MoveLemmas
+pub mod NamedLemmas
 pub mod PlaceLemmas
 pub mod StepLemmas
 pub mod LimitLemmas
 pub mod RevisionLemmas
+pub mod SetLaw
 pub mod StopLemmas
 pub mod PlanLemmas
+pub mod LookUpLemmas
+pub mod InsertLemmas
+pub mod QuestionLemmas
+pub mod ListLemmas

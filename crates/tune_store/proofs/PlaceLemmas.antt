@@ -9,7 +9,8 @@ use Rattle.std.specs.declared.cmp.Ordering.TheVariants.{Less, Greater}
 use Rattle.std.proofs.lemmas.Bool.Decides.{nat_tests}
 use Rattle.std.proofs.lemmas.Bool.{ne_eqb, eq-eqb, eqb-true, cases_lt, cases_Bool}
 use Rattle.tune_store.specs.State.{RisesFrom}
-use Rattle.tune_store.specs.Step.{tune_at, with_tune, without}
+use Rattle.tune_store.specs.State.{tune_at}
+use Rattle.tune_store.specs.TuneSteps.{with_tune, without}
 use Rattle.tune_store.specs.declared.tune.Tune.{Tune}
 use Rattle.std.specs.Prelude.{IsSome}
 
@@ -77,7 +78,7 @@ tune_at-without_same low number (first ∷ tunes) rises = elim (cases_Bool (eqb 
 
 -- LOOK-UPS
 -- each number is above what the list rises from
-above : (low : ℕ) (tunes : List Tune) (n : ℕ) (d : Tune) → RisesFrom low tunes → n < length tunes → low < (get_or tunes n d).number
+pub above : (low : ℕ) (tunes : List Tune) (n : ℕ) (d : Tune) → RisesFrom low tunes → n < length tunes → low < (get_or tunes n d).number
 above low [] n d rises l = absurd (omega arith)
 above low (tune ∷ tunes) zero d rises l = rises.0
 above low (tune ∷ tunes) (suc n) d rises l = let later = above tune.number tunes n d rises.1 (omega arith) in let first = rises.0 in omega arith

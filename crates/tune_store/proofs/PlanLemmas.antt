@@ -1,32 +1,26 @@
 -- What the labels of tunes tell of them, and what is decided by them.
-use Rattle.std.proofs.Common.{◌≡◌, ℕ, ◌+◌, ◌-◌, ◌<◌, ◌≤◌, eqb, ltb, List, [], ◌∷◌, ◌++◌, length, get_or, Some, None, Result, Ok, Err, refl, ap, sym, ◌∙◌, arith}
-use Rattle.std.proofs.Common.{inl, inr, ◌⊎◌, subst, map, drop, drop-cons, add-one, append_assoc, codes}
-use Rattle.std.specs.Prelude.{IfErr, MatchResult, slice_set}
+use Rattle.std.proofs.Common.{◌≡◌, ℕ, ◌+◌, ◌-◌, ◌<◌, ◌≤◌, List, [], ◌++◌, length, get_or, Some, None, Result, Ok, Err, refl, ap, sym, ◌∙◌, arith}
+use Rattle.std.proofs.Common.{map, drop, drop-cons, add-one, append_assoc, codes}
+use Rattle.std.specs.Prelude.{IfErr, slice_set}
 use Rattle.std.specs.List.{remove}
-use Rattle.std.proofs.lemmas.Bool.{ltb-false, eq-eqb, ne_eqb, lt-ltb, le-ltb}
+use Rattle.std.proofs.lemmas.Bool.{eq-eqb, ne_eqb, lt-ltb, le-ltb}
 use Rattle.std.proofs.lemmas.List.{get_or-map, length-map}
 use Rattle.tune_store.specs.Limits.{most_tunes, greatest_number, greatest_revision}
-use Rattle.tune_store.specs.State.{State, IsState, Standing, RisesFrom, greatest}
-use Rattle.tune_store.specs.Step.{Outcome, numbered, import_texts, replace_tune, delete_tune}
-use Rattle.tune_store.specs.Step.{tune_at}
-use Rattle.tune_store.specs.Answers.{Answers, open_at, stepped, no_memory, failed_before, failed_after, is_closed}
+use Rattle.tune_store.specs.State.{RisesFrom, greatest}
+use Rattle.tune_store.specs.TuneSteps.{numbered, import_texts, replace_tune, delete_tune}
+use Rattle.tune_store.specs.State.{tune_at}
 use Rattle.tune_books.specs.WrittenBooks.{written_tune, written_tunes}
 use Rattle.tune_store.specs.Labels.{label_of, labels_of}
-use Rattle.tune_store.specs.Plans.{Decides, EndsFetch}
-use Rattle.tune_store.specs.Inside.Lists.{state_with, CarriedOut}
 use Rattle.tune_store.specs.Inside.Plans.{IsOwnOrMemory}
 use Rattle.tune_store.specs.declared.tune.Tune.{Tune}
 use Rattle.tune_store.specs.declared.catalog.Label.{Label}
 use Rattle.tune_store.specs.declared.plans.Plan.{Plan}
-use Rattle.tune_store.specs.declared.command.Command.{Command}
 use Rattle.tune_store.specs.declared.command.Command.TheVariants.{Replace}
-use Rattle.tune_store.specs.declared.command.Reply.{Reply}
 use Rattle.tune_store.specs.declared.command.Reply.TheVariants.{Imported, Replaced, Deleted}
 use Rattle.tune_store.specs.declared.command.Refusal.{Refusal}
 use Rattle.tune_store.specs.declared.command.Refusal.TheVariants.{Stale, Worn}
 use Rattle.tune_store.proofs.StateLemmas.{greatest_last}
 use Rattle.tune_store.proofs.PlaceLemmas.{tune_at-place, tune_at-none, with_tune-place, without-place}
-use Rattle.tune_store.proofs.LimitLemmas.{step_keeps_limits}
 
 -- ROWS
 -- what a look-up behind the end gives
@@ -67,7 +61,7 @@ tune_revision number tunes labels place label is at =
     ap (λ (r : Label). r.revision) (sym (at no_label ∙ label_at tunes labels place no_tune no_label is.same is.within))
 
 -- it is the tune of the number
-place_found : (number : ℕ) (tunes : List Tune) (labels : List Label) (place : ℕ) → IsPlaceOf number tunes labels place
+pub place_found : (number : ℕ) (tunes : List Tune) (labels : List Label) (place : ℕ) → IsPlaceOf number tunes labels place
     → tune_at number tunes ≡ Some (get_or tunes place no_tune)
 place_found number tunes labels place is =
     let many = labels_long tunes labels is.same in
@@ -152,7 +146,7 @@ names_for_book (Err refusal) number revision book names = names book
 -- DELETE
 -- a tune that is taken out
 pub delete_takes : (number : ℕ) (tunes : List Tune) (labels : List Label) (place : ℕ) → IsPlaceOf number tunes labels place
-    → delete_tune tunes number (tune_at number tunes) ≡ (remove tunes place, Ok (Deleted number))
+    → delete_tune tunes number None (tune_at number tunes) ≡ (remove tunes place, Ok (Deleted number))
 delete_takes number tunes labels place is =
     let many = labels_long tunes labels is.same in
     let within = is.within in
@@ -200,30 +194,7 @@ export_next tunes labels place label text book next whole same l at read added a
     ∙ ap (λ rest. book ++ rest) (sym step)
     ∙ all
 
--- A LIST IN MEMORY
--- what is refused leaves a list that no device serves
-pub list_refused : (old new : State) (command : Command) (refusal : Refusal) → Decides old command (Err refusal)
-    → EndsFetch {S = State} (λ from to. to ≡ from) (λ _ _. ⊥) old refusal new → Answers (open_at old) command (Err refusal) (open_at new)
-list_refused old new command refusal (inl (inl memory)) (inl ends) = rw (memory, ends.1) (no_memory old command)
-list_refused old new command refusal (inl (inr device)) (inl ends) = absurd (ends.0 device)
-list_refused old new command refusal (inr step) (inl ends) = rw ends.1 (stepped old old command (Err refusal) step)
-list_refused old new command refusal decides (inr ends) = absurd ends.1
-
--- a plan that is carried out is the step
-pub list_planned : (old : State) (tunes : List Tune) (command : Command) (plan : Plan) (answer : Result Reply Refusal) → Decides old command (Ok plan)
-    → CarriedOut old.tunes plan answer tunes → Answers (open_at old) command answer (open_at (state_with tunes))
-list_planned old tunes command plan (Ok reply) decides carried = stepped old (state_with tunes) command (Ok reply) (rw (carried.0, carried.1) decides)
-list_planned old tunes command plan (Err refusal) decides carried = rw (carried.0, carried.1) (no_memory old command)
-
--- each answer keeps the limits
-pub answers_within : (old new : Standing) (command : Command) (answer : Result Reply Refusal) → Answers old command answer new
-    → IsState old.state → IsState new.state
-answers_within _ _ _ _ (stepped old new command answer e) is = subst IsState (ap (λ (o : Outcome). o.0) e) (step_keeps_limits old command is)
-answers_within _ _ _ _ (no_memory old command) is = is
-answers_within _ _ _ _ (failed_before old command) is = is
-answers_within _ _ _ _ (failed_after old command) is = step_keeps_limits old command is
-answers_within _ _ _ _ (is_closed old command) is = is
-
+-- NUMBERS OF LABELS
 -- a place where the tune has a number is one where the label has
 pub label_of_number : (number : ℕ) (tunes : List Tune) (place : ℕ) (d : Label) → place < length tunes → ((e : Tune) → (get_or tunes place e).number ≡ number)
     → (get_or (labels_of tunes) place d).number ≡ number
@@ -238,3 +209,8 @@ no_label_of_number number tunes place d none l same =
     let many = labels_long tunes (labels_of tunes) refl in
     let within : place < length tunes = omega arith in
     none place no_tune within (ap (λ (r : Label). r.number) (sym (get_or-map label_of tunes place no_tune d within)) ∙ same)
+
+-- a place where the label has a number is one where the tune has
+pub number_of_label : (number : ℕ) (tunes : List Tune) (place : ℕ) → place < length (labels_of tunes)
+    → ((d : Label) → (get_or (labels_of tunes) place d).number ≡ number) → (e : Tune) → (get_or tunes place e).number ≡ number
+number_of_label number tunes place l named e = ap (λ (r : Label). r.number) (sym (label_at tunes (labels_of tunes) place e no_label refl l)) ∙ named no_label

@@ -1,22 +1,25 @@
 -- The law of revisions.
 use Rattle.std.proofs.Common.{◌≡◌, ℕ, ◌+◌, Bool, true, false, not, cond, eqb, ltb, List, [], ◌∷◌, length, Option, Some, None, Ok, Err, refl, ap, sym}
 use Rattle.std.proofs.Common.{subst, ◌∙◌, arith, add-zero, inl, inr}
-use Rattle.std.specs.Prelude.{IsSome, IsTrue, IsFalse, is_ok, is_some, IfOk, Result, ◌&&◌}
+use Rattle.std.specs.Prelude.{◌≢◌, IsSome, IsTrue, IsFalse, is_ok, is_some, IfOk, Result, ◌&&◌}
 use Rattle.std.specs.Option.{option_map}
 use Rattle.std.proofs.lemmas.Bool.{eqb-true, eqb-false, cases_Bool, and_parts}
 use Rattle.abc_fields.specs.Books.{Texts, book_answer}
-use Rattle.tune_store.specs.State.{State, IsState, RisesFrom, Standing, greatest}
-use Rattle.tune_store.specs.Step.{Outcome, TunesOutcome, step, tune_at, with_tune, without, revised, with_texts, import_book, replace_tune, replace_book}
-use Rattle.tune_store.specs.Step.{delete_tune}
+use Rattle.tune_sets.specs.Sets.{holder}
+use Rattle.tune_store.specs.State.{State, IsState, RisesFrom, Standing, greatest, tune_at}
+use Rattle.tune_store.specs.TuneSteps.{Outcome, TunesOutcome, with_tune, without, revised, with_texts, import_book, replace_tune, replace_book, delete_tune}
+use Rattle.tune_store.specs.TuneSteps.{moved, is_number, renumber, renumber_found, renumber_unless}
+use Rattle.tune_store.specs.SetSteps.{set_add_found}
+use Rattle.tune_store.specs.Step.{step}
 use Rattle.tune_store.specs.Answers.{Answers, stepped, no_memory, failed_before, failed_after, is_closed}
 use Rattle.tune_store.specs.Runs.{Answered, Runs}
 use Rattle.tune_store.specs.Revisions.{revision_in, revision_of, HasTune, accepts, replaces, is_replace_of, is_delete_of, times_replaced, RaisesRevision}
-use Rattle.tune_store.specs.Revisions.{RaisesReplaced, AcceptedReplaceRaises}
+use Rattle.tune_store.specs.Revisions.{now_at, now_after, number_after, RaisesReplaced, AcceptedReplaceRaises}
 use Rattle.tune_store.specs.Revisions.{OthersKeepRevision, RevisionCounts, AcceptedReplaceIsCurrent}
 use Rattle.tune_store.specs.declared.tune.Tune.{Tune}
 use Rattle.tune_store.specs.Limits.{longest_text, most_tunes, greatest_number, greatest_revision}
 use Rattle.tune_store.specs.declared.command.Command.{Command}
-use Rattle.tune_store.specs.declared.command.Command.TheVariants.{Import, Replace, Delete, Show, ExportAll}
+use Rattle.tune_store.specs.declared.command.Command.TheVariants.{Import, Replace, Delete, Renumber, SetAdd}
 use Rattle.tune_store.specs.declared.command.Reply.{Reply}
 use Rattle.tune_store.specs.declared.command.Reply.TheVariants.{Replaced}
 use Rattle.tune_store.specs.declared.command.Refusal.{Refusal}
@@ -24,6 +27,7 @@ use Rattle.tune_store.specs.declared.command.Refusal.TheVariants.{Stale, Worn}
 use Rattle.tune_store.proofs.StepLemmas.{KeepsOnErr, refused_keeps, answers_close}
 use Rattle.tune_store.proofs.PlaceLemmas.{tune_at-number, tune_at-with_tune_same, tune_at-with_tune_other, tune_at-append, tune_at-without_other}
 use Rattle.tune_store.proofs.PlaceLemmas.{tune_at-without_same}
+use Rattle.tune_store.proofs.MoveLemmas.{tune_at-moved_to, tune_at-moved_other}
 
 -- AN ACCEPTED REPLACE
 -- the tune in the place of the one of a number is the tune of the number
@@ -124,25 +128,78 @@ replace_leaves tunes number other named (Ok (text ∷ [])) apart = replace_found
 replace_leaves tunes number other named (Ok (text ∷ next ∷ texts)) apart = refl
 
 -- a deletion of another tune leaves it
-delete_other_leaves : (tunes : List Tune) (number other : ℕ) (found : Option Tune) → (other ≡ number → ⊥)
-    → LeavesRevision number tunes (delete_tune tunes other found)
-delete_other_leaves tunes number other None apart = refl
-delete_other_leaves tunes number other (Some tune) apart = ap revision (tune_at-without_other number other tunes apart)
+delete_other_leaves : (tunes : List Tune) (number other : ℕ) (held : Option (List ℕ)) (found : Option Tune) → (other ≡ number → ⊥)
+    → LeavesRevision number tunes (delete_tune tunes other held found)
+delete_other_leaves tunes number other held None apart = refl
+delete_other_leaves tunes number other (Some name) (Some tune) apart = refl
+delete_other_leaves tunes number other None (Some tune) apart = ap revision (tune_at-without_other number other tunes apart)
 
 -- a deletion leaves it where the tune is there after it
-delete_leaves : (tunes : List Tune) (number other : ℕ) (found : Option Tune) → RisesFrom 0 tunes
-    → IsSome (tune_at number (delete_tune tunes other found).0)
-    → LeavesRevision number tunes (delete_tune tunes other found)
-delete_leaves tunes number other None rises is_there = refl
-delete_leaves tunes number other (Some tune) rises is_there = elim (cases_Bool (eqb other number)) [
+delete_leaves : (tunes : List Tune) (number other : ℕ) (held : Option (List ℕ)) (found : Option Tune) → RisesFrom 0 tunes
+    → IsSome (tune_at number (delete_tune tunes other held found).0)
+    → LeavesRevision number tunes (delete_tune tunes other held found)
+delete_leaves tunes number other held None rises is_there = refl
+delete_leaves tunes number other (Some name) (Some tune) rises is_there = refl
+delete_leaves tunes number other None (Some tune) rises is_there = elim (cases_Bool (eqb other number)) [
   | inl same ↦
       let e = eqb-true other number same in
       let P : ℕ → Type 0 = λ n. tune_at number (without n tunes) ≡ None in
       let gone = subst P (sym e) (tune_at-without_same 0 number tunes rises) in
       let none = sym is_there ∙ ap is_some gone in
       cc
-  | inr differs ↦ delete_other_leaves tunes number other (Some tune) (eqb-false other number differs)
+  | inr differs ↦ delete_other_leaves tunes number other None (Some tune) (eqb-false other number differs)
 ]
+
+-- an outcome carries the revision of a tune along to the number that the tune has then
+abbrev CarriesRevision : Command → ℕ → State → Outcome → Type 0
+CarriesRevision command number old outcome = revision_of (now_at command (is_ok outcome.1) number) outcome.0 ≡ revision_of number old
+
+-- a tune's own number, or another one, as a number for it changes nothing
+same_number : (state : State) (number to other : ℕ) → number ≡ to → revision_of (cond (eqb other number) to other) state ≡ revision_of other state
+same_number state number to other same = elim (cases_Bool (eqb other number)) [
+  | inl its ↦ rw its (ap (λ n. revision_of n state) (sym (eqb-true other number its ∙ same)))
+  | inr differs ↦ rw differs refl
+]
+
+-- a tune gets a number that is free, and has the revision that it had; so has each other tune
+move_carries : (state : State) (number to other : ℕ) (tune : Tune) → tune_at number state.tunes ≡ Some tune → tune_at to state.tunes ≡ None
+    → HasTune other state
+    → revision_in (cond (eqb other number) to other) (moved number to state.tunes) ≡ revision_of other state
+move_carries state number to other tune found free was = elim (cases_Bool (eqb other number)) [
+  | inl its ↦
+      let before : tune_at other state.tunes ≡ Some tune = ap (λ n. tune_at n state.tunes) (eqb-true other number its) ∙ found in
+      rw its (ap revision (tune_at-moved_to number to state.tunes tune found free) ∙ sym (ap revision before))
+  | inr differs ↦
+      let taken : to ≢ other = λ e. let none : false ≡ true = ap is_some (sym (ap (λ n. tune_at n state.tunes) (sym e) ∙ free)) ∙ was in cc in
+      let apart : number ≢ other = λ e. eqb-false other number differs (sym e) in
+      rw differs (ap revision (tune_at-moved_other number to other state.tunes apart taken))
+]
+
+unless_carries : (state : State) (number to other : ℕ) (tune : Tune) (found : Option Tune) → tune_at number state.tunes ≡ Some tune
+    → tune_at to state.tunes ≡ found → HasTune other state
+    → CarriesRevision (Renumber number to) other state (renumber_unless state number to found)
+unless_carries state number to other tune None its free was = move_carries state number to other tune its free was
+unless_carries state number to other tune (Some taken) its e was = elim (cases_Bool (eqb number to)) [
+  | inl same ↦ rw same (same_number state number to other (eqb-true number to same))
+  | inr differs ↦ rw differs refl
+]
+
+found_carries : (state : State) (number to other : ℕ) (found : Option Tune) → tune_at number state.tunes ≡ found → HasTune other state
+    → CarriesRevision (Renumber number to) other state (renumber_found state number to found)
+found_carries state number to other None its was = refl
+found_carries state number to other (Some tune) its was = unless_carries state number to other tune (tune_at to state.tunes) its refl was
+
+renumber_carries : (state : State) (number to other : ℕ) → HasTune other state
+    → CarriesRevision (Renumber number to) other state (renumber state number to)
+renumber_carries state number to other was = elim (cases_Bool (is_number to)) [
+  | inl good ↦ rw good (found_carries state number to other (tune_at number state.tunes) refl was)
+  | inr bad ↦ rw bad refl
+]
+
+-- a place more of a set leaves the tunes
+add_leaves : (state : State) (name : List ℕ) (number : ℕ) (found : Option Tune) → (set_add_found state name number found).0.tunes ≡ state.tunes
+add_leaves state name number None = refl
+add_leaves state name number (Some tune) = refl
 
 -- any other command leaves the revision of a tune that is there before and after it
 pub others_keep_revision : (state : State) (number : ℕ) (command : Command) → IsState state → OthersKeepRevision state number command
@@ -152,14 +209,16 @@ others_keep_revision state number (Replace replaced named book) is other was the
   | inr differs ↦ replace_leaves state.tunes number replaced named (book_answer longest_text book) (eqb-false replaced number differs)
 ]
 others_keep_revision state number (Delete deleted) is other was there =
-    delete_leaves state.tunes number deleted (tune_at deleted state.tunes) is.tunes.rises there
-others_keep_revision state number (Show shown) is other was there = refl
-others_keep_revision state number ExportAll is other was there = refl
+    delete_leaves state.tunes number deleted (holder deleted state.sets) (tune_at deleted state.tunes) is.tunes.rises there
+others_keep_revision state number (Renumber renumbered to) is other was there = renumber_carries state renumbered to number was
+others_keep_revision state number (SetAdd name added) is other was there =
+    ap (revision_in number) (add_leaves state name added (tune_at added state.tunes))
+others_keep_revision state number command is other was there = refl
 
--- a command that is neither an accepted Replace of a tune nor an accepted Delete of it leaves its revision
+-- a command that is neither an accepted Replace of a tune nor an accepted Delete of it carries its revision along
 keeps_revision : (state : State) (number : ℕ) (command : Command) → IsFalse (replaces number state command)
     → IsFalse (is_delete_of number command && accepts state command) → HasTune number state
-    → revision_of number (step state command).0 ≡ revision_of number state
+    → CarriesRevision command number state (step state command)
 keeps_revision state number (Import book) other stays was = import_leaves state.tunes number (book_answer longest_text book) was
 keeps_revision state number (Replace replaced named book) other stays was = elim (cases_Bool (eqb replaced number)) [
   | inl same ↦ let refused = rw same at other in ap (revision_of number) (refused_leaves state (Replace replaced named book) refused)
@@ -167,10 +226,13 @@ keeps_revision state number (Replace replaced named book) other stays was = elim
 ]
 keeps_revision state number (Delete deleted) other stays was = elim (cases_Bool (eqb deleted number)) [
   | inl same ↦ let refused = rw same at stays in ap (revision_of number) (refused_leaves state (Delete deleted) refused)
-  | inr differs ↦ delete_other_leaves state.tunes number deleted (tune_at deleted state.tunes) (eqb-false deleted number differs)
+  | inr differs ↦
+      delete_other_leaves state.tunes number deleted (holder deleted state.sets) (tune_at deleted state.tunes) (eqb-false deleted number differs)
 ]
-keeps_revision state number (Show shown) other stays was = refl
-keeps_revision state number ExportAll other stays was = refl
+keeps_revision state number (Renumber renumbered to) other stays was = renumber_carries state renumbered to number was
+keeps_revision state number (SetAdd name added) other stays was =
+    ap (revision_in number) (add_leaves state name added (tune_at added state.tunes))
+keeps_revision state number command other stays was = refl
 
 -- RUNS OF COMMANDS
 -- a tune that has a revision is there
@@ -183,7 +245,7 @@ tune_is_there number revision state has = found (tune_at number state.tunes) has
 
 -- an accepted Replace raises the revision that the tune has
 replaced_counts : (state : State) (number current : ℕ) (command : Command) → IsTrue (replaces number state command) → revision_of number state ≡ Some current
-    → revision_of number (step state command).0 ≡ Some (current + 1)
+    → revision_of (now_at command (accepts state command) number) (step state command).0 ≡ Some (current + 1)
 replaced_counts state number current (Replace replaced named book) accepted has =
     let parts = and_parts (eqb replaced number) (accepts state (Replace replaced named book)) accepted in
     let e : replaced ≡ number = eqb-true replaced number parts.0 in
@@ -192,15 +254,12 @@ replaced_counts state number current (Replace replaced named book) accepted has 
     subst P e (accepted_replace_raises state replaced named book parts.1) in
     let same : named ≡ current = cc (raises.named, has) in
     raises.raised ∙ ap (λ r. Some (r + 1)) same
-replaced_counts state number current (Import book) accepted has = cc
-replaced_counts state number current (Delete deleted) accepted has = cc
-replaced_counts state number current (Show shown) accepted has = cc
-replaced_counts state number current ExportAll accepted has = cc
+replaced_counts state number current command accepted has = cc
 
--- one command raises the revision by one, or leaves it
+-- one command raises the revision by one, or carries it along
 step_counts : (state : State) (number current : ℕ) (command : Command) → revision_of number state ≡ Some current
     → IsFalse (is_delete_of number command && accepts state command)
-    → revision_of number (step state command).0 ≡ Some (current + cond (replaces number state command) 1 0)
+    → revision_of (now_at command (accepts state command) number) (step state command).0 ≡ Some (current + cond (replaces number state command) 1 0)
 step_counts state number current command has stays = elim (cases_Bool (replaces number state command)) [
   | inl replaced ↦ rw replaced (replaced_counts state number current command replaced has)
   | inr other ↦ rw (other, add-zero) (keeps_revision state number command other stays (tune_is_there number current state has) ∙ has)
@@ -210,15 +269,21 @@ and_false : (b : Bool) → (b && false) ≡ false
 and_false true = refl
 and_false false = refl
 
+-- after a command that is not accepted a tune has the number that it had
+number_stays : (command : Command) (number : ℕ) → now_at command false number ≡ number
+number_stays (Renumber renumbered to) number = refl
+number_stays command number = refl
+
 -- so does one answer, after which the store is open
 answer_counts : (old new : Standing) (command : Command) (answer : Result Reply Refusal) (number current : ℕ) → Answers old command answer new
     → new.closed ≡ false → revision_of number old.state ≡ Some current → IsFalse (is_delete_of number command && is_ok answer)
-    → revision_of number new.state ≡ Some (current + cond (is_replace_of number command && is_ok answer) 1 0)
+    → revision_of (now_at command (is_ok answer) number) new.state ≡ Some (current + cond (is_replace_of number command && is_ok answer) 1 0)
 answer_counts _ _ _ _ number current (stepped old new command answer e) is_open has stays =
     let P : Outcome → Type 0 = λ o. IsFalse (is_delete_of number command && is_ok o.1)
-    → revision_of number o.0 ≡ Some (current + cond (is_replace_of number command && is_ok o.1) 1 0) in
+    → revision_of (now_at command (is_ok o.1) number) o.0 ≡ Some (current + cond (is_replace_of number command && is_ok o.1) 1 0) in
     subst P e (step_counts old number current command has) stays
-answer_counts _ _ _ _ number current (no_memory old command) is_open has stays = rw (and_false (is_replace_of number command), add-zero) has
+answer_counts _ _ _ _ number current (no_memory old command) is_open has stays =
+    rw (and_false (is_replace_of number command), number_stays command number, add-zero) has
 answer_counts _ _ _ _ number current (failed_before old command) is_open has stays = cc
 answer_counts _ _ _ _ number current (failed_after old command) is_open has stays = cc
 answer_counts _ _ _ _ number current (is_closed old command) is_open has stays = cc
@@ -243,18 +308,15 @@ revision_counts old [] new number current runs is_open has stays = rw add-zero (
 revision_counts old (next ∷ run) new number current runs is_open has stays =
     let mid_open = open_before_run run runs.0 new runs.2 is_open in
     let mid_has = answer_counts old runs.0 next.command next.answer number current runs.1 mid_open has stays.0 in
-    let counted = revision_counts runs.0 run new number _ runs.2 is_open mid_has stays.1 in
+    let counted = revision_counts runs.0 run new (now_after next number) _ runs.2 is_open mid_has stays.1 in
     let one = cond (is_replace_of number next.command && is_ok next.answer) 1 0 in
-    let same : current + one + times_replaced number run ≡ current + (one + times_replaced number run) = omega arith in
+    let same : current + one + times_replaced (now_after next number) run ≡ current + (one + times_replaced (now_after next number) run) = omega arith in
     counted ∙ ap (λ r. Some r) same
 
 -- an accepted command is no Replace, or it raises the revision that it names
 step_raises : (state : State) (command : Command) → IsTrue (accepts state command) → RaisesReplaced command state (step state command).0
 step_raises state (Replace number named book) accepted = accepted_replace_raises state number named book accepted
-step_raises state (Import book) accepted = tt
-step_raises state (Delete number) accepted = tt
-step_raises state (Show number) accepted = tt
-step_raises state ExportAll accepted = tt
+step_raises state command accepted = tt
 
 pub answers_raise : (old new : Standing) (command : Command) (answer : Result Reply Refusal) → Answers old command answer new
     → IfOk answer (λ _. RaisesReplaced command old.state new.state)
@@ -281,7 +343,8 @@ accepted_open old new command reply answers = open_before old new command (Ok re
 pub accepted_replace_is_current : (old : Standing) (run : List Answered) (mid : Standing) (number current : ℕ) (book : List ℕ) (reply : Reply)
     (new : Standing) → AcceptedReplaceIsCurrent old run mid number current book reply new
 accepted_replace_is_current old run mid number current book reply new runs has stays accepted =
-    let raises : RaisesRevision number current mid.state new.state = answers_raise mid new (Replace number current book) (Ok reply) accepted in
+    let now : ℕ = number_after run number in
+    let raises : RaisesRevision now current mid.state new.state = answers_raise mid new (Replace now current book) (Ok reply) accepted in
     let counted = revision_counts old run mid number current runs (accepted_open mid new _ reply accepted) has stays in
     let same : current ≡ current + times_replaced number run = cc (raises.named, counted) in
     omega arith

@@ -5,7 +5,7 @@ use Rattle.std.specs.List.{AllByRecursion}
 use Rattle.std.proofs.lemmas.Bool.{eqb-true, ltb-true, cases_Bool}
 use Rattle.abc_fields.specs.Tunes.{IsTextWithin}
 use Rattle.tune_store.specs.State.{RisesFrom, greatest, IsTune, IsTunes}
-use Rattle.tune_store.specs.Step.{TunesOutcome, numbered, with_texts, with_tune, without, revised, replace_tune}
+use Rattle.tune_store.specs.TuneSteps.{TunesOutcome, numbered, with_texts, with_tune, without, revised, replace_tune}
 use Rattle.tune_store.specs.declared.tune.Tune.{Tune}
 use Rattle.tune_store.specs.Limits.{longest_text, most_tunes, greatest_number, greatest_revision}
 use Rattle.tune_store.specs.declared.command.Reply.TheVariants.{Replaced}
@@ -187,7 +187,7 @@ rises-lower low high [] le rises = tt
 rises-lower low high (tune ∷ tunes) le rises = let first = rises.0 in (omega arith, rises.1)
 
 -- the numbers still rise
-rises-without : (number low : ℕ) (tunes : List Tune) → RisesFrom low tunes → RisesFrom low (without number tunes)
+pub rises-without : (number low : ℕ) (tunes : List Tune) → RisesFrom low tunes → RisesFrom low (without number tunes)
 rises-without number low [] rises = tt
 rises-without number low (tune ∷ tunes) rises = elim (cases_Bool (eqb tune.number number)) [
   | inl same ↦ rw same (let first = rises.0 in rises-lower low tune.number tunes (omega arith) rises.1)
@@ -195,7 +195,7 @@ rises-without number low (tune ∷ tunes) rises = elim (cases_Bool (eqb tune.num
 ]
 
 -- the greatest number does not rise
-greatest-without : (number : ℕ) (tunes : List Tune) → greatest (without number tunes) ≤ greatest tunes
+pub greatest-without : (number : ℕ) (tunes : List Tune) → greatest (without number tunes) ≤ greatest tunes
 greatest-without number [] = omega arith
 greatest-without number (tune ∷ tunes) = elim (cases_Bool (eqb tune.number number)) [
   | inl same ↦ rw same (omega arith)
@@ -211,7 +211,7 @@ length-without number (tune ∷ tunes) = elim (cases_Bool (eqb tune.number numbe
 ]
 
 -- and good tunes all
-each-without : (number : ℕ) (tunes : List Tune) → AllByRecursion IsTune tunes → AllByRecursion IsTune (without number tunes)
+pub each-without : (number : ℕ) (tunes : List Tune) → AllByRecursion IsTune tunes → AllByRecursion IsTune (without number tunes)
 each-without number [] each = tt
 each-without number (tune ∷ tunes) each = elim (cases_Bool (eqb tune.number number)) [
   | inl same ↦ rw same each.1

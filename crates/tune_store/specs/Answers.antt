@@ -5,12 +5,18 @@ use Rattle.tune_store.specs.State.{State, Standing}
 use Rattle.tune_store.specs.Step.{step}
 use Rattle.tune_store.specs.declared.command.Command.{Command}
 use Rattle.tune_store.specs.declared.command.Command.TheVariants.{Import, Replace, Delete, Show}
+use Rattle.tune_store.specs.declared.command.Command.TheVariants.{Renumber, Find, SetNew, SetAdd}
+use Rattle.tune_store.specs.declared.command.Command.TheVariants.{SetCut, SetDrop, SetShow}
+use Rattle.tune_store.specs.declared.command.Command.TheVariants.{ExportSet}
 use Rattle.tune_store.specs.declared.command.Reply.{Reply}
 use Rattle.tune_store.specs.declared.command.Refusal.{Refusal}
 use Rattle.tune_store.specs.declared.command.Refusal.TheVariants.{BookTooLong, NoTune}
 use Rattle.tune_store.specs.declared.command.Refusal.TheVariants.{BadTune, NotOne, Unknown, Stale}
 use Rattle.tune_store.specs.declared.command.Refusal.TheVariants.{Worn, ArchiveFull, NumbersSpent}
 use Rattle.tune_store.specs.declared.command.Refusal.TheVariants.{OutOfMemory, Device, Closed}
+use Rattle.tune_store.specs.declared.command.Refusal.TheVariants.{Taken, InSet, NoSuchSet, SetTaken}
+use Rattle.tune_store.specs.declared.command.Refusal.TheVariants.{SetFull, SetsFull, NoSuchPlace}
+use Rattle.tune_store.specs.declared.command.Refusal.TheVariants.{BadName, BadNumber, BadQuery}
 
 -- an open store of this state
 abbrev pub open_at : State → Standing
@@ -76,9 +82,33 @@ IsRefusalOfOwn (Replace number revision book) (Stale current) = ⊤
 IsRefusalOfOwn (Replace number revision book) Worn = ⊤
 IsRefusalOfOwn (Replace number revision book) refusal = IsRefusalOfBook refusal
 IsRefusalOfOwn (Delete number) (Unknown other) = other ≡ number
+IsRefusalOfOwn (Delete number) (InSet name) = ⊤
+IsRefusalOfOwn (Renumber number to) BadNumber = ⊤
+IsRefusalOfOwn (Renumber number to) (Unknown other) = other ≡ number
+IsRefusalOfOwn (Renumber number to) (Taken other) = other ≡ to
 IsRefusalOfOwn (Show number) (Unknown other) = other ≡ number
+IsRefusalOfOwn (Find query) BadQuery = ⊤
+IsRefusalOfOwn (SetNew name) BadName = ⊤
+IsRefusalOfOwn (SetNew name) SetTaken = ⊤
+IsRefusalOfOwn (SetNew name) SetsFull = ⊤
+IsRefusalOfOwn (SetAdd name number) (Unknown other) = other ≡ number
+IsRefusalOfOwn (SetAdd name number) NoSuchSet = ⊤
+IsRefusalOfOwn (SetAdd name number) SetFull = ⊤
+IsRefusalOfOwn (SetCut name place) NoSuchSet = ⊤
+IsRefusalOfOwn (SetCut name place) NoSuchPlace = ⊤
+IsRefusalOfOwn (SetDrop name) NoSuchSet = ⊤
+IsRefusalOfOwn (SetShow name) NoSuchSet = ⊤
+IsRefusalOfOwn (ExportSet name) NoSuchSet = ⊤
 IsRefusalOfOwn command refusal = ⊥
 
 -- a refusal that a command may be given
 abbrev pub IsRefusalOf : Command → Refusal → Type 0
 IsRefusalOf command refusal = IsRefusalOfOwn command refusal ⊎ IsRefusalOfAny refusal
+
+-- whether a command may ask for memory, in a store that has its tunes in memory
+abbrev pub takes_memory : Command → Bool
+takes_memory (Delete number) = false
+takes_memory (Renumber number to) = false
+takes_memory (SetCut name place) = false
+takes_memory (SetDrop name) = false
+takes_memory command = true

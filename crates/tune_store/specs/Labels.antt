@@ -1,5 +1,5 @@
 -- What is known of tunes without their texts.
-use Rattle.std.specs.Prelude.{List, map}
+use Rattle.std.specs.Prelude.{ℕ, List, map}
 use Rattle.tune_store.specs.declared.tune.Tune.{Tune}
 use Rattle.tune_store.specs.declared.catalog.Label.{Label}
 
@@ -10,3 +10,7 @@ label_of tune = record { number = tune.number; revision = tune.revision }
 -- the labels of tunes
 abbrev pub labels_of : List Tune → List Label
 labels_of tunes = map label_of tunes
+
+-- the numbers of labels
+abbrev pub numbers_of : List Label → List ℕ
+numbers_of labels = map (λ label. label.number) labels

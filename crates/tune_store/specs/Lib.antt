@@ -1,10 +1,14 @@
 pub mod Limits
 pub mod State
+pub mod TuneSteps
+pub mod SetSteps
+pub mod Questions
 pub mod Step
 pub mod Answers
 pub mod Runs
 pub mod Stops
 pub mod Revisions
+pub mod Places
 pub mod Stores
 pub mod Labels
 pub mod Plans

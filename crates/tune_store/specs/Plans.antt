@@ -1,43 +1,81 @@
 -- What a command is to change, and what is said where it is decided.
-use Rattle.std.specs.Prelude.{◌≡◌, ◌≢◌, ℕ, ◌+◌, ◌<◌, ◌≤◌, List, ◌++◌, slice_set, vec_len, ⊤}
-use Rattle.std.specs.Prelude.{◌⊎◌, Option, None, Some, Result, Ok, Err}
-use Rattle.std.specs.List.{remove}
+use Rattle.std.specs.Prelude.{◌≡◌, ◌≢◌, ◌+◌, ◌<◌, ◌≤◌, List, ◌++◌, slice_set, vec_len, length, ⊤}
+use Rattle.std.specs.Prelude.{◌⊎◌, Option, None, Some, Result, Ok, Err, IsOk, Bool, true, false}
+use Rattle.std.specs.List.{remove, Contains}
+use Rattle.tune_sets.specs.Sets.{renumbered_sets}
+use Rattle.tune_sets.specs.Calls.{create_set, add_number, cut_place, drop_set}
+use Rattle.tune_sets.specs.declared.set_lists.TuneSet.{TuneSet}
 use Rattle.tune_store.specs.declared.tune.Tune.{Tune}
+use Rattle.tune_store.specs.declared.catalog.Label.{Label}
 use Rattle.tune_store.specs.Limits.{most_tunes, greatest_number}
 use Rattle.tune_store.specs.State.{State}
-use Rattle.tune_store.specs.Step.{TunesOutcome, step, numbered}
+use Rattle.tune_store.specs.TuneSteps.{Outcome, numbered, moved}
+use Rattle.tune_store.specs.Step.{step}
+use Rattle.tune_store.specs.Labels.{numbers_of}
 use Rattle.tune_store.specs.Answers.{IsRefusalOfOwn}
 use Rattle.tune_store.specs.declared.command.Command.{Command}
 use Rattle.tune_store.specs.declared.command.Refusal.{Refusal}
 use Rattle.tune_store.specs.declared.command.Refusal.TheVariants.{OutOfMemory, Device}
 use Rattle.tune_store.specs.declared.plans.Change.{Change}
-use Rattle.tune_store.specs.declared.plans.Change.TheVariants.{Add, Put, Take}
+use Rattle.tune_store.specs.declared.plans.Change.TheVariants.{Add, Put, Take, Move, NewSet}
+use Rattle.tune_store.specs.declared.plans.Change.TheVariants.{AddPlace, CutPlace, DropSet}
 use Rattle.tune_store.specs.declared.plans.Plan.{Plan}
 
 -- CHANGES
 -- the tunes after a change
-abbrev pub changed : Change → List Tune → List Tune
-changed (Add first texts) tunes = tunes ++ numbered first texts.items
-changed (Put place tune) tunes = slice_set tunes place tune
-changed (Take place) tunes = remove tunes place
+abbrev pub changed_tunes : Change → List Tune → List Tune
+changed_tunes (Add first texts) tunes = tunes ++ numbered first texts.items
+changed_tunes (Put place tune) tunes = slice_set tunes place tune
+changed_tunes (Take place) tunes = remove tunes place
+changed_tunes (Move number to) tunes = moved number to tunes
+changed_tunes change tunes = tunes
 
--- the tunes after a change, if there is one
-abbrev pub after : Option Change → List Tune → List Tune
-after None tunes = tunes
-after (Some change) tunes = changed change tunes
+-- the sets after it
+abbrev pub changed_sets : Change → List TuneSet → List TuneSet
+changed_sets (Move number to) sets = renumbered_sets number to sets
+changed_sets (NewSet name) sets = (create_set name sets).0
+changed_sets (AddPlace name number) sets = (add_number name number sets).0
+changed_sets (CutPlace name place) sets = (cut_place name place sets).0
+changed_sets (DropSet name) sets = (drop_set name sets).0
+changed_sets change sets = sets
 
--- a change can be carried out on this many tunes: they stay within the limits, and there is a tune
--- at its place
-abbrev pub CanChange : Change → ℕ → Type 0
-CanChange (Add first texts) count =
-    (count + vec_len texts ≤ most_tunes) × (first + vec_len texts ≤ greatest_number + 1)
-CanChange (Put place tune) count = place < count
-CanChange (Take place) count = place < count
+-- the state after it
+abbrev pub changed : Change → State → State
+changed change state = record {
+  tunes = changed_tunes change state.tunes;
+  sets = changed_sets change state.sets;
+}
+
+-- the state after a change, if there is one
+abbrev pub after : Option Change → State → State
+after None state = state
+after (Some change) state = changed change state
+
+-- A change can be carried out on tunes of these labels, and on these sets: they stay within the
+-- limits, there is a tune at its place, or of its number, and the sets accept it.
+abbrev pub CanChange : Change → List Label → List TuneSet → Type 0
+CanChange (Add first texts) labels sets = (length labels + vec_len texts ≤ most_tunes)
+    × (first + vec_len texts ≤ greatest_number + 1)
+CanChange (Put place tune) labels sets = place < length labels
+CanChange (Take place) labels sets = place < length labels
+CanChange (Move number to) labels sets = Contains (numbers_of labels) number
+    × (¬ Contains (numbers_of labels) to) × (0 < to) × (to ≤ greatest_number)
+CanChange (NewSet name) labels sets = IsOk (create_set name sets).1
+CanChange (AddPlace name number) labels sets = IsOk (add_number name number sets).1
+CanChange (CutPlace name place) labels sets = IsOk (cut_place name place sets).1
+CanChange (DropSet name) labels sets = IsOk (drop_set name sets).1
 
 -- the same of a change, if there is one
-abbrev pub CanChangeTo : Option Change → ℕ → Type 0
-CanChangeTo None count = ⊤
-CanChangeTo (Some change) count = CanChange change count
+abbrev pub CanChangeTo : Option Change → List Label → List TuneSet → Type 0
+CanChangeTo None labels sets = ⊤
+CanChangeTo (Some change) labels sets = CanChange change labels sets
+
+-- whether a change may ask for memory, in a store that has its tunes in memory
+abbrev pub grows : Option Change → Bool
+grows (Some (Add first texts)) = true
+grows (Some (NewSet name)) = true
+grows (Some (AddPlace name number)) = true
+grows change = false
 
 -- REFUSALS
 -- a refusal of reading a text: memory ran out, or the device failed
@@ -55,15 +93,12 @@ EndsFetch fetched failed old refusal new =
     ((refusal ≢ Device) × fetched old new) ⊎ ((refusal ≡ Device) × failed old new)
 
 -- PLANS
--- a plan for tunes, or a refusal, is an outcome of these: the change gives its tunes; or the
--- refusal is its answer, if it is not of memory or the device
-abbrev pub Plans : List Tune → Result Plan Refusal → TunesOutcome → Type 0
-Plans tunes (Ok plan) outcome = outcome ≡ (after plan.change tunes, Ok plan.reply)
-Plans tunes (Err refusal) outcome = IsRefusalOfFetch refusal ⊎ (outcome ≡ (tunes, Err refusal))
+-- A plan for a state, or a refusal, is an outcome: the change gives its state; or the refusal is
+-- its answer, if it is not of memory or the device.
+abbrev pub Decided : State → Result Plan Refusal → Outcome → Type 0
+Decided state (Ok plan) outcome = outcome ≡ (after plan.change state, Ok plan.reply)
+Decided state (Err refusal) outcome = IsRefusalOfFetch refusal ⊎ (outcome ≡ (state, Err refusal))
 
 -- a plan for a command, or a refusal, is what the step of a state asks for
 abbrev pub Decides : State → Command → Result Plan Refusal → Type 0
-Decides state command (Ok plan) =
-    step state command ≡ (record state { tunes = after plan.change state.tunes }, Ok plan.reply)
-Decides state command (Err refusal) =
-    IsRefusalOfFetch refusal ⊎ (step state command ≡ (state, Err refusal))
+Decides state command result = Decided state result (step state command)

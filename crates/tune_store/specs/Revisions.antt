@@ -1,14 +1,15 @@
 -- The law of revisions: what commands, one after another, make of the revision of a tune.
-use Rattle.std.specs.Prelude.{◌≡◌, ℕ, ◌+◌, List, [], ◌∷◌, Bool, false, ◌&&◌, ◌==◌, if◌then◌else◌}
+use Rattle.std.specs.Prelude.{◌≡◌, ℕ, ◌+◌, List, [], ◌∷◌, Bool, true, false, ◌&&◌, ◌==◌}
+use Rattle.std.specs.Prelude.{if◌then◌else◌}
 use Rattle.std.specs.Prelude.{IsTrue, IsFalse, Option, Some, IsSome, Ok, is_ok, ⊤}
 use Rattle.std.specs.Option.{option_map}
-use Rattle.tune_store.specs.State.{State, Standing}
-use Rattle.tune_store.specs.Step.{step, tune_at}
+use Rattle.tune_store.specs.State.{State, Standing, tune_at}
+use Rattle.tune_store.specs.Step.{step}
 use Rattle.tune_store.specs.Answers.{Answers}
 use Rattle.tune_store.specs.Runs.{Answered, Runs}
 use Rattle.tune_store.specs.declared.tune.Tune.{Tune}
 use Rattle.tune_store.specs.declared.command.Command.{Command}
-use Rattle.tune_store.specs.declared.command.Command.TheVariants.{Replace, Delete}
+use Rattle.tune_store.specs.declared.command.Command.TheVariants.{Replace, Delete, Renumber}
 use Rattle.tune_store.specs.declared.command.Reply.{Reply}
 
 -- THE REVISION OF A TUNE
@@ -38,24 +39,39 @@ is_replace_of number command = false
 abbrev pub replaces : ℕ → State → Command → Bool
 replaces number state command = is_replace_of number command && accepts state command
 
+-- the number that the tune of a number has after a command, which was accepted or not
+abbrev pub now_at : Command → Bool → ℕ → ℕ
+now_at (Renumber number to) true other = if other == number then to else other
+now_at command accepted other = other
+
 -- RUNS OF COMMANDS
+-- the same after a command that was answered
+abbrev pub now_after : Answered → ℕ → ℕ
+now_after next number = now_at next.command (is_ok next.answer) number
+
+-- and after a run
+abbrev pub number_after : List Answered → ℕ → ℕ
+number_after [] number = number
+number_after (next ∷ run) number = number_after run (now_after next number)
+
 -- whether a command is a Delete of the tune of a number
 abbrev pub is_delete_of : ℕ → Command → Bool
 is_delete_of number (Delete other) = other == number
 is_delete_of number command = false
 
--- no accepted Delete of the tune of a number is in a run
+-- no accepted Delete of the tune that begins with a number is in a run
 abbrev pub Stays : ℕ → List Answered → Type 0
 Stays number [] = ⊤
 Stays number (next ∷ run) =
-    IsFalse (is_delete_of number next.command && is_ok next.answer) × Stays number run
+    IsFalse (is_delete_of number next.command && is_ok next.answer)
+    × Stays (now_after next number) run
 
--- how many accepted Replaces of the tune of a number are in a run
+-- how many accepted Replaces of the tune that begins with a number are in a run
 abbrev pub times_replaced : ℕ → List Answered → ℕ
 times_replaced number [] = 0
 times_replaced number (next ∷ run) =
     (if is_replace_of number next.command && is_ok next.answer then 1 else 0)
-    + times_replaced number run
+    + times_replaced (now_after next number) run
 
 -- THE LAW
 -- a tune has the revision before, and the next one after
@@ -73,8 +89,9 @@ AcceptedReplaceRaises state number revision book =
 abbrev pub OthersKeepRevision : State → ℕ → Command → Type 0
 OthersKeepRevision state number command =
     let new = (step state command).0 in
-    IsFalse (replaces number state command) → HasTune number state → HasTune number new
-    → revision_of number new ≡ revision_of number state
+    let now = now_at command (accepts state command) number in
+    IsFalse (replaces number state command) → HasTune number state → HasTune now new
+    → revision_of now new ≡ revision_of number state
 
 -- an accepted command is no Replace, or it names the current revision and raises it by one
 abbrev pub RaisesReplaced : Command → State → State → Type 0
@@ -87,7 +104,8 @@ abbrev pub RevisionCounts : Standing → List Answered → Standing → ℕ → 
 RevisionCounts old run new number revision =
     Runs old run new → new.closed ≡ false → revision_of number old.state ≡ Some revision
     → Stays number run
-    → revision_of number new.state ≡ Some (revision + times_replaced number run)
+    → revision_of (number_after run number) new.state
+    ≡ Some (revision + times_replaced number run)
 
 -- while a tune stays, a Replace that names a revision that it had is accepted only where no
 -- accepted Replace of it came since
@@ -95,5 +113,5 @@ abbrev pub AcceptedReplaceIsCurrent : Standing → List Answered → Standing �
     → Reply → Standing → Type 0
 AcceptedReplaceIsCurrent old run mid number revision book reply new =
     Runs old run mid → revision_of number old.state ≡ Some revision → Stays number run
-    → Answers mid (Replace number revision book) (Ok reply) new
+    → Answers mid (Replace (number_after run number) revision book) (Ok reply) new
     → times_replaced number run ≡ 0

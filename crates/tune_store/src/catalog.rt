@@ -3,11 +3,14 @@ ghost use Rattle.std.specs.Prelude.{◌≡◌, ◌≢◌, ◌<◌, ℕ, List, le
 ghost use Rattle.std.specs.Prelude.{IfSome, IfNone, MatchResult};
 ghost use Rattle.tune_store.specs.Labels.{labels_of};
 ghost use Rattle.tune_store.specs.Plans.{EndsFetch, IsRefusalOfFetch};
+ghost use Rattle.tune_store.specs.State.{State};
 ghost use Rattle.tune_store.specs.declared.tune.Tune.{Tune};
 ghost use Rattle.tune_store.specs.declared.catalog.Label.{Label};
+ghost use Rattle.tune_sets.specs.declared.set_lists.TuneSet.{TuneSet};
 
 use crate::command::Refusal;
 use abc_fields::TuneText;
+use tune_sets::SetLists;
 
 /// What every store knows of a tune without reading its text.
 #[derive(Clone, Copy, Debug, PartialEq, Eq)]
@@ -18,16 +21,20 @@ pub struct Label {
     pub revision: u16,
 }
 
-/// What a store tells of its tunes: the label of each, which it knows at once, and a text when it
-/// is asked for, which may take a device. It is all that is needed to decide a command (`decide`).
+/// What a store tells of what it holds: the label of each tune and the set lists, which it knows at
+/// once, and the text of a tune when it is asked for, which may take a device. It is all that is
+/// needed to decide a command (`decide`).
 ///
 /// A place is the index of a tune in the list of them by rising number, from 0.
 pub trait Catalog {
     /// The labels of its tunes, by rising number. They are known whatever a device does.
     ghost labels: { Self → List Label };
 
-    /// Its tunes.
-    ghost tunes: { Self → List Tune };
+    /// Its set lists. They are known whatever a device does.
+    ghost sets: { Self → List TuneSet };
+
+    /// What it holds.
+    ghost state: { Self → State };
 
     /// Its device has answered as a device does, in every call so far.
     ghost honest: { Self → Type 0 } = { λ _. ⊤ };
@@ -58,6 +65,10 @@ pub trait Catalog {
         ensures none { IfNone result ((place : ℕ) (d : Label) → place < length (labels self.now)
             → (slice_index_or (labels self.now) place d).number ≢ number) };
 
+    /// The set lists.
+    fn sets(&self) -> &SetLists
+        ensures { result.now ≡ sets self.now };
+
     /// Makes the text of the tune at a place ready for `text`. It is refused where memory ran out,
     /// or the device failed.
     fn fetch(&mut self, place: usize) -> Result<(), Refusal>
@@ -72,7 +83,7 @@ pub trait Catalog {
         requires at_hand { at_hand self.now place }
         requires within { place < length (labels self.now) }
         ensures { honest self.now
-            → (d : Tune) → result.now ≡ (slice_index_or (tunes self.now) place d).text };
+            → (d : Tune) → result.now ≡ (slice_index_or (state self.now).tunes place d).text };
 
     /// Nothing was fetched.
     ghost none_fetched: { (catalog : Self) → fetched catalog catalog };
@@ -88,13 +99,21 @@ pub trait Catalog {
     /// A fetch changes no label.
     ghost labels_stay: { (old new : Self) → fetched old new → labels new ≡ labels old };
 
+    /// Nor a set list.
+    ghost sets_stay: { (old new : Self) → fetched old new → sets new ≡ sets old };
+
     /// Whether a device was honest is known only after it answered.
     ghost was_honest: { (old new : Self) → fetched old new → honest new → honest old };
 
-    /// Nor does a fetch change the tunes.
-    ghost tunes_stay: { (old new : Self) → fetched old new → honest new → tunes new ≡ tunes old };
+    /// A fetch changes nothing that it holds.
+    ghost state_stays: { (old new : Self) → fetched old new → honest new
+        → state new ≡ state old };
 
-    /// The labels are those of the tunes.
+    /// The labels are those of its tunes.
     ghost labels_are: { (catalog : Self) → honest catalog
-        → labels catalog ≡ labels_of (tunes catalog) };
+        → labels catalog ≡ labels_of (state catalog).tunes };
+
+    /// The set lists are those that it holds.
+    ghost sets_are: { (catalog : Self) → honest catalog
+        → sets catalog ≡ (state catalog).sets };
 }

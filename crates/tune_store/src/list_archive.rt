@@ -1,13 +1,19 @@
 // An archive in memory.
-ghost use Rattle.std.specs.Prelude.{◌≡◌, ◌≢◌, ℕ, ◌+◌, ◌^◌, ◌<◌, ◌≤◌, ◌++◌, length, OnOk, OnErr};
-ghost use Rattle.std.specs.Prelude.{IfSome, IfNone, slice_index_or, vec_len};
+ghost use Rattle.std.specs.Prelude.{◌≡◌, ◌≢◌, ℕ, ◌+◌, ◌^◌, ◌<◌, ◌≤◌, ◌++◌, true, length};
+ghost use Rattle.std.specs.Prelude.{IfSome, IfNone, IfErr, IsErrOf, OnOk, OnErr};
+ghost use Rattle.std.specs.Prelude.{slice_index_or, vec_len};
 ghost use Rattle.std.specs.Vec.{vec_capacity};
 ghost use Rattle.tune_store.specs.State.{State, IsState, RisesFrom, empty_state};
-ghost use Rattle.tune_store.specs.Step.{numbered};
+ghost use Rattle.tune_store.specs.TuneSteps.{numbered, moved};
 ghost use Rattle.tune_store.specs.Labels.{labels_of};
+ghost use Rattle.tune_store.specs.Answers.{Answers, IsRefusalOf, open_at, passed, stays_open};
+ghost use Rattle.tune_store.specs.Answers.{takes_memory};
+ghost use Rattle.tune_store.specs.Revisions.{RaisesReplaced};
+ghost use Rattle.tune_store.specs.Stores.{StorePasses};
 ghost use Rattle.tune_store.specs.declared.catalog.Label.{Label};
-ghost use Rattle.tune_store.specs.Plans.{CanChange, CanChangeTo, changed};
-ghost use Rattle.tune_store.specs.Inside.Lists.{CarriedOut};
+ghost use Rattle.tune_store.specs.declared.command.Refusal.{Refusal};
+ghost use Rattle.tune_store.specs.Plans.{CanChange, CanChangeTo};
+ghost use Rattle.tune_store.specs.Inside.Lists.{CarriedOut, Made, IsPlaceAfter, state_with};
 
 use crate::catalog::{Catalog, Label};
 use crate::command::{Command, Refusal, Reply};
@@ -15,14 +21,16 @@ use crate::plans::{Change, Plan, decide};
 use crate::tune::Tune;
 use crate::tune_store::TuneStore;
 use abc_fields::TuneText;
-use std::alloc::{AllocError, Global};
+use std::alloc::Global;
 use std::marker::Model;
+use tune_sets::SetLists;
 
-/// A list of tunes in memory. A clause sees the list.
+/// A list of tunes and set lists in memory. A clause sees the state.
 #[derive(Drop)]
 pub struct ListArchive {
     alloc: Global,
     tunes: Vec<Tune>,
+    sets: SetLists,
 }
 
 impl Model for ListArchive {
@@ -32,9 +40,9 @@ impl Model for ListArchive {
 
     ghost use Rattle.tune_store.specs.Inside.Lists.{state_with};
 
-    ghost view = { λ archive. state_with archive.tunes.items };
+    ghost view = { λ archive. state_with archive.tunes.items archive.sets };
 
-    ghost invariant = { λ archive. IsState (state_with archive.tunes.items) };
+    ghost invariant = { λ archive. IsState (state_with archive.tunes.items archive.sets) };
 }
 
 impl ListArchive {
@@ -46,6 +54,7 @@ impl ListArchive {
         ListArchive {
             alloc,
             tunes: Vec::new(alloc),
+            sets: SetLists::new(alloc),
         }
     }
 
@@ -64,7 +73,9 @@ impl Catalog for ListArchive {
 
     ghost labels = { λ archive. labels_of archive.tunes };
 
-    ghost tunes = { λ archive. archive.tunes };
+    ghost sets = { λ archive. archive.sets };
+
+    ghost state = { λ archive. archive };
 
     ghost at_hand = { λ _ _. ⊤ };
 
@@ -78,11 +89,15 @@ impl Catalog for ListArchive {
 
     ghost labels_stay = { λ old new same. ap (λ state. labels_of state.tunes) same };
 
+    ghost sets_stay = { λ old new same. ap (λ state. state.sets) same };
+
     ghost was_honest = { λ old new same honest. honest };
 
-    ghost tunes_stay = { λ old new same honest. ap (λ state. state.tunes) same };
+    ghost state_stays = { λ old new same honest. same };
 
     ghost labels_are = { λ archive honest. refl };
+
+    ghost sets_are = { λ archive honest. refl };
 
     fn len(&self) -> usize {
         self.tunes.as_slice().len()
@@ -98,6 +113,10 @@ impl Catalog for ListArchive {
 
     fn place_of(&self, number: u32) -> Option<usize> {
         place_of(&self.tunes, number)
+    }
+
+    fn sets(&self) -> &SetLists {
+        &self.sets
     }
 
     fn fetch(&mut self, _place: usize) -> Result<(), Refusal> {
@@ -135,29 +154,43 @@ impl TuneStore for ListArchive {
 
     ghost since_earlier = { λ archive since earlier file le left. left };
 
-    fn apply(&mut self, command: &Command) -> Result<Reply, Refusal> {
+    /// It is never closed, and a refusal changes nothing. Commands that take no memory
+    /// (`takes_memory`) are never refused for it.
+    fn apply(&mut self, command: &Command) -> Result<Reply, Refusal>
+        ensures answer { Answers (open_at self.old) command.now result (open_at self.new) }
+        ensures memory { IsErrOf result Refusal.OutOfMemory → takes_memory command.now ≡ true }
+        ensures refused { OnErr result (self.new ≡ self.old) }
+        ensures names { IfErr result (IsRefusalOf command.now) }
+        ensures replaced { OnOk result (RaisesReplaced command.now self.old self.new) }
+        ensures stays { stays_open result ≡ true }
+        ensures stops { StorePasses ⟦<ListArchive as TuneStore>⟧
+            self.old self.new (passed self.old command.now result) }
+    {
         let plan = decide(self.alloc, self, command)?;
-        carry_out(&mut self.tunes, plan)
+        carry_out(&mut self.tunes, &mut self.sets, plan)
     }
 }
 
 // Makes the change of a plan, and gives its reply. The one refusal is out of memory.
-fn carry_out(tunes: &mut Vec<Tune>, plan: Plan) -> Result<Reply, Refusal>
-    requires { CanChangeTo plan.change (length tunes.old.items) }
-    ensures { CarriedOut tunes.old.items plan result tunes.new.items }
+fn carry_out(tunes: &mut Vec<Tune>, sets: &mut SetLists, plan: Plan) -> Result<Reply, Refusal>
+    requires rises { RisesFrom 0 tunes.old.items }
+    requires possible { CanChangeTo plan.change (labels_of tunes.old.items) sets.old }
+    ensures { CarriedOut (state_with tunes.old.items sets.old) plan result
+        (state_with tunes.new.items sets.new) }
 {
     let Plan { change, reply } = plan;
     if let Some(change) = change {
-        make(tunes, change)?;
+        make(tunes, sets, change)?;
     }
     Ok(reply)
 }
 
-// Makes a change. The error is out of memory, and the tunes stay then.
-fn make(tunes: &mut Vec<Tune>, change: Change) -> Result<(), AllocError>
-    requires { CanChange change (length tunes.old.items) }
-    ensures changed { OnOk result (tunes.new.items ≡ changed change tunes.old.items) }
-    ensures stays { OnErr result (tunes.new.items ≡ tunes.old.items) }
+// Makes a change. The error is out of memory, and everything stays then.
+fn make(tunes: &mut Vec<Tune>, sets: &mut SetLists, change: Change) -> Result<(), Refusal>
+    requires rises { RisesFrom 0 tunes.old.items }
+    requires possible { CanChange change (labels_of tunes.old.items) sets.old }
+    ensures { Made (state_with tunes.old.items sets.old) change result
+        (state_with tunes.new.items sets.new) }
 {
     match change {
         Change::Add { first, texts } => {
@@ -168,6 +201,16 @@ fn make(tunes: &mut Vec<Tune>, change: Change) -> Result<(), AllocError>
         Change::Take { place } => {
             tunes.remove(place);
         }
+        Change::Move { number, to } => {
+            move_tune(tunes, number, to);
+            sets.renumbered(number, to);
+        }
+        Change::NewSet { name } => sets.create(name.as_slice())?,
+        Change::AddPlace { name, number } => {
+            sets.add(name.as_slice(), number)?;
+        }
+        Change::CutPlace { name, place } => sets.cut(name.as_slice(), place as usize)?,
+        Change::DropSet { name } => sets.drop_set(name.as_slice())?,
     }
     Ok(())
 }
@@ -187,5 +230,29 @@ fn add_tunes(tunes: &mut Vec<Tune>, texts: Vec<TuneText>, first: u32)
         };
         tunes.push(tune).unwrap();
         number += 1;
+    }
+}
+
+// Gives the tune of a number another one, and moves it to where that belongs.
+fn move_tune(tunes: &mut Vec<Tune>, number: u32, to: u32)
+    requires { RisesFrom 0 tunes.old.items }
+    ensures { tunes.new.items ≡ moved number to tunes.old.items }
+{
+    if let Some(place) = place_of(tunes, number) {
+        let mut tune = tunes.remove(place);
+        tune.number = to;
+        let place = place_after(tunes, to);
+        tunes.insert(place, tune).unwrap();
+    }
+}
+
+// The place of the first tune of a greater number, or behind the last.
+fn place_after(tunes: &[Tune], number: u32) -> usize
+    requires { RisesFrom 0 tunes.now }
+    ensures { IsPlaceAfter number tunes.now result }
+{
+    match tunes.binary_search_by_key(&number, |tune| tune.number) {
+        Ok(place) => place + 1,
+        Err(place) => place,
     }
 }

@@ -1,34 +1,40 @@
 // Decides commands: by the rules that are here alone, for every store.
-ghost use Rattle.std.specs.Prelude.{◌≡◌, ◌≢◌, ℕ, ◌<◌, List, length, IfOk, IfErr, MatchResult};
-ghost use Rattle.std.specs.Prelude.{◌∷◌, [], vec_len, None, Some, Ok};
-ghost use Rattle.abc_fields.specs.Books.{book_answer};
-ghost use Rattle.tune_store.specs.declared.tune.Tune.{Tune};
-ghost use Rattle.tune_store.specs.Limits.{longest_text};
-ghost use Rattle.tune_store.specs.State.{IsTunes, RisesFrom, greatest};
-ghost use Rattle.tune_store.specs.Step.{tune_at, import_book, replace_book, replace_tune};
-ghost use Rattle.tune_store.specs.Step.{delete_tune, shown, exported};
-ghost use Rattle.tune_store.specs.Labels.{labels_of};
-ghost use Rattle.tune_store.specs.Plans.{Plans, Decides, CanChangeTo, EndsFetch};
-ghost use Rattle.tune_store.specs.Plans.{IsRefusalOfPlan, IsRefusalOfFetch};
-ghost use Rattle.tune_store.specs.Inside.Lists.{state_with};
-ghost use Rattle.tune_store.specs.Inside.Plans.{IsOwnOrMemory};
+ghost use Rattle.std.specs.Prelude.{◌≡◌, true, None, Some, IfOk, IfErr, MatchResult};
+ghost use Rattle.tune_store.specs.State.{IsState};
+ghost use Rattle.tune_store.specs.Answers.{takes_memory};
+ghost use Rattle.tune_store.specs.Plans.{Decides, CanChangeTo, EndsFetch, IsRefusalOfPlan, grows};
 
 use crate::catalog::Catalog;
 use crate::command::{Command, Refusal, Reply};
-use crate::tune::{GREATEST_NUMBER, GREATEST_REVISION, LONGEST_TEXT, MOST_TUNES, Tune};
-use abc_fields::{TuneText, judge_book, split_book};
+use crate::questions::{export, export_set, find, set_show, sets, show, titles};
+use crate::set_plans::{set_add, set_cut, set_drop, set_new};
+use crate::tune::Tune;
+use crate::tune_plans::{delete, import, renumber, replace};
+use abc_fields::TuneText;
 use std::alloc::Global;
-use tune_books::BookWriter;
+use tune_sets::SetName;
 
-/// One change of a list of tunes by rising number. A place is an index in it, from 0.
+/// One change of an archive. A place is an index in the list of tunes by rising number, from 0; a
+/// place of a set list counts from 1.
 #[derive(Debug, Drop)]
 pub enum Change {
-    /// Tunes of these texts come to its end, with numbers from `first` on, at revision 1.
+    /// Tunes of these texts come to the end of the list, with numbers from `first` on, at
+    /// revision 1.
     Add { first: u32, texts: Vec<TuneText> },
     /// This tune takes the place of the one there, which has its number.
     Put { place: usize, tune: Tune },
     /// The tune there is taken out.
     Take { place: usize },
+    /// The tune of this number gets another one, in set lists too, and goes where that belongs.
+    Move { number: u32, to: u32 },
+    /// A set list of this name comes in, without a place.
+    NewSet { name: SetName },
+    /// The number comes to the end of the set list of this name.
+    AddPlace { name: SetName, number: u32 },
+    /// This place is taken out of the set list of this name.
+    CutPlace { name: SetName, place: u32 },
+    /// The set list of this name is taken out.
+    DropSet { name: SetName },
 }
 
 /// What a command that is accepted is to change, and what it is answered.
@@ -42,7 +48,7 @@ pub struct Plan {
 
 impl Plan {
     // A plan that changes nothing.
-    fn answer(reply: Reply) -> Plan
+    pub(crate) fn answer(reply: Reply) -> Plan
         ensures change { result.change ≡ None }
         ensures reply { result.reply ≡ reply }
     {
@@ -53,7 +59,7 @@ impl Plan {
     }
 
     // A plan of a change.
-    fn change(change: Change, reply: Reply) -> Plan
+    pub(crate) fn change(change: Change, reply: Reply) -> Plan
         ensures change { result.change ≡ Some change }
         ensures reply { result.reply ≡ reply }
     {
@@ -73,6 +79,8 @@ impl Plan {
 ///
 /// - `decided`: the plan, or the refusal, is that of the plain list (`step`).
 /// - `names`, of every device: which refusals may come.
+/// - `memory`, of every device: some commands are never refused for memory, and their changes ask
+///   for none.
 /// - `possible`, of every device: the change can be made.
 /// - `fetched`: what became of the store in reading texts.
 pub fn decide<C: Catalog>(
@@ -80,11 +88,14 @@ pub fn decide<C: Catalog>(
     catalog: &mut C,
     command: &Command,
 ) -> Result<Plan, Refusal>
-    ensures decided { C.honest catalog.new → IsTunes (C.tunes catalog.old)
-        → Decides (state_with (C.tunes catalog.old)) command.now result }
+    ensures decided { C.honest catalog.new → IsState (C.state catalog.old)
+        → Decides (C.state catalog.old) command.now result }
     ensures names { IfErr result (IsRefusalOfPlan command.now) }
+    ensures memory { MatchResult result
+        (λ plan. grows plan.change ≡ true → takes_memory command.now ≡ true)
+        (λ refusal. refusal ≡ Refusal.OutOfMemory → takes_memory command.now ≡ true) }
     ensures possible { IfOk result
-        (λ plan. CanChangeTo plan.change (length (C.labels catalog.old))) }
+        (λ plan. CanChangeTo plan.change (C.labels catalog.old) (C.sets catalog.old)) }
     ensures fetched { MatchResult result (λ _. C.fetched catalog.old catalog.new)
         (λ refusal. EndsFetch C.fetched C.failed catalog.old refusal catalog.new) }
 {
@@ -96,169 +107,17 @@ pub fn decide<C: Catalog>(
             book,
         } => replace(alloc, catalog, *number, *revision, book.as_slice()),
         Command::Delete(number) => delete(catalog, *number),
+        Command::Renumber { number, to } => renumber(catalog, *number, *to),
         Command::Show(number) => show(alloc, catalog, *number),
+        Command::Find(query) => find(alloc, catalog, query),
+        Command::Titles => titles(alloc, catalog),
+        Command::SetNew(name) => set_new(catalog, name.as_slice()),
+        Command::SetAdd { name, number } => set_add(catalog, name.as_slice(), *number),
+        Command::SetCut { name, place } => set_cut(catalog, name.as_slice(), *place),
+        Command::SetDrop(name) => set_drop(catalog, name.as_slice()),
+        Command::Sets => sets(catalog),
+        Command::SetShow(name) => set_show(alloc, catalog, name.as_slice()),
         Command::ExportAll => export(alloc, catalog),
+        Command::ExportSet(name) => export_set(alloc, catalog, name.as_slice()),
     }
-}
-
-// What a book of new tunes asks for.
-fn import<C: Catalog>(alloc: Global, catalog: &C, book: &[u8]) -> Result<Plan, Refusal>
-    ensures planned { (tunes : List Tune) → IsTunes tunes → labels_of tunes ≡ C.labels catalog.now
-        → Plans tunes result (import_book tunes (book_answer longest_text book.now)) }
-    ensures names { IfErr result (IsOwnOrMemory (Command.Import book.now)) }
-    ensures possible { IfOk result
-        (λ plan. CanChangeTo plan.change (length (C.labels catalog.now))) }
-{
-    let judged = judge_book(alloc, book, LONGEST_TEXT)?;
-    let count = judged.count();
-    let len = catalog.len();
-    if count > MOST_TUNES || len > MOST_TUNES - count {
-        return Err(Refusal::ArchiveFull);
-    }
-    let greatest = last_number(catalog);
-    let last = greatest as usize + count;
-    if last > GREATEST_NUMBER as usize {
-        return Err(Refusal::NumbersSpent);
-    }
-    let first = greatest + 1;
-    let last = last as u32;
-    let texts = judged.texts(alloc)?;
-    let add = Change::Add { first, texts };
-    Ok(Plan::change(add, Reply::Imported { first, last }))
-}
-
-// The greatest number, or 0.
-fn last_number<C: Catalog>(catalog: &C) -> u32
-    ensures { (tunes : List Tune) → RisesFrom 0 tunes
-        → labels_of tunes ≡ C.labels catalog.now → result ≡ greatest tunes }
-{
-    let len = catalog.len();
-    if len == 0 {
-        return 0;
-    }
-    catalog.label(len - 1).number
-}
-
-// What a book for one tune asks for.
-fn replace<C: Catalog>(
-    alloc: Global,
-    catalog: &C,
-    number: u32,
-    revision: u32,
-    book: &[u8],
-) -> Result<Plan, Refusal>
-    ensures planned { (tunes : List Tune) → IsTunes tunes → labels_of tunes ≡ C.labels catalog.now
-        → Plans tunes result
-        (replace_book tunes number revision (book_answer longest_text book.now)) }
-    ensures names { IfErr result (IsOwnOrMemory (Command.Replace number revision book.now)) }
-    ensures possible { IfOk result
-        (λ plan. CanChangeTo plan.change (length (C.labels catalog.now))) }
-{
-    let text = only_text(split_book(alloc, book, LONGEST_TEXT)?)?;
-    replace_text(catalog, number, revision, text)
-}
-
-// The one text of a book.
-fn only_text(mut texts: Vec<TuneText>) -> Result<TuneText, Refusal>
-    ensures one { IfOk result (λ text. texts.items ≡ text ∷ []) }
-    ensures count { IfErr result (λ refusal.
-        (refusal ≡ Refusal.NotOne (vec_len texts)) × (vec_len texts ≢ 1)) }
-{
-    let count = texts.len();
-    match texts.pop() {
-        Some(text) if count == 1 => Ok(text),
-        _ => Err(Refusal::NotOne { count }),
-    }
-}
-
-// What a text in the place of a tune's asks for.
-fn replace_text<C: Catalog>(
-    catalog: &C,
-    number: u32,
-    revision: u32,
-    text: TuneText,
-) -> Result<Plan, Refusal>
-    ensures planned { (tunes : List Tune) → RisesFrom 0 tunes
-        → labels_of tunes ≡ C.labels catalog.now → Plans tunes result
-        (replace_tune tunes number revision text (tune_at number tunes)) }
-    ensures names { IfErr result (λ refusal.
-        (book : List ℕ) → IsOwnOrMemory (Command.Replace number revision book) refusal) }
-    ensures possible { IfOk result
-        (λ plan. CanChangeTo plan.change (length (C.labels catalog.now))) }
-{
-    let Some(place) = catalog.place_of(number) else {
-        return Err(Refusal::Unknown { number });
-    };
-    let current = catalog.label(place).revision;
-    if u32::from(current) != revision {
-        return Err(Refusal::Stale { revision: current });
-    }
-    if current >= GREATEST_REVISION {
-        return Err(Refusal::Worn);
-    }
-    let revision = current + 1;
-    let tune = Tune {
-        number,
-        revision,
-        text,
-    };
-    let put = Change::Put { place, tune };
-    Ok(Plan::change(put, Reply::Replaced { number, revision }))
-}
-
-// What taking out a tune asks for.
-fn delete<C: Catalog>(catalog: &C, number: u32) -> Result<Plan, Refusal>
-    ensures planned { (tunes : List Tune) → RisesFrom 0 tunes
-        → labels_of tunes ≡ C.labels catalog.now
-        → Plans tunes result (delete_tune tunes number (tune_at number tunes)) }
-    ensures names { IfErr result (IsOwnOrMemory (Command.Delete number)) }
-    ensures possible { IfOk result
-        (λ plan. CanChangeTo plan.change (length (C.labels catalog.now))) }
-{
-    let Some(place) = catalog.place_of(number) else {
-        return Err(Refusal::Unknown { number });
-    };
-    Ok(Plan::change(Change::Take { place }, Reply::Deleted { number }))
-}
-
-// A copy of the tune of a number.
-fn show<C: Catalog>(alloc: Global, catalog: &mut C, number: u32) -> Result<Plan, Refusal>
-    ensures planned { C.honest catalog.new → RisesFrom 0 (C.tunes catalog.old)
-        → let tunes = C.tunes catalog.old in
-        Plans tunes result (tunes, shown number (tune_at number tunes)) }
-    ensures names { IfErr result (IsRefusalOfPlan (Command.Show number)) }
-    ensures asks { IfOk result (λ plan. plan.change ≡ None) }
-    ensures fetched { MatchResult result (λ _. C.fetched catalog.old catalog.new)
-        (λ refusal. EndsFetch C.fetched C.failed catalog.old refusal catalog.new) }
-{
-    let Some(place) = catalog.place_of(number) else {
-        return Err(Refusal::Unknown { number });
-    };
-    let revision = catalog.label(place).revision;
-    catalog.fetch(place)?;
-    let text = catalog.text(place).copy(alloc)?;
-    let tune = Tune {
-        number,
-        revision,
-        text,
-    };
-    Ok(Plan::answer(Reply::Shown(tune)))
-}
-
-// The written book of all tunes.
-fn export<C: Catalog>(alloc: Global, catalog: &mut C) -> Result<Plan, Refusal>
-    ensures planned { C.honest catalog.new → let tunes = C.tunes catalog.old in
-        Plans tunes result (tunes, Ok (Reply.Exported (exported tunes))) }
-    ensures names { IfErr result IsRefusalOfFetch }
-    ensures asks { IfOk result (λ plan. plan.change ≡ None) }
-    ensures fetched { MatchResult result (λ _. C.fetched catalog.old catalog.new)
-        (λ refusal. EndsFetch C.fetched C.failed catalog.old refusal catalog.new) }
-{
-    let mut book = BookWriter::new(alloc)?;
-    for place in 0..catalog.len() {
-        let number = catalog.label(place).number;
-        catalog.fetch(place)?;
-        book = book.with_tune(number, catalog.text(place))?;
-    }
-    Ok(Plan::answer(Reply::Exported(book.into_book())))
 }

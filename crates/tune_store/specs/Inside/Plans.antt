@@ -1,4 +1,4 @@
--- Refusals of what is decided by the labels of tunes alone.
+-- Refusals of what is decided by the labels of tunes and the sets alone.
 use Rattle.std.specs.Prelude.{◌≡◌, ◌⊎◌}
 use Rattle.tune_store.specs.Answers.{IsRefusalOfOwn}
 use Rattle.tune_store.specs.declared.command.Command.{Command}

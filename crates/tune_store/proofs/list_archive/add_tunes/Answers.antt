@@ -3,7 +3,7 @@ use Rattle.std.specs.Vec.{vec_capacity}
 use Rattle.std.specs.Vec.Iter.{into_iter_items}
 use Rattle.std.proofs.lemmas.List.{length_push}
 use Rattle.tune_store.specs.declared.tune.Tune.{Tune}
-use Rattle.tune_store.specs.Step.{numbered}
+use Rattle.tune_store.specs.TuneSteps.{numbered}
 use Rattle.tune_store.proofs.StateLemmas.{numbered_next, length-numbered}
 use Rattle.tune_store.proofs.list_archive.add_tunes.Goals as goal
 

@@ -1,7 +1,7 @@
 use Rattle.std.proofs.Common.{◌≡◌, ◌+◌, ◌≤◌, ◌++◌, length}
 use Rattle.std.specs.Vec.{vec_capacity}
 use Rattle.std.specs.Vec.Iter.{into_iter_items}
-use Rattle.tune_store.specs.Step.{numbered}
+use Rattle.tune_store.specs.TuneSteps.{numbered}
 use Rattle.tune_store.proofs.list_archive.add_tunes.Given as goal
 
 abbrev pub invariant-loop-text : goal.invariant-loop-text

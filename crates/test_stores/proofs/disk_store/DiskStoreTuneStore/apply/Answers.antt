@@ -15,7 +15,7 @@ returns-in-Ok-clause-stops g c =
 pub returns-in-Err-clause-answer : goal.returns-in-Err-clause-answer
 returns-in-Err-clause-answer g c = λ honest.
     fails_after c.args.self.now.archive c.apply.new.self c.args.self.now.closed c.args.command.now _ c.if-self.false
-    (c.in_ok-reply.ensures.answer tt)
+    c.in_ok-reply.ensures.answer
 
 pub returns-in-Err-clause-stops : goal.returns-in-Err-clause-stops
 returns-in-Err-clause-stops g c =

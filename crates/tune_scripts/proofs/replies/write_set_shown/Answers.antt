@@ -1,0 +1,10 @@
+use Rattle.std.proofs.lemmas.Result.{on_ok_weaker}
+use Rattle.tune_scripts.proofs.AppendLemmas.{appends_more}
+use Rattle.tune_scripts.proofs.replies.write_set_shown.Goals as goal
+
+pub returns : goal.returns
+returns g c =
+    let header = appends_more (g.W.Write.contents c.args.writer.now) (g.W.Write.contents c.write_name_number.new.writer)
+    (g.W.Write.contents c.write_places.new.writer) _ _
+    c.in_ok-write_name_number.ensures in
+    rw c.as_slice-rows.ensures at (on_ok_weaker c.write_places.result header c.write_places.ensures)

@@ -1,0 +1,72 @@
+-- A tune goes to the place where its number belongs.
+use Rattle.std.proofs.Common.{◌≡◌, ℕ, zero, suc, ◌+◌, ◌<◌, ◌≤◌, List, [], ◌∷◌, length, get_or, Some, refl, ap, sym, ◌∙◌, subst, arith}
+use Rattle.std.specs.List.{AllWithin, insert, remove}
+use Rattle.std.specs.Cmp.{ranked}
+use Rattle.std.specs.Ordering.{nat_cmp}
+use Rattle.std.specs.declared.cmp.Ordering.TheVariants.{Less, Greater}
+use Rattle.std.proofs.lemmas.Bool.{lt-ltb, le-ltb}
+use Rattle.tune_store.specs.State.{RisesFrom, tune_at}
+use Rattle.tune_store.specs.TuneSteps.{without, inserted, moved_if, moved}
+use Rattle.tune_store.specs.Inside.Lists.{IsPlaceAfter}
+use Rattle.tune_store.specs.declared.tune.Tune.{Tune}
+use Rattle.tune_store.proofs.PlaceLemmas.{ordered, above, tune_at-place, without-place}
+use Rattle.tune_store.proofs.StateLemmas.{rises-without}
+
+-- THE PLACE
+-- numbers rise strictly with the place
+ordered_strictly : (low : ℕ) (tunes : List Tune) (i j : ℕ) (d : Tune) → RisesFrom low tunes → i < j → j < length tunes
+    → (get_or tunes i d).number < (get_or tunes j d).number
+ordered_strictly low [] i j d rises h l = absurd (omega arith)
+ordered_strictly low (tune ∷ tunes) zero zero d rises h l = absurd (omega arith)
+ordered_strictly low (tune ∷ tunes) zero (suc j) d rises h l = above tune.number tunes j d rises.1 (omega arith)
+ordered_strictly low (tune ∷ tunes) (suc i) zero d rises h l = absurd (omega arith)
+ordered_strictly low (tune ∷ tunes) (suc i) (suc j) d rises h l = ordered_strictly tune.number tunes i j d rises.1 (omega arith) (omega arith)
+
+-- behind the tune of a number
+pub place_behind : (number : ℕ) (tunes : List Tune) (place : ℕ) → RisesFrom 0 tunes → place < length tunes
+    → ((e : Tune) → (get_or tunes place e).number ≡ number) → IsPlaceAfter number tunes (place + 1)
+place_behind number tunes place rises l named = record {
+  within = omega arith;
+  before = λ k d from below. let le = ordered 0 tunes k place d rises (omega arith) l in let e = named d in omega arith;
+  behind = λ k d from to. let less = ordered_strictly 0 tunes place k d rises (omega arith) to in let e = named d in omega arith;
+}
+
+-- between the lesser numbers and the greater ones
+pub place_between : (number : ℕ) (tunes : List Tune) (place : ℕ) → place ≤ length tunes
+    → AllWithin (λ tune. nat_cmp tune.number number ≡ Less) tunes 0 place
+    → AllWithin (λ tune. nat_cmp tune.number number ≡ Greater) tunes place (length tunes) → IsPlaceAfter number tunes place
+place_between number tunes place l less greater = record {
+  within = l;
+  before = λ k d from below. let lower : (get_or tunes k d).number < number = ranked _ _ _ (sym (less k d from below)) in omega arith;
+  behind = λ k d from to. ranked _ _ _ (sym (greater k d from to));
+}
+
+-- THE MOVE
+-- the tune is put in there
+inserted-place : (new : Tune) (tunes : List Tune) (n : ℕ) → n ≤ length tunes → AllWithin (λ tune. tune.number ≤ new.number) tunes 0 n
+    → AllWithin (λ tune. new.number < tune.number) tunes n (length tunes) → inserted new tunes ≡ insert tunes n new
+inserted-place new [] zero l before behind = refl
+inserted-place new [] (suc n) l before behind = absurd (omega arith)
+inserted-place new (tune ∷ tunes) zero l before behind = rw (lt-ltb new.number tune.number (behind 0 tune (omega arith) (omega arith))) refl
+inserted-place new (tune ∷ tunes) (suc n) l before behind =
+    rw (le-ltb new.number tune.number (before 0 tune (omega arith) (omega arith)))
+    (ap (λ more. tune ∷ more) (inserted-place new tunes n (omega arith) (λ k d from to. before (suc k) d (omega arith) (omega arith))
+    (λ k d from to. behind (suc k) d (omega arith) (omega arith))))
+
+-- a tune that is taken out at its place leaves numbers that rise
+pub rises-taken : (number : ℕ) (tunes : List Tune) (place : ℕ) (d : Tune) → RisesFrom 0 tunes → place < length tunes → (get_or tunes place d).number ≡ number
+    → RisesFrom 0 (remove tunes place)
+rises-taken number tunes place d rises l named =
+    let P : List Tune → Type 0 = λ ts. RisesFrom 0 ts in
+    subst P (without-place 0 number tunes place d rises l named) (rises-without number 0 tunes rises)
+
+-- taken out at its place, and put in where its new number belongs, the tune is moved
+pub moves_by : (number to : ℕ) (tunes : List Tune) (place at : ℕ) (tune : Tune) → RisesFrom 0 tunes → place < length tunes
+    → ((e : Tune) → (get_or tunes place e).number ≡ number) → tune ≡ get_or tunes place tune → IsPlaceAfter to (remove tunes place) at
+    → moved number to tunes ≡ insert (remove tunes place) at record { number = to; revision = tune.revision; text = tune.text }
+moves_by number to tunes place at tune rises l named is after =
+    let new : Tune = record { number = to; revision = tune.revision; text = tune.text } in
+    let its : (get_or tunes place tune).number ≡ tune.number = ap (λ (t : Tune). t.number) (sym is) in
+    let has : tune_at number tunes ≡ Some tune = tune_at-place 0 number tunes place tune rises l (named tune) ∙ ap (λ t. Some t) (sym is) in
+    let rest : without tune.number tunes ≡ remove tunes place = without-place 0 tune.number tunes place tune rises l its in
+    ap (moved_if to tunes) has ∙ ap (inserted new) rest ∙ inserted-place new (remove tunes place) at after.within after.before after.behind

@@ -1,0 +1,290 @@
+// Answers questions.
+ghost use Rattle.std.specs.Prelude.{◌≡◌, ℕ, List, [], ◌∷◌, ◌++◌, map, None, Some, Ok, Err};
+ghost use Rattle.std.specs.Prelude.{if◌then◌else◌, IfOk, IfErr, OnOk, MatchResult};
+ghost use Rattle.abc_fields.specs.Fields.{titles_of};
+ghost use Rattle.tune_queries.specs.Queries.{finds};
+ghost use Rattle.tune_sets.specs.Calls.{places_of, rows_of};
+ghost use Rattle.tune_titles.specs.Order.{Row, row_order, in_order};
+ghost use Rattle.tune_store.specs.State.{State, RisesFrom, tune_at};
+ghost use Rattle.tune_store.specs.Questions.{shown, find, first_shown, titles_from, title_row};
+ghost use Rattle.tune_store.specs.Questions.{titled, row_found, set_shown, exported, set_exported};
+ghost use Rattle.tune_store.specs.Plans.{Decided, EndsFetch, IsRefusalOfPlan, IsRefusalOfFetch};
+ghost use Rattle.tune_store.specs.Inside.Questions.{title_rows};
+ghost use Rattle.tune_store.specs.declared.command.Reply.TheVariants as reply;
+
+use crate::catalog::Catalog;
+use crate::command::{Command, Refusal, Reply};
+use crate::plans::Plan;
+use crate::rows::{IndexRow, RowList};
+use crate::set_plans::held_name;
+use crate::tune::Tune;
+use abc_fields::{ByteText, TuneText, fields};
+use std::alloc::{AllocError, Global};
+use tune_books::BookWriter;
+use tune_queries::{Query, Sought};
+use tune_titles::{TitleRow, index_title, sort_rows};
+
+// A copy of the tune of a number.
+pub(crate) fn show<C: Catalog>(alloc: Global, catalog: &mut C, number: u32) -> Result<Plan, Refusal>
+    ensures planned { let state = C.state catalog.old in
+        C.honest catalog.new → RisesFrom 0 state.tunes
+        → Decided state result (state, shown number (tune_at number state.tunes)) }
+    ensures names { IfErr result (IsRefusalOfPlan (Command.Show number)) }
+    ensures asks { IfOk result (λ plan. plan.change ≡ None) }
+    ensures fetched { MatchResult result (λ _. C.fetched catalog.old catalog.new)
+        (λ refusal. EndsFetch C.fetched C.failed catalog.old refusal catalog.new) }
+{
+    let Some(place) = catalog.place_of(number) else {
+        return Err(Refusal::Unknown { number });
+    };
+    let revision = catalog.label(place).revision;
+    catalog.fetch(place)?;
+    let text = catalog.text(place).copy(alloc)?;
+    let tune = Tune {
+        number,
+        revision,
+        text,
+    };
+    Ok(Plan::answer(Reply::Shown(tune)))
+}
+
+// The rows of the tunes that a query finds.
+pub(crate) fn find<C: Catalog>(
+    alloc: Global,
+    catalog: &mut C,
+    query: &Query,
+) -> Result<Plan, Refusal>
+    ensures planned { let state = C.state catalog.old in
+        C.honest catalog.new → Decided state result (state, find query.now state.tunes) }
+    ensures names { IfErr result (IsRefusalOfPlan (Command.Find query.now)) }
+    ensures asks { IfOk result (λ plan. plan.change ≡ None) }
+    ensures fetched { MatchResult result (λ _. C.fetched catalog.old catalog.new)
+        (λ refusal. EndsFetch C.fetched C.failed catalog.old refusal catalog.new) }
+{
+    let sought = query.sought()?;
+    let mut rows = Vec::new(alloc);
+    for place in 0..catalog.len() {
+        let number = catalog.label(place).number;
+        catalog.fetch(place)?;
+        add_if_found(alloc, &mut rows, &sought, number, catalog.text(place))?;
+    }
+    Ok(Plan::answer(Reply::Found(RowList::from_vec(rows))))
+}
+
+// Puts the row of a tune behind these rows, where a query finds it.
+fn add_if_found(
+    alloc: Global,
+    rows: &mut Vec<IndexRow>,
+    sought: &Sought,
+    number: u32,
+    text: &TuneText,
+) -> Result<(), AllocError>
+    ensures { OnOk result (rows.new.items ≡ rows.old.items
+        ++ (if finds sought.now text.now
+        then record { number = number; title = first_shown (titles_of text.now) } ∷ [] else [])) }
+{
+    if sought.matches(text) {
+        rows.push(row_of(alloc, number, text)?)?;
+    }
+    Ok(())
+}
+
+// The row of a tune: its number, and its first title.
+fn row_of(alloc: Global, number: u32, text: &TuneText) -> Result<IndexRow, AllocError>
+    ensures { IfOk result (λ row.
+        row ≡ record { number = number; title = first_shown (titles_of text.now) }) }
+{
+    let title = match fields(text).titles.as_slice() {
+        [] => None,
+        [first, ..] => Some(index_title(alloc, first)?),
+    };
+    Ok(IndexRow { number, title })
+}
+
+// A title of a tune, in memory of its own.
+#[derive(Debug, Drop)]
+struct OwnTitle {
+    title: ByteText,
+    number: u32,
+    place: u8,
+}
+
+// The titles of all tunes, in the order of an index.
+pub(crate) fn titles<C: Catalog>(alloc: Global, catalog: &mut C) -> Result<Plan, Refusal>
+    ensures planned { let state = C.state catalog.old in C.honest catalog.new
+        → Decided state result (state, Ok (reply.Titled (titled state.tunes))) }
+    ensures names { IfErr result IsRefusalOfFetch }
+    ensures asks { IfOk result (λ plan. plan.change ≡ None) }
+    ensures fetched { MatchResult result (λ _. C.fetched catalog.old catalog.new)
+        (λ refusal. EndsFetch C.fetched C.failed catalog.old refusal catalog.new) }
+{
+    let mut titles = Vec::new(alloc);
+    for place in 0..catalog.len() {
+        let number = catalog.label(place).number;
+        catalog.fetch(place)?;
+        add_titles(alloc, &mut titles, number, catalog.text(place))?;
+    }
+    Ok(Plan::answer(Reply::Titled(in_order(alloc, &titles)?)))
+}
+
+// Puts the titles of a tune behind these.
+fn add_titles(
+    alloc: Global,
+    titles: &mut Vec<OwnTitle>,
+    number: u32,
+    text: &TuneText,
+) -> Result<(), AllocError>
+    ensures { OnOk result (title_rows titles.new.items
+        ≡ title_rows titles.old.items ++ titles_from number 1 (titles_of text.now)) }
+{
+    let mut place = 1;
+    for title in fields(text).titles.as_slice() {
+        titles.push(OwnTitle {
+            title: ByteText::copy_of(alloc, title)?,
+            number,
+            place,
+        })?;
+        place += 1;
+    }
+    Ok(())
+}
+
+// The rows of titles, in the order of an index.
+fn in_order(alloc: Global, titles: &[OwnTitle]) -> Result<RowList, AllocError>
+    ensures { IfOk result (λ rows.
+        rows ≡ map title_row (in_order row_order (title_rows titles.now))) }
+{
+    let mut rows = rows_of_titles(alloc, titles)?;
+    sort_rows(&mut rows)?;
+    shown_rows(alloc, &rows)
+}
+
+// Titles as rows that are to be put in order.
+fn rows_of_titles(alloc: Global, titles: &[OwnTitle]) -> Result<Vec<TitleRow<'_>>, AllocError>
+    ensures { IfOk result (λ rows. rows.items ≡ title_rows titles.now) }
+{
+    let mut rows = Vec::with_capacity(alloc, titles.len())?;
+    for own in titles {
+        rows.push(TitleRow::new(own.title.as_slice(), own.number, own.place))?;
+    }
+    Ok(rows)
+}
+
+// Rows as an index shows them.
+fn shown_rows(alloc: Global, rows: &[TitleRow]) -> Result<RowList, AllocError>
+    ensures { IfOk result (λ shown. shown ≡ map title_row rows.now) }
+{
+    let mut shown = Vec::with_capacity(alloc, rows.len())?;
+    for row in rows {
+        shown.push(IndexRow {
+            number: row.number(),
+            title: Some(index_title(alloc, row.title())?),
+        })?;
+    }
+    Ok(RowList::from_vec(shown))
+}
+
+// The names of the set lists, and how many places each has.
+pub(crate) fn sets<C: Catalog>(catalog: &C) -> Result<Plan, Refusal>
+    ensures planned { (state : State) → C.sets catalog.now ≡ state.sets
+        → Decided state result (state, Ok (reply.Sets (rows_of state.sets))) }
+    ensures names { IfErr result (λ refusal. refusal ≡ Refusal.OutOfMemory) }
+    ensures asks { IfOk result (λ plan. plan.change ≡ None) }
+{
+    let rows = catalog.sets().rows()?;
+    Ok(Plan::answer(Reply::Sets(rows)))
+}
+
+// The tunes at the places of a set list.
+pub(crate) fn set_show<C: Catalog>(
+    alloc: Global,
+    catalog: &mut C,
+    name: &[u8],
+) -> Result<Plan, Refusal>
+    ensures planned { let state = C.state catalog.old in
+        C.honest catalog.new → RisesFrom 0 state.tunes → Decided state result
+        (state, set_shown name.now state.tunes (places_of name.now state.sets)) }
+    ensures names { IfErr result (IsRefusalOfPlan (Command.SetShow name.now)) }
+    ensures asks { IfOk result (λ plan. plan.change ≡ None) }
+    ensures fetched { MatchResult result (λ _. C.fetched catalog.old catalog.new)
+        (λ refusal. EndsFetch C.fetched C.failed catalog.old refusal catalog.new) }
+{
+    let sets = catalog.sets();
+    let numbers = Vec::from_slice(alloc, sets.places(name)?)?;
+    let held = held_name(sets, name)?;
+    let mut rows = Vec::with_capacity(alloc, numbers.len())?;
+    for number in &numbers {
+        rows.push(row_at(alloc, catalog, *number)?)?;
+    }
+    let rows = RowList::from_vec(rows);
+    Ok(Plan::answer(Reply::SetShown { name: held, rows }))
+}
+
+// The row of the tune of a number; the number alone where there is none.
+fn row_at<C: Catalog>(alloc: Global, catalog: &mut C, number: u32) -> Result<IndexRow, Refusal>
+    ensures row { let state = C.state catalog.old in
+        C.honest catalog.new → RisesFrom 0 state.tunes
+        → IfOk result (λ row. row ≡ row_found number (tune_at number state.tunes)) }
+    ensures names { IfErr result IsRefusalOfFetch }
+    ensures fetched { MatchResult result (λ _. C.fetched catalog.old catalog.new)
+        (λ refusal. EndsFetch C.fetched C.failed catalog.old refusal catalog.new) }
+{
+    let Some(place) = catalog.place_of(number) else {
+        return Ok(IndexRow {
+            number,
+            title: None,
+        });
+    };
+    catalog.fetch(place)?;
+    Ok(row_of(alloc, number, catalog.text(place))?)
+}
+
+// The written book of all tunes.
+pub(crate) fn export<C: Catalog>(alloc: Global, catalog: &mut C) -> Result<Plan, Refusal>
+    ensures planned { let state = C.state catalog.old in C.honest catalog.new
+        → Decided state result (state, Ok (reply.Exported (exported state.tunes))) }
+    ensures names { IfErr result IsRefusalOfFetch }
+    ensures asks { IfOk result (λ plan. plan.change ≡ None) }
+    ensures fetched { MatchResult result (λ _. C.fetched catalog.old catalog.new)
+        (λ refusal. EndsFetch C.fetched C.failed catalog.old refusal catalog.new) }
+{
+    let mut book = BookWriter::new(alloc)?;
+    for place in 0..catalog.len() {
+        let number = catalog.label(place).number;
+        catalog.fetch(place)?;
+        book = book.with_tune(number, catalog.text(place))?;
+    }
+    Ok(Plan::answer(Reply::Exported(book.into_book())))
+}
+
+// The written set of a set list.
+pub(crate) fn export_set<C: Catalog>(
+    alloc: Global,
+    catalog: &mut C,
+    name: &[u8],
+) -> Result<Plan, Refusal>
+    ensures planned { let state = C.state catalog.old in
+        C.honest catalog.new → RisesFrom 0 state.tunes → Decided state result
+        (state, set_exported name.now state.tunes (places_of name.now state.sets)) }
+    ensures names { IfErr result (IsRefusalOfPlan (Command.ExportSet name.now)) }
+    ensures asks { IfOk result (λ plan. plan.change ≡ None) }
+    ensures fetched { MatchResult result (λ _. C.fetched catalog.old catalog.new)
+        (λ refusal. EndsFetch C.fetched C.failed catalog.old refusal catalog.new) }
+{
+    let sets = catalog.sets();
+    // A set list has few places, so a place is a small number.
+    let _limits = sets.as_slice();
+    let numbers = Vec::from_slice(alloc, sets.places(name)?)?;
+    let held = held_name(sets, name)?;
+    let mut book = BookWriter::of_set(alloc, name)?;
+    let mut place = 1;
+    for number in &numbers {
+        if let Some(index) = catalog.place_of(*number) {
+            catalog.fetch(index)?;
+            book = book.with_tune(place, catalog.text(index))?;
+            place += 1;
+        }
+    }
+    let book = book.into_book();
+    Ok(Plan::answer(Reply::SetExported { name: held, book }))
+}
