@@ -1,0 +1,212 @@
+// Changes of an archive, laid on its pages, and what is claimed then.
+ghost use Rattle.std.specs.Prelude.{◌≡◌, List, [], ◌∷◌, false, IfOk, OnOk};
+ghost use Rattle.tune_store.specs.Plans.{CanChange};
+ghost use Rattle.tune_contents.specs.Holds.{labels_in};
+
+use crate::claims::made;
+use crate::disks::TestDisk;
+use abc_fields::{ByteText, TuneText};
+use std::alloc::Global;
+use std::process::Abort;
+use std::test::Fail;
+use tune_contents::{Contents, claim, lay};
+use tune_format::Row;
+use tune_pages::Pages;
+use tune_sets::SetLists;
+use tune_store::{Change, Tune};
+
+const LULLABY: &[u8] = b"T:Lullaby\nK:C\n";
+
+const MARCH: &[u8] = b"T:March\nK:D\nDFA\n";
+
+const WALTZ: &[u8] = b"T:Waltz\nM:3/4\nK:G\nG2B2d2|\n";
+
+// Lays a change, and finishes its work.
+fn changed<D: TestDisk>(
+    alloc: Global,
+    pages: &mut Pages<D>,
+    contents: &Contents,
+    change: Change,
+) -> Result<Contents, Fail>
+    requires open { pages.old.closed ≡ false }
+    requires possible { CanChange change
+        (labels_in contents.now.rows.items) contents.now.sets }
+    ensures open { OnOk result (pages.new.closed ≡ false) }
+{
+    let mut work = pages.begin()?;
+    let left = lay(alloc, pages, &mut work, contents, change)?;
+    pages.finish(work)?;
+    Ok(left)
+}
+
+// Two tunes are added to an archive without tunes.
+fn with_two<D: TestDisk>(alloc: Global, pages: &mut Pages<D>) -> Result<Contents, Fail>
+    requires open { pages.old.closed ≡ false }
+    ensures open { OnOk result (pages.new.closed ≡ false) }
+{
+    let empty = Contents {
+        rows: Vec::new(alloc),
+        sets: SetLists::new(alloc),
+        list_first: 0,
+        sets_first: 0,
+    };
+    let mut texts = Vec::new(alloc);
+    texts.push(text(alloc, LULLABY)?)?;
+    texts.push(text(alloc, MARCH)?)?;
+    changed(alloc, pages, &empty, Change::Add { first: 1, texts })
+}
+
+fn text(alloc: Global, bytes: &[u8]) -> Result<TuneText, Fail> {
+    match TuneText::from_stored(ByteText::copy_of(alloc, bytes)?, 16_000) {
+        Ok(text) => Ok(text),
+        Err(_) => Err(Fail::from("no text")),
+    }
+}
+
+// Two rows, in contents without a set list.
+fn two(
+    alloc: Global,
+    one: Row,
+    other: Row,
+    list_first: u32,
+    sets_first: u32,
+) -> Result<Contents, Fail>
+    ensures rows { IfOk result (λ contents. contents.rows.items ≡ one ∷ other ∷ []) }
+    ensures sets { IfOk result (λ contents. contents.sets ≡ []) }
+{
+    let mut rows = Vec::new(alloc);
+    rows.push(one)?;
+    rows.push(other)?;
+    Ok(Contents {
+        rows,
+        sets: SetLists::new(alloc),
+        list_first,
+        sets_first,
+    })
+}
+
+fn row(number: u32, revision: u16, first: u32) -> Row
+    ensures { result ≡ record { number = number; revision = revision; first = first } }
+{
+    Row {
+        number,
+        revision,
+        first,
+    }
+}
+
+// What opening claims of these pages: these rows, whose chains hold these bytes.
+fn check<R: AllocGlobal + Abort, D: TestDisk>(
+    rt: &R,
+    pages: Pages<D>,
+    rows: &[Row],
+    chains: &[&[u8]],
+) -> Result<(), Fail> {
+    let Ok(mut opening) = Pages::open(rt.alloc(), pages.into_disk()) else {
+        return Err(Fail::from("not opened"));
+    };
+    let Ok(contents) = claim(rt.alloc(), &mut opening) else {
+        return Err(Fail::from("not claimed"));
+    };
+    assert_eq!(rt; contents.rows.as_slice(), rows);
+    let Ok(mut pages) = opening.done(100) else {
+        return Err(Fail::from("not done"));
+    };
+    for (row, chain) in rows.iter().zip(chains) {
+        check_chain(rt, &mut pages, row.first, chain)?;
+    }
+    Ok(())
+}
+
+fn check_chain<R: AllocGlobal + Abort, D: TestDisk>(
+    rt: &R,
+    pages: &mut Pages<D>,
+    first: u32,
+    chain: &[u8],
+) -> Result<(), Fail> {
+    let work = pages.begin()?;
+    let bytes = pages.read_chain(&work, first)?;
+    assert_eq!(rt; bytes.as_slice(), chain);
+    Ok(())
+}
+
+pub(crate) fn adds_two_tunes<R: AllocGlobal + Abort, D: TestDisk>(rt: &R) -> Result<(), Fail> {
+    let mut pages = made::<D>(rt.alloc())?;
+    let left = with_two(rt.alloc(), &mut pages)?;
+    assert_eq!(rt; (left.list_first, left.sets_first), (3, 0));
+    check(
+        rt,
+        pages,
+        &[row(1, 1, 1), row(2, 1, 2)],
+        &[b"\x00\x01T:Lullaby\nK:C\n", b"\x00\x01T:March\nK:D\nDFA\n"],
+    )
+}
+
+// The first page of the tune that goes is free for the list, and then that of the old list.
+pub(crate) fn takes_a_tune<R: AllocGlobal + Abort, D: TestDisk>(rt: &R) -> Result<(), Fail> {
+    let mut pages = made::<D>(rt.alloc())?;
+    let left = with_two(rt.alloc(), &mut pages)?;
+    if left.rows.len() != 2 {
+        return Err(Fail::from("not two"));
+    }
+    let left = changed(rt.alloc(), &mut pages, &left, Change::Take { place: 0 })?;
+    assert_eq!(rt; (left.list_first, left.sets_first), (1, 0));
+    check(
+        rt,
+        pages,
+        &[row(2, 1, 2)],
+        &[b"\x00\x01T:March\nK:D\nDFA\n"],
+    )
+}
+
+pub(crate) fn puts_another_text<R: AllocGlobal + Abort, D: TestDisk>(rt: &R) -> Result<(), Fail> {
+    let mut pages = made::<D>(rt.alloc())?;
+    let left = with_two(rt.alloc(), &mut pages)?;
+    if left.rows.len() != 2 {
+        return Err(Fail::from("not two"));
+    }
+    let tune = Tune {
+        number: 2,
+        revision: 2,
+        text: text(rt.alloc(), WALTZ)?,
+    };
+    changed(
+        rt.alloc(),
+        &mut pages,
+        &left,
+        Change::Put { place: 1, tune },
+    )?;
+    check(
+        rt,
+        pages,
+        &[row(1, 1, 1), row(2, 2, 2)],
+        &[
+            b"\x00\x01T:Lullaby\nK:C\n",
+            b"\x00\x02T:Waltz\nM:3/4\nK:G\nG2B2d2|\n",
+        ],
+    )
+}
+
+pub(crate) fn moves_a_tune<R: AllocGlobal + Abort, D: TestDisk>(rt: &R) -> Result<(), Fail> {
+    let mut pages = made::<D>(rt.alloc())?;
+    let left = with_two(rt.alloc(), &mut pages)?;
+    let known = two(
+        rt.alloc(),
+        row(1, 1, 1),
+        row(2, 1, 2),
+        left.list_first,
+        left.sets_first,
+    )?;
+    changed(
+        rt.alloc(),
+        &mut pages,
+        &known,
+        Change::Move { number: 1, to: 9 },
+    )?;
+    check(
+        rt,
+        pages,
+        &[row(2, 1, 2), row(9, 1, 1)],
+        &[b"\x00\x01T:March\nK:D\nDFA\n", b"\x00\x01T:Lullaby\nK:C\n"],
+    )
+}

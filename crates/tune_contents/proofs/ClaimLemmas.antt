@@ -1,0 +1,70 @@
+-- Parts and tunes that are claimed.
+use Rattle.std.proofs.Common.{◌≡◌, ℕ, List, [], ◌∷◌, ◌++◌, Bool, true, Result, Ok, Err, IfOk, IfErr, refl, sym, ◌∙◌, ap, subst}
+use Rattle.std.proofs.lemmas.List.{append-nil}
+use Rattle.tune_pages.specs.Claim.{Claimable, IsClaimable}
+use Rattle.tune_pages.specs.Stand.{marked}
+use Rattle.tune_pages.proofs.Chains.{chain_once}
+use Rattle.tune_format.specs.Parts.{Part, IsPart, AreParts}
+use Rattle.tune_format.proofs.Once.{all_right}
+use Rattle.tune_format.proofs.PartLemmas.{claim_part, can_claim}
+use Rattle.tune_contents.specs.Inside.Claiming.{HasClaimed, ClaimsPart, IsPartThere, IsTuneChain, IsTuneThere}
+
+pub ok_as : {T E : Type 0} (r : Result T E) (P Q : T → Type 0) → ((x : T) → P x → Q x) → IfOk r P → IfOk r Q
+ok_as (Ok x) P Q as_q p = as_q x p
+ok_as (Err e) P Q as_q p = tt
+
+pub err_as : {T E : Type 0} (r : Result T E) (P Q : E → Type 0) → ((e : E) → P e → Q e) → IfErr r P → IfErr r Q
+err_as (Ok x) P Q as_q p = tt
+err_as (Err e) P Q as_q p = as_q e p
+
+-- the same facts of an equal list of parts
+pub claimed_as : (pages : List (List ℕ)) (claimed : List Bool) (one other : List Part) → one ≡ other
+    → HasClaimed pages claimed one → HasClaimed pages claimed other
+claimed_as pages claimed one other same has = subst (HasClaimed pages claimed) same has
+
+-- a part among those that stand there
+pub its_part : (pages : List (List ℕ)) (front : List Part) (part : Part) (more : List Part) → AreParts pages (front ++ part ∷ more) → IsPart pages part
+its_part pages front part more are = (all_right (IsPart pages) front (part ∷ more) are.chains).0
+
+-- parts that begin at the same page
+pub same_part : (pages : List (List ℕ)) (one other : Part) → IsPart pages one → IsPart pages other → one.first ≡ other.first → one ≡ other
+same_part pages one other is also first =
+    let once = chain_once pages other.first one.trail other.trail one.bytes other.bytes
+    (subst (λ (f : ℕ). IsPart pages (record { first = f; trail = one.trail; bytes = one.bytes })) first is) also in
+    (λ i. record { first = first i; trail = once.0 i; bytes = once.1 i })
+
+pub claims_part : (pages : List (List ℕ)) (claimed now : List Bool) (first : ℕ) (bytes : List ℕ) (front : List Part)
+    → (trail : List ℕ) × Claimable pages claimed first trail bytes × (now ≡ marked true trail claimed)
+    → HasClaimed pages claimed front → ClaimsPart pages front now first bytes
+claims_part pages claimed now first bytes front got has =
+    let part : Part = record { first = first; trail = got.0; bytes = bytes } in
+    let whole = claimed_as pages claimed front (front ++ []) (sym (append-nil front)) has in
+    let more = claim_part pages claimed first got.0 bytes front [] whole.are whole.marks got.1 in
+    record {
+      part = part;
+      has = record { are = more.0; marks = got.2 ∙ more.1 };
+      is_first = refl;
+      holds = refl;
+      only = λ other is same. same_part pages other part is got.1.chain same;
+    }
+
+-- where a part stands that begins there, its chain can be claimed
+pub part_claimable : (pages : List (List ℕ)) (claimed : List Bool) (first : ℕ) (front : List Part) → HasClaimed pages claimed front
+    → IsPartThere pages front first → IsClaimable pages claimed first
+part_claimable pages claimed first front has there =
+    subst (IsClaimable pages claimed) there.is_first
+    (there.part.trail, there.part.bytes, can_claim pages claimed there.part front there.more there.are has.marks)
+
+-- ONE TUNE
+-- of the part that was claimed, each tune there is the one of its bytes
+pub tune_claimed : (pages : List (List ℕ)) (front : List Part) (now : List Bool) (low number first : ℕ) (bytes : List ℕ)
+    → ClaimsPart pages front now first bytes → IsTuneThere pages front low number first
+    → (revision : ℕ) × (text : List ℕ) × IsTuneChain bytes revision text
+tune_claimed pages front now low number first bytes claims is =
+    let part = is.there.part in
+    let same : part ≡ claims.part = claims.only part (its_part pages front part is.there.more is.there.are) is.there.is_first in
+    (is.revision, is.text, subst (λ l. IsTuneChain l is.revision is.text) (ap (λ p. p.bytes) same ∙ claims.holds) is.tune)
+
+pub claims_on : (now pages : List (List ℕ)) (front : List Part) (claimed : List Bool) (first : ℕ) (bytes : List ℕ) → now ≡ pages
+    → ClaimsPart now front claimed first bytes → ClaimsPart pages front claimed first bytes
+claims_on now pages front claimed first bytes same claims = subst (λ l. ClaimsPart l front claimed first bytes) same claims

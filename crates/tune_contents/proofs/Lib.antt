@@ -1,0 +1,9 @@
+pub mod ArchiveLemmas
+pub mod ClaimLemmas
+pub mod ClaimedRowLemmas
+pub mod ContentsLemmas
+pub mod LayLemmas
+pub mod ListLemmas
+pub mod RowLemmas
+pub mod StateLemmas
+pub mod StepLemmas

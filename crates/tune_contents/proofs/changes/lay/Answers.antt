@@ -1,0 +1,41 @@
+use Rattle.std.proofs.Common.{◌∙◌, List, subst, sym}
+use Rattle.tune_pages.specs.Work.{stand}
+use Rattle.tune_format.specs.declared.rows.Row.{Row}
+use Rattle.tune_contents.specs.declared.contents.Contents.{Contents}
+use Rattle.tune_contents.specs.Inside.Changes.{LaysChange}
+use Rattle.tune_contents.specs.Inside.Laying.{HoldsSomeTunes}
+use Rattle.tune_contents.proofs.ContentsLemmas.{some_tunes, some_archive, state_laid}
+use Rattle.tune_contents.proofs.changes.lay.Goals as goal
+
+pub lay_tunes-requires-clause-holds : goal.lay_tunes-requires-clause-holds
+lay_tunes-requires-clause-holds g c = λ h.
+    (let s = stand c.args.pages.now c.args.work.now in
+    subst (λ (r : List Row). HoldsSomeTunes s r) (sym (c.in_ok-rows.ensures.rows ∙ c.deref.ensures.value))
+    (some_tunes s c.args.contents.now (c.requires.holds h)))
+
+pub lay_contents-requires-clause-holds : goal.lay_contents-requires-clause-holds
+lay_contents-requires-clause-holds g c = λ h.
+    (let s = stand c.args.pages.now c.args.work.now in
+    let mid = stand c.lay_tunes.new.pages c.lay_tunes.new.work in
+    let old = c.args.contents.now in
+    let rows = c.lay_tunes.new.rows.items in
+    let same = c.in_ok-rows.ensures.rows ∙ c.deref.ensures.value in
+    let lays = subst (λ (r : List Row). LaysChange s mid r rows c.args.change) same (c.in_ok-lay_tunes.ensures.lays h) in
+    rw (c.changes_tunes-lists.ensures, c.deref-2.ensures.value)
+    (some_archive s mid old rows c.args.change (c.requires.holds (c.in_ok-lay_tunes.ensures.looks.was_honest h)) lays
+    (λ e. c.in_ok-lay_tunes.ensures.same e ∙ same)))
+
+pub returns-clause-lays : goal.returns-clause-lays
+returns-clause-lays g c = λ h.
+    (let s = stand c.args.pages.now c.args.work.now in
+    let mid = stand c.lay_tunes.new.pages c.lay_tunes.new.work in
+    let new = stand c.lay_contents.new.pages c.lay_contents.new.work in
+    let old = c.args.contents.now in
+    let change = c.args.change in
+    let nexts = c.in_ok-nexts.nexts in
+    let left : Contents = record { rows = c.lay_tunes.new.rows; sets = c.in_ok-sets.sets; list_first = nexts.0; sets_first = nexts.1 } in
+    let same = c.in_ok-rows.ensures.rows ∙ c.deref.ensures.value in
+    let lays = subst (λ (r : List Row). LaysChange s mid r left.rows.items change) same
+    (c.in_ok-lay_tunes.ensures.lays (c.in_ok-nexts.ensures.looks.was_honest h)) in
+    let whole = rw (c.changes_tunes-lists.ensures, c.changes_sets-names.ensures, c.deref-2.ensures.value) at c.in_ok-nexts.ensures.lays h in
+    state_laid s mid new old left change lays (λ e. c.in_ok-lay_tunes.ensures.same e ∙ same) c.in_ok-sets.ensures.sets whole)

@@ -1,0 +1,30 @@
+use Rattle.std.proofs.Common.{◌≡◌, [], ◌∷◌, ◌++◌, append_assoc, ap, sym, ◌∙◌, arith, rules}
+use Rattle.std.specs.Vec.Iter.{into_iter_items}
+use Rattle.std.proofs.lemmas.List.{length_push}
+use Rattle.tune_pages.specs.Work.{stand}
+use Rattle.tune_contents.proofs.LayLemmas.{lays_none, lays_more}
+use Rattle.tune_contents.proofs.laying.add_tunes.Goals as goal
+
+pub loop-text-init : goal.loop-text-init
+loop-text-init g c = record {
+  fits = c.requires.fits;
+  number = search rules;
+  left = search rules;
+  lays = lays_none (stand c.args.pages.now c.args.work.now) c.args.rows.now.items c.args.first;
+}
+
+pub loop-text-preserved : goal.loop-text-preserved
+loop-text-preserved g c =
+    let kept = c.loop-text.invariant in
+    let call = c.in_ok-add_tune.ensures in
+    let taken : into_iter_items c.loop-text.text-iterator ≡ c.in-Some.text ∷ into_iter_items c.next.new.self = c.in-Some.ensures.steps.0 in
+    record {
+      fits = call.fits;
+      number = omega (arith, length_push c.loop-text.yielded c.in-Some.text, kept.number);
+      left =
+          append_assoc c.loop-text.yielded (c.in-Some.text ∷ []) (into_iter_items c.next.new.self) ∙ ap (λ rest. c.loop-text.yielded ++ rest) (sym taken)
+          ∙ kept.left;
+      lays = lays_more (stand c.args.pages.now c.args.work.now) (stand c.args.pages.now c.loop-text.work) (stand c.args.pages.now c.add_tune.new.work)
+          c.args.rows.now.items c.loop-text.rows.items c.add_tune.new.rows.items c.args.first c.loop-text.number c.loop-text.yielded c.in-Some.text kept.number
+          kept.lays call.lays;
+    }

@@ -1,0 +1,5 @@
+pub mod Changes
+pub mod Claiming
+pub mod ClaimedRows
+pub mod Laying
+pub mod Rows

@@ -1,0 +1,52 @@
+-- What a change asks of the rows and of the set lists, and which of them it changes.
+use Rattle.std.specs.Prelude.{◌+◌, ◌^◌, ◌<◌, List, length, vec_len, Bool, true, false, ⊤}
+use Rattle.std.specs.Prelude.{IsOk}
+use Rattle.tune_pages.specs.Stand.{Stand}
+use Rattle.tune_sets.specs.Calls.{create_set, add_number, cut_place, drop_set}
+use Rattle.tune_sets.specs.declared.set_lists.TuneSet.{TuneSet}
+use Rattle.tune_store.specs.Plans.{changed_tunes}
+use Rattle.tune_store.specs.State.{RisesFrom}
+use Rattle.tune_store.specs.declared.tune.Tune.{Tune}
+use Rattle.tune_store.specs.declared.plans.Change.{Change}
+use Rattle.tune_store.specs.declared.plans.Change.TheVariants.{Add, Put, Take, Move, NewSet}
+use Rattle.tune_store.specs.declared.plans.Change.TheVariants.{AddPlace, CutPlace, DropSet}
+use Rattle.tune_format.specs.Parts.{Part}
+use Rattle.tune_format.specs.declared.rows.Row.{Row}
+use Rattle.tune_contents.specs.Inside.Laying.{HoldsTunes}
+
+-- there is a row at its place, and its numbers are within 32 bits
+abbrev pub RowsAccept : Change → List Row → Type 0
+RowsAccept (Add first texts) rows = first + vec_len texts < 2 ^ 32
+RowsAccept (Put place tune) rows = place < length rows
+RowsAccept (Take place) rows = place < length rows
+RowsAccept change rows = ⊤
+
+-- the set lists accept it
+abbrev pub SetsAccept : Change → List TuneSet → Type 0
+SetsAccept (NewSet name) sets = IsOk (create_set name sets).1
+SetsAccept (AddPlace name number) sets = IsOk (add_number name number sets).1
+SetsAccept (CutPlace name place) sets = IsOk (cut_place name place sets).1
+SetsAccept (DropSet name) sets = IsOk (drop_set name sets).1
+SetsAccept change sets = ⊤
+
+-- whether it is one of tunes
+abbrev pub changes_tunes : Change → Bool
+changes_tunes (Add first texts) = true
+changes_tunes (Put place tune) = true
+changes_tunes (Take place) = true
+changes_tunes (Move number to) = true
+changes_tunes change = false
+
+-- whether it is one of set lists
+abbrev pub changes_sets : Change → Bool
+changes_sets (Add first texts) = false
+changes_sets (Put place tune) = false
+changes_sets (Take place) = false
+changes_sets change = true
+
+-- Whatever tunes stand there by rising number, the change is made of them, and all other parts
+-- stay.
+abbrev pub LaysChange : Stand → Stand → List Row → List Row → Change → Type 0
+LaysChange old new rows left change = (ahead : List Part) (tunes : List Tune)
+    → RisesFrom 0 tunes → HoldsTunes old ahead tunes rows
+    → HoldsTunes new ahead (changed_tunes change tunes) left

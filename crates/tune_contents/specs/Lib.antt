@@ -1,0 +1,4 @@
+pub mod Answers
+pub mod Claimed
+pub mod Holds
+pub mod Inside

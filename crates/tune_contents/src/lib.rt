@@ -1,0 +1,13 @@
+//! What an archive holds on its pages: it is claimed where they are opened, and a change of it is
+//! laid on them in a work.
+#![tactic(auto)]
+
+mod changes;
+mod claiming;
+mod contents;
+mod laying;
+mod rows;
+
+pub use changes::lay;
+pub use claiming::claim;
+pub use contents::Contents;

@@ -1,0 +1,45 @@
+// Rows of tunes, found by number, and one under another number.
+ghost use Rattle.std.specs.Prelude.{◌≡◌, ◌≢◌, ◌<◌, ◌≤◌, ℕ, length, slice_index_or};
+ghost use Rattle.std.specs.Prelude.{IfSome, IfNone};
+ghost use Rattle.tune_format.specs.declared.rows.Row.{Row};
+ghost use Rattle.tune_contents.specs.Inside.Rows.{IsRowAfter, MovesTunes};
+ghost use Rattle.tune_contents.specs.Claimed.{RowsRise};
+
+use tune_format::Row;
+
+// The place of the row of a number.
+fn place_of(rows: &[Row], number: u32) -> Option<usize>
+    ensures within { IfSome result (λ place. place < length rows.now) }
+    ensures found { IfSome result (λ place. (d : Row)
+        → (slice_index_or rows.now place d).number ≡ number) }
+    ensures none { IfNone result (RowsRise 0 rows.now → (place : ℕ) (d : Row)
+        → place < length rows.now → (slice_index_or rows.now place d).number ≢ number) }
+{
+    match rows.binary_search_by_key(&number, |row| row.number) {
+        Ok(place) => Some(place),
+        Err(_) => None,
+    }
+}
+
+// The place of the first row of a greater number, or behind the last.
+fn place_after(rows: &[Row], number: u32) -> usize
+    ensures within { result ≤ length rows.now }
+    ensures after { RowsRise 0 rows.now → IsRowAfter number rows.now result }
+{
+    match rows.binary_search_by_key(&number, |row| row.number) {
+        Ok(place) => place + 1,
+        Err(place) => place,
+    }
+}
+
+// Gives the row of a number another one, and moves it to where that belongs.
+pub(crate) fn move_row(rows: &mut Vec<Row>, number: u32, to: u32)
+    ensures { MovesTunes rows.old.items rows.new.items number to }
+{
+    if let Some(place) = place_of(rows, number) {
+        let mut row = rows.remove(place);
+        row.number = to;
+        let place = place_after(rows, to);
+        rows.insert(place, row).unwrap();
+    }
+}

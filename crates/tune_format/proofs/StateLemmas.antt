@@ -1,0 +1,57 @@
+-- The state that pages stand for, and the one that they are read as.
+use Rattle.std.proofs.Common.{◌≡◌, ◌⊎◌, inl, inr, ℕ, List, [], ◌∷◌, refl, sym, ◌∙◌, ap, arith}
+use Rattle.tune_journal.specs.Image.{StandsForEither}
+use Rattle.tune_store.specs.State.{State, IsState, empty_state}
+use Rattle.tune_format.specs.Filed.{Filed}
+use Rattle.tune_format.specs.Parts.{Part}
+use Rattle.tune_format.specs.States.{IsStateOf, StandsForState, state_of_pages, state_in}
+use Rattle.tune_format.specs.Written.{IsRoot}
+use Rattle.tune_format.proofs.FileLemmas.{pages_read, tunes_filed, sets_filed}
+
+pub state_read : (pages : List (List ℕ)) (state : State) → IsStateOf pages state → state_of_pages pages ≡ state
+state_read pages state is =
+    let tunes = tunes_filed pages state.tunes state.sets is.filed is.within.tunes (omega (arith, is.few)) in
+    let sets = sets_filed pages state.tunes state.sets is.filed is.within.sets in
+    (λ i. record { tunes = tunes i; sets = sets i })
+
+pub file_read : (file : List ℕ) (state : State) → StandsForState file state → state_in file ≡ state
+unfolding state_in
+file_read file state stands = ap state_of_pages (pages_read stands.pages file stands.stands) ∙ state_read stands.pages state stands.is
+
+pub state_once : (file : List ℕ) (one other : State) → StandsForState file one → StandsForState file other → one ≡ other
+state_once file one other stands also = sym (file_read file one stands) ∙ file_read file other also
+
+pub either_state : (before after : List (List ℕ)) (old new : State) (file : List ℕ) → IsStateOf before old → IsStateOf after new
+    → StandsForEither before after file → StandsForState file old ⊎ StandsForState file new
+either_state before after old new file is also (inl stands) = inl (record { pages = before; stands = stands; is = is })
+either_state before after old new file is also (inr stands) = inr (record { pages = after; stands = stands; is = also })
+
+-- no bytes are no chain
+no_part : Part
+no_part = record { first = 0; trail = []; bytes = [] }
+
+pub empty_filed : (image : List ℕ) → IsRoot image 0 0 → Filed (image ∷ []) [] []
+unfolding no_part
+empty_filed image root = record {
+  list = no_part;
+  set_lists = no_part;
+  texts = [];
+  parts = record {
+    chains = (record { leads = refl; holds = refl }, (record { leads = refl; holds = refl }, tt));
+    apart = (refl, tt);
+  };
+  root = root;
+  listed = refl;
+  are_sets = refl;
+  are_tunes = refl;
+}
+
+pub empty_within : IsState empty_state
+empty_within = record {
+  tunes = record { rises = tt; numbers = omega arith; each = tt; count = omega arith };
+  sets = record { rises = tt; each = tt; count = omega arith };
+  named = tt;
+}
+
+pub empty_state_of : (image : List ℕ) → IsRoot image 0 0 → IsStateOf (image ∷ []) empty_state
+empty_state_of image root = record { filed = empty_filed image root; within = empty_within; few = omega arith }

@@ -1,0 +1,6 @@
+pub mod Filed
+pub mod Layout
+pub mod Parts
+pub mod Reading
+pub mod States
+pub mod Written
