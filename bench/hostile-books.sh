@@ -34,6 +34,10 @@ measure() {
 echo 'book, its bytes, seconds, seconds of the processor, kilobytes'
 { times 'R:\n' 300000; echo; times 'X:\nR:\nK:\n' 20000; } |
     measure '300,000 lines that no tune carries' 'ok import 1 20000'
+{ times 'R:\n' 300000; printf 'S:\n\n'; times 'X:\nR:\nK:\nX:\nR:\nS:\nK:\n' 10000; } |
+    measure 'the same and one that each second one does' 'ok import 1 20000'
+{ times 'R:\nS:\n' 2600; printf 'Q:\n\n'; times 'X:\nK:\nX:\nQ:\nK:\n' 10000; } |
+    measure '5,200 lines, and one that each second one has' 'ok import 1 20000'
 { printf '%%%%%015890d\n\n' 0; times 'X:1\nK:C\n\n' 20000; } |
     measure '20,000 tunes that carry 15,890 bytes' 'ok import 1 20000'
 { printf '%%%%%015890d\n\n' 0; times 'X:1\nK:C\n\n' 440000; } |

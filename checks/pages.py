@@ -19,7 +19,8 @@ import re
 import sys
 
 ROOT = os.path.dirname(os.path.dirname(os.path.abspath(__file__)))
-NO_SOURCES = {'.git', 'out', 'work', 'data', 'must-fail', '__pycache__'}
+NO_SOURCES = {'.git', 'out', 'data', 'must-fail', '__pycache__'}
+SCRATCH = 'bench/work'
 WIDTH, PROOF_WIDTH = 100, 160
 MOST_LINES = {'README.md': 120, 'docs/ARCHITECTURE.md': 100}
 RECIPE_PAGES = ('README.md', 'docs/USING.md')
@@ -52,6 +53,9 @@ def exists(path):
 def files():
     """The files of the repository that people write, as paths from its top."""
     for folder, folders, names in os.walk(ROOT):
+        if os.path.relpath(folder, ROOT) == SCRATCH:
+            folders[:] = []
+            continue
         folders[:] = sorted(set(folders) - NO_SOURCES)
         for name in sorted(names):
             yield os.path.relpath(os.path.join(folder, name), ROOT)

@@ -250,6 +250,43 @@ blocks output replace > "$work/wanted"
 same "$work/out" "$work/wanted"
 end
 
+begin 'finding tunes'
+run find
+ends_with 0
+blocks output find > "$work/wanted"
+same "$work/out" "$work/wanted"
+end
+
+begin 'a set list'
+cp "$book" mine.abc
+run set-list
+ends_with 0
+says 'ok import 1 15
+ok set-new friday
+ok set-add friday 1
+ok set-add friday 2'
+{
+    printf '%%abc-2.1\n%% set friday\n\nX:1\n'
+    sed -n '/^X:3$/,/^$/p' "$book" | sed '1d'
+    printf 'X:2\n'
+    sed -n '/^X:1$/,/^$/p' "$book" | sed '1d;$d'
+} > "$work/wanted"
+same friday.abc "$work/wanted"
+has 'friday.abc mine.abc'
+end
+
+begin 'a set list of a book without so many tunes'
+printf 'X:1\nK:C\n' > mine.abc
+run set-list
+ends_with 0
+says 'ok import 1 1
+ok set-new friday
+refused 4 Unknown 3
+ok set-add friday 1'
+printf '%%abc-2.1\n%% set friday\n\nX:1\nK:C\n' > "$work/wanted"
+same friday.abc "$work/wanted"
+end
+
 begin 'a book of fifteen tunes'
 run session
 ends_with 0
@@ -262,9 +299,10 @@ if command -v abcm2ps > "$work/out"; then
     begin 'printing'
     sed -n '/^X:3$/,/^$/p' "$book" > tune.abc
     cp "$export" book.abc
+    cp "$export" friday.abc
     run print
     ends_with 0
-    has 'book.abc book.ps tune.abc tune.ps'
+    has 'book.abc book.ps friday.abc friday.ps tune.abc tune.ps'
     end
 else
     skip print abcm2ps
