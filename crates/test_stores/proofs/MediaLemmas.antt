@@ -6,7 +6,7 @@ use Rattle.tune_disk.specs.Disk.{Medium, MayLeave, DiskState, GoesTo, Torn, Sync
 use Rattle.tune_store.specs.State.{State, IsState, Standing}
 use Rattle.tune_store.specs.TuneSteps.{Outcome}
 use Rattle.tune_store.specs.Step.{step}
-use Rattle.tune_store.specs.Answers.{Answers, open_at, closed_at, stepped, no_memory, failed_before, failed_after, is_closed}
+use Rattle.tune_store.specs.Answers.{Answers, open_at, closed_at, stepped, file_full, no_memory, failed_before, failed_after, is_closed}
 use Rattle.tune_store.specs.declared.command.Command.{Command}
 use Rattle.tune_store.specs.declared.command.Reply.{Reply}
 use Rattle.tune_store.specs.declared.command.Refusal.{Refusal}
@@ -147,6 +147,7 @@ ok_steps : (old new : Standing) (command : Command) (answer : Result Reply Refus
     → IfOk answer (λ _. new.state ≡ (step old.state command).0)
 ok_steps _ _ _ _ (stepped old new command (Ok reply) e) = sym (ap (λ (o : Outcome). o.0) e)
 ok_steps _ _ _ _ (stepped old new command (Err refusal) e) = tt
+ok_steps _ _ _ _ (file_full old command) = tt
 ok_steps _ _ _ _ (no_memory old command) = tt
 ok_steps _ _ _ _ (failed_before old command) = tt
 ok_steps _ _ _ _ (failed_after old command) = tt

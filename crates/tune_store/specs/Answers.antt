@@ -13,7 +13,8 @@ use Rattle.tune_store.specs.declared.command.Refusal.{Refusal}
 use Rattle.tune_store.specs.declared.command.Refusal.TheVariants.{BookTooLong, NoTune}
 use Rattle.tune_store.specs.declared.command.Refusal.TheVariants.{BadTune, NotOne, Unknown, Stale}
 use Rattle.tune_store.specs.declared.command.Refusal.TheVariants.{Worn, ArchiveFull, NumbersSpent}
-use Rattle.tune_store.specs.declared.command.Refusal.TheVariants.{OutOfMemory, Device, Closed}
+use Rattle.tune_store.specs.declared.command.Refusal.TheVariants.{FileFull, OutOfMemory}
+use Rattle.tune_store.specs.declared.command.Refusal.TheVariants.{Device, Closed}
 use Rattle.tune_store.specs.declared.command.Refusal.TheVariants.{Taken, InSet, NoSuchSet, SetTaken}
 use Rattle.tune_store.specs.declared.command.Refusal.TheVariants.{SetFull, SetsFull, NoSuchPlace}
 use Rattle.tune_store.specs.declared.command.Refusal.TheVariants.{BadName, BadNumber, BadQuery}
@@ -31,6 +32,9 @@ pub data Answers : Standing → Command → Result Reply Refusal → Standing �
   -- the answer and the state are those of the plain list
   stepped : (old new : State) (command : Command) (answer : Result Reply Refusal)
       → step old command ≡ (new, answer) → Answers (open_at old) command answer (open_at new)
+  -- no page is free in the file, and nothing changed
+  file_full : (old : State) (command : Command)
+      → Answers (open_at old) command (Err FileFull) (open_at old)
   -- out of memory, and nothing changed
   no_memory : (old : State) (command : Command)
       → Answers (open_at old) command (Err OutOfMemory) (open_at old)
@@ -64,8 +68,10 @@ IsRefusalOfBook NoTune = ⊤
 IsRefusalOfBook (BadTune place why) = ⊤
 IsRefusalOfBook refusal = ⊥
 
--- the refusals that any command may be given
+-- The refusals that any command may be given. `FileFull` is for any that a store over a file
+-- carries out.
 abbrev pub IsRefusalOfAny : Refusal → Type 0
+IsRefusalOfAny FileFull = ⊤
 IsRefusalOfAny OutOfMemory = ⊤
 IsRefusalOfAny Device = ⊤
 IsRefusalOfAny Closed = ⊤
