@@ -23,7 +23,7 @@ use Rattle.tune_contents.proofs.ArchiveLemmas.{with_tunes}
 -- WHAT A CHANGE ASKS
 pub rows_accept : (change : Change) (rows : List Row) (sets : List TuneSet) → CanChange change (labels_in rows) sets → RowsAccept change rows
 rows_accept (Add first texts) rows sets can = let most = can.1 in omega (arith, most)
-rows_accept (Put place tune) rows sets can = omega (arith, can, length-map rows label_in)
+rows_accept (Put place tune) rows sets can = let within = can.0 in omega (arith, within, length-map rows label_in)
 rows_accept (Take place) rows sets can = omega (arith, can, length-map rows label_in)
 rows_accept (Move number to) rows sets can = tt
 rows_accept (NewSet name) rows sets can = tt

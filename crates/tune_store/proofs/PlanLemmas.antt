@@ -1,8 +1,8 @@
 -- What the labels of tunes tell of them, and what is decided by them.
 use Rattle.std.proofs.Common.{◌≡◌, ℕ, ◌+◌, ◌-◌, ◌<◌, ◌≤◌, List, [], ◌++◌, length, get_or, Some, None, Result, Ok, Err, refl, ap, sym, ◌∙◌, arith}
-use Rattle.std.proofs.Common.{map, drop, drop-cons, add-one, append_assoc, codes}
+use Rattle.std.proofs.Common.{map, drop, drop-cons, add-one, append_assoc, codes, ◌∷◌, zero, suc, subst}
 use Rattle.std.specs.Prelude.{IfErr, slice_set}
-use Rattle.std.specs.List.{remove}
+use Rattle.std.specs.List.{remove, AllByRecursion}
 use Rattle.std.proofs.lemmas.Bool.{eq-eqb, ne_eqb, lt-ltb, le-ltb}
 use Rattle.std.proofs.lemmas.List.{get_or-map, length-map}
 use Rattle.tune_store.specs.Limits.{most_tunes, greatest_number, greatest_revision}
@@ -10,7 +10,7 @@ use Rattle.tune_store.specs.State.{RisesFrom, greatest}
 use Rattle.tune_store.specs.TuneSteps.{numbered, import_texts, replace_tune, delete_tune}
 use Rattle.tune_store.specs.State.{tune_at}
 use Rattle.tune_books.specs.WrittenBooks.{written_tune, written_tunes}
-use Rattle.tune_store.specs.Labels.{label_of, labels_of}
+use Rattle.tune_store.specs.Labels.{label_of, labels_of, LabelsRise}
 use Rattle.tune_store.specs.Inside.Plans.{IsOwnOrMemory}
 use Rattle.tune_store.specs.declared.tune.Tune.{Tune}
 use Rattle.tune_store.specs.declared.catalog.Label.{Label}
@@ -214,3 +214,33 @@ no_label_of_number number tunes place d none l same =
 pub number_of_label : (number : ℕ) (tunes : List Tune) (place : ℕ) → place < length (labels_of tunes)
     → ((d : Label) → (get_or (labels_of tunes) place d).number ≡ number) → (e : Tune) → (get_or tunes place e).number ≡ number
 number_of_label number tunes place l named e = ap (λ (r : Label). r.number) (sym (label_at tunes (labels_of tunes) place e no_label refl l)) ∙ named no_label
+
+-- LABELS THAT RISE
+-- the labels of tunes whose numbers rise
+pub labels_rise : (low : ℕ) (tunes : List Tune) → RisesFrom low tunes → LabelsRise low (labels_of tunes)
+labels_rise low [] rises = tt
+labels_rise low (tune ∷ tunes) rises = (rises.0, labels_rise tune.number tunes rises.1)
+
+-- no number is above that of the last label
+last_is_above : (low : ℕ) (labels : List Label) (n : ℕ) (d : Label) → LabelsRise low labels → n + 1 ≡ length labels
+    → (low < (get_or labels n d).number) × AllByRecursion (λ label. label.number < (get_or labels n d).number + 1) labels
+last_is_above low [] n d rises l = absurd (omega arith)
+last_is_above low (label ∷ []) zero d rises l = (rises.0, (omega arith, tt))
+last_is_above low (label ∷ []) (suc n) d rises l = absurd (omega arith)
+last_is_above low (label ∷ next ∷ labels) zero d rises l = absurd (omega arith)
+last_is_above low (label ∷ next ∷ labels) (suc n) d rises l =
+    let later = last_is_above label.number (next ∷ labels) n d rises.1 (omega arith) in
+    let first = rises.0 in
+    let last = later.0 in
+    (omega arith, (omega arith, later.1))
+
+pub all_under : (labels : List Label) (label : Label) (len : ℕ) → LabelsRise 0 labels → len ≡ length labels → 0 < len
+    → ((e : Label) → label ≡ get_or labels (len - 1) e) → AllByRecursion (λ other. other.number < label.number + 1) labels
+all_under labels label len rises count some at =
+    let P : Label → Type 0 = λ last. AllByRecursion (λ other. other.number < last.number + 1) labels in
+    subst P (sym (at no_label)) (last_is_above 0 labels (len - 1) no_label rises (omega arith)).1
+
+-- where there is no label
+pub none_under : (labels : List Label) (number : ℕ) → length labels ≡ 0 → AllByRecursion (λ other. other.number < number) labels
+none_under [] number none = tt
+none_under (label ∷ labels) number none = absurd (omega arith)

@@ -1,5 +1,5 @@
 -- What is known of tunes without their texts.
-use Rattle.std.specs.Prelude.{ℕ, List, map}
+use Rattle.std.specs.Prelude.{ℕ, ◌<◌, List, [], ◌∷◌, map, ⊤}
 use Rattle.tune_store.specs.declared.tune.Tune.{Tune}
 use Rattle.tune_store.specs.declared.catalog.Label.{Label}
 
@@ -14,3 +14,8 @@ labels_of tunes = map label_of tunes
 -- the numbers of labels
 abbrev pub numbers_of : List Label → List ℕ
 numbers_of labels = map (λ label. label.number) labels
+
+-- numbers rise strictly, and are above this one
+abbrev pub LabelsRise : ℕ → List Label → Type 0
+LabelsRise low [] = ⊤
+LabelsRise low (label ∷ labels) = (low < label.number) × LabelsRise label.number labels

@@ -1,7 +1,8 @@
 -- What a command is to change, and what is said where it is decided.
 use Rattle.std.specs.Prelude.{◌≡◌, ◌≢◌, ◌+◌, ◌<◌, ◌≤◌, List, ◌++◌, slice_set, vec_len, length, ⊤}
+use Rattle.std.specs.Prelude.{slice_index_or}
 use Rattle.std.specs.Prelude.{◌⊎◌, Option, None, Some, Result, Ok, Err, IsOk, Bool, true, false}
-use Rattle.std.specs.List.{remove, Contains}
+use Rattle.std.specs.List.{remove, Contains, AllByRecursion}
 use Rattle.tune_sets.specs.Sets.{renumbered_sets}
 use Rattle.tune_sets.specs.Calls.{create_set, add_number, cut_place, drop_set}
 use Rattle.tune_sets.specs.declared.set_lists.TuneSet.{TuneSet}
@@ -52,11 +53,14 @@ after None state = state
 after (Some change) state = changed change state
 
 -- A change can be carried out on tunes of these labels, and on these sets: they stay within the
--- limits, there is a tune at its place, or of its number, and the sets accept it.
+-- limits, new numbers are above all others, there is a tune at its place, or of its number, and the
+-- sets accept it.
 abbrev pub CanChange : Change → List Label → List TuneSet → Type 0
 CanChange (Add first texts) labels sets = (length labels + vec_len texts ≤ most_tunes)
     × (first + vec_len texts ≤ greatest_number + 1)
-CanChange (Put place tune) labels sets = place < length labels
+    × AllByRecursion (λ label. label.number < first) labels × (0 < first)
+CanChange (Put place tune) labels sets = (place < length labels)
+    × ((d : Label) → (slice_index_or labels place d).number ≡ tune.number)
 CanChange (Take place) labels sets = place < length labels
 CanChange (Move number to) labels sets = Contains (numbers_of labels) number
     × (¬ Contains (numbers_of labels) to) × (0 < to) × (to ≤ greatest_number)

@@ -1,7 +1,7 @@
 // What a store tells of its tunes.
 ghost use Rattle.std.specs.Prelude.{◌≡◌, ◌≢◌, ◌<◌, ℕ, List, length, slice_index_or, ⊤};
 ghost use Rattle.std.specs.Prelude.{IfSome, IfNone, MatchResult};
-ghost use Rattle.tune_store.specs.Labels.{labels_of};
+ghost use Rattle.tune_store.specs.Labels.{labels_of, LabelsRise};
 ghost use Rattle.tune_store.specs.Plans.{EndsFetch, IsRefusalOfFetch};
 ghost use Rattle.tune_store.specs.State.{State};
 ghost use Rattle.tune_store.specs.declared.tune.Tune.{Tune};
@@ -48,9 +48,10 @@ pub trait Catalog {
     /// What is so of it before and after a fetch in which the device failed.
     ghost failed: { Self → Self → Type 0 } = { λ _ _. ⊥ };
 
-    /// How many tunes there are.
+    /// How many tunes there are. The numbers of their labels rise, whatever a device does.
     fn len(&self) -> usize
-        ensures { result ≡ length (labels self.now) };
+        ensures count { result ≡ length (labels self.now) }
+        ensures rise { LabelsRise 0 (labels self.now) };
 
     /// The label of the tune at a place.
     fn label(&self, place: usize) -> Label

@@ -1,5 +1,7 @@
 // Decides commands on tunes.
-ghost use Rattle.std.specs.Prelude.{◌≡◌, ◌≢◌, ℕ, ◌∷◌, [], List, vec_len, false, IfOk, IfErr};
+ghost use Rattle.std.specs.Prelude.{◌≡◌, ◌≢◌, ◌+◌, ◌<◌, ℕ, ◌∷◌, [], List, vec_len, false};
+ghost use Rattle.std.specs.Prelude.{IfOk, IfErr};
+ghost use Rattle.std.specs.List.{AllByRecursion};
 ghost use Rattle.abc_fields.specs.Books.{book_answer};
 ghost use Rattle.tune_sets.specs.Sets.{holder};
 ghost use Rattle.tune_store.specs.declared.tune.Tune.{Tune};
@@ -48,8 +50,9 @@ pub(crate) fn import<C: Catalog>(alloc: Global, catalog: &C, book: &[u8]) -> Res
 
 // The greatest number, or 0.
 fn last_number<C: Catalog>(catalog: &C) -> u32
-    ensures { (tunes : List Tune) → RisesFrom 0 tunes
+    ensures greatest { (tunes : List Tune) → RisesFrom 0 tunes
         → labels_of tunes ≡ C.labels catalog.now → result ≡ greatest tunes }
+    ensures above { AllByRecursion (λ label. label.number < result + 1) (C.labels catalog.now) }
 {
     let len = catalog.len();
     if len == 0 {

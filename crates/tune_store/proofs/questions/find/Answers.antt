@@ -15,7 +15,7 @@ loop-place-preserved g c =
     let one = c.in_ok-fetch.ensures.0 in
     let all = law.more_fetched old mid new c.loop-place.invariant.fetched one in
     let labels = law.labels_stay old mid c.loop-place.invariant.fetched in
-    let within : c.loop-place.place < length (catalog.labels mid) = omega (arith, c.loop-place-test.true, c.len-place-end.ensures, ap length labels) in
+    let within : c.loop-place.place < length (catalog.labels mid) = omega (arith, c.loop-place-test.true, c.len-place-end.ensures.count, ap length labels) in
     record {
       fetched = all;
       rows = λ honest.
