@@ -10,16 +10,19 @@ use tune_store::{Command, ListArchive, Refusal, Reply, TuneStore};
 
 /// A fake store: an archive in memory, and the record of a device that holds one number, how many
 /// tunes there are. Each accepted command writes it, and each entry is a file that a stop may have
-/// left: the last now, the others earlier.
+/// left: the last now, the others earlier. The device is full after `most` entries: from then on
+/// each command is refused `FileFull`.
 #[derive(Drop)]
 pub struct RecordedStore {
     archive: ListArchive,
     entries: Vec<usize>,
+    most: usize,
 }
 
 impl RecordedStore {
-    /// A store without a tune, whose record begins with that. The error is out of memory.
-    pub fn new(alloc: Global) -> Result<RecordedStore, AllocError>
+    /// A store without a tune, whose record begins with that. The device has room for `most`
+    /// entries. The error is out of memory.
+    pub fn new(alloc: Global, most: usize) -> Result<RecordedStore, AllocError>
         ensures state { IfOk result (λ store. ⟦<RecordedStore as TuneStore>⟧.state store
             ≡ empty_state) }
         ensures entries { IfOk result (λ store. store.entries.items ≡ 0 ∷ []) }
@@ -30,6 +33,7 @@ impl RecordedStore {
         Ok(RecordedStore {
             archive: ListArchive::new(alloc),
             entries,
+            most,
         })
     }
 
@@ -61,6 +65,9 @@ impl TuneStore for RecordedStore {
         left_earlier store.entries.items since earlier file le left };
 
     fn apply(&mut self, command: &Command) -> Result<Reply, Refusal> {
+        if self.entries.len() >= self.most {
+            return Err(Refusal::FileFull);
+        }
         self.entries.reserve(1)?;
         let reply = self.archive.apply(command)?;
         add_entry(&mut self.entries, self.archive.len());

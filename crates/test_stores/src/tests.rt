@@ -10,7 +10,7 @@ use tune_store::{Command, Refusal, Reply, Tune, TuneStore};
 
 #[test]
 fn records_an_import(rt: HostRuntime) -> Result<(), Fail> {
-    let mut store = RecordedStore::new(rt.alloc())?;
+    let mut store = RecordedStore::new(rt.alloc(), 100)?;
     assert_eq!(&rt; store.entries(), [0].as_slice());
     let import = Command::Import(ByteText::copy_of(rt.alloc(), b"X:1\nK:C\n")?);
     match apply_to_open(&mut store, &import)? {
@@ -37,7 +37,7 @@ fn shown(reply: Reply) -> Result<Tune, Fail> {
 
 #[test]
 fn carries_out_changes(rt: HostRuntime) -> Result<(), Fail> {
-    let mut store = RecordedStore::new(rt.alloc())?;
+    let mut store = RecordedStore::new(rt.alloc(), 100)?;
     let import = Command::Import(ByteText::copy_of(rt.alloc(), b"X:1\nK:C\nX:2\nK:D\n")?);
     match apply_to_open(&mut store, &import)? {
         Reply::Imported { first, last } => assert_eq!(&rt; (first, last), (1, 2)),
@@ -72,13 +72,28 @@ fn carries_out_changes(rt: HostRuntime) -> Result<(), Fail> {
 // Each command of a script that is accepted leaves an entry: what a stop just after it leaves.
 #[test]
 fn records_a_script(rt: HostRuntime) -> Result<(), Fail> {
-    let mut store = RecordedStore::new(rt.alloc())?;
+    let mut store = RecordedStore::new(rt.alloc(), 100)?;
     let mut script = b"import 16\nX:1\nK:C\nX:2\nK:D\ndelete 1\nshow 1\nexport\n".as_slice();
     let mut replies = Vec::new(rt.alloc());
     let end = run(rt.alloc(), &mut script, &mut replies, &mut store);
     assert_eq!(&rt; end, RunEnd::Ended);
     assert_eq!(&rt; status(end), 0);
     assert_eq!(&rt; store.entries(), [0, 2, 1, 1].as_slice());
+    Ok(())
+}
+
+// Where the device is full, each command is refused for that, nothing changes, and the run goes on.
+#[test]
+fn goes_on_where_the_file_is_full(rt: HostRuntime) -> Result<(), Fail> {
+    let mut store = RecordedStore::new(rt.alloc(), 2)?;
+    let mut script = b"import 8\nX:1\nK:C\ndelete 1\nshow 1\n".as_slice();
+    let mut replies = Vec::new(rt.alloc());
+    let end = run(rt.alloc(), &mut script, &mut replies, &mut store);
+    let wanted = b"ok import 1 1\nrefused 20 FileFull\nrefused 20 FileFull\n".as_slice();
+    assert_eq!(&rt; replies.as_slice(), wanted);
+    assert_eq!(&rt; end, RunEnd::Ended);
+    assert_eq!(&rt; status(end), 0);
+    assert_eq!(&rt; store.entries(), [0, 1].as_slice());
     Ok(())
 }
 

@@ -1,8 +1,11 @@
 use Rattle.std.proofs.Common.{ℕ, List, [], ◌∷◌, ◌++◌, Ok, ap, sym, ◌∙◌}
 use Rattle.std.proofs.lemmas.Result.{err_from_is_err_and}
-use Rattle.tune_store.specs.Answers.{passed, no_memory}
+use Rattle.tune_store.specs.Answers.{passed, file_full, no_memory}
 use Rattle.test_stores.proofs.RecordLemmas.{pushes}
 use Rattle.test_stores.proofs.recorded_store.RecordedStoreTuneStore.apply.Goals as goal
+
+pub returns-then-len-self-clause-answer : goal.returns-then-len-self-clause-answer
+returns-then-len-self-clause-answer c = λ honest. file_full c.args.self.now.archive c.args.command.now
 
 pub returns-in_err-reserve-clause-answer : goal.returns-in_err-reserve-clause-answer
 returns-in_err-reserve-clause-answer c = λ honest.
@@ -12,9 +15,9 @@ returns-in_err-reserve-clause-answer c = λ honest.
 pub returns-clause-stops : goal.returns-clause-stops
 returns-clause-stops c =
     let states = passed c.args.self.now.archive c.args.command.now (Ok c.in_ok-reply.reply) in
-    let pushed = c.add_entry.ensures.entries ∙ ap (λ (entries : List ℕ). entries ++ c.len.result ∷ []) c.reserve.ensures.items in
+    let pushed = c.add_entry.ensures.entries ∙ ap (λ (entries : List ℕ). entries ++ c.len-2.result ∷ []) c.reserve.ensures.items in
     let archive = c.in_ok-reply.ensures.stops in
-    let goes = pushes c.args.self.now.entries.items _ _ _ states c.len.result (archive.reaches tt) archive.stays_sound (sym c.len.ensures) pushed in
+    let goes = pushes c.args.self.now.entries.items _ _ _ states c.len-2.result (archive.reaches tt) archive.stays_sound (sym c.len-2.ensures) pushed in
     record {
       reaches = λ honest. goes.reaches;
       was_honest = λ honest. honest;
