@@ -162,9 +162,13 @@ pub(crate) fn takes_a_tune<R: AllocGlobal + Abort, D: TestDisk>(rt: &R) -> Resul
 pub(crate) fn puts_another_text<R: AllocGlobal + Abort, D: TestDisk>(rt: &R) -> Result<(), Fail> {
     let mut pages = made::<D>(rt.alloc())?;
     let left = with_two(rt.alloc(), &mut pages)?;
-    if left.rows.len() != 2 {
-        return Err(Fail::from("not two"));
-    }
+    let known = two(
+        rt.alloc(),
+        row(1, 1, 1),
+        row(2, 1, 2),
+        left.list_first,
+        left.sets_first,
+    )?;
     let tune = Tune {
         number: 2,
         revision: 2,
@@ -173,7 +177,7 @@ pub(crate) fn puts_another_text<R: AllocGlobal + Abort, D: TestDisk>(rt: &R) -> 
     changed(
         rt.alloc(),
         &mut pages,
-        &left,
+        &known,
         Change::Put { place: 1, tune },
     )?;
     check(

@@ -4,6 +4,7 @@ pub mod ClaimedRowLemmas
 pub mod ContentsLemmas
 pub mod LayLemmas
 pub mod ListLemmas
+pub mod RisingLemmas
 pub mod RowLemmas
 pub mod StateLemmas
 pub mod StepLemmas

@@ -7,8 +7,9 @@ ghost use Rattle.tune_sets.specs.declared.faults.SetFault.TheVariants as set_fau
 ghost use Rattle.tune_pages.specs.declared.fault.Fault.TheVariants.{OutOfMemory};
 ghost use Rattle.tune_store.specs.Plans.{changed_sets, CanChange};
 ghost use Rattle.tune_contents.specs.Answers.{AnswersLay};
+ghost use Rattle.tune_contents.specs.Claimed.{AreRows};
 ghost use Rattle.tune_contents.specs.Holds.{labels_in, HoldsSomeState, LaysState};
-ghost use Rattle.tune_contents.specs.Inside.Changes.{RowsAccept, SetsAccept, LaysChange};
+ghost use Rattle.tune_contents.specs.Inside.Changes.{RowsAccept, SetsAccept, LaysChange, KeepsRows};
 ghost use Rattle.tune_contents.specs.Inside.Changes.{changes_tunes, changes_sets};
 ghost use Rattle.tune_contents.specs.Inside.Laying.{HoldsSomeTunes};
 
@@ -79,6 +80,7 @@ fn lay_tunes<D: Disk>(
         (stand pages.old work.old) (stand pages.new work.new) rows.old.items rows.new.items
         change) }
     ensures same { changes_tunes change ≡ false → rows.new.items ≡ rows.old.items }
+    ensures rows { OnOk result (KeepsRows change rows.old.items rows.new.items) }
     ensures looks { LooksAt D.honest D.failures D.state result pages.old pages.new }
     ensures answer { AnswersLay result pages.new.closed }
 {
@@ -131,6 +133,7 @@ fn sets_after(sets: &SetLists, change: &Change) -> Result<SetLists, Fault>
 ///
 /// - `lays`: where the pages held a state, with its tunes by rising number, they hold the state
 ///   after the change.
+/// - `rows`, of every disk: rows by rising number, within the limits, stay so.
 /// - `looks`: no page of the disk changes.
 /// - `fits`: the work may be changed further, or finished.
 ///
@@ -153,6 +156,7 @@ pub fn lay<D: Disk>(
         → HoldsSomeState (stand pages.old work.old) contents.now }
     ensures lays { IfOk result (λ left. HonestAt D.honest pages.new.disk → LaysState
         (stand pages.old work.old) (stand pages.new work.new) contents.now left change) }
+    ensures rows { AreRows contents.now.rows.items → IfOk result (λ left. AreRows left.rows.items) }
     ensures fits { OnOk result (Fits pages.new work.new) }
     ensures looks { LooksAt D.honest D.failures D.state result pages.old pages.new }
     ensures answer { AnswersLay result pages.new.closed }

@@ -2,7 +2,7 @@
 ghost use Rattle.std.specs.Prelude.{◌≡◌, ◌≢◌, ◌+◌, ◌^◌, ◌<◌, ℕ, List, [], ◌∷◌, ◌++◌, false, length};
 ghost use Rattle.std.specs.Prelude.{slice_set, vec_len};
 ghost use Rattle.std.specs.Prelude.{IfOk, IfErr, OnOk};
-ghost use Rattle.std.specs.List.{remove};
+ghost use Rattle.std.specs.List.{remove, range_with_len};
 ghost use Rattle.tune_pages.specs.Kept.{HonestAt};
 ghost use Rattle.tune_pages.specs.Reading.{LooksAt};
 ghost use Rattle.tune_pages.specs.Stand.{HasSomeChain};
@@ -16,6 +16,7 @@ ghost use Rattle.tune_contents.specs.Answers.{AnswersLay};
 ghost use Rattle.tune_contents.specs.Inside.Laying.{SwapsChain, LaysRoot, LaysList, LaysSets};
 ghost use Rattle.tune_contents.specs.Inside.Laying.{HoldsSomeArchive, LaysContents};
 ghost use Rattle.tune_contents.specs.Inside.Laying.{HoldsSomeTunes, LaysTunes};
+ghost use Rattle.tune_contents.specs.Inside.Rows.{numbers_in};
 
 use abc_fields::TuneText;
 use std::alloc::Global;
@@ -74,6 +75,8 @@ pub(crate) fn put_tune<D: Disk>(
     ensures lays { OnOk result (HonestAt D.honest pages.new.disk → LaysTunes
         (stand pages.old work.old) (stand pages.new work.new) rows.old.items rows.new.items
         (λ tunes. slice_set tunes place tune.now)) }
+    ensures numbers { OnOk result (numbers_in rows.new.items
+        ≡ slice_set (numbers_in rows.old.items) place tune.now.number) }
     ensures looks { LooksAt D.honest D.failures D.state result pages.old pages.new }
     ensures answer { AnswersLay result pages.new.closed }
 {
@@ -105,6 +108,7 @@ pub(crate) fn take_tune<D: Disk>(
     ensures lays { OnOk result (HonestAt D.honest pages.new.disk → LaysTunes
         (stand pages.old work.old) (stand pages.new work.new) rows.old.items rows.new.items
         (λ tunes. remove tunes place)) }
+    ensures rows { OnOk result (rows.new.items ≡ remove rows.old.items place) }
     ensures looks { LooksAt D.honest D.failures D.state result pages.old pages.new }
     ensures answer { AnswersLay result pages.new.closed }
 {
@@ -127,6 +131,8 @@ fn add_tune<D: Disk>(
     ensures fits { OnOk result (Fits pages.now work.new) }
     ensures lays { OnOk result (LaysTunes (stand pages.now work.old) (stand pages.now work.new)
         rows.old.items rows.new.items (λ tunes. tunes ++ numbered number (text.now ∷ []))) }
+    ensures numbers { OnOk result (numbers_in rows.new.items
+        ≡ numbers_in rows.old.items ++ number ∷ []) }
     ensures quiet { IfErr result (λ fault. (fault ≢ Device) × (fault ≢ Closed)) }
 {
     let Ok(bytes) = write_text(alloc, 1, text.bytes()) else {
@@ -159,6 +165,8 @@ pub(crate) fn add_tunes<D: Disk>(
     ensures fits { OnOk result (Fits pages.now work.new) }
     ensures lays { OnOk result (LaysTunes (stand pages.now work.old) (stand pages.now work.new)
         rows.old.items rows.new.items (λ tunes. tunes ++ numbered first texts.items)) }
+    ensures numbers { OnOk result (numbers_in rows.new.items
+        ≡ numbers_in rows.old.items ++ range_with_len first (vec_len texts)) }
     ensures quiet { IfErr result (λ fault. (fault ≢ Device) × (fault ≢ Closed)) }
 {
     let mut number = first;

@@ -1,9 +1,11 @@
 // Rows of tunes, found by number, and one under another number.
 ghost use Rattle.std.specs.Prelude.{◌≡◌, ◌≢◌, ◌<◌, ◌≤◌, ℕ, length, slice_index_or};
 ghost use Rattle.std.specs.Prelude.{IfSome, IfNone};
+ghost use Rattle.std.specs.List.{Contains};
+ghost use Rattle.tune_store.specs.Limits.{greatest_number};
 ghost use Rattle.tune_format.specs.declared.rows.Row.{Row};
-ghost use Rattle.tune_contents.specs.Inside.Rows.{IsRowAfter, MovesTunes};
-ghost use Rattle.tune_contents.specs.Claimed.{RowsRise};
+ghost use Rattle.tune_contents.specs.Inside.Rows.{IsRowAfter, MovesTunes, numbers_in};
+ghost use Rattle.tune_contents.specs.Claimed.{AreRows, RowsRise};
 
 use tune_format::Row;
 
@@ -34,7 +36,9 @@ fn place_after(rows: &[Row], number: u32) -> usize
 
 // Gives the row of a number another one, and moves it to where that belongs.
 pub(crate) fn move_row(rows: &mut Vec<Row>, number: u32, to: u32)
-    ensures { MovesTunes rows.old.items rows.new.items number to }
+    ensures moves { MovesTunes rows.old.items rows.new.items number to }
+    ensures rows { AreRows rows.old.items → ¬ Contains (numbers_in rows.old.items) to
+        → 0 < to → to ≤ greatest_number → AreRows rows.new.items }
 {
     if let Some(place) = place_of(rows, number) {
         let mut row = rows.remove(place);

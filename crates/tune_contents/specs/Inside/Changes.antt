@@ -4,7 +4,7 @@ use Rattle.std.specs.Prelude.{IsOk}
 use Rattle.tune_pages.specs.Stand.{Stand}
 use Rattle.tune_sets.specs.Calls.{create_set, add_number, cut_place, drop_set}
 use Rattle.tune_sets.specs.declared.set_lists.TuneSet.{TuneSet}
-use Rattle.tune_store.specs.Plans.{changed_tunes}
+use Rattle.tune_store.specs.Plans.{changed_tunes, CanChange}
 use Rattle.tune_store.specs.State.{RisesFrom}
 use Rattle.tune_store.specs.declared.tune.Tune.{Tune}
 use Rattle.tune_store.specs.declared.plans.Change.{Change}
@@ -12,6 +12,8 @@ use Rattle.tune_store.specs.declared.plans.Change.TheVariants.{Add, Put, Take, M
 use Rattle.tune_store.specs.declared.plans.Change.TheVariants.{AddPlace, CutPlace, DropSet}
 use Rattle.tune_format.specs.Parts.{Part}
 use Rattle.tune_format.specs.declared.rows.Row.{Row}
+use Rattle.tune_contents.specs.Claimed.{AreRows}
+use Rattle.tune_contents.specs.Holds.{labels_in}
 use Rattle.tune_contents.specs.Inside.Laying.{HoldsTunes}
 
 -- there is a row at its place, and its numbers are within 32 bits
@@ -50,3 +52,8 @@ abbrev pub LaysChange : Stand → Stand → List Row → List Row → Change →
 LaysChange old new rows left change = (ahead : List Part) (tunes : List Tune)
     → RisesFrom 0 tunes → HoldsTunes old ahead tunes rows
     → HoldsTunes new ahead (changed_tunes change tunes) left
+
+-- Rows within the limits stay so, by rising number, where the change can be made of them.
+abbrev pub KeepsRows : Change → List Row → List Row → Type 0
+KeepsRows change rows left = (sets : List TuneSet) → CanChange change (labels_in rows) sets
+    → AreRows rows → AreRows left

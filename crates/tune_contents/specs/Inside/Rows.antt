@@ -1,5 +1,5 @@
 -- Rows of tunes, found by number.
-use Rattle.std.specs.Prelude.{ℕ, ◌<◌, ◌≤◌, List, length}
+use Rattle.std.specs.Prelude.{ℕ, ◌<◌, ◌≤◌, List, length, map}
 use Rattle.std.specs.List.{AllWithin}
 use Rattle.tune_store.specs.State.{RisesFrom}
 use Rattle.tune_store.specs.TuneSteps.{moved}
@@ -8,6 +8,10 @@ use Rattle.tune_pages.specs.Stand.{Stand}
 use Rattle.tune_format.specs.Parts.{Part}
 use Rattle.tune_format.specs.declared.rows.Row.{Row}
 use Rattle.tune_contents.specs.Inside.Laying.{HoldsTunes}
+
+-- the numbers of rows
+abbrev pub numbers_in : List Row → List ℕ
+numbers_in rows = map (λ row. row.number) rows
 
 -- the place of the first row of a greater number, or behind the last
 pub record IsRowAfter (number : ℕ) (rows : List Row) (place : ℕ) : Type 0 where

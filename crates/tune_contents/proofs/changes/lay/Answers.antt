@@ -2,7 +2,7 @@ use Rattle.std.proofs.Common.{◌∙◌, List, subst, sym}
 use Rattle.tune_pages.specs.Work.{stand}
 use Rattle.tune_format.specs.declared.rows.Row.{Row}
 use Rattle.tune_contents.specs.declared.contents.Contents.{Contents}
-use Rattle.tune_contents.specs.Inside.Changes.{LaysChange}
+use Rattle.tune_contents.specs.Inside.Changes.{KeepsRows, LaysChange}
 use Rattle.tune_contents.specs.Inside.Laying.{HoldsSomeTunes}
 use Rattle.tune_contents.proofs.ContentsLemmas.{some_tunes, some_archive, state_laid}
 use Rattle.tune_contents.proofs.changes.lay.Goals as goal
@@ -39,3 +39,10 @@ returns-clause-lays g c = λ h.
     (c.in_ok-lay_tunes.ensures.lays (c.in_ok-nexts.ensures.looks.was_honest h)) in
     let whole = rw (c.changes_tunes-lists.ensures, c.changes_sets-names.ensures, c.deref-2.ensures.value) at c.in_ok-nexts.ensures.lays h in
     state_laid s mid new old left change lays (λ e. c.in_ok-lay_tunes.ensures.same e ∙ same) c.in_ok-sets.ensures.sets whole)
+
+pub returns-clause-rows : goal.returns-clause-rows
+returns-clause-rows g c =
+    let old = c.args.contents.now in
+    let left = c.lay_tunes.new.rows.items in
+    let same = c.in_ok-rows.ensures.rows ∙ c.deref.ensures.value in
+    (subst (λ (rows : List Row). KeepsRows c.args.change rows left) same c.in_ok-lay_tunes.ensures.rows) old.sets c.requires.possible

@@ -1,10 +1,12 @@
 use Rattle.std.proofs.Common.{◌≡◌, [], ◌∷◌, ◌++◌, ◌∙◌, ap, sym, subst, List, ℕ, rules}
+use Rattle.std.proofs.lemmas.List.{map-append}
 use Rattle.tune_pages.specs.Stand.{PutsChain}
 use Rattle.tune_pages.specs.Work.{stand}
 use Rattle.tune_store.specs.declared.tune.Tune.{Tune}
 use Rattle.tune_format.specs.Written.{written_text, written_tune}
 use Rattle.tune_format.specs.declared.rows.Row.{Row}
 use Rattle.tune_contents.specs.Inside.Laying.{LaysTunes}
+use Rattle.tune_contents.specs.Inside.Rows.{numbers_in}
 use Rattle.tune_contents.proofs.LayLemmas.{adds_tune}
 use Rattle.tune_contents.proofs.laying.add_tune.Goals as goal
 
@@ -21,3 +23,10 @@ returns-clause-lays g c =
     subst (λ (left : List Row). LaysTunes old new c.args.rows.now.items left (λ tunes. tunes ++ tune ∷ [])) (sym pushed)
     (adds_tune old new c.args.rows.now.items c.in_ok-first.first tune put.0
     (subst (PutsChain old new c.in_ok-first.first put.0) bytes put.1))
+
+pub returns-clause-numbers : goal.returns-clause-numbers
+returns-clause-numbers g c =
+    let rows = c.args.rows.now.items in
+    let row : Row = record { number = c.args.number; revision = 1; first = c.in_ok-first.first } in
+    let pushed : c.push.new.self.items ≡ rows ++ row ∷ [] = search rules in
+    ap numbers_in pushed ∙ map-append (λ (r : Row). r.number) rows (row ∷ [])

@@ -1,8 +1,10 @@
-use Rattle.std.proofs.Common.{◌≡◌, [], ◌∷◌, ◌++◌, append_assoc, ap, sym, ◌∙◌, arith, rules}
+use Rattle.std.proofs.Common.{◌≡◌, [], ◌∷◌, ◌++◌, length, append_assoc, append-nil, ap, sym, ◌∙◌, arith, rules}
 use Rattle.std.specs.Vec.Iter.{into_iter_items}
 use Rattle.std.proofs.lemmas.List.{length_push}
 use Rattle.tune_pages.specs.Work.{stand}
+use Rattle.tune_contents.specs.Inside.Rows.{numbers_in}
 use Rattle.tune_contents.proofs.LayLemmas.{lays_none, lays_more}
+use Rattle.tune_contents.proofs.RisingLemmas.{numbers_next}
 use Rattle.tune_contents.proofs.laying.add_tunes.Goals as goal
 
 pub loop-text-init : goal.loop-text-init
@@ -11,6 +13,7 @@ loop-text-init g c = record {
   number = search rules;
   left = search rules;
   lays = lays_none (stand c.args.pages.now c.args.work.now) c.args.rows.now.items c.args.first;
+  numbers = sym (append-nil (numbers_in c.args.rows.now.items));
 }
 
 pub loop-text-preserved : goal.loop-text-preserved
@@ -27,4 +30,7 @@ loop-text-preserved g c =
       lays = lays_more (stand c.args.pages.now c.args.work.now) (stand c.args.pages.now c.loop-text.work) (stand c.args.pages.now c.add_tune.new.work)
           c.args.rows.now.items c.loop-text.rows.items c.add_tune.new.rows.items c.args.first c.loop-text.number c.loop-text.yielded c.in-Some.text kept.number
           kept.lays call.lays;
+      numbers = numbers_next (numbers_in c.args.rows.now.items) (numbers_in c.loop-text.rows.items) (numbers_in c.add_tune.new.rows.items) c.args.first
+          c.loop-text.number (length c.loop-text.yielded) (length (c.loop-text.yielded ++ c.in-Some.text ∷ [])) kept.number
+          (length_push c.loop-text.yielded c.in-Some.text) kept.numbers call.numbers;
     }

@@ -1,13 +1,14 @@
-use Rattle.std.proofs.Common.{◌≡◌, ◌<◌, ◌≤◌, List, length, subst, sym, ◌∙◌, ap, rules}
+use Rattle.std.proofs.Common.{◌≡◌, ◌<◌, ◌≤◌, List, length, refl, subst, sym, ◌∙◌, ap, rules}
 use Rattle.std.specs.List.{insert, remove}
 use Rattle.tune_format.specs.declared.rows.Row.{Row}
 use Rattle.tune_contents.specs.Inside.Rows.{IsRowAfter, MovesTunes}
-use Rattle.tune_contents.specs.Claimed.{RowsRise}
+use Rattle.tune_contents.specs.Claimed.{AreRows, RowsRise}
+use Rattle.tune_contents.proofs.RisingLemmas.{rows_moved}
 use Rattle.tune_contents.proofs.RowLemmas.{moves_none, moves_row}
 use Rattle.tune_contents.proofs.rows.move_row.Goals as goal
 
-pub returns-in-Some : goal.returns-in-Some
-returns-in-Some c =
+pub returns-in-Some-clause-moves : goal.returns-in-Some-clause-moves
+returns-in-Some-clause-moves c =
     let rows = c.args.rows.now.items in
     let row = c.remove-row.result in
     let within : c.in-Some.place < length rows = rw c.deref.ensures.value at c.in-Some.ensures.within in
@@ -21,7 +22,21 @@ returns-in-Some c =
     (subst (λ (r : List Row). c.place_after-place.result ≤ length r) left c.place_after-place.ensures.within)
     (subst (λ (r : List Row). RowsRise 0 r → IsRowAfter c.args.to r c.place_after-place.result) left c.place_after-place.ensures.after))
 
-pub returns-in_default : goal.returns-in_default
-returns-in_default c =
+pub returns-in-Some-clause-rows : goal.returns-in-Some-clause-rows
+returns-in-Some-clause-rows c = λ are none some most.
+    (let rows = c.args.rows.now.items in
+    let row = c.remove-row.result in
+    let within : c.in-Some.place < length rows = rw c.deref.ensures.value at c.in-Some.ensures.within in
+    let left : c.deref-in-Some.result.now ≡ remove rows c.in-Some.place = c.deref-in-Some.ensures.value ∙ c.remove-row.ensures.items in
+    let new : Row = record { number = c.args.to; revision = row.revision; first = row.first } in
+    let put : c.insert.new.self.items ≡ insert c.remove-row.new.self.items c.place_after-place.result new = search rules in
+    subst AreRows (sym (put ∙ ap (λ (r : List Row). insert r c.place_after-place.result new) c.remove-row.ensures.items))
+    (rows_moved rows c.args.to c.in-Some.place c.place_after-place.result new within
+    (subst (λ (r : List Row). c.place_after-place.result ≤ length r) left c.place_after-place.ensures.within)
+    (subst (λ (r : List Row). RowsRise 0 r → IsRowAfter c.args.to r c.place_after-place.result) left c.place_after-place.ensures.after) refl are none
+    some most))
+
+pub returns-in_default-clause-moves : goal.returns-in_default-clause-moves
+returns-in_default-clause-moves c =
     let none = rw c.deref.ensures.value at c.in_default.ensures.none in
     moves_none c.args.rows.now.items c.args.number c.args.to none
