@@ -36,3 +36,15 @@ begin_plain (span ∷ spans) = is_plain_item span
 abbrev pub item_spans_in : Option Item → List ItemSpan
 item_spans_in None = []
 item_spans_in (Some item) = item_span item ∷ []
+
+-- the bytes that begin a note with an accidental, or a tuplet
+abbrev pub lone_marks : List ℕ
+lone_marks = sharp_sign ∷ natural_sign ∷ flat_sign ∷ opening_parenthesis ∷ []
+
+abbrev pub is_lone_mark : ℕ → Bool
+is_lone_mark byte = is_one_of lone_marks byte
+
+-- items of which the first is such a byte alone
+abbrev pub begin_lone : List ItemSpan → Bool
+begin_lone [] = false
+begin_lone (span ∷ spans) = begins is_lone_mark span.bytes && length span.bytes == 1

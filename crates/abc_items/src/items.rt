@@ -1,5 +1,6 @@
 // The items of a text.
 ghost use Rattle.std.specs.Prelude.{◌≡◌, ℕ, ◌+◌, ◌^◌, ◌<◌, ◌≤◌, ◌++◌, List, map, length, is_some};
+ghost use Rattle.std.specs.Prelude.{IfSome};
 ghost use Rattle.std.specs.Iterator.{YieldsFirstBy, item_count};
 ghost use Rattle.std.specs.List.{All};
 ghost use Rattle.abc_items.specs.Grammar.{ItemText, AreItems};
@@ -8,10 +9,10 @@ ghost use Rattle.abc_items.specs.ItemSpans.{ItemSpan, item_spans_from, item_span
 ghost use Rattle.abc_items.specs.ItemSpans.{item_text_of, ItemSpansFill, FitsItsRow};
 ghost use Rattle.abc_items.specs.Inside.Misses.{AreMissing};
 ghost use Rattle.abc_items.specs.ItemView.{item_span};
-ghost use Rattle.abc_items.specs.Plain.{begin_plain, item_spans_in};
+ghost use Rattle.abc_items.specs.Plain.{begin_plain, begin_lone, item_spans_in};
 
 use crate::kinds::Kind;
-use crate::rows::{Misses, first_item, plain_kind};
+use crate::rows::{Misses, begins_alone, first_item, plain_kind};
 use std::marker::Model;
 
 /// An item of a music line.
@@ -92,6 +93,29 @@ impl<'a> Items<'a> {
             kind,
             from,
             to: from + 1,
+            text,
+        })
+    }
+
+    /// Takes the first item that is left where it is a mark alone: a parenthesis with no tuplet, or
+    /// an accidental with no note. Else it takes none.
+    #[inline(always)]
+    pub fn next_alone(&mut self) -> Option<Item<'a>>
+        ensures steps { self.old ≡ item_spans_in result ++ self.new }
+        ensures other { IfSome result (λ item. item.kind ≡ Kind.Other) }
+        ensures alone { is_some result ≡ begin_lone self.old }
+    {
+        if !begins_alone(self.rest) {
+            return None;
+        }
+        let (text, later) = self.rest.split_at(1);
+        let from = self.at;
+        self.rest = later;
+        self.at += 1;
+        Some(Item {
+            kind: Kind::Other,
+            from,
+            to: self.at,
             text,
         })
     }

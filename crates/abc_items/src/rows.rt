@@ -10,10 +10,11 @@ ghost use Rattle.abc_items.specs.Grammar.{spelling_of, IsNote};
 ghost use Rattle.abc_items.specs.Rows.{up_to, enclosed, inline_field, chord, colon_part};
 ghost use Rattle.abc_items.specs.Rows.{colon_parts, tuplet, own_accidental, note, first_item};
 ghost use Rattle.abc_items.specs.Rows.{is_note_name, front};
-ghost use Rattle.abc_items.specs.Plain.{begins_longer_row, is_plain_byte};
+ghost use Rattle.abc_items.specs.Plain.{begins_longer_row, is_plain_byte, is_lone_mark};
 ghost use Rattle.abc_items.specs.Inside.FrontLengths.{IsFrontLength};
 ghost use Rattle.abc_items.specs.Inside.Misses.{AreMissing, IsMissing};
 ghost use Rattle.abc_items.specs.Inside.PlainFronts.{lone_kind, plain_front, alone};
+ghost use Rattle.abc_items.specs.Inside.PlainFronts.{has_name, begins_alone, is_parenthesis};
 
 use crate::kinds::{Front, Kind};
 use abc_keys::{Accidental, accidental_of, doubled};
@@ -299,6 +300,40 @@ fn alone(byte: u8, rest: &[u8]) -> Option<Kind>
         return None;
     }
     Some(lone_kind(byte))
+}
+
+// Whether the item at the front of a text is a parenthesis or an accidental alone.
+#[inline(always)]
+pub(crate) fn begins_alone(bytes: &[u8]) -> bool
+    ensures { result ≡ begins_alone bytes.now }
+{
+    if begins_with_parenthesis(bytes) {
+        !begins_with_digit(&bytes[1..])
+    } else {
+        begins_with_lone_mark(bytes) && !has_name(bytes)
+    }
+}
+
+fn begins_with_parenthesis(bytes: &[u8]) -> bool
+    ensures value { result ≡ begins is_parenthesis bytes.now }
+    ensures some { IsTrue result → 0 < length bytes.now }
+{
+    matches!(bytes, [b'(', ..])
+}
+
+fn begins_with_lone_mark(bytes: &[u8]) -> bool
+    ensures { result ≡ begins is_lone_mark bytes.now }
+{
+    matches!(bytes, [b'^' | b'=' | b'_' | b'(', ..])
+}
+
+// Whether a letter follows the accidental that a text begins with.
+#[inline(always)]
+fn has_name(bytes: &[u8]) -> bool
+    ensures { result ≡ has_name bytes.now }
+{
+    let before = spelling_length(own_accidental(bytes));
+    matches!(bytes.get(before), Some(name) if is_note_name(*name))
 }
 
 fn begins_with_octave_mark(bytes: &[u8]) -> bool

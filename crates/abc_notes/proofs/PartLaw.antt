@@ -1,14 +1,14 @@
 -- The events of a tune are those of its lines, each by the lines before it.
-use Rattle.std.specs.Prelude.{◌&&◌, not, cond}
-use Rattle.std.specs.List.{AllByRecursion, list_any}
-use Rattle.std.proofs.Common.{◌≡◌, ◌↔◌, ℕ, Bool, true, false, List, [], ◌∷◌, ◌++◌, refl, ap, sym, ◌∙◌, subst, append_assoc, inl, inr, eqb}
+use Rattle.std.specs.Prelude.{◌&&◌, not}
+use Rattle.std.specs.List.{AllByRecursion}
+use Rattle.std.proofs.Common.{◌≡◌, ℕ, Bool, true, false, List, [], ◌∷◌, ◌++◌, refl, ap, sym, ◌∙◌, subst, append_assoc, inl, inr, eqb}
 use Rattle.std.proofs.lemmas.Bool.{cases_Bool, eqb-true}
 use Rattle.std.proofs.lemmas.List.{append-nil}
 use Rattle.abc_fields.specs.Lines.{Span as Line}
 use Rattle.abc_fields.specs.LineKinds.{begins_part, ends_part_line, in_part_after}
 use Rattle.abc_fields.specs.Tunes.{is_key_line}
 use Rattle.abc_notes.specs.Events.{Event}
-use Rattle.abc_notes.specs.Music.{body_line_events, line_meaning, body_events, events_after_header}
+use Rattle.abc_notes.specs.Music.{line_meaning, body_events, events_after_header}
 use Rattle.abc_notes.specs.Parts.{LiesInPart, have_key, Gives, AreGiven}
 
 -- WHERE PARTS BEGIN AND END

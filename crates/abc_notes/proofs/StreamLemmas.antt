@@ -1,12 +1,15 @@
 -- Streams of events: which event comes first, and what is left.
 use Rattle.std.proofs.Common.{◌≡◌, ℕ, ◌+◌, List, [], ◌∷◌, ◌++◌, Bool, true, false, Option, Some, None, refl, sym, ap, ◌∙◌, append_assoc, not, ◌&&◌, subst}
-use Rattle.std.specs.Prelude.{is_some}
+use Rattle.std.specs.Prelude.{is_some, IfSome}
 use Rattle.std.specs.Iterator.{YieldsFirstBy}
 use Rattle.abc_fields.specs.Lines.{Span as Line}
 use Rattle.abc_fields.specs.LineKinds.{in_part_after}
 use Rattle.abc_items.specs.declared.kinds.Kind.{Kind}
 use Rattle.abc_items.specs.declared.kinds.Kind.TheVariants as kind
+use Rattle.abc_items.specs.declared.items.Item.{Item}
 use Rattle.abc_items.specs.ItemSpans.{ItemSpan, item_spans_of}
+use Rattle.abc_items.specs.ItemView.{item_span}
+use Rattle.abc_items.specs.Plain.{item_spans_in}
 use Rattle.abc_notes.specs.declared.events.Event.{Event as CodeEvent}
 use Rattle.abc_notes.specs.Events.{Event}
 use Rattle.abc_notes.specs.Inside.EventView.{event_of, events_of}
@@ -102,6 +105,19 @@ pub plain_step : (base : ℕ) (spans later : List ItemSpan) (span : ItemSpan) (e
 unfolding line_events
 plain_step base spans later span event is meant = ap (line_events base) is ∙ ap (λ events. events ++ line_events base later) (sym meant)
 
+-- an item of a line that means nothing
+other_step : (base : ℕ) (spans later : List ItemSpan) (span : ItemSpan) → spans ≡ span ∷ later → span.kind ≡ kind.Other
+    → line_events base later ≡ line_events base spans
+unfolding line_events item_events plain_events
+other_step base spans later span is other =
+    sym (ap (line_events base) is ∙ ap (λ k. item_events base k span ++ line_events base later) other)
+
+pub alone_step : (base : ℕ) (spans later : List ItemSpan) (item : Option Item) → spans ≡ item_spans_in item ++ later
+    → IfSome item (λ found. found.kind ≡ kind.Other)
+    → line_events base later ≡ line_events base spans
+alone_step base spans later None is other = ap (line_events base) (sym is)
+alone_step base spans later (Some item) is other = other_step base spans later (item_span item) is other
+
 pub line_end : (base : ℕ) (spans : List ItemSpan) → spans ≡ [] → line_events base spans ≡ []
 unfolding line_events
 line_end base spans none = ap (line_events base) none
@@ -123,6 +139,25 @@ module _ (base : ℕ) (items later : List ItemSpan) (span : ItemSpan) (taken eve
 
   pub item_passed : is_some event ≡ false → left ++ line_events base later ≡ all
   item_passed none = sym (gives_no_first event all (left ++ line_events base later) event_first none)
+
+-- a chord in hand that is spent, and short items after it
+module _ (base : ℕ) (items later : List ItemSpan) (taken event : Option CodeEvent) (chord left all : List Event)
+    (gives : Gives chord taken left)
+    (whole : chord ++ line_events base items ≡ all) (spent : is_some taken ≡ false)
+    (short : line_events base items ≡ events_of event ++ line_events base later) where
+  -- one of them gives the first event
+  pub short_gives : is_some event ≡ true → Gives all event (left ++ line_events base later)
+  short_gives some =
+      gives_first event all (left ++ line_events base later)
+      (hand_spent taken chord left (line_events base items) all gives whole spent
+      ∙ short
+      ∙ ap (λ rest. events_of event ++ rest) (sym (nothing_left taken chord left (line_events base items) all gives whole (line_events base later) spent)))
+      some
+
+  -- or they are passed over, and the items after them are all
+  pub short_passed : is_some event ≡ false → chord ++ line_events base later ≡ all
+  short_passed none =
+      ap (λ rest. chord ++ rest) (sym (gives_no_first event (line_events base items) (line_events base later) short none)) ∙ whole
 
 -- IN A TUNE
 -- a line of a tune

@@ -1,5 +1,5 @@
 // The events of a music line.
-ghost use Rattle.std.specs.Prelude.{◌≡◌, ◌≢◌, ◌+◌, ◌≤◌, ◌++◌, [], List, false, length, IsTrue};
+ghost use Rattle.std.specs.Prelude.{◌≡◌, ◌≢◌, ◌+◌, ◌<◌, ◌≤◌, ◌++◌, [], List, false, length, IsTrue};
 ghost use Rattle.std.specs.Iterator.{YieldsFirstBy, item_count};
 ghost use Rattle.abc_fields.specs.Limits.{longest_book};
 ghost use Rattle.abc_items.specs.ItemView.{item_span};
@@ -77,15 +77,7 @@ impl<'a> LineEvents<'a> {
         if self.in_chord {
             return None;
         }
-        'items: loop {
-            let Some(item) = self.items.next_plain() else {
-                return None;
-            };
-            let event = item_event(item, self.base);
-            if event.is_some() {
-                return event;
-            }
-        }
+        plain_event_of(&mut self.items, self.base)
     }
 
     // Takes the first event that is left.
@@ -95,6 +87,10 @@ impl<'a> LineEvents<'a> {
     {
         'items: loop {
             let event = next_of_chord(&mut self.chord, &mut self.in_chord);
+            if event.is_some() {
+                return event;
+            }
+            let event = short_event_of(&mut self.items, self.base);
             if event.is_some() {
                 return event;
             }
@@ -127,6 +123,57 @@ fn next_of_chord<'a>(chord: &mut ChordEvents<'a>, in_chord: &mut bool) -> Option
     let event = chord.next();
     *in_chord = event.is_some();
     event
+}
+
+// Takes the first event of items where it and the items before it are plain bytes. Else it takes
+// none, but may pass over items that mean nothing.
+#[inline(always)]
+fn plain_event_of<'a>(items: &mut Items<'a>, base: usize) -> Option<Event<'a>>
+    requires { AreShort base items.old }
+    ensures events { line_events base items.old ≡ events_of result ++ line_events base items.new }
+    ensures short { AreShort base items.new }
+    ensures shorter { length items.new ≤ length items.old }
+{
+    'items: loop {
+        let Some(item) = items.next_plain() else {
+            return None;
+        };
+        let event = item_event(item, base);
+        if event.is_some() {
+            return event;
+        }
+    }
+}
+
+// The same where marks alone may stand among the plain bytes.
+#[inline(always)]
+fn short_event_of<'a>(items: &mut Items<'a>, base: usize) -> Option<Event<'a>>
+    requires { AreShort base items.old }
+    ensures events { line_events base items.old ≡ events_of result ++ line_events base items.new }
+    ensures short { AreShort base items.new }
+    ensures shorter { length items.new ≤ length items.old }
+{
+    'items: loop {
+        let event = plain_event_of(items, base);
+        if event.is_some() {
+            return event;
+        }
+        if !pass_alone(items, base) {
+            return None;
+        }
+    }
+}
+
+// Passes over the first item where it is a mark alone, which means nothing. Tells whether it did.
+#[inline(always)]
+fn pass_alone(items: &mut Items, base: usize) -> bool
+    requires { AreShort base items.old }
+    ensures events { line_events base items.new ≡ line_events base items.old }
+    ensures short { AreShort base items.new }
+    ensures passed { IsTrue result → length items.new < length items.old }
+    ensures shorter { length items.new ≤ length items.old }
+{
+    items.next_alone().is_some()
 }
 
 fn is_chord(kind: Kind) -> bool

@@ -108,20 +108,9 @@ impl<'a> Notes<'a> {
     fn first_note(&mut self, all: bool) -> Option<NoteToken<'a>>
         ensures { YieldsFirstBy token_note (asked_of all) self.old result self.new }
     {
-        'events: loop {
-            let Some(event) = self.events.next_plain() else {
-                break;
-            };
-            let note = heard(
-                event,
-                &mut self.bar,
-                &mut self.bar_events,
-                &self.events,
-                all,
-            );
-            if note.is_some() {
-                return note;
-            }
+        let note = plain_note(&mut self.bar, &mut self.bar_events, &mut self.events, all);
+        if note.is_some() {
+            return note;
         }
         self.searched_note(all)
     }
@@ -143,6 +132,10 @@ impl<'a> Notes<'a> {
                 &self.events,
                 all,
             );
+            if note.is_some() {
+                return note;
+            }
+            let note = plain_note(&mut self.bar, &mut self.bar_events, &mut self.events, all);
             if note.is_some() {
                 return note;
             }
@@ -189,6 +182,32 @@ impl<'a> Iterator for CountingNotes<'a> {
     #[inline(always)]
     fn next(&mut self) -> Option<NoteToken<'a>> {
         self.notes.first_note(false)
+    }
+}
+
+// Takes the first note that is asked for where it and the events before it are plain, as is most
+// often so. Else it takes none, but may pass over events before it.
+#[inline(always)]
+fn plain_note<'a>(
+    bar: &mut Bar,
+    bar_events: &mut TuneEvents<'a>,
+    events: &mut TuneEvents<'a>,
+    all: bool,
+) -> Option<NoteToken<'a>>
+    requires { IsKept bar.old bar_events.old events.old }
+    ensures kept { IsKept bar.new bar_events.new events.new }
+    ensures notes { asked_of all (notes_left bar.old bar_events.old events.old)
+        ≡ notes_in result ++ asked_of all (notes_left bar.new bar_events.new events.new) }
+    ensures shorter { length events.new ≤ length events.old }
+{
+    'events: loop {
+        let Some(event) = events.next_plain() else {
+            return None;
+        };
+        let note = heard(event, bar, bar_events, events, all);
+        if note.is_some() {
+            return note;
+        }
     }
 }
 

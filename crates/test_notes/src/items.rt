@@ -227,6 +227,42 @@ fn reads_what_is_left_again(rt: HostRuntime) -> Result<(), Fail> {
     Ok(())
 }
 
+// Each text with how many bytes of it are a mark alone.
+#[test]
+fn takes_a_mark_alone(rt: HostRuntime) {
+    let cases: [(&[u8], usize); 16] = [
+        (b"", 0),
+        (b"A", 0),
+        (b"z(", 0),
+        (b"|", 0),
+        (b"[", 0),
+        (b"(", 1),
+        (b"((3", 1),
+        (b"(A", 1),
+        (b"(3", 0),
+        (b"^", 1),
+        (b"_|", 1),
+        (b"=^c", 1),
+        (b"^c", 0),
+        (b"^^z", 1),
+        (b"^^c", 0),
+        (b"__,", 1),
+    ];
+    for (text, alone) in cases {
+        let mut items = Items::new(text);
+        assert_eq!(&rt;
+            items.next_alone().map_or(0, |item| item.to),
+            alone,
+            "of {text:?}"
+        );
+        assert_eq!(&rt;
+            items.next().map_or(text.len(), |item| item.from),
+            alone,
+            "of {text:?}"
+        );
+    }
+}
+
 #[test]
 fn finds_the_accidental_at_the_front(rt: HostRuntime) {
     let cases: [(&[u8], Option<Accidental>); 21] = [

@@ -1,4 +1,4 @@
-use Rattle.std.proofs.Common.{None, refl, sym, ◌∙◌, arith}
+use Rattle.std.proofs.Common.{None, refl, arith}
 use Rattle.abc_notes.specs.Pitches.{borne, in_force}
 use Rattle.abc_notes.specs.Inside.BarTables.{index_of}
 use Rattle.abc_notes.proofs.PastLemmas.{none_anywhere}

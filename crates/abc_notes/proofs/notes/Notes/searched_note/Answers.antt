@@ -1,4 +1,4 @@
-use Rattle.std.proofs.Common.{Bool, true, false, List, [], ◌≡◌, ◌∙◌, sym, ap, refl}
+use Rattle.std.proofs.Common.{Bool, true, false, List, [], ◌≡◌, ◌∙◌, sym, ap}
 use Rattle.abc_notes.specs.Pitches.{SoundedNote}
 use Rattle.abc_notes.specs.Inside.Kept.{asked_of}
 use Rattle.abc_notes.proofs.KeptLemmas.{notes_none}

@@ -1,4 +1,4 @@
-use Rattle.std.proofs.Common.{◌≡◌, ◌≤◌, ◌∙◌, sym, ap, subst, ℕ, List, [], ◌++◌, length, false, arith}
+use Rattle.std.proofs.Common.{◌≡◌, ◌∙◌, sym, ap, subst, ℕ, List, [], ◌++◌, length, false, arith}
 use Rattle.std.specs.Prelude.{codes, slice_get, unwrap_or}
 use Rattle.abc_fields.specs.Fields.{values_of, key_text_of}
 use Rattle.abc_fields.specs.Lines.{Span as Line, spans_of}
