@@ -97,6 +97,9 @@ def measured(path, lines):
 
 
 def check_widths(path):
+    # a line of crates.txt is one crate, however many others it uses
+    if path == 'crates.txt':
+        return
     if path.startswith('examples/'):
         return
     try:

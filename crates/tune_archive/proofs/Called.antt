@@ -1,0 +1,270 @@
+-- How a call of an archive in a file ends: what it answers, and which states it passes.
+use Rattle.std.proofs.Common.{◌≡◌, ◌⊎◌, inl, inr, ℕ, List, [], ◌∷◌, Bool, false, true, Result, Ok, Err, refl, sym, ◌∙◌, ap, subst, arith}
+use Rattle.tune_disk.specs.Disk.{DiskState}
+use Rattle.tune_disk.specs.Stops.{LeavesOnly, SinceThen}
+use Rattle.tune_disk.proofs.Moments.{since_weaker}
+use Rattle.tune_pages.specs.Kept.{HonestAt, state_at}
+use Rattle.tune_format.specs.States.{StandsForState, state_in}
+use Rattle.tune_store.specs.State.{State, IsState}
+use Rattle.tune_store.specs.Step.{step}
+use Rattle.tune_store.specs.TuneSteps.{Outcome}
+use Rattle.tune_store.specs.Plans.{changed, after, Decides, EndsFetch}
+use Rattle.tune_store.specs.Answers.{Answers, open_at, closed_at, stepped, file_full, no_memory, failed_before, failed_after, is_closed, passed}
+use Rattle.tune_store.specs.Stops.{Passes, StandsForOne}
+use Rattle.tune_store.specs.declared.plans.Change.{Change}
+use Rattle.tune_store.specs.declared.plans.Plan.{Plan}
+use Rattle.tune_store.specs.declared.command.Command.{Command}
+use Rattle.tune_store.specs.declared.command.Reply.{Reply}
+use Rattle.tune_store.specs.declared.command.Refusal.{Refusal}
+use Rattle.tune_store.specs.declared.command.Refusal.TheVariants.{FileFull, OutOfMemory, Device, Closed}
+use Rattle.tune_store.proofs.StepLemmas.{answers_reach}
+use Rattle.tune_store.proofs.ListLemmas.{list_refused, answers_within}
+use Rattle.tune_store.proofs.LimitLemmas.{step_keeps_limits}
+use Rattle.tune_archive.specs.Media.{moment_of, LeftFrom}
+use Rattle.tune_archive.specs.Shelf.{Shelf, state_of, IsSound, StandsForOneOf}
+use Rattle.tune_archive.specs.Inside.Changing.{MakesChange}
+use Rattle.tune_archive.specs.Inside.Fetching.{Tells, Fetches, FailsFetch}
+use Rattle.tune_archive.specs.Inside.Holding.{IsShelf}
+use Rattle.tune_archive.proofs.FetchLemmas.{labels_held}
+use Rattle.tune_archive.proofs.DiskMoments.{left_stays, left_then, moment_rises}
+
+-- ANSWERS
+-- a closed store answers so
+pub answers_closed : (state : State) (closed : Bool) (command : Command) → closed ≡ true
+    → Answers (record { state = state; closed = closed }) command (Err Closed) (record { state = state; closed = closed })
+answers_closed state true command e = is_closed state command
+answers_closed state false command e = cc
+
+-- an answer of a store that was open, and is
+stays : (old new : State) (was is : Bool) (command : Command) (answer : Result Reply Refusal) → was ≡ false → is ≡ false
+    → Answers (open_at old) command answer (open_at new)
+    → Answers (record { state = old; closed = was }) command answer (record { state = new; closed = is })
+stays old new false false command answer e f answers = answers
+stays old new true is command answer e f answers = cc
+stays old new false true command answer e f answers = cc
+
+-- one of a store that was open, and is closed
+closes : (old new : State) (was is : Bool) (command : Command) (answer : Result Reply Refusal) → was ≡ false → is ≡ true
+    → Answers (open_at old) command answer (closed_at new)
+    → Answers (record { state = old; closed = was }) command answer (record { state = new; closed = is })
+closes old new false true command answer e f answers = answers
+closes old new true is command answer e f answers = cc
+closes old new false false command answer e f answers = cc
+
+-- the device failed, and the command took place or did not
+failed : (old new : State) (was is : Bool) (command : Command) → was ≡ false → is ≡ true → (new ≡ old) ⊎ (new ≡ (step old command).0)
+    → Answers (record { state = old; closed = was }) command (Err Device) (record { state = new; closed = is })
+failed old new was is command e f (inl same) =
+    closes old new was is command (Err Device) e f
+    (subst (λ state. Answers (open_at old) command (Err Device) (closed_at state)) (sym same) (failed_before old command))
+failed old new was is command e f (inr done) =
+    closes old new was is command (Err Device) e f
+    (subst (λ state. Answers (open_at old) command (Err Device) (closed_at state)) (sym done) (failed_after old command))
+
+-- there was no page or no memory for it
+spared : (old new : State) (command : Command) (why : Refusal) → (why ≡ FileFull) ⊎ (why ≡ OutOfMemory) → new ≡ old
+    → Answers (open_at old) command (Err why) (open_at new)
+spared old new command why (inl full) same = rw (full, same) (file_full old command)
+spared old new command why (inr memory) same = rw (memory, same) (no_memory old command)
+
+-- then no state after it was passed
+none_passed : (old : State) (command : Command) (why : Refusal) → (why ≡ FileFull) ⊎ (why ≡ OutOfMemory) → passed old command (Err why) ≡ []
+none_passed old command why (inl full) = rw full refl
+none_passed old command why (inr memory) = rw memory refl
+
+-- AN ARCHIVE
+module _ {D : Type 0} (honest : D → Type 0) (failures : D → ℕ) (state : D → DiskState) where
+  -- what always holds of an archive
+  abbrev pub Holds : Shelf D → Type 0
+  Holds archive = IsShelf honest state archive.pages archive.contents archive.closed
+
+  -- a stop now leaves the state of an open archive
+  pub at_rest : (archive : Shelf D) → Holds archive → HonestAt honest archive.pages.disk → archive.closed ≡ false
+      → LeavesOnly (state_at state archive.pages.disk).now (λ file. StandsForState file (state_of state archive))
+  at_rest archive holds h is_open = λ file may. (let held = holds.holds h is_open in
+      record {
+        pages = archive.pages.pages;
+        stands = held.rest file may;
+        is = record { filed = held.holds.filed; within = held.within; few = held.few };
+      })
+
+  -- what an open archive knows in memory is that of its state
+  pub tells : (archive : Shelf D) → Holds archive → archive.closed ≡ false → HonestAt honest archive.pages.disk → Tells honest state archive
+  tells archive holds is_open h = (let held = holds.holds h is_open in
+      record { was_honest = h; labels = labels_held _ _ _ held.holds; sets = held.holds.sets })
+
+  pub within : (archive : Shelf D) → Holds archive → archive.closed ≡ false → HonestAt honest archive.pages.disk → IsState (state_of state archive)
+  within archive holds is_open h = (holds.holds h is_open).within
+
+  -- A call was answered, and the disk is as it was, or a stop since then leaves states that it passed.
+  pub record Ended (old new : Shelf D) (command : Command) (answer : Result Reply Refusal) : Type 0 where
+    pub was_honest : HonestAt honest new.pages.disk → HonestAt honest old.pages.disk
+    pub answers : HonestAt honest new.pages.disk
+        → Answers (record { state = state_of state old; closed = old.closed }) command answer (record { state = state_of state new; closed = new.closed })
+    pub moves : HonestAt honest new.pages.disk → (state_at state new.pages.disk ≡ state_at state old.pages.disk)
+        ⊎ SinceThen (state_at state old.pages.disk) (state_at state new.pages.disk)
+        (StandsForOne StandsForState (state_of state old ∷ passed (state_of state old) command answer))
+
+  -- it passes the states of its answer
+  pub passes : (old new : Shelf D) (command : Command) (answer : Result Reply Refusal) → Ended old new command answer → Holds new
+      → Passes {S = Shelf D} (λ archive. HonestAt honest archive.pages.disk) (IsSound honest state) (state_of state)
+      (λ archive. moment_of (state_at state archive.pages.disk)) (λ archive. LeftFrom (state_at state archive.pages.disk)) StandsForState old new
+      (passed (state_of state old) command answer)
+  passes old new command answer ended holds = record {
+    reaches = λ h. answers_reach _ _ _ _ (ended.answers h);
+    was_honest = ended.was_honest;
+    stays_sound = λ sound. record {
+      within = λ h. answers_within _ _ _ _ (ended.answers h) (sound.within (ended.was_honest h));
+      rest = at_rest new holds;
+    };
+    later = λ h. elim (ended.moves h) [
+      | inl same ↦ (let n : moment_of (state_at state new.pages.disk) ≡ moment_of (state_at state old.pages.disk) = ap moment_of same in omega (arith, n))
+      | inr since ↦ moment_rises _ _ _ since
+    ];
+    keeps = λ h since file left. elim (ended.moves h) [
+      | inl same ↦ subst (λ disk. LeftFrom disk since file) (sym same) left
+      | inr then ↦ left_stays _ _ _ then since file left
+    ];
+    leaves = λ sound h since file early left. elim (ended.moves h) [
+      | inl same ↦ inl (subst (λ disk. LeftFrom disk since file) same left)
+      | inr then ↦ left_then _ _ _ then since file left
+    ];
+  }
+
+  -- a call on a closed archive
+  pub ended_closed : (archive : Shelf D) (command : Command) → archive.closed ≡ true → Ended archive archive command (Err Closed)
+  ended_closed archive command e = record {
+    was_honest = λ h. h;
+    answers = λ h. answers_closed (state_of state archive) archive.closed command e;
+    moves = λ h. inl refl;
+  }
+
+  -- a command that was refused as it was decided
+  pub ended_refused : (old new : Shelf D) (command : Command) (why : Refusal) → Holds old → Holds new → old.closed ≡ false
+      → (Tells honest state new → IsState (state_of state old) → Decides (state_of state old) command (Err why))
+      → EndsFetch (Fetches honest failures state) (FailsFetch honest failures state) old why new → Ended old new command (Err why)
+  ended_refused old new command why was is e decides (inl ends) =
+      let fetches = ends.1 in
+      let f : new.closed ≡ false = fetches.closed ∙ e in
+      record {
+        was_honest = fetches.was_honest;
+        answers = λ h.
+            (let same : state_of state new ≡ state_of state old = ap (λ disk. state_in disk.seen) (fetches.same_state h) in
+            let decided = decides (tells new is f h) (within old was e (fetches.was_honest h)) in
+            stays _ _ old.closed new.closed command (Err why) e f
+            (list_refused (state_of state old) (state_of state new) command why decided (inl (ends.0, same))));
+        moves = λ h. inl (fetches.same_state h);
+      }
+  ended_refused old new command why was is e decides (inr ends) =
+      let fails = ends.1 in
+      record {
+        was_honest = fails.was_honest;
+        answers = λ h.
+            (let same : state_of state new ≡ state_of state old = ap (λ disk. state_in disk.seen) (fails.same_state h) in
+            subst (λ one. Answers (record { state = state_of state old; closed = old.closed }) command (Err one)
+            (record { state = state_of state new; closed = new.closed })) (sym ends.0) (failed _ _ old.closed new.closed command e fails.closed (inl same)));
+        moves = λ h. inl (fails.same_state h);
+      }
+
+  -- what was decided, of an archive from which texts were read
+  pub decided : (old mid : Shelf D) (command : Command) (plan : Plan) → Holds old → Holds mid → old.closed ≡ false → Fetches honest failures state old mid
+      → (Tells honest state mid → IsState (state_of state old) → Decides (state_of state old) command (Ok plan)) → HonestAt honest mid.pages.disk
+      → step (state_of state old) command ≡ (after plan.change (state_of state old), Ok plan.reply)
+  decided old mid command plan was is e fetches decides h =
+      decides (tells mid is (fetches.closed ∙ e) h) (within old was e (fetches.was_honest h))
+
+  -- a question that was answered
+  pub ended_answered : (old new : Shelf D) (command : Command) (reply : Reply) → old.closed ≡ false → Fetches honest failures state old new
+      → (HonestAt honest new.pages.disk → step (state_of state old) command ≡ (state_of state old, Ok reply)) → Ended old new command (Ok reply)
+  ended_answered old new command reply e fetches steps = record {
+    was_honest = fetches.was_honest;
+    answers = λ h.
+        (let same : state_of state new ≡ state_of state old = ap (λ disk. state_in disk.seen) (fetches.same_state h) in
+        stays _ _ old.closed new.closed command (Ok reply) e (fetches.closed ∙ e)
+        (stepped (state_of state old) (state_of state new) command (Ok reply) (rw same (steps h))));
+    moves = λ h. inl (fetches.same_state h);
+  }
+
+  -- A CHANGE
+  -- a change that is asked for keeps the limits
+  pub stays_within : (old mid : Shelf D) (command : Command) (change : Change) (reply : Reply) → Holds old → old.closed ≡ false
+      → Fetches honest failures state old mid
+      → (HonestAt honest mid.pages.disk → step (state_of state old) command ≡ (changed change (state_of state old), Ok reply))
+      → HonestAt honest mid.pages.disk → IsState (changed change (state_of state mid))
+  stays_within old mid command change reply was e fetches steps h =
+      let same : state_of state mid ≡ state_of state old = ap (λ disk. state_in disk.seen) (fetches.same_state h) in
+      let next : (step (state_of state old) command).0 ≡ changed change (state_of state mid) =
+      ap (λ (o : Outcome). o.0) (steps h) ∙ ap (changed change) (sym same) in
+      subst IsState next (step_keeps_limits _ command (within old was e (fetches.was_honest h)))
+
+  -- how the disk goes on, where the states that it passed are those before and after it
+  moved : (old mid new : Shelf D) (command : Command) (change : Change) (reply : Reply) → Fetches honest failures state old mid
+      → step (state_of state old) command ≡ (changed change (state_of state old), Ok reply) → HonestAt honest mid.pages.disk
+      → SinceThen (state_at state mid.pages.disk) (state_at state new.pages.disk) (StandsForOneOf (state_of state mid) (changed change (state_of state mid)))
+      → SinceThen (state_at state old.pages.disk) (state_at state new.pages.disk)
+      (StandsForOne StandsForState (state_of state old ∷ (step (state_of state old) command).0 ∷ []))
+  moved old mid new command change reply fetches steps h since =
+      let disk = fetches.same_state h in
+      let same : state_of state mid ≡ state_of state old = ap (λ disk. state_in disk.seen) disk in
+      let next : changed change (state_of state mid) ≡ (step (state_of state old) command).0 =
+      ap (changed change) same ∙ sym (ap (λ (o : Outcome). o.0) steps) in
+      let P : List ℕ → Type 0 = StandsForOneOf (state_of state mid) (changed change (state_of state mid)) in
+      let Q : List ℕ → Type 0 = StandsForOne StandsForState (state_of state old ∷ (step (state_of state old) command).0 ∷ []) in
+      let weaker : (file : List ℕ) → P file → Q file = λ file stands. elim stands [
+        | inl before ↦ inl (subst (StandsForState file) same before)
+        | inr behind ↦ inr (inl (subst (StandsForState file) next behind))
+      ] in
+      subst (λ from. SinceThen from (state_at state new.pages.disk) Q) disk
+      (since_weaker P Q weaker (state_at state mid.pages.disk) (state_at state new.pages.disk) since)
+
+  -- a change that was made
+  pub ended_changed : (old mid new : Shelf D) (command : Command) (change : Change) (reply : Reply) → old.closed ≡ false
+      → Fetches honest failures state old mid
+      → (HonestAt honest mid.pages.disk → step (state_of state old) command ≡ (changed change (state_of state old), Ok reply))
+      → MakesChange honest failures state (Ok tt) mid new change → Ended old new command (Ok reply)
+  ended_changed old mid new command change reply e fetches steps makes = record {
+    was_honest = λ h. fetches.was_honest (makes.was_honest h);
+    answers = λ h.
+        (let before = makes.was_honest h in
+        let same : state_of state mid ≡ state_of state old = ap (λ disk. state_in disk.seen) (fetches.same_state before) in
+        let next : changed change (state_of state old) ≡ state_of state new = sym (makes.made.1 h ∙ ap (changed change) same) in
+        let P : State → Type 0 = λ one. step (state_of state old) command ≡ (one, Ok reply) in
+        stays _ _ old.closed new.closed command (Ok reply) e makes.made.0 (stepped _ _ command (Ok reply) (subst P next (steps before))));
+    moves = λ h. inr (moved old mid new command change reply fetches (steps (makes.was_honest h)) (makes.was_honest h) (makes.moments h));
+  }
+
+  -- a change that was not made, or of which that is not known
+  pub ended_unmade : (old mid new : Shelf D) (command : Command) (change : Change) (reply : Reply) (why : Refusal) → old.closed ≡ false
+      → Fetches honest failures state old mid
+      → (HonestAt honest mid.pages.disk → step (state_of state old) command ≡ (changed change (state_of state old), Ok reply))
+      → MakesChange honest failures state (Err why) mid new change → Ended old new command (Err why)
+  ended_unmade old mid new command change reply why e fetches steps makes = elim makes.made [
+    | inl spares ↦
+        (let disk : HonestAt honest new.pages.disk → state_at state new.pages.disk ≡ state_at state old.pages.disk =
+        λ h. spares.2 h ∙ fetches.same_state (makes.was_honest h) in
+        record {
+          was_honest = λ h. fetches.was_honest (makes.was_honest h);
+          answers = λ h. stays _ _ old.closed new.closed command (Err why) e spares.1
+              (spared _ _ command why spares.0 (ap (λ at. state_in at.seen) (disk h)));
+          moves = λ h. inl (disk h);
+        })
+    | inr fails ↦ record {
+      was_honest = λ h. fetches.was_honest (makes.was_honest h);
+      answers = λ h.
+          (let before = makes.was_honest h in
+          let same : state_of state mid ≡ state_of state old = ap (λ disk. state_in disk.seen) (fetches.same_state before) in
+          let next : changed change (state_of state mid) ≡ (step (state_of state old) command).0 =
+          ap (changed change) same ∙ sym (ap (λ (o : Outcome). o.0) (steps before)) in
+          let way : (state_of state new ≡ state_of state old) ⊎ (state_of state new ≡ (step (state_of state old) command).0) = elim (fails.2 h) [
+            | inl here ↦ inl (here ∙ same)
+            | inr there ↦ inr (there ∙ next)
+          ] in
+          subst (λ one. Answers (record { state = state_of state old; closed = old.closed }) command (Err one)
+          (record { state = state_of state new; closed = new.closed })) (sym fails.0) (failed _ _ old.closed new.closed command e fails.1 way));
+      moves = λ h.
+          (let before = makes.was_honest h in
+          let Q : Refusal → Type 0 = λ one. SinceThen (state_at state old.pages.disk) (state_at state new.pages.disk)
+          (StandsForOne StandsForState (state_of state old ∷ passed (state_of state old) command (Err one))) in
+          inr (subst Q (sym fails.0) (moved old mid new command change reply fetches (steps before) before (makes.moments h))));
+    }
+  ]

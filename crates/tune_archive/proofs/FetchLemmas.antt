@@ -1,0 +1,237 @@
+-- What an archive in a file knows of its tunes, and what it reads of them.
+use Rattle.std.proofs.Common.{◌≡◌, ℕ, zero, suc, ◌<◌, ◌≤◌, List, [], ◌∷◌, ◌++◌, length, get_or, Bool, false, Result, Ok, Err, Option, Some, None}
+use Rattle.std.proofs.Common.{refl, sym, ◌∙◌, ap, subst, arith, inl, inr, ◌⊎◌}
+use Rattle.std.specs.Prelude.{IfOk, IfErr, IfSome, IfNone}
+use Rattle.std.specs.List.{AllByRecursion}
+use Rattle.std.proofs.Math.Seq.{get_or-append_seam}
+use Rattle.tune_disk.specs.Disk.{DiskState}
+use Rattle.tune_disk.specs.Stops.{LeavesOnly}
+use Rattle.tune_journal.specs.Image.{StandsFor}
+use Rattle.tune_pages.specs.Kept.{Kept, HonestAt, state_at}
+use Rattle.tune_pages.specs.Reading.{LooksAt, SameKept}
+use Rattle.tune_pages.specs.Stand.{Stand, HasChain}
+use Rattle.tune_pages.specs.declared.fault.Fault.{Fault}
+use Rattle.tune_pages.specs.declared.fault.Fault.TheVariants.{FileFull, OutOfMemory, Device, Closed}
+use Rattle.tune_store.specs.Labels.{labels_of, LabelsRise}
+use Rattle.tune_store.specs.State.{State, IsState, IsTune}
+use Rattle.tune_store.specs.declared.catalog.Label.{Label}
+use Rattle.tune_store.specs.declared.tune.Tune.{Tune}
+use Rattle.tune_format.specs.Filed.{row_of, rows_of, HoldTunes, HoldsTuneAt}
+use Rattle.tune_format.specs.Layout.{most_pages_of_archive}
+use Rattle.tune_format.specs.Parts.{Part}
+use Rattle.tune_format.specs.States.{state_in}
+use Rattle.tune_format.specs.declared.rows.Row.{Row}
+use Rattle.tune_format.proofs.ChangeLemmas.{row_at_place, has_text}
+use Rattle.tune_format.proofs.TextLemmas.{text_at, rows_count}
+use Rattle.tune_contents.specs.Claimed.{RowsRise}
+use Rattle.tune_contents.specs.Holds.{label_in, labels_in, HoldsContents}
+use Rattle.tune_contents.specs.declared.contents.Contents.{Contents}
+use Rattle.tune_archive.specs.Shelf.{Shelf, state_of, state_on}
+use Rattle.tune_archive.specs.Inside.Fetching.{IsTextOf, HoldsText, HoldsSomeText, HasFetched, Fetches}
+use Rattle.tune_archive.specs.declared.archive.Fetched.{Fetched}
+use Rattle.tune_archive.specs.Inside.Holding.{stand_of, IsShelf}
+
+-- LABELS
+-- the labels of rows rise with them
+pub labels_rise : (low : ℕ) (rows : List Row) → RowsRise low rows → LabelsRise low (labels_in rows)
+labels_rise low [] rises = tt
+labels_rise low (row ∷ rows) rises = (rises.0, labels_rise row.number rows rises.1)
+
+-- the label at a place is that of the row there
+pub label_at : (rows : List Row) (place : ℕ) (d : Row) (e : Label) → place < length rows → get_or (labels_in rows) place e ≡ label_in (get_or rows place d)
+label_at [] place d e l = absurd (omega arith)
+label_at (row ∷ rows) zero d e l = refl
+label_at (row ∷ rows) (suc place) d e l = label_at rows place d e (omega arith)
+
+-- there are as many labels as rows
+pub labels_count : (rows : List Row) → length (labels_in rows) ≡ length rows
+labels_count [] = refl
+labels_count (row ∷ rows) = omega (arith, labels_count rows)
+
+-- the place of a label is that of a row
+pub place_inside : (rows : List Row) (place : ℕ) → place < length (labels_in rows) → place < length rows
+place_inside rows place l = omega (arith, labels_count rows)
+
+-- the rows of tunes have the labels of these
+labels_there : (tunes : List Tune) (texts : List Part) → HoldTunes texts tunes → labels_in (rows_of tunes texts) ≡ labels_of tunes
+labels_there [] texts holds = refl
+labels_there (tune ∷ tunes) [] holds = absurd (let size = ap (λ l. length l) holds in omega arith)
+labels_there (tune ∷ tunes) (part ∷ texts) holds =
+    let later : HoldTunes texts tunes = cc in ap (λ l. label_in (row_of tune part) ∷ l) (labels_there tunes texts later)
+
+pub labels_held : (s : Stand) (contents : Contents) (state : State) → HoldsContents s contents state → labels_in contents.rows.items ≡ labels_of state.tunes
+labels_held s contents state holds = ap labels_in holds.listed ∙ labels_there state.tunes holds.filed.texts holds.filed.are_tunes
+
+pub rows_held : (s : Stand) (contents : Contents) (state : State) → HoldsContents s contents state → length contents.rows.items ≡ length state.tunes
+rows_held s contents state holds = ap length holds.listed ∙ rows_count state.tunes holds.filed.texts holds.filed.are_tunes
+
+-- TEXTS
+-- each of the tunes is within the limits
+middle : (P : Tune → Type 0) (front : List Tune) (tune : Tune) (back : List Tune) → AllByRecursion P (front ++ tune ∷ back) → P tune
+middle P [] tune back each = each.0
+middle P (first ∷ front) tune back each = middle P front tune back each.1
+
+-- the text of the tune at a place stands where its row says
+pub text_there : (s : Stand) (contents : Contents) (state : State) (place first : ℕ) (d : Row) (e : Tune) → HoldsContents s contents state → IsState state
+    → place < length contents.rows.items → first ≡ (get_or contents.rows.items place d).first
+    → (revision : ℕ) × HoldsText s first revision (get_or state.tunes place e).text
+text_there s contents state place first d e holds within l is =
+    let texts = holds.filed.texts in
+    let tunes = state.tunes in
+    let are = holds.filed.are_tunes in
+    let inside : place < length tunes = omega (arith, l, rows_held s contents state holds) in
+    let at : HoldsTuneAt texts tunes place = text_at texts tunes place are inside in
+    let row = row_at_place texts tunes place at in
+    let front = rows_of at.front at.before in
+    let back = rows_of at.back at.after in
+    let mine : Row = row_of at.tune at.part in
+    let its_row : get_or contents.rows.items place d ≡ mine = ap (λ (r : List Row). get_or r place d) (holds.listed ∙ row.0)
+    ∙ ap (λ (n : ℕ). get_or (front ++ mine ∷ back) n d) (sym row.1) ∙ get_or-append_seam front mine back d in
+    let its_tune : get_or tunes place e ≡ at.tune = ap (λ (ts : List Tune). get_or ts place e) at.are_tunes
+    ∙ ap (λ (n : ℕ). get_or (at.front ++ at.tune ∷ at.back) n e) (sym at.is_place) ∙ get_or-append_seam at.front at.tune at.back e in
+    let good : IsTune at.tune = middle IsTune at.front at.tune at.back (subst (AllByRecursion IsTune) at.are_tunes within.tunes.each) in
+    let bound = good.revision in
+    let its_first : first ≡ at.part.first = is ∙ ap (λ (r : Row). r.first) its_row in
+    let has : HasChain s at.part.first at.part.trail at.part.bytes =
+    has_text s (holds.filed.list ∷ holds.filed.set_lists ∷ []) texts tunes place holds.holds at in
+    let held : HoldsText s first at.tune.revision at.tune.text = record {
+      trail = at.part.trail;
+      bytes = at.part.bytes;
+      has = subst (λ (n : ℕ). HasChain s n at.part.trail at.part.bytes) (sym its_first) has;
+      is = record {
+        written = sym at.holds;
+        few = omega (arith, bound);
+        good = record { tune_text = good.text; fits = good.fits };
+      };
+    } in
+    (at.tune.revision, subst (λ (t : Tune). HoldsText s first at.tune.revision t.text) (sym its_tune) held)
+
+pub some_text : (s : Stand) (contents : Contents) (state : State) (place first : ℕ) (d : Row) → HoldsContents s contents state → IsState state
+    → place < length contents.rows.items → first ≡ (get_or contents.rows.items place d).first → HoldsSomeText s first
+some_text s contents state place first d holds within l is =
+    let e : Tune = record { number = 0; revision = 0; text = [] } in
+    let there = text_there s contents state place first d e holds within l is in
+    (there.0, (get_or state.tunes place e).text, there.1)
+
+-- what was read of a chain and is the text of its bytes is the text there
+pub text_read : {T : Type 0} (text : T → List ℕ) (Honest : Type 0) (s mid : Stand) (first : ℕ) (bytes : List ℕ) (result : Result T Fault)
+    → (Honest → (trail all : List ℕ) → HasChain mid first trail all → bytes ≡ all) → mid ≡ s
+    → IfOk result (λ t. (revision : ℕ) (other : List ℕ) → IsTextOf bytes revision other → text t ≡ other)
+    → IfOk result (λ t. Honest → (revision : ℕ) (other : List ℕ) → HoldsText s first revision other → text t ≡ other)
+text_read text Honest s mid first bytes (Err fault) read same ok = tt
+text_read text Honest s mid first bytes (Ok t) read same ok = λ honest revision other holds.
+    (let has : HasChain mid first holds.trail holds.bytes = subst (λ (m : Stand). HasChain m first holds.trail holds.bytes) (sym same) holds.has in
+    ok revision other (subst (λ (l : List ℕ). IsTextOf l revision other) (sym (read honest holds.trail holds.bytes has)) holds.is))
+
+-- no text stands where what was read is none
+abbrev NoText : List ℕ → Type 0
+NoText bytes = (revision : ℕ) (other : List ℕ) → IsTextOf bytes revision other → ⊥
+
+no_text : (Honest : Type 0) (s mid : Stand) (first : ℕ) (bytes : List ℕ) → (Honest → (trail all : List ℕ) → HasChain mid first trail all → bytes ≡ all)
+    → mid ≡ s → NoText bytes → Honest → HoldsSomeText s first → ⊥
+no_text Honest s mid first bytes read same none h (revision, other, holds) =
+    let has : HasChain mid first holds.trail holds.bytes = subst (λ (m : Stand). HasChain m first holds.trail holds.bytes) (sym same) holds.has in
+    none revision other (subst (λ (l : List ℕ). IsTextOf l revision other) (sym (read h holds.trail holds.bytes has)) holds.is)
+
+-- a text that was not read although its chain was: there was no memory, or there is none
+module _ {D : Type 0} (honest : D → Type 0) (failures : D → ℕ) (state : D → DiskState) (old new : Kept D)
+    (s mid : Stand) (first : ℕ) (bytes : List ℕ) where
+  pub looks_on : {T U : Type 0} (chain : U) (result : Result T Fault) → LooksAt {T = U} honest failures state (Ok chain) old new
+      → (HonestAt honest new.disk → (trail all : List ℕ) → HasChain mid first trail all → bytes ≡ all) → mid ≡ s
+      → (HonestAt honest old.disk → HoldsSomeText s first)
+      → IfErr result (λ fault. (fault ≡ OutOfMemory) ⊎ ((fault ≡ Device) × NoText bytes))
+      → LooksAt honest failures state result old new
+  looks_on chain (Ok text) looks read same there fault = record {
+    was_honest = looks.was_honest;
+    same_state = looks.same_state;
+    counted = looks.counted;
+    same = looks.same;
+  }
+  looks_on chain (Err FileFull) looks read same there (inl is) = (let no : ⊥ = cc in absurd no)
+  looks_on chain (Err FileFull) looks read same there (inr is) = (let e = is.0 in let no : ⊥ = cc in absurd no)
+  looks_on chain (Err Closed) looks read same there (inl is) = (let no : ⊥ = cc in absurd no)
+  looks_on chain (Err Closed) looks read same there (inr is) = (let e = is.0 in let no : ⊥ = cc in absurd no)
+  looks_on chain (Err OutOfMemory) looks read same there fault = record {
+    was_honest = looks.was_honest;
+    same_state = looks.same_state;
+    counted = looks.counted;
+    same = λ ne. looks.same;
+  }
+  looks_on chain (Err Device) looks read same there (inl is) = (let no : ⊥ = cc in absurd no)
+  looks_on chain (Err Device) looks read same there (inr is) = record {
+    was_honest = looks.was_honest;
+    same_state = looks.same_state;
+    counted = λ h. absurd (no_text (HonestAt honest new.disk) s mid first bytes read same is.1 h (there (looks.was_honest h)));
+    same = λ ne. absurd (ne refl);
+  }
+
+-- PLACES
+-- the label at the place of a number's row has the number
+pub label_found : (rows : List Row) (number : ℕ) (found : Option ℕ) → IfSome found (λ place. place < length rows)
+    → IfSome found (λ place. (d : Row) → (get_or rows place d).number ≡ number)
+    → IfSome found (λ place. (d : Label) → (get_or (labels_in rows) place d).number ≡ number)
+label_found rows number None inside named = tt
+label_found rows number (Some place) inside named = λ e.
+    (let d : Row = record { number = 0; revision = 0; first = 0 } in
+    ap (λ (label : Label). label.number) (label_at rows place d e inside) ∙ named d)
+
+-- where no row has a number, no label does
+pub label_none : (rows : List Row) (number : ℕ) (found : Option ℕ)
+    → IfNone found ((place : ℕ) (d : Row) → place < length rows → (get_or rows place d).number ≡ number → ⊥)
+    → IfNone found ((place : ℕ) (d : Label) → place < length (labels_in rows) → (get_or (labels_in rows) place d).number ≡ number → ⊥)
+label_none rows number (Some place) none = tt
+label_none rows number None none = λ place e l is.
+    (let d : Row = record { number = 0; revision = 0; first = 0 } in
+    let inside : place < length rows = omega (arith, l, labels_count rows) in
+    none place d inside (sym (ap (λ (label : Label). label.number) (label_at rows place d e inside)) ∙ is))
+
+-- THE ARCHIVE
+module _ {D : Type 0} (honest : D → Type 0) (failures : D → ℕ) (state : D → DiskState) where
+  -- what always holds of an archive holds after its pages were only looked at
+  pub shelf_kept : {T : Type 0} (result : Result T Fault) (old new : Kept D) (contents : Contents) (closed : Bool) → IsShelf honest state old contents closed
+      → LooksAt honest failures state result old new → SameKept honest old new → IsShelf honest state new contents closed
+  shelf_kept result old new contents closed shelf looks same = record {
+    rows = shelf.rows;
+    marks = λ e. ap length same.used ∙ shelf.marks e;
+    is_open = λ e. same.closed ∙ shelf.is_open e;
+    holds = λ h e.
+        (let held = shelf.holds (looks.was_honest h) e in
+        let pages : new.pages ≡ old.pages = same.pages h in
+        let stand : stand_of new ≡ stand_of old = λ i. record { pages = pages i; used = same.used i } in
+        let its : state_on state new.disk ≡ state_on state old.disk = ap (λ (d : DiskState). state_in d.seen) (looks.same_state h) in
+        record {
+          holds = subst (λ (s : Stand). HoldsContents s contents (state_on state new.disk)) (sym stand)
+              (subst (λ (s : State). HoldsContents (stand_of old) contents s) (sym its) held.holds);
+          within = subst IsState (sym its) held.within;
+          few = subst (λ (p : List (List ℕ)). length p ≤ most_pages_of_archive) (sym pages) held.few;
+          rest = subst (λ (p : List (List ℕ)). LeavesOnly (state_at state new.disk).now (StandsFor p)) (sym pages)
+              (subst (λ (d : DiskState). LeavesOnly d.now (StandsFor old.pages)) (sym (looks.same_state h)) held.rest);
+        });
+  }
+
+  -- the text of the tune at a place was asked for, and read
+  pub fetches : (old new : Shelf D) (place first : ℕ) (d : Row) (last : Fetched) → IsShelf honest state old.pages old.contents old.closed
+      → old.closed ≡ false → place < length old.contents.rows.items → first ≡ (get_or old.contents.rows.items place d).first
+      → LooksAt {T = List ℕ} honest failures state (Ok last.text) old.pages new.pages
+      → (HonestAt honest new.pages.disk → (revision : ℕ) (other : List ℕ) → HoldsText (stand_of old.pages) first revision other → last.text ≡ other)
+      → new.contents ≡ old.contents → new.closed ≡ old.closed → new.fetched ≡ Some last
+      → Fetches honest failures state old new × HasFetched honest state new place
+  fetches old new place first d last shelf is_open l is looks text contents closed fetched = (
+    record {
+      was_honest = looks.was_honest;
+      same_state = looks.same_state;
+      counted = looks.counted;
+      contents = contents;
+      closed = closed;
+    },
+    record {
+      last = last;
+      is_last = fetched;
+      is = λ h e.
+          (let held = shelf.holds (looks.was_honest h) is_open in
+          let there = text_there (stand_of old.pages) old.contents (state_of state old) place first d e held.holds held.within l is in
+          let its : state_of state new ≡ state_of state old = ap (λ (d : DiskState). state_in d.seen) (looks.same_state h) in
+          text h there.0 (get_or (state_of state old).tunes place e).text there.1
+          ∙ ap (λ (s : State). (get_or s.tunes place e).text) (sym its));
+    },
+  )

@@ -1,0 +1,56 @@
+-- What a change that is laid on pages makes of them.
+use Rattle.std.proofs.Common.{◌≡◌, inr, ℕ, ◌≤◌, List, Bool, length, sym, ◌∙◌, ap, subst, arith}
+use Rattle.tune_disk.specs.Disk.{DiskState}
+use Rattle.tune_disk.specs.Stops.{LeavesOnly, SinceThen}
+use Rattle.tune_journal.specs.Image.{StandsFor, StandsForEither}
+use Rattle.tune_pages.specs.Kept.{Kept, HonestAt, state_at}
+use Rattle.tune_pages.specs.Reading.{SameKept}
+use Rattle.tune_pages.specs.Stand.{Stand}
+use Rattle.tune_pages.specs.Work.{stand, Fits}
+use Rattle.tune_pages.specs.declared.work.Work.{Work}
+use Rattle.tune_pages.proofs.Looking.{stand_count, stand_marks}
+use Rattle.tune_store.specs.declared.plans.Change.{Change}
+use Rattle.tune_contents.specs.Holds.{LaysState}
+use Rattle.tune_contents.specs.declared.contents.Contents.{Contents}
+use Rattle.tune_archive.specs.Inside.Changing.{PassesChange, HasLaid}
+use Rattle.tune_archive.specs.Inside.Holding.{stand_of}
+
+-- a work has no more pages than there may be
+few_pages : {D : Type 0} (honest : D → Type 0) (old mid : Kept D) (work : Work) → Fits mid work → SameKept honest old mid
+    → length old.pages ≤ length old.used → length (stand mid work).pages ≤ length old.used
+few_pages honest old mid work fits same few =
+    let used : length mid.used ≡ length old.used = ap (λ (l : List Bool). length l) same.used in
+    omega (arith, stand_count mid.pages mid.used work, fits.within, same.count, used, few)
+
+-- and it has a mark for each page up to the limit
+pub same_marks : {D : Type 0} (honest : D → Type 0) (old mid new : Kept D) (work : Work) → Fits mid work → SameKept honest old mid
+    → new.used ≡ (stand mid work).used → length new.used ≡ length old.used
+same_marks honest old mid new work fits same is =
+    ap (λ (l : List Bool). length l) is ∙ stand_marks mid.pages mid.used work fits ∙ ap (λ (l : List Bool). length l) same.used
+
+module _ {D : Type 0} (honest : D → Type 0) (state : D → DiskState) (old mid : Kept D) (work : Work) (contents left : Contents) (change : Change)
+    (start : Stand) (begun : start ≡ stand_of old) (lays : LaysState start (stand mid work) contents left change) (fits : Fits mid work)
+    (same : SameKept honest old mid) (few : length old.pages ≤ length old.used) where
+  laid_before : LaysState (stand_of old) (stand mid work) contents left change
+  laid_before = subst (λ (s : Stand). LaysState s (stand mid work) contents left change) begun lays
+
+  pub passes_laid : (new : Kept D) → HonestAt honest mid.disk → state_at state mid.disk ≡ state_at state old.disk
+      → SinceThen (state_at state mid.disk) (state_at state new.disk) (StandsForEither mid.pages (stand mid work).pages)
+      → PassesChange (state_at state old.disk) (state_at state new.disk) (stand_of old) contents change
+  passes_laid new h disk moments = inr (record {
+    next = stand mid work;
+    left = left;
+    lays = laid_before;
+    few = few_pages honest old mid work fits same few;
+    moments = subst (λ (d : DiskState). SinceThen d (state_at state new.disk) (StandsForEither old.pages (stand mid work).pages)) disk
+        (subst (λ pages. SinceThen (state_at state mid.disk) (state_at state new.disk) (StandsForEither pages (stand mid work).pages)) (same.pages h)
+        moments);
+  })
+
+  pub has_laid : (new : Kept D) → new.pages ≡ (stand mid work).pages → new.used ≡ (stand mid work).used
+      → LeavesOnly (state_at state new.disk).now (StandsFor (stand mid work).pages) → HasLaid state old new contents left change
+  has_laid new pages used rest = record {
+    lays = subst (λ (s : Stand). LaysState (stand_of old) s contents left change) (λ i. record { pages = sym pages i; used = sym used i }) laid_before;
+    few = omega (arith, few_pages honest old mid work fits same few, ap (λ (l : List (List ℕ)). length l) pages);
+    rest = subst (λ pages. LeavesOnly (state_at state new.disk).now (StandsFor pages)) (sym pages) rest;
+  }

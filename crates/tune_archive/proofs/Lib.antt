@@ -1,0 +1,6 @@
+pub mod Called
+pub mod DiskMoments
+pub mod FetchLemmas
+pub mod LaidChanges
+pub mod MadeChanges
+pub mod OpenedArchives

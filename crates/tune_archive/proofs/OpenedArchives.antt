@@ -1,0 +1,240 @@
+-- What an archive holds once it is made or opened, and what a stop leaves meanwhile.
+use Rattle.std.proofs.Common.{◌≡◌, inl, inr, ℕ, ◌-◌, ◌<◌, ◌≤◌, List, [], ◌∷◌, ◌++◌, Bool, true, false, Option, Some, None, length, replicate}
+use Rattle.std.proofs.Common.{Result, Ok, Err, IfErr, refl, sym, ◌∙◌, ap, subst, arith}
+use Rattle.std.proofs.lemmas.List.{length-replicate}
+use Rattle.tune_disk.specs.Disk.{DiskState, MayLeave}
+use Rattle.tune_disk.specs.Stops.{LeavesOnly, SinceThen}
+use Rattle.tune_disk.proofs.Moments.{since_weaker}
+use Rattle.tune_journal.specs.Image.{StandsFor}
+use Rattle.tune_journal.specs.Making.{StandsForNoneOr}
+use Rattle.tune_journal.specs.Moments.{LeftOrSame}
+use Rattle.tune_journal.specs.declared.open_fault.OpenFault.{OpenFault}
+use Rattle.tune_journal.specs.declared.open_fault.OpenFault.TheVariants.{NotArchive, Damaged}
+use Rattle.tune_journal.specs.declared.open_fault.OpenFault.TheVariants.{NotEmpty, OutOfMemory}
+use Rattle.tune_journal.specs.declared.open_fault.OpenFault.TheVariants.{Device}
+use Rattle.tune_journal.specs.declared.open_fault.Refused.{Refused}
+use Rattle.tune_journal.proofs.Above.{stands_once}
+use Rattle.tune_pages.specs.Kept.{Kept, HonestAt, state_at}
+use Rattle.tune_pages.specs.Opened.{only_root, IsUnopenedFor}
+use Rattle.tune_pages.specs.Stand.{Stand}
+use Rattle.tune_pages.proofs.Chains.{length-marked}
+use Rattle.tune_store.specs.State.{State, IsState, empty_state}
+use Rattle.tune_format.specs.Layout.{most_pages_of_archive}
+use Rattle.tune_format.specs.Parts.{Part, AreParts}
+use Rattle.tune_format.specs.States.{IsStateOf, StandsForState}
+use Rattle.tune_format.specs.Written.{IsRoot}
+use Rattle.tune_format.proofs.PartLemmas.{open_parts, held_parts}
+use Rattle.tune_format.proofs.StateLemmas.{file_read, empty_within, empty_state_of}
+use Rattle.tune_contents.specs.Claimed.{AreRows, IsClaimed}
+use Rattle.tune_contents.specs.Holds.{HoldsContents}
+use Rattle.tune_contents.specs.declared.contents.Contents.{Contents}
+use Rattle.tune_archive.specs.Inside.Holding.{stand_of, HoldsState, IsShelf}
+use Rattle.tune_archive.specs.Inside.Opening.{IsUnclaimedFor}
+use Rattle.tune_archive.specs.Opened.{disk_of, StandsForNoneOrEmpty, KeepsStates, IsUnopenedArchiveFor}
+use Rattle.tune_archive.specs.Shelf.{Shelf, IsSound, state_on, StandsForOneOf}
+
+-- WHAT PAGES HOLD
+-- pages on which a state was claimed hold it, and nothing else is in use
+pub claims_hold : (pages : List (List ℕ)) (claimed : List Bool) (limit : ℕ) (contents : Contents) → length pages ≤ limit
+    → (is : IsClaimed pages contents.rows.items contents.sets contents.list_first contents.sets_first claimed)
+    → HoldsContents (record { pages = pages; used = claimed ++ replicate (limit - length pages) false }) contents
+    (record { tunes = is.tunes; sets = contents.sets })
+claims_hold pages claimed limit contents few is =
+    let used = claimed ++ replicate (limit - length pages) false in
+    let parts = is.filed.list ∷ is.filed.set_lists ∷ is.filed.texts in
+    record {
+      filed = is.filed;
+      holds = held_parts (record { pages = pages; used = used }) limit parts is.filed.parts few
+          (open_parts pages claimed used limit parts is.filed.parts few is.marks refl);
+      listed = is.listed;
+      sets = refl;
+      list = is.list;
+      set_lists = is.set_lists;
+    }
+
+-- no bytes are no chain
+abbrev no_part : Part
+no_part = record { first = 0; trail = []; bytes = [] }
+
+none_filed : (image : List ℕ) → IsRoot image 0 0 → AreParts (image ∷ []) (no_part ∷ no_part ∷ [])
+none_filed image root = record {
+  chains = (record { leads = refl; holds = refl }, (record { leads = refl; holds = refl }, tt));
+  apart = (refl, tt);
+}
+
+-- a root alone that names no list holds no tunes and no sets
+pub root_holds : (image : List ℕ) (limit : ℕ) (contents : Contents) → IsRoot image 0 0 → 1 ≤ limit → contents.rows.items ≡ [] → contents.sets ≡ []
+    → (contents.list_first ≡ 0) × (contents.sets_first ≡ 0)
+    → HoldsContents (record { pages = image ∷ []; used = only_root limit }) contents empty_state
+root_holds image limit contents root some rows sets firsts = record {
+  filed = record {
+    list = no_part;
+    set_lists = no_part;
+    texts = [];
+    parts = none_filed image root;
+    root = root;
+    listed = refl;
+    are_sets = refl;
+    are_tunes = refl;
+  };
+  holds = held_parts (record { pages = image ∷ []; used = only_root limit }) limit (no_part ∷ no_part ∷ []) (none_filed image root) some refl;
+  listed = rows;
+  sets = sets;
+  list = firsts.0;
+  set_lists = firsts.1;
+}
+
+-- THE STATE OF A DISK
+-- what a read of an honest disk gives may stay
+pub shown_stays : {D : Type 0} (honest : D → Type 0) (state : D → DiskState) → ((disk : D) → honest disk → MayLeave (state disk).now (state disk).seen)
+    → (held : Option D) → HonestAt honest held → MayLeave (state_at state held).now (state_at state held).seen
+shown_stays honest state stays None h = absurd h
+shown_stays honest state stays (Some disk) h = stays disk h
+
+-- the state that pages hold is the one that their disk is read as
+pub disk_holds : {D : Type 0} (state : D → DiskState) (kept : Kept D) (contents : Contents) (s : State)
+    → MayLeave (state_at state kept.disk).now (state_at state kept.disk).seen → LeavesOnly (state_at state kept.disk).now (StandsFor kept.pages)
+    → length kept.pages ≤ most_pages_of_archive → IsState s → HoldsContents (stand_of kept) contents s → HoldsState state kept contents
+disk_holds state kept contents s stays rest few within holds =
+    let file = (state_at state kept.disk).seen in
+    let read : state_on state kept.disk ≡ s = file_read file s (record {
+      pages = kept.pages;
+      stands = rest file stays;
+      is = record { filed = holds.filed; within = within; few = few };
+    }) in
+    record {
+      holds = subst (λ (x : State). HoldsContents (stand_of kept) contents x) (sym read) holds;
+      within = subst IsState (sym read) within;
+      few = few;
+      rest = rest;
+    }
+
+-- STOPS
+-- Where each file that a stop may leave at first stands for one of two states, so does each during an opening.
+pub opening_keeps_states : (old new : DiskState) → MayLeave old.now old.seen → SinceThen old new (LeftOrSame old) → KeepsStates old new
+opening_keeps_states old new stays since = λ a b leaves. since_weaker (LeftOrSame old) (StandsForOneOf a b) (one a b leaves) old new since
+  where
+    same : (s : State) (pages : List (List ℕ)) (file : List ℕ) → StandsFor pages old.seen → StandsFor pages file → StandsForState old.seen s
+        → StandsForState file s
+    same s pages file here there stands = record {
+      pages = stands.pages;
+      stands = subst (λ (l : List (List ℕ)). StandsFor l file) (stands_once pages stands.pages old.seen here stands.stands) there;
+      is = stands.is;
+    }
+
+    either : (a b : State) (pages : List (List ℕ)) (file : List ℕ) → StandsFor pages old.seen → StandsFor pages file → StandsForOneOf a b old.seen
+        → StandsForOneOf a b file
+    either a b pages file here there (inl stands) = inl (same a pages file here there stands)
+    either a b pages file here there (inr stands) = inr (same b pages file here there stands)
+
+    one : (a b : State) → LeavesOnly old.now (StandsForOneOf a b) → (file : List ℕ) → LeftOrSame old file → StandsForOneOf a b file
+    one a b leaves file (inl left) = leaves file left
+    one a b leaves file (inr it) = either a b it.0 file it.1 it.2 (leaves old.seen stays)
+
+-- A file that is being made stands for no archive, or for an empty one.
+pub making_keeps : (image : List ℕ) (old new : DiskState) → IsRoot image 0 0 → SinceThen old new (StandsForNoneOr image)
+    → SinceThen old new StandsForNoneOrEmpty
+making_keeps image old new root since = since_weaker (StandsForNoneOr image) StandsForNoneOrEmpty one old new since
+  where
+    one : (file : List ℕ) → StandsForNoneOr image file → StandsForNoneOrEmpty file
+    one file (inl none) = inl none
+    one file (inr stands) = inr (record { pages = image ∷ []; stands = stands; is = empty_state_of image root })
+
+-- REFUSALS
+-- why pages are not opened, of an archive
+pub pages_refused : (why : OpenFault) (old new : DiskState) → IsUnopenedFor why old new → IsUnopenedArchiveFor why old new
+pages_refused NotArchive old new is = is
+pages_refused Damaged old new is = λ s stands. is.3 stands.pages stands.stands
+pages_refused NotEmpty old new is = is
+pages_refused OutOfMemory old new is = tt
+pages_refused Device old new is = tt
+
+-- why they are not claimed
+pub claims_refused : (why : OpenFault) (pages : List (List ℕ)) (old new : DiskState)
+    → ((other : List (List ℕ)) → StandsFor other old.seen → other ≡ pages) → IsUnclaimedFor why pages → IsUnopenedArchiveFor why old new
+claims_refused NotArchive pages old new only is = absurd is
+claims_refused Damaged pages old new only is =
+    λ s stands. is s (subst (λ (l : List (List ℕ)). IsStateOf l s) (only stands.pages stands.stands) stands.is)
+claims_refused NotEmpty pages old new only is = is
+claims_refused OutOfMemory pages old new only is = tt
+claims_refused Device pages old new only is = tt
+
+-- AN ARCHIVE OF PAGES
+-- of pages whose state was claimed
+pub opened_shelf : {D : Type 0} (honest : D → Type 0) (state : D → DiskState) → ((disk : D) → honest disk → MayLeave (state disk).now (state disk).seen)
+    → (disk : D) (kept : Kept D) (pages : List (List ℕ)) (claimed : List Bool) (contents : Contents) → kept.disk ≡ Some disk → kept.pages ≡ pages
+    → kept.used ≡ claimed ++ replicate (most_pages_of_archive - length pages) false → kept.closed ≡ false → length kept.used ≡ most_pages_of_archive
+    → length pages ≤ most_pages_of_archive → 0 < length kept.pages → AreRows contents.rows.items
+    → (honest disk → LeavesOnly (state disk).now (StandsFor pages))
+    → (honest disk → 0 < length pages → IsClaimed pages contents.rows.items contents.sets contents.list_first contents.sets_first claimed)
+    → IsShelf honest state kept contents false
+opened_shelf honest state stays disk kept pages claimed contents same_disk same_pages same_used is_open marks few some rows rest claims = record {
+  rows = rows;
+  marks = λ e. marks;
+  is_open = λ e. is_open;
+  holds = λ h e.
+      let here = subst (HonestAt honest) same_disk h in
+      let is = claims here (subst (λ (l : List (List ℕ)). 0 < length l) same_pages some) in
+      let s : State = record { tunes = is.tunes; sets = contents.sets } in
+      let holds = claims_hold pages claimed most_pages_of_archive contents few is in
+      disk_holds state kept contents s (shown_stays honest state stays kept.disk h)
+      (subst (λ (l : List (List ℕ)). LeavesOnly (state_at state kept.disk).now (StandsFor l)) (sym same_pages)
+      (subst (λ (d : Option _). LeavesOnly (state_at state d).now (StandsFor pages)) (sym same_disk) (rest here)))
+      (subst (λ (l : List (List ℕ)). length l ≤ most_pages_of_archive) (sym same_pages) few) is.within
+      (subst (λ (st : Stand). HoldsContents st contents s)
+      (λ i. record { pages = sym same_pages i; used = sym same_used i }) holds);
+}
+
+-- of the root alone
+pub made_shelf : {D : Type 0} (honest : D → Type 0) (state : D → DiskState) → ((disk : D) → honest disk → MayLeave (state disk).now (state disk).seen)
+    → (kept : Kept D) (image : List ℕ) (contents : Contents) → (HonestAt honest kept.disk → kept.pages ≡ image ∷ [])
+    → kept.used ≡ only_root most_pages_of_archive → kept.closed ≡ false → IsRoot image 0 0
+    → (HonestAt honest kept.disk → LeavesOnly (state_at state kept.disk).now (StandsFor (image ∷ [])))
+    → contents.rows.items ≡ [] → contents.sets ≡ [] → (contents.list_first ≡ 0) × (contents.sets_first ≡ 0)
+    → IsShelf honest state kept contents false
+made_shelf honest state stays kept image contents pages used is_open root rest rows sets firsts = record {
+  rows = subst AreRows (sym rows) (record { rise = tt; numbers = tt; few = omega arith });
+  marks = λ e.
+      ap (λ (l : List Bool). length l) used ∙ length-marked true (0 ∷ []) (replicate most_pages_of_archive false)
+      ∙ length-replicate most_pages_of_archive false;
+  is_open = λ e. is_open;
+  holds = λ h e.
+      disk_holds state kept contents empty_state (shown_stays honest state stays kept.disk h)
+      (subst (λ (l : List (List ℕ)). LeavesOnly (state_at state kept.disk).now (StandsFor l)) (sym (pages h)) (rest h))
+      (subst (λ (l : List (List ℕ)). length l ≤ most_pages_of_archive) (sym (pages h)) (omega arith)) empty_within
+      (subst (λ (st : Stand). HoldsContents st contents empty_state)
+      (λ i. record { pages = sym (pages h) i; used = sym used i })
+      (root_holds image most_pages_of_archive contents root (omega arith) rows sets firsts));
+}
+
+-- A root alone is read as the state in which nothing is yet.
+pub made_state : {D : Type 0} (honest : D → Type 0) (state : D → DiskState) → ((disk : D) → honest disk → MayLeave (state disk).now (state disk).seen)
+    → (held : Option D) (image : List ℕ) → IsRoot image 0 0 → HonestAt honest held
+    → LeavesOnly (state_at state held).now (StandsFor (image ∷ [])) → state_on state held ≡ empty_state
+made_state honest state stays held image root h rest =
+    let file = (state_at state held).seen in
+    file_read file empty_state (record {
+      pages = image ∷ [];
+      stands = rest file (shown_stays honest state stays held h);
+      is = empty_state_of image root;
+    })
+
+pub made_sound : {D : Type 0} (honest : D → Type 0) (state : D → DiskState) → ((disk : D) → honest disk → MayLeave (state disk).now (state disk).seen)
+    → (archive : Shelf D) (image : List ℕ) → IsRoot image 0 0
+    → (HonestAt honest archive.pages.disk → LeavesOnly (state_at state archive.pages.disk).now (StandsFor (image ∷ []))) → IsSound honest state archive
+made_sound honest state stays archive image root rest = record {
+  within = λ h. subst IsState (sym (made_state honest state stays archive.pages.disk image root h (rest h))) empty_within;
+  rest = λ h e file left.
+      subst (StandsForState file) (sym (made_state honest state stays archive.pages.disk image root h (rest h)))
+      (record { pages = image ∷ []; stands = rest h file left; is = empty_state_of image root });
+}
+
+-- Pages that could not be claimed are those that the disk shows, so they tell of its file.
+pub archive_refused : {D : Type 0} (honest : D → Type 0) (state : D → DiskState) (disk : D) (pages : List (List ℕ)) (old : DiskState)
+    → (result : Result (Shelf D) (Refused D)) → (HonestAt honest (disk_of result) → honest disk)
+    → (honest disk → (other : List (List ℕ)) → StandsFor other old.seen → other ≡ pages)
+    → IfErr result (λ refused. honest refused.disk → IsUnclaimedFor refused.why pages)
+    → IfErr result (λ refused. honest refused.disk → IsUnopenedArchiveFor refused.why old (state refused.disk))
+archive_refused honest state disk pages old (Ok archive) was only is = tt
+archive_refused honest state disk pages old (Err refused) was only is =
+    λ h. claims_refused refused.why pages old (state refused.disk) (only (was h)) (is h)

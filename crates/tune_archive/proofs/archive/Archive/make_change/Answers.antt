@@ -1,0 +1,53 @@
+use Rattle.std.proofs.Common.{None, refl}
+use Rattle.tune_archive.specs.Shelf.{Shelf}
+use Rattle.tune_archive.proofs.MadeChanges.{made_shelf, made, kept_shelf, unmade}
+use Rattle.tune_archive.proofs.archive.Archive.make_change.Goals as goal
+
+pub invariant_of-self : goal.invariant_of-self
+invariant_of-self g c =
+    let new : Shelf g.row.D.Denot = record {
+      pages = c.change_pages.new.pages;
+      contents = c.in-Ok.contents;
+      fetched = None;
+      closed = c.self.inside.closed;
+    } in
+    let done = c.in-Ok.ensures in
+    made_shelf g.D.Disk.honest g.D.Disk.failures g.D.Disk.state g.met.D.Disk.seen_may_stay _ c.args.self.now c.self.view_is c.self.invariant c.requires.open
+    c.args.change c.requires.within new done.moments c.in-Ok.contents done.calls done.laid done.rows done.marks done.answer
+
+pub invariant_of-self-in-Err : goal.invariant_of-self-in-Err
+invariant_of-self-in-Err g c =
+    let new : Shelf g.row.D.Denot = record {
+      pages = c.change_pages.new.pages;
+      contents = c.self.inside.contents;
+      fetched = None;
+      closed = c.eq-self-inside.result;
+    } in
+    let done = c.in-Err.ensures in
+    kept_shelf g.D.Disk.honest g.D.Disk.failures g.D.Disk.state g.met.D.Disk.seen_may_stay _ c.args.self.now c.self.view_is c.self.invariant c.requires.open
+    c.args.change c.requires.within new done.moments c.in-Err.fault done.calls c.eq-self-inside.ensures done.answer done.stays
+
+pub returns-in-Ok : goal.returns-in-Ok
+returns-in-Ok g c =
+    let new : Shelf g.row.D.Denot = record {
+      pages = c.change_pages.new.pages;
+      contents = c.in-Ok.contents;
+      fetched = None;
+      closed = c.self.inside.closed;
+    } in
+    let done = c.in-Ok.ensures in
+    made g.D.Disk.honest g.D.Disk.failures g.D.Disk.state g.met.D.Disk.seen_may_stay _ c.args.self.now c.self.view_is c.self.invariant c.requires.open
+    c.args.change c.requires.within new done.moments c.in-Ok.contents done.calls done.laid refl
+
+pub returns-in-Err : goal.returns-in-Err
+returns-in-Err g c =
+    let new : Shelf g.row.D.Denot = record {
+      pages = c.change_pages.new.pages;
+      contents = c.self.inside.contents;
+      fetched = None;
+      closed = c.eq-self-inside.result;
+    } in
+    let done = c.in-Err.ensures in
+    unmade g.D.Disk.honest g.D.Disk.failures g.D.Disk.state g.met.D.Disk.seen_may_stay _ c.args.self.now c.self.view_is c.self.invariant c.requires.open
+    c.args.change c.requires.within new done.moments c.in-Err.fault done.calls c.eq-self-inside.ensures done.answer done.stays c.refusal_of.result
+    c.refusal_of.ensures

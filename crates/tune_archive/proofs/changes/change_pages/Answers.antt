@@ -1,0 +1,35 @@
+use Rattle.tune_pages.specs.Work.{stand}
+use Rattle.tune_archive.proofs.LaidChanges.{passes_laid, has_laid, same_marks}
+use Rattle.tune_archive.proofs.changes.change_pages.Goals as goal
+
+pub returns-in_err-finish-clause-moments : goal.returns-in_err-finish-clause-moments
+returns-in_err-finish-clause-moments g c = λ h.
+    (let looks = c.in_ok-left.ensures.looks in
+    let mid = c.in_err-finish.ensures.calls.was_honest h in
+    passes_laid g.D.Disk.honest g.D.Disk.state c.args.pages.now c.lay.new.pages c.lay.new.work c.args.contents.now c.in_ok-left.left c.args.change
+    (stand c.args.pages.now c.in_ok-work.work) c.in_ok-work.ensures.stand (c.in_ok-left.ensures.lays mid) c.in_ok-left.ensures.fits looks.same
+    (c.requires.few (looks.was_honest mid)) c.finish.new.self mid (looks.same_state mid) (c.in_err-finish.ensures.moments h c.in_ok-left.ensures.answer))
+
+pub returns-clause-moments : goal.returns-clause-moments
+returns-clause-moments g c = λ h.
+    (let looks = c.in_ok-left.ensures.looks in
+    let mid = c.in_ok-finish.ensures.calls.was_honest h in
+    passes_laid g.D.Disk.honest g.D.Disk.state c.args.pages.now c.lay.new.pages c.lay.new.work c.args.contents.now c.in_ok-left.left c.args.change
+    (stand c.args.pages.now c.in_ok-work.work) c.in_ok-work.ensures.stand (c.in_ok-left.ensures.lays mid) c.in_ok-left.ensures.fits looks.same
+    (c.requires.few (looks.was_honest mid)) c.finish.new.self mid (looks.same_state mid) (c.in_ok-finish.ensures.moments h c.in_ok-left.ensures.answer))
+
+pub returns-clause-laid : goal.returns-clause-laid
+returns-clause-laid g c = λ h.
+    (let looks = c.in_ok-left.ensures.looks in
+    let mid = c.in_ok-finish.ensures.calls.was_honest h in
+    has_laid g.D.Disk.honest g.D.Disk.state c.args.pages.now c.lay.new.pages c.lay.new.work c.args.contents.now c.in_ok-left.left c.args.change
+    (stand c.args.pages.now c.in_ok-work.work) c.in_ok-work.ensures.stand (c.in_ok-left.ensures.lays mid) c.in_ok-left.ensures.fits looks.same
+    (c.requires.few (looks.was_honest mid)) c.finish.new.self (c.in_ok-finish.ensures.pages h) c.in_ok-finish.ensures.used (c.in_ok-finish.ensures.rest h))
+
+pub returns-clause-rows : goal.returns-clause-rows
+returns-clause-rows g c = c.in_ok-left.ensures.rows c.requires.rows
+
+pub returns-clause-marks : goal.returns-clause-marks
+returns-clause-marks g c =
+    same_marks g.D.Disk.honest c.args.pages.now c.lay.new.pages c.finish.new.self c.lay.new.work c.in_ok-left.ensures.fits c.in_ok-left.ensures.looks.same
+    c.in_ok-finish.ensures.used

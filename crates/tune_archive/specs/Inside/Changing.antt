@@ -1,0 +1,96 @@
+-- How a change of an archive is made on its pages.
+use Rattle.std.specs.Prelude.{◌≡◌, ◌⊎◌, ◌≤◌, ℕ, true, false, length, Option, Result, MatchResult}
+use Rattle.tune_disk.specs.Disk.{DiskState}
+use Rattle.tune_disk.specs.Stops.{LeavesOnly, SinceThen}
+use Rattle.tune_journal.specs.Image.{StandsFor, StandsForEither}
+use Rattle.tune_pages.specs.Faults.{CountsFaultWhere}
+use Rattle.tune_pages.specs.Kept.{Kept, HonestAt, state_at, failures_at}
+use Rattle.tune_pages.specs.Reading.{SameKept}
+use Rattle.tune_pages.specs.Stand.{Stand}
+use Rattle.tune_pages.specs.declared.fault.Fault.{Fault}
+use Rattle.tune_pages.specs.declared.fault.Fault.TheVariants.{FileFull, OutOfMemory, Device}
+use Rattle.tune_pages.specs.declared.fault.Fault.TheVariants.{Closed}
+use Rattle.tune_store.specs.Plans.{changed}
+use Rattle.tune_store.specs.Stops.{HasFailed}
+use Rattle.tune_store.specs.declared.command.Refusal.{Refusal}
+use Rattle.tune_store.specs.declared.command.Refusal.TheVariants as refusal
+use Rattle.tune_store.specs.declared.plans.Change.{Change}
+use Rattle.tune_contents.specs.Holds.{LaysState}
+use Rattle.tune_contents.specs.declared.contents.Contents.{Contents}
+use Rattle.tune_archive.specs.Shelf.{Shelf, state_of, StandsForOneOf}
+use Rattle.tune_archive.specs.Inside.Holding.{stand_of}
+
+-- PAGES
+-- The disk as a change leaves it, whatever it answers: honesty is kept backwards, and each failure
+-- of an honest disk is counted.
+pub record CallsWhere {D T : Type 0} (honest : D → Type 0) (failures : D → ℕ)
+    (result : Result T Fault) (old new : Option D) : Type 0 where
+  pub was_honest : HonestAt honest new → HonestAt honest old
+  pub counted : MatchResult result
+      (λ _. failures_at failures new ≡ failures_at failures old)
+      (λ fault. CountsFaultWhere (HonestAt honest new) fault
+      (failures_at failures old) (failures_at failures new))
+
+-- A stop at any moment of a change that is laid leaves the pages from before it or those that it
+-- lays, which are not more than there may be.
+pub record PassesLaid (old new : DiskState) (before : Stand) (contents : Contents)
+    (change : Change) : Type 0 where
+  pub next : Stand
+  pub left : Contents
+  pub lays : LaysState before next contents left change
+  pub few : length next.pages ≤ length before.used
+  pub moments : SinceThen old new (StandsForEither before.pages next.pages)
+
+-- so does a stop at any moment of a call; or it did nothing to the disk
+abbrev pub PassesChange : DiskState → DiskState → Stand → Contents → Change → Type 0
+PassesChange old new before contents change =
+    (new ≡ old) ⊎ PassesLaid old new before contents change
+
+-- The change was laid: the pages are those of it, and a stop now leaves these alone.
+pub record HasLaid {D : Type 0} (state : D → DiskState) (old new : Kept D)
+    (contents left : Contents) (change : Change) : Type 0 where
+  pub lays : LaysState (stand_of old) (stand_of new) contents left change
+  pub few : length new.pages ≤ length old.used
+  pub rest : LeavesOnly (state_at state new.disk).now (StandsFor new.pages)
+
+-- Nothing was done: the pages and the disk are as they were.
+pub record StaysKept {D : Type 0} (honest : D → Type 0) (state : D → DiskState)
+    (old new : Kept D) : Type 0 where
+  pub same : SameKept honest old new
+  pub disk : HonestAt honest new.disk → state_at state new.disk ≡ state_at state old.disk
+
+-- THE ARCHIVE
+-- A fault of pages as a refusal.
+abbrev pub refusal_of : Fault → Refusal
+refusal_of FileFull = refusal.FileFull
+refusal_of OutOfMemory = refusal.OutOfMemory
+refusal_of Device = refusal.Device
+refusal_of Closed = refusal.Closed
+
+-- A change that was not made: there was no page or no memory for it, and the disk is as it was; or
+-- the device failed, so that it was made or was not, and the archive is closed.
+abbrev pub IsUnmadeChange : {D : Type 0} → (D → Type 0) → (D → ℕ) → (D → DiskState) → Refusal
+    → Shelf D → Shelf D → Change → Type 0
+IsUnmadeChange honest failures state why old new change =
+    (((why ≡ refusal.FileFull) ⊎ (why ≡ refusal.OutOfMemory)) × (new.closed ≡ false)
+    × (HonestAt honest new.pages.disk
+    → state_at state new.pages.disk ≡ state_at state old.pages.disk))
+    ⊎ ((why ≡ refusal.Device) × (new.closed ≡ true)
+    × (HonestAt honest new.pages.disk → (state_of state new ≡ state_of state old)
+    ⊎ (state_of state new ≡ changed change (state_of state old)))
+    × (HonestAt honest new.pages.disk
+    → HasFailed (failures_at failures old.pages.disk) (failures_at failures new.pages.disk)))
+
+-- A change was made, or was not; a stop at any moment of the call leaves the state before it or the
+-- one after it.
+pub record MakesChange {D : Type 0} (honest : D → Type 0) (failures : D → ℕ)
+    (state : D → DiskState) (result : Result (Unit {0}) Refusal) (old new : Shelf D)
+    (change : Change) : Type 0 where
+  pub was_honest : HonestAt honest new.pages.disk → HonestAt honest old.pages.disk
+  pub moments : HonestAt honest new.pages.disk
+      → SinceThen (state_at state old.pages.disk) (state_at state new.pages.disk)
+      (StandsForOneOf (state_of state old) (changed change (state_of state old)))
+  pub made : MatchResult result
+      (λ _. (new.closed ≡ false) × (HonestAt honest new.pages.disk
+      → state_of state new ≡ changed change (state_of state old)))
+      (λ refusal. IsUnmadeChange honest failures state refusal old new change)

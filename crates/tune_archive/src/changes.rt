@@ -1,0 +1,89 @@
+// A change of an archive, made on its pages.
+ghost use Rattle.std.specs.Prelude.{◌≡◌, ◌≢◌, ◌≤◌, false, length, IfOk, IfErr, OnOk};
+ghost use Rattle.tune_contents.specs.Answers.{AnswersLay};
+ghost use Rattle.tune_contents.specs.Claimed.{AreRows};
+ghost use Rattle.tune_contents.specs.Holds.{labels_in, HoldsSomeState};
+ghost use Rattle.tune_pages.specs.Kept.{HonestAt, state_at};
+ghost use Rattle.tune_pages.specs.declared.fault.Fault.TheVariants.{Device};
+ghost use Rattle.tune_store.specs.Plans.{CanChange, changed};
+ghost use Rattle.tune_store.specs.State.{IsState};
+ghost use Rattle.tune_archive.specs.Shelf.{state_of};
+ghost use Rattle.tune_archive.specs.Inside.Changing.{CallsWhere, PassesChange, HasLaid, StaysKept};
+ghost use Rattle.tune_archive.specs.Inside.Changing.{refusal_of, MakesChange};
+ghost use Rattle.tune_archive.specs.Inside.Holding.{stand_of};
+
+use crate::archive::Archive;
+use std::alloc::Global;
+use tune_contents::{Contents, lay};
+use tune_disk::Disk;
+use tune_pages::{Fault, Pages};
+use tune_store::{Change, Refusal};
+
+// The refusal that tells of a fault of pages.
+fn refusal_of(fault: Fault) -> Refusal
+    ensures { result ≡ refusal_of fault }
+{
+    match fault {
+        Fault::FileFull => Refusal::FileFull,
+        Fault::OutOfMemory => Refusal::OutOfMemory,
+        Fault::Device => Refusal::Device,
+        Fault::Closed => Refusal::Closed,
+    }
+}
+
+// Makes a change in one work, whole or not at all, and gives what is to be kept in memory then.
+fn change_pages<D: Disk>(
+    alloc: Global,
+    pages: &mut Pages<D>,
+    contents: &Contents,
+    change: Change,
+) -> Result<Contents, Fault>
+    requires open { pages.old.closed ≡ false }
+    requires possible { CanChange change
+        (labels_in contents.now.rows.items) contents.now.sets }
+    requires holds { HonestAt D.honest pages.old.disk
+        → HoldsSomeState (stand_of pages.old) contents.now }
+    requires rows { AreRows contents.now.rows.items }
+    requires few { HonestAt D.honest pages.old.disk
+        → length pages.old.pages ≤ length pages.old.used }
+    ensures calls { CallsWhere D.honest D.failures result pages.old.disk pages.new.disk }
+    ensures moments { HonestAt D.honest pages.new.disk → PassesChange
+        (state_at D.state pages.old.disk) (state_at D.state pages.new.disk) (stand_of pages.old)
+        contents.now change }
+    ensures laid { IfOk result (λ left. HonestAt D.honest pages.new.disk
+        → HasLaid D.state pages.old pages.new contents.now left change) }
+    ensures rows { IfOk result (λ left. AreRows left.rows.items) }
+    ensures marks { OnOk result (length pages.new.used ≡ length pages.old.used) }
+    ensures stays { IfErr result (λ fault. fault ≢ Device
+        → StaysKept D.honest D.state pages.old pages.new) }
+    ensures answer { AnswersLay result pages.new.closed }
+{
+    let mut work = pages.begin()?;
+    let left = lay(alloc, pages, &mut work, contents, change)?;
+    pages.finish(work)?;
+    Ok(left)
+}
+
+impl<D: Disk> Archive<D> {
+    // Makes a change, whole or not at all. It closes the archive where the device failed.
+    pub(crate) fn make_change(&mut self, change: Change) -> Result<(), Refusal>
+        requires open { self.old.closed ≡ false }
+        requires possible { CanChange change
+            (labels_in self.old.contents.rows.items) self.old.contents.sets }
+        requires within { HonestAt D.honest self.old.pages.disk
+            → IsState (changed change (state_of D.state self.old)) }
+        ensures { MakesChange D.honest D.failures D.state result self.old self.new change }
+    {
+        self.fetched = None;
+        match change_pages(self.alloc, &mut self.pages, &self.contents, change) {
+            Ok(contents) => {
+                self.contents = contents;
+                Ok(())
+            }
+            Err(fault) => {
+                self.closed = fault == Fault::Device;
+                Err(refusal_of(fault))
+            }
+        }
+    }
+}

@@ -1,0 +1,62 @@
+// An archive in a file as a store of tunes.
+ghost use Rattle.tune_archive.specs.Inside.Holding.{IsShelf};
+
+use crate::archive::Archive;
+use tune_disk::Disk;
+use tune_store::{Command, Plan, Refusal, Reply, TuneStore, decide};
+
+impl<D: Disk> Archive<D> {
+    // What always holds of an archive. It does nothing.
+    fn holds(&self)
+        ensures { IsShelf D.honest D.state self.now.pages self.now.contents self.now.closed }
+    {
+        let _closed = self.closed;
+    }
+}
+
+impl<D: Disk> TuneStore for Archive<D> {
+    ghost use Rattle.tune_pages.specs.Kept.{HonestAt, state_at, failures_at};
+    ghost use Rattle.tune_format.specs.States.{StandsForState};
+    ghost use Rattle.tune_archive.specs.Media.{LeftFrom, moment_of};
+    ghost use Rattle.tune_archive.specs.Shelf.{state_of, IsSound};
+    ghost use Rattle.tune_archive.specs.Inside.Media.{left_now, left_before};
+
+    ghost state = { state_of D.Disk.state };
+
+    ghost closed = { λ archive. archive.closed };
+
+    ghost honest = { λ archive. HonestAt D.Disk.honest archive.pages.disk };
+
+    ghost sound = { IsSound D.Disk.honest D.Disk.state };
+
+    ghost failures = { λ archive. failures_at D.Disk.failures archive.pages.disk };
+
+    ghost moment = { λ archive. moment_of (state_at D.Disk.state archive.pages.disk) };
+
+    ghost left_since = { λ archive. LeftFrom (state_at D.Disk.state archive.pages.disk) };
+
+    ghost stands_for = { StandsForState };
+
+    ghost settled = { λ archive file sound honest is_open left. sound.rest honest is_open file
+        (left_now (state_at D.Disk.state archive.pages.disk) file left) };
+
+    ghost within = { λ archive sound honest. sound.within honest };
+
+    ghost since_earlier = { λ archive since earlier file le left.
+        left_before (state_at D.Disk.state archive.pages.disk) since earlier file le left };
+
+    fn apply(&mut self, command: &Command) -> Result<Reply, Refusal> {
+        if self.closed {
+            return Err(Refusal::Closed);
+        }
+        let decided = decide(self.alloc, self, command);
+        self.holds();
+        let Plan { change, reply } = decided?;
+        if let Some(change) = change {
+            let made = self.make_change(change);
+            self.holds();
+            made?;
+        }
+        Ok(reply)
+    }
+}
