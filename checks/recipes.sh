@@ -287,6 +287,66 @@ printf '%%abc-2.1\n%% set friday\n\nX:1\nK:C\n' > "$work/wanted"
 same friday.abc "$work/wanted"
 end
 
+begin 'an archive in a file'
+cp "$book" mine.abc
+run file
+ends_with 0
+says 'made
+ok import 1 15
+layout 1 tunes 15 sets 0'
+has 'mine.abc tunes.abcx'
+echo export | ./tunes run tunes.abcx | sed 1d > book.abc
+same book.abc "$export"
+end
+
+begin 'the bytes of an archive of one tune'
+./tunes make tunes.abcx > "$work/out"
+./tunes run tunes.abcx < examples/kesh-jig.script > "$work/out" 2> "$work/err"
+status=$?
+ends_with 0
+# Three pages, the root, the list and the tune, and a log of three entries behind them.
+[ "$(wc -c < tunes.abcx)" -eq 40972 ] || wrong 'the file is not as long as it should be'
+root_front=$(od -An -tx1 -j16384 -N4 tunes.abcx)
+[ "$root_front" = ' 00 00 00 66' ] || wrong "page 0 begins with$root_front"
+end
+
+begin 'an archive that was made before'
+cp "$book" mine.abc
+./tunes make tunes.abcx > "$work/out"
+run file
+ends_with 0
+says 'refused 42 NotEmpty
+ok import 1 15
+layout 1 tunes 15 sets 0'
+end
+
+begin 'a file that is no archive'
+cp "$book" mine.abc
+./tunes check mine.abc > "$work/out" 2> "$work/err"
+status=$?
+ends_with 3
+says 'refused 40 NotArchive'
+same mine.abc "$book"
+end
+
+begin 'an archive that is cut'
+cp "$book" mine.abc
+./tunes make tunes.abcx > "$work/out"
+head -c 20479 tunes.abcx > cut.abcx
+echo export | ./tunes run cut.abcx > "$work/out" 2> "$work/err"
+status=$?
+ends_with 3
+says 'refused 41 Damaged'
+end
+
+begin 'an archive that is not there'
+./tunes check tunes.abcx > "$work/out" 2> "$work/err"
+status=$?
+ends_with 1
+says 'refused 22 Device'
+has ''
+end
+
 begin 'a book of fifteen tunes'
 run session
 ends_with 0

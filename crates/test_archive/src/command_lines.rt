@@ -57,6 +57,40 @@ fn reads_the_words_of_the_program(rt: HostRuntime) -> Result<(), Fail> {
     Ok(())
 }
 
+// The action that these words ask for, as text.
+fn asked(alloc: Global, given: &[&str]) -> Result<String, Fail> {
+    let words = words(alloc, given)?;
+    match action(alloc, words.as_slice()) {
+        Ok(action) => Ok(format!(in alloc; "{action:?}")?),
+        Err(_) => Err(Fail::from("no action")),
+    }
+}
+
+#[test]
+fn reads_the_file_of_a_subcommand(rt: HostRuntime) -> Result<(), Fail> {
+    for (given, wanted) in [
+        (["tunes", "make", "a.tunes"].as_slice(), "Make(\"a.tunes\")"),
+        (&["tunes", "run", "my tunes"], "Run(\"my tunes\")"),
+        (&["tunes", "check", "-"], "Check(\"-\")"),
+        (&["tunes", "check", "--", "--help"], "Check(\"--help\")"),
+        (&["tunes", "make", ""], "Make(\"\")"),
+    ] {
+        assert_eq!(&rt; asked(rt.alloc(), given)?.as_str(), wanted);
+    }
+    for (given, wanted) in [
+        (
+            ["tunes", "make"].as_slice(),
+            ErrorKind::MissingRequiredArgument,
+        ),
+        (&["tunes", "run", "a", "b"], ErrorKind::UnknownArgument),
+        (&["tunes", "check", "-x"], ErrorKind::UnknownArgument),
+        (&["tunes", "run", "-h"], ErrorKind::DisplayHelp),
+    ] {
+        assert_eq!(&rt; fault(rt.alloc(), given)?, Some(wanted));
+    }
+    Ok(())
+}
+
 // What was printed, and on which of the two streams.
 #[derive(Drop)]
 struct Screen {
@@ -142,6 +176,11 @@ fn reports_why_words_ask_for_nothing(rt: HostRuntime) -> Result<(), Fail> {
         reported(rt.alloc(), &["tunes", "list", "--help"])?,
         (0, true, false)
     );
+    assert_eq!(&rt;
+        reported(rt.alloc(), &["tunes", "make", "--help"])?,
+        (0, false, false)
+    );
+    assert_eq!(&rt; reported(rt.alloc(), &["tunes", "make"])?, (2, false, true));
     assert_eq!(&rt; reported(rt.alloc(), &["tunes"])?, (2, false, true));
     assert_eq!(&rt;
         reported(rt.alloc(), &["tunes", "lists"])?,

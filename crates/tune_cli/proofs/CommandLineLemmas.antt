@@ -1,18 +1,50 @@
--- The program's command line.
-use Rattle.std.proofs.Common.{◌≡◌, ap, ◌∙◌, false, Result, Ok, Err, codes}
-use Rattle.std.specs.Prelude.{IfOk}
+-- The program's command line, and the subcommands that its words can name.
+use Rattle.std.proofs.Common.{◌≡◌, ap, ◌∙◌, refl, Bool, true, false, cond, inl, inr, List, [], ◌∷◌, Option, Some, None, option_map, find}
+use Rattle.std.specs.Prelude.{⊤, IfSome}
 use Rattle.clap.specs.declared.builder.command.Command.{Command}
 use Rattle.clap.specs.declared.builder.command.Command.TheViews.{out-Command}
-use Rattle.clap.specs.Simple.{App, app_of, shape_of, new_app, with_subcommand}
+use Rattle.clap.specs.Walk.{Text, answers_to, stop_after}
+use Rattle.clap.specs.Simple.{App, Shape, app_of, argument_words, built, entered, label_of, names_of, rows_at, shape_of, with_subcommand}
 use Rattle.clap.specs.Built.{AddsSubcommand}
-use Rattle.tune_cli.specs.CommandLine.{tunes_alone, tunes_app}
+use Rattle.tune_cli.specs.CommandLine.{tunes_app, subcommand_in}
+use Rattle.tune_cli.specs.Inside.Subcommands.{IsSubcommand}
 
--- one subcommand is added
-pub app_of_tunes : {E : Type 0} (top list : Command) (result : Result Command E) → app_of top ≡ tunes_alone
-    → app_of list ≡ new_app (codes "list") → (out-Command list).has_globals ≡ false
-    → IfOk result (λ command. AddsSubcommand top list command) → IfOk result (λ command. app_of command ≡ tunes_app)
-app_of_tunes top list (Ok command) of_top of_list local adds =
+-- one subcommand more
+pub app_of_more : (top sub new : Command) (app more : App) → app_of top ≡ app → app_of sub ≡ more → (out-Command sub).has_globals ≡ false
+    → AddsSubcommand top sub new → app_of new ≡ with_subcommand app more.top
+app_of_more top sub new app more of_top of_sub local adds =
     adds.shape local
-    ∙ ap (λ app. with_subcommand app (shape_of list)) of_top
-    ∙ ap (λ (app : App). with_subcommand tunes_alone app.top) of_list
-app_of_tunes top list (Err e) of_top of_list local adds = tt
+    ∙ ap (λ a. with_subcommand a (shape_of sub)) of_top
+    ∙ ap (λ (a : App). with_subcommand app a.top) of_sub
+
+abbrev pub EachIs : (Shape → Type 0) → List Shape → Type 0
+EachIs P [] = ⊤
+EachIs P (s ∷ rest) = P s × EachIs P rest
+
+pub found : (P : Shape → Type 0) (test : Shape → Bool) (subs : List Shape) → EachIs P subs → IfSome (find test subs) P
+found P test [] each = tt
+found P test (s ∷ rest) each = go (test s) (find test rest) (found P test rest each.1)
+  where
+    go : (b : Bool) (o : Option Shape) → IfSome o P → IfSome (cond b (Some s) o) P
+    go true o later = each.0
+    go false o later = later
+
+abbrev HasKnownName : Shape → Type 0
+HasKnownName s = IsSubcommand s.name
+
+four : EachIs HasKnownName (built tunes_app).subs
+four = (inl refl, (inr (inl refl), (inr (inr (inl refl)), (inr (inr (inr refl)), tt))))
+
+-- a subcommand in the words is one of the four
+pub one_of_four : (words : List Text) → IfSome (subcommand_in words) IsSubcommand
+one_of_four words = at (stop_after (built tunes_app).top.rules (names_of (built tunes_app)) (argument_words tunes_app words))
+  where
+    named : (o : Option Shape) (rest : List Text) → IfSome o HasKnownName → IfSome (option_map (λ p. p.0) (option_map (λ s. rows_at s rest) o)) IsSubcommand
+    named None rest is = tt
+    named (Some s) rest is = is
+
+    at : (stop : Option (Text × List Text)) → IfSome (option_map (λ p. p.0) (entered (built tunes_app) stop)) IsSubcommand
+    at None = tt
+    at (Some p) =
+        let test : Shape → Bool = λ s. answers_to p.0 (label_of s) in
+        named (find test (built tunes_app).subs) p.1 (found HasKnownName test (built tunes_app).subs four)

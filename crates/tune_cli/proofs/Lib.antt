@@ -1,1 +1,5 @@
 pub mod CommandLineLemmas
+mod Examples
+pub mod FileGiven
+pub mod MediaLemmas
+pub mod ParseLemmas

@@ -1,12 +1,17 @@
 -- What the program does for an action, and its status.
-use Rattle.std.specs.Prelude.{◌≡◌, ℕ, List, Option}
+use Rattle.std.specs.Prelude.{◌≡◌, ◌⊎◌, ℕ, List, Option}
+use Rattle.tune_disk.specs.Disk.{DiskState}
+use Rattle.tune_journal.specs.declared.open_fault.OpenFault.TheVariants.{Device}
 use Rattle.tune_store.specs.State.{State, empty_state}
 use Rattle.tune_store.specs.Answers.{open_at}
 use Rattle.tune_store.specs.Runs.{Answered, Runs}
+use Rattle.tune_store.specs.declared.tune_store.TuneStore as store
+use Rattle.tune_archive.specs.Shelf.{Shelf}
 use Rattle.tune_scripts.specs.Limits.{most_lines}
 use Rattle.tune_scripts.specs.ScriptRuns.{Work, TellsScript, IsOtherEnd}
 use Rattle.tune_scripts.specs.declared.runs.RunEnd.{RunEnd}
-use Rattle.tune_scripts.specs.declared.runs.RunEnd.TheVariants.{Ended}
+use Rattle.tune_cli.specs.FileActs.{Makes, Checks, RunsOn}
+use Rattle.tune_cli.specs.Lines.{WritesLine, reason_bytes, status_of}
 use Rattle.tune_cli.specs.declared.command_line.Action.{Action}
 use Rattle.tune_cli.specs.declared.command_line.Action.TheVariants as action
 
@@ -19,11 +24,6 @@ work_in_memory was now run state = record {
   before = open_at empty_state;
   after = open_at state;
 }
-
--- 0 where the script was run to its end
-abbrev pub status_of : RunEnd → ℕ
-status_of Ended = 0
-status_of _ = 1
 
 -- A script was run from an empty archive, and the status tells how the run ended. One list of
 -- commands is spoken of, and of every reader: the archive carried them out one after another, each
@@ -38,7 +38,24 @@ pub record ListsScript (input left was now : Option (List ℕ)) (status : ℕ) :
   pub no_fault : IsOtherEnd end
   pub output : TellsScript most_lines input left (work_in_memory was now run state) end
 
--- what an action does with the input and the output, and the status that it gives
-abbrev pub Acts : Action → Option (List ℕ) → Option (List ℕ) → Option (List ℕ) → Option (List ℕ)
-    → ℕ → Type 0
-Acts action.List input left was now status = ListsScript input left was now status
+-- A file was opened as a disk, and this was done on it, from one disk to another; or it could not
+-- be opened, and that was written.
+abbrev pub OnFile : {D : Type 0} → (D → Type 0) → (D → D → Type 0) → Option (List ℕ)
+    → Option (List ℕ) → ℕ → Type 0
+OnFile {D} IsOpened Does was now status = ((old new : D) × IsOpened old × Does old new)
+    ⊎ WritesLine was now (reason_bytes Device) 1 status
+
+-- What an action does with the input and the output, and the status that it gives. That of a file
+-- is said of the disk that stands for the file, by what the system answered.
+abbrev pub Acts : {D : Type 0} → (D → Type 0) → store.Ghosts (Shelf D) → (D → Type 0)
+    → (D → DiskState) → Action → Option (List ℕ) → Option (List ℕ) → Option (List ℕ)
+    → Option (List ℕ) → ℕ → Type 0
+Acts IsOpened kept honest state action.List input left was now status =
+    ListsScript input left was now status
+Acts IsOpened kept honest state (action.Make file) input left was now status =
+    OnFile IsOpened (λ old new. Makes honest state was now old new status) was now status
+Acts IsOpened kept honest state (action.Run file) input left was now status =
+    OnFile IsOpened (λ old new. RunsOn kept honest state input left was now old new status)
+    was now status
+Acts IsOpened kept honest state (action.Check file) input left was now status =
+    OnFile IsOpened (λ old new. Checks honest state was now old new status) was now status

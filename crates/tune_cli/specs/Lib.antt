@@ -1,2 +1,5 @@
-pub mod CommandLine
 pub mod Acts
+pub mod CommandLine
+pub mod FileActs
+pub mod Inside
+pub mod Lines

@@ -1,26 +1,41 @@
 // What the words of the program ask for, and the answer to it.
-ghost use Rattle.std.specs.Prelude.{◌≡◌, [], Some, IfOk, IfErr, IsOk, map, string_bytes};
+ghost use Rattle.std.specs.Prelude.{◌≡◌, [], Some, IfOk, IfErr, IfSome, IsOk, map, string_bytes};
+ghost use Rattle.std.specs.Prelude.{◌≢◌, ◌⊎◌, codes, None, option_map, false};
 ghost use Rattle.clap.specs.Words.{app_of};
-ghost use Rattle.tune_cli.specs.CommandLine.{tunes_app, subcommand_in, name_of};
+ghost use Rattle.clap.specs.declared.builder.command.Command.TheViews.{out-Command};
+ghost use Rattle.tune_cli.specs.CommandLine.{tunes_app, file_app, subcommand_in, name_of};
+ghost use Rattle.tune_cli.specs.CommandLine.{file_in, file_of, IsOutOfMemory};
+ghost use Rattle.tune_cli.specs.Inside.Subcommands.{IsSubcommand};
+ghost use Rattle.tune_disk.specs.FileDisk.{HasJustOpened};
+ghost use Rattle.tune_cli.specs.Acts.{Acts, ListsScript};
+ghost use Rattle.tune_cli.specs.Lines.{status_of};
+ghost use Rattle.tune_cli.specs.declared.command_line.WordsFault.TheVariants.{Missing};
 ghost use Rattle.tune_cli.specs.CommandLine.{faults_in, FaultFits, status_of_fault};
-ghost use Rattle.tune_cli.specs.Acts.{Acts, status_of};
 
 use crate::command_line::{Action, VERSION, WordsFault};
-use clap::Command;
+use crate::file_actions::{check_on, make_on, run_on, say_reason};
 use clap::error::ErrorKind;
+use clap::{Arg, Command};
 use std::alloc::{AllocError, Global};
+use std::fs::{File, Files};
 use std::io;
 use std::io::{Read, Write};
+use tune_archive::{Archive, TuneStore};
+use tune_disk::{DeviceFault, Disk, FileDisk};
+use tune_journal::OpenFault;
 use tune_scripts::{RunEnd, run};
 use tune_store::ListArchive;
 
 /// What the words of the program ask for, its name being the first of them.
 ///
 /// The error is `Clap` where the words do not parse, where help or the version is asked for, and
-/// out of memory; it is `Missing` where they parse and have no subcommand.
+/// out of memory; it is `Missing` where they parse and have no subcommand. Words that parse, and
+/// have a subcommand on a file, have a FILE: `Missing` never stands for one that is not there.
 pub fn action(alloc: Global, words: &[String]) -> Result<Action, WordsFault>
     ensures subcommand { let given = map string_bytes words.entry.now in
         IfOk result (λ action. subcommand_in given ≡ Some (name_of action)) }
+    ensures file { let given = map string_bytes words.entry.now in
+        IfOk result (λ action. IfSome (file_of action) (λ file. file_in given ≡ Some file)) }
     ensures parsed { IfOk result (λ _. faults_in (map string_bytes words.entry.now) ≡ []) }
     ensures fault { IfErr result (FaultFits (map string_bytes words.entry.now)) }
 {
@@ -30,7 +45,25 @@ pub fn action(alloc: Global, words: &[String]) -> Result<Action, WordsFault>
     };
     match matches.subcommand() {
         None => Err(WordsFault::Missing),
-        Some(_) => Ok(Action::List),
+        Some((name, found)) => asked(alloc, name, found.get_str("FILE")),
+    }
+}
+
+// What a subcommand asks for, with the FILE that was given to it.
+fn asked(alloc: Global, name: &str, file: Option<&str>) -> Result<Action, WordsFault>
+    requires { IsSubcommand name.now }
+    ensures name { IfOk result (λ action. name_of action ≡ name.now) }
+    ensures file { IfOk result (λ action.
+        IfSome (file_of action) (λ path. option_map (λ given. given.now) file.entry ≡ Some path)) }
+    ensures fault { IfErr result (λ fault. IsOutOfMemory fault
+        ⊎ ((fault ≡ Missing) × (name.now ≢ codes "list") × (file.entry ≡ None))) }
+{
+    match (name, file) {
+        ("list", _) => Ok(Action::List),
+        ("make", Some(file)) => Ok(Action::Make(String::from_str(alloc, file)?)),
+        ("run", Some(file)) => Ok(Action::Run(String::from_str(alloc, file)?)),
+        ("check", Some(file)) => Ok(Action::Check(String::from_str(alloc, file)?)),
+        _ => Err(WordsFault::Missing),
     }
 }
 
@@ -41,11 +74,32 @@ fn command_line<'a>(alloc: Global) -> Result<Command<'a>, AllocError>
     let list = Command::new(alloc, "list").about(
         "Runs the script of standard input on an empty archive in memory",
     );
+    let make = file_command(alloc, "make", "Makes an empty archive in FILE")?;
+    let run = file_command(
+        alloc,
+        "run",
+        "Runs the script of standard input on the archive in FILE",
+    )?;
+    let check = file_command(alloc, "check", "Tells how much the archive in FILE holds")?;
     Command::new(alloc, "tunes")
         .about("An archive of tunes in ABC notation")
         .version(VERSION)
         .disable_help_subcommand(true)
-        .subcommand(list)
+        .subcommand(list)?
+        .subcommand(make)?
+        .subcommand(run)?
+        .subcommand(check)
+}
+
+// A subcommand on a file.
+fn file_command<'a>(alloc: Global, name: &'a str, about: &'a str) -> Result<Command<'a>, AllocError>
+    ensures app { IfOk result (λ command. app_of command ≡ file_app name.now) }
+    ensures local { IfOk result (λ command. (out-Command command).has_globals ≡ false) }
+{
+    let file = Arg::new(alloc, "FILE")
+        .help("The path of the archive")
+        .required(true);
+    Command::new(alloc, name).about(about).arg(file)
 }
 
 /// Prints why words ask for nothing, and gives the status: help and the version, on standard
@@ -75,27 +129,49 @@ pub fn report<T: Print + Eprint>(rt: &T, fault: &WordsFault) -> io::Result<u8>
     }
 }
 
-/// Does what is asked, and gives the status: 0 where the script was run to its end, and else 1.
+/// Does what is asked, and gives the status: 0 where it was done, and a script run to its end; 3
+/// where no archive stands in the file, or a file that is to be made has bytes; and else 1. A file
+/// that cannot be opened or made is answered `refused 22 Device`.
 ///
 /// What the clause says of the commands that are carried out, of the device and of the status holds
 /// of every reader. That they are those of the input, and what is written, is said of a reader that
-/// tells its bytes. Standard input tells none.
-pub fn act<R: Read, W: Write, T: AllocGlobal>(
+/// tells its bytes. Standard input tells none. Of a file it says what `make_on`, `run_on` and
+/// `check_on` say of the disk that stands for it.
+pub fn act<R: Read, W: Write, T: AllocGlobal + Files<File = File>>(
     rt: &T,
     action: &Action,
     reader: &mut R,
     writer: &mut W,
 ) -> u8
-    ensures { Acts action.now (R.remaining reader.old) (R.remaining reader.new)
-        (W.contents writer.old) (W.contents writer.new) result }
+    ensures { let kept = ⟦<Archive<FileDisk> as TuneStore>⟧ in let disk = ⟦<FileDisk as Disk>⟧ in
+        Acts HasJustOpened kept disk.honest disk.state action.now (R.remaining reader.old)
+        (R.remaining reader.new) (W.contents writer.old) (W.contents writer.new) result }
 {
     match action {
-        Action::List => {
-            let mut archive = ListArchive::new(rt.alloc());
-            let end = run(rt.alloc(), reader, writer, &mut archive);
-            status(end)
-        }
+        Action::List => list(rt.alloc(), reader, writer),
+        Action::Make(file) => match FileDisk::create(rt, file.as_str()) {
+            Ok(disk) => make_on(rt.alloc(), writer, disk).status,
+            Err(DeviceFault) => say_reason(writer, OpenFault::Device),
+        },
+        Action::Run(file) => match FileDisk::open(rt, file.as_str()) {
+            Ok(disk) => run_on(rt.alloc(), reader, writer, disk).status,
+            Err(DeviceFault) => say_reason(writer, OpenFault::Device),
+        },
+        Action::Check(file) => match FileDisk::open(rt, file.as_str()) {
+            Ok(disk) => check_on(rt.alloc(), writer, disk).status,
+            Err(DeviceFault) => say_reason(writer, OpenFault::Device),
+        },
     }
+}
+
+// Runs the script of the reader on an empty archive in memory.
+fn list<R: Read, W: Write>(alloc: Global, reader: &mut R, writer: &mut W) -> u8
+    ensures { ListsScript (R.remaining reader.old) (R.remaining reader.new)
+        (W.contents writer.old) (W.contents writer.new) result }
+{
+    let mut archive = ListArchive::new(alloc);
+    let end = run(alloc, reader, writer, &mut archive);
+    status(end)
 }
 
 /// The status that tells how a run ended: 0 at the input's end, and else 1.

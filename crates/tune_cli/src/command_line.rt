@@ -5,11 +5,17 @@ use std::alloc::AllocError;
 /// The version of the program: `tunes --version` prints it.
 pub const VERSION: &str = "0.1.0";
 
-/// What the program is asked to do.
-#[derive(Clone, Copy, Debug, PartialEq, Eq)]
+/// What the program is asked to do. A file is named by its path, taken as it stands.
+#[derive(Debug, PartialEq, Eq, Drop)]
 pub enum Action {
     /// Run a script on an empty archive in memory.
     List,
+    /// Make an empty archive in this file.
+    Make(String),
+    /// Run a script on the archive in this file.
+    Run(String),
+    /// Open the archive in this file, and tell how much it holds.
+    Check(String),
 }
 
 /// Why words ask for nothing.
@@ -18,7 +24,7 @@ pub enum WordsFault {
     /// The words do not parse, help or the version was asked for, or out of memory: the error tells
     /// which, and has a text to print.
     Clap(Error),
-    /// They parse, and have no subcommand.
+    /// They parse, and have no subcommand. (A subcommand on a file does not parse without a FILE.)
     Missing,
 }
 

@@ -246,6 +246,16 @@ module _ {S : Type 0} (s : Ghosts S) where
             (stays_open next.answer) refl later
       ]
 
+  -- what stops leave since a moment before the run, by what they left of the store before it
+  pub left_since_earlier : (carried : List (Carried S)) (old new : S) (since : ℕ) (file : List ℕ) → CarriesOut s old carried new → s.sound old
+      → s.honest new → s.closed old ≡ false → since ≤ s.moment old → (s.left_since old since file → s.stands_for file (s.state old))
+      → s.left_since new since file → StandsForPrefix s.stands_for (s.state old) [] (run_of carried) file
+  left_since_earlier carried old new since file h sound honest is_open early before left =
+      stands_for_prefix carried old new file h is_open (elim ((passes_all carried old new h).leaves sound honest since file early left) [
+        | inl was_left ↦ inl (before was_left)
+        | inr one ↦ one
+      ])
+
   -- after a front of the commands
   pub carries_split : (a b : List (Carried S)) (old new : S) → CarriesOut s old (a ++ b) new
       → (mid : S) × CarriesOut s old a mid × CarriesOut s mid b new
@@ -273,10 +283,8 @@ module _ {S : Type 0} (s : Ghosts S) where
     left_since_start carried old new file h sound honest is_open left =
         let early : s.moment old ≤ s.moment old = omega arith in
         let honest_old = honest_before carried old new h honest in
-        stands_for_prefix carried old new file h is_open (elim ((passes_all carried old new h).leaves sound honest (s.moment old) file early left) [
-          | inl was_left ↦ inl (settled old file sound honest_old is_open was_left)
-          | inr one ↦ one
-        ])
+        left_since_earlier carried old new (s.moment old) file h sound honest is_open early
+        (λ was_left. settled old file sound honest_old is_open was_left) left
 
     -- since some of its commands were answered
     left_since_answer : (done rest : List (Carried S)) (old new : S) (file : List ℕ) → CarriesOut s old (done ++ rest) new → s.sound old → s.honest new

@@ -1,7 +1,9 @@
-//! The program `tunes`, which keeps tunes in ABC notation: `tunes list` runs the script of standard
-//! input on an empty archive in memory.
+//! The program `tunes`, which keeps tunes in ABC notation: `tunes make FILE` makes an empty archive
+//! in a file, `tunes run FILE` runs the script of standard input on it, and `tunes check FILE`
+//! tells how much it holds; `tunes list` runs the script on an empty archive in memory.
 #![tactic(auto)]
 
+use std::fs::{File, Files};
 use std::io::{BufReader, BufWriter};
 use std::process::ExitCode;
 use std::rt::Runtime;
@@ -35,7 +37,7 @@ fn main(rt: HostRuntime) -> io::Result<ExitCode> {
 }
 
 // Reads the words of the command, does what they ask for, and gives the status.
-fn start<R: Runtime + AllocGlobal>(rt: &R) -> io::Result<u8> {
+fn start<R: Runtime + AllocGlobal + Files<File = File>>(rt: &R) -> io::Result<u8> {
     let words: Vec<String> = env::args(rt)?.collect(rt.alloc())?;
     match action(rt.alloc(), words.as_slice()) {
         Ok(action) => perform(rt, &action),
@@ -43,8 +45,11 @@ fn start<R: Runtime + AllocGlobal>(rt: &R) -> io::Result<u8> {
     }
 }
 
-// Does what is asked, over standard input and output.
-fn perform<R: Runtime + AllocGlobal>(rt: &R, action: &Action) -> io::Result<u8> {
+// Does what is asked, over standard input and output, and files.
+fn perform<R: Runtime + AllocGlobal + Files<File = File>>(
+    rt: &R,
+    action: &Action,
+) -> io::Result<u8> {
     let mut reader = BufReader::with_capacity(rt.alloc(), BUFFER, rt.reader())?;
     let mut writer = BufWriter::with_capacity(rt.alloc(), BUFFER, io::writer(rt))?;
     Ok(act(rt, action, &mut reader, &mut writer))

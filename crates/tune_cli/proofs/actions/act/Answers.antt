@@ -1,41 +1,23 @@
-use Rattle.std.proofs.Common.{List, Option, ℕ, refl, subst}
-use Rattle.tune_store.specs.State.{State}
-use Rattle.tune_store.specs.Answers.{open_at}
-use Rattle.tune_store.specs.Runs.{Runs}
-use Rattle.tune_scripts.specs.Carried.{run_of}
-use Rattle.tune_scripts.specs.Limits.{most_lines}
-use Rattle.tune_scripts.specs.ScriptRuns.{TellsScript}
-use Rattle.tune_scripts.proofs.CarriedLemmas.{runs_carried, acknowledged_open, ends_otherwise}
+use Rattle.std.proofs.Common.{◌≡◌, List, Option, ℕ, inl, sym, subst}
+use Rattle.tune_disk.specs.Disk.{DiskState}
+use Rattle.tune_store.specs.declared.tune_store.TuneStore as store
+use Rattle.tune_archive.specs.Shelf.{Shelf}
 use Rattle.tune_cli.specs.declared.command_line.Action.{Action}
 use Rattle.tune_cli.specs.declared.command_line.Action.TheVariants as action
-use Rattle.tune_cli.specs.Acts.{Acts, ListsScript, work_in_memory}
+use Rattle.tune_cli.specs.Acts.{Acts, OnFile}
+use Rattle.tune_cli.specs.FileActs.{RunsOn}
 use Rattle.tune_cli.proofs.actions.act.Goals as goal
 
--- each action is to run a script
-acts_list : (action : Action) (input left was now : Option (List ℕ)) (status : ℕ)
-    → ListsScript input left was now status → Acts action input left was now status
-acts_list action.List input left was now status lists = lists
+-- an action that runs a script on a file
+acts_run : {D : Type 0} (IsOpened : D → Type 0) (kept : store.Ghosts (Shelf D)) (honest : D → Type 0) (state : D → DiskState) (asked : Action)
+    (input left was now : Option (List ℕ)) (status : ℕ) (file : _) → asked ≡ action.Run file
+    → OnFile IsOpened (λ old new. RunsOn kept honest state input left was now old new status) was now status
+    → Acts IsOpened kept honest state asked input left was now status
+acts_run IsOpened kept honest state asked input left was now status file is runs =
+    subst (λ (a : Action). Acts IsOpened kept honest state a input left was now status) (sym is) runs
 
-pub returns : goal.returns
-returns g c =
-    let input = g.R.Read.remaining c.args.reader.now in
-    let left = g.R.Read.remaining c.run-end.new.reader in
-    let was = g.W.Write.contents c.args.writer.now in
-    let now = g.W.Write.contents c.run-end.new.writer in
-    let end = c.run-end.result in
-    let archive = c.run-end.new.store in
-    let runs = c.run-end.ensures.runs tt in
-    let run = run_of runs.carried in
-    let Output : State → Type 0 = λ start.
-    TellsScript most_lines input left (record (work_in_memory was now run archive) { before = open_at start }) end in
-    let From : State → Type 0 = λ start. Runs (open_at start) run (open_at archive) in
-    let empty = c.new-archive.ensures.empty in
-    acts_list c.args.action.now input left was now c.status.result record {
-      end = end;
-      run = run;
-      state = archive;
-      ends = c.status.ensures;
-      carries_out = subst From empty (runs_carried _ runs.carried _ _ runs.carries_out);
-      no_fault = ends_otherwise end run runs.ends (acknowledged_open _ (λ store. refl) runs.carried _ _ runs.carries_out);
-      output = subst Output empty runs.script;
-    }
+pub returns-in-Ok-open : goal.returns-in-Ok-open
+returns-in-Ok-open g c =
+    acts_run _ _ _ _ c.args.action.now (g.R.Read.remaining c.args.reader.now) (g.R.Read.remaining c.run_on.new.reader)
+    (g.W.Write.contents c.args.writer.now) (g.W.Write.contents c.run_on.new.writer) c.run_on.result.status c.in-Run.file c.in-Run.is
+    (inl (c.in-Ok-open.disk, c.run_on.result.disk, c.in-Ok-open.ensures, c.run_on.ensures.runs))

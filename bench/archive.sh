@@ -1,0 +1,269 @@
+#!/usr/bin/env bash
+# Usage: bench/archive.sh [FOLDER [RUNS [TUNES [EXECUTABLE]]]]
+# Times the program on an archive in a file, in the folder, against the same calls of the disk from
+# C: one import of 20,000 tunes to a new file; over a file of these an opening, an export to a pipe,
+# and 1,000 shows; and over a file of 19,500, since 20,000 is the most, 500 imports of one tune
+# each. 5 runs of each by turns, the file's bytes in the system's cache. A time of the program is
+# that of its whole run, with its start and the opening; of C it is that of the calls alone. Prints
+# milliseconds, the least and the middle of each, and how the program's compare with C's; the same
+# part in memory, by `list`, less the import before it; what is wanted; and the calls of each part.
+# Without strace no calls are known, and C has none to make. Of fewer tunes all counts are in
+# proportion, and nothing is wanted.
+set -u
+root=$(CDPATH='' cd -- "$(dirname -- "$0")/.." && pwd) || exit 1
+folder=${1:-$root/bench/work}
+runs=${2:-5}
+tunes=${3:-20000}
+program=${4:-$root/crates/tunes/out/tunes}
+singles=$((tunes / 40))
+shows=$((tunes / 20))
+work=$root/bench/work
+parts='import imports check export shows'
+if [ ! -x "$program" ]; then
+    echo "no program at $program: build it by ./tunes list < /dev/null" >&2
+    exit 1
+fi
+mkdir -p "$work" "$folder" || exit 1
+cc -O2 -o "$work/archive_c" "$root/bench/archive.c" || exit 1
+export LC_ALL=C
+new=$folder/bench_archive.new
+most=$folder/bench_archive.most
+full=$folder/bench_archive.full
+changed=$folder/bench_archive.tunes
+trap 'rm -f "$new" "$most" "$full" "$changed"' EXIT
+
+fail() {
+    echo "$1" >&2
+    exit 1
+}
+
+# Prints the commands of a part; those of `most` are one import of all tunes but 500. The tunes are
+# those of bench/questions.sh.
+make() {
+    awk -v what="$1" -v tunes="$tunes" -v singles="$singles" -v shows="$shows" '
+        function body(n,    s) {
+            s = sprintf("T:The Tune %05d\nT:Name %05d\nR:%s\nM:4/4\nL:1/8\nK:%s\n", n, 20001 - n,
+                n % 10 ? "reel" : "jig", n % 20 ? "G" : "Edor")
+            return s (n % 40 ? "GABc" : "GdGd") " dedB|c2ec B2dB|\nGABc dedB|c2ec B2dB|\n"
+        }
+        function import(first, last,    n, size) {
+            for (n = first; n <= last; n++) size += length("X:1\n" body(n) "\n")
+            print "import " size
+            for (n = first; n <= last; n++) printf "X:1\n%s\n", body(n)
+        }
+        BEGIN {
+            if (what == "import") import(1, tunes)
+            if (what == "most") import(1, tunes - singles)
+            if (what == "imports") for (n = tunes - singles + 1; n <= tunes; n++) import(n, n)
+            if (what == "export") print "export"
+            if (what == "shows") for (i = 0; i < shows; i++) print "show " i * 7919 % tunes + 1
+        }'
+}
+
+# Leaves in `file` the path of a file as it stands before a part: for one that changes it, a copy
+# that is on the disk.
+put_file() {
+    local before
+    case $1 in
+    import) before=$new ;;
+    imports) before=$most ;;
+    *)
+        file=$full
+        return
+        ;;
+    esac
+    file=$changed
+    cp "$before" "$file" && sync "$file" || exit 1
+}
+
+# Runs the program on the file for a part, behind these words if there are any.
+on_file() {
+    local part=$1
+    shift
+    if [ "$part" = check ]; then
+        "$@" "$program" check "$file"
+    else
+        "$@" "$program" run "$file" < "$work/archive_$part"
+    fi
+}
+
+# The script of a part in memory, behind an import of what stands in the file.
+put_script() {
+    local before
+    case $1 in
+    import | most) before=/dev/null ;;
+    imports) before=$work/archive_most ;;
+    *) before=$work/archive_import ;;
+    esac
+    cat "$before" "$work/archive_$1" > "$work/archive_memory"
+}
+
+in_memory() { "$program" list < "$work/archive_memory"; }
+
+# Compares the replies of a part with those in memory, which come behind that of the import.
+compare() {
+    local skipped=2
+    if [ "$1" = check ]; then
+        echo "layout 1 tunes $tunes sets 0" > "$work/archive_wanted"
+    else
+        [ "$1" = import ] && skipped=1
+        put_script "$1"
+        in_memory | tail -n +$skipped > "$work/archive_wanted"
+    fi
+    cmp "$work/archive_replies" "$work/archive_wanted" >&2 || fail "$1: the replies differ"
+}
+
+# Prints the calls of the disk among those that strace wrote. How many there are of each kind goes
+# behind another file, with the reads of the script and the writes of replies.
+calls_of() {
+    awk -F '[(), ]+' -v name="\"$file\"" -v part="$1" -v counts="$work/archive_counts" '
+        $1 == "openat" && index($0, name) { disk = $NF; next }
+        $1 == "read" && $2 == "0" { lines++; next }
+        $1 == "write" && $2 == "1" { replies++; next }
+        disk == "" || $2 != disk || $1 == "flock" || $1 == "close" { next }
+        $1 == "fdatasync" && $NF == 0 { print "sync"; syncs++; next }
+        $1 == "statx" && $NF == 0 { print "length"; next }
+        $1 == "pread64" && $4 == $NF { print "read", $4, $5; reads++; read += $4; next }
+        $1 == "pwrite64" && $4 == $NF { print "write", $4, $5; writes++; written += $4; next }
+        { print "a call that is not known here: " $0 > "/dev/stderr"; bad = 1; exit }
+        END {
+            printf "%-8s %8d %11d %8d %11d %6d %8d %8d\n", part, reads, read, writes, written,
+                syncs, lines, replies >> counts
+            exit bad
+        }'
+}
+
+# Runs each part once, to see its replies and its calls.
+look() {
+    local part
+    : > "$work/archive_counts"
+    for part in $parts; do
+        put_file "$part"
+        if command -v strace > /dev/null; then
+            on_file "$part" strace -s 0 -e trace=%desc -o "$work/archive_trace"
+        else
+            on_file "$part"
+        fi > "$work/archive_replies" || fail "$part failed"
+        compare "$part"
+        command -v strace > /dev/null || continue
+        calls_of "$part" < "$work/archive_trace" > "$work/archive_calls_$part" || exit 1
+        rm -f "$work/archive_trace"
+    done
+}
+
+# Puts the microseconds of a run behind a file: whose run, which part.
+tell() { echo "$1 $2 $3" >> "$work/archive_times"; }
+
+# Times words of the shell, whose output goes into a pipe.
+timed() {
+    local who=$1 part=$2 start end
+    shift 2
+    start=${EPOCHREALTIME/./}
+    "$@" >&"$pipe" || fail "$part failed"
+    end=${EPOCHREALTIME/./}
+    tell "$who" "$part" $((end - start))
+}
+
+ours() {
+    put_file "$1"
+    timed ours "$1" on_file "$1"
+}
+
+from_c() {
+    local spent
+    [ -s "$work/archive_calls_$1" ] || return
+    put_file "$1"
+    spent=$("$work/archive_c" "$file" "$work/archive_calls_$1") || fail "$1 from C failed"
+    tell c "$1" "$spent"
+}
+
+for part in $parts; do
+    make "$part" > "$work/archive_$part"
+    rm -f "$work/archive_calls_$part"
+done
+make most > "$work/archive_most"
+rm -f "$new"
+"$program" make "$new" > /dev/null || fail 'no archive was made'
+cp "$new" "$most" && cp "$new" "$full" || exit 1
+"$program" run "$most" < "$work/archive_most" > /dev/null || fail 'no import'
+"$program" run "$full" < "$work/archive_import" > /dev/null || fail 'no import'
+look
+
+exec {pipe}> >(cat > /dev/null)
+: > "$work/archive_times"
+for ((run = 0; run < runs; run++)); do
+    timed ours start "$program" --version
+    for part in $parts; do
+        if ((run % 2)); then
+            from_c "$part"
+            ours "$part"
+        else
+            ours "$part"
+            from_c "$part"
+        fi
+    done
+    for part in import most imports export shows; do
+        put_script "$part"
+        timed memory "$part" in_memory
+    done
+done
+
+sort -k2,2 -k1,1 -k3,3n "$work/archive_times" | awk -v parts="$parts" -v tunes="$tunes" '
+    { spent[$1 " " $2, ++n[$1 " " $2]] = $3 / 1000 }
+    function chosen(name, way) {
+        return n[name] ? spent[name, way == "least" ? 1 : int((n[name] + 1) / 2)] : ""
+    }
+    function shown(value) { return value == "" ? "-" : sprintf("%.2f", value) }
+    # What is wanted, and whether it is so.
+    function judged(part, time, ratio,    text, over) {
+        if (tunes != 20000) return "-"
+        if (part in ratios) {
+            text = "ratio " ratios[part]
+            over = ratio != "" && ratio > ratios[part]
+        }
+        if (part in times) {
+            text = text (text == "" ? "" : ", ") times[part] " ms"
+            over = over || time > times[part]
+        }
+        return text (over ? ": MORE" : "")
+    }
+    # The time of a part in memory, less that of the import before it.
+    function in_memory(part, way,    all) {
+        all = chosen("memory " part, way)
+        if (part == "import" || all == "") return all
+        return all - chosen("memory " (part == "imports" ? "most" : "import"), way)
+    }
+    function row(part, way,    time, there, memory, ratio) {
+        time = chosen("ours " part, way)
+        there = chosen("c " part, way)
+        memory = in_memory(part, way)
+        ratio = there == "" ? "" : time / there
+        printf "%-8s %10s %10s %8s %10s  %s\n", part, shown(time), shown(there), shown(ratio),
+            shown(memory), judged(part, time, ratio)
+    }
+    function table(way,    i, count, names) {
+        printf "%-8s %10s %10s %8s %10s  %s\n", way, "tunes ms", "C ms", "ratio", "memory ms",
+            "wanted at most"
+        count = split(parts, names)
+        for (i = 1; i <= count; i++) row(names[i], way)
+    }
+    BEGIN {
+        ratios["import"] = ratios["imports"] = 1.3
+        ratios["check"] = 1.5
+        times["check"] = 60
+        times["export"] = 100
+        times["shows"] = 80
+    }
+    END {
+        table("least")
+        table("middle")
+        printf "the start of the program alone: least %s ms, middle %s ms\n",
+            shown(chosen("ours start", "least")), shown(chosen("ours start", "middle"))
+    }'
+if [ ! -s "$work/archive_calls_import" ]; then
+    echo 'no strace here: no calls are counted, and none are made from C'
+    exit 0
+fi
+printf '%-8s %8s %11s %8s %11s %6s %8s %8s\n' \
+    calls reads bytes writes bytes syncs script replies
+cat "$work/archive_counts"

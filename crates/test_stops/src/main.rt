@@ -1,0 +1,59 @@
+//! The program `test_stops`: stops an archive in a file (a crash or power loss) at each call of its
+//! disk, and opens what is left.
+//!
+//! `data/steps` has the steps, between which a line `--` stands: each is a script of one command.
+//! `data/questions.script` asks for all that an archive holds. What an archive in memory answers it
+//! after so many of the steps is what a stop may leave.
+//!
+//! Over an archive on a disk in memory the steps are carried out again and again, each time with
+//! one more call of the disk before it fails for good. What a stop then leaves, whether all that
+//! was written since the last sync is lost or kept, is opened. It has to hold the state after the
+//! steps that were answered, or that after one more. Each opening is stopped at each of its calls
+//! too. The file that is left at the end is cut at many places: it is then no archive, a damaged
+//! one, or still holds the last state.
+#![tactic(auto)]
+
+mod cuts;
+mod stops;
+mod texts;
+
+use cuts::{cut_left, cut_made};
+use std::io;
+use std::process::ExitCode;
+use stops::{Outcome, stop_making, stop_steps};
+use texts::{Texts, states_after};
+
+fn main(rt: HostRuntime) -> io::Result<ExitCode> {
+    let texts = Texts::read(&rt)?;
+    let states = states_after(rt.alloc(), &texts)?;
+    let making = stop_making(rt.alloc(), &texts, states.as_slice())?;
+    say(&rt, "make", making)?;
+    let steps = stop_steps(rt.alloc(), &texts, states.as_slice())?;
+    say(&rt, "steps", steps)?;
+    let cuts = cut_made(rt.alloc())? && cut_left(rt.alloc(), &texts, states.as_slice())?;
+    if cuts {
+        println!(&rt; "cuts: each leaves no archive, a damaged one, or the last state")?;
+    } else {
+        println!(&rt; "cuts: one leaves another state, or is refused otherwise")?;
+    }
+    match (making, steps) {
+        (Outcome::AsBeforeOrAfter, Outcome::AsBeforeOrAfter) if cuts => Ok(ExitCode::SUCCESS),
+        _ => Ok(ExitCode::FAILURE),
+    }
+}
+
+// Prints what came of a sweep of stops.
+fn say<R: Print>(rt: &R, name: &str, outcome: Outcome) -> io::Result<()> {
+    match outcome {
+        Outcome::AsBeforeOrAfter => {
+            println!(rt; "{name}: each stop leaves the state before a command or after it")
+        }
+        Outcome::TooFew => println!(rt; "{name}: the disk was hardly called"),
+        Outcome::Unlike(calls) => {
+            println!(rt; "{name}: a stop at call {calls} leaves another state")
+        }
+        Outcome::NotOpened(calls) => {
+            println!(rt; "{name}: what a stop at call {calls} leaves is not opened")
+        }
+    }
+}

@@ -1,0 +1,209 @@
+// Archives that are stopped, and what they leave.
+use crate::texts::{Texts, replies_of};
+use std::alloc::Global;
+use std::io;
+use tune_archive::{Archive, TuneStore};
+use tune_disk::{Disk, FuseDisk, MemoryDisk, StopChoice};
+
+/// How many calls of the disk are tried at most.
+const MOST_CALLS: u64 = 5_000;
+
+/// How many calls of an opening are tried at most.
+const MOST_CALLS_OF_OPENING: u64 = 200;
+
+/// Fewer calls than these are no archive at work.
+const FEWEST_CALLS: u64 = 3;
+
+const CHOICES: [StopChoice; 2] = [StopChoice::Lost, StopChoice::Kept];
+
+/// What came of a sweep of stops.
+#[derive(Clone, Copy, Debug, PartialEq, Eq)]
+pub(crate) enum Outcome {
+    AsBeforeOrAfter,
+    /// It came to its end after a handful of calls.
+    TooFew,
+    /// A stop at this call left what is no state before or after a command.
+    Unlike(u64),
+    /// A stop at this call left what is not opened.
+    NotOpened(u64),
+}
+
+// What a stop left, and how many of the steps were answered by then.
+#[derive(Drop)]
+pub(crate) struct Stopped {
+    pub(crate) disk: MemoryDisk,
+    answered: usize,
+}
+
+// Stops an archive while it is made, at each call.
+pub(crate) fn stop_making(alloc: Global, texts: &Texts, states: &[Vec<u8>]) -> io::Result<Outcome> {
+    for calls in 0..MOST_CALLS {
+        let disk = FuseDisk::new(MemoryDisk::new(alloc), calls);
+        match Archive::make(alloc, disk) {
+            Ok(_) => return Ok(enough(calls)),
+            Err(refused) => {
+                let disk = refused.disk.into_inner();
+                for choice in CHOICES {
+                    let left = disk.stopped(choice)?;
+                    // No archive may stand there yet.
+                    if let Ok(archive) = Archive::open(alloc, left) {
+                        if !is_first(alloc, texts, archive, states)? {
+                            return Ok(Outcome::Unlike(calls));
+                        }
+                    }
+                }
+            }
+        }
+    }
+    Ok(Outcome::TooFew)
+}
+
+// Stops an archive while it carries out the steps, at each call.
+pub(crate) fn stop_steps(alloc: Global, texts: &Texts, states: &[Vec<u8>]) -> io::Result<Outcome> {
+    for calls in 0..MOST_CALLS {
+        let stopped = carry_out(alloc, texts, calls)?;
+        let from = stopped.answered.min(states.len());
+        let to = from.saturating_add(2).min(states.len());
+        for choice in CHOICES {
+            let left = stopped.disk.stopped(choice)?;
+            match stop_opening(alloc, texts, left, &states[from..to], calls)? {
+                Outcome::AsBeforeOrAfter => {}
+                other => return Ok(other),
+            }
+        }
+        if stopped.answered >= texts.steps.len() {
+            return Ok(enough(calls));
+        }
+    }
+    Ok(Outcome::TooFew)
+}
+
+// The end of a sweep after so many calls.
+fn enough(calls: u64) -> Outcome {
+    if calls < FEWEST_CALLS {
+        Outcome::TooFew
+    } else {
+        Outcome::AsBeforeOrAfter
+    }
+}
+
+// Carries the steps out on a new archive, whose disk fails after so many calls more.
+pub(crate) fn carry_out(alloc: Global, texts: &Texts, calls: u64) -> io::Result<Stopped> {
+    let Ok(made) = Archive::make(alloc, MemoryDisk::new(alloc)) else {
+        return Err(io::ErrorKind::Other.into());
+    };
+    let mut archive = match Archive::open(alloc, FuseDisk::new(made.into_disk(), calls)) {
+        Ok(archive) => archive,
+        Err(refused) => {
+            return Ok(Stopped {
+                disk: refused.disk.into_inner(),
+                answered: 0,
+            });
+        }
+    };
+    let mut answered: usize = 0;
+    for step in &texts.steps {
+        let replies = replies_of(alloc, step, &mut archive)?;
+        if replies.as_slice().starts_with(b"refused 22") {
+            break;
+        }
+        answered = answered.saturating_add(1);
+    }
+    Ok(Stopped {
+        disk: archive.into_disk().into_inner(),
+        answered,
+    })
+}
+
+// Opens what a stop left, which has to hold one of these states; also where the opening is stopped.
+fn stop_opening(
+    alloc: Global,
+    texts: &Texts,
+    left: MemoryDisk,
+    states: &[Vec<u8>],
+    at: u64,
+) -> io::Result<Outcome> {
+    for calls in 0..MOST_CALLS_OF_OPENING {
+        let disk = FuseDisk::new(left.stopped(StopChoice::Kept)?, calls);
+        match Archive::open(alloc, disk) {
+            Ok(archive) => {
+                let disk = archive.into_disk().into_inner();
+                return open_left(alloc, texts, disk, states, at);
+            }
+            Err(refused) => {
+                let disk = refused.disk.into_inner();
+                for choice in CHOICES {
+                    let again = disk.stopped(choice)?;
+                    match open_left(alloc, texts, again, states, at)? {
+                        Outcome::AsBeforeOrAfter => {}
+                        other => return Ok(other),
+                    }
+                }
+            }
+        }
+    }
+    Ok(Outcome::NotOpened(at))
+}
+
+// Opens what a stop left, which has to hold one of these states.
+fn open_left(
+    alloc: Global,
+    texts: &Texts,
+    left: MemoryDisk,
+    states: &[Vec<u8>],
+    at: u64,
+) -> io::Result<Outcome> {
+    match Archive::open(alloc, left) {
+        Ok(archive) => {
+            if is_among(alloc, texts, archive, states)? {
+                Ok(Outcome::AsBeforeOrAfter)
+            } else {
+                Ok(Outcome::Unlike(at))
+            }
+        }
+        Err(_) => Ok(Outcome::NotOpened(at)),
+    }
+}
+
+// Whether a store answers the questions as the first of these states does.
+fn is_first<S: TuneStore + Drop>(
+    alloc: Global,
+    texts: &Texts,
+    mut store: S,
+    states: &[Vec<u8>],
+) -> io::Result<bool> {
+    let replies = replies_of(alloc, &texts.questions, &mut store)?;
+    match states.first() {
+        Some(state) => Ok(state.as_slice() == replies.as_slice()),
+        None => Ok(false),
+    }
+}
+
+// Whether a store answers the questions as the last of these states does.
+pub(crate) fn is_last<S: TuneStore + Drop>(
+    alloc: Global,
+    texts: &Texts,
+    mut store: S,
+    states: &[Vec<u8>],
+) -> io::Result<bool> {
+    let replies = replies_of(alloc, &texts.questions, &mut store)?;
+    match states.last() {
+        Some(state) => Ok(state.as_slice() == replies.as_slice()),
+        None => Ok(false),
+    }
+}
+
+// Whether a store answers the questions as one of these states does.
+fn is_among<S: TuneStore + Drop>(
+    alloc: Global,
+    texts: &Texts,
+    mut store: S,
+    states: &[Vec<u8>],
+) -> io::Result<bool> {
+    let replies = replies_of(alloc, &texts.questions, &mut store)?;
+    Ok(
+        states
+            .iter()
+            .any(|state| state.as_slice() == replies.as_slice()),
+    )
+}

@@ -1,0 +1,34 @@
+use Rattle.std.proofs.Common.{refl, subst}
+use Rattle.tune_store.specs.State.{State}
+use Rattle.tune_store.specs.Answers.{open_at}
+use Rattle.tune_store.specs.Runs.{Runs}
+use Rattle.tune_scripts.specs.Carried.{run_of}
+use Rattle.tune_scripts.specs.Limits.{most_lines}
+use Rattle.tune_scripts.specs.ScriptRuns.{TellsScript}
+use Rattle.tune_scripts.proofs.CarriedLemmas.{runs_carried, acknowledged_open, ends_otherwise}
+use Rattle.tune_cli.specs.Acts.{work_in_memory}
+use Rattle.tune_cli.proofs.actions.list.Goals as goal
+
+pub returns : goal.returns
+returns g c =
+    let input = g.R.Read.remaining c.args.reader.now in
+    let left = g.R.Read.remaining c.run-end.new.reader in
+    let was = g.W.Write.contents c.args.writer.now in
+    let now = g.W.Write.contents c.run-end.new.writer in
+    let end = c.run-end.result in
+    let archive = c.run-end.new.store in
+    let runs = c.run-end.ensures.runs tt in
+    let run = run_of runs.carried in
+    let Output : State → Type 0 = λ start.
+    TellsScript most_lines input left (record (work_in_memory was now run archive) { before = open_at start }) end in
+    let From : State → Type 0 = λ start. Runs (open_at start) run (open_at archive) in
+    let empty = c.new-archive.ensures.empty in
+    record {
+      end = end;
+      run = run;
+      state = archive;
+      ends = c.status.ensures;
+      carries_out = subst From empty (runs_carried _ runs.carried _ _ runs.carries_out);
+      no_fault = ends_otherwise end run runs.ends (acknowledged_open _ (λ store. refl) runs.carried _ _ runs.carries_out);
+      output = subst Output empty runs.script;
+    }

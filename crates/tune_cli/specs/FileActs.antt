@@ -1,0 +1,101 @@
+-- What the program does with an archive in a file, over any disk.
+use Rattle.std.specs.Prelude.{◌≡◌, ◌⊎◌, ℕ, List, [], codes, Option, Some}
+use Rattle.tune_disk.specs.Disk.{DiskState}
+use Rattle.tune_disk.specs.Stops.{LeavesOnly, SinceThen}
+use Rattle.tune_journal.specs.Making.{IsEmptyFile}
+use Rattle.tune_journal.specs.declared.open_fault.OpenFault.{OpenFault}
+use Rattle.tune_pages.specs.Opened.{IsUnmadePagesFor}
+use Rattle.tune_store.specs.State.{State, empty_state}
+use Rattle.tune_store.specs.declared.tune_store.TuneStore as store
+use Rattle.tune_format.specs.States.{StandsForState}
+use Rattle.tune_archive.specs.Opened.{IsUnopenedArchiveFor, StandsForNoneOrEmpty}
+use Rattle.tune_archive.specs.Media.{moment_of, LeftFrom}
+use Rattle.tune_archive.specs.Shelf.{Shelf}
+use Rattle.tune_scripts.specs.Carried.{LeftByRun, run_of}
+use Rattle.tune_scripts.specs.Limits.{most_lines}
+use Rattle.tune_scripts.specs.Prefixes.{StandsForPrefix}
+use Rattle.tune_scripts.specs.ScriptRuns.{RunsScript}
+use Rattle.tune_scripts.specs.declared.runs.RunEnd.{RunEnd}
+use Rattle.tune_cli.specs.Lines.{WritesLine, reason_bytes, status_of, status_of_opening}
+use Rattle.tune_cli.specs.Lines.{counts_bytes}
+
+-- MAKE
+-- An archive was made: a stop now leaves the empty one.
+pub record HasMade {D : Type 0} (honest : D → Type 0) (state : D → DiskState)
+    (was now : Option (List ℕ)) (old new : D) (status : ℕ) : Type 0 where
+  pub line : WritesLine was now (codes "made\n") 0 status
+  pub empty : honest new → (state old).seen ≡ []
+  pub rest : honest new → LeavesOnly (state new).now (λ file. StandsForState file empty_state)
+
+-- It was not, and why.
+pub record HasNotMade {D : Type 0} (honest : D → Type 0) (state : D → DiskState)
+    (was now : Option (List ℕ)) (old new : D) (status : ℕ) : Type 0 where
+  pub why : OpenFault
+  pub line : WritesLine was now (reason_bytes why) (status_of_opening why) status
+  pub refused : honest new → IsUnmadePagesFor why (state old) (state new)
+
+-- An archive was made, or not; meanwhile a stop leaves none or an empty one.
+pub record Makes {D : Type 0} (honest : D → Type 0) (state : D → DiskState)
+    (was now : Option (List ℕ)) (old new : D) (status : ℕ) : Type 0 where
+  pub moments : honest new → LeavesOnly (state old).now IsEmptyFile
+      → SinceThen (state old) (state new) StandsForNoneOrEmpty
+  pub made : HasMade honest state was now old new status
+      ⊎ HasNotMade honest state was now old new status
+
+-- OPENING
+-- An archive was not opened, and why.
+pub record HasNotOpened {D : Type 0} (honest : D → Type 0) (state : D → DiskState)
+    (was now : Option (List ℕ)) (old new : D) (status : ℕ) : Type 0 where
+  pub why : OpenFault
+  pub line : WritesLine was now (reason_bytes why) (status_of_opening why) status
+  pub refused : honest new → IsUnopenedArchiveFor why (state old) (state new)
+
+-- CHECK
+-- The disk stands for a state, and how much that holds was written.
+pub record HasChecked {D : Type 0} (honest : D → Type 0) (state : D → DiskState)
+    (was now : Option (List ℕ)) (old new : D) (status : ℕ) : Type 0 where
+  pub line : honest new → (held : State) × StandsForState (state old).seen held
+      × WritesLine was now (counts_bytes held) 0 status
+
+-- It does, or it was not opened.
+abbrev pub Checks : {D : Type 0} → (D → Type 0) → (D → DiskState) → Option (List ℕ)
+    → Option (List ℕ) → D → D → ℕ → Type 0
+Checks honest state was now old new status =
+    HasChecked honest state was now old new status
+    ⊎ HasNotOpened honest state was now old new status
+
+-- RUN
+-- A script was run on the archive of a disk, from its opening to its end.
+pub record RanScript {D : Type 0} (kept : store.Ghosts (Shelf D)) (state : D → DiskState)
+    (input left was now : Option (List ℕ)) (old new : D) (end : RunEnd) : Type 0 where
+  -- the archive as it was opened, and as it was at the end
+  pub before : Shelf D
+  pub after : Shelf D
+  -- it was opened with the state that the disk stood for
+  pub opened : StandsForState (state old).seen (kept.state before)
+  -- then one list of commands was carried out, of which everything is said
+  pub runs : RunsScript kept most_lines input left was now before after end
+  -- a stop since a command was answered leaves a state that holds it, and one at the end the last
+  pub stops : LeftByRun kept before runs.carried after
+  -- where each file that a stop may leave at the start stands for one state, a stop at any moment,
+  -- while the archive was opened too, leaves the state after a prefix of the commands
+  pub since_start : (start : State) → LeavesOnly (state old).now (λ file. StandsForState file start)
+      → (file : List ℕ) → LeftFrom (state new) (moment_of (state old)) file
+      → StandsForPrefix StandsForState start [] (run_of runs.carried) file
+  -- the disk that is handed back is that of the archive
+  pub held : after.pages.disk ≡ Some new
+
+-- The archive was opened and the script run, with the status of its end.
+pub record HasRun {D : Type 0} (kept : store.Ghosts (Shelf D)) (honest : D → Type 0)
+    (state : D → DiskState) (input left was now : Option (List ℕ)) (old new : D) (status : ℕ)
+    : Type 0 where
+  pub end : RunEnd
+  pub ends : status ≡ status_of end
+  pub ran : honest new → RanScript kept state input left was now old new end
+
+-- It was, or it was not opened.
+abbrev pub RunsOn : {D : Type 0} → store.Ghosts (Shelf D) → (D → Type 0) → (D → DiskState)
+    → Option (List ℕ) → Option (List ℕ) → Option (List ℕ) → Option (List ℕ) → D → D → ℕ → Type 0
+RunsOn kept honest state input left was now old new status =
+    HasRun kept honest state input left was now old new status
+    ⊎ HasNotOpened honest state was now old new status

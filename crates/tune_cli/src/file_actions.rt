@@ -1,0 +1,167 @@
+// What the program does with an archive in a file.
+ghost use Rattle.std.specs.Prelude.{codes, OnOk};
+ghost use Rattle.std.specs.Io.KnownBytes.{Appends};
+ghost use Rattle.tune_cli.specs.FileActs.{Makes, Checks, RunsOn};
+ghost use Rattle.tune_cli.specs.Lines.{WritesLine, reason_bytes, line_of, status_of_opening};
+
+use crate::actions::status;
+use std::alloc::Global;
+use std::io;
+use std::io::{Read, Write};
+use tune_archive::{Archive, Counts, TuneStore};
+use tune_disk::Disk;
+use tune_journal::OpenFault;
+use tune_scripts::run;
+
+const DONE: u8 = 0;
+
+const FAILED: u8 = 1;
+
+const NO_ARCHIVE: u8 = 3;
+
+/// What became of an action on a disk.
+#[derive(Drop)]
+pub struct Done<D: Disk> {
+    /// The status of the program.
+    pub status: u8,
+    /// The disk, handed back.
+    pub disk: D,
+}
+
+/// Makes an archive in which nothing is yet, on a disk without a byte, and writes `made`; or writes
+/// why it was not made. The status is 0; 3 where the disk has a byte; and else 1.
+///
+/// Where each file that a stop may leave at the start has no byte, a stop at any moment leaves no
+/// archive or an empty one.
+pub fn make_on<W: Write, D: Disk>(alloc: Global, writer: &mut W, disk: D) -> Done<D>
+    ensures honest { D.honest result.disk → D.honest disk }
+    ensures makes { Makes D.honest D.state (W.contents writer.old) (W.contents writer.new)
+        disk result.disk result.status }
+{
+    match Archive::make(alloc, disk) {
+        Ok(archive) => {
+            let status = say_made(writer);
+            let disk = archive.into_disk();
+            Done { status, disk }
+        }
+        Err(refused) => Done {
+            status: say_reason(writer, refused.why),
+            disk: refused.disk,
+        },
+    }
+}
+
+/// Opens the archive of a disk, and writes how much it holds; or writes why it was not opened. The
+/// status is 0; 3 where no archive stands there; and else 1.
+pub fn check_on<W: Write, D: Disk>(alloc: Global, writer: &mut W, disk: D) -> Done<D>
+    ensures honest { D.honest result.disk → D.honest disk }
+    ensures checks { Checks D.honest D.state (W.contents writer.old) (W.contents writer.new)
+        disk result.disk result.status }
+{
+    match Archive::open(alloc, disk) {
+        Ok(archive) => {
+            let status = match archive.counts() {
+                Ok(counts) => say_counts(writer, counts),
+                Err(_) => FAILED,
+            };
+            let disk = archive.into_disk();
+            Done { status, disk }
+        }
+        Err(refused) => Done {
+            status: say_reason(writer, refused.why),
+            disk: refused.disk,
+        },
+    }
+}
+
+/// Runs a script on the archive of a disk; or writes why it was not opened. The status is 0 where
+/// the script was run to its end; 3 where no archive stands there; and else 1.
+///
+/// This is what the archive is for: each reply is that of a plain list of tunes and set lists, and
+/// a stop (a crash or power loss) at any moment of the call leaves the state after a prefix of the
+/// commands, which holds every command that was answered by then.
+pub fn run_on<R: Read, W: Write, D: Disk>(
+    alloc: Global,
+    reader: &mut R,
+    writer: &mut W,
+    disk: D,
+) -> Done<D>
+    ensures honest { D.honest result.disk → D.honest disk }
+    ensures runs { RunsOn ⟦<Archive<D> as TuneStore>⟧ D.honest D.state
+        (R.remaining reader.old) (R.remaining reader.new)
+        (W.contents writer.old) (W.contents writer.new) disk result.disk result.status }
+{
+    match Archive::open(alloc, disk) {
+        Ok(mut archive) => {
+            let end = run(alloc, reader, writer, &mut archive);
+            Done {
+                status: status(end),
+                disk: archive.into_disk(),
+            }
+        }
+        Err(refused) => Done {
+            status: say_reason(writer, refused.why),
+            disk: refused.disk,
+        },
+    }
+}
+
+// Writes that an archive was made.
+fn say_made<W: Write>(writer: &mut W) -> u8
+    ensures { WritesLine (W.contents writer.old) (W.contents writer.new) (codes "made\n") 0 result }
+{
+    match write_out(writer, b"made\n") {
+        Ok(()) => DONE,
+        Err(_) => FAILED,
+    }
+}
+
+// Writes how much an archive holds.
+fn say_counts<W: Write>(writer: &mut W, counts: Counts) -> u8
+    ensures { WritesLine (W.contents writer.old) (W.contents writer.new)
+        (line_of counts.layout counts.tunes counts.sets) 0 result }
+{
+    match write_counts(writer, counts) {
+        Ok(()) => DONE,
+        Err(_) => FAILED,
+    }
+}
+
+// Writes why an archive was not made, or not opened.
+pub(crate) fn say_reason<W: Write>(writer: &mut W, why: OpenFault) -> u8
+    ensures { WritesLine (W.contents writer.old) (W.contents writer.new) (reason_bytes why)
+        (status_of_opening why) result }
+{
+    let (line, status): (&[u8], u8) = match why {
+        OpenFault::OutOfMemory => (b"refused 21 OutOfMemory\n", FAILED),
+        OpenFault::Device => (b"refused 22 Device\n", FAILED),
+        OpenFault::NotArchive => (b"refused 40 NotArchive\n", NO_ARCHIVE),
+        OpenFault::Damaged => (b"refused 41 Damaged\n", NO_ARCHIVE),
+        OpenFault::NotEmpty => (b"refused 42 NotEmpty\n", NO_ARCHIVE),
+    };
+    match write_out(writer, line) {
+        Ok(()) => status,
+        Err(_) => FAILED,
+    }
+}
+
+// Writes a line, and flushes it.
+fn write_out<W: Write>(writer: &mut W, line: &[u8]) -> io::Result<()>
+    ensures { OnOk result (Appends (W.contents writer.old) (W.contents writer.new) line.now) }
+{
+    writer.write_all(line)?;
+    writer.flush()
+}
+
+fn write_counts<W: Write>(writer: &mut W, counts: Counts) -> io::Result<()>
+    ensures { OnOk result (Appends (W.contents writer.old) (W.contents writer.new)
+        (line_of counts.layout counts.tunes counts.sets)) }
+{
+    let Counts {
+        layout,
+        tunes,
+        sets,
+    } = counts;
+    write!(writer, "layout {layout} tunes {tunes} sets {sets}\n")?;
+    writer.flush()
+}
