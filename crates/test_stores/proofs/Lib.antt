@@ -1,2 +1,2 @@
 pub mod RecordLemmas
-pub mod MediaLemmas
+pub mod MarkLemmas

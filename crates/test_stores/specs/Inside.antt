@@ -1,2 +1,2 @@
 pub mod Settling
-pub mod Media
+pub mod Marks

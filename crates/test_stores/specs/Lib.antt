@@ -1,3 +1,3 @@
 pub mod Record
-pub mod Media
+pub mod Marks
 pub mod Inside

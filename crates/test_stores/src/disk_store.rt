@@ -2,8 +2,10 @@
 ghost use Rattle.std.specs.Prelude.{◌≡◌, ◌≤◌, false, OnErr};
 ghost use Rattle.tune_store.specs.State.{State, empty_state};
 ghost use Rattle.tune_store.specs.Stops.{HasFailed};
-ghost use Rattle.test_stores.specs.Media.{moment_of, LeftFrom, IsMark, IsMarked};
-ghost use Rattle.test_stores.specs.Inside.Media.{is_mark, left_before, Grows};
+ghost use Rattle.tune_archive.specs.Media.{moment_of, LeftFrom};
+ghost use Rattle.tune_archive.specs.Inside.Media.{left_before};
+ghost use Rattle.test_stores.specs.Marks.{IsMark, IsMarked};
+ghost use Rattle.test_stores.specs.Inside.Marks.{is_mark, LeavesMarks};
 
 use std::alloc::Global;
 use tune_disk::{DeviceFault, Disk};
@@ -79,7 +81,7 @@ impl<D: Disk> TuneStore for DiskStore<D> {
 // Writes the mark, and makes it stable.
 fn mark<D: Disk>(disk: &mut D) -> Result<(), DeviceFault>
     ensures was_honest { D.honest disk.new → D.honest disk.old }
-    ensures grows { D.honest disk.new → Grows (D.state disk.old) (D.state disk.new) }
+    ensures marks { D.honest disk.new → LeavesMarks (D.state disk.old) (D.state disk.new) }
     ensures failed { OnErr result (HasFailed (D.failures disk.old) (D.failures disk.new)) }
 {
     disk.write_at(0, &[1])?;

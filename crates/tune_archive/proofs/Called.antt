@@ -26,7 +26,7 @@ use Rattle.tune_archive.specs.Inside.Changing.{MakesChange}
 use Rattle.tune_archive.specs.Inside.Fetching.{Tells, Fetches, FailsFetch}
 use Rattle.tune_archive.specs.Inside.Holding.{IsShelf}
 use Rattle.tune_archive.proofs.FetchLemmas.{labels_held}
-use Rattle.tune_archive.proofs.DiskMoments.{left_stays, left_then, moment_rises}
+use Rattle.tune_archive.proofs.DiskMoments.{passes_on_disk}
 
 -- ANSWERS
 -- a closed store answers so
@@ -52,7 +52,7 @@ closes old new true is command answer e f answers = cc
 closes old new false false command answer e f answers = cc
 
 -- the device failed, and the command took place or did not
-failed : (old new : State) (was is : Bool) (command : Command) → was ≡ false → is ≡ true → (new ≡ old) ⊎ (new ≡ (step old command).0)
+pub failed : (old new : State) (was is : Bool) (command : Command) → was ≡ false → is ≡ true → (new ≡ old) ⊎ (new ≡ (step old command).0)
     → Answers (record { state = old; closed = was }) command (Err Device) (record { state = new; closed = is })
 failed old new was is command e f (inl same) =
     closes old new was is command (Err Device) e f
@@ -110,26 +110,13 @@ module _ {D : Type 0} (honest : D → Type 0) (failures : D → ℕ) (state : D 
       → Passes {S = Shelf D} (λ archive. HonestAt honest archive.pages.disk) (IsSound honest state) (state_of state)
       (λ archive. moment_of (state_at state archive.pages.disk)) (λ archive. LeftFrom (state_at state archive.pages.disk)) StandsForState old new
       (passed (state_of state old) command answer)
-  passes old new command answer ended holds = record {
-    reaches = λ h. answers_reach _ _ _ _ (ended.answers h);
-    was_honest = ended.was_honest;
-    stays_sound = λ sound. record {
-      within = λ h. answers_within _ _ _ _ (ended.answers h) (sound.within (ended.was_honest h));
-      rest = at_rest new holds;
-    };
-    later = λ h. elim (ended.moves h) [
-      | inl same ↦ (let n : moment_of (state_at state new.pages.disk) ≡ moment_of (state_at state old.pages.disk) = ap moment_of same in omega (arith, n))
-      | inr since ↦ moment_rises _ _ _ since
-    ];
-    keeps = λ h since file left. elim (ended.moves h) [
-      | inl same ↦ subst (λ disk. LeftFrom disk since file) (sym same) left
-      | inr then ↦ left_stays _ _ _ then since file left
-    ];
-    leaves = λ sound h since file early left. elim (ended.moves h) [
-      | inl same ↦ inl (subst (λ disk. LeftFrom disk since file) same left)
-      | inr then ↦ left_then _ _ _ then since file left
-    ];
-  }
+  passes old new command answer ended holds =
+      passes_on_disk _ _ _ _ _ _ _ _ _ (λ h. answers_reach _ _ _ _ (ended.answers h)) ended.was_honest
+      (λ sound. record {
+        within = λ h. answers_within _ _ _ _ (ended.answers h) (sound.within (ended.was_honest h));
+        rest = at_rest new holds;
+      })
+      ended.moves (λ sound h file stands. stands)
 
   -- a call on a closed archive
   pub ended_closed : (archive : Shelf D) (command : Command) → archive.closed ≡ true → Ended archive archive command (Err Closed)

@@ -1,50 +1,76 @@
--- What stops may have left over calls of a disk.
+-- What stops may have left over calls of a disk, and of a store over it.
 use Rattle.std.proofs.Common.{◌≡◌, ◌⊎◌, inl, inr, ℕ, ◌≤◌, List, [], ◌∷◌, ◌++◌, length, sym, ◌∙◌, ap, subst, arith, append_assoc, length-append}
 use Rattle.tune_disk.specs.Disk.{Medium, DiskState}
 use Rattle.tune_disk.specs.Stops.{SinceThen, LeavesOnly, EachLeavesOnly}
+use Rattle.tune_store.specs.State.{State}
+use Rattle.tune_store.specs.Stops.{Among, Passes, StandsForOne}
 use Rattle.tune_archive.specs.Media.{moment_of, LeftFrom}
+use Rattle.tune_archive.specs.Inside.Media.{left_now}
 
--- a medium of two lists is in the first or in the second
-parted : (a c b : List Medium) (m : Medium) (o : List Medium) → a ++ c ≡ b ++ m ∷ o
-    → ((d : List Medium) × (a ≡ b ++ m ∷ d)) ⊎ ((d : List Medium) × (c ≡ d ++ m ∷ o))
-parted [] c b m o e = inr (b, e)
-parted (x ∷ a) c [] m o e = (let first : x ≡ m = cc in inl (a, ap (λ (y : Medium). y ∷ a) first))
-parted (x ∷ a) c (y ∷ b) m o e =
-    (let first : x ≡ y = cc in
-    let rest : a ++ c ≡ b ++ m ∷ o = cc in
-    elim (parted a c b m o rest) [
-      | inl here ↦ inl (here.0, ap (λ (z : Medium). z ∷ a) first ∙ ap (λ (l : List Medium). y ∷ l) here.1)
-      | inr there ↦ inr there
-    ])
+-- A medium of two lists leaves files of a kind alone, as each of the first list does, or is in the second.
+leaves_or_before : (P : List ℕ → Type 0) (a c b : List Medium) (m : Medium) (o : List Medium) → a ++ c ≡ b ++ m ∷ o → EachLeavesOnly a P
+    → LeavesOnly m P ⊎ ((d : List Medium) × (c ≡ d ++ m ∷ o))
+leaves_or_before P [] c b m o e each = inr (b, e)
+leaves_or_before P (x ∷ a) c [] m o e each = (let first : x ≡ m = cc in inl (subst (λ (y : Medium). LeavesOnly y P) first each.0))
+leaves_or_before P (x ∷ a) c (y ∷ b) m o e each = (let rest : a ++ c ≡ b ++ m ∷ o = cc in leaves_or_before P a c b m o rest each.1)
 
-each_at : (P : List ℕ → Type 0) (b : List Medium) (m : Medium) (d : List Medium) → EachLeavesOnly (b ++ m ∷ d) P → LeavesOnly m P
-each_at P [] m d each = each.0
-each_at P (y ∷ b) m d each = each_at P b m d each.1
+module _ (old new : DiskState) (P : List ℕ → Type 0) (then : SinceThen old new P) where
+  pub moment_rises : moment_of old ≤ moment_of new
+  moment_rises =
+      let size : length (new.now ∷ new.past) ≡ length (then.since ++ (old.now ∷ old.past)) = ap (λ (l : List Medium). length l) then.history in
+      omega (arith, size, length-append then.since (old.now ∷ old.past))
 
--- what a stop might have left it might still have left
-pub left_stays : (old new : DiskState) (P : List ℕ → Type 0) → SinceThen old new P → (since : ℕ) (file : List ℕ) → LeftFrom old since file
-    → LeftFrom new since file
-left_stays old new P then since file left = record {
-  newer = then.since ++ left.newer;
-  medium = left.medium;
-  older = left.older;
-  history =
-      then.history ∙ ap (λ (l : List Medium). then.since ++ l) left.history ∙ sym (append_assoc then.since left.newer (left.medium ∷ left.older));
-  later = left.later;
-  left = left.left;
-}
+  -- what a stop might have left it might still have left
+  pub left_stays : (since : ℕ) (file : List ℕ) → LeftFrom old since file → LeftFrom new since file
+  left_stays since file left = record {
+    newer = then.since ++ left.newer;
+    medium = left.medium;
+    older = left.older;
+    history =
+        then.history ∙ ap (λ (l : List Medium). then.since ++ l) left.history ∙ sym (append_assoc then.since left.newer (left.medium ∷ left.older));
+    later = left.later;
+    left = left.left;
+  }
 
--- and beside that files of the kind that the calls leave alone
-pub left_then : (old new : DiskState) (P : List ℕ → Type 0) → SinceThen old new P → (since : ℕ) (file : List ℕ) → LeftFrom new since file
-    → LeftFrom old since file ⊎ P file
-left_then old new P then since file left =
-    elim (parted then.since (old.now ∷ old.past) left.newer left.medium left.older (sym then.history ∙ left.history)) [
-      | inl here ↦ inr (each_at P left.newer left.medium here.0 (subst (λ (l : List Medium). EachLeavesOnly l P) here.1 then.each) file left.left)
-      | inr there ↦
-          inl (record { newer = there.0; medium = left.medium; older = left.older; history = there.1; later = left.later; left = left.left })
+  -- and beside that files of the kind that the calls leave alone
+  pub left_then : (since : ℕ) (file : List ℕ) → LeftFrom new since file → LeftFrom old since file ⊎ P file
+  left_then since file left =
+      elim (leaves_or_before P then.since (old.now ∷ old.past) left.newer left.medium left.older (sym then.history ∙ left.history) then.each) [
+        | inl leaves ↦ inr (leaves file left.left)
+        | inr there ↦
+            inl (record { newer = there.0; medium = left.medium; older = left.older; history = there.1; later = left.later; left = left.left })
+      ]
+
+  -- what is left since the moment at which the calls began is of that kind
+  pub left_of_kind : (file : List ℕ) → LeftFrom new (moment_of old) file → P file
+  left_of_kind file left = elim (left_then (moment_of old) file left) [
+    | inl before ↦ then.first file (left_now old file before)
+    | inr kind ↦ kind
+  ]
+
+-- A store over a disk, which is as it was or from which stops left files of a kind alone, passed these states: each such file stands for one of them.
+pub passes_on_disk : {S : Type 0} (honest sound : S → Type 0) (state : S → State) (disk : S → DiskState) (stands_for : List ℕ → State → Type 0)
+    (old new : S) (states : List State) (P : List ℕ → Type 0) → (honest new → Among (state new) (state old ∷ states)) → (honest new → honest old)
+    → (sound old → sound new) → (honest new → (disk new ≡ disk old) ⊎ SinceThen (disk old) (disk new) P)
+    → (sound old → honest new → (file : List ℕ) → P file → StandsForOne stands_for (state old ∷ states) file)
+    → Passes honest sound state (λ s. moment_of (disk s)) (λ s. LeftFrom (disk s)) stands_for old new states
+passes_on_disk honest sound state disk stands_for old new states P reaches was stays moves stands = record {
+  reaches = reaches;
+  was_honest = was;
+  stays_sound = stays;
+  later = λ h. elim (moves h) [
+    | inl same ↦ (let n : moment_of (disk new) ≡ moment_of (disk old) = ap moment_of same in omega (arith, n))
+    | inr then ↦ moment_rises _ _ _ then
+  ];
+  keeps = λ h since file left. elim (moves h) [
+    | inl same ↦ subst (λ (d : DiskState). LeftFrom d since file) (sym same) left
+    | inr then ↦ left_stays _ _ _ then since file left
+  ];
+  leaves = λ is h since file early left. elim (moves h) [
+    | inl same ↦ inl (subst (λ (d : DiskState). LeftFrom d since file) same left)
+    | inr then ↦ elim (left_then _ _ _ then since file left) [
+      | inl before ↦ inl before
+      | inr kind ↦ inr (stands is h file kind)
     ]
-
-pub moment_rises : (old new : DiskState) (P : List ℕ → Type 0) → SinceThen old new P → moment_of old ≤ moment_of new
-moment_rises old new P then =
-    let size : length (new.now ∷ new.past) ≡ length (then.since ++ (old.now ∷ old.past)) = ap (λ (l : List Medium). length l) then.history in
-    omega (arith, size, length-append then.since (old.now ∷ old.past))
+  ];
+}

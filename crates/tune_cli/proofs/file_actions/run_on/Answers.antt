@@ -5,10 +5,10 @@ use Rattle.tune_format.specs.States.{StandsForState}
 use Rattle.tune_format.proofs.StateLemmas.{state_once}
 use Rattle.tune_archive.specs.Media.{moment_of, LeftFrom}
 use Rattle.tune_archive.specs.Shelf.{StandsForOneOf}
+use Rattle.tune_archive.proofs.DiskMoments.{left_of_kind, moment_rises}
 use Rattle.tune_scripts.specs.Carried.{run_of}
 use Rattle.tune_scripts.specs.Prefixes.{StandsForPrefix}
 use Rattle.tune_scripts.proofs.CarriedLemmas.{honest_before, left_since_earlier}
-use Rattle.tune_cli.proofs.MediaLemmas.{left_of_kind, moment_rises}
 use Rattle.tune_cli.proofs.file_actions.run_on.Goals as goal
 
 -- one of two states that are one

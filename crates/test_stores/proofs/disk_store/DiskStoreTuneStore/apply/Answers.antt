@@ -1,4 +1,5 @@
-use Rattle.test_stores.proofs.MediaLemmas.{passes_disk, marked_by, answers_closed, fails_after}
+use Rattle.tune_archive.proofs.Called.{answers_closed}
+use Rattle.test_stores.proofs.MarkLemmas.{passes_marks, fails_after}
 use Rattle.test_stores.proofs.disk_store.DiskStoreTuneStore.apply.Goals as goal
 
 pub returns-then-self-clause-answer : goal.returns-then-self-clause-answer
@@ -9,8 +10,7 @@ pub returns-in-Ok-clause-stops : goal.returns-in-Ok-clause-stops
 returns-in-Ok-clause-stops g c =
     let archive = c.in_ok-reply.ensures.stops in
     let mark = c.in-Ok.ensures in
-    passes_disk _ _ _ _ _ _ mark.was_honest mark.grows (λ honest. archive.reaches tt)
-    (marked_by _ _ _ _ _ _ mark.was_honest mark.grows archive.stays_sound)
+    passes_marks _ _ _ _ _ _ mark.was_honest mark.marks (λ honest. archive.reaches tt) archive.stays_sound
 
 pub returns-in-Err-clause-answer : goal.returns-in-Err-clause-answer
 returns-in-Err-clause-answer g c = λ honest.
@@ -21,5 +21,4 @@ pub returns-in-Err-clause-stops : goal.returns-in-Err-clause-stops
 returns-in-Err-clause-stops g c =
     let archive = c.in_ok-reply.ensures.stops in
     let mark = c.in-Err.ensures in
-    passes_disk _ _ _ _ _ _ mark.was_honest mark.grows (λ honest. archive.reaches tt)
-    (marked_by _ _ _ _ _ _ mark.was_honest mark.grows archive.stays_sound)
+    passes_marks _ _ _ _ _ _ mark.was_honest mark.marks (λ honest. archive.reaches tt) archive.stays_sound
