@@ -1,5 +1,5 @@
 // Files of archives that are cut.
-use crate::stops::{carry_out, is_last};
+use crate::stops::{carry_out, is_among};
 use crate::texts::Texts;
 use std::alloc::Global;
 use std::io;
@@ -46,11 +46,12 @@ fn cut(alloc: Global, bytes: &[u8], length: usize) -> io::Result<MemoryDisk> {
 pub(crate) fn cut_left(alloc: Global, texts: &Texts, states: &[Vec<u8>]) -> io::Result<bool> {
     let disk = carry_out(alloc, texts, ENOUGH_CALLS)?.disk;
     let file = disk.bytes();
+    let last = &states[states.len().saturating_sub(1)..];
     for count in 0..file.len() / BYTES_BETWEEN {
         let length = count.saturating_mul(BYTES_BETWEEN);
         match Archive::open(alloc, cut(alloc, file, length)?) {
             Ok(archive) => {
-                if !is_last(alloc, texts, archive, states)? {
+                if !is_among(alloc, texts, archive, last)? {
                     return Ok(false);
                 }
             }

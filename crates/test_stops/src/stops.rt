@@ -37,6 +37,7 @@ pub(crate) struct Stopped {
 
 // Stops an archive while it is made, at each call.
 pub(crate) fn stop_making(alloc: Global, texts: &Texts, states: &[Vec<u8>]) -> io::Result<Outcome> {
+    let first = &states[..states.len().min(1)];
     for calls in 0..MOST_CALLS {
         let disk = FuseDisk::new(MemoryDisk::new(alloc), calls);
         match Archive::make(alloc, disk) {
@@ -44,12 +45,10 @@ pub(crate) fn stop_making(alloc: Global, texts: &Texts, states: &[Vec<u8>]) -> i
             Err(refused) => {
                 let disk = refused.disk.into_inner();
                 for choice in CHOICES {
-                    let left = disk.stopped(choice)?;
+                    let outcome = open_left(alloc, texts, disk.stopped(choice)?, first, calls)?;
                     // No archive may stand there yet.
-                    if let Ok(archive) = Archive::open(alloc, left) {
-                        if !is_first(alloc, texts, archive, states)? {
-                            return Ok(Outcome::Unlike(calls));
-                        }
+                    if outcome == Outcome::Unlike(calls) {
+                        return Ok(outcome);
                     }
                 }
             }
@@ -125,21 +124,19 @@ fn stop_opening(
 ) -> io::Result<Outcome> {
     for calls in 0..MOST_CALLS_OF_OPENING {
         let disk = FuseDisk::new(left.stopped(StopChoice::Kept)?, calls);
-        match Archive::open(alloc, disk) {
-            Ok(archive) => {
-                let disk = archive.into_disk().into_inner();
-                return open_left(alloc, texts, disk, states, at);
+        let (disk, is_opened) = match Archive::open(alloc, disk) {
+            Ok(archive) => (archive.into_disk(), true),
+            Err(refused) => (refused.disk, false),
+        };
+        let disk = disk.into_inner();
+        for choice in CHOICES {
+            match open_left(alloc, texts, disk.stopped(choice)?, states, at)? {
+                Outcome::AsBeforeOrAfter => {}
+                other => return Ok(other),
             }
-            Err(refused) => {
-                let disk = refused.disk.into_inner();
-                for choice in CHOICES {
-                    let again = disk.stopped(choice)?;
-                    match open_left(alloc, texts, again, states, at)? {
-                        Outcome::AsBeforeOrAfter => {}
-                        other => return Ok(other),
-                    }
-                }
-            }
+        }
+        if is_opened {
+            return Ok(Outcome::AsBeforeOrAfter);
         }
     }
     Ok(Outcome::NotOpened(at))
@@ -165,36 +162,8 @@ fn open_left(
     }
 }
 
-// Whether a store answers the questions as the first of these states does.
-fn is_first<S: TuneStore + Drop>(
-    alloc: Global,
-    texts: &Texts,
-    mut store: S,
-    states: &[Vec<u8>],
-) -> io::Result<bool> {
-    let replies = replies_of(alloc, &texts.questions, &mut store)?;
-    match states.first() {
-        Some(state) => Ok(state.as_slice() == replies.as_slice()),
-        None => Ok(false),
-    }
-}
-
-// Whether a store answers the questions as the last of these states does.
-pub(crate) fn is_last<S: TuneStore + Drop>(
-    alloc: Global,
-    texts: &Texts,
-    mut store: S,
-    states: &[Vec<u8>],
-) -> io::Result<bool> {
-    let replies = replies_of(alloc, &texts.questions, &mut store)?;
-    match states.last() {
-        Some(state) => Ok(state.as_slice() == replies.as_slice()),
-        None => Ok(false),
-    }
-}
-
 // Whether a store answers the questions as one of these states does.
-fn is_among<S: TuneStore + Drop>(
+pub(crate) fn is_among<S: TuneStore + Drop>(
     alloc: Global,
     texts: &Texts,
     mut store: S,
