@@ -7,12 +7,13 @@ ghost use Rattle.tune_archive.specs.Inside.Media.{left_before};
 ghost use Rattle.test_stores.specs.Marks.{IsMark, IsMarked};
 ghost use Rattle.test_stores.specs.Inside.Marks.{is_mark, LeavesMarks};
 
+use crate::asking::asks;
 use std::alloc::Global;
 use tune_disk::{DeviceFault, Disk};
 use tune_store::{Command, ListArchive, Refusal, Reply, TuneStore};
 
 /// A fake store over any disk: an archive in memory, which writes a mark of one byte on the disk at
-/// each command that is accepted. Any file of at most one byte stands for any state: it keeps no
+/// each change that is accepted. Any file of at most one byte stands for any state: it keeps no
 /// tunes, and shows that what the trait of stores says can be met over a disk that fails.
 #[derive(Drop)]
 pub struct DiskStore<D: Disk> {
@@ -68,6 +69,9 @@ impl<D: Disk> TuneStore for DiskStore<D> {
             return Err(Refusal::Closed);
         }
         let reply = self.archive.apply(command)?;
+        if asks(command) {
+            return Ok(reply);
+        }
         match mark(&mut self.disk) {
             Ok(()) => Ok(reply),
             Err(_) => {

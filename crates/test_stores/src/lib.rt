@@ -5,6 +5,7 @@
 #![tactic(auto)]
 
 mod any_store;
+mod asking;
 mod disk_store;
 mod recorded_store;
 

@@ -5,11 +5,12 @@ ghost use Rattle.tune_store.specs.State.{empty_state};
 ghost use Rattle.test_stores.specs.Record.{LeftSince, IsOfCount, IsRecorded, last_place};
 ghost use Rattle.test_stores.specs.Inside.Settling.{settles, left_earlier};
 
+use crate::asking::asks;
 use std::alloc::{AllocError, Global};
 use tune_store::{Command, ListArchive, Refusal, Reply, TuneStore};
 
 /// A fake store: an archive in memory, and the record of a device that holds one number, how many
-/// tunes there are. Each accepted command writes it, and each entry is a file that a stop may have
+/// tunes there are. Each accepted change writes it, and each entry is a file that a stop may have
 /// left: the last now, the others earlier. The device is full after `most` entries: from then on
 /// each command is refused `FileFull`.
 #[derive(Drop)]
@@ -70,6 +71,9 @@ impl TuneStore for RecordedStore {
         }
         self.entries.reserve(1)?;
         let reply = self.archive.apply(command)?;
+        if asks(command) {
+            return Ok(reply);
+        }
         add_entry(&mut self.entries, self.archive.len());
         Ok(reply)
     }

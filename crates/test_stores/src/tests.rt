@@ -22,8 +22,8 @@ fn records_an_import(rt: HostRuntime) -> Result<(), Fail> {
     assert_eq!(&rt; tune.text.bytes(), b"K:C\n".as_slice());
     let refusal = apply_to_open(&mut store, &Command::Show(2)).err();
     assert_eq!(&rt; refusal, Some(Refusal::Unknown { number: 2 }));
-    // The tune that is shown is one more entry, and the refusal none.
-    assert_eq!(&rt; store.entries(), [0, 1, 1].as_slice());
+    // A question leaves no entry, whether it is answered or refused.
+    assert_eq!(&rt; store.entries(), [0, 1].as_slice());
     Ok(())
 }
 
@@ -65,11 +65,11 @@ fn carries_out_changes(rt: HostRuntime) -> Result<(), Fail> {
         }
         _ => return Err(Fail::from("no book is exported")),
     }
-    assert_eq!(&rt; store.entries(), [0, 2, 2, 1, 1].as_slice());
+    assert_eq!(&rt; store.entries(), [0, 2, 2, 1].as_slice());
     Ok(())
 }
 
-// Each command of a script that is accepted leaves an entry: what a stop just after it leaves.
+// Each change of a script that is accepted leaves an entry: what a stop just after it leaves.
 #[test]
 fn records_a_script(rt: HostRuntime) -> Result<(), Fail> {
     let mut store = RecordedStore::new(rt.alloc(), 100)?;
@@ -78,7 +78,7 @@ fn records_a_script(rt: HostRuntime) -> Result<(), Fail> {
     let end = run(rt.alloc(), &mut script, &mut replies, &mut store);
     assert_eq!(&rt; end, RunEnd::Ended);
     assert_eq!(&rt; status(end), 0);
-    assert_eq!(&rt; store.entries(), [0, 2, 1, 1].as_slice());
+    assert_eq!(&rt; store.entries(), [0, 2, 1].as_slice());
     Ok(())
 }
 
@@ -97,19 +97,23 @@ fn goes_on_where_the_file_is_full(rt: HostRuntime) -> Result<(), Fail> {
     Ok(())
 }
 
-const SCRIPT: &[u8] = b"import 8\nX:1\nK:C\nshow 1\nshow 2\nshow 1\nshow 1\n";
+const SCRIPT: &[u8] =
+    b"import 8\nX:1\nK:C\nshow 1\nrenumber 1 3\nshow 2\nrenumber 3 1\nshow 1\ndelete 1\n";
 
-// The script has four commands that are accepted, and each makes two calls of the disk.
-const REPLIES: [&[u8]; 5] = [
+// The script has four changes that are accepted, and each makes two calls of the disk. Its
+// questions make none.
+const REPLIES: [&[u8]; 7] = [
     b"ok import 1 1\n",
     b"ok show 1 1 8\nX:1\nK:C\n",
+    b"ok renumber 1 3\n",
     b"refused 4 Unknown 2\n",
+    b"ok renumber 3 1\n",
     b"ok show 1 1 8\nX:1\nK:C\n",
-    b"ok show 1 1 8\nX:1\nK:C\n",
+    b"ok delete 1\n",
 ];
 
 // How many of these replies are written where the call of the disk after so many fails.
-const WRITTEN: [usize; 9] = [0, 0, 1, 1, 3, 3, 4, 4, 5];
+const WRITTEN: [usize; 9] = [0, 0, 2, 2, 4, 4, 6, 6, 7];
 
 #[test]
 fn ends_where_the_disk_fails(rt: HostRuntime) -> Result<(), Fail> {

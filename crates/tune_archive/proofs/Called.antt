@@ -1,5 +1,6 @@
 -- How a call of an archive in a file ends: what it answers, and which states it passes.
-use Rattle.std.proofs.Common.{◌≡◌, ◌⊎◌, inl, inr, ℕ, List, [], ◌∷◌, Bool, false, true, Result, Ok, Err, refl, sym, ◌∙◌, ap, subst, arith}
+use Rattle.std.proofs.Common.{◌≡◌, ◌⊎◌, inl, inr, ℕ, List, [], ◌∷◌, Bool, false, true, not, refl, sym, ◌∙◌, ap, subst}
+use Rattle.std.proofs.Common.{Option, None, Some, Result, Ok, Err}
 use Rattle.tune_disk.specs.Disk.{DiskState}
 use Rattle.tune_disk.specs.Stops.{LeavesOnly, SinceThen}
 use Rattle.tune_disk.proofs.Moments.{since_weaker}
@@ -10,6 +11,7 @@ use Rattle.tune_store.specs.Step.{step}
 use Rattle.tune_store.specs.TuneSteps.{Outcome}
 use Rattle.tune_store.specs.Plans.{changed, after, Decides, EndsFetch}
 use Rattle.tune_store.specs.Answers.{Answers, open_at, closed_at, stepped, file_full, no_memory, failed_before, failed_after, is_closed, passed}
+use Rattle.tune_store.specs.Answers.{asks, may_write}
 use Rattle.tune_store.specs.Stops.{Passes, StandsForOne}
 use Rattle.tune_store.specs.declared.plans.Change.{Change}
 use Rattle.tune_store.specs.declared.plans.Plan.{Plan}
@@ -72,6 +74,16 @@ none_passed : (old : State) (command : Command) (why : Refusal) → (why ≡ Fil
 none_passed old command why (inl full) = rw full refl
 none_passed old command why (inr memory) = rw memory refl
 
+-- WRITES
+-- a command that asks for a change is no question
+pub no_question : (asks : Bool) (asked : Option Change) (change : Change) → (asks ≡ true → asked ≡ None) → asked ≡ Some change → asks ≡ false
+no_question true asked change none some = (let other = none refl in cc)
+no_question false asked change none some = refl
+
+-- it may have written where the device failed
+may_fail : (command : Command) (why : Refusal) → asks command ≡ false → why ≡ Device → may_write command (Err why) ≡ true
+may_fail command why changes failed = rw (failed, changes) refl
+
 -- AN ARCHIVE
 module _ {D : Type 0} (honest : D → Type 0) (failures : D → ℕ) (state : D → DiskState) where
   -- what always holds of an archive
@@ -96,14 +108,23 @@ module _ {D : Type 0} (honest : D → Type 0) (failures : D → ℕ) (state : D 
   pub within : (archive : Shelf D) → Holds archive → archive.closed ≡ false → HonestAt honest archive.pages.disk → IsState (state_of state archive)
   within archive holds is_open h = (holds.holds h is_open).within
 
-  -- A call was answered, and the disk is as it was, or a stop since then leaves states that it passed.
+  -- A call was answered, and the disk is as it was; or the call may write, and a stop since then leaves states that it passed.
   pub record Ended (old new : Shelf D) (command : Command) (answer : Result Reply Refusal) : Type 0 where
     pub was_honest : HonestAt honest new.pages.disk → HonestAt honest old.pages.disk
     pub answers : HonestAt honest new.pages.disk
         → Answers (record { state = state_of state old; closed = old.closed }) command answer (record { state = state_of state new; closed = new.closed })
     pub moves : HonestAt honest new.pages.disk → (state_at state new.pages.disk ≡ state_at state old.pages.disk)
-        ⊎ SinceThen (state_at state old.pages.disk) (state_at state new.pages.disk)
-        (StandsForOne StandsForState (state_of state old ∷ passed (state_of state old) command answer))
+        ⊎ ((may_write command answer ≡ true) × SinceThen (state_at state old.pages.disk) (state_at state new.pages.disk)
+        (StandsForOne StandsForState (state_of state old ∷ passed (state_of state old) command answer)))
+
+  -- what may not have written left the disk at its moment
+  pub stays_at : (old new : Shelf D) (command : Command) (answer : Result Reply Refusal) → Ended old new command answer
+      → may_write command answer ≡ false → HonestAt honest new.pages.disk
+      → moment_of (state_at state new.pages.disk) ≡ moment_of (state_at state old.pages.disk)
+  stays_at old new command answer ended quiet h = elim (ended.moves h) [
+    | inl same ↦ ap moment_of same
+    | inr wrote ↦ (let may = wrote.0 in cc)
+  ]
 
   -- it passes the states of its answer
   pub passes : (old new : Shelf D) (command : Command) (answer : Result Reply Refusal) → Ended old new command answer → Holds new
@@ -116,7 +137,7 @@ module _ {D : Type 0} (honest : D → Type 0) (failures : D → ℕ) (state : D 
         within = λ h. answers_within _ _ _ _ (ended.answers h) (sound.within (ended.was_honest h));
         rest = at_rest new holds;
       })
-      ended.moves (λ sound h file stands. stands)
+      (λ h. elim (ended.moves h) [ inl same ↦ inl same | inr wrote ↦ inr wrote.1 ]) (λ sound h file stands. stands)
 
   -- a call on a closed archive
   pub ended_closed : (archive : Shelf D) (command : Command) → archive.closed ≡ true → Ended archive archive command (Err Closed)
@@ -206,10 +227,10 @@ module _ {D : Type 0} (honest : D → Type 0) (failures : D → ℕ) (state : D 
 
   -- a change that was made
   pub ended_changed : (old mid new : Shelf D) (command : Command) (change : Change) (reply : Reply) → old.closed ≡ false
-      → Fetches honest failures state old mid
+      → asks command ≡ false → Fetches honest failures state old mid
       → (HonestAt honest mid.pages.disk → step (state_of state old) command ≡ (changed change (state_of state old), Ok reply))
       → MakesChange honest failures state (Ok tt) mid new change → Ended old new command (Ok reply)
-  ended_changed old mid new command change reply e fetches steps makes = record {
+  ended_changed old mid new command change reply e changes fetches steps makes = record {
     was_honest = λ h. fetches.was_honest (makes.was_honest h);
     answers = λ h.
         (let before = makes.was_honest h in
@@ -217,15 +238,18 @@ module _ {D : Type 0} (honest : D → Type 0) (failures : D → ℕ) (state : D 
         let next : changed change (state_of state old) ≡ state_of state new = sym (makes.made.1 h ∙ ap (changed change) same) in
         let P : State → Type 0 = λ one. step (state_of state old) command ≡ (one, Ok reply) in
         stays _ _ old.closed new.closed command (Ok reply) e makes.made.0 (stepped _ _ command (Ok reply) (subst P next (steps before))));
-    moves = λ h. inr (moved old mid new command change reply fetches (steps (makes.was_honest h)) (makes.was_honest h) (makes.moments h));
+    moves = λ h. inr (
+      ap not changes,
+      moved old mid new command change reply fetches (steps (makes.was_honest h)) (makes.was_honest h) (makes.moments h),
+    );
   }
 
   -- a change that was not made, or of which that is not known
   pub ended_unmade : (old mid new : Shelf D) (command : Command) (change : Change) (reply : Reply) (why : Refusal) → old.closed ≡ false
-      → Fetches honest failures state old mid
+      → asks command ≡ false → Fetches honest failures state old mid
       → (HonestAt honest mid.pages.disk → step (state_of state old) command ≡ (changed change (state_of state old), Ok reply))
       → MakesChange honest failures state (Err why) mid new change → Ended old new command (Err why)
-  ended_unmade old mid new command change reply why e fetches steps makes = elim makes.made [
+  ended_unmade old mid new command change reply why e changes fetches steps makes = elim makes.made [
     | inl spares ↦
         (let disk : HonestAt honest new.pages.disk → state_at state new.pages.disk ≡ state_at state old.pages.disk =
         λ h. spares.2 h ∙ fetches.same_state (makes.was_honest h) in
@@ -252,6 +276,9 @@ module _ {D : Type 0} (honest : D → Type 0) (failures : D → ℕ) (state : D 
           (let before = makes.was_honest h in
           let Q : Refusal → Type 0 = λ one. SinceThen (state_at state old.pages.disk) (state_at state new.pages.disk)
           (StandsForOne StandsForState (state_of state old ∷ passed (state_of state old) command (Err one))) in
-          inr (subst Q (sym fails.0) (moved old mid new command change reply fetches (steps before) before (makes.moments h))));
+          inr (
+            may_fail command why changes fails.0,
+            subst Q (sym fails.0) (moved old mid new command change reply fetches (steps before) before (makes.moments h)),
+          ));
     }
   ]

@@ -1,5 +1,5 @@
 -- What a store may answer a command, and what it stands for then.
-use Rattle.std.specs.Prelude.{◌≡◌, ◌⊎◌, List, [], ◌∷◌, Bool, true, false, Result, Ok, Err}
+use Rattle.std.specs.Prelude.{◌≡◌, ◌⊎◌, List, [], ◌∷◌, Bool, true, false, not, Result, Ok, Err}
 use Rattle.std.specs.Prelude.{⊤}
 use Rattle.tune_store.specs.State.{State, Standing}
 use Rattle.tune_store.specs.Step.{step}
@@ -7,6 +7,7 @@ use Rattle.tune_store.specs.declared.command.Command.{Command}
 use Rattle.tune_store.specs.declared.command.Command.TheVariants.{Import, Replace, Delete, Show}
 use Rattle.tune_store.specs.declared.command.Command.TheVariants.{Renumber, Find, SetNew, SetAdd}
 use Rattle.tune_store.specs.declared.command.Command.TheVariants.{SetCut, SetDrop, SetShow}
+use Rattle.tune_store.specs.declared.command.Command.TheVariants.{Titles, Sets, ExportAll}
 use Rattle.tune_store.specs.declared.command.Command.TheVariants.{ExportSet}
 use Rattle.tune_store.specs.declared.command.Reply.{Reply}
 use Rattle.tune_store.specs.declared.command.Refusal.{Refusal}
@@ -59,6 +60,24 @@ stays_open (Ok reply) = true
 stays_open (Err Device) = false
 stays_open (Err Closed) = false
 stays_open (Err refusal) = true
+
+-- whether a command is a question, which changes nothing
+abbrev pub asks : Command → Bool
+asks (Show number) = true
+asks (Find query) = true
+asks Titles = true
+asks Sets = true
+asks (SetShow name) = true
+asks ExportAll = true
+asks (ExportSet name) = true
+asks command = false
+
+-- Whether a command with this answer may have written to the device: a question has not, nor has
+-- one that was refused, but where the device failed.
+abbrev pub may_write : Command → Result Reply Refusal → Bool
+may_write command (Ok reply) = not (asks command)
+may_write command (Err Device) = not (asks command)
+may_write command (Err refusal) = false
 
 -- WHICH REFUSALS MAY COME TO WHICH COMMAND
 -- the refusals of a book that has no tunes to give

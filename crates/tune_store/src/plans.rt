@@ -1,7 +1,7 @@
 // Decides commands: by the rules that are here alone, for every store.
 ghost use Rattle.std.specs.Prelude.{◌≡◌, true, None, Some, IfOk, IfErr, MatchResult};
 ghost use Rattle.tune_store.specs.State.{IsState};
-ghost use Rattle.tune_store.specs.Answers.{takes_memory};
+ghost use Rattle.tune_store.specs.Answers.{takes_memory, asks};
 ghost use Rattle.tune_store.specs.Plans.{Decides, CanChangeTo, EndsFetch, IsRefusalOfPlan, grows};
 
 use crate::catalog::Catalog;
@@ -82,6 +82,7 @@ impl Plan {
 /// - `memory`, of every device: some commands are never refused for memory, and their changes ask
 ///   for none.
 /// - `possible`, of every device: the change can be made.
+/// - `asks`, of every device: a question has no change.
 /// - `fetched`: what became of the store in reading texts.
 pub fn decide<C: Catalog>(
     alloc: Global,
@@ -96,6 +97,7 @@ pub fn decide<C: Catalog>(
         (λ refusal. refusal ≡ Refusal.OutOfMemory → takes_memory command.now ≡ true) }
     ensures possible { IfOk result
         (λ plan. CanChangeTo plan.change (C.labels catalog.old) (C.sets catalog.old)) }
+    ensures asks { asks command.now ≡ true → IfOk result (λ plan. plan.change ≡ None) }
     ensures fetched { MatchResult result (λ _. C.fetched catalog.old catalog.new)
         (λ refusal. EndsFetch C.fetched C.failed catalog.old refusal catalog.new) }
 {

@@ -2,7 +2,7 @@
 ghost use Rattle.std.specs.Prelude.{◌≡◌, ◌≢◌, ◌↔◌, ◌≤◌, ℕ, List, true, false, not, ⊤};
 ghost use Rattle.std.specs.Prelude.{Bool, IfOk, IfErr, IsErrOf};
 ghost use Rattle.tune_store.specs.State.{State, IsState, standing_by};
-ghost use Rattle.tune_store.specs.Answers.{Answers, IsRefusalOf, passed, stays_open};
+ghost use Rattle.tune_store.specs.Answers.{Answers, IsRefusalOf, passed, stays_open, may_write};
 ghost use Rattle.tune_store.specs.Revisions.{RaisesReplaced};
 ghost use Rattle.tune_store.specs.Stops.{Passes, HasFailed};
 
@@ -11,9 +11,9 @@ use crate::command::{Command, Refusal, Reply};
 /// A store of tunes: a plain list of them in meaning, in memory or on a device that may fail, or
 /// stop in mid-write.
 ///
-/// What is said of the tunes, and of what a stop leaves, holds where the device has answered as a
-/// device does (`honest`). What is said of closing, and of the refusals `Device` and `Closed`,
-/// holds of every device.
+/// What is said of the tunes, of what is written, and of what a stop leaves, holds where the device
+/// has answered as a device does (`honest`). What is said of closing, and of the refusals `Device`
+/// and `Closed`, holds of every device.
 pub trait TuneStore {
     /// The list that the store stands for.
     ghost state: { Self → State };
@@ -31,7 +31,8 @@ pub trait TuneStore {
     /// How often its device failed.
     ghost failures: { Self → ℕ } = { λ _. 0 };
 
-    /// How far its device has come: a number that no call of an honest one lowers.
+    /// How far its device has come: a number that no call of an honest one lowers. A store over a
+    /// device gives one that each write and each sync raises, unless it failed and did nothing.
     ghost moment: { Self → ℕ } = { λ _. 0 };
 
     /// Whether a stop at that moment, or since then, may have left this file.
@@ -44,6 +45,9 @@ pub trait TuneStore {
     /// where no page is free in the file, `OutOfMemory`, `Device` where the device failed, and
     /// `Closed` where it failed before. After each but `Device` the store is as it was. After
     /// `Device` it is closed, and makes no device call any more.
+    ///
+    /// A question leaves the device at the moment at which it was, whatever it is answered, and so
+    /// does a command that is refused, but for `Device`: nothing is written (`quiet`).
     fn apply(&mut self, command: &Command) -> Result<Reply, Refusal>
         ensures answer { honest self.new → Answers (standing_by state closed self.old) command.now
             result (standing_by state closed self.new) }
@@ -58,7 +62,9 @@ pub trait TuneStore {
         ensures stops { Passes honest sound state moment left_since stands_for
             self.old self.new (passed (state self.old) command.now result) }
         ensures cause { honest self.new → IsErrOf result Refusal.Device
-            → HasFailed (failures self.old) (failures self.new) };
+            → HasFailed (failures self.old) (failures self.new) }
+        ensures quiet { may_write command.now result ≡ false → honest self.new
+            → moment self.new ≡ moment self.old };
 
     /// Where the store is open, a stop now leaves its state.
     ghost settled: { (store : Self) (file : List ℕ) → sound store → honest store
