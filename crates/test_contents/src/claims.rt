@@ -49,7 +49,8 @@ fn claimed_of<D: TestDisk>(
     let mut work = pages.begin()?;
     let first = pages.put_chain(&mut work, one.1)?;
     let second = pages.put_chain(&mut work, other.1)?;
-    let list = write_rows(alloc, &[row(one.0, first), row(other.0, second)])?;
+    let mut list = Vec::new(alloc);
+    write_rows(&[row(one.0, first), row(other.0, second)], &mut list)?;
     let list_first = pages.put_chain(&mut work, &list)?;
     let sets_first = pages.put_chain(&mut work, sets)?;
     pages.put_page(&mut work, 0, &write_root(list_first, sets_first))?;

@@ -9,7 +9,7 @@ use abc_fields::{ByteText, TuneText};
 use std::alloc::Global;
 use std::process::Abort;
 use std::test::Fail;
-use tune_contents::{Contents, claim, lay};
+use tune_contents::{Contents, Room, claim, lay};
 use tune_format::Row;
 use tune_pages::Pages;
 use tune_sets::SetLists;
@@ -34,7 +34,7 @@ fn changed<D: TestDisk>(
     ensures open { OnOk result (pages.new.closed ≡ false) }
 {
     let mut work = pages.begin()?;
-    let left = lay(alloc, pages, &mut work, contents, change)?;
+    let left = lay(&mut Room::new(alloc), pages, &mut work, contents, change)?;
     pages.finish(work)?;
     Ok(left)
 }

@@ -10,7 +10,7 @@ use abc_fields::TuneText;
 use std::alloc::Global;
 use std::marker::Model;
 use thiserror::Error;
-use tune_contents::Contents;
+use tune_contents::{Contents, Room};
 use tune_disk::Disk;
 use tune_pages::Pages;
 
@@ -35,6 +35,7 @@ pub struct Archive<D: Disk> {
     pub(crate) alloc: Global,
     pub(crate) pages: Pages<D>,
     pub(crate) contents: Contents,
+    pub(crate) room: Room,
     // the text that was read last
     pub(crate) fetched: Option<Fetched>,
     pub(crate) closed: bool,
@@ -84,6 +85,7 @@ impl<D: Disk> Archive<D> {
             alloc,
             pages,
             contents,
+            room: Room::new(alloc),
             fetched: None,
             closed: false,
         }
@@ -123,6 +125,7 @@ impl<D: Disk> Archive<D> {
             alloc: _,
             pages,
             contents: _,
+            room: _,
             fetched: _,
             closed: _,
         } = self;

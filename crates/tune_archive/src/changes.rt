@@ -13,8 +13,8 @@ ghost use Rattle.tune_archive.specs.Inside.Changing.{refusal_of, MakesChange};
 ghost use Rattle.tune_archive.specs.Inside.Holding.{stand_of};
 
 use crate::archive::Archive;
-use std::alloc::Global;
-use tune_contents::{Contents, lay};
+use std::mem;
+use tune_contents::{Contents, Room, lay};
 use tune_disk::Disk;
 use tune_pages::{Fault, Pages};
 use tune_store::{Change, Refusal};
@@ -33,7 +33,7 @@ fn refusal_of(fault: Fault) -> Refusal
 
 // Makes a change in one work, whole or not at all, and gives what is to be kept in memory then.
 fn change_pages<D: Disk>(
-    alloc: Global,
+    room: &mut Room,
     pages: &mut Pages<D>,
     contents: &Contents,
     change: Change,
@@ -59,7 +59,7 @@ fn change_pages<D: Disk>(
     ensures answer { AnswersLay result pages.new.closed }
 {
     let mut work = pages.begin()?;
-    let left = lay(alloc, pages, &mut work, contents, change)?;
+    let left = lay(room, pages, &mut work, contents, change)?;
     pages.finish(work)?;
     Ok(left)
 }
@@ -75,9 +75,9 @@ impl<D: Disk> Archive<D> {
         ensures { MakesChange D.honest D.failures D.state result self.old self.new change }
     {
         self.fetched = None;
-        match change_pages(self.alloc, &mut self.pages, &self.contents, change) {
+        match change_pages(&mut self.room, &mut self.pages, &self.contents, change) {
             Ok(contents) => {
-                self.contents = contents;
+                self.room.take(mem::replace(&mut self.contents, contents));
                 Ok(())
             }
             Err(fault) => {

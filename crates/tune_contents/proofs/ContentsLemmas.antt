@@ -1,10 +1,11 @@
 -- What the contents of an archive hold, through a change.
-use Rattle.std.proofs.Common.{◌≡◌, ℕ, false, List, [], ◌∷◌, refl, sym, ◌∙◌, ap, subst, arith}
+use Rattle.std.proofs.Common.{◌≡◌, ℕ, false, List, [], ◌∷◌, Option, Some, None, is_some, refl, sym, ◌∙◌, ap, subst, arith}
 use Rattle.std.proofs.lemmas.List.{length-map}
 use Rattle.tune_journal.specs.Pages.{page_at}
 use Rattle.tune_pages.specs.Stand.{Stand}
 use Rattle.tune_sets.specs.SetBytes.{written_sets}
 use Rattle.tune_sets.specs.declared.set_lists.TuneSet.{TuneSet}
+use Rattle.tune_sets.proofs.PlaceLemmas.{unheld_renumbered}
 use Rattle.tune_store.specs.Plans.{CanChange, changed_sets, changed_tunes}
 use Rattle.tune_store.specs.State.{State, RisesFrom}
 use Rattle.tune_store.specs.declared.tune.Tune.{Tune}
@@ -41,12 +42,16 @@ sets_accept (AddPlace name number) rows sets can = can
 sets_accept (CutPlace name place) rows sets can = can
 sets_accept (DropSet name) rows sets can = can
 
+is_none : (found : Option (List ℕ)) → is_some found ≡ false → found ≡ None
+is_none None h = refl
+is_none (Some name) h = cc
+
 -- a change of tunes alone leaves the set lists
-sets_stay : (change : Change) (sets : List TuneSet) → changes_sets change ≡ false → changed_sets change sets ≡ sets
+sets_stay : (change : Change) (sets : List TuneSet) → changes_sets change sets ≡ false → changed_sets change sets ≡ sets
 sets_stay (Add first texts) sets h = refl
 sets_stay (Put place tune) sets h = refl
 sets_stay (Take place) sets h = refl
-sets_stay (Move number to) sets h = cc
+sets_stay (Move number to) sets h = unheld_renumbered number to sets (is_none _ h)
 sets_stay (NewSet name) sets h = cc
 sets_stay (AddPlace name number) sets h = cc
 sets_stay (CutPlace name place) sets h = cc
@@ -110,7 +115,7 @@ some_archive s mid c rows change (state, rises, h) lays same =
 -- the tunes, and then the lists
 pub state_laid : (s mid new : Stand) (c left : Contents) (change : Change) → LaysChange s mid c.rows.items left.rows.items change
     → (changes_tunes change ≡ false → left.rows.items ≡ c.rows.items) → left.sets ≡ changed_sets change c.sets
-    → LaysContents mid new (c.list_first, c.sets_first) (left.list_first, left.sets_first) (changes_tunes change) (changes_sets change) left.rows.items
+    → LaysContents mid new (c.list_first, c.sets_first) (left.list_first, left.sets_first) (changes_tunes change) (changes_sets change c.sets) left.rows.items
     left.sets
     → LaysState s new c left change
 state_laid s mid new c left change lays same sets whole = λ state rises h.

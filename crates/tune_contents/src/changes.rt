@@ -15,8 +15,10 @@ ghost use Rattle.tune_contents.specs.Inside.Laying.{HoldsSomeTunes};
 
 use crate::contents::Contents;
 use crate::laying::{add_tunes, lay_contents, put_tune, take_tune};
+use crate::room::Room;
 use crate::rows::move_row;
 use std::alloc::Global;
+use std::mem;
 use tune_disk::Disk;
 use tune_format::Row;
 use tune_pages::{Fault, Pages, Work};
@@ -33,12 +35,13 @@ fn changes_tunes(change: &Change) -> bool
     }
 }
 
-// Whether a change is one of set lists.
-fn changes_sets(change: &Change) -> bool
-    ensures { result ≡ changes_sets change.now }
+// Whether a change is one of set lists. A tune that none of them names is moved without them.
+fn changes_sets(change: &Change, sets: &SetLists) -> bool
+    ensures { result ≡ changes_sets change.now sets.now }
 {
     match change {
         Change::Add { .. } | Change::Put { .. } | Change::Take { .. } => false,
+        Change::Move { number, .. } => sets.holds(*number).is_some(),
         _ => true,
     }
 }
@@ -97,11 +100,12 @@ fn lay_tunes<D: Disk>(
 }
 
 // A copy of rows.
-fn copy_rows(alloc: Global, rows: &[Row]) -> Result<Vec<Row>, Fault>
+fn copy_rows(room: &mut Room, rows: &[Row]) -> Result<Vec<Row>, Fault>
     ensures rows { IfOk result (λ copy. copy.items ≡ rows.now) }
     ensures err { IfErr result (λ fault. fault ≡ OutOfMemory) }
 {
-    let mut copy = Vec::new(alloc);
+    let mut copy = mem::replace(&mut room.rows, Vec::new(room.alloc));
+    copy.clear();
     match copy.extend_from_slice(rows) {
         Ok(()) => Ok(copy),
         Err(_) => Err(Fault::OutOfMemory),
@@ -142,7 +146,7 @@ fn sets_after(sets: &SetLists, change: &Change) -> Result<SetLists, Fault>
 /// `FileFull`, where there is no page for a chain; `OutOfMemory`; the pages stay open. `Device`,
 /// where the device failed: the pages are closed then. A work that was refused is to be dropped.
 pub fn lay<D: Disk>(
-    alloc: Global,
+    room: &mut Room,
     pages: &mut Pages<D>,
     work: &mut Work,
     contents: &Contents,
@@ -161,13 +165,14 @@ pub fn lay<D: Disk>(
     ensures looks { LooksAt D.honest D.failures D.state result pages.old pages.new }
     ensures answer { AnswersLay result pages.new.closed }
 {
-    let mut rows = copy_rows(alloc, &contents.rows)?;
+    let mut rows = copy_rows(room, &contents.rows)?;
     let sets = sets_after(&contents.sets, &change)?;
     let lists = changes_tunes(&change);
-    let names = changes_sets(&change);
-    lay_tunes(alloc, pages, work, &mut rows, change)?;
+    let names = changes_sets(&change, &contents.sets);
+    lay_tunes(room.alloc, pages, work, &mut rows, change)?;
     let firsts = (contents.list_first, contents.sets_first);
-    let nexts = lay_contents(alloc, pages, work, firsts, &rows, &sets, lists, names)?;
+    let list = &mut room.list;
+    let nexts = lay_contents(list, pages, work, firsts, &rows, &sets, lists, names)?;
     Ok(Contents {
         rows,
         sets,

@@ -177,9 +177,9 @@ pub(crate) fn add_tunes<D: Disk>(
     Ok(())
 }
 
-// Puts the list of tunes on another chain.
+// Puts the list of tunes on another chain, by way of these bytes.
 fn lay_list<D: Disk>(
-    alloc: Global,
+    list: &mut Vec<u8>,
     pages: &mut Pages<D>,
     work: &mut Work,
     list_first: u32,
@@ -196,10 +196,10 @@ fn lay_list<D: Disk>(
     ensures looks { LooksAt D.honest D.failures D.state result pages.old pages.new }
     ensures answer { AnswersLay result pages.new.closed }
 {
-    let Ok(bytes) = write_rows(alloc, rows) else {
+    let Ok(()) = write_rows(rows, list) else {
         return Err(Fault::OutOfMemory);
     };
-    swap_chain(pages, work, list_first, &bytes)
+    swap_chain(pages, work, list_first, list)
 }
 
 // Puts the set lists on another chain.
@@ -246,7 +246,7 @@ fn lay_root<D: Disk>(
 
 // The same where the list of tunes changes; otherwise it stays where it is.
 fn lay_list_where<D: Disk>(
-    alloc: Global,
+    list: &mut Vec<u8>,
     pages: &mut Pages<D>,
     work: &mut Work,
     list_first: u32,
@@ -264,7 +264,7 @@ fn lay_list_where<D: Disk>(
     ensures answer { AnswersLay result pages.new.closed }
 {
     if changes {
-        lay_list(alloc, pages, work, list_first, rows)
+        lay_list(list, pages, work, list_first, rows)
     } else {
         Ok(list_first)
     }
@@ -298,7 +298,7 @@ fn lay_sets_where<D: Disk>(
 // Puts the list of tunes and the set lists on other chains, each where it changes, and the root;
 // gives where both begin.
 pub(crate) fn lay_contents<D: Disk>(
-    alloc: Global,
+    list: &mut Vec<u8>,
     pages: &mut Pages<D>,
     work: &mut Work,
     firsts: (u32, u32),
@@ -319,7 +319,7 @@ pub(crate) fn lay_contents<D: Disk>(
     ensures answer { AnswersLay result pages.new.closed }
 {
     let (list_first, sets_first) = firsts;
-    let list_next = lay_list_where(alloc, pages, work, list_first, rows, lists)?;
+    let list_next = lay_list_where(list, pages, work, list_first, rows, lists)?;
     let sets_next = lay_sets_where(pages, work, sets_first, sets, names)?;
     lay_root(pages, work, list_next, sets_next)?;
     Ok((list_next, sets_next))

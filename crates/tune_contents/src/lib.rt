@@ -6,8 +6,10 @@ mod changes;
 mod claiming;
 mod contents;
 mod laying;
+mod room;
 mod rows;
 
 pub use changes::lay;
 pub use claiming::claim;
 pub use contents::Contents;
+pub use room::Room;

@@ -7,7 +7,7 @@ ghost use Rattle.tune_format.specs.declared.rows.Row.{Row};
 
 use crate::numbers::number_at;
 use byteorder::{BigEndian, ByteOrder};
-use std::alloc::{AllocError, Global};
+use std::alloc::AllocError;
 
 // How many bytes the list has for each tune.
 const ROW_BYTES: usize = 8;
@@ -23,16 +23,17 @@ pub struct Row {
     pub first: u32,
 }
 
-/// The bytes of the list of tunes: for each its number and the first page of its chain, the highest
-/// byte first. The error is out of memory.
-pub fn write_rows(alloc: Global, rows: &[Row]) -> Result<Vec<u8>, AllocError>
-    ensures { IfOk result (λ bytes. bytes.items ≡ written_rows rows.now) }
+/// Puts the bytes of the list of tunes in place of others: for each tune its number and the first
+/// page of its chain, the highest byte first. The error is out of memory.
+pub fn write_rows(rows: &[Row], bytes: &mut Vec<u8>) -> Result<(), AllocError>
+    ensures { OnOk result (bytes.new.items ≡ written_rows rows.now) }
 {
-    let mut bytes = Vec::new(alloc);
+    bytes.clear();
+    bytes.reserve(rows.len().saturating_mul(ROW_BYTES))?;
     for row in rows {
         bytes.extend_from_slice(&row_bytes(row))?;
     }
-    Ok(bytes)
+    Ok(())
 }
 
 fn row_bytes(row: &Row) -> [u8; ROW_BYTES]

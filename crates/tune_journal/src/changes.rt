@@ -1,7 +1,7 @@
 // Pages that change.
 ghost use Rattle.std.specs.Prelude.{◌≡◌, ◌≢◌, ◌<◌, ◌==◌, ℕ, [], length, map, replicate, take, drop};
-ghost use Rattle.std.specs.Prelude.{IsTrue, Some, IsSome, IsOk, OnOk, OnErr, IfOk, IfErr, All};
-ghost use Rattle.std.specs.Prelude.{option_map};
+ghost use Rattle.std.specs.Prelude.{true, false, IsTrue, None, Some, IsSome, IsOk, OnOk, OnErr};
+ghost use Rattle.std.specs.Prelude.{IfOk, IfErr, All, option_map};
 ghost use Rattle.std.specs.List.Sorted.{IsStrictlyIncreasing};
 ghost use Rattle.tune_journal.specs.ChangeList.{with_change, image_of, change_at, changed_page};
 ghost use Rattle.tune_journal.specs.Inside.ChangeOrder.{FoundAt, MissingAt};
@@ -110,6 +110,18 @@ impl Changes {
         Ok(())
     }
 
+    /// Takes memory for so many more pages. What they change to stays as it is.
+    ///
+    /// # Errors
+    ///
+    /// `AllocError` where there is no such memory.
+    pub fn reserve(&mut self, more: usize) -> Result<(), AllocError>
+        ensures { self.new ≡ self.old }
+    {
+        let room = self.changed.len().saturating_add(more);
+        self.whole.reserve(room - self.whole.len())
+    }
+
     /// The image that the page changes to; `None` exactly where it is not among the changes.
     pub fn get(&self, page: u32) -> Option<PageImage>
         ensures { option_map (λ image. image.bytes) result ≡ image_of page self.now }
@@ -117,6 +129,22 @@ impl Changes {
         match self.search(page) {
             Ok(at) => Some(self.image_at(at)),
             Err(_) => None,
+        }
+    }
+
+    /// Puts the image that the page changes to in the place of `image`. Where the answer is false,
+    /// it is not among the changes, and `image` stays.
+    pub fn read(&self, page: u32, image: &mut PageImage) -> bool
+        ensures found { result ≡ true → image_of page self.now ≡ Some image.new.bytes }
+        ensures missing { result ≡ false → image_of page self.now ≡ None }
+        ensures stays { result ≡ false → image.new ≡ image.old }
+    {
+        match self.search(page) {
+            Ok(at) => {
+                *image = self.image_at(at);
+                true
+            }
+            Err(_) => false,
         }
     }
 

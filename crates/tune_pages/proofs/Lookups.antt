@@ -1,5 +1,5 @@
 -- What is read of a page through a work.
-use Rattle.std.proofs.Common.{◌≡◌, inl, inr, ℕ, ◌<◌, List, length, Some, None, IsSome, Result, Ok, Err, IfOk, Bool, true, false, sym, ◌∙◌, ap, subst, arith}
+use Rattle.std.proofs.Common.{◌≡◌, inl, inr, ℕ, ◌<◌, List, length, Some, None, IsSome, Result, Ok, Err, OnOk, Bool, true, false, sym, ◌∙◌, ap, subst, arith}
 use Rattle.std.proofs.lemmas.Bool.{cases_lt}
 use Rattle.tune_journal.specs.ChangeList.{image_of}
 use Rattle.tune_journal.specs.Pages.{page_at}
@@ -29,6 +29,6 @@ module _ (pages : List (List ℕ)) (used : List Bool) (w : Work) (p : ℕ) (fits
   read_kept none = sym (ap (λ (l : List (List ℕ)). page_at l p) (stand_pages pages used w)
       ∙ page_kept_after pages (count_in pages w) w.changes p (read_old none) none)
 
-pub ok_as : {T E : Type 0} (r : Result T E) (P Q : T → Type 0) → ((x : T) → P x → Q x) → IfOk r P → IfOk r Q
-ok_as (Ok x) P Q so p = so x p
+pub ok_as : {T E : Type 0} (r : Result T E) (P Q : Type 0) → (P → Q) → OnOk r P → OnOk r Q
+ok_as (Ok x) P Q so p = so p
 ok_as (Err e) P Q so p = tt

@@ -4,6 +4,7 @@ ghost use Rattle.std.specs.Prelude.{IfSome, IfNone};
 ghost use Rattle.tune_journal.specs.Layout.{most_pages};
 ghost use Rattle.tune_pages.specs.Faults.{AnswersWork, free_pages, pages_for};
 ghost use Rattle.tune_pages.specs.Inside.NextFree.{IsNextFree};
+ghost use Rattle.tune_pages.specs.Layout.{piece_room};
 ghost use Rattle.tune_pages.specs.Stand.{IsUsed, IsFull, IsLeastFree, PutsChain};
 ghost use Rattle.tune_pages.specs.Stand.{with_page, without_page, taken, taken_with};
 ghost use Rattle.tune_pages.specs.declared.fault.Fault.TheVariants.{FileFull};
@@ -152,6 +153,24 @@ impl<D: Disk> Pages<D> {
         if bytes.len() <= ROOM {
             return self.take_least(work, &link(0, bytes));
         }
+        // Room for its images at once, and for that of a page that names it.
+        if work.changes.reserve(bytes.len() / ROOM + 2).is_err() {
+            return Err(Fault::OutOfMemory);
+        }
+        self.put_links(work, bytes)
+    }
+
+    // Puts bytes that want more than one page on a chain.
+    fn put_links(&self, work: &mut Work, bytes: &[u8]) -> Result<u32, Fault>
+        requires open { self.now.closed ≡ false }
+        requires fits { Fits self.now work.old }
+        requires long { piece_room < length bytes.now }
+        ensures fits { OnOk result (Fits self.now work.new) }
+        ensures chain { IfOk result (λ first. (trail : List ℕ)
+            × PutsChain (stand self.now work.old) (stand self.now work.new) first trail bytes.now) }
+        ensures answer { AnswersWork result self.now.closed
+            (free_pages (stand self.now work.old).used < pages_for (length bytes.now)) }
+    {
         let first = self.allocate(work)?;
         let mut page = first;
         let mut at = 0;

@@ -60,14 +60,13 @@ fn head_of(next: u32, size: u16) -> [u8; 6]
     head
 }
 
-// The bytes that count, and zeros.
-fn body_of(piece: &[u8]) -> [u8; 4090]
-    requires { length piece.now ≤ 4090 }
-    ensures { result ≡ piece.now ++ replicate (4090 - length piece.now) 0 }
+// Puts the bytes that count in front of zeros.
+fn put_piece(body: &mut [u8], piece: &[u8])
+    requires zeros { body.old ≡ replicate 4090 0 }
+    requires fits { length piece.now ≤ 4090 }
+    ensures { body.new ≡ piece.now ++ replicate (4090 - length piece.now) 0 }
 {
-    let mut body = [0; 4090];
     body[..piece.len()].copy_from_slice(piece);
-    body
 }
 
 /// A page of a chain.
@@ -77,7 +76,7 @@ pub(crate) fn link(next: u32, piece: &[u8]) -> PageImage
     ensures { result.bytes ≡ link_bytes next piece.now }
 {
     let mut bytes = [0; 4096];
+    put_piece(&mut bytes[6..], piece);
     bytes[..6].copy_from_slice(&head_of(next, piece.len() as u16));
-    bytes[6..].copy_from_slice(&body_of(piece));
     PageImage { bytes }
 }

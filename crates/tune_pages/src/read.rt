@@ -48,31 +48,54 @@ impl<D: Disk> Pages<D> {
         ensures looks { LooksAt D.honest D.failures D.state result self.old self.new }
         ensures answer { AnswersRead result self.old.closed self.new.closed }
     {
-        if self.closed {
-            return Err(Fault::Closed);
-        }
-        match work.changes.get(page) {
-            Some(image) => Ok(image),
-            None => self.fetch(page),
+        let mut image = PageImage::blank();
+        match self.read_into(work, page, &mut image) {
+            Ok(()) => Ok(image),
+            Err(fault) => Err(fault),
         }
     }
 
+    // The same, put in the place of another image.
+    pub(crate) fn read_into(
+        &mut self,
+        work: &Work,
+        page: u32,
+        image: &mut PageImage,
+    ) -> Result<(), Fault>
+        requires fits { Fits self.old work.now }
+        requires used { IsUsed (stand self.old work.now).used page }
+        ensures image { OnOk result (HonestAt D.honest self.new.disk
+            → image.new.bytes ≡ page_at (stand self.old work.now).pages page) }
+        ensures fits { OnOk result (Fits self.new work.now) }
+        ensures stand { OnOk result (SameStand (HonestAt D.honest self.new.disk)
+            (stand self.old work.now) (stand self.new work.now)) }
+        ensures looks { LooksAt D.honest D.failures D.state result self.old self.new }
+        ensures answer { AnswersRead result self.old.closed self.new.closed }
+    {
+        if self.closed {
+            return Err(Fault::Closed);
+        }
+        if work.changes.read(page, image) {
+            return Ok(());
+        }
+        self.fetch(page, image)
+    }
+
     // Reads a page that no work changes.
-    fn fetch(&mut self, page: u32) -> Result<PageImage, Fault>
+    fn fetch(&mut self, page: u32, image: &mut PageImage) -> Result<(), Fault>
         requires open { self.old.closed ≡ false }
         requires below { page < length self.old.pages }
-        ensures image { IfOk result (λ image. HonestAt D.honest self.new.disk
-            → image.bytes ≡ page_at self.old.pages page) }
+        ensures image { OnOk result (HonestAt D.honest self.new.disk
+            → image.new.bytes ≡ page_at self.old.pages page) }
         ensures looks { LooksAt D.honest D.failures D.state result self.old self.new }
         ensures closed { MatchResult result (λ _. self.new.closed ≡ false)
             (λ fault. (fault ≡ Device) × (self.new.closed ≡ true)) }
     {
-        let mut image = PageImage::blank();
         match mem::replace(&mut self.held, Held::Gone) {
-            Held::Open(mut journal) => match journal.read(page, &mut image) {
+            Held::Open(mut journal) => match journal.read(page, image) {
                 Ok(()) => {
                     self.held = Held::Open(journal);
-                    Ok(image)
+                    Ok(())
                 }
                 Err(DeviceFault) => {
                     self.held = Held::Broken(journal.into_disk());

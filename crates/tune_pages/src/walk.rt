@@ -120,12 +120,13 @@ impl<D: Disk> Pages<D> {
         ensures looks { LooksAt D.honest D.failures D.state result self.old self.new }
         ensures answer { AnswersRead result self.old.closed self.new.closed }
     {
-        match self.read_link(work, page) {
-            Ok(Some(image)) => match add_piece(&image, bytes) {
+        let mut image = PageImage::blank();
+        match self.read_link(work, page, &mut image) {
+            Ok(true) => match add_piece(&image, bytes) {
                 Ok(()) => Ok(Some(next_page(&image))),
                 Err(_) => Err(Fault::OutOfMemory),
             },
-            Ok(None) => Ok(None),
+            Ok(false) => Ok(None),
             Err(fault) => Err(fault),
         }
     }
@@ -151,28 +152,30 @@ impl<D: Disk> Pages<D> {
         ensures looks { LooksAt D.honest D.failures D.state result self.old self.new }
         ensures answer { AnswersRead result self.old.closed self.new.closed }
     {
-        match self.read_link(work, page) {
-            Ok(Some(image)) => {
+        let mut image = PageImage::blank();
+        match self.read_link(work, page, &mut image) {
+            Ok(true) => {
                 let next = next_page(&image);
                 match self.free(work, page) {
                     Ok(()) => Ok(Some(next)),
                     Err(_) => Err(Fault::OutOfMemory),
                 }
             }
-            Ok(None) => Ok(None),
+            Ok(false) => Ok(None),
             Err(fault) => Err(fault),
         }
     }
 
-    // The image of a page of a chain that is in use; none where the page can be no such one.
-    fn read_link(&mut self, work: &Work, page: u32) -> Result<Option<PageImage>, Fault>
+    // Puts the image of a page of a chain that is in use in the place of another one; false where
+    // the page can be no such one.
+    fn read_link(&mut self, work: &Work, page: u32, image: &mut PageImage) -> Result<bool, Fault>
         requires { Fits self.old work.now }
-        ensures link { IfOk result (λ found. IfSome found (λ image. IsLink image.bytes
-            × IsUsed (stand self.old work.now).used page)) }
-        ensures image { IfOk result (λ found. IfSome found (λ image. HonestAt D.honest self.new.disk
-            → image.bytes ≡ page_at (stand self.old work.now).pages page)) }
-        ensures none { IfOk result (λ found. IfNone found (HonestAt D.honest self.new.disk
-            → HasLink (stand self.old work.now) page → ⊥)) }
+        ensures link { IfOk result (λ found. found ≡ true → IsLink image.new.bytes
+            × IsUsed (stand self.old work.now).used page) }
+        ensures image { IfOk result (λ found. found ≡ true → HonestAt D.honest self.new.disk
+            → image.new.bytes ≡ page_at (stand self.old work.now).pages page) }
+        ensures none { IfOk result (λ found. found ≡ false → HonestAt D.honest self.new.disk
+            → HasLink (stand self.old work.now) page → ⊥) }
         ensures fits { OnOk result (Fits self.new work.now) }
         ensures stand { OnOk result (SameStand (HonestAt D.honest self.new.disk)
             (stand self.old work.now) (stand self.new work.now)) }
@@ -183,10 +186,10 @@ impl<D: Disk> Pages<D> {
             return Err(Fault::Closed);
         }
         if !self.in_use(work, page) {
-            return Ok(None);
+            return Ok(false);
         }
-        match self.read_page(work, page) {
-            Ok(image) => Ok(if is_link(&image) { Some(image) } else { None }),
+        match self.read_into(work, page, image) {
+            Ok(()) => Ok(is_link(image)),
             Err(fault) => Err(fault),
         }
     }

@@ -114,6 +114,25 @@ pub holder-renumbered : (from to : ℕ) (sets : List TuneSet) → from ≢ to �
 holder-renumbered from to [] ne = refl
 holder-renumbered from to (set ∷ sets) ne = rw (not_among from to set.numbers ne) (holder-renumbered from to sets ne)
 
+among_none : (from to : ℕ) (numbers : List ℕ) → is_among from numbers ≡ false → renumbered_all from to numbers ≡ numbers
+among_none from to [] none = refl
+among_none from to (n ∷ numbers) none = elim (cases_Bool (eqb n from)) [
+  | inl same ↦ let e = rw same at none in cc
+  | inr nay ↦ let later = rw nay at none in rw nay (ap (λ ns. n ∷ ns) (among_none from to numbers later))
+]
+
+-- where no set holds a number that becomes another one, all stay
+pub unheld_renumbered : (from to : ℕ) (sets : List TuneSet) → holder from sets ≡ None → renumbered_sets from to sets ≡ sets
+unheld_renumbered from to [] none = refl
+unheld_renumbered from to (set ∷ sets) none = elim (cases_Bool (is_among from set.numbers)) [
+  | inl among ↦ let e = rw among at none in cc
+  | inr nay ↦
+      let later = rw nay at none in
+      let with_these : List ℕ → TuneSet = λ numbers. record { name = set.name; numbers = numbers } in
+      ap (λ numbers. with_these numbers ∷ renumbered_sets from to sets) (among_none from to set.numbers nay)
+      ∙ ap (λ others. set ∷ others) (unheld_renumbered from to sets later)
+]
+
 -- WHAT HOLDS A NUMBER
 -- where none does, the set of no name has it
 pub holder-none : (number : ℕ) (sets : List TuneSet) (name : List ℕ) (set : TuneSet) → holder number sets ≡ None → set_at name sets ≡ Some set

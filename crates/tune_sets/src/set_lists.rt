@@ -123,7 +123,9 @@ impl SetLists {
 
     /// Puts a number in the place of another one, at each place of each set. It takes no memory.
     pub fn renumbered(&mut self, from: u32, to: u32)
-        ensures { self.new ≡ renumbered_sets from to self.old }
+        ensures sets { self.new ≡ renumbered_sets from to self.old }
+        // Where no set holds the number, all stay as they are.
+        ensures unheld { holder from self.old ≡ None → self.new ≡ self.old }
     {
         renumber_sets(&mut self.sets, from, to);
     }

@@ -1,8 +1,9 @@
 -- What a change asks of the rows and of the set lists, and which of them it changes.
 use Rattle.std.specs.Prelude.{◌+◌, ◌^◌, ◌<◌, List, length, vec_len, Bool, true, false, ⊤}
-use Rattle.std.specs.Prelude.{IsOk}
+use Rattle.std.specs.Prelude.{IsOk, is_some}
 use Rattle.tune_pages.specs.Stand.{Stand}
 use Rattle.tune_sets.specs.Calls.{create_set, add_number, cut_place, drop_set}
+use Rattle.tune_sets.specs.Sets.{holder}
 use Rattle.tune_sets.specs.declared.set_lists.TuneSet.{TuneSet}
 use Rattle.tune_store.specs.Plans.{changed_tunes, CanChange}
 use Rattle.tune_store.specs.State.{RisesFrom}
@@ -39,12 +40,13 @@ changes_tunes (Take place) = true
 changes_tunes (Move number to) = true
 changes_tunes change = false
 
--- whether it is one of set lists
-abbrev pub changes_sets : Change → Bool
-changes_sets (Add first texts) = false
-changes_sets (Put place tune) = false
-changes_sets (Take place) = false
-changes_sets change = true
+-- whether it is one of these set lists, as the move of a tune is that they name
+abbrev pub changes_sets : Change → List TuneSet → Bool
+changes_sets (Add first texts) sets = false
+changes_sets (Put place tune) sets = false
+changes_sets (Take place) sets = false
+changes_sets (Move number to) sets = is_some (holder number sets)
+changes_sets change sets = true
 
 -- Whatever tunes stand there by rising number, the change is made of them, and all other parts
 -- stay.

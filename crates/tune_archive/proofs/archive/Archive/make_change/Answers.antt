@@ -12,8 +12,9 @@ invariant_of-self g c =
       closed = c.self.inside.closed;
     } in
     let done = c.in-Ok.ensures in
-    made_shelf g.D.Disk.honest g.D.Disk.failures g.D.Disk.state g.met.D.Disk.seen_may_stay _ c.args.self.now c.self.view_is c.self.invariant c.requires.open
-    c.args.change c.requires.within new done.moments c.in-Ok.contents done.calls done.laid done.rows done.marks done.answer
+    rw c.replace.ensures.after
+    (made_shelf g.D.Disk.honest g.D.Disk.failures g.D.Disk.state g.met.D.Disk.seen_may_stay _ c.args.self.now c.self.view_is c.self.invariant
+    c.requires.open c.args.change c.requires.within new done.moments c.in-Ok.contents done.calls done.laid done.rows done.marks done.answer)
 
 pub invariant_of-self-in-Err : goal.invariant_of-self-in-Err
 invariant_of-self-in-Err g c =
@@ -36,8 +37,9 @@ returns-in-Ok g c =
       closed = c.self.inside.closed;
     } in
     let done = c.in-Ok.ensures in
-    made g.D.Disk.honest g.D.Disk.failures g.D.Disk.state g.met.D.Disk.seen_may_stay _ c.args.self.now c.self.view_is c.self.invariant c.requires.open
-    c.args.change c.requires.within new done.moments c.in-Ok.contents done.calls done.laid refl
+    rw c.replace.ensures.after
+    (made g.D.Disk.honest g.D.Disk.failures g.D.Disk.state g.met.D.Disk.seen_may_stay _ c.args.self.now c.self.view_is c.self.invariant
+    c.requires.open c.args.change c.requires.within new done.moments c.in-Ok.contents done.calls done.laid refl)
 
 pub returns-in-Err : goal.returns-in-Err
 returns-in-Err g c =

@@ -1,7 +1,7 @@
 use Rattle.std.proofs.Common.{◌-◌, ◌<◌, length, take}
 use Rattle.tune_pages.specs.Work.{stand_on, FitsOn}
 use Rattle.tune_pages.proofs.Putting.{Laid}
-use Rattle.tune_pages.proofs.pages.Pages.put_chain.Given as goal
+use Rattle.tune_pages.proofs.pages.Pages.put_links.Given as goal
 
 abbrev pub invariant-loop-at : goal.invariant-loop-at
 invariant-loop-at g l = record {
