@@ -6,5 +6,4 @@ pub mod LayLemmas
 pub mod ListLemmas
 pub mod RisingLemmas
 pub mod RowLemmas
-pub mod StateLemmas
 pub mod StepLemmas

@@ -31,7 +31,7 @@ no_front : (pages : List (List ℕ)) (claimed : List Bool) → claimed ≡ only_
 no_front pages claimed is some = record { are = no_parts pages some; marks = is }
 
 state_some : (pages : List (List ℕ)) → IsStateThere pages → 0 < length pages
-state_some pages there = none_free (length pages) 0 there.filed.parts.apart.0
+state_some pages there = none_free (length pages) 0 there.1.filed.parts.apart.0
 
 on_now : (now pages : List (List ℕ)) (claimed : List Bool) (parts : List Part) → now ≡ pages → HasClaimed pages claimed parts → HasClaimed now claimed parts
 on_now now pages claimed parts on has = subst (λ l. HasClaimed l claimed parts) (sym on) has
@@ -39,10 +39,10 @@ on_now now pages claimed parts on has = subst (λ l. HasClaimed l claimed parts)
 -- THE ROOT AND THE LISTS
 list_there : (pages : List (List ℕ)) (lf sf : ℕ) → IsRoot (page_at pages 0) lf sf → IsStateThere pages → IsPartThere pages [] lf
 list_there pages lf sf root there = record {
-  part = there.filed.list;
-  more = there.filed.set_lists ∷ there.filed.texts;
-  are = there.filed.parts;
-  is_first = sym there.filed.root.list ∙ root.list;
+  part = there.1.filed.list;
+  more = there.1.filed.set_lists ∷ there.1.filed.texts;
+  are = there.1.filed.parts;
+  is_first = sym there.1.filed.root.list ∙ root.list;
 }
 
 pub list_fault : (f : ClaimFault) (now pages : List (List ℕ)) (claimed : List Bool) (image : List ℕ) (lf sf : ℕ) → now ≡ pages
@@ -64,7 +64,7 @@ sets_there : (pages : List (List ℕ)) (then : List Bool) (lf sf : ℕ) (list : 
     → (first : ClaimsPart pages [] then lf list)
     → IsStateThere pages → IsPartThere pages (first.part ∷ []) sf
 sets_there pages then lf sf list root first there =
-    let filed = there.filed in
+    let filed = there.1.filed in
     let same : filed.list ≡ first.part = first.only filed.list filed.parts.chains.0 (sym filed.root.list ∙ root.list) in
     record {
       part = filed.set_lists;
@@ -113,13 +113,13 @@ lists_claimed mid now pages claimed then last image lf sf list sets on also mark
 tunes_there : (pages : List (List ℕ)) (claimed : List Bool) (lf sf : ℕ) (list sets : List ℕ) (l : ClaimsLists pages claimed lf sf list sets)
     → IsStateThere pages → AreTunesThere pages (l.list_part ∷ l.sets_part ∷ []) 0 list
 tunes_there pages claimed lf sf list sets l there =
-    let filed = there.filed in
-    let same = l.only there.tunes there.sets filed in
-    let tunes = there.within.tunes in (
-      there.tunes,
+    let filed = there.1.filed in
+    let same = l.only there.0.tunes there.0.sets filed in
+    let tunes = there.1.within.tunes in (
+      there.0.tunes,
       filed.texts,
       record {
-        few_pages = there.few;
+        few_pages = there.1.few;
         are = subst (λ p. AreParts pages (p ∷ l.sets_part ∷ filed.texts)) same.0
             (subst (λ p. AreParts pages (filed.list ∷ p ∷ filed.texts)) same.1 filed.parts);
         hold = filed.are_tunes;
@@ -186,20 +186,20 @@ pub sets_named : (f : ClaimFault) (pages : List (List ℕ)) (claimed : List Bool
     → IsChainFault f ((lists : List TuneSet) × AreSetLists lists × (written_sets lists ≡ sets) × NameRows rows lists) → IsChainFault f (IsStateThere pages)
 sets_named Damaged pages claimed lf sf list sets rows lists are listed none = λ there.
     let l = lists (state_some pages there) in
-    let filed = there.filed in
-    let same = l.only there.tunes there.sets filed in
-    let is : written_rows rows ≡ written_rows (rows_of there.tunes filed.texts) =
+    let filed = there.1.filed in
+    let same = l.only there.0.tunes there.0.sets filed in
+    let is : written_rows rows ≡ written_rows (rows_of there.0.tunes filed.texts) =
     sym listed ∙ sym l.list_holds ∙ ap (λ p. p.bytes) (sym same.0) ∙ filed.listed in
-    let held : (number : ℕ) → IsSome (tune_at number there.tunes) → HasNumber rows number =
-    λ number. tune_has number there.tunes filed.texts rows filed.are_tunes there.within.tunes.numbers are.numbers is in
+    let held : (number : ℕ) → IsSome (tune_at number there.0.tunes) → HasNumber rows number =
+    λ number. tune_has number there.0.tunes filed.texts rows filed.are_tunes there.1.within.tunes.numbers are.numbers is in
     none (
-      there.sets,
-      there.within.sets,
+      there.0.sets,
+      there.1.within.sets,
       sym filed.are_sets ∙ ap (λ p. p.bytes) same.1 ∙ sym l.sets_hold,
-      each_all (λ set. NumberRows rows set.numbers) there.sets
-          (all_map (λ set. AreHeld there.tunes set.numbers) (λ set. NumberRows rows set.numbers)
+      each_all (λ set. NumberRows rows set.numbers) there.0.sets
+          (all_map (λ set. AreHeld there.0.tunes set.numbers) (λ set. NumberRows rows set.numbers)
           (λ set names. each_all (HasNumber rows) set.numbers
-          (all_map (λ number. IsSome (tune_at number there.tunes)) (HasNumber rows) held set.numbers names)) there.sets there.within.named),
+          (all_map (λ number. IsSome (tune_at number there.0.tunes)) (HasNumber rows) held set.numbers names)) there.0.sets there.1.within.named),
     )
 sets_named OutOfMemory pages claimed lf sf list sets rows lists are listed none = tt
 sets_named Device pages claimed lf sf list sets rows lists are listed none = tt

@@ -65,20 +65,6 @@ pub fn claim<D: Disk>(alloc: Global, opening: &mut Opening<D>) -> Result<Content
         → IsChainFault fault ((state : State) × IsStateOf opening.old.pages state)) }
     ensures looks { LooksOpening D.honest D.failures D.state result opening.old opening.new }
 {
-    claim_all(alloc, opening)
-}
-
-// Claims the list of tunes, the set lists and each tune.
-fn claim_all<D: Disk>(alloc: Global, opening: &mut Opening<D>) -> Result<Contents, ClaimFault>
-    requires { opening.old.claimed ≡ only_root (length opening.old.pages) }
-    ensures claimed { IfOk result (λ contents. D.honest opening.new.disk
-        → 0 < length opening.old.pages → IsClaimed opening.old.pages contents.rows.items
-        contents.sets contents.list_first contents.sets_first opening.new.claimed) }
-    ensures rows { IfOk result (λ contents. AreRows contents.rows.items) }
-    ensures damaged { IfErr result (λ fault. D.honest opening.new.disk
-        → IsChainFault fault (IsStateThere opening.old.pages)) }
-    ensures looks { LooksOpening D.honest D.failures D.state result opening.old opening.new }
-{
     let Lists {
         list_first,
         sets_first,

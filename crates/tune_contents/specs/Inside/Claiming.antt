@@ -7,11 +7,12 @@ use Rattle.tune_journal.specs.Pages.{page_at}
 use Rattle.tune_pages.specs.Stand.{marked}
 use Rattle.tune_sets.specs.declared.set_lists.TuneSet.{TuneSet}
 use Rattle.tune_store.specs.Limits.{longest_text, most_tunes, greatest_number, greatest_revision}
-use Rattle.tune_store.specs.State.{IsState, IsTune, RisesFrom, greatest}
+use Rattle.tune_store.specs.State.{State, IsTune, RisesFrom, greatest}
 use Rattle.tune_store.specs.declared.tune.Tune.{Tune}
 use Rattle.tune_format.specs.Filed.{Filed, HoldTunes, rows_of}
 use Rattle.tune_format.specs.Layout.{most_pages_of_archive}
 use Rattle.tune_format.specs.Parts.{Part, IsPart, AreParts, root_and_trails}
+use Rattle.tune_format.specs.States.{IsStateOf}
 use Rattle.tune_format.specs.Written.{IsRoot, written_rows, written_text}
 use Rattle.tune_format.specs.declared.rows.Row.{Row}
 
@@ -122,10 +123,6 @@ pub record ClaimsLists (pages : List (List ℕ)) (now : List Bool) (list_first s
       → (filed.list ≡ list_part) × (filed.set_lists ≡ sets_part)
 
 -- ALL
--- some state stands on the pages, which are not too many
-pub record IsStateThere (pages : List (List ℕ)) : Type 0 where
-  pub tunes : List Tune
-  pub sets : List TuneSet
-  pub filed : Filed pages tunes sets
-  pub within : IsState (record { tunes = tunes; sets = sets })
-  pub few : length pages ≤ most_pages_of_archive
+-- some state stands on the pages
+abbrev pub IsStateThere : List (List ℕ) → Type 0
+IsStateThere pages = (state : State) × IsStateOf pages state
