@@ -5,8 +5,6 @@
 #[cfg(test)]
 mod claims;
 #[cfg(test)]
-mod disks;
-#[cfg(test)]
 mod lays;
 #[cfg(test)]
 mod tests;

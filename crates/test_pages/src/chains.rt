@@ -1,5 +1,5 @@
 // Chains of bytes: how many pages they take, what stands on these, and where they go.
-use crate::disks::TestDisk;
+use crate::TestDisk;
 use crate::fixtures::{check_chain, free, free_chain, made_new, page_in, put_chains, uneven};
 use std::process::Abort;
 use std::test::Fail;

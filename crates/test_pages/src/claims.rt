@@ -2,7 +2,7 @@
 ghost use Rattle.std.specs.Prelude.{OnOk};
 ghost use Rattle.tune_pages.specs.Work.{Fits};
 
-use crate::disks::TestDisk;
+use crate::TestDisk;
 use crate::fixtures::{
     check_chain, check_refused, check_used, done, image, made_new, opened, put_chains, put_page,
 };

@@ -5,7 +5,7 @@ use tune_disk::{DeviceFault, Disk, FuseDisk, MemoryDisk, OneFault, StopChoice};
 /// A disk as the tests see it, which are proved over any such disk and run over one. No clause
 /// calls it honest: so a condition that stands on an honest disk alone needs no proof, and what
 /// comes of a call is shown by the run.
-pub(crate) trait TestDisk: Disk {
+pub trait TestDisk: Disk {
     /// A file without a byte.
     fn empty(alloc: Global) -> Self;
 
@@ -26,7 +26,7 @@ pub(crate) trait TestDisk: Disk {
 
 /// A disk in memory.
 #[derive(Drop)]
-pub(crate) struct InMemory {
+pub struct InMemory {
     disk: OneFault<FuseDisk<MemoryDisk>>,
 }
 

@@ -1,7 +1,7 @@
 // Disks of which one call fails.
 ghost use Rattle.std.specs.Prelude.{◌<◌};
 
-use crate::disks::TestDisk;
+use crate::TestDisk;
 use crate::fixtures::{check_chain, done, free_chain_in, image, made, opened, read_chain, uneven};
 use std::alloc::Global;
 use std::process::Abort;

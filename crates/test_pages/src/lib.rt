@@ -2,12 +2,14 @@
 //! finish, what opens, and chains that somebody forged.
 #![tactic(auto)]
 
+mod disks;
+
+pub use disks::{InMemory, TestDisk};
+
 #[cfg(test)]
 mod chains;
 #[cfg(test)]
 mod claims;
-#[cfg(test)]
-mod disks;
 #[cfg(test)]
 mod faults;
 #[cfg(test)]

@@ -1,7 +1,7 @@
 // What a stop leaves at each disk call of a finish.
 ghost use Rattle.std.specs.Prelude.{◌<◌};
 
-use crate::disks::TestDisk;
+use crate::TestDisk;
 use crate::fixtures::{check_chain, done, made, opened, put_chains, uneven};
 use std::alloc::Global;
 use std::process::Abort;

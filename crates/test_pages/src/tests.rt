@@ -1,6 +1,5 @@
 // The tests, over a disk in memory.
-use crate::disks::InMemory;
-use crate::{chains, claims, faults, stops, works};
+use crate::{InMemory, chains, claims, faults, stops, works};
 use std::test::Fail;
 
 #[test]

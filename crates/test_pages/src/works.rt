@@ -1,5 +1,5 @@
 // Works: what they allocate, put and free, and what a dropped one leaves.
-use crate::disks::TestDisk;
+use crate::TestDisk;
 use crate::fixtures::{
     check_chain, check_used, free, image, made, made_new, page_in, put_chains, put_page,
     read_chain, uneven,
