@@ -61,21 +61,25 @@ for text in '{' '"' '[' '(3' '[K:' '!' '^' '[C' comma 'C,,,,,,,,,' '^C,,,,,,,,,C
         'BEGIN { printf "63,900 bytes of %-24s %8.2f ms  %s\n", text, spent / 20 / 1000000, total }'
 done
 
-# Books of 249 tunes of 16,000 bytes (4 MB), by their openings: `far` is one chord of notes beyond
-# the sixteen octaves, of which the first alone counts.
+# Books of 4 MB, by their openings: 249 tunes of 16,000 bytes, of one text again and again. `far` is
+# one chord of notes beyond the sixteen octaves, `chord` one of notes, of which the first alone
+# counts; `rests` and `keys` are lines of their own. `tiny` is tunes of a key alone.
 book() {
     awk -v what="$1" 'BEGIN {
+        front["far"] = "[^C,,,,,,,,,"; part["far"] = "C,,,,,,,,,"; back["far"] = "]"
+        front["chord"] = "["; part["chord"] = "c"; back["chord"] = "]"
+        part["rests"] = "z\n"; part["keys"] = "K:C\n"
+        if (what == "tiny") { for (n = 0; n < 4000000; n += 8) print "X:1\nK:C"; exit }
+        if (!(what in part)) part[what] = what
         for (tune = 1; tune <= 249; tune++) {
-            printf "X:%d\nK:C\n", tune
-            part = what == "far" ? "C,,,,,,,,," : what
-            if (what == "far") printf "[^C,,,,,,,,,"
-            for (n = 0; n < 15900; n += length(part)) printf "%s", part
-            print what == "far" ? "]\n" : "\n"
+            printf "X:%d\nK:C\n%s", tune, front[what]
+            for (n = 0; n < 15900; n += length(part[what])) printf "%s", part[what]
+            print back[what] (part[what] ~ /\n$/ ? "" : "\n")
         }
     }' > "$work/tunes.abc"
 }
 
-for text in far z '|' '^z|' '[^C]z'; do
+for text in far z '|' '^z|' '[^C]z' '[' '[|' '[:' '{' '[K:C]' chord rests keys tiny; do
     book "$text"
     passes steps 1
     one=$nanoseconds

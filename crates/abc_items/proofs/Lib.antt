@@ -8,4 +8,4 @@ pub mod PlainItems
 pub mod ItemLaw
 pub mod PlainBytes
 pub mod ItemSpans
-pub mod LoneMarks
+pub mod MarkedItems

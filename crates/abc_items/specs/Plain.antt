@@ -1,11 +1,13 @@
--- Items of one byte that need no search.
-use Rattle.std.specs.Prelude.{ℕ, ◌==◌, ◌&&◌, not, Bool, false, List, [], ◌∷◌, length, Option, Some}
-use Rattle.std.specs.Prelude.{None}
+-- Items of one byte that need no search, and items that say nothing of notes.
+use Rattle.std.specs.Prelude.{ℕ, ◌==◌, ◌&&◌, not, if◌then◌else◌, Bool, true, false, List, [], ◌∷◌}
+use Rattle.std.specs.Prelude.{length, Option, Some, None}
 use Rattle.abc_fields.specs.Bytes.{begins}
 use Rattle.abc_fields.specs.Bytes.{is_one_of}
 use Rattle.abc_items.specs.Marks.{quotation_mark, exclamation_mark, plus_sign, opening_brace}
 use Rattle.abc_items.specs.Marks.{opening_bracket, opening_parenthesis, sharp_sign, natural_sign}
 use Rattle.abc_items.specs.Marks.{flat_sign}
+use Rattle.abc_items.specs.declared.kinds.Kind.{Kind}
+use Rattle.abc_items.specs.declared.kinds.Kind.TheVariants as kind
 use Rattle.abc_items.specs.ItemSpans.{ItemSpan}
 use Rattle.abc_items.specs.ItemView.{item_span}
 use Rattle.abc_items.specs.declared.items.Item.{Item}
@@ -37,14 +39,15 @@ abbrev pub item_spans_in : Option Item → List ItemSpan
 item_spans_in None = []
 item_spans_in (Some item) = item_span item ∷ []
 
--- the bytes that begin a note with an accidental, or a tuplet
-abbrev pub lone_marks : List ℕ
-lone_marks = sharp_sign ∷ natural_sign ∷ flat_sign ∷ opening_parenthesis ∷ []
+-- an item that says nothing of notes: a text, a decoration, grace notes, a tuplet or another byte
+abbrev pub is_aside : Kind → Bool
+is_aside kind.Note = false
+is_aside kind.Bar = false
+is_aside kind.InlineField = false
+is_aside kind.Chord = false
+is_aside _ = true
 
-abbrev pub is_lone_mark : ℕ → Bool
-is_lone_mark byte = is_one_of lone_marks byte
-
--- items of which the first is such a byte alone
-abbrev pub begin_lone : List ItemSpan → Bool
-begin_lone [] = false
-begin_lone (span ∷ spans) = begins is_lone_mark span.bytes && length span.bytes == 1
+-- the items from the first on that is no aside
+abbrev pub past_asides : List ItemSpan → List ItemSpan
+past_asides [] = []
+past_asides (span ∷ spans) = if is_aside span.kind then past_asides spans else span ∷ spans

@@ -1,6 +1,5 @@
 // The items of a text.
 ghost use Rattle.std.specs.Prelude.{◌≡◌, ℕ, ◌+◌, ◌^◌, ◌<◌, ◌≤◌, ◌++◌, List, map, length, is_some};
-ghost use Rattle.std.specs.Prelude.{IfSome};
 ghost use Rattle.std.specs.Iterator.{YieldsFirstBy, item_count};
 ghost use Rattle.std.specs.List.{All};
 ghost use Rattle.abc_items.specs.Grammar.{ItemText, AreItems};
@@ -9,10 +8,10 @@ ghost use Rattle.abc_items.specs.ItemSpans.{ItemSpan, item_spans_from, item_span
 ghost use Rattle.abc_items.specs.ItemSpans.{item_text_of, ItemSpansFill, FitsItsRow};
 ghost use Rattle.abc_items.specs.Inside.Misses.{AreMissing};
 ghost use Rattle.abc_items.specs.ItemView.{item_span};
-ghost use Rattle.abc_items.specs.Plain.{begin_plain, begin_lone, item_spans_in};
+ghost use Rattle.abc_items.specs.Plain.{begin_plain, item_spans_in, is_aside, past_asides};
 
 use crate::kinds::Kind;
-use crate::rows::{Misses, begins_alone, first_item, plain_kind};
+use crate::rows::{Misses, first_item, plain_kind};
 use std::marker::Model;
 
 /// An item of a music line.
@@ -97,27 +96,21 @@ impl<'a> Items<'a> {
         })
     }
 
-    /// Takes the first item that is left where it is a mark alone: a parenthesis with no tuplet, or
-    /// an accidental with no note. Else it takes none.
-    #[inline(always)]
-    pub fn next_alone(&mut self) -> Option<Item<'a>>
-        ensures steps { self.old ≡ item_spans_in result ++ self.new }
-        ensures other { IfSome result (λ item. item.kind ≡ Kind.Other) }
-        ensures alone { is_some result ≡ begin_lone self.old }
+    /// Takes the items up to the first that is no aside, and that one, which it gives: a note, a
+    /// bar, an inline field or a chord. Asides, which say nothing of notes, are the items of the
+    /// other kinds. Where all are asides, it takes all and gives none.
+    #[inline(never)]
+    pub fn next_past_asides(&mut self) -> Option<Item<'a>>
+        ensures { YieldsFirstBy item_span (λ items. items) (past_asides self.old) result self.new }
     {
-        if !begins_alone(self.rest) {
-            return None;
+        'items: loop {
+            let Some(item) = self.next() else {
+                return None;
+            };
+            if !is_aside(item.kind) {
+                return Some(item);
+            }
         }
-        let (text, later) = self.rest.split_at(1);
-        let from = self.at;
-        self.rest = later;
-        self.at += 1;
-        Some(Item {
-            kind: Kind::Other,
-            from,
-            to: self.at,
-            text,
-        })
     }
 
     /// A second reader of the items that are left.
@@ -157,4 +150,13 @@ impl<'a> Iterator for Items<'a> {
             text,
         })
     }
+}
+
+fn is_aside(kind: Kind) -> bool
+    ensures { result ≡ is_aside kind }
+{
+    !matches!(
+        kind,
+        Kind::Note | Kind::Bar | Kind::InlineField | Kind::Chord
+    )
 }

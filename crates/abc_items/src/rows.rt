@@ -9,12 +9,11 @@ ghost use Rattle.abc_items.specs.Marks.{is_closing_bracket, is_octave_mark, is_c
 ghost use Rattle.abc_items.specs.Grammar.{spelling_of, IsNote};
 ghost use Rattle.abc_items.specs.Rows.{up_to, enclosed, inline_field, chord, colon_part};
 ghost use Rattle.abc_items.specs.Rows.{colon_parts, tuplet, own_accidental, note, first_item};
-ghost use Rattle.abc_items.specs.Rows.{is_note_name, front};
-ghost use Rattle.abc_items.specs.Plain.{begins_longer_row, is_plain_byte, is_lone_mark};
+ghost use Rattle.abc_items.specs.Rows.{is_note_name, front, or_else};
+ghost use Rattle.abc_items.specs.Plain.{begins_longer_row, is_plain_byte};
 ghost use Rattle.abc_items.specs.Inside.FrontLengths.{IsFrontLength};
 ghost use Rattle.abc_items.specs.Inside.Misses.{AreMissing, IsMissing};
 ghost use Rattle.abc_items.specs.Inside.PlainFronts.{lone_kind, plain_front, alone};
-ghost use Rattle.abc_items.specs.Inside.PlainFronts.{has_name, begins_alone, is_parenthesis};
 
 use crate::kinds::{Front, Kind};
 use abc_keys::{Accidental, accidental_of, doubled};
@@ -105,7 +104,16 @@ fn chord_bytes(bytes: &[u8]) -> usize
     ensures value { result ≡ prefix_len is_chord_byte bytes.now }
     ensures within { result ≤ length bytes.now }
 {
+    if !begins_with_chord_byte(bytes) {
+        return 0;
+    }
     memchr3(b'[', b']', b'|', bytes).unwrap_or(bytes.len())
+}
+
+fn begins_with_chord_byte(bytes: &[u8]) -> bool
+    ensures { result ≡ begins is_chord_byte bytes.now }
+{
+    matches!(bytes, [byte, ..] if !matches!(*byte, b'[' | b']' | b'|'))
 }
 
 // Whether the first byte is a digit.
@@ -256,19 +264,6 @@ fn note(bytes: &[u8]) -> Option<usize>
     }
 }
 
-// The item at the front of a text, where its first byte begins none of the longer rows: these are
-// most items, and need no search.
-#[inline(always)]
-fn plain_item(bytes: &[u8]) -> Option<Front>
-    ensures value { IfSome result (λ item. item ≡ first_item bytes.now) }
-    ensures within { IfSome result (λ item. (0 < item.length) × (item.length ≤ length bytes.now)) }
-{
-    match bytes {
-        [byte, rest @ ..] if !begins_longer_row(*byte) => Some(plain_front(*byte, rest)),
-        _ => None,
-    }
-}
-
 // What the item at the front of a text is, where it is one byte alone, none of those that begin the
 // longer rows.
 #[inline(always)]
@@ -300,40 +295,6 @@ fn alone(byte: u8, rest: &[u8]) -> Option<Kind>
         return None;
     }
     Some(lone_kind(byte))
-}
-
-// Whether the item at the front of a text is a parenthesis or an accidental alone.
-#[inline(always)]
-pub(crate) fn begins_alone(bytes: &[u8]) -> bool
-    ensures { result ≡ begins_alone bytes.now }
-{
-    if begins_with_parenthesis(bytes) {
-        !begins_with_digit(&bytes[1..])
-    } else {
-        begins_with_lone_mark(bytes) && !has_name(bytes)
-    }
-}
-
-fn begins_with_parenthesis(bytes: &[u8]) -> bool
-    ensures value { result ≡ begins is_parenthesis bytes.now }
-    ensures some { IsTrue result → 0 < length bytes.now }
-{
-    matches!(bytes, [b'(', ..])
-}
-
-fn begins_with_lone_mark(bytes: &[u8]) -> bool
-    ensures { result ≡ begins is_lone_mark bytes.now }
-{
-    matches!(bytes, [b'^' | b'=' | b'_' | b'(', ..])
-}
-
-// Whether a letter follows the accidental that a text begins with.
-#[inline(always)]
-fn has_name(bytes: &[u8]) -> bool
-    ensures { result ≡ has_name bytes.now }
-{
-    let before = spelling_length(own_accidental(bytes));
-    matches!(bytes.get(before), Some(name) if is_note_name(*name))
 }
 
 fn begins_with_octave_mark(bytes: &[u8]) -> bool
@@ -389,45 +350,51 @@ pub(crate) fn first_item(bytes: &[u8], misses: &mut Misses) -> Front
     ensures within { result.length ≤ length bytes.now }
     ensures misses { AreMissing misses.new bytes.now }
 {
-    match plain_item(bytes) {
-        Some(item) => item,
-        None => searched_item(bytes, misses),
+    match bytes {
+        [byte, rest @ ..] if !begins_longer_row(*byte) => plain_front(*byte, rest),
+        _ => marked_item(bytes, misses),
     }
 }
 
-// The same, row by row.
-#[tactic(auto, unfolding(crate::specs::Rows::first_item))]
-fn searched_item(bytes: &[u8], misses: &mut Misses) -> Front
+// The same where the first byte begins one of the longer rows: of that row, or that byte alone.
+#[tactic(auto, unfolding(crate::specs::Rows::enclosed))]
+fn marked_item(bytes: &[u8], misses: &mut Misses) -> Front
     requires some { 0 < length bytes.now }
+    requires mark { IsTrue (begins begins_longer_row bytes.now) }
     requires misses { AreMissing misses.old bytes.now }
     ensures value { result ≡ first_item bytes.now }
     ensures some { 0 < result.length }
     ensures within { result.length ≤ length bytes.now }
     ensures misses { AreMissing misses.new bytes.now }
 {
-    if let Some(length) = enclosed(bytes, b'"') {
-        return Front::new(Kind::Quoted, length);
+    match bytes[0] {
+        b'"' => of_row(bytes, Kind::Quoted, enclosed(bytes, b'"')),
+        b'!' => of_row(bytes, Kind::Decoration, enclosed(bytes, b'!')),
+        b'+' => of_row(bytes, Kind::Decoration, enclosed(bytes, b'+')),
+        b'{' => of_row(bytes, Kind::Grace, grace(bytes, &mut misses.brace)),
+        b'[' => match inline_field(bytes, &mut misses.bracket) {
+            Some(length) => Front::new(Kind::InlineField, length),
+            None => of_row(bytes, Kind::Chord, chord(bytes)),
+        },
+        b'(' => of_row(bytes, Kind::Tuplet, tuplet(bytes)),
+        b'^' => of_row(bytes, Kind::Note, note(bytes)),
+        b'=' => of_row(bytes, Kind::Note, note(bytes)),
+        b'_' => of_row(bytes, Kind::Note, note(bytes)),
+        byte => plain_front(byte, &bytes[1..]),
     }
-    if let Some(length) = enclosed(bytes, b'!') {
-        return Front::new(Kind::Decoration, length);
+}
+
+// An item of a row, where it has a length, or the first byte alone.
+#[inline(always)]
+fn of_row(bytes: &[u8], kind: Kind, found: Option<usize>) -> Front
+    requires some { 0 < length bytes.now }
+    requires within { IsFrontLength bytes.now found }
+    ensures value { result ≡ or_else kind found (front Kind.Other 1) }
+    ensures some { 0 < result.length }
+    ensures within { result.length ≤ length bytes.now }
+{
+    match found {
+        Some(length) => Front::new(kind, length),
+        None => Front::new(Kind::Other, 1),
     }
-    if let Some(length) = enclosed(bytes, b'+') {
-        return Front::new(Kind::Decoration, length);
-    }
-    if let Some(length) = grace(bytes, &mut misses.brace) {
-        return Front::new(Kind::Grace, length);
-    }
-    if let Some(length) = inline_field(bytes, &mut misses.bracket) {
-        return Front::new(Kind::InlineField, length);
-    }
-    if let Some(length) = chord(bytes) {
-        return Front::new(Kind::Chord, length);
-    }
-    if let Some(length) = tuplet(bytes) {
-        return Front::new(Kind::Tuplet, length);
-    }
-    if let Some(length) = note(bytes) {
-        return Front::new(Kind::Note, length);
-    }
-    Front::new(lone_kind(bytes[0]), 1)
 }

@@ -1,15 +1,13 @@
 -- Streams of events: which event comes first, and what is left.
 use Rattle.std.proofs.Common.{◌≡◌, ℕ, ◌+◌, List, [], ◌∷◌, ◌++◌, Bool, true, false, Option, Some, None, refl, sym, ap, ◌∙◌, append_assoc, not, ◌&&◌, subst}
-use Rattle.std.specs.Prelude.{is_some, IfSome}
+use Rattle.std.specs.Prelude.{is_some, if◌then◌else◌}
 use Rattle.std.specs.Iterator.{YieldsFirstBy}
 use Rattle.abc_fields.specs.Lines.{Span as Line}
 use Rattle.abc_fields.specs.LineKinds.{in_part_after}
 use Rattle.abc_items.specs.declared.kinds.Kind.{Kind}
 use Rattle.abc_items.specs.declared.kinds.Kind.TheVariants as kind
-use Rattle.abc_items.specs.declared.items.Item.{Item}
 use Rattle.abc_items.specs.ItemSpans.{ItemSpan, item_spans_of}
-use Rattle.abc_items.specs.ItemView.{item_span}
-use Rattle.abc_items.specs.Plain.{item_spans_in}
+use Rattle.abc_items.specs.Plain.{is_aside, past_asides}
 use Rattle.abc_notes.specs.declared.events.Event.{Event as CodeEvent}
 use Rattle.abc_notes.specs.Events.{Event}
 use Rattle.abc_notes.specs.Inside.EventView.{event_of, events_of}
@@ -27,6 +25,11 @@ gives_first None all rest is some = absurd (cc)
 pub gives_no_first : (event : Option CodeEvent) (all rest : List Event) → all ≡ events_of event ++ rest → is_some event ≡ false → all ≡ rest
 gives_no_first (Some event) all rest is none = absurd (cc)
 gives_no_first None all rest is none = is
+
+-- of two streams that give nothing the first gives nothing
+pub first_of_none : (front back : List Event) → front ++ back ≡ [] → front ≡ []
+first_of_none [] back none = refl
+first_of_none (event ∷ front) back none = absurd (cc)
 
 -- a stream before others
 pub gives_before : (event : Option CodeEvent) (all rest later : List Event) → Gives all event rest → is_some event ≡ true
@@ -105,18 +108,53 @@ pub plain_step : (base : ℕ) (spans later : List ItemSpan) (span : ItemSpan) (e
 unfolding line_events
 plain_step base spans later span event is meant = ap (line_events base) is ∙ ap (λ events. events ++ line_events base later) (sym meant)
 
--- an item of a line that means nothing
-other_step : (base : ℕ) (spans later : List ItemSpan) (span : ItemSpan) → spans ≡ span ∷ later → span.kind ≡ kind.Other
-    → line_events base later ≡ line_events base spans
+-- asides mean nothing
+aside_passed : (base : ℕ) (k : Kind) (span : ItemSpan) (items : List ItemSpan) → span.kind ≡ k → line_events base (past_asides items) ≡ line_events base items
+    → line_events base (if is_aside k then past_asides items else span ∷ items) ≡ item_events base k span ++ line_events base items
 unfolding line_events item_events plain_events
-other_step base spans later span is other =
-    sym (ap (line_events base) is ∙ ap (λ k. item_events base k span ++ line_events base later) other)
+aside_passed base kind.Quoted span items is later = later
+aside_passed base kind.Decoration span items is later = later
+aside_passed base kind.Grace span items is later = later
+aside_passed base kind.Tuplet span items is later = later
+aside_passed base kind.Other span items is later = later
+aside_passed base kind.InlineField span items is later = ap (λ k. item_events base k span ++ line_events base items) is
+aside_passed base kind.Chord span items is later = ap (λ k. item_events base k span ++ line_events base items) is
+aside_passed base kind.Note span items is later = ap (λ k. item_events base k span ++ line_events base items) is
+aside_passed base kind.Bar span items is later = ap (λ k. item_events base k span ++ line_events base items) is
 
-pub alone_step : (base : ℕ) (spans later : List ItemSpan) (item : Option Item) → spans ≡ item_spans_in item ++ later
-    → IfSome item (λ found. found.kind ≡ kind.Other)
-    → line_events base later ≡ line_events base spans
-alone_step base spans later None is other = ap (line_events base) (sym is)
-alone_step base spans later (Some item) is other = other_step base spans later (item_span item) is other
+pub no_asides : (base : ℕ) (items : List ItemSpan) → line_events base (past_asides items) ≡ line_events base items
+unfolding line_events
+no_asides base [] = refl
+no_asides base (span ∷ items) = aside_passed base span.kind span items refl (no_asides base items)
+
+-- nor do they inside a chord
+first_after : (first : Bool) → first ≡ (first && true)
+first_after true = refl
+first_after false = refl
+
+chord_aside_passed : (base : ℕ) (first : Bool) (k : Kind) (span : ItemSpan) (items : List ItemSpan) → span.kind ≡ k
+    → chord_events base first (past_asides items) ≡ chord_events base first items
+    → chord_events base first (if is_aside k then past_asides items else span ∷ items)
+    ≡ plain_events base first k span ++ chord_events base (first && not (is_note k)) items
+unfolding chord_events plain_events
+chord_aside_passed base first kind.Quoted span items is later = later ∙ ap (λ f. chord_events base f items) (first_after first)
+chord_aside_passed base first kind.Decoration span items is later = later ∙ ap (λ f. chord_events base f items) (first_after first)
+chord_aside_passed base first kind.Grace span items is later = later ∙ ap (λ f. chord_events base f items) (first_after first)
+chord_aside_passed base first kind.Tuplet span items is later = later ∙ ap (λ f. chord_events base f items) (first_after first)
+chord_aside_passed base first kind.Other span items is later = later ∙ ap (λ f. chord_events base f items) (first_after first)
+chord_aside_passed base first kind.InlineField span items is later =
+    ap (λ k. plain_events base first k span ++ chord_events base (first && not (is_note k)) items) is
+chord_aside_passed base first kind.Chord span items is later =
+    ap (λ k. plain_events base first k span ++ chord_events base (first && not (is_note k)) items) is
+chord_aside_passed base first kind.Note span items is later =
+    ap (λ k. plain_events base first k span ++ chord_events base (first && not (is_note k)) items) is
+chord_aside_passed base first kind.Bar span items is later =
+    ap (λ k. plain_events base first k span ++ chord_events base (first && not (is_note k)) items) is
+
+pub no_chord_asides : (base : ℕ) (first : Bool) (items : List ItemSpan) → chord_events base first (past_asides items) ≡ chord_events base first items
+unfolding chord_events
+no_chord_asides base first [] = refl
+no_chord_asides base first (span ∷ items) = chord_aside_passed base first span.kind span items refl (no_chord_asides base first items)
 
 pub line_end : (base : ℕ) (spans : List ItemSpan) → spans ≡ [] → line_events base spans ≡ []
 unfolding line_events
@@ -139,25 +177,6 @@ module _ (base : ℕ) (items later : List ItemSpan) (span : ItemSpan) (taken eve
 
   pub item_passed : is_some event ≡ false → left ++ line_events base later ≡ all
   item_passed none = sym (gives_no_first event all (left ++ line_events base later) event_first none)
-
--- a chord in hand that is spent, and short items after it
-module _ (base : ℕ) (items later : List ItemSpan) (taken event : Option CodeEvent) (chord left all : List Event)
-    (gives : Gives chord taken left)
-    (whole : chord ++ line_events base items ≡ all) (spent : is_some taken ≡ false)
-    (short : line_events base items ≡ events_of event ++ line_events base later) where
-  -- one of them gives the first event
-  pub short_gives : is_some event ≡ true → Gives all event (left ++ line_events base later)
-  short_gives some =
-      gives_first event all (left ++ line_events base later)
-      (hand_spent taken chord left (line_events base items) all gives whole spent
-      ∙ short
-      ∙ ap (λ rest. events_of event ++ rest) (sym (nothing_left taken chord left (line_events base items) all gives whole (line_events base later) spent)))
-      some
-
-  -- or they are passed over, and the items after them are all
-  pub short_passed : is_some event ≡ false → chord ++ line_events base later ≡ all
-  short_passed none =
-      ap (λ rest. chord ++ rest) (sym (gives_no_first event (line_events base items) (line_events base later) short none)) ∙ whole
 
 -- IN A TUNE
 -- a line of a tune

@@ -3,3 +3,4 @@ pub mod BarTables
 pub mod Bounds
 pub mod Kept
 pub mod LineKeys
+pub mod LateSignatures

@@ -16,14 +16,15 @@ use abc_keys::Accidental;
 // octave; else that of the signature.
 #[inline(always)]
 pub(crate) fn accidental_in_force(
-    bar: &Bar,
+    bar: &mut Bar,
     bar_events: &TuneEvents,
     note: WrittenNote,
 ) -> Accidental
-    requires { IsBarAfter (past_of bar.now.since bar_events.now) bar.now }
-    ensures { result
-        ≡ accidental_of_note bar.now.start (past_of bar.now.since bar_events.now)
+    requires { IsBarAfter (past_of bar.old.since bar_events.now) bar.old }
+    ensures value { result
+        ≡ accidental_of_note bar.old.start (past_of bar.old.since bar_events.now)
         (written_note note.entry) }
+    ensures same { bar.new ≡ bar.old }
 {
     if let Some(own) = note.own {
         return own;

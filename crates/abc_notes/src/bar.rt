@@ -9,7 +9,8 @@ ghost use Rattle.abc_notes.specs.Inside.BarTables.{IsNear, IsBarAfter, held_in, 
 ghost use Rattle.abc_notes.specs.Pitches.{same_note};
 
 use crate::events::WrittenNote;
-use abc_keys::{Accidental, Letter, Signature};
+use crate::key_signatures::KeySignature;
+use abc_keys::{Accidental, Letter};
 
 const LETTERS: usize = 7;
 
@@ -22,24 +23,25 @@ const ENTRIES: usize = 112;
 // What is kept of a bar so far: the signature where its reader stands and the one in force now, how
 // many events came since, those of a few short bars before it among them, the accidentals that its
 // notes bore, and whether one of them was borne within the sixteen octaves, and outside them.
-#[derive(Clone, Copy)]
-pub(crate) struct Bar {
-    pub start: Signature,
-    pub signature: Signature,
+#[derive(Drop)]
+pub(crate) struct Bar<'a> {
+    pub start: KeySignature<'a>,
+    pub signature: KeySignature<'a>,
     pub since: usize,
     pub entries: [Option<Accidental>; ENTRIES],
     pub has_near: bool,
     pub has_far: bool,
 }
 
-impl Bar {
+impl<'a> Bar<'a> {
     // A bar that begins.
-    pub fn new(signature: Signature) -> Bar
+    #[inline(always)]
+    pub fn new(signature: KeySignature<'a>) -> Bar<'a>
         ensures after { IsBarAfter [] result }
-        ensures start { result.start ≡ signature }
+        ensures start { result.start ≡ signature.entry }
     {
         Bar {
-            start: signature,
+            start: signature.again(),
             signature,
             since: 0,
             entries: [None; ENTRIES],
@@ -53,7 +55,7 @@ impl Bar {
         ensures after { IsBarAfter [] self.new }
         ensures start { self.new.start ≡ self.old.signature }
     {
-        self.start = self.signature;
+        self.start = self.signature.again();
         self.since = 0;
         self.entries = [None; ENTRIES];
         self.has_near = false;
@@ -78,10 +80,10 @@ impl Bar {
     }
 
     // Takes a change of key.
-    pub fn take_change(&mut self, signature: Signature)
+    pub fn take_change(&mut self, signature: KeySignature<'a>)
         requires { self.old.since + 1 < 2 ^ 64 }
         ensures after { (past : List AnyEvent) → IsBarAfter past self.old
-            → IsBarAfter (change signature ∷ past) self.new }
+            → IsBarAfter (change signature.entry ∷ past) self.new }
         ensures start { self.new.start ≡ self.old.start }
     {
         self.since += 1;

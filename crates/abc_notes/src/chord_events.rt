@@ -1,15 +1,15 @@
 // The events inside a chord.
-ghost use Rattle.std.specs.Prelude.{◌≡◌, ◌+◌, ◌≤◌, ◌&&◌, not, true, [], List, length};
+ghost use Rattle.std.specs.Prelude.{◌≡◌, ◌+◌, ◌≤◌, ◌&&◌, not, true, [], List, ◌++◌, length};
 ghost use Rattle.std.specs.Iterator.{YieldsFirstBy, item_count};
 ghost use Rattle.abc_fields.specs.Limits.{longest_book};
 ghost use Rattle.abc_items.specs.ItemSpans.{item_spans_of};
 ghost use Rattle.abc_notes.specs.Inside.Bounds.{AreShort};
 ghost use Rattle.abc_notes.specs.Events.{Event as AnyEvent};
-ghost use Rattle.abc_notes.specs.Inside.EventView.{event_of};
+ghost use Rattle.abc_notes.specs.Inside.EventView.{event_of, events_of};
 ghost use Rattle.abc_notes.specs.Music.{chord_events, is_note};
 
 use crate::events::Event;
-use crate::item_events::plain_event;
+use crate::item_events::{next_telling, plain_event};
 use abc_items::{Items, Kind};
 use std::marker::Model;
 
@@ -62,12 +62,30 @@ impl<'a> ChordEvents<'a> {
         }
     }
 
+    // Takes the first event that is left where it and the items before it are plain bytes. Else it
+    // takes none, but may pass over items that mean nothing.
+    #[inline(always)]
+    pub fn next_plain(&mut self) -> Option<Event<'a>>
+        ensures { self.old ≡ events_of result ++ self.new }
+    {
+        'items: loop {
+            let Some(item) = self.items.next_plain() else {
+                return None;
+            };
+            let event = plain_event(item, self.base, self.first);
+            self.first = stays_first(self.first, item.kind);
+            if event.is_some() {
+                return event;
+            }
+        }
+    }
+
     // Takes the first event that is left.
     fn first_event(&mut self) -> Option<Event<'a>>
         ensures { YieldsFirstBy event_of (λ events. events) self.old result self.new }
     {
         'items: loop {
-            let Some(item) = self.items.next() else {
+            let Some(item) = next_telling(&mut self.items, self.base) else {
                 return None;
             };
             let event = plain_event(item, self.base, self.first);

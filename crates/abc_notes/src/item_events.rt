@@ -1,15 +1,31 @@
 // The event that one item of a music line is.
-ghost use Rattle.std.specs.Prelude.{◌≡◌, ◌≤◌, ◌+◌, ◌∷◌, [], ◌≤ℤ◌, pos, negsuc, length, count_by};
+ghost use Rattle.std.specs.Prelude.{◌≡◌, ◌≤◌, ◌<◌, ◌+◌, ◌∷◌, [], ◌≤ℤ◌, pos, negsuc};
+ghost use Rattle.std.specs.Prelude.{length, count_by, IfSome};
+ghost use Rattle.std.specs.Iterator.{YieldsFirstBy};
 ghost use Rattle.abc_fields.specs.Limits.{longest_book};
 ghost use Rattle.abc_items.specs.ItemView.{item_span};
+ghost use Rattle.abc_items.specs.Plain.{past_asides};
 ghost use Rattle.abc_fields.specs.Bytes.{is_one_of};
 ghost use Rattle.abc_notes.specs.Inside.EventView.{event_of, written_note, events_of};
-ghost use Rattle.abc_notes.specs.Inside.Bounds.{lowest_octave, highest_octave};
+ghost use Rattle.abc_notes.specs.Inside.Bounds.{lowest_octave, highest_octave, AreShort, IsShort};
 ghost use Rattle.abc_notes.specs.Music.{octave_of, written, plain_events, inline_events};
 
 use crate::events::{Event, WrittenNote};
-use abc_items::{Item, Kind, own_accidental, spelling_length};
+use abc_items::{Item, Items, Kind, own_accidental, spelling_length};
 use abc_keys::{Letter, letter_of};
+
+// Takes the items up to the first that may be an event, or events, and that one.
+#[inline(always)]
+pub(crate) fn next_telling<'a>(items: &mut Items<'a>, base: usize) -> Option<Item<'a>>
+    requires { AreShort base items.old }
+    ensures steps { YieldsFirstBy item_span (λ items. items)
+        (past_asides items.old) result items.new }
+    ensures one { IfSome result (λ item. IsShort base (item_span item)) }
+    ensures short { AreShort base items.new }
+    ensures fewer { IfSome result (λ item. length items.new < length items.old) }
+{
+    items.next_past_asides()
+}
 
 // The event of an item that is no chord and no field, if it is one. The text of the items begins at
 // `base`.

@@ -10,6 +10,7 @@ mod bar;
 mod chord_events;
 mod events;
 mod item_events;
+mod key_signatures;
 mod line_events;
 mod note_tokens;
 mod notes;

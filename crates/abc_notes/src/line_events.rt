@@ -11,7 +11,7 @@ ghost use Rattle.abc_notes.specs.Music.{line_events, item_events, inside_of};
 
 use crate::chord_events::ChordEvents;
 use crate::events::Event;
-use crate::item_events::{inline_event, plain_event};
+use crate::item_events::{inline_event, next_telling, plain_event};
 use abc_items::{Item, Items, Kind};
 use std::marker::Model;
 
@@ -56,6 +56,18 @@ impl<'a> LineEvents<'a> {
         LineEvents::new(b"", 0)
     }
 
+    // Takes a music line in hand, which begins at `base`, where no event is left.
+    #[inline(always)]
+    pub fn begin(&mut self, line: &'a [u8], base: usize)
+        requires spent { self.old ≡ [] }
+        requires short { base + length line.now ≤ longest_book }
+        ensures { self.new ≡ line_events base (item_spans_of line.now) }
+    {
+        self.base = base;
+        self.items = Items::new(line);
+        self.in_chord = false;
+    }
+
     // A second reader of the events that are left.
     pub fn again(&self) -> LineEvents<'a>
         ensures { result ≡ self.now }
@@ -69,13 +81,14 @@ impl<'a> LineEvents<'a> {
     }
 
     // Takes the first event that is left where it and the items before it are plain bytes, as is
-    // most often so. Else it takes none, but may pass over items that mean nothing.
+    // most often so. Else it takes none, but may pass over items that mean nothing. Of a chord it
+    // takes none but those inside.
     #[inline(always)]
     pub fn next_plain(&mut self) -> Option<Event<'a>>
         ensures { self.old ≡ events_of result ++ self.new }
     {
         if self.in_chord {
-            return None;
+            return self.chord.next_plain();
         }
         plain_event_of(&mut self.items, self.base)
     }
@@ -90,11 +103,7 @@ impl<'a> LineEvents<'a> {
             if event.is_some() {
                 return event;
             }
-            let event = short_event_of(&mut self.items, self.base);
-            if event.is_some() {
-                return event;
-            }
-            let Some(item) = self.items.next() else {
+            let Some(item) = next_telling(&mut self.items, self.base) else {
                 return None;
             };
             if is_chord(item.kind) {
@@ -143,37 +152,6 @@ fn plain_event_of<'a>(items: &mut Items<'a>, base: usize) -> Option<Event<'a>>
             return event;
         }
     }
-}
-
-// The same where marks alone may stand among the plain bytes.
-#[inline(always)]
-fn short_event_of<'a>(items: &mut Items<'a>, base: usize) -> Option<Event<'a>>
-    requires { AreShort base items.old }
-    ensures events { line_events base items.old ≡ events_of result ++ line_events base items.new }
-    ensures short { AreShort base items.new }
-    ensures shorter { length items.new ≤ length items.old }
-{
-    'items: loop {
-        let event = plain_event_of(items, base);
-        if event.is_some() {
-            return event;
-        }
-        if !pass_alone(items, base) {
-            return None;
-        }
-    }
-}
-
-// Passes over the first item where it is a mark alone, which means nothing. Tells whether it did.
-#[inline(always)]
-fn pass_alone(items: &mut Items, base: usize) -> bool
-    requires { AreShort base items.old }
-    ensures events { line_events base items.new ≡ line_events base items.old }
-    ensures short { AreShort base items.new }
-    ensures passed { IsTrue result → length items.new < length items.old }
-    ensures shorter { length items.new ≤ length items.old }
-{
-    items.next_alone().is_some()
 }
 
 fn is_chord(kind: Kind) -> bool

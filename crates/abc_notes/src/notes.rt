@@ -24,11 +24,12 @@ ghost use Rattle.abc_notes.specs.Tokens.{token_note};
 use crate::accidentals::accidental_in_force;
 use crate::bar::Bar;
 use crate::events::{Event, WrittenNote};
+use crate::key_signatures::KeySignature;
 use crate::note_tokens::NoteToken;
 use crate::pitches::pitch_of;
 use crate::tune_events::TuneEvents;
 use abc_fields::{TuneText, without_comment};
-use abc_keys::{Accidental, Key, Signature, key_of, signature};
+use abc_keys::{Accidental, Key, signature};
 use std::marker::Model;
 
 /// The notes of a tune or of a music line, in order, with their pitches (ABC 2.1, 4.1, 4.2 and
@@ -41,7 +42,7 @@ pub struct Notes<'a> {
     events: TuneEvents<'a>,
     // The events from where the bar began, or a few short bars before it.
     bar_events: TuneEvents<'a>,
-    bar: Bar,
+    bar: Bar<'a>,
 }
 
 impl<'a> Model for Notes<'a> {
@@ -55,6 +56,7 @@ impl<'a> Model for Notes<'a> {
 impl<'a> Notes<'a> {
     /// The notes of a tune's body: of its music lines, up to the comment of each, those within
     /// `%%begin..` parts aside. `K:` lines and `[K:..]` fields change the signature.
+    #[inline(always)]
     pub fn of_tune(text: &'a TuneText) -> Notes<'a>
         ensures notes { result ≡ sounded_notes (tune_signature text.now) [] (tune_events text.now) }
         ensures parts { AreNoteParts text.now result }
@@ -66,8 +68,8 @@ impl<'a> Notes<'a> {
         ensures no_other_events { (events : List AnyEvent)
             → AreGiven [] (lines_of text.now) events → events ≡ tune_events text.now }
     {
-        let (start, events) = TuneEvents::of_tune(text);
-        Notes::new(start, events)
+        let (key, events) = TuneEvents::of_tune(text);
+        Notes::new(KeySignature::of_text(key), events)
     }
 
     /// The notes of one music line, up to its comment, in a key. The line has at most 4,000,000
@@ -81,12 +83,16 @@ impl<'a> Notes<'a> {
         ensures parts { AreNoteParts line.now result }
         ensures rise { NotesRise 0 result }
     {
-        Notes::new(signature(key), TuneEvents::of_line(without_comment(line)))
+        Notes::new(
+            KeySignature::known(signature(key)),
+            TuneEvents::of_line(without_comment(line)),
+        )
     }
 
-    fn new(start: Signature, events: TuneEvents<'a>) -> Notes<'a>
+    #[inline(always)]
+    fn new(start: KeySignature<'a>, events: TuneEvents<'a>) -> Notes<'a>
         requires { length events ≤ longest_book }
-        ensures { result ≡ sounded_notes start [] events.entry }
+        ensures { result ≡ sounded_notes start.entry [] events.entry }
     {
         Notes {
             bar_events: events.again(),
@@ -97,6 +103,7 @@ impl<'a> Notes<'a> {
 
     /// The notes that count alone. Of a note that does not count no pitch is read, so that a chord
     /// costs no more than its text.
+    #[inline(always)]
     pub fn counting(self) -> CountingNotes<'a>
         ensures { result ≡ counting self.entry }
     {
@@ -189,7 +196,7 @@ impl<'a> Iterator for CountingNotes<'a> {
 // often so. Else it takes none, but may pass over events before it.
 #[inline(always)]
 fn plain_note<'a>(
-    bar: &mut Bar,
+    bar: &mut Bar<'a>,
     bar_events: &mut TuneEvents<'a>,
     events: &mut TuneEvents<'a>,
     all: bool,
@@ -216,7 +223,7 @@ fn plain_note<'a>(
 #[inline(always)]
 fn heard<'a>(
     event: Event<'a>,
-    bar: &mut Bar,
+    bar: &mut Bar<'a>,
     bar_events: &mut TuneEvents<'a>,
     events: &TuneEvents<'a>,
     all: bool,
@@ -242,7 +249,7 @@ fn heard<'a>(
             None
         }
         Event::Change(text) => {
-            bar.take_change(written_signature(text));
+            bar.take_change(KeySignature::of_text(text));
             None
         }
     }
@@ -275,14 +282,6 @@ fn begin_bar<'a>(bar: &mut Bar, bar_events: &mut TuneEvents<'a>, events: &TuneEv
 {
     bar.begin();
     *bar_events = events.again();
-}
-
-// The signature of a key as it is written.
-#[inline(never)]
-fn written_signature(text: &[u8]) -> Signature
-    ensures { result ≡ signature_of (key_of_text text.now) }
-{
-    signature(&key_of(text))
 }
 
 // A note with its pitch.

@@ -1,9 +1,10 @@
 // The events of a tune: those of the music lines and the keys of its body.
-ghost use Rattle.std.specs.Prelude.{◌≡◌, ◌+◌, ◌≤◌, ◌++◌, List, length, true, false};
+ghost use Rattle.std.specs.Prelude.{◌≡◌, ◌+◌, ◌≤◌, ◌++◌, List, [], length, true, false};
 ghost use Rattle.std.specs.Iterator.{YieldsFirstBy, item_count};
 ghost use Rattle.abc_fields.specs.Limits.{longest_book};
 ghost use Rattle.abc_fields.specs.LineView.{line_span};
 ghost use Rattle.abc_items.specs.ItemSpans.{item_spans_of};
+ghost use Rattle.abc_keys.specs.Keys.{key_of_text, signature_of};
 ghost use Rattle.abc_notes.specs.Inside.Bounds.{LinesAreShort};
 ghost use Rattle.abc_notes.specs.Events.{Event as AnyEvent};
 ghost use Rattle.abc_notes.specs.Inside.EventView.{event_of, events_of};
@@ -18,7 +19,6 @@ use abc_fields::{
     Line, Lines, TuneText, field_value, in_part_after, is_comment, is_continuation, is_field_line,
     is_key_line, without_comment,
 };
-use abc_keys::{Signature, key_of, signature};
 use std::marker::Model;
 
 // The events of a tune that are left. A clause sees their list.
@@ -52,9 +52,10 @@ impl<'a> TuneEvents<'a> {
         }
     }
 
-    // The signature with which a tune begins, and the events after its header.
-    pub fn of_tune(text: &'a TuneText) -> (Signature, TuneEvents<'a>)
-        ensures signature { result.0 ≡ tune_signature text.now }
+    // The text of the key with which a tune begins, and the events after its header.
+    #[inline(always)]
+    pub fn of_tune(text: &'a TuneText) -> (&'a [u8], TuneEvents<'a>)
+        ensures key { signature_of (key_of_text result.0.now) ≡ tune_signature text.now }
         ensures events { result.1 ≡ tune_events text.now }
         ensures few { length result.1 ≤ longest_book }
     {
@@ -65,7 +66,7 @@ impl<'a> TuneEvents<'a> {
             lines,
             in_part,
         };
-        (signature(&key_of(key)), events)
+        (key, events)
     }
 
     // A second reader of the events that are left.
@@ -100,8 +101,7 @@ impl<'a> TuneEvents<'a> {
             let Some(line) = self.lines.next() else {
                 return None;
             };
-            let (event, music) = line_events(line, self.in_part);
-            self.line = music;
+            let event = take_line(&mut self.line, line, self.in_part);
             self.in_part = in_part_after(self.in_part, line.text);
             if event.is_some() {
                 return event;
@@ -128,21 +128,26 @@ fn read_header<'a>(lines: &mut Lines<'a>) -> (&'a [u8], bool)
     }
 }
 
-// What a line of the body means: nothing within a part, a change of key, or music.
-fn line_events<'a>(line: Line<'a>, in_part: bool) -> (Option<Event<'a>>, LineEvents<'a>)
-    requires { line.from + length line.text.now ≤ longest_book }
-    ensures { events_of result.0 ++ result.1 ≡ line_meaning in_part (line_span line.entry) }
+// Takes a line of the body, where the line in hand is spent: it means nothing, as within a part, or
+// a change of key, or it is music, which is taken in hand.
+#[inline(always)]
+fn take_line<'a>(hand: &mut LineEvents<'a>, line: Line<'a>, in_part: bool) -> Option<Event<'a>>
+    requires spent { hand.old ≡ [] }
+    requires short { line.from + length line.text.now ≤ longest_book }
+    ensures { events_of result ++ hand.new ≡ line_meaning in_part (line_span line.entry) }
 {
     let text = line.text;
-    let is_aside = is_field_line(text) || is_continuation(text) || is_comment(text);
-    if !in_part && is_key_line(text) {
-        let change = Event::Change(field_value(text));
-        (Some(change), LineEvents::none())
-    } else if in_part || is_aside {
-        (None, LineEvents::none())
-    } else {
-        (None, LineEvents::new(without_comment(text), line.from))
+    if in_part {
+        return None;
     }
+    if is_key_line(text) {
+        return Some(Event::Change(field_value(text)));
+    }
+    let is_aside = is_field_line(text) || is_continuation(text) || is_comment(text);
+    if !is_aside {
+        hand.begin(without_comment(text), line.from);
+    }
+    None
 }
 
 impl<'a> Iterator for TuneEvents<'a> {

@@ -227,37 +227,40 @@ fn reads_what_is_left_again(rt: HostRuntime) -> Result<(), Fail> {
     Ok(())
 }
 
-// Each text with how many bytes of it are a mark alone.
+// Each text with its first item that is no aside, and where that begins and ends.
 #[test]
-fn takes_a_mark_alone(rt: HostRuntime) {
-    let cases: [(&[u8], usize); 16] = [
-        (b"", 0),
-        (b"A", 0),
-        (b"z(", 0),
-        (b"|", 0),
-        (b"[", 0),
-        (b"(", 1),
-        (b"((3", 1),
-        (b"(A", 1),
-        (b"(3", 0),
-        (b"^", 1),
-        (b"_|", 1),
-        (b"=^c", 1),
-        (b"^c", 0),
-        (b"^^z", 1),
-        (b"^^c", 0),
-        (b"__,", 1),
+fn takes_the_first_item_past_asides(rt: HostRuntime) {
+    let cases: [(&[u8], Option<(Kind, usize, usize)>); 18] = [
+        (b"", None),
+        (b"z(", None),
+        (b"(((3 ^_=", None),
+        (b"[[]{!+\"", None),
+        (b"!t!+t+\"t\"{A}zA", Some((Kind::Note, 13, 14))),
+        (b"A", Some((Kind::Note, 0, 1))),
+        (b"zA,,", Some((Kind::Note, 1, 4))),
+        (b"((3A", Some((Kind::Note, 3, 4))),
+        (b"(3:2:2A", Some((Kind::Note, 6, 7))),
+        (b"=^c", Some((Kind::Note, 1, 3))),
+        (b"_z^^c", Some((Kind::Note, 2, 5))),
+        (b"__,|", Some((Kind::Bar, 3, 4))),
+        (b"z:", Some((Kind::Bar, 1, 2))),
+        (b"[|", Some((Kind::Bar, 1, 2))),
+        (b"[1[z]", Some((Kind::Chord, 2, 5))),
+        (b"[1]A", Some((Kind::Note, 3, 4))),
+        (b"{[r:A]", Some((Kind::InlineField, 1, 6))),
+        (b"[K:A", Some((Kind::Bar, 2, 3))),
     ];
-    for (text, alone) in cases {
+    for (text, wanted) in cases {
         let mut items = Items::new(text);
+        let found = items.next_past_asides();
         assert_eq!(&rt;
-            items.next_alone().map_or(0, |item| item.to),
-            alone,
+            found.map(|item| (item.kind, item.from, item.to)),
+            wanted,
             "of {text:?}"
         );
         assert_eq!(&rt;
             items.next().map_or(text.len(), |item| item.from),
-            alone,
+            wanted.map_or(text.len(), |(_, _, to)| to),
             "of {text:?}"
         );
     }

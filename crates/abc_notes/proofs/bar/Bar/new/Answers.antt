@@ -8,7 +8,7 @@ pub returns-clause-after : goal.returns-clause-after
 unfolding in_force
 returns-clause-after c = record {
   count = refl;
-  current = refl;
+  current = sym c.again.ensures;
   near = λ l o near. none_anywhere None 112 (index_of l o) ∙ sym (borne_nothing l o);
   clear = λ none l o near. none_anywhere None 112 (index_of l o);
   far = λ none l o far. borne_nothing l o;

@@ -12,7 +12,7 @@ use Rattle.abc_notes.proofs.notes.Notes.of_line.Goals as goal
 pub returns-clause-notes : goal.returns-clause-notes
 returns-clause-notes c =
     c.new.ensures
-    ∙ (λ i. sounded_notes (c.signature.ensures i) [] (c.of_line.ensures.events i))
+    ∙ (λ i. sounded_notes ((c.known.ensures ∙ c.signature.ensures) i) [] (c.of_line.ensures.events i))
     ∙ ap (λ line. sounded_notes (signature_of c.args.key.now) [] (line_events 0 (item_spans_of line))) c.without_comment.ensures.value
 
 pub returns-clause-by_any_items : goal.returns-clause-by_any_items

@@ -9,7 +9,7 @@ use Rattle.abc_notes.proofs.RuleLaw.{follows_the_rule}
 use Rattle.abc_notes.proofs.notes.Notes.of_tune.Goals as goal
 
 pub returns-clause-notes : goal.returns-clause-notes
-returns-clause-notes c = c.new.ensures ∙ (λ i. sounded_notes (c.of_tune-events.ensures.signature i) [] (c.of_tune-events.ensures.events i))
+returns-clause-notes c = c.new.ensures ∙ (λ i. sounded_notes ((c.of_text.ensures ∙ c.of_tune-events.ensures.key) i) [] (c.of_tune-events.ensures.events i))
 
 pub returns-clause-parts : goal.returns-clause-parts
 returns-clause-parts c =

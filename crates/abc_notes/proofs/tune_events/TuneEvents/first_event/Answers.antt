@@ -26,15 +26,15 @@ returns-in_default c =
 pub returns-then-is_some-2 : goal.returns-then-is_some-2
 returns-then-is_some-2 c =
     line_gives c.lines.self-inside.in_part c.in_part_after-self-inside.result c.lines.self-inside.lines c.next.new.self (line_span c.in-Some.line)
-    c.next-event.result c.line_events-music.result.0 c.lines.self-inside.line c.next-event.new.self c.line_events-music.result.1 c.args.self.now
+    c.next-event.result c.take_line-event.result c.lines.self-inside.line c.next-event.new.self c.take_line-event.new.hand c.args.self.now
     c.next-event.ensures.steps (c.lines.invariant.0 ∙ c.self.view_is) (sym c.is_some.ensures ∙ c.if-is_some.false)
-    c.in-Some.ensures.steps c.line_events-music.ensures c.in_part_after-self-inside.ensures (sym c.is_some-in-lines.ensures ∙ c.if-is_some-2.true)
+    c.in-Some.ensures.steps c.take_line-event.ensures c.in_part_after-self-inside.ensures (sym c.is_some-in-lines.ensures ∙ c.if-is_some-2.true)
 
 pub lines-preserved : goal.lines-preserved
 lines-preserved c = (
   line_in_hand c.lines.self-inside.in_part c.in_part_after-self-inside.result c.lines.self-inside.lines c.next.new.self (line_span c.in-Some.line)
-      c.next-event.result c.line_events-music.result.0 c.lines.self-inside.line c.next-event.new.self c.line_events-music.result.1 _
+      c.next-event.result c.take_line-event.result c.lines.self-inside.line c.next-event.new.self c.take_line-event.new.hand _
       c.next-event.ensures.steps c.lines.invariant.0 (sym c.is_some.ensures ∙ c.if-is_some.false)
-      c.in-Some.ensures.steps c.line_events-music.ensures c.in_part_after-self-inside.ensures (sym c.is_some-in-lines.ensures ∙ c.if-is_some-2.false),
+      c.in-Some.ensures.steps c.take_line-event.ensures c.in_part_after-self-inside.ensures (sym c.is_some-in-lines.ensures ∙ c.if-is_some-2.false),
   search rules,
 )

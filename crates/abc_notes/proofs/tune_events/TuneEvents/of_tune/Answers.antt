@@ -17,11 +17,10 @@ invariant_of-events c =
     (lines_are_short c.bytes.result.now 0 _ c.new-lines.ensures.rising
     (omega (arith, ap length c.bytes.ensures.value, c.bytes.ensures.short))))
 
-pub returns-clause-signature : goal.returns-clause-signature
-returns-clause-signature c =
+pub returns-clause-key : goal.returns-clause-key
+returns-clause-key c =
     let contents = ap (λ (lines : List (List ℕ)). unwrap_or (slice_get (values_of (codes "K:") lines) 0) []) c.new-lines.ensures.contents in
-    c.signature.ensures ∙ ap signature_of c.key_of.ensures.key
-    ∙ ap (λ text. signature_of (key_of_text text))
+    ap (λ text. signature_of (key_of_text text))
     (c.read_header-in_part.ensures.key ∙ ap key_of_lines c.new-lines.ensures.lines ∙ key_of_lines_is (spans_of c.bytes.result.now) ∙ contents
     ∙ ap key_text_of c.bytes.ensures.value)
 
