@@ -81,6 +81,7 @@ impl<'a> ChordEvents<'a> {
     }
 
     // Takes the first event that is left.
+    #[inline(always)]
     fn first_event(&mut self) -> Option<Event<'a>>
         ensures { YieldsFirstBy event_of (λ events. events) self.old result self.new }
     {
@@ -111,6 +112,7 @@ impl<'a> Iterator for ChordEvents<'a> {
 
     ghost remaining = { item_count (λ events. events) };
 
+    #[inline(always)]
     fn next(&mut self) -> Option<Event<'a>> {
         self.first_event()
     }
