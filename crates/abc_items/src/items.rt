@@ -99,7 +99,7 @@ impl<'a> Items<'a> {
     /// Takes the items up to the first that is no aside, and that one, which it gives: a note, a
     /// bar, an inline field or a chord. Asides, which say nothing of notes, are the items of the
     /// other kinds. Where all are asides, it takes all and gives none.
-    #[inline(never)]
+    #[inline(always)]
     pub fn next_past_asides(&mut self) -> Option<Item<'a>>
         ensures { YieldsFirstBy item_span (λ items. items) (past_asides self.old) result self.new }
     {
