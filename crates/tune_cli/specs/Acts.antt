@@ -48,14 +48,14 @@ OnFile {D} IsOpened Does was now status = ((old new : D) × IsOpened old × Does
 -- What an action does with the input and the output, and the status that it gives. That of a file
 -- is said of the disk that stands for the file, by what the system answered.
 abbrev pub Acts : {D : Type 0} → (D → Type 0) → store.Ghosts (Shelf D) → (D → Type 0)
-    → (D → DiskState) → Action → Option (List ℕ) → Option (List ℕ) → Option (List ℕ)
+    → (D → ℕ) → (D → DiskState) → Action → Option (List ℕ) → Option (List ℕ) → Option (List ℕ)
     → Option (List ℕ) → ℕ → Type 0
-Acts IsOpened kept honest state action.List input left was now status =
+Acts IsOpened kept honest failures state action.List input left was now status =
     ListsScript input left was now status
-Acts IsOpened kept honest state (action.Make file) input left was now status =
-    OnFile IsOpened (λ old new. Makes honest state was now old new status) was now status
-Acts IsOpened kept honest state (action.Run file) input left was now status =
-    OnFile IsOpened (λ old new. RunsOn kept honest state input left was now old new status)
+Acts IsOpened kept honest failures state (action.Make file) input left was now status =
+    OnFile IsOpened (λ old new. Makes honest failures state was now old new status) was now status
+Acts IsOpened kept honest failures state (action.Run file) input left was now status =
+    OnFile IsOpened (λ old new. RunsOn kept honest failures state input left was now old new status)
     was now status
-Acts IsOpened kept honest state (action.Check file) input left was now status =
-    OnFile IsOpened (λ old new. Checks honest state was now old new status) was now status
+Acts IsOpened kept honest failures state (action.Check file) input left was now status =
+    OnFile IsOpened (λ old new. Checks honest failures state was now old new status) was now status

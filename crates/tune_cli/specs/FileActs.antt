@@ -3,12 +3,13 @@ use Rattle.std.specs.Prelude.{◌≡◌, ◌⊎◌, ℕ, List, [], codes, Option
 use Rattle.tune_disk.specs.Disk.{DiskState}
 use Rattle.tune_disk.specs.Stops.{LeavesOnly, SinceThen}
 use Rattle.tune_journal.specs.Making.{IsEmptyFile}
+use Rattle.tune_journal.specs.Refusal.{CountsFailureIf, CountsFailureWhere}
 use Rattle.tune_journal.specs.declared.open_fault.OpenFault.{OpenFault}
 use Rattle.tune_pages.specs.Opened.{IsUnmadePagesFor}
 use Rattle.tune_store.specs.State.{State, empty_state}
 use Rattle.tune_store.specs.declared.tune_store.TuneStore as store
 use Rattle.tune_format.specs.States.{StandsForState}
-use Rattle.tune_archive.specs.Opened.{IsUnopenedArchiveFor, StandsForNoneOrEmpty}
+use Rattle.tune_archive.specs.Opened.{IsUnopenedArchiveFor, StandsForNoneOrEmpty, KeepsStates}
 use Rattle.tune_archive.specs.Media.{moment_of, LeftFrom}
 use Rattle.tune_archive.specs.Shelf.{Shelf}
 use Rattle.tune_scripts.specs.Carried.{LeftByRun, run_of}
@@ -20,49 +21,62 @@ use Rattle.tune_cli.specs.Lines.{WritesLine, reason_bytes, status_of, status_of_
 use Rattle.tune_cli.specs.Lines.{counts_bytes}
 
 -- MAKE
--- An archive was made: a stop now leaves the empty one.
-pub record HasMade {D : Type 0} (honest : D → Type 0) (state : D → DiskState)
+-- An archive was made: a stop now leaves the empty one, and no call of the disk failed.
+pub record HasMade {D : Type 0} (honest : D → Type 0) (failures : D → ℕ) (state : D → DiskState)
     (was now : Option (List ℕ)) (old new : D) (status : ℕ) : Type 0 where
   pub line : WritesLine was now (codes "made\n") 0 status
   pub empty : honest new → (state old).seen ≡ []
   pub rest : honest new → LeavesOnly (state new).now (λ file. StandsForState file empty_state)
+  pub counted : failures new ≡ failures old
 
 -- It was not, and why.
-pub record HasNotMade {D : Type 0} (honest : D → Type 0) (state : D → DiskState)
-    (was now : Option (List ℕ)) (old new : D) (status : ℕ) : Type 0 where
+pub record HasNotMade {D : Type 0} (honest : D → Type 0) (failures : D → ℕ)
+    (state : D → DiskState) (was now : Option (List ℕ)) (old new : D) (status : ℕ) : Type 0 where
   pub why : OpenFault
   pub line : WritesLine was now (reason_bytes why) (status_of_opening why) status
   pub refused : honest new → IsUnmadePagesFor why (state old) (state new)
+  pub counted : CountsFailureIf why (failures old) (failures new)
 
 -- An archive was made, or not; meanwhile a stop leaves none or an empty one.
-pub record Makes {D : Type 0} (honest : D → Type 0) (state : D → DiskState)
+pub record Makes {D : Type 0} (honest : D → Type 0) (failures : D → ℕ) (state : D → DiskState)
     (was now : Option (List ℕ)) (old new : D) (status : ℕ) : Type 0 where
   pub moments : honest new → LeavesOnly (state old).now IsEmptyFile
       → SinceThen (state old) (state new) StandsForNoneOrEmpty
-  pub made : HasMade honest state was now old new status
-      ⊎ HasNotMade honest state was now old new status
+  pub made : HasMade honest failures state was now old new status
+      ⊎ HasNotMade honest failures state was now old new status
 
 -- OPENING
--- An archive was not opened, and why.
-pub record HasNotOpened {D : Type 0} (honest : D → Type 0) (state : D → DiskState)
-    (was now : Option (List ℕ)) (old new : D) (status : ℕ) : Type 0 where
+-- An archive was not opened, and why; meanwhile a stop leaves the states that it left.
+pub record HasNotOpened {D : Type 0} (honest : D → Type 0) (failures : D → ℕ)
+    (state : D → DiskState) (was now : Option (List ℕ)) (old new : D) (status : ℕ) : Type 0 where
   pub why : OpenFault
   pub line : WritesLine was now (reason_bytes why) (status_of_opening why) status
   pub refused : honest new → IsUnopenedArchiveFor why (state old) (state new)
+  pub counted : CountsFailureWhere (honest new) why (failures old) (failures new)
+  pub moments : honest new → KeepsStates (state old) (state new)
 
 -- CHECK
--- The disk stands for a state, and how much that holds was written.
-pub record HasChecked {D : Type 0} (honest : D → Type 0) (state : D → DiskState)
-    (was now : Option (List ℕ)) (old new : D) (status : ℕ) : Type 0 where
-  pub line : honest new → (held : State) × StandsForState (state old).seen held
-      × WritesLine was now (counts_bytes held) 0 status
+-- The disk stands for this state, and how much that holds was written; a stop now leaves it.
+pub record TellsState (old new : DiskState) (was now : Option (List ℕ)) (status : ℕ) : Type 0 where
+  pub held : State
+  pub stands : StandsForState old.seen held
+  pub line : WritesLine was now (counts_bytes held) 0 status
+  pub rest : LeavesOnly new.now (λ file. StandsForState file held)
 
--- It does, or it was not opened.
-abbrev pub Checks : {D : Type 0} → (D → Type 0) → (D → DiskState) → Option (List ℕ)
+-- The archive was opened; meanwhile a stop leaves the states that it left, and no call of the disk
+-- failed.
+pub record HasChecked {D : Type 0} (honest : D → Type 0) (failures : D → ℕ)
+    (state : D → DiskState) (was now : Option (List ℕ)) (old new : D) (status : ℕ) : Type 0 where
+  pub tells : honest new → TellsState (state old) (state new) was now status
+  pub counted : failures new ≡ failures old
+  pub moments : honest new → KeepsStates (state old) (state new)
+
+-- It was, or it was not.
+abbrev pub Checks : {D : Type 0} → (D → Type 0) → (D → ℕ) → (D → DiskState) → Option (List ℕ)
     → Option (List ℕ) → D → D → ℕ → Type 0
-Checks honest state was now old new status =
-    HasChecked honest state was now old new status
-    ⊎ HasNotOpened honest state was now old new status
+Checks honest failures state was now old new status =
+    HasChecked honest failures state was now old new status
+    ⊎ HasNotOpened honest failures state was now old new status
 
 -- RUN
 -- A script was run on the archive of a disk, from its opening to its end.
@@ -94,8 +108,9 @@ pub record HasRun {D : Type 0} (kept : store.Ghosts (Shelf D)) (honest : D → T
   pub ran : honest new → RanScript kept state input left was now old new end
 
 -- It was, or it was not opened.
-abbrev pub RunsOn : {D : Type 0} → store.Ghosts (Shelf D) → (D → Type 0) → (D → DiskState)
-    → Option (List ℕ) → Option (List ℕ) → Option (List ℕ) → Option (List ℕ) → D → D → ℕ → Type 0
-RunsOn kept honest state input left was now old new status =
+abbrev pub RunsOn : {D : Type 0} → store.Ghosts (Shelf D) → (D → Type 0) → (D → ℕ)
+    → (D → DiskState) → Option (List ℕ) → Option (List ℕ) → Option (List ℕ) → Option (List ℕ)
+    → D → D → ℕ → Type 0
+RunsOn kept honest failures state input left was now old new status =
     HasRun kept honest state input left was now old new status
-    ⊎ HasNotOpened honest state was now old new status
+    ⊎ HasNotOpened honest failures state was now old new status

@@ -144,8 +144,9 @@ pub fn act<R: Read, W: Write, T: AllocGlobal + Files<File = File>>(
     writer: &mut W,
 ) -> u8
     ensures { let kept = ⟦<Archive<FileDisk> as TuneStore>⟧ in let disk = ⟦<FileDisk as Disk>⟧ in
-        Acts HasJustOpened kept disk.honest disk.state action.now (R.remaining reader.old)
-        (R.remaining reader.new) (W.contents writer.old) (W.contents writer.new) result }
+        Acts HasJustOpened kept disk.honest disk.failures disk.state action.now
+        (R.remaining reader.old) (R.remaining reader.new)
+        (W.contents writer.old) (W.contents writer.new) result }
 {
     match action {
         Action::List => list(rt.alloc(), reader, writer),

@@ -1,8 +1,11 @@
 // What the program does with an archive in a file.
 ghost use Rattle.std.specs.Prelude.{codes, OnOk};
 ghost use Rattle.std.specs.Io.KnownBytes.{Appends};
+ghost use Rattle.tune_pages.specs.Kept.{HonestAt};
+ghost use Rattle.tune_archive.specs.Shelf.{state_of};
 ghost use Rattle.tune_cli.specs.FileActs.{Makes, Checks, RunsOn};
 ghost use Rattle.tune_cli.specs.Lines.{WritesLine, reason_bytes, line_of, status_of_opening};
+ghost use Rattle.tune_cli.specs.Lines.{counts_bytes};
 
 use crate::actions::status;
 use std::alloc::Global;
@@ -35,8 +38,8 @@ pub struct Done<D: Disk> {
 /// archive or an empty one.
 pub fn make_on<W: Write, D: Disk>(alloc: Global, writer: &mut W, disk: D) -> Done<D>
     ensures honest { D.honest result.disk → D.honest disk }
-    ensures makes { Makes D.honest D.state (W.contents writer.old) (W.contents writer.new)
-        disk result.disk result.status }
+    ensures makes { Makes D.honest D.failures D.state
+        (W.contents writer.old) (W.contents writer.new) disk result.disk result.status }
 {
     match Archive::make(alloc, disk) {
         Ok(archive) => {
@@ -55,15 +58,12 @@ pub fn make_on<W: Write, D: Disk>(alloc: Global, writer: &mut W, disk: D) -> Don
 /// status is 0; 3 where no archive stands there; and else 1.
 pub fn check_on<W: Write, D: Disk>(alloc: Global, writer: &mut W, disk: D) -> Done<D>
     ensures honest { D.honest result.disk → D.honest disk }
-    ensures checks { Checks D.honest D.state (W.contents writer.old) (W.contents writer.new)
-        disk result.disk result.status }
+    ensures checks { Checks D.honest D.failures D.state
+        (W.contents writer.old) (W.contents writer.new) disk result.disk result.status }
 {
     match Archive::open(alloc, disk) {
         Ok(archive) => {
-            let status = match archive.counts() {
-                Ok(counts) => say_counts(writer, counts),
-                Err(_) => FAILED,
-            };
+            let status = say_held(writer, &archive);
             let disk = archive.into_disk();
             Done { status, disk }
         }
@@ -87,7 +87,7 @@ pub fn run_on<R: Read, W: Write, D: Disk>(
     disk: D,
 ) -> Done<D>
     ensures honest { D.honest result.disk → D.honest disk }
-    ensures runs { RunsOn ⟦<Archive<D> as TuneStore>⟧ D.honest D.state
+    ensures runs { RunsOn ⟦<Archive<D> as TuneStore>⟧ D.honest D.failures D.state
         (R.remaining reader.old) (R.remaining reader.new)
         (W.contents writer.old) (W.contents writer.new) disk result.disk result.status }
 {
@@ -116,7 +116,19 @@ fn say_made<W: Write>(writer: &mut W) -> u8
     }
 }
 
-// Writes how much an archive holds.
+// Writes how much an archive holds, which is open.
+fn say_held<W: Write, D: Disk>(writer: &mut W, archive: &Archive<D>) -> u8
+    ensures { HonestAt D.honest archive.now.pages.disk
+        → WritesLine (W.contents writer.old) (W.contents writer.new)
+        (counts_bytes (state_of D.state archive.now)) 0 result }
+{
+    match archive.counts() {
+        Ok(counts) => say_counts(writer, counts),
+        Err(_) => FAILED,
+    }
+}
+
+// Writes these numbers.
 fn say_counts<W: Write>(writer: &mut W, counts: Counts) -> u8
     ensures { WritesLine (W.contents writer.old) (W.contents writer.new)
         (line_of counts.layout counts.tunes counts.sets) 0 result }

@@ -1,6 +1,6 @@
-use Rattle.std.proofs.Common.{inl, sym, subst}
+use Rattle.std.proofs.Common.{◌≡◌, inl, sym, subst}
 use Rattle.tune_disk.specs.Stops.{LeavesOnly, SinceThen}
-use Rattle.tune_pages.specs.Kept.{HonestAt, state_at}
+use Rattle.tune_pages.specs.Kept.{HonestAt, state_at, failures_at}
 use Rattle.tune_store.specs.State.{State}
 use Rattle.tune_format.specs.States.{StandsForState}
 use Rattle.tune_archive.specs.Opened.{StandsForNoneOrEmpty}
@@ -22,5 +22,6 @@ returns-in-Ok-clause-makes g c =
         rest = λ h.
             subst (λ (s : State). LeavesOnly (state disk).now (λ file. StandsForState file s)) (c.in-Ok.ensures.state (met h))
             (c.into_disk-disk.ensures.rest (met h) c.in-Ok.ensures.is_open);
+        counted = subst (λ at. failures_at g.D.Disk.failures at ≡ g.D.Disk.failures c.args.disk) held c.in-Ok.ensures.failures;
       });
     }
