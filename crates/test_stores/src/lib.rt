@@ -14,4 +14,6 @@ pub use disk_store::DiskStore;
 pub use recorded_store::RecordedStore;
 
 #[cfg(test)]
+mod faulty_catalog;
+#[cfg(test)]
 mod tests;
