@@ -1,5 +1,5 @@
 // Archives that are put on pages by hand, and claimed.
-ghost use Rattle.std.specs.Prelude.{◌≡◌, false, IfOk};
+ghost use Rattle.std.specs.Prelude.{◌≡◌, ◌<◌, ◌≤◌, false, IfOk};
 
 use std::alloc::Global;
 use std::process::Abort;
@@ -19,11 +19,19 @@ const SECOND: Tune = (7, b"\x00\x03K:D\nCDE\n");
 // A set list `friday` of the tunes 7 and 1.
 const FRIDAY: &[u8] = b"\x06friday\x00\x02\x00\x00\x00\x07\x00\x00\x00\x01";
 
-// The pages of an archive without tunes.
+// The pages of an archive without tunes, of which there may be 100.
 pub(crate) fn made<D: TestDisk>(alloc: Global) -> Result<Pages<D>, Fail>
     ensures open { IfOk result (λ pages. pages.closed ≡ false) }
 {
-    match Pages::make(alloc, D::empty(alloc), &write_root(0, 0), 100) {
+    made_up_to(alloc, 100)
+}
+
+// The same, of which there may be so many.
+pub(crate) fn made_up_to<D: TestDisk>(alloc: Global, limit: u32) -> Result<Pages<D>, Fail>
+    requires within { (0 < limit) × (limit ≤ 100) }
+    ensures open { IfOk result (λ pages. pages.closed ≡ false) }
+{
+    match Pages::make(alloc, D::empty(alloc), &write_root(0, 0), limit) {
         Ok(pages) => Ok(pages),
         Err(_) => Err(Fail::from("not made")),
     }

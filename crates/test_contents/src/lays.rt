@@ -3,7 +3,7 @@ ghost use Rattle.std.specs.Prelude.{◌≡◌, List, [], ◌∷◌, false, IfOk,
 ghost use Rattle.tune_store.specs.Plans.{CanChange};
 ghost use Rattle.tune_contents.specs.Holds.{labels_in};
 
-use crate::claims::made;
+use crate::claims::{made, made_up_to};
 use abc_fields::{ByteText, TuneText};
 use std::alloc::Global;
 use std::process::Abort;
@@ -11,8 +11,8 @@ use std::test::Fail;
 use test_pages::TestDisk;
 use tune_contents::{Contents, Room, claim, lay};
 use tune_format::Row;
-use tune_pages::Pages;
-use tune_sets::SetLists;
+use tune_pages::{Fault, Pages};
+use tune_sets::{SetLists, SetName};
 use tune_store::{Change, Tune};
 
 const LULLABY: &[u8] = b"T:Lullaby\nK:C\n";
@@ -39,21 +39,29 @@ fn changed<D: TestDisk>(
     Ok(left)
 }
 
+// Nothing, as an archive without tunes has it in memory.
+fn nothing(alloc: Global) -> Contents
+    ensures rows { result.rows.items ≡ [] }
+    ensures sets { result.sets ≡ [] }
+{
+    Contents {
+        rows: Vec::new(alloc),
+        sets: SetLists::new(alloc),
+        list_first: 0,
+        sets_first: 0,
+    }
+}
+
 // Two tunes are added to an archive without tunes.
 fn with_two<D: TestDisk>(alloc: Global, pages: &mut Pages<D>) -> Result<Contents, Fail>
     requires open { pages.old.closed ≡ false }
     ensures open { OnOk result (pages.new.closed ≡ false) }
 {
-    let empty = Contents {
-        rows: Vec::new(alloc),
-        sets: SetLists::new(alloc),
-        list_first: 0,
-        sets_first: 0,
-    };
     let mut texts = Vec::new(alloc);
     texts.push(text(alloc, LULLABY)?)?;
     texts.push(text(alloc, MARCH)?)?;
-    changed(alloc, pages, &empty, Change::Add { first: 1, texts })
+    let change = Change::Add { first: 1, texts };
+    changed(alloc, pages, &nothing(alloc), change)
 }
 
 fn text(alloc: Global, bytes: &[u8]) -> Result<TuneText, Fail> {
@@ -123,7 +131,9 @@ fn check_chain<R: AllocGlobal + Abort, D: TestDisk>(
     pages: &mut Pages<D>,
     first: u32,
     chain: &[u8],
-) -> Result<(), Fail> {
+) -> Result<(), Fail>
+    ensures open { OnOk result (pages.new.closed ≡ false) }
+{
     let work = pages.begin()?;
     let bytes = pages.read_chain(&work, first)?;
     assert_eq!(rt; bytes.as_slice(), chain);
@@ -212,5 +222,83 @@ pub(crate) fn moves_a_tune<R: AllocGlobal + Abort, D: TestDisk>(rt: &R) -> Resul
         pages,
         &[row(2, 1, 2), row(9, 1, 1)],
         &[b"\x00\x01T:March\nK:D\nDFA\n", b"\x00\x01T:Lullaby\nK:C\n"],
+    )
+}
+
+// A new set list of this name.
+fn new_set(contents: &Contents, name: SetName) -> Result<Change, Fail>
+    ensures possible { IfOk result (λ change.
+        CanChange change (labels_in contents.now.rows.items) contents.now.sets) }
+{
+    contents.sets.copy()?.create(name.as_slice())?;
+    Ok(Change::NewSet { name })
+}
+
+// A number more in the set list of this name.
+fn add_place(contents: &Contents, name: SetName, number: u32) -> Result<Change, Fail>
+    ensures possible { IfOk result (λ change.
+        CanChange change (labels_in contents.now.rows.items) contents.now.sets) }
+{
+    contents.sets.copy()?.add(name.as_slice(), number)?;
+    Ok(Change::AddPlace { name, number })
+}
+
+fn friday() -> Result<SetName, Fail> {
+    Ok(SetName::new(b"friday").ok_or("no name")?)
+}
+
+// The set lists stand on a chain of their own, and the list of tunes stays where it is. The chain
+// that goes is free for the next.
+pub(crate) fn changes_set_lists<R: AllocGlobal + Abort, D: TestDisk>(rt: &R) -> Result<(), Fail> {
+    let mut pages = made::<D>(rt.alloc())?;
+    let left = with_two(rt.alloc(), &mut pages)?;
+    let change = new_set(&left, friday()?)?;
+    let left = changed(rt.alloc(), &mut pages, &left, change)?;
+    assert_eq!(rt; (left.list_first, left.sets_first), (3, 4));
+    check_chain(rt, &mut pages, 4, b"\x06friday\x00\x00")?;
+    let change = add_place(&left, friday()?, 2)?;
+    let left = changed(rt.alloc(), &mut pages, &left, change)?;
+    assert_eq!(rt; (left.list_first, left.sets_first), (3, 4));
+    assert_eq!(rt; left.sets.places(b"friday").ok(), Some([2].as_slice()));
+    check_chain(rt, &mut pages, 4, b"\x06friday\x00\x01\x00\x00\x00\x02")?;
+    check(
+        rt,
+        pages,
+        &[row(1, 1, 1), row(2, 1, 2)],
+        &[b"\x00\x01T:Lullaby\nK:C\n", b"\x00\x01T:March\nK:D\nDFA\n"],
+    )
+}
+
+// Two tunes and their list ask for three pages beside the root, and one tune for two.
+pub(crate) fn refuses_what_finds_no_page<R: AllocGlobal + Abort, D: TestDisk>(
+    rt: &R,
+) -> Result<(), Fail> {
+    let mut pages = made_up_to::<D>(rt.alloc(), 3)?;
+    let empty = nothing(rt.alloc());
+    let mut texts = Vec::new(rt.alloc());
+    texts.push(text(rt.alloc(), LULLABY)?)?;
+    texts.push(text(rt.alloc(), MARCH)?)?;
+    let mut work = pages.begin()?;
+    let change = Change::Add { first: 1, texts };
+    match lay(
+        &mut Room::new(rt.alloc()),
+        &mut pages,
+        &mut work,
+        &empty,
+        change,
+    ) {
+        Err(Fault::FileFull) => {}
+        _ => return Err(Fail::from("the file is not full")),
+    }
+    let mut texts = Vec::new(rt.alloc());
+    texts.push(text(rt.alloc(), MARCH)?)?;
+    let change = Change::Add { first: 1, texts };
+    let left = changed(rt.alloc(), &mut pages, &empty, change)?;
+    assert_eq!(rt; (left.list_first, left.sets_first), (2, 0));
+    check(
+        rt,
+        pages,
+        &[row(1, 1, 1)],
+        &[b"\x00\x01T:March\nK:D\nDFA\n"],
     )
 }
