@@ -67,6 +67,48 @@ fn judges_a_book_before_it_makes_texts(rt: HostRuntime) -> Result<(), Fail> {
     Ok(())
 }
 
+// Checks the texts of the tunes of a book.
+fn check_texts<R: AllocGlobal + Abort>(rt: &R, book: &[u8], wanted: &[&[u8]]) -> Result<(), Fail> {
+    let tunes = split_book(rt.alloc(), book, 16_000)?;
+    assert_eq!(rt; tunes.len(), wanted.len());
+    for (tune, text) in tunes.iter().zip(wanted) {
+        assert_eq!(rt; tune.bytes(), *text);
+    }
+    Ok(())
+}
+
+// Where a header is long, and a tune carries few of its lines.
+#[test]
+fn carries_lines_of_a_long_header_in_order(rt: HostRuntime) -> Result<(), Fail> {
+    let mut header = Vec::new(rt.alloc());
+    for line in [b"C:a\n".as_slice(), b"U:b\n", b"C:c\n", b"U:d\n"] {
+        header.extend_from_slice(line)?;
+        for _ in 0..10 {
+            header.extend_from_slice(b"N:e\n")?;
+        }
+    }
+    let mut book = Vec::from_slice(rt.alloc(), &header)?;
+    book.extend_from_slice(b"\nX:1\nN:f\nK:C\n\nX:2\nK:D\n\nX:3\nC:g\nN:h\nK:E\nN:i\n")?;
+    header.extend_from_slice(b"K:D\n")?;
+    let wanted = [
+        b"N:f\nC:a\nU:b\nC:c\nU:d\nK:C\n".as_slice(),
+        &header,
+        b"C:g\nN:h\nU:b\nU:d\nK:E\nN:i\n",
+    ];
+    check_texts(&rt, &book, &wanted)
+}
+
+#[test]
+fn carries_lines_of_a_short_header_in_order(rt: HostRuntime) -> Result<(), Fail> {
+    let book = b"C:a\nN:b\n+:c\nC:d\nN:e\n\nX:1\nK:C\n\nX:2\nN:f\nK:D\n\nX:3\nC:g\nN:h\nK:E\n";
+    let wanted = [
+        b"C:a\nN:b\n+:c\nC:d\nN:e\nK:C\n".as_slice(),
+        b"N:f\nC:a\nC:d\nK:D\n",
+        b"C:g\nN:h\nK:E\n",
+    ];
+    check_texts(&rt, book, &wanted)
+}
+
 // The refusal of a book.
 fn refusal(alloc: Global, book: &[u8], longest: usize) -> Option<BookFault>
     requires { longest ≤ 64000 }
