@@ -63,11 +63,11 @@ failed old new was is command e f (inr done) =
     closes old new was is command (Err Device) e f
     (subst (λ state. Answers (open_at old) command (Err Device) (closed_at state)) (sym done) (failed_after old command))
 
--- there was no page or no memory for it
-spared : (old new : State) (command : Command) (why : Refusal) → (why ≡ FileFull) ⊎ (why ≡ OutOfMemory) → new ≡ old
+-- there was no page or no memory for a change
+spared : (old new : State) (command : Command) (why : Refusal) → asks command ≡ false → (why ≡ FileFull) ⊎ (why ≡ OutOfMemory) → new ≡ old
     → Answers (open_at old) command (Err why) (open_at new)
-spared old new command why (inl full) same = rw (full, same) (file_full old command)
-spared old new command why (inr memory) same = rw (memory, same) (no_memory old command)
+spared old new command why changes (inl full) same = rw (full, same) (file_full old command changes)
+spared old new command why changes (inr memory) same = rw (memory, same) (no_memory old command)
 
 -- then no state after it was passed
 none_passed : (old : State) (command : Command) (why : Refusal) → (why ≡ FileFull) ⊎ (why ≡ OutOfMemory) → passed old command (Err why) ≡ []
@@ -256,7 +256,7 @@ module _ {D : Type 0} (honest : D → Type 0) (failures : D → ℕ) (state : D 
         record {
           was_honest = λ h. fetches.was_honest (makes.was_honest h);
           answers = λ h. stays _ _ old.closed new.closed command (Err why) e spares.1
-              (spared _ _ command why spares.0 (ap (λ at. state_in at.seen) (disk h)));
+              (spared _ _ command why changes spares.0 (ap (λ at. state_in at.seen) (disk h)));
           moves = λ h. inl (disk h);
         })
     | inr fails ↦ record {

@@ -144,20 +144,42 @@ making_keeps image old new root since = since_weaker (StandsForNoneOr image) Sta
 -- why pages are not opened, of an archive
 pub pages_refused : (why : OpenFault) (old new : DiskState) → IsUnopenedFor why old new → IsUnopenedArchiveFor why old new
 pages_refused NotArchive old new is = is
-pages_refused Damaged old new is = λ s stands. is.3 stands.pages stands.stands
+pages_refused Damaged old new is = record {
+  magic = is.1;
+  long = is.2;
+  stateless = λ s stands. is.3 stands.pages stands.stands;
+  rest = inl is.0;
+}
 pages_refused NotEmpty old new is = is
-pages_refused OutOfMemory old new is = tt
+pages_refused OutOfMemory old new is = is
 pages_refused Device old new is = tt
 
+-- The disk shows these pages and no others. It was synced, where its gate was closed; a stop now leaves the same pages.
+pub record Shown (pages : List (List ℕ)) (old new : DiskState) : Type 0 where
+  pub stands : StandsFor pages old.seen
+  pub only : (other : List (List ℕ)) → StandsFor other old.seen → other ≡ pages
+  pub synced : gate_of old.seen ≢ gate_open → IsSynced old new
+  pub rest : LeavesOnly new.now (StandsFor pages)
+
+same_pages_left : (pages : List (List ℕ)) (old new : DiskState) → Shown pages old new → LeavesSame old new
+same_pages_left pages old new shown = record { pages = pages; stood = shown.stands; rest = shown.rest }
+
 -- why they are not claimed
-pub claims_refused : (why : OpenFault) (pages : List (List ℕ)) (old new : DiskState)
-    → ((other : List (List ℕ)) → StandsFor other old.seen → other ≡ pages) → IsUnclaimedFor why pages → IsUnopenedArchiveFor why old new
-claims_refused NotArchive pages old new only is = absurd is
-claims_refused Damaged pages old new only is =
-    λ s stands. is s (subst (λ (l : List (List ℕ)). IsStateOf l s) (only stands.pages stands.stands) stands.is)
-claims_refused NotEmpty pages old new only is = is
-claims_refused OutOfMemory pages old new only is = tt
-claims_refused Device pages old new only is = tt
+pub claims_refused : (why : OpenFault) (pages : List (List ℕ)) (old new : DiskState) → Shown pages old new → IsUnclaimedFor why pages
+    → IsUnopenedArchiveFor why old new
+claims_refused NotArchive pages old new shown is = absurd is
+claims_refused Damaged pages old new shown is = record {
+  magic = shown.stands.headed.magic;
+  long = omega (arith, shown.stands.headed.long);
+  stateless = λ s stands. is s (subst (λ (l : List (List ℕ)). IsStateOf l s) (shown.only stands.pages stands.stands) stands.is);
+  rest = elim (decide_eq (gate_of old.seen) gate_open) [
+    | inl is_open ↦ inr (is_open, same_pages_left pages old new shown)
+    | inr shut ↦ inl (shown.synced shut)
+  ];
+}
+claims_refused NotEmpty pages old new shown is = is
+claims_refused OutOfMemory pages old new shown is = same_pages_left pages old new shown
+claims_refused Device pages old new shown is = tt
 
 -- AN ARCHIVE OF PAGES
 -- of pages whose state was claimed
@@ -231,10 +253,12 @@ made_sound honest state stays archive image root rest = record {
 
 -- Pages that could not be claimed are those that the disk shows, so they tell of its file.
 pub archive_refused : {D : Type 0} (honest : D → Type 0) (state : D → DiskState) (disk : D) (pages : List (List ℕ)) (old : DiskState)
-    → (result : Result (Shelf D) (Refused D)) → (HonestAt honest (disk_of result) → honest disk)
-    → (honest disk → (other : List (List ℕ)) → StandsFor other old.seen → other ≡ pages)
+    → (result : Result (Shelf D) (Refused D))
+    → (HonestAt honest (disk_of result) → honest disk × (state_at state (disk_of result) ≡ state disk))
+    → (honest disk → Shown pages old (state disk))
     → IfErr result (λ refused. honest refused.disk → IsUnclaimedFor refused.why pages)
     → IfErr result (λ refused. honest refused.disk → IsUnopenedArchiveFor refused.why old (state refused.disk))
-archive_refused honest state disk pages old (Ok archive) was only is = tt
-archive_refused honest state disk pages old (Err refused) was only is =
-    λ h. claims_refused refused.why pages old (state refused.disk) (only (was h)) (is h)
+archive_refused honest state disk pages old (Ok archive) same shown is = tt
+archive_refused honest state disk pages old (Err refused) same shown is = λ h.
+    let was = same h in
+    claims_refused refused.why pages old (state refused.disk) (subst (Shown pages old) (sym was.1) (shown was.0)) (is h)

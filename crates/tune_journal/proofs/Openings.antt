@@ -7,6 +7,7 @@ use Rattle.tune_journal.specs.Image.{StandsFor, StandsForEither, IsHeaded, HasPa
 use Rattle.tune_journal.specs.Image.{new_count_of}
 use Rattle.tune_journal.specs.Inside.Looking.{IsSyncedOrSame, HasEntries, Climbs, Sees, IsBounded}
 use Rattle.tune_journal.specs.Inside.Rest.{IsAtRest, IsOpened}
+use Rattle.tune_journal.specs.Layout.{gate_open}
 use Rattle.tune_journal.specs.Moments.{KeepsEither, LeftOrSame}
 use Rattle.tune_journal.specs.Pages.{changed}
 use Rattle.tune_journal.specs.Refusal.{IsSynced}
@@ -89,6 +90,12 @@ closed_rest n found old new is synced sees =
       count = ap count_of synced.seen ∙ closed.2;
       pages = subst (HasPageCount n) back closed.3;
     }
+
+-- an open gate is no closed one
+pub sees_open_gate : (m k : ℕ) (found : Found) (file : List ℕ) → found ≡ Open m k → Sees found file → gate_of file ≡ gate_open
+sees_open_gate m k found file is sees =
+    let seen : Sees (Open m k) file = subst (λ (f : Found). Sees f file) is sees in
+    seen.1
 
 -- and its log has as many entries as were found
 pub open_entries : (m k : ℕ) (found : Found) (old new : DiskState) → found ≡ Open m k → IsSynced old new → Sees found old.seen → length (log_of new.seen) ≡ k

@@ -1,11 +1,13 @@
 // Opening a file that a stop may have left.
-ghost use Rattle.std.specs.Prelude.{◌≡◌, ◌≤◌, ℕ, List, length, IfOk, IfErr, MatchResult};
+ghost use Rattle.std.specs.Prelude.{◌≡◌, ◌≢◌, ◌≤◌, ℕ, List, length, IfOk, IfErr, MatchResult};
 ghost use Rattle.tune_disk.specs.Stops.{SinceThen};
 ghost use Rattle.tune_journal.specs.Held.{disk_of, disk_of_opening};
-ghost use Rattle.tune_journal.specs.Image.{StandsFor};
+ghost use Rattle.tune_journal.specs.Image.{StandsFor, gate_of};
 ghost use Rattle.tune_journal.specs.Inside.Phases.{CallsIf};
+ghost use Rattle.tune_journal.specs.Layout.{gate_open};
 ghost use Rattle.tune_journal.specs.Moments.{KeepsEither, LeftOrSame, LeavesPages};
 ghost use Rattle.tune_journal.specs.Refusal.{IsRefusedFor, IsOpenReason, CountsFailureWhere};
+ghost use Rattle.tune_journal.specs.Refusal.{IsSynced};
 
 use crate::journal::Journal;
 use crate::look::{Found, look};
@@ -77,6 +79,10 @@ impl<D: Disk> Journal<D> {
             → pages ≡ journal.pages) }
         ensures rest { IfOk result (λ journal.
             LeavesPages D.honest D.state journal.disk journal.pages) }
+        // Behind a closed gate the disk was synced, and nothing else.
+        ensures synced { IfOk result (λ journal. D.honest journal.disk
+            → gate_of (D.state disk).seen ≢ gate_open
+            → IsSynced (D.state disk) (D.state journal.disk)) }
         ensures refused { IfErr result (λ refused. D.honest refused.disk
             → IsRefusedFor refused.why (D.state disk) (D.state refused.disk)) }
         ensures reason { IfErr result (λ refused. IsOpenReason refused.why) }

@@ -1,15 +1,15 @@
 // Pages that are made, and pages that are being opened, of which each is claimed once.
-ghost use Rattle.std.specs.Prelude.{◌≡◌, ◌<◌, ◌≤◌, ◌-◌, ◌++◌, [], ◌∷◌, ℕ, true, false, List, Some};
+ghost use Rattle.std.specs.Prelude.{◌≡◌, ◌≢◌, ◌<◌, ◌≤◌, ◌-◌, ◌++◌, [], ◌∷◌, ℕ, true, false, List, Some};
 ghost use Rattle.std.specs.Prelude.{length, replicate, slice_set, MatchResult, IfOk, IfErr};
 ghost use Rattle.std.specs.Prelude.{IfSome, OnOk};
 ghost use Rattle.tune_disk.specs.Disk.{Looks};
 ghost use Rattle.tune_disk.specs.Stops.{SinceThen, LeavesOnly};
-ghost use Rattle.tune_journal.specs.Image.{StandsFor};
-ghost use Rattle.tune_journal.specs.Layout.{most_pages};
+ghost use Rattle.tune_journal.specs.Image.{StandsFor, gate_of};
+ghost use Rattle.tune_journal.specs.Layout.{most_pages, gate_open};
 ghost use Rattle.tune_journal.specs.Making.{IsEmptyFile, StandsForNoneOr};
 ghost use Rattle.tune_journal.specs.Moments.{KeepsEither, LeftOrSame, LeavesPages};
 ghost use Rattle.tune_journal.specs.Pages.{page_at};
-ghost use Rattle.tune_journal.specs.Refusal.{CountsFailureIf, CountsFailureWhere};
+ghost use Rattle.tune_journal.specs.Refusal.{CountsFailureIf, CountsFailureWhere, IsSynced};
 ghost use Rattle.tune_pages.specs.Chain.{next_of, piece_of, IsLink};
 ghost use Rattle.tune_pages.specs.Claim.{Claimable, IsClaimable, IsChainFault, IsPageFault};
 ghost use Rattle.tune_pages.specs.Claim.{LooksOpening};
@@ -257,6 +257,10 @@ impl<D: Disk> Pages<D> {
             opening.claimed ≡ only_root (length opening.pages)) }
         ensures rest { IfOk result (λ opening.
             LeavesPages D.honest D.state opening.disk opening.pages) }
+        // Behind a closed gate the disk was synced, and nothing else.
+        ensures synced { IfOk result (λ opening. D.honest opening.disk
+            → gate_of (D.state disk).seen ≢ gate_open
+            → IsSynced (D.state disk) (D.state opening.disk)) }
         ensures refused { IfErr result (λ refused. D.honest refused.disk
             → IsUnopenedFor refused.why (D.state disk) (D.state refused.disk)) }
         ensures reason { IfErr result (λ refused. IsPagesOpenReason refused.why) }

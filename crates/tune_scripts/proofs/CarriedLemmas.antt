@@ -27,7 +27,7 @@ ok_steps : (old new : Standing) (command : Command) (answer : Result Reply Refus
     → IfOk answer (λ _. new.state ≡ (step old.state command).0)
 ok_steps _ _ _ _ (stepped old new command (Ok reply) e) = sym (ap (λ (o : Outcome). o.0) e)
 ok_steps _ _ _ _ (stepped old new command (Err refusal) e) = tt
-ok_steps _ _ _ _ (file_full old command) = tt
+ok_steps _ _ _ _ (file_full old command changes) = tt
 ok_steps _ _ _ _ (no_memory old command) = tt
 ok_steps _ _ _ _ (failed_before old command) = tt
 ok_steps _ _ _ _ (failed_after old command) = tt

@@ -28,13 +28,24 @@ open_at state = record { state = state; closed = false }
 abbrev pub closed_at : State → Standing
 closed_at state = record { state = state; closed = true }
 
+-- whether a command is a question, which changes nothing
+abbrev pub asks : Command → Bool
+asks (Show number) = true
+asks (Find query) = true
+asks Titles = true
+asks Sets = true
+asks (SetShow name) = true
+asks ExportAll = true
+asks (ExportSet name) = true
+asks command = false
+
 -- what a store stood for, a command, its answer, and what the store stands for then
 pub data Answers : Standing → Command → Result Reply Refusal → Standing → Type 0 where
   -- the answer and the state are those of the plain list
   stepped : (old new : State) (command : Command) (answer : Result Reply Refusal)
       → step old command ≡ (new, answer) → Answers (open_at old) command answer (open_at new)
-  -- no page is free in the file, and nothing changed
-  file_full : (old : State) (command : Command)
+  -- no page is free in the file for a change, and nothing changed
+  file_full : (old : State) (command : Command) → asks command ≡ false
       → Answers (open_at old) command (Err FileFull) (open_at old)
   -- out of memory, and nothing changed
   no_memory : (old : State) (command : Command)
@@ -61,17 +72,6 @@ stays_open (Err Device) = false
 stays_open (Err Closed) = false
 stays_open (Err refusal) = true
 
--- whether a command is a question, which changes nothing
-abbrev pub asks : Command → Bool
-asks (Show number) = true
-asks (Find query) = true
-asks Titles = true
-asks Sets = true
-asks (SetShow name) = true
-asks ExportAll = true
-asks (ExportSet name) = true
-asks command = false
-
 -- Whether a command with this answer may have written to the device: a question has not, nor has
 -- one that was refused, but where the device failed.
 abbrev pub may_write : Command → Result Reply Refusal → Bool
@@ -87,14 +87,13 @@ IsRefusalOfBook NoTune = ⊤
 IsRefusalOfBook (BadTune place why) = ⊤
 IsRefusalOfBook refusal = ⊥
 
--- The refusals that any command may be given. `FileFull` is for any that a store over a file
--- carries out.
-abbrev pub IsRefusalOfAny : Refusal → Type 0
-IsRefusalOfAny FileFull = ⊤
-IsRefusalOfAny OutOfMemory = ⊤
-IsRefusalOfAny Device = ⊤
-IsRefusalOfAny Closed = ⊤
-IsRefusalOfAny refusal = ⊥
+-- The refusals that commands of every kind may be given; `FileFull` is for all but questions.
+abbrev pub IsRefusalOfAny : Command → Refusal → Type 0
+IsRefusalOfAny command FileFull = asks command ≡ false
+IsRefusalOfAny command OutOfMemory = ⊤
+IsRefusalOfAny command Device = ⊤
+IsRefusalOfAny command Closed = ⊤
+IsRefusalOfAny command refusal = ⊥
 
 -- a command's own refusals
 abbrev pub IsRefusalOfOwn : Command → Refusal → Type 0
@@ -128,7 +127,7 @@ IsRefusalOfOwn command refusal = ⊥
 
 -- a refusal that a command may be given
 abbrev pub IsRefusalOf : Command → Refusal → Type 0
-IsRefusalOf command refusal = IsRefusalOfOwn command refusal ⊎ IsRefusalOfAny refusal
+IsRefusalOf command refusal = IsRefusalOfOwn command refusal ⊎ IsRefusalOfAny command refusal
 
 -- whether a command may ask for memory, in a store that has its tunes in memory
 abbrev pub takes_memory : Command → Bool

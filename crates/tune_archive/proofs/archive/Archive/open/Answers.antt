@@ -38,4 +38,10 @@ returns-clause-moments g c = λ h.
 pub returns-clause-refused : goal.returns-clause-refused
 returns-clause-refused g c =
     archive_refused g.D.Disk.honest g.D.Disk.state c.in_ok-opening.opening.disk c.in_ok-opening.opening.pages (g.D.Disk.state c.args.disk)
-    c.claimed.result (λ h. (c.claimed.ensures.same h).0) c.in_ok-opening.ensures.only c.claimed.ensures.refused
+    c.claimed.result c.claimed.ensures.same
+    (λ h. record {
+      stands = c.in_ok-opening.ensures.pages h;
+      only = c.in_ok-opening.ensures.only h;
+      synced = c.in_ok-opening.ensures.synced h;
+      rest = c.in_ok-opening.ensures.rest h;
+    }) c.claimed.ensures.refused

@@ -1,7 +1,7 @@
 use Rattle.std.proofs.Common.{subst}
 use Rattle.tune_journal.specs.Image.{StandsFor, pages_of}
 use Rattle.tune_journal.proofs.Above.{stands_once}
-use Rattle.tune_journal.proofs.Openings.{looked_leaves, looked_keeps, ended_leaves, ended_keeps, recovered_stands, sees_damaged, closed_rest, open_entries}
+use Rattle.tune_journal.proofs.Openings.{looked_leaves, looked_keeps, ended_leaves, ended_keeps, recovered_stands, sees_damaged, closed_rest, open_entries, sees_open_gate}
 use Rattle.tune_journal.proofs.Openings.{open_bounds}
 use Rattle.tune_journal.proofs.Rests.{rest_leaves, rest_stands}
 use Rattle.tune_journal.proofs.journal.Journal.open.Goals as goal
@@ -107,3 +107,12 @@ pub finish-requires-clause-entries : goal.finish-requires-clause-entries
 finish-requires-clause-entries g c =
     λ h. open_entries c.in-Ok-Open.new_count c.in-Ok-Open.entries c.in-Ok-Open.field-0 (g.D.Disk.state c.args.disk)
     (g.D.Disk.state c.look.new.disk) c.in-Ok-Open.field-0-is (c.in-Ok-Open.ensures.synced h) (c.in-Ok-Open.ensures.sees h)
+
+-- Behind a closed gate there was the look alone.
+pub returns-in-Ok-Closed-clause-synced : goal.returns-in-Ok-Closed-clause-synced
+returns-in-Ok-Closed-clause-synced g c = λ h shut. c.in-Ok-Closed.ensures.synced h
+
+pub returns-in-Ok-clause-synced : goal.returns-in-Ok-clause-synced
+returns-in-Ok-clause-synced g c = λ h shut.
+    absurd (shut (sees_open_gate c.in-Ok-Open.new_count c.in-Ok-Open.entries c.in-Ok-Open.field-0 (g.D.Disk.state c.args.disk).seen
+    c.in-Ok-Open.field-0-is (c.in-Ok-Open.ensures.sees (c.in-Ok.ensures.calls.was_honest h))))
