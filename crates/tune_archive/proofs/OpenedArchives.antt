@@ -172,7 +172,7 @@ claims_refused Damaged pages old new shown is = record {
   magic = shown.stands.headed.magic;
   long = omega (arith, shown.stands.headed.long);
   stateless = λ s stands. is s (subst (λ (l : List (List ℕ)). IsStateOf l s) (shown.only stands.pages stands.stands) stands.is);
-  rest = elim (decide_eq (gate_of old.seen) gate_open) [
+  rest = elim (cases_eq (gate_of old.seen) gate_open) [
     | inl is_open ↦ inr (is_open, same_pages_left pages old new shown)
     | inr shut ↦ inl (shown.synced shut)
   ];
