@@ -45,11 +45,11 @@ Asked D = List ℕ → Result D DeviceFault → Type 0
 
 -- The drive was asked for this path. It gave a disk, on which this was done, and the disk that came
 -- of it was closed; or it gave none, and that was written.
-abbrev pub OnFile : {D : Type 0} → Asked D → (List ℕ → D → Type 0) → (D → D → Type 0) → List ℕ
-    → Option (List ℕ) → Option (List ℕ) → ℕ → Type 0
+abbrev pub OnFile : {D : Type 0} → Asked D → (List ℕ → D → Type 0) → (D → D → ℕ → Type 0)
+    → List ℕ → Option (List ℕ) → Option (List ℕ) → ℕ → Type 0
 OnFile {D} WasAsked WasClosed Does path was now status =
     (answer : Result D DeviceFault) × WasAsked path answer × MatchResult answer
-    (λ old. (new : D) × Does old new × WasClosed path new)
+    (λ old. (new : D) × Does old new status × WasClosed path new)
     (λ _. WritesLine was now (reason_bytes Device) 1 status)
 
 -- What an action does with the input and the output, and the status that it gives. That of a file
@@ -60,13 +60,10 @@ abbrev pub Acts : {D : Type 0} → Asked D → Asked D → (List ℕ → D → T
 Acts opened created closed kept honest failures state action.List input left was now status =
     ListsScript input left was now status
 Acts opened created closed kept honest failures state (action.Make file) input left was now status =
-    OnFile created closed (λ old new. Makes honest failures state was now old new status)
-    (string_bytes file) was now status
+    OnFile created closed (Makes honest failures state was now) (string_bytes file) was now status
 Acts opened created closed kept honest failures state (action.Run file) input left was now status =
-    OnFile opened closed
-    (λ old new. RunsOn kept honest failures state input left was now old new status)
-    (string_bytes file) was now status
+    OnFile opened closed (RunsOn kept honest failures state input left was now) (string_bytes file)
+    was now status
 Acts opened created closed kept honest failures state (action.Check file) input left was now
     status =
-    OnFile opened closed (λ old new. Checks honest failures state was now old new status)
-    (string_bytes file) was now status
+    OnFile opened closed (Checks honest failures state was now) (string_bytes file) was now status

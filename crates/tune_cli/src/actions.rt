@@ -12,15 +12,14 @@ ghost use Rattle.tune_cli.specs.declared.command_line.WordsFault.TheVariants.{Mi
 ghost use Rattle.tune_cli.specs.CommandLine.{faults_in, FaultFits, status_of_fault};
 
 use crate::command_line::{Action, VERSION, WordsFault};
-use crate::file_actions::{Done, check_on, make_on, run_on, say_reason};
+use crate::file_actions::{check, make, run_file};
 use clap::error::ErrorKind;
 use clap::{Arg, Command};
 use std::alloc::{AllocError, Global};
 use std::io;
 use std::io::{Read, Write};
 use tune_archive::{Archive, TuneStore};
-use tune_disk::{DeviceFault, Disk, Drive};
-use tune_journal::OpenFault;
+use tune_disk::{Disk, Drive};
 use tune_scripts::{RunEnd, run};
 use tune_store::ListArchive;
 
@@ -148,29 +147,10 @@ pub fn act<R: Read, W: Write, D: Disk, T: AllocGlobal + Drive<Disk = D>>(
 {
     match action {
         Action::List => list(rt.alloc(), reader, writer),
-        Action::Make(file) => match rt.create(file.as_str()) {
-            Ok(disk) => close(rt, file.as_str(), make_on(rt.alloc(), writer, disk)),
-            Err(DeviceFault) => say_reason(writer, OpenFault::Device),
-        },
-        Action::Run(file) => match rt.open(file.as_str()) {
-            Ok(disk) => close(rt, file.as_str(), run_on(rt.alloc(), reader, writer, disk)),
-            Err(DeviceFault) => say_reason(writer, OpenFault::Device),
-        },
-        Action::Check(file) => match rt.open(file.as_str()) {
-            Ok(disk) => close(rt, file.as_str(), check_on(rt.alloc(), writer, disk)),
-            Err(DeviceFault) => say_reason(writer, OpenFault::Device),
-        },
+        Action::Make(file) => make(rt, file.as_str(), writer),
+        Action::Run(file) => run_file(rt, file.as_str(), reader, writer),
+        Action::Check(file) => check(rt, file.as_str(), writer),
     }
-}
-
-// Closes the disk of a path on which an action ended, and gives its status.
-fn close<D: Disk, T: Drive<Disk = D>>(rt: &T, path: &str, done: Done<D>) -> u8
-    ensures closed { T.closed path.now done.disk }
-    ensures status { result ≡ done.status }
-{
-    let Done { status, disk } = done;
-    rt.close(path, disk);
-    status
 }
 
 // Runs the script of the reader on an empty archive in memory.
