@@ -720,7 +720,7 @@ ends_with 0
 holds 'layout 1 tunes 0 sets 0'
 end
 
-# CLOSED STREAMS
+# STREAMS THAT ARE CLOSED OR FULL
 
 # Runs a command with some of the streams 0, 1 and 2 closed, the others over files; it reads script.
 closing() {
@@ -820,6 +820,26 @@ done
 [ "$(cat script)" = export ] || wrong 'the script was written'
 has script
 end
+
+if [ -e /dev/full ]; then
+    begin 'replies where standard output is full'
+    ./tunes make tunes.abcx > /dev/full 2> "$work/err"
+    status=$?
+    ends_with 1
+    holds 'layout 1 tunes 0 sets 0'
+    for words in 'make tunes.abcx' 'check tunes.abcx' 'check absent.abcx'; do
+        ./tunes $words > /dev/full 2> "$work/err"
+        status=$?
+        ends_with 1
+    done
+    for words in 'run tunes.abcx' list; do
+        ./tunes $words < examples/kesh-jig.script > /dev/full 2> "$work/err"
+        status=$?
+        ends_with 1
+    done
+    holds 'layout 1 tunes 1 sets 0'
+    end
+fi
 
 begin 'help and version where standard output is closed or full'
 : > script

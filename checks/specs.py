@@ -9,9 +9,9 @@ fails:
   specs/Inside/. A file directly under specs/ that no clause of an exported call reaches is named,
   and the line below these counts them.
 - For each promise of docs/PROOFS.md it prints how many lines of definitions its clauses and the
-  definitions to read need, imports, comments and empty lines apart. The column *lines* of that
-  page has this number. In `N, M but for `a` and `b``, M is the number where a and b are taken as
-  words, and what these need is not read.
+  definitions to read need, imports, comments and empty lines apart. The column *lines to read* of
+  that page has this number. In `N, M but for `a` and `b``, M is the number where a and b are taken
+  as words, and what these need is not read.
 
 `--ways CRATE` prints from where each definition of a crate is reached.
 """
