@@ -1,5 +1,5 @@
 #!/usr/bin/env python3
-"""Usage: checks/specs.py [--ways CRATE]
+"""Usage: checks/specs.py [--write] [--ways CRATE]
 
 Reads which definitions of specs/ a clause needs, by names: a clause names definitions that its file
 imports, and a definition those that it and its imports name. It ends with 1 where one of these
@@ -11,7 +11,7 @@ fails:
 - For each promise of docs/PROOFS.md it prints how many lines of definitions its clauses and the
   definitions to read need, imports, comments and empty lines apart. The column *lines to read* of
   that page has this number. In `N, M but for `a` and `b``, M is the number where a and b are taken
-  as words, and what these need is not read.
+  as words, and what these need is not read. `--write` writes the numbers into the page.
 
 `--ways CRATE` prints from where each definition of a crate is reached.
 """
@@ -206,9 +206,19 @@ def rows_of_promises():
     """The rows of the table of promises that name a call, cell by cell."""
     table = open(PROOFS, encoding="utf-8").read().split("\n## The promises\n")[1]
     for line in table.split("\n## ")[0].split("\n"):
-        cells = [cell.strip() for cell in line.strip("|").split(" | ")]
+        cells = line.strip("| ").split(" | ")
         if line.startswith("|") and CALL.search(line):
             yield cells
+
+
+def counts_of(row):
+    """What the column of a row is to have."""
+    found = LINES.fullmatch(row[4])
+    words = re.findall(r"`(\w+)`", found[3] or "") if found else []
+    counts = f"{lines_to_read(row, ()):,}"
+    if words:
+        counts += f", {lines_to_read(row, words):,} but for {found[3]}"
+    return counts
 
 
 def wrong_counts():
@@ -217,16 +227,23 @@ def wrong_counts():
     wrong = 0
     for row in rows_of_promises():
         title = re.sub(r"\[(\w+)\]\(.*?\)", r"\1", row[0])
-        found = LINES.fullmatch(row[4])
-        words = re.findall(r"`(\w+)`", found[3] or "") if found else []
-        counts = f"{lines_to_read(row, ()):,}"
-        if words:
-            counts += f", {lines_to_read(row, words):,} but for {found[3]}"
+        counts = counts_of(row)
         print(f"promise {title}: {counts} lines of definitions")
-        if row[4] != counts:
+        if row[4] == counts:
+            continue
+        if "--write" in sys.argv:
+            write_row(row, row[:4] + [counts] + row[5:])
+        else:
             print(f"{PROOFS}: promise {title} has '{row[4]}'")
             wrong += 1
     return wrong
+
+
+def write_row(old, new):
+    """Puts a row of the table in the place of another."""
+    page = open(PROOFS, encoding="utf-8").read()
+    page = page.replace(f"| {' | '.join(old)} |", f"| {' | '.join(new)} |")
+    open(PROOFS, "w", encoding="utf-8").write(page)
 
 
 failed = missed_files() + wrong_counts()
