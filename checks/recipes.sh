@@ -9,6 +9,8 @@ case $program in
 /*) ;;
 *) program=$PWD/$program ;;
 esac
+# the scripts of examples/ run ./tunes, which each case has
+unset TUNES
 work=$(mktemp -d) || exit 1
 trap 'rm -rf "$work"' EXIT
 trap 'exit 1' HUP INT TERM
