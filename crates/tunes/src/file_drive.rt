@@ -4,7 +4,8 @@ use std::fs::{File, Files};
 use std::io;
 use tune_disk::{DeviceFault, Drive, FileDisk};
 
-const NOTHING: &str = "/dev/null";
+/// The device that gives no bytes.
+pub(crate) const NOTHING: &str = "/dev/null";
 
 /// Opens files as disks. Why one cannot be opened, and why its device failed, is told on standard
 /// error, with its path.
@@ -18,7 +19,7 @@ pub(crate) struct FileDrive<'a, R> {
 }
 
 impl<'a, R: Files<File = File>> FileDrive<'a, R> {
-    /// The error is that of the device that gives and takes nothing.
+    /// The error is that of `NOTHING`.
     pub(crate) fn new(rt: &'a R) -> io::Result<FileDrive<'a, R>> {
         let first = File::open(rt, NOTHING)?;
         let second = File::open(rt, NOTHING)?;
@@ -77,8 +78,9 @@ impl<'a, R: Files<File = File> + Eprint> Drive for FileDrive<'a, R> {
     }
 }
 
-// Tells what the system answered of a path. Where that cannot be written, the reply says enough.
-fn tell<R: Eprint>(rt: &R, path: &str, error: &io::Error) {
+/// Tells what the system answered of a path, or of a stream. Where that cannot be written, the
+/// status says enough.
+pub(crate) fn tell<R: Eprint>(rt: &R, path: &str, error: &io::Error) {
     let _ = match error.kind() {
         io::ErrorKind::InvalidInput => eprintln!(rt; "tunes: {path}: not a regular file"),
         io::ErrorKind::WouldBlock => eprintln!(rt; "tunes: {path}: another program has it"),

@@ -5,7 +5,7 @@
 
 mod file_drive;
 
-use file_drive::FileDrive;
+use file_drive::{FileDrive, NOTHING, tell};
 use std::fs::{File, Files};
 use std::io::{BufReader, BufWriter};
 use std::process::ExitCode;
@@ -51,7 +51,13 @@ fn start<R: Runtime + AllocGlobal + Files<File = File>>(rt: &R) -> io::Result<u8
     let words: Vec<String> = env::args(rt)?.collect(rt.alloc())?;
     match action(rt.alloc(), words.as_slice()) {
         Ok(action) => perform(rt, &action),
-        Err(fault) => report(rt, &fault),
+        Err(fault) => match report(rt, &fault) {
+            Ok(status) => Ok(status),
+            Err(error) => {
+                tell(rt, "standard output", &error);
+                Ok(FAILED)
+            }
+        },
     }
 }
 
@@ -60,7 +66,13 @@ fn perform<R: Runtime + AllocGlobal + Files<File = File>>(
     rt: &R,
     action: &Action,
 ) -> io::Result<u8> {
-    let drive = FileDrive::new(rt)?;
+    let drive = match FileDrive::new(rt) {
+        Ok(drive) => drive,
+        Err(error) => {
+            tell(rt, NOTHING, &error);
+            return Ok(FAILED);
+        }
+    };
     let mut reader = BufReader::with_capacity(rt.alloc(), BUFFER, rt.reader())?;
     let mut writer = BufWriter::with_capacity(rt.alloc(), BUFFER, io::writer(rt))?;
     Ok(act(&drive, action, &mut reader, &mut writer))
