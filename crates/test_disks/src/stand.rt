@@ -42,7 +42,7 @@ impl<'a> Stand<'a> {
         }
         match name {
             "bytes" | "lost" | "kept" | "leave" => self.look(rt.alloc(), name),
-            "create" | "open" => Ok(self.open_file(rt, name, rest)?),
+            "create" | "open" => self.open_file(rt, name, rest),
             _ => self.change(rt.alloc(), name, rest),
         }
     }
