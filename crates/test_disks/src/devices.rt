@@ -1,0 +1,56 @@
+// The disk that calls are made of.
+use crate::disk_calls::{Answer, DiskCall, call};
+use std::io;
+use tune_disk::{FileDisk, FuseDisk, MemoryDisk, OneFault};
+
+/// A disk of one of the kinds that there are.
+#[derive(Drop)]
+pub(crate) enum Device {
+    None,
+    Memory(MemoryDisk),
+    Fuse(FuseDisk<MemoryDisk>),
+    OneFault(OneFault<MemoryDisk>),
+    FaultWithinFuse(FuseDisk<OneFault<MemoryDisk>>),
+    File(FileDisk),
+}
+
+impl Device {
+    /// With a fuse round it.
+    pub(crate) fn fused(self, calls: u64) -> Device {
+        match self {
+            Device::Memory(disk) => Device::Fuse(FuseDisk::new(disk, calls)),
+            Device::OneFault(disk) => Device::FaultWithinFuse(FuseDisk::new(disk, calls)),
+            _ => Device::None,
+        }
+    }
+
+    /// With one fault.
+    pub(crate) fn faulted(self, call: u64) -> Device {
+        match self {
+            Device::Memory(disk) => Device::OneFault(OneFault::new(disk, call)),
+            _ => Device::None,
+        }
+    }
+
+    /// The disk in memory within it.
+    pub(crate) fn inner(self) -> Device {
+        match self {
+            Device::Fuse(disk) => Device::Memory(disk.into_inner()),
+            Device::OneFault(disk) => Device::Memory(disk.into_inner()),
+            Device::FaultWithinFuse(disk) => Device::Memory(disk.into_inner().into_inner()),
+            _ => Device::None,
+        }
+    }
+
+    /// Makes a call.
+    pub(crate) fn call(&mut self, made: DiskCall) -> io::Result<Answer> {
+        match self {
+            Device::None => Ok(Answer::NoDisk),
+            Device::Memory(disk) => call(disk, made),
+            Device::Fuse(disk) => call(disk, made),
+            Device::OneFault(disk) => call(disk, made),
+            Device::FaultWithinFuse(disk) => call(disk, made),
+            Device::File(disk) => call(disk, made),
+        }
+    }
+}
