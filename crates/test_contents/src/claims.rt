@@ -1,10 +1,10 @@
 // Archives that are put on pages by hand, and claimed.
 ghost use Rattle.std.specs.Prelude.{◌≡◌, ◌<◌, ◌≤◌, false, IfOk};
 
+use crate::disks::TestDisk;
 use std::alloc::Global;
 use std::process::Abort;
 use std::test::Fail;
-use test_pages::TestDisk;
 use tune_contents::{Contents, claim};
 use tune_format::{Row, write_root, write_rows};
 use tune_pages::{ClaimFault, Pages, law_of_works};

@@ -4,11 +4,11 @@ ghost use Rattle.tune_store.specs.Plans.{CanChange};
 ghost use Rattle.tune_contents.specs.Holds.{labels_in};
 
 use crate::claims::{made, made_up_to};
+use crate::disks::TestDisk;
 use abc_fields::{ByteText, TuneText};
 use std::alloc::Global;
 use std::process::Abort;
 use std::test::Fail;
-use test_pages::TestDisk;
 use tune_contents::{Contents, Room, claim, lay};
 use tune_format::Row;
 use tune_pages::{Fault, Pages};

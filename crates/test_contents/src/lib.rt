@@ -5,6 +5,8 @@
 #[cfg(test)]
 mod claims;
 #[cfg(test)]
+mod disks;
+#[cfg(test)]
 mod lays;
 #[cfg(test)]
 mod tests;

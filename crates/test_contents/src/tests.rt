@@ -1,7 +1,7 @@
 // The tests, over a disk in memory.
+use crate::disks::InMemory;
 use crate::{claims, lays};
 use std::test::Fail;
-use test_pages::InMemory;
 
 #[test]
 fn claims_what_stands_on_pages(rt: HostRuntime) -> Result<(), Fail> {
