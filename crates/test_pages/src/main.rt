@@ -35,6 +35,7 @@ mod cases;
 mod disks;
 mod held;
 mod openings;
+mod quoted;
 mod works;
 
 use cases::{Case, Outcome};
