@@ -1,16 +1,15 @@
 // Changes of an archive, laid on its pages, and what is claimed then.
-ghost use Rattle.std.specs.Prelude.{◌≡◌, List, [], ◌∷◌, false, IfOk, OnOk};
+ghost use Rattle.std.specs.Prelude.{◌≡◌, ◌<◌, ◌≤◌, List, [], ◌∷◌, false, IfOk, OnOk};
 ghost use Rattle.tune_store.specs.Plans.{CanChange};
 ghost use Rattle.tune_contents.specs.Holds.{labels_in};
 
-use crate::claims::{made, made_up_to};
+use crate::disks::TestDisk;
 use abc_fields::{ByteText, TuneText};
 use std::alloc::Global;
 use std::process::Abort;
 use std::test::Fail;
-use test_pages::TestDisk;
 use tune_contents::{Contents, Room, claim, lay};
-use tune_format::Row;
+use tune_format::{Row, write_root};
 use tune_pages::{Fault, Pages};
 use tune_sets::{SetLists, SetName};
 use tune_store::{Change, Tune};
@@ -20,6 +19,24 @@ const LULLABY: &[u8] = b"T:Lullaby\nK:C\n";
 const MARCH: &[u8] = b"T:March\nK:D\nDFA\n";
 
 const WALTZ: &[u8] = b"T:Waltz\nM:3/4\nK:G\nG2B2d2|\n";
+
+// The pages of an archive without tunes, of which there may be 100.
+fn made<D: TestDisk>(alloc: Global) -> Result<Pages<D>, Fail>
+    ensures open { IfOk result (λ pages. pages.closed ≡ false) }
+{
+    made_up_to(alloc, 100)
+}
+
+// The same, of which there may be so many.
+fn made_up_to<D: TestDisk>(alloc: Global, limit: u32) -> Result<Pages<D>, Fail>
+    requires within { (0 < limit) × (limit ≤ 100) }
+    ensures open { IfOk result (λ pages. pages.closed ≡ false) }
+{
+    match Pages::make(alloc, D::empty(alloc), &write_root(0, 0), limit) {
+        Ok(pages) => Ok(pages),
+        Err(_) => Err(Fail::from("not made")),
+    }
+}
 
 // Lays a change, and finishes its work.
 fn changed<D: TestDisk>(

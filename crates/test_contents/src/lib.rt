@@ -1,9 +1,9 @@
-//! Tests of what an archive holds on its pages: each call with ample memory, over chains that are
-//! put here by hand.
+//! Tests of changes that are laid on the pages of an archive: each call with ample memory. What a
+//! change asks for is shown by a proof alone, so these are proved.
 #![tactic(auto)]
 
 #[cfg(test)]
-mod claims;
+mod disks;
 #[cfg(test)]
 mod lays;
 #[cfg(test)]

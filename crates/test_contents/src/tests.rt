@@ -1,14 +1,7 @@
 // The tests, over a disk in memory.
-use crate::{claims, lays};
+use crate::disks::InMemory;
+use crate::lays;
 use std::test::Fail;
-use test_pages::InMemory;
-
-#[test]
-fn claims_what_stands_on_pages(rt: HostRuntime) -> Result<(), Fail> {
-    claims::claims_an_archive_without_tunes::<HostRuntime, InMemory>(&rt)?;
-    claims::claims_two_tunes_and_a_set_list::<HostRuntime, InMemory>(&rt)?;
-    claims::finds_no_state_where_none_stands::<HostRuntime, InMemory>(&rt)
-}
 
 #[test]
 fn lays_changes_on_pages(rt: HostRuntime) -> Result<(), Fail> {

@@ -2,6 +2,6 @@
 use Rattle.std.proofs.Common.{Option, Some, None}
 use Rattle.tune_pages.specs.Kept.{HonestAt}
 
-pub never_honest : {D : Type 0} (honest : D → Type 0) (never : (disk : D) → honest disk → ⊥) (disk : Option D) → HonestAt honest disk → ⊥
-never_honest honest never None is = is
-never_honest honest never (Some disk) is = never disk is
+pub never_honest : {D : Type 0} (disk : Option D) → HonestAt (λ _. ⊥) disk → ⊥
+never_honest None is = is
+never_honest (Some disk) is = is

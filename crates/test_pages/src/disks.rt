@@ -2,31 +2,10 @@
 use std::alloc::{AllocError, Global};
 use tune_disk::{DeviceFault, Disk, FuseDisk, MemoryDisk, OneFault, StopChoice};
 
-/// A disk as the tests see it, which are proved over any such disk and run over one. No clause
-/// calls it honest: so a condition that stands on an honest disk alone needs no proof, and what
-/// comes of a call is shown by the run.
-pub trait TestDisk: Disk {
-    /// A file without a byte.
-    fn empty(alloc: Global) -> Self;
-
-    /// The file, on a disk that passes so many calls and then fails all.
-    fn passing(self, calls: u64) -> Self;
-
-    /// The file, on a disk of which this call fails.
-    fn failing(self, call: u64) -> Self;
-
-    /// One of the files that a stop may leave now.
-    fn stopped(self, choice: StopChoice) -> Result<Self, AllocError>;
-
-    /// How many bytes the file has.
-    fn size(self) -> usize;
-
-    ghost never: { (disk : Self) → Self.honest disk → ⊥ };
-}
-
-/// A disk in memory.
+/// A disk in memory that no clause calls honest: so a condition that stands on an honest disk alone
+/// needs no proof, and what comes of a call is shown by the run.
 #[derive(Drop)]
-pub struct InMemory {
+pub(crate) struct InMemory {
     disk: OneFault<FuseDisk<MemoryDisk>>,
 }
 
@@ -37,10 +16,33 @@ fn over(memory: MemoryDisk, calls: u64, call: u64) -> InMemory {
     }
 }
 
-// The file within.
-fn memory_of(disk: InMemory) -> MemoryDisk {
-    let InMemory { disk } = disk;
-    disk.into_inner().into_inner()
+impl InMemory {
+    // A file without a byte.
+    pub(crate) fn empty(alloc: Global) -> InMemory {
+        over(MemoryDisk::new(alloc), u64::MAX, u64::MAX)
+    }
+
+    // The file, on a disk that passes so many calls and then fails all.
+    pub(crate) fn passing(self, calls: u64) -> InMemory {
+        over(self.into_memory(), calls, u64::MAX)
+    }
+
+    // The file, on a disk of which this call fails.
+    pub(crate) fn failing(self, call: u64) -> InMemory {
+        over(self.into_memory(), u64::MAX, call)
+    }
+
+    // One of the files that a stop may leave now.
+    pub(crate) fn stopped(self, choice: StopChoice) -> Result<InMemory, AllocError> {
+        let file = self.into_memory().stopped(choice)?;
+        Ok(over(file, u64::MAX, u64::MAX))
+    }
+
+    // The file within.
+    pub(crate) fn into_memory(self) -> MemoryDisk {
+        let InMemory { disk } = self;
+        disk.into_inner().into_inner()
+    }
 }
 
 impl Disk for InMemory {
@@ -67,29 +69,4 @@ impl Disk for InMemory {
     fn sync(&mut self) -> Result<(), DeviceFault> {
         self.disk.sync()
     }
-}
-
-impl TestDisk for InMemory {
-    fn empty(alloc: Global) -> InMemory {
-        over(MemoryDisk::new(alloc), u64::MAX, u64::MAX)
-    }
-
-    fn passing(self, calls: u64) -> InMemory {
-        over(memory_of(self), calls, u64::MAX)
-    }
-
-    fn failing(self, call: u64) -> InMemory {
-        over(memory_of(self), u64::MAX, call)
-    }
-
-    fn stopped(self, choice: StopChoice) -> Result<InMemory, AllocError> {
-        let file = memory_of(self).stopped(choice)?;
-        Ok(over(file, u64::MAX, u64::MAX))
-    }
-
-    fn size(self) -> usize {
-        memory_of(self).bytes().len()
-    }
-
-    ghost never = { λ _ never. never };
 }

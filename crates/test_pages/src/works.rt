@@ -1,125 +1,179 @@
-// Works: what they allocate, put and free, and what a dropped one leaves.
-use crate::TestDisk;
-use crate::fixtures::{
-    check_chain, check_used, free, image, made, made_new, page_in, put_chains, put_page,
-    read_chain, uneven,
-};
-use std::process::Abort;
-use std::test::Fail;
-use tune_pages::Fault;
+// The calls of a work.
+ghost use Rattle.tune_pages.specs.Work.{Fits};
 
-pub(crate) fn allocates_up_to_the_limit<R: AllocGlobal + Abort, D: TestDisk>(
-    rt: &R,
-) -> Result<(), Fail> {
-    let pages = made_new::<D>(rt.alloc(), 4)?;
-    let mut work = pages.begin()?;
-    check_used(rt, &pages, &work, &[true, false, false, false, false])?;
-    assert_eq!(rt; pages.allocate(&mut work)?, 1);
-    assert_eq!(rt; pages.allocate(&mut work)?, 2);
-    assert_eq!(rt; pages.allocate(&mut work)?, 3);
-    check_used(rt, &pages, &work, &[true, true, true, true, false])?;
-    assert_eq!(rt; pages.allocate(&mut work).err(), Some(Fault::FileFull));
-    let full = made_new::<D>(rt.alloc(), 1)?;
-    let mut work = full.begin()?;
-    assert_eq!(rt; full.allocate(&mut work).err(), Some(Fault::FileFull));
-    Ok(())
+use crate::bytes::{Bytes, show};
+use crate::calls::WorkCall;
+use crate::disks::InMemory;
+use crate::held::{Begun, Held, done};
+use std::alloc::{AllocError, Global};
+use std::fmt::Write;
+use tune_journal::PageImage;
+use tune_pages::{Fault, Pages, Work};
+
+// Makes a call of a work, and writes its answer.
+pub(crate) fn call_work(
+    alloc: Global,
+    begun: Begun,
+    call: WorkCall,
+    answer: &mut String,
+) -> Result<Held, AllocError> {
+    match call {
+        WorkCall::Allocate => allocate(begun, answer),
+        WorkCall::Free(page) => free(begun, page, answer),
+        WorkCall::PutPage(page, image) => put_page(begun, page, &image.to_page(alloc)?, answer),
+        WorkCall::PutLink(page, next, size) => put_page(begun, page, &link(next, size), answer),
+        WorkCall::PutChain(bytes) => put_chain(alloc, begun, bytes, answer),
+        WorkCall::FreeChain(first) => free_chain(begun, first, answer),
+        WorkCall::ReadPage(page) => read_page(begun, page, 0, 4096, answer),
+        WorkCall::ReadBytes(page, from, to) => read_page(begun, page, from, to, answer),
+        WorkCall::ReadChain(first) => read_chain(begun, first, answer),
+        WorkCall::InUse(count) => {
+            show_used(&begun.pages, &begun.work, count, answer)?;
+            Ok(Held::Begun(begun))
+        }
+        WorkCall::Finish => finish(begun, answer),
+    }
 }
 
-pub(crate) fn the_pages_in_use_are_those_taken_and_not_freed<R: AllocGlobal + Abort, D: TestDisk>(
-    rt: &R,
-) -> Result<(), Fail> {
-    let mut pages = made_new::<D>(rt.alloc(), 6)?;
-    put_chains(rt, &mut pages, &[(8_180, 1), (1, 3)])?;
-    let mut work = pages.begin()?;
-    check_used(
-        rt,
-        &pages,
-        &work,
-        &[true, true, true, true, false, false, false],
-    )?;
-    free(&pages, &mut work, 2)?;
-    check_used(rt, &pages, &work, &[true, true, false, true, false])?;
-    assert_eq!(rt; pages.allocate(&mut work)?, 2);
-    assert_eq!(rt; pages.allocate(&mut work)?, 4);
-    check_used(rt, &pages, &work, &[true, true, true, true, true, false])?;
-    free(&pages, &mut work, 4)?;
-    free(&pages, &mut work, 1)?;
-    check_used(rt, &pages, &work, &[true, false, true, true, false])?;
-    pages.finish(work)?;
-    let work = pages.begin()?;
-    check_used(rt, &pages, &work, &[true, false, true, true, false, false])
+// A call of a work was refused, which is dropped.
+fn refused(pages: Pages<InMemory>, fault: Fault, answer: &mut String) -> Result<Held, AllocError> {
+    write!(answer, "{fault:?}")?;
+    Ok(Held::Pages(pages))
 }
 
-pub(crate) fn pages_hold_what_was_put_last<R: AllocGlobal + Abort, D: TestDisk>(
-    rt: &R,
-) -> Result<(), Fail> {
-    let mut pages = made_new::<D>(rt.alloc(), 4)?;
-    assert_eq!(rt; page_in(&mut pages, 0)?.bytes, [0x52; 4096]);
-    let mut work = pages.begin()?;
-    assert_eq!(rt; pages.allocate(&mut work)?, 1);
-    assert_eq!(rt; pages.allocate(&mut work)?, 2);
-    put_page(&pages, &mut work, 2, &image(0x11))?;
-    put_page(&pages, &mut work, 2, &image(0x22))?;
-    put_page(&pages, &mut work, 0, &image(0x33))?;
-    pages.finish(work)?;
-    // A page that was taken and not put holds zeros.
-    for (page, byte) in [(0, 0x33), (1, 0), (2, 0x22)] {
-        assert_eq!(rt;
-            page_in(&mut pages, page)?.bytes,
-            [byte; 4096],
-            "page {page}"
-        );
+// A call was not made, since the page is not in use.
+fn not_in_use(begun: Begun, answer: &mut String) -> Result<Held, AllocError> {
+    answer.push_str("not in use")?;
+    Ok(Held::Begun(begun))
+}
+
+fn allocate(begun: Begun, answer: &mut String) -> Result<Held, AllocError> {
+    let Begun { pages, mut work } = begun;
+    match pages.allocate(&mut work) {
+        Ok(page) => {
+            write!(answer, "{page}")?;
+            Ok(Held::Begun(Begun { pages, work }))
+        }
+        Err(fault) => refused(pages, fault, answer),
+    }
+}
+
+fn free(begun: Begun, page: u32, answer: &mut String) -> Result<Held, AllocError> {
+    if page == 0 || !begun.pages.in_use(&begun.work, page) {
+        return not_in_use(begun, answer);
+    }
+    let Begun { pages, mut work } = begun;
+    match pages.free(&mut work, page) {
+        Ok(()) => done(Held::Begun(Begun { pages, work }), answer),
+        Err(fault) => refused(pages, fault, answer),
+    }
+}
+
+fn put_page(
+    begun: Begun,
+    page: u32,
+    image: &PageImage,
+    answer: &mut String,
+) -> Result<Held, AllocError> {
+    if !begun.pages.in_use(&begun.work, page) {
+        return not_in_use(begun, answer);
+    }
+    let Begun { pages, mut work } = begun;
+    match pages.put_page(&mut work, page, image) {
+        Ok(()) => done(Held::Begun(Begun { pages, work }), answer),
+        Err(fault) => refused(pages, fault, answer),
+    }
+}
+
+// A page of a chain that somebody forged: the page behind it, and how many of its bytes count.
+fn link(next: u32, size: u16) -> PageImage {
+    let mut image = PageImage {
+        bytes: [0x41; 4096],
+    };
+    image.bytes[..4].copy_from_slice(&next.to_be_bytes());
+    image.bytes[4..6].copy_from_slice(&size.to_be_bytes());
+    image
+}
+
+fn put_chain(
+    alloc: Global,
+    begun: Begun,
+    bytes: Bytes,
+    answer: &mut String,
+) -> Result<Held, AllocError> {
+    let bytes = bytes.to_vec(alloc)?;
+    let Begun { pages, mut work } = begun;
+    match pages.put_chain(&mut work, &bytes) {
+        Ok(first) => {
+            write!(answer, "{first}")?;
+            Ok(Held::Begun(Begun { pages, work }))
+        }
+        Err(fault) => refused(pages, fault, answer),
+    }
+}
+
+fn free_chain(begun: Begun, first: u32, answer: &mut String) -> Result<Held, AllocError> {
+    let Begun {
+        mut pages,
+        mut work,
+    } = begun;
+    match pages.free_chain(&mut work, first) {
+        Ok(()) => done(Held::Begun(Begun { pages, work }), answer),
+        Err(fault) => refused(pages, fault, answer),
+    }
+}
+
+// Shows the bytes of a page from an offset to another.
+fn read_page(
+    begun: Begun,
+    page: u32,
+    from: usize,
+    to: usize,
+    answer: &mut String,
+) -> Result<Held, AllocError> {
+    if !begun.pages.in_use(&begun.work, page) {
+        return not_in_use(begun, answer);
+    }
+    let Begun { mut pages, work } = begun;
+    match pages.read_page(&work, page) {
+        Ok(image) => {
+            show(image.bytes.get(from..to).unwrap_or(&[]), answer)?;
+            Ok(Held::Begun(Begun { pages, work }))
+        }
+        Err(fault) => refused(pages, fault, answer),
+    }
+}
+
+fn read_chain(begun: Begun, first: u32, answer: &mut String) -> Result<Held, AllocError> {
+    let Begun { mut pages, work } = begun;
+    match pages.read_chain(&work, first) {
+        Ok(bytes) => {
+            show(&bytes, answer)?;
+            Ok(Held::Begun(Begun { pages, work }))
+        }
+        Err(fault) => refused(pages, fault, answer),
+    }
+}
+
+// Shows which of the first pages are in use.
+fn show_used(
+    pages: &Pages<InMemory>,
+    work: &Work,
+    count: u32,
+    answer: &mut String,
+) -> Result<(), AllocError>
+    requires { Fits pages.now work.now }
+{
+    for page in 0..count {
+        answer.push(if pages.in_use(work, page) { '+' } else { '-' })?;
     }
     Ok(())
 }
 
-pub(crate) fn a_work_shows_its_own_pages<R: AllocGlobal + Abort, D: TestDisk>(
-    rt: &R,
-) -> Result<(), Fail> {
-    let mut pages = made_new::<D>(rt.alloc(), 4)?;
-    put_chains(rt, &mut pages, &[(5_000, 1)])?;
-    let mut work = pages.begin()?;
-    put_page(&pages, &mut work, 0, &image(0x33))?;
-    assert!(rt; pages.in_use(&work, 0));
-    assert_eq!(rt; pages.read_page(&work, 0)?.bytes, [0x33; 4096]);
-    let mut work = pages.begin()?;
-    let first = pages.put_chain(&mut work, &[1, 2, 3])?;
-    assert_eq!(rt; first, 3);
-    let bytes = read_chain(&mut pages, &work, first)?;
-    assert_eq!(rt; bytes.as_slice(), [1, 2, 3].as_slice());
-    Ok(())
-}
-
-pub(crate) fn a_dropped_work_changes_nothing<R: AllocGlobal + Abort, D: TestDisk>(
-    rt: &R,
-) -> Result<(), Fail> {
-    let alloc = rt.alloc();
-    let mut pages = made_new::<D>(alloc, 6)?;
-    put_chains(rt, &mut pages, &[(5_000, 1)])?;
-    {
-        let mut work = pages.begin()?;
-        free(&pages, &mut work, 1)?;
-        assert_eq!(rt; pages.put_chain(&mut work, &uneven(alloc, 9_000)?)?, 1);
-        put_page(&pages, &mut work, 0, &image(0x33))?;
+fn finish(begun: Begun, answer: &mut String) -> Result<Held, AllocError> {
+    let Begun { mut pages, work } = begun;
+    match pages.finish(work) {
+        Ok(()) => done(Held::Pages(pages), answer),
+        Err(fault) => refused(pages, fault, answer),
     }
-    let work = pages.begin()?;
-    check_used(rt, &pages, &work, &[true, true, true, false, false])?;
-    check_chain(rt, &mut pages, 1, 5_000)?;
-    assert_eq!(rt; page_in(&mut pages, 0)?.bytes, [0x52; 4096]);
-    // Three pages, and the log of the work that was finished.
-    assert_eq!(rt; pages.into_disk().size(), 36_872);
-    Ok(())
-}
-
-// The disk fails at the first call behind the making.
-pub(crate) fn a_work_without_a_change_makes_no_disk_call<R: AllocGlobal + Abort, D: TestDisk>(
-    rt: &R,
-) -> Result<(), Fail> {
-    let mut pages = made(rt.alloc(), D::empty(rt.alloc()).passing(11), 4)?;
-    let work = pages.begin()?;
-    pages.finish(work)?;
-    let mut work = pages.begin()?;
-    assert_eq!(rt; pages.allocate(&mut work)?, 1);
-    assert_eq!(rt; pages.finish(work).err(), Some(Fault::Device));
-    Ok(())
 }

@@ -1,0 +1,99 @@
+//! The program `test_pages`: makes the calls that the files of `data/` write down, on pages of a
+//! disk in memory, and compares what each answers with what is written beside it.
+//!
+//! A file has cases, between which an empty line stands; lines that begin with `#` are passed over.
+//! The first line of a case is `case NAME`, the others are calls, one a line, made in turn from a
+//! file without a byte on. Behind a call stands ` = ANSWER`; a call without it answers `done`. The
+//! first line `case NAME for FIRST to LAST` makes the case once for each of these numbers, which
+//! stands for each `@` in it.
+//!
+//! The calls of a disk, and what they take:
+//!
+//! - `passing CALLS`, `failing CALL`: from then on the disk fails behind so many calls for good, or
+//!   fails at this one call alone, counted from 0.
+//! - `stop Lost`, `stop Kept`: what a stop leaves (a crash or power loss), with or without what was
+//!   written since the last sync.
+//! - `magic`: writes the magic alone. `size`: how many bytes the file has.
+//! - `make LIMIT BYTES`: pages with this root, of which there may be so many. `open`: an opening.
+//!
+//! Those of an opening are `root`, `claim-page PAGE`, `claim-chain FIRST`, and `done LIMIT`, which
+//! gives the pages. `begin` begins a work on pages, and drops the one that was begun before.
+//!
+//! Those of a work are `allocate`, `free PAGE`, `put-page PAGE BYTES`, `put-chain BYTES`,
+//! `free-chain FIRST`, `read-page PAGE`, `read-bytes PAGE FROM TO`, `read-chain FIRST`,
+//! `in-use COUNT` (which of the first pages are in use: `+`, or else `-`), `finish`, and
+//! `put-link PAGE NEXT SIZE`, a page of a chain that somebody forged, of bytes 0x41. A work of which
+//! a call is refused is dropped.
+//!
+//! `close` hands the disk back. The form of bytes is in `bytes.rt`. The program prints a line for
+//! each case, and how many came out as written; where one did not, it ends with status 1.
+#![tactic(auto)]
+
+mod bytes;
+mod calls;
+mod cases;
+mod disks;
+mod held;
+mod openings;
+mod quoted;
+mod works;
+
+use cases::{Case, Outcome};
+use std::fs::Files;
+use std::process::ExitCode;
+use std::{fs, io};
+
+/// The files of cases.
+const FILES: [&str; 5] = ["chains", "works", "claims", "stops", "faults"];
+
+/// How many cases there were, and how many of them came out as written.
+#[derive(Clone, Copy)]
+struct Count {
+    all: u32,
+    as_written: u32,
+}
+
+fn main(rt: HostRuntime) -> io::Result<ExitCode> {
+    let mut count = Count {
+        all: 0,
+        as_written: 0,
+    };
+    for name in FILES {
+        println!(&rt; "{name}")?;
+        let text = fs::read_to_string(&rt, name)?;
+        run_file(&rt, &text, &mut count)?;
+    }
+    let Count { all, as_written } = count;
+    println!(&rt; "{as_written} of {all} cases as written")?;
+    if all == as_written {
+        Ok(ExitCode::SUCCESS)
+    } else {
+        Ok(ExitCode::FAILURE)
+    }
+}
+
+// Runs the cases of a file.
+fn run_file<R: Print + AllocGlobal>(rt: &R, text: &str, count: &mut Count) -> io::Result<()> {
+    for block in text.split("\n\n") {
+        if let Some(case) = Case::read(block) {
+            count.all = count.all.saturating_add(1);
+            if is_as_written(rt, &case)? {
+                count.as_written = count.as_written.saturating_add(1);
+            }
+        }
+    }
+    Ok(())
+}
+
+// Runs a case, and prints what came of it.
+fn is_as_written<R: Print + AllocGlobal>(rt: &R, case: &Case) -> io::Result<bool> {
+    let name = case.name;
+    match case.run(rt.alloc())? {
+        Outcome::AsWritten => println!(rt; "{name}: as written")?,
+        Outcome::Differs { at, line, answer } => {
+            println!(rt; "{name}: at {at}, `{line}` answers {answer}")?;
+            return Ok(false);
+        }
+    }
+    Ok(true)
+}
