@@ -28,7 +28,10 @@ pub(crate) fn answer(alloc: Global, case: &Case, out: &mut Vec<u8>) -> io::Resul
 fn write_steps(found: &Steps, out: &mut Vec<u8>) -> io::Result<()> {
     let all = found.as_slice();
     for step in all {
-        write!(out, "{step} ")?;
+        if !out.is_empty() {
+            out.write_all(b" ")?;
+        }
+        write!(out, "{step}")?;
     }
     if found.len() != all.len() || found.is_empty() != all.is_empty() {
         out.write_all(b"of another length")?;

@@ -104,7 +104,7 @@ fn write_left(line: &[u8], out: &mut Vec<u8>) -> io::Result<()> {
         write_outline(line, items.again(), end, out)?;
         out.write_all(b" ")?;
         write_outline(line, items, end, out)?;
-        out.write_all(b"; ")?;
+        out.write_all(b"\n")?;
     }
     Ok(())
 }

@@ -60,7 +60,7 @@ fn marks(accidental: Option<Accidental>) -> &'static str {
 fn write_letters(out: &mut Vec<u8>) -> io::Result<()> {
     for byte in 0..=u8::MAX {
         if let Some(letter) = letter_of(byte) {
-            write!(out, "{} {letter:?}; ", char::from(byte))?;
+            write!(out, "{} {letter:?}\n", char::from(byte))?;
         }
     }
     Ok(())
@@ -70,7 +70,7 @@ fn write_accidentals(out: &mut Vec<u8>) -> io::Result<()> {
     for byte in 0..=u8::MAX {
         let found = accidental_of(byte);
         if found.is_some() {
-            write!(out, "{} {}; ", char::from(byte), marks(found))?;
+            write!(out, "{} {}\n", char::from(byte), marks(found))?;
         }
     }
     Ok(())
@@ -82,7 +82,7 @@ fn write_doubled(out: &mut Vec<u8>) -> io::Result<()> {
             let found = doubled(first, second);
             if found.is_some() {
                 let first = marks(Some(first));
-                write!(out, "{first} {} {}; ", char::from(second), marks(found))?;
+                write!(out, "{first} {} {}\n", char::from(second), marks(found))?;
             }
         }
     }
@@ -93,7 +93,7 @@ fn write_semitones(out: &mut Vec<u8>) -> io::Result<()> {
     for accidental in ACCIDENTALS {
         write!(
             out,
-            "{} {}; ",
+            "{} {}\n",
             marks(Some(accidental)),
             accidental.semitones()
         )?;
@@ -102,10 +102,10 @@ fn write_semitones(out: &mut Vec<u8>) -> io::Result<()> {
 }
 
 fn write_lengths(out: &mut Vec<u8>) -> io::Result<()> {
-    write!(out, "none {}; ", spelling_length(None))?;
+    write!(out, "none {}\n", spelling_length(None))?;
     for accidental in ACCIDENTALS {
         let length = spelling_length(Some(accidental));
-        write!(out, "{} {length}; ", marks(Some(accidental)))?;
+        write!(out, "{} {length}\n", marks(Some(accidental)))?;
     }
     Ok(())
 }
@@ -113,7 +113,7 @@ fn write_lengths(out: &mut Vec<u8>) -> io::Result<()> {
 fn write_signature(text: &[u8], out: &mut Vec<u8>) -> io::Result<()> {
     let found = signature(&key_of(text));
     for letter in LETTERS {
-        write!(out, "{letter:?} {}; ", found.at(letter).semitones())?;
+        write!(out, "{letter:?} {}\n", found.at(letter).semitones())?;
     }
     Ok(())
 }

@@ -37,7 +37,7 @@ fn write_places(tune: &TuneText, out: &mut Vec<u8>) -> io::Result<()> {
     for note in Notes::of_tune(tune) {
         write!(out, "{} ", note.from)?;
         out.write_all(note.text)?;
-        out.write_all(b"; ")?;
+        out.write_all(b"\n")?;
     }
     Ok(())
 }
