@@ -81,8 +81,8 @@ fn write_scale(scale: &Scale, out: &mut Vec<u8>) -> io::Result<()> {
     write!(out, "{tonic:?}{mark} {mode:?}")
 }
 
-/// Writes the letters that are raised or lowered, each as a note.
-pub(crate) fn write_signature(signature: &Signature, out: &mut Vec<u8>) -> io::Result<()> {
+// Writes the letters that are raised or lowered, each as a note.
+fn write_signature(signature: &Signature, out: &mut Vec<u8>) -> io::Result<()> {
     let letters = [
         ("C", signature.c),
         ("D", signature.d),

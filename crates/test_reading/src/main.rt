@@ -2,9 +2,9 @@
 //! text comes to, and compares that with what is written there.
 //!
 //! A line of a data file is a case, in columns with a tab between them: its NAME, a CALL, the texts
-//! that the call is asked about, and what has to come out. The calls of a file are those that the
-//! `answer` of the module of its name knows. In a text `\n`, `\t`, `\r`, `\\` and `\xNN` are bytes,
-//! and what stands between `\N(` and `\)` stands there N times.
+//! that the call is asked about, and what has to come out. The module of a file's name says which
+//! calls it has, and carries them out by its `answer`. In a text `\n`, `\t`, `\r`, `\\` and `\xNN`
+//! are bytes, and what stands between `\N(` and `\)` stands there N times.
 //!
 //! The program prints a line for each case, and how many came out as written; where one did not, it
 //! ends with status 1.
