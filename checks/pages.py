@@ -255,7 +255,10 @@ def check_promises(page):
 
 
 def known_names(paths):
-    """All words of the code, and the names of crates, of edits and of scripts."""
+    """All words of the code, and the names of crates, of edits, of scripts and of cases.
+
+    A program that runs cases prints a line for each, which begins with its name; cases of one kind
+    are told apart by a number behind it."""
     names = set()
     for path in paths:
         if path.endswith(('.rt', '.antt')) and '/proofs/' not in path:
@@ -263,6 +266,9 @@ def known_names(paths):
     for kind in ('must-fail/*.edit', 'data/*.script'):
         for path in glob.glob(os.path.join(ROOT, 'crates/*', kind)):
             names.add(os.path.splitext(os.path.basename(path))[0])
+    for path in glob.glob(os.path.join(ROOT, 'crates/*/stdout')):
+        for case in re.findall(r'^([\w-]+).*: as written$', read(path), re.M):
+            names.update((case, re.sub(r'(-\d+)+$', '', case)))
     names.update(os.listdir(os.path.join(ROOT, 'crates')))
     names.update(re.findall(r'\w+', read('crates.txt')))
     return names
