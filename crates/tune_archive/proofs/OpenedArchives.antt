@@ -1,13 +1,16 @@
 -- What an archive holds once it is made or opened, and what a stop leaves meanwhile.
-use Rattle.std.proofs.Common.{◌≡◌, inl, inr, ℕ, ◌-◌, ◌<◌, ◌≤◌, List, [], ◌∷◌, ◌++◌, Bool, true, false, Option, Some, None, length, replicate}
+use Rattle.std.proofs.Common.{◌≡◌, ◌≢◌, inl, inr, ℕ, ◌-◌, ◌<◌, ◌≤◌, List, [], ◌∷◌, ◌++◌, Bool, true, false, Option, Some, None, length, replicate}
 use Rattle.std.proofs.Common.{Result, Ok, Err, IfErr, refl, sym, ◌∙◌, ap, subst, arith}
+use Rattle.std.proofs.lemmas.Bool.{cases_eq}
 use Rattle.std.proofs.lemmas.List.{length-replicate}
 use Rattle.tune_disk.specs.Disk.{DiskState, MayLeave}
 use Rattle.tune_disk.specs.Stops.{LeavesOnly, SinceThen}
 use Rattle.tune_disk.proofs.Moments.{since_weaker}
-use Rattle.tune_journal.specs.Image.{StandsFor}
+use Rattle.tune_journal.specs.Image.{StandsFor, gate_of}
+use Rattle.tune_journal.specs.Layout.{gate_open}
 use Rattle.tune_journal.specs.Making.{StandsForNoneOr}
 use Rattle.tune_journal.specs.Moments.{LeftOrSame}
+use Rattle.tune_journal.specs.Refusal.{IsSynced}
 use Rattle.tune_journal.specs.declared.open_fault.OpenFault.{OpenFault}
 use Rattle.tune_journal.specs.declared.open_fault.OpenFault.TheVariants.{NotArchive, Damaged}
 use Rattle.tune_journal.specs.declared.open_fault.OpenFault.TheVariants.{NotEmpty, OutOfMemory}
@@ -15,7 +18,7 @@ use Rattle.tune_journal.specs.declared.open_fault.OpenFault.TheVariants.{Device}
 use Rattle.tune_journal.specs.declared.open_fault.Refused.{Refused}
 use Rattle.tune_journal.proofs.Above.{stands_once}
 use Rattle.tune_pages.specs.Kept.{Kept, HonestAt, state_at}
-use Rattle.tune_pages.specs.Opened.{only_root, IsUnopenedFor}
+use Rattle.tune_pages.specs.Opened.{only_root, IsUnopenedFor, LeavesSame}
 use Rattle.tune_pages.specs.Stand.{Stand}
 use Rattle.tune_pages.proofs.Chains.{length-marked}
 use Rattle.tune_store.specs.State.{State, IsState, empty_state}
@@ -172,7 +175,7 @@ claims_refused Damaged pages old new shown is = record {
   magic = shown.stands.headed.magic;
   long = omega (arith, shown.stands.headed.long);
   stateless = λ s stands. is s (subst (λ (l : List (List ℕ)). IsStateOf l s) (shown.only stands.pages stands.stands) stands.is);
-  rest = elim (decide_eq (gate_of old.seen) gate_open) [
+  rest = elim (cases_eq (gate_of old.seen) gate_open) [
     | inl is_open ↦ inr (is_open, same_pages_left pages old new shown)
     | inr shut ↦ inl (shown.synced shut)
   ];

@@ -1,6 +1,7 @@
 -- What the program does for an action, and its status.
-use Rattle.std.specs.Prelude.{◌≡◌, ◌⊎◌, ℕ, List, Option}
+use Rattle.std.specs.Prelude.{◌≡◌, ℕ, List, Option, Result, MatchResult, string_bytes}
 use Rattle.tune_disk.specs.Disk.{DiskState}
+use Rattle.tune_disk.specs.declared.disk.DeviceFault.{DeviceFault}
 use Rattle.tune_journal.specs.declared.open_fault.OpenFault.TheVariants.{Device}
 use Rattle.tune_store.specs.State.{State, empty_state}
 use Rattle.tune_store.specs.Answers.{open_at}
@@ -38,24 +39,31 @@ pub record ListsScript (input left was now : Option (List ℕ)) (status : ℕ) :
   pub no_fault : IsOtherEnd end
   pub output : TellsScript most_lines input left (work_in_memory was now run state) end
 
--- A file was opened as a disk, and this was done on it, from one disk to another; or it could not
--- be opened, and that was written.
-abbrev pub OnFile : {D : Type 0} → (D → Type 0) → (D → D → Type 0) → Option (List ℕ)
-    → Option (List ℕ) → ℕ → Type 0
-OnFile {D} IsOpened Does was now status = ((old new : D) × IsOpened old × Does old new)
-    ⊎ WritesLine was now (reason_bytes Device) 1 status
+-- A path and the answer of a drive to it, as a disk or a fault.
+abbrev pub Asked : Type 0 → Type 1
+Asked D = List ℕ → Result D DeviceFault → Type 0
+
+-- The drive was asked for this path. It gave a disk, on which this was done, and the disk that came
+-- of it was closed; or it gave none, and that was written.
+abbrev pub OnFile : {D : Type 0} → Asked D → (List ℕ → D → Type 0) → (D → D → ℕ → Type 0)
+    → List ℕ → Option (List ℕ) → Option (List ℕ) → ℕ → Type 0
+OnFile {D} WasAsked WasClosed Does path was now status =
+    (answer : Result D DeviceFault) × WasAsked path answer × MatchResult answer
+    (λ old. (new : D) × Does old new status × WasClosed path new)
+    (λ _. WritesLine was now (reason_bytes Device) 1 status)
 
 -- What an action does with the input and the output, and the status that it gives. That of a file
--- is said of the disk that stands for the file, by what the system answered.
-abbrev pub Acts : {D : Type 0} → (D → Type 0) → store.Ghosts (Shelf D) → (D → Type 0)
-    → (D → ℕ) → (D → DiskState) → Action → Option (List ℕ) → Option (List ℕ) → Option (List ℕ)
-    → Option (List ℕ) → ℕ → Type 0
-Acts IsOpened kept honest failures state action.List input left was now status =
+-- is said of the disk that a drive gave for the file's path.
+abbrev pub Acts : {D : Type 0} → Asked D → Asked D → (List ℕ → D → Type 0)
+    → store.Ghosts (Shelf D) → (D → Type 0) → (D → ℕ) → (D → DiskState) → Action
+    → Option (List ℕ) → Option (List ℕ) → Option (List ℕ) → Option (List ℕ) → ℕ → Type 0
+Acts opened created closed kept honest failures state action.List input left was now status =
     ListsScript input left was now status
-Acts IsOpened kept honest failures state (action.Make file) input left was now status =
-    OnFile IsOpened (λ old new. Makes honest failures state was now old new status) was now status
-Acts IsOpened kept honest failures state (action.Run file) input left was now status =
-    OnFile IsOpened (λ old new. RunsOn kept honest failures state input left was now old new status)
+Acts opened created closed kept honest failures state (action.Make file) input left was now status =
+    OnFile created closed (Makes honest failures state was now) (string_bytes file) was now status
+Acts opened created closed kept honest failures state (action.Run file) input left was now status =
+    OnFile opened closed (RunsOn kept honest failures state input left was now) (string_bytes file)
     was now status
-Acts IsOpened kept honest failures state (action.Check file) input left was now status =
-    OnFile IsOpened (λ old new. Checks honest failures state was now old new status) was now status
+Acts opened created closed kept honest failures state (action.Check file) input left was now
+    status =
+    OnFile opened closed (Checks honest failures state was now) (string_bytes file) was now status

@@ -3,8 +3,10 @@ use Rattle.std.specs.Prelude.{◌≡◌, ◌⊎◌, ℕ, List, [], codes, Option
 use Rattle.tune_disk.specs.Disk.{DiskState}
 use Rattle.tune_disk.specs.Stops.{LeavesOnly, SinceThen}
 use Rattle.tune_journal.specs.Making.{IsEmptyFile}
+use Rattle.tune_journal.specs.Moments.{LeftOrSame}
 use Rattle.tune_journal.specs.Refusal.{CountsFailureIf, CountsFailureWhere}
 use Rattle.tune_journal.specs.declared.open_fault.OpenFault.{OpenFault}
+use Rattle.tune_pages.specs.Kept.{state_at}
 use Rattle.tune_pages.specs.Opened.{IsUnmadePagesFor}
 use Rattle.tune_store.specs.State.{State, empty_state}
 use Rattle.tune_store.specs.declared.tune_store.TuneStore as store
@@ -46,13 +48,15 @@ pub record Makes {D : Type 0} (honest : D → Type 0) (failures : D → ℕ) (st
       ⊎ HasNotMade honest failures state was now old new status
 
 -- OPENING
--- An archive was not opened, and why; meanwhile a stop leaves the states that it left.
+-- An archive was not opened, and why; meanwhile a stop leaves what it might have left before, or the
+-- same pages as the disk showed, and so the same states.
 pub record HasNotOpened {D : Type 0} (honest : D → Type 0) (failures : D → ℕ)
     (state : D → DiskState) (was now : Option (List ℕ)) (old new : D) (status : ℕ) : Type 0 where
   pub why : OpenFault
   pub line : WritesLine was now (reason_bytes why) (status_of_opening why) status
   pub refused : honest new → IsUnopenedArchiveFor why (state old) (state new)
   pub counted : CountsFailureWhere (honest new) why (failures old) (failures new)
+  pub leaves : honest new → SinceThen (state old) (state new) (LeftOrSame (state old))
   pub moments : honest new → KeepsStates (state old) (state new)
 
 -- CHECK
@@ -63,12 +67,13 @@ pub record TellsState (old new : DiskState) (was now : Option (List ℕ)) (statu
   pub line : WritesLine was now (counts_bytes held) 0 status
   pub rest : LeavesOnly new.now (λ file. StandsForState file held)
 
--- The archive was opened; meanwhile a stop leaves the states that it left, and no call of the disk
--- failed.
+-- The archive was opened; meanwhile a stop leaves what it might have left before, or the same pages
+-- as the disk showed, and so the same states; and no call of the disk failed.
 pub record HasChecked {D : Type 0} (honest : D → Type 0) (failures : D → ℕ)
     (state : D → DiskState) (was now : Option (List ℕ)) (old new : D) (status : ℕ) : Type 0 where
   pub tells : honest new → TellsState (state old) (state new) was now status
   pub counted : failures new ≡ failures old
+  pub leaves : honest new → SinceThen (state old) (state new) (LeftOrSame (state old))
   pub moments : honest new → KeepsStates (state old) (state new)
 
 -- It was, or it was not.
@@ -85,8 +90,10 @@ pub record RanScript {D : Type 0} (kept : store.Ghosts (Shelf D)) (state : D →
   -- the archive as it was opened, and as it was at the end
   pub before : Shelf D
   pub after : Shelf D
-  -- it was opened with the state that the disk stood for
+  -- it was opened with the state that the disk stood for; meanwhile a stop leaves what it might have
+  -- left before, or the same pages as the disk showed
   pub opened : StandsForState (state old).seen (kept.state before)
+  pub opening : SinceThen (state old) (state_at state before.pages.disk) (LeftOrSame (state old))
   -- then one list of commands was carried out, of which everything is said
   pub runs : RunsScript kept most_lines input left was now before after end
   -- a stop since a command was answered leaves a state that holds it, and one at the end the last

@@ -6,23 +6,20 @@ ghost use Rattle.clap.specs.declared.builder.command.Command.TheViews.{out-Comma
 ghost use Rattle.tune_cli.specs.CommandLine.{tunes_app, file_app, subcommand_in, name_of};
 ghost use Rattle.tune_cli.specs.CommandLine.{file_in, file_of, IsOutOfMemory};
 ghost use Rattle.tune_cli.specs.Inside.Subcommands.{IsSubcommand};
-ghost use Rattle.tune_disk.specs.FileDisk.{HasJustOpened};
 ghost use Rattle.tune_cli.specs.Acts.{Acts, ListsScript};
 ghost use Rattle.tune_cli.specs.Lines.{status_of};
 ghost use Rattle.tune_cli.specs.declared.command_line.WordsFault.TheVariants.{Missing};
 ghost use Rattle.tune_cli.specs.CommandLine.{faults_in, FaultFits, status_of_fault};
 
 use crate::command_line::{Action, VERSION, WordsFault};
-use crate::file_actions::{check_on, make_on, run_on, say_reason};
+use crate::file_actions::{check, make, run_file};
 use clap::error::ErrorKind;
 use clap::{Arg, Command};
 use std::alloc::{AllocError, Global};
-use std::fs::{File, Files};
 use std::io;
 use std::io::{Read, Write};
 use tune_archive::{Archive, TuneStore};
-use tune_disk::{DeviceFault, Disk, FileDisk};
-use tune_journal::OpenFault;
+use tune_disk::{Disk, Drive};
 use tune_scripts::{RunEnd, run};
 use tune_store::ListArchive;
 
@@ -136,32 +133,23 @@ pub fn report<T: Print + Eprint>(rt: &T, fault: &WordsFault) -> io::Result<u8>
 /// What the clause says of the commands that are carried out, of the device and of the status holds
 /// of every reader. That they are those of the input, and what is written, is said of a reader that
 /// tells its bytes. Standard input tells none. Of a file it says what `make_on`, `run_on` and
-/// `check_on` say of the disk that stands for it.
-pub fn act<R: Read, W: Write, T: AllocGlobal + Files<File = File>>(
+/// `check_on` say of the disk that `rt`, as a drive, gave for the file's path, and that the disk
+/// that came of it was closed. `make` alone asks for a file that may have to be made.
+pub fn act<R: Read, W: Write, D: Disk, T: AllocGlobal + Drive<Disk = D>>(
     rt: &T,
     action: &Action,
     reader: &mut R,
     writer: &mut W,
 ) -> u8
-    ensures { let kept = ⟦<Archive<FileDisk> as TuneStore>⟧ in let disk = ⟦<FileDisk as Disk>⟧ in
-        Acts HasJustOpened kept disk.honest disk.failures disk.state action.now
-        (R.remaining reader.old) (R.remaining reader.new)
+    ensures { Acts T.opened T.created T.closed ⟦<Archive<D> as TuneStore>⟧
+        D.honest D.failures D.state action.now (R.remaining reader.old) (R.remaining reader.new)
         (W.contents writer.old) (W.contents writer.new) result }
 {
     match action {
         Action::List => list(rt.alloc(), reader, writer),
-        Action::Make(file) => match FileDisk::create(rt, file.as_str()) {
-            Ok(disk) => make_on(rt.alloc(), writer, disk).status,
-            Err(DeviceFault) => say_reason(writer, OpenFault::Device),
-        },
-        Action::Run(file) => match FileDisk::open(rt, file.as_str()) {
-            Ok(disk) => run_on(rt.alloc(), reader, writer, disk).status,
-            Err(DeviceFault) => say_reason(writer, OpenFault::Device),
-        },
-        Action::Check(file) => match FileDisk::open(rt, file.as_str()) {
-            Ok(disk) => check_on(rt.alloc(), writer, disk).status,
-            Err(DeviceFault) => say_reason(writer, OpenFault::Device),
-        },
+        Action::Make(file) => make(rt, file.as_str(), writer),
+        Action::Run(file) => run_file(rt, file.as_str(), reader, writer),
+        Action::Check(file) => check(rt, file.as_str(), writer),
     }
 }
 

@@ -3,6 +3,7 @@ ghost use Rattle.std.specs.Prelude.{codes, OnOk};
 ghost use Rattle.std.specs.Io.KnownBytes.{Appends};
 ghost use Rattle.tune_pages.specs.Kept.{HonestAt};
 ghost use Rattle.tune_archive.specs.Shelf.{state_of};
+ghost use Rattle.tune_cli.specs.Acts.{OnFile};
 ghost use Rattle.tune_cli.specs.FileActs.{Makes, Checks, RunsOn};
 ghost use Rattle.tune_cli.specs.Lines.{WritesLine, reason_bytes, line_of, status_of_opening};
 ghost use Rattle.tune_cli.specs.Lines.{counts_bytes};
@@ -12,7 +13,7 @@ use std::alloc::Global;
 use std::io;
 use std::io::{Read, Write};
 use tune_archive::{Archive, Counts, TuneStore};
-use tune_disk::Disk;
+use tune_disk::{DeviceFault, Disk, Drive};
 use tune_journal::OpenFault;
 use tune_scripts::run;
 
@@ -106,6 +107,69 @@ pub fn run_on<R: Read, W: Write, D: Disk>(
     }
 }
 
+// Makes an archive in the file at a path.
+pub(crate) fn make<W: Write, D: Disk, T: AllocGlobal + Drive<Disk = D>>(
+    rt: &T,
+    path: &str,
+    writer: &mut W,
+) -> u8
+    ensures { OnFile T.created T.closed
+        (Makes D.honest D.failures D.state (W.contents writer.old) (W.contents writer.new))
+        path.now (W.contents writer.old) (W.contents writer.new) result }
+{
+    match rt.create(path) {
+        Ok(disk) => {
+            let Done { status, disk } = make_on(rt.alloc(), writer, disk);
+            rt.close(path, disk);
+            status
+        }
+        Err(DeviceFault) => say_reason(writer, OpenFault::Device),
+    }
+}
+
+// Tells how much the archive in the file at a path holds.
+pub(crate) fn check<W: Write, D: Disk, T: AllocGlobal + Drive<Disk = D>>(
+    rt: &T,
+    path: &str,
+    writer: &mut W,
+) -> u8
+    ensures { OnFile T.opened T.closed
+        (Checks D.honest D.failures D.state (W.contents writer.old) (W.contents writer.new))
+        path.now (W.contents writer.old) (W.contents writer.new) result }
+{
+    match rt.open(path) {
+        Ok(disk) => {
+            let Done { status, disk } = check_on(rt.alloc(), writer, disk);
+            rt.close(path, disk);
+            status
+        }
+        Err(DeviceFault) => say_reason(writer, OpenFault::Device),
+    }
+}
+
+// Runs a script on the archive in the file at a path.
+pub(crate) fn run_file<R: Read, W: Write, D: Disk, T: AllocGlobal + Drive<Disk = D>>(
+    rt: &T,
+    path: &str,
+    reader: &mut R,
+    writer: &mut W,
+) -> u8
+    ensures { OnFile T.opened T.closed
+        (RunsOn ⟦<Archive<D> as TuneStore>⟧ D.honest D.failures D.state
+        (R.remaining reader.old) (R.remaining reader.new)
+        (W.contents writer.old) (W.contents writer.new))
+        path.now (W.contents writer.old) (W.contents writer.new) result }
+{
+    match rt.open(path) {
+        Ok(disk) => {
+            let Done { status, disk } = run_on(rt.alloc(), reader, writer, disk);
+            rt.close(path, disk);
+            status
+        }
+        Err(DeviceFault) => say_reason(writer, OpenFault::Device),
+    }
+}
+
 // Writes that an archive was made.
 fn say_made<W: Write>(writer: &mut W) -> u8
     ensures { WritesLine (W.contents writer.old) (W.contents writer.new) (codes "made\n") 0 result }
@@ -140,7 +204,7 @@ fn say_counts<W: Write>(writer: &mut W, counts: Counts) -> u8
 }
 
 // Writes why an archive was not made, or not opened.
-pub(crate) fn say_reason<W: Write>(writer: &mut W, why: OpenFault) -> u8
+fn say_reason<W: Write>(writer: &mut W, why: OpenFault) -> u8
     ensures { WritesLine (W.contents writer.old) (W.contents writer.new) (reason_bytes why)
         (status_of_opening why) result }
 {

@@ -13,7 +13,7 @@ file_state disk =
 
 -- how often a call has failed
 abbrev pub file_failures : FileDisk → ℕ
-file_failures disk = disk.failed
+file_failures disk = disk.faults.count
 
 -- All that the file told fits what it stood for, from the opening on.
 pub record FileIsHonest (disk : FileDisk) : Type 0 where
@@ -27,5 +27,5 @@ SyncHasFailed disk = IsTrue disk.sync_failed
 -- The file has told nothing yet, and no call has failed.
 pub record HasJustOpened (disk : FileDisk) : Type 0 where
   pub told : disk.log.items ≡ []
-  pub failed : disk.failed ≡ 0
+  pub failed : disk.faults.count ≡ 0
   pub synced : SyncHasFailed disk → ⊥

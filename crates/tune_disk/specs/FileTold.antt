@@ -13,8 +13,8 @@ pub record History : Type 0 where
   -- what the file held after each write that failed, in their order
   pub broken : List (List ℕ)
 
--- The history of an opening. It is abstract, and no clause says which opening a disk has: what is
--- proved holds whatever the history is.
+-- The history of an opening, by its number. It is abstract, and no clause says which number a disk
+-- has: what is proved holds of every history and every number, so of those that took place.
 pub history_of : ℕ → History
 history_of opening = record { opened = fresh []; broken = [] }
 

@@ -34,7 +34,14 @@ pub struct FileDisk {
     // memory.
     opening: Snapshot<u64>,
     log: Log<u64, Told>,
-    failed: u64,
+    faults: Faults,
+}
+
+// How many calls have failed, and what the system answered the first of them.
+#[derive(Drop)]
+struct Faults {
+    count: u64,
+    first: Option<io::Error>,
 }
 
 impl FileDisk {
@@ -46,10 +53,18 @@ impl FileDisk {
     pub fn open<R: Files<File = File>, P: AsPath>(rt: &R, path: P) -> Result<FileDisk, DeviceFault>
         ensures { IfOk result HasJustOpened }
     {
-        match open_locked(rt, path.path_text()) {
-            Ok(file) => Ok(FileDisk::over(file)),
+        match FileDisk::try_open(rt, path) {
+            Ok(disk) => Ok(disk),
             Err(_) => Err(DeviceFault),
         }
+    }
+
+    /// As `open`, with the answer of the system in the place of a fault: `InvalidInput` where the
+    /// path leads to no regular file, and `WouldBlock` where another has locked the file.
+    pub fn try_open<R: Files<File = File>, P: AsPath>(rt: &R, path: P) -> io::Result<FileDisk>
+        ensures { IfOk result HasJustOpened }
+    {
+        Ok(FileDisk::over(open_locked(rt, path.path_text())?))
     }
 
     /// The file at this path, as it is, or a new empty one where nothing is there. The folder that
@@ -61,10 +76,23 @@ impl FileDisk {
     ) -> Result<FileDisk, DeviceFault>
         ensures { IfOk result HasJustOpened }
     {
-        match open_or_make(rt, path.path_text()) {
-            Ok(file) => Ok(FileDisk::over(file)),
+        match FileDisk::try_create(rt, path) {
+            Ok(disk) => Ok(disk),
             Err(_) => Err(DeviceFault),
         }
+    }
+
+    /// As `create`, with the answer of the system in the place of a fault.
+    pub fn try_create<R: Files<File = File>, P: AsPath>(rt: &R, path: P) -> io::Result<FileDisk>
+        ensures { IfOk result HasJustOpened }
+    {
+        Ok(FileDisk::over(open_or_make(rt, path.path_text())?))
+    }
+
+    /// What the system answered the first call that failed, if one did. (It is for people: no
+    /// clause speaks of it.)
+    pub fn cause(&self) -> Option<&io::Error> {
+        self.faults.first.as_ref()
     }
 
     fn over(file: File) -> FileDisk
@@ -73,11 +101,19 @@ impl FileDisk {
         FileDisk {
             file,
             sync_failed: false,
-            opening: Snapshot::of(&0),
+            opening: some_opening(),
             log: Log::new(),
-            failed: 0,
+            faults: Faults {
+                count: 0,
+                first: None,
+            },
         }
     }
+}
+
+// The number of an opening. It has no clause, so what is proved holds whatever number it is.
+fn some_opening() -> Snapshot<u64> {
+    Snapshot::of(&0)
 }
 
 // A path that leads to a device or a pipe is not opened at all, since that alone may do something.
@@ -139,9 +175,9 @@ impl Disk for FileDisk {
         ensures refused { SyncHasFailed self.old → IsErr result }
         ensures syncs { SyncHasFailed self.new ↔ SyncHasFailed self.old }
     {
-        go_on(self.sync_failed, &mut self.failed)?;
+        go_on(self.sync_failed, &mut self.faults)?;
         let size = measure(&self.file, &mut self.log);
-        counted(size, &mut self.failed)
+        counted(size, &mut self.faults)
     }
 
     fn read(&mut self, at: u64, into: &mut [u8]) -> Result<(), DeviceFault>
@@ -152,9 +188,9 @@ impl Disk for FileDisk {
         ensures refused { SyncHasFailed self.old → IsErr result }
         ensures syncs { SyncHasFailed self.new ↔ SyncHasFailed self.old }
     {
-        go_on(self.sync_failed, &mut self.failed)?;
+        go_on(self.sync_failed, &mut self.faults)?;
         let done = read_all(&self.file, &mut self.log, at, into);
-        counted(done, &mut self.failed)
+        counted(done, &mut self.faults)
     }
 
     fn write_at(&mut self, at: u64, bytes: &[u8]) -> Result<(), DeviceFault>
@@ -165,9 +201,9 @@ impl Disk for FileDisk {
         ensures refused { SyncHasFailed self.old → IsErr result }
         ensures syncs { SyncHasFailed self.new ↔ SyncHasFailed self.old }
     {
-        go_on(self.sync_failed, &mut self.failed)?;
+        go_on(self.sync_failed, &mut self.faults)?;
         let done = write_all(&self.file, &mut self.log, at, bytes);
-        counted(done, &mut self.failed)
+        counted(done, &mut self.faults)
     }
 
     fn sync(&mut self) -> Result<(), DeviceFault>
@@ -177,39 +213,44 @@ impl Disk for FileDisk {
         ensures refused { SyncHasFailed self.old → IsErr result }
         ensures syncs { SyncHasFailed self.new ↔ IsErr result }
     {
-        go_on(self.sync_failed, &mut self.failed)?;
+        go_on(self.sync_failed, &mut self.faults)?;
         let done = make_stable(&self.file, &mut self.log);
         self.sync_failed = done.is_err();
-        counted(done, &mut self.failed)
+        counted(done, &mut self.faults)
     }
 }
 
 // Fails where a sync has failed.
-fn go_on(sync_failed: bool, failed: &mut u64) -> Result<(), DeviceFault>
+fn go_on(sync_failed: bool, faults: &mut Faults) -> Result<(), DeviceFault>
     ensures refused { IsErr result ↔ IsTrue sync_failed }
-    ensures counted { CountsFailure result failed.old failed.new }
+    ensures counted { CountsFailure result faults.old.count faults.new.count }
 {
     if sync_failed {
-        return Err(fault(failed));
+        return Err(fault(faults));
     }
     Ok(())
 }
 
-// The answer without its error, which is counted.
-fn counted<T: Drop>(done: io::Result<T>, failed: &mut u64) -> Result<T, DeviceFault>
+// The answer without its error, which is counted, and kept where it is the first.
+fn counted<T: Drop>(done: io::Result<T>, faults: &mut Faults) -> Result<T, DeviceFault>
     ensures same { MatchResult done (λ v. result ≡ Ok v) (λ _. IsErr result) }
-    ensures counted { CountsFailure result failed.old failed.new }
+    ensures counted { CountsFailure result faults.old.count faults.new.count }
 {
     match done {
         Ok(value) => Ok(value),
-        Err(_) => Err(fault(failed)),
+        Err(error) => {
+            if faults.first.is_none() {
+                faults.first = Some(error);
+            }
+            Err(fault(faults))
+        }
     }
 }
 
-fn fault(failed: &mut u64) -> DeviceFault
-    ensures { CountsUp failed.old failed.new }
+fn fault(faults: &mut Faults) -> DeviceFault
+    ensures { CountsUp faults.old.count faults.new.count }
 {
-    *failed = failed.saturating_add(1);
+    faults.count = faults.count.saturating_add(1);
     DeviceFault
 }
 

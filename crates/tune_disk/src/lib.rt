@@ -3,6 +3,7 @@
 
 mod buffers;
 mod disk;
+mod drive;
 mod file;
 mod fuse;
 mod laws;
@@ -10,6 +11,7 @@ mod memory;
 mod one_fault;
 
 pub use disk::{DeviceFault, Disk};
+pub use drive::Drive;
 pub use file::FileDisk;
 pub use fuse::FuseDisk;
 pub use laws::law_of_stops;

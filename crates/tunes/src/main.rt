@@ -3,6 +3,9 @@
 //! tells how much it holds; `tunes list` runs the script on an empty archive in memory.
 #![tactic(auto)]
 
+mod file_drive;
+
+use file_drive::FileDrive;
 use std::fs::{File, Files};
 use std::io::{BufReader, BufWriter};
 use std::process::ExitCode;
@@ -17,23 +20,30 @@ const FAILED: u8 = 1;
 
 const BAD_WORDS: u8 = 2;
 
-fn main(rt: HostRuntime) -> io::Result<ExitCode> {
+fn main(rt: HostRuntime) -> ExitCode {
     let status = match start(&rt) {
         Ok(status) => status,
-        Err(error) => match error.kind() {
-            io::ErrorKind::OutOfMemory => {
-                println!(&rt; "refused 21 OutOfMemory")?;
-                FAILED
-            }
-            io::ErrorKind::InvalidData => {
-                // The status tells it also where standard error cannot be written.
-                let _ = eprintln!(&rt; "tunes: a word of the command is not UTF-8");
-                BAD_WORDS
-            }
-            _ => return Err(error),
-        },
+        Err(error) => say_failure(&rt, &error),
     };
-    Ok(ExitCode::from(status))
+    ExitCode::from(status)
+}
+
+// Tells why nothing was done. The status tells it also where that cannot be written.
+fn say_failure<R: Print + Eprint>(rt: &R, error: &io::Error) -> u8 {
+    match error.kind() {
+        io::ErrorKind::OutOfMemory => {
+            let _ = println!(rt; "refused 21 OutOfMemory");
+            FAILED
+        }
+        io::ErrorKind::InvalidData => {
+            let _ = eprintln!(rt; "tunes: a word of the command is not UTF-8");
+            BAD_WORDS
+        }
+        _ => {
+            let _ = eprintln!(rt; "tunes: {error}");
+            FAILED
+        }
+    }
 }
 
 // Reads the words of the command, does what they ask for, and gives the status.
@@ -50,7 +60,8 @@ fn perform<R: Runtime + AllocGlobal + Files<File = File>>(
     rt: &R,
     action: &Action,
 ) -> io::Result<u8> {
+    let drive = FileDrive::new(rt)?;
     let mut reader = BufReader::with_capacity(rt.alloc(), BUFFER, rt.reader())?;
     let mut writer = BufWriter::with_capacity(rt.alloc(), BUFFER, io::writer(rt))?;
-    Ok(act(rt, action, &mut reader, &mut writer))
+    Ok(act(&drive, action, &mut reader, &mut writer))
 }

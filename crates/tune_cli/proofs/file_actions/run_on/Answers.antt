@@ -43,6 +43,7 @@ returns-in-Ok-clause-runs g c = inl (record {
         before = before;
         after = after;
         opened = shown;
+        opening = c.in-Ok.ensures.leaves at_start;
         runs = runs;
         stops = runs.stops c.in-Ok.ensures.sound c.in-Ok.ensures.is_open;
         since_start = λ start leaves file left.

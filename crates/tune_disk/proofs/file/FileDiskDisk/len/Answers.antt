@@ -26,7 +26,7 @@ returns-clause-looks c =
     record {
       calls = record {
         was_honest = λ honest. record { opened = honest.opened; told = more.fits h (at_opening h) honest.told };
-        counted = subst (λ (n : ℕ). CountsFailure c.counted.result n c.counted.new.failed) c.in_ok-go_on.ensures.counted c.counted.ensures.counted;
+        counted = subst (λ (n : ℕ). CountsFailure c.counted.result n c.counted.new.faults.count) c.in_ok-go_on.ensures.counted c.counted.ensures.counted;
       };
       same = λ _. more.state h (at_opening h);
     }

@@ -15,7 +15,7 @@ returns-clause-calls c =
         told = sync_more done.result c.args.self.now.log.items done.new.log.items
             done.ensures.ok done.ensures.err h (at_opening h) honest.told;
       };
-      counted = subst (λ (n : ℕ). CountsFailure c.counted.result n c.counted.new.failed) c.in_ok-go_on.ensures.counted c.counted.ensures.counted;
+      counted = subst (λ (n : ℕ). CountsFailure c.counted.result n c.counted.new.faults.count) c.in_ok-go_on.ensures.counted c.counted.ensures.counted;
     }
 
 pub returns-clause-sync : goal.returns-clause-sync

@@ -15,7 +15,7 @@ returns-clause-calls c =
         told = write_more done.result c.args.at c.args.bytes.now c.args.self.now.log.items done.new.log.items
             done.ensures.ok done.ensures.err h (at_opening h) honest.told;
       };
-      counted = subst (λ (n : ℕ). CountsFailure c.counted.result n c.counted.new.failed) c.in_ok-go_on.ensures.counted c.counted.ensures.counted;
+      counted = subst (λ (n : ℕ). CountsFailure c.counted.result n c.counted.new.faults.count) c.in_ok-go_on.ensures.counted c.counted.ensures.counted;
     }
 
 pub returns-clause-write : goal.returns-clause-write
