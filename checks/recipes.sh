@@ -9,6 +9,8 @@ case $program in
 /*) ;;
 *) program=$PWD/$program ;;
 esac
+# the scripts of examples/ run ./tunes, which each case has
+unset TUNES
 work=$(mktemp -d) || exit 1
 trap 'rm -rf "$work"' EXIT
 trap 'exit 1' HUP INT TERM
@@ -257,48 +259,6 @@ blocks output find > "$work/wanted"
 same "$work/out" "$work/wanted"
 end
 
-begin 'a set list'
-cp "$book" mine.abc
-run set-list
-ends_with 0
-says 'ok import 1 15
-ok set-new friday
-ok set-add friday 1
-ok set-add friday 2'
-{
-    printf '%%abc-2.1\n%% set friday\n\nX:1\n'
-    sed -n '/^X:3$/,/^$/p' "$book" | sed '1d'
-    printf 'X:2\n'
-    sed -n '/^X:1$/,/^$/p' "$book" | sed '1d;$d'
-} > "$work/wanted"
-same friday.abc "$work/wanted"
-has 'friday.abc mine.abc'
-end
-
-begin 'a set list of a book without so many tunes'
-printf 'X:1\nK:C\n' > mine.abc
-run set-list
-ends_with 0
-says 'ok import 1 1
-ok set-new friday
-refused 4 Unknown 3
-ok set-add friday 1'
-printf '%%abc-2.1\n%% set friday\n\nX:1\nK:C\n' > "$work/wanted"
-same friday.abc "$work/wanted"
-end
-
-begin 'an archive in a file'
-cp "$book" mine.abc
-run file
-ends_with 0
-says 'made
-ok import 1 15
-layout 1 tunes 15 sets 0'
-has 'mine.abc tunes.abcx'
-echo export | ./tunes run tunes.abcx | sed 1d > book.abc
-same book.abc "$export"
-end
-
 begin 'the bytes of an archive of one tune'
 ./tunes make tunes.abcx > "$work/out"
 ./tunes run tunes.abcx < examples/kesh-jig.script > "$work/out" 2> "$work/err"
@@ -308,16 +268,6 @@ ends_with 0
 [ "$(wc -c < tunes.abcx)" -eq 40972 ] || wrong 'the file is not as long as it should be'
 root_front=$(od -An -tx1 -j16384 -N4 tunes.abcx)
 [ "$root_front" = ' 00 00 00 66' ] || wrong "page 0 begins with$root_front"
-end
-
-begin 'an archive that was made before'
-cp "$book" mine.abc
-./tunes make tunes.abcx > "$work/out"
-run file
-ends_with 0
-says 'refused 42 NotEmpty
-ok import 1 15
-layout 1 tunes 15 sets 0'
 end
 
 begin 'a file that is no archive'
@@ -339,14 +289,6 @@ ends_with 3
 says 'refused 41 Damaged'
 end
 
-begin 'an archive that is not there'
-./tunes check tunes.abcx > "$work/out" 2> "$work/err"
-status=$?
-ends_with 1
-says 'refused 22 Device'
-has ''
-end
-
 begin 'a book of fifteen tunes'
 run session
 ends_with 0
@@ -355,30 +297,568 @@ sed '1,/^ok export /d' replies.txt > book.abc
 same book.abc "$export"
 end
 
-if command -v abcm2ps > "$work/out"; then
-    begin 'printing'
-    sed -n '/^X:3$/,/^$/p' "$book" > tune.abc
-    cp "$export" book.abc
-    cp "$export" friday.abc
-    run print
+# AN ARCHIVE IN A FILE
+
+# Goes on in the folder of the case before.
+go_on() {
+    cases=$((cases + 1))
+    title=$1
+    why=
+}
+
+# Runs a recipe once more, and says so.
+run_again() {
+    status=
+    title="$title, and again"
+    run "$1"
+}
+
+# What the archive holds, by `check`, and the numbers and places of its set lists.
+holds() {
+    found=$(./tunes check tunes.abcx 2> "$work/err")
+    [ "$found" = "$1" ] || wrong "the archive holds '$found' in place of '$1'"
+}
+
+# The tunes of an archive with their numbers, and its set lists.
+contents() {
+    names=$(echo sets | ./tunes run "$1" | sed '1d; s/ .*//; s/^/set-show /')
+    printf '%s\n' export sets "$names" | ./tunes run "$1"
+}
+
+# A tune of the book as an archive shows it.
+shown() {
+    sed -n "/^X:$1\$/,/^\$/p" "$book" | sed '/^$/d'
+}
+
+begin 'the archive of the README'
+cp "$book" mine.abc
+run begin
+ends_with 0
+says 'made
+mine.abc: ok import 1 15
+ok find 1
+1 Kesh Jig, The'
+run_again begin
+ends_with 0
+says 'refused 42 NotEmpty
+mine.abc: 15 of its 15 tunes are in tunes.abcx already
+ok find 1
+1 Kesh Jig, The'
+holds 'layout 1 tunes 15 sets 0'
+has 'mine.abc tunes.abcx'
+end
+
+begin 'making an archive'
+cp "$book" mine.abc
+run make
+ends_with 0
+says made
+run_again make
+ends_with 3
+says 'refused 42 NotEmpty'
+holds 'layout 1 tunes 0 sets 0'
+end
+
+go_on 'adding a book'
+run add
+ends_with 0
+says 'mine.abc: ok import 1 15'
+run_again add
+ends_with 0
+says 'mine.abc: 15 of its 15 tunes are in tunes.abcx already'
+holds 'layout 1 tunes 15 sets 0'
+echo export | ./tunes run tunes.abcx | sed 1d > "$work/found"
+same "$work/found" "$export"
+end
+
+go_on 'adding a book that has grown'
+printf '\nX:1\nT:The Night Before\nK:D\nABAd|\n' >> mine.abc
+run add
+ends_with 0
+says 'mine.abc: 15 of its 16 tunes are in tunes.abcx already
+mine.abc: ok import 16 16'
+run_again add
+says 'mine.abc: 16 of its 16 tunes are in tunes.abcx already'
+holds 'layout 1 tunes 16 sets 0'
+printf 'X:1\nT:Keyless\n' > bad.abc
+sh examples/add.sh tunes.abcx bad.abc absent.abc mine.abc > "$work/out" 2> "$work/err"
+status=$?
+ends_with 1
+says 'bad.abc: refused 2 BadTune 1 NoKey
+absent.abc: cannot be read
+mine.abc: 16 of its 16 tunes are in tunes.abcx already'
+holds 'layout 1 tunes 16 sets 0'
+rm bad.abc
+echo 'delete 16' | ./tunes run tunes.abcx > "$work/out"
+cp "$book" mine.abc
+end
+
+go_on 'finding tunes in a file'
+wanted='ok find 1
+1 Kesh Jig, The
+ok find 2
+6 Drowsy Maggie
+9 Fig for a Kiss, A
+3 Tripping Up the Stairs'
+run find-title
+ends_with 0
+says "$wanted"
+run_again find-title
+ends_with 0
+says "$wanted"
+end
+
+go_on 'looking at a tune'
+shown 3 > "$work/tune"
+{ echo "ok show 3 1 $(wc -c < "$work/tune")" && cat "$work/tune"; } > "$work/wanted"
+run show
+ends_with 0
+same "$work/out" "$work/wanted"
+run_again show
+ends_with 0
+same "$work/out" "$work/wanted"
+end
+
+go_on 'changing a tune'
+export EDITOR='sed -i s/^R:.*/R:slide/'
+run change
+ends_with 0
+says 'ok replace 3 2'
+same tune.old "$work/tune"
+sed 's/^R:.*/R:slide/' "$work/tune" > "$work/wanted"
+same tune.abc "$work/wanted"
+run_again change
+ends_with 0
+says 'ok replace 3 3'
+echo show 3 | ./tunes run tunes.abcx | sed 1d > "$work/found"
+same "$work/found" "$work/wanted"
+holds 'layout 1 tunes 15 sets 0'
+end
+
+go_on 'changing a tune that somebody else changes meanwhile'
+cat > editor << 'END'
+{ echo "replace 3 3 $(wc -c < tune.old)"; cat tune.old; } | ./tunes run tunes.abcx > other.out
+sed -i s/^R:.*/R:reel/ "$1"
+END
+export EDITOR='sh editor'
+run change
+says 'refused 5 Stale 4'
+echo show 3 | ./tunes run tunes.abcx | sed 1d > "$work/found"
+same "$work/found" "$work/wanted"
+rm editor other.out
+end
+
+go_on 'a set list in a file'
+places='ok set-new friday
+ok set-add friday 1
+ok set-add friday 2
+ok set-show friday 2
+1 3 Tripping Up the Stairs
+2 1 Kesh Jig, The'
+run set
+ends_with 0
+says "refused 11 NoSuchSet
+$places"
+run_again set
+ends_with 0
+says "ok set-drop friday
+$places"
+holds 'layout 1 tunes 15 sets 1'
+end
+
+go_on 'a book that is saved whole, or not at all'
+sh examples/save.sh tunes.abcx friday.abc export-set friday > "$work/out" 2> "$work/err"
+status=$?
+ends_with 0
+{ printf '%%abc-2.1\n%% set friday\n\nX:1\n' && sed 1d "$work/wanted" && printf '\nX:2\n' &&
+    shown 1 | sed 1d; } > "$work/set"
+same friday.abc "$work/set"
+sh examples/save.sh tunes.abcx friday.abc export-set saturday > "$work/out" 2> "$work/err"
+status=$?
+ends_with 1
+says 'refused 11 NoSuchSet'
+same friday.abc "$work/set"
+rm friday.abc tune.*
+has 'mine.abc tunes.abcx'
+end
+
+if command -v abcm2ps > "$work/out" && command -v ps2pdf > "$work/out"; then
+    go_on 'printing'
+    run print-set
     ends_with 0
-    has 'book.abc book.ps friday.abc friday.ps tune.abc tune.ps'
+    run_again print-set
+    ends_with 0
+    has 'friday.abc friday.pdf friday.ps mine.abc tunes.abcx'
+    rm friday.*
     end
 else
-    skip print abcm2ps
+    skip print-set 'abcm2ps or ps2pdf'
 fi
 
 if command -v abc2midi > "$work/out"; then
-    begin 'hearing'
-    sed -n '/^X:3$/,/^$/p' "$book" > tune.abc
-    cp "$export" book.abc
-    run hear
+    go_on 'hearing'
+    run hear-set
     ends_with 0
-    has 'book.abc third.mid tune.abc tune.mid'
+    run_again hear-set
+    ends_with 0
+    has 'first.mid friday.abc mine.abc tunes.abcx'
+    rm first.mid friday.abc
     end
 else
-    skip hear abc2midi
+    skip hear-set abc2midi
 fi
+
+go_on 'backing up'
+copy=backup/$(date +%F).abcx
+run back-up
+ends_with 0
+says 'layout 1 tunes 15 sets 1'
+same "$copy" tunes.abcx
+run_again back-up
+ends_with 0
+says 'layout 1 tunes 15 sets 1'
+same "$copy" tunes.abcx
+has "backup $copy mine.abc tunes.abcx"
+end
+
+go_on 'backing up while a program has the archive open'
+mkfifo script
+./tunes run tunes.abcx < script > "$work/replies" &
+exec 9> script
+echo 'delete 15' >&9
+tries=0
+while [ ! -s "$work/replies" ] && [ "$tries" -lt 100 ]; do
+    sleep 0.1
+    tries=$((tries + 1))
+done
+run back-up
+ends_with 1
+exec 9>&-
+wait
+rm script
+holds 'layout 1 tunes 14 sets 1'
+has "backup $copy mine.abc tunes.abcx"
+end
+
+go_on 'restoring'
+head -c 20000 tunes.abcx > cut && mv cut tunes.abcx
+holds 'refused 41 Damaged'
+run restore
+ends_with 0
+says 'layout 1 tunes 15 sets 1'
+same tunes.abcx "$copy"
+run_again restore
+ends_with 0
+says 'layout 1 tunes 15 sets 1'
+same tunes.abcx "$copy"
+same tunes.old "$copy"
+has "backup $copy mine.abc tunes.abcx tunes.old tunes.old.~1~"
+rm tunes.old*
+end
+
+go_on 'going over to another archive by a script'
+printf '%s\n' 'renumber 15 900' 'delete 7' 'set-add friday 900' 'set-new 0_-z' |
+    ./tunes run tunes.abcx > "$work/out"
+run dump
+ends_with 0
+run_again dump
+ends_with 0
+cp tunes.script "$work/script"
+run load
+ends_with 0
+contents tunes.abcx > "$work/wanted"
+contents new.abcx > "$work/found"
+same "$work/found" "$work/wanted"
+grep -q '^X:900$' "$work/found" || wrong 'no tune has the number 900'
+grep -q '^ok set-show friday 3$' "$work/found" || wrong 'friday has not its three places'
+cp new.abcx "$work/new"
+title="$title, and again"
+run load
+ends_with 3
+says 'refused 42 NotEmpty'
+same new.abcx "$work/new"
+sh examples/dump.sh new.abcx > "$work/found"
+same "$work/found" "$work/script"
+end
+
+# Takes the archive of a script over to a new one by a script, and compares the two.
+goes_over() {
+    ./tunes make tunes.abcx > "$work/out"
+    ./tunes run tunes.abcx > "$work/out"
+    ! grep refused "$work/out" > "$work/err" || wrong 'a command of the case is refused'
+    run dump
+    run load
+    ends_with 0
+    contents tunes.abcx > "$work/wanted"
+    contents new.abcx > "$work/found"
+    same "$work/found" "$work/wanted"
+}
+
+# An import of what follows, in which \n and \NNN are read as printf does.
+import() {
+    printf "$1" > "$work/book"
+    printf 'import %d\n' "$(wc -c < "$work/book")" && cat "$work/book"
+}
+
+begin 'going over with nothing in the archive'
+goes_over < /dev/null
+end
+
+begin 'going over with one tune of a great number, and sets of odd names'
+{
+    import 'X:1\nK:C\n'
+    printf '%s\n' 'renumber 1 999999' 'set-new -' 'set-add - 999999' 'set-add - 999999'
+    printf '%s\n' 'set-new 0' 'set-new ok' 'set-new set-show' 'set-add set-show 999999'
+    echo 'set-new abcdefghijklmnopqrstuvwxyz_-0123456789AB'
+} > script
+goes_over < script
+end
+
+begin 'going over with gaps, empty titles, titles of any bytes, and long tunes'
+{
+    import 'X:1\nT:\nK:C\n\nX:2\nT:\nT:b\nK:D\n\nX:3\nK:E\n\nX:4\nT:ok set-show a 1\nK:F\n'
+    import 'X:1\nT:\\a %% * "\047\nK:C\n%% a\nimport 7\n\nX:2\nT:\351t\351\377\001\nK:D\n'
+    import "X:1\nT:long\nK:C\n$(awk 'BEGIN { for (i = 0; i < 1900; i++) printf "abcdef |" }')\n"
+    import '\357\273\277M:6/8\r\n\r\nX:9\r\nT:Windows\r\nK:G\r\nGAB|\r\n'
+    printf '%s\n' 'delete 2' 'renumber 8 20' 'renumber 1 21' 'delete 6' 'set-new a' 'set-new b'
+    printf '%s\n' 'set-add a 4' 'set-add a 3' 'set-add a 4' 'set-add b 21' 'set-add b 5'
+} > script
+goes_over < script
+end
+
+begin 'going over from an archive that is not there'
+run dump
+ends_with 1
+has tunes.script.new
+end
+
+# FILES THAT CANNOT BE USED
+
+# The last run was answered 22, and a line of standard error names the file.
+cannot_use() {
+    ends_with 1
+    says 'refused 22 Device'
+    case $(cat "$work/err") in
+    "tunes: $1: "*) ;;
+    *) wrong "standard error has '$(head -n 1 "$work/err")', and nothing of $1" ;;
+    esac
+    [ "$(wc -l < "$work/err")" -eq 1 ] || wrong 'standard error has not one line'
+}
+
+begin 'an archive that is not there'
+for word in run check; do
+    ./tunes "$word" tunes.abcx < /dev/null > "$work/out" 2> "$work/err"
+    status=$?
+    cannot_use tunes.abcx
+done
+./tunes make folder/tunes.abcx > "$work/out" 2> "$work/err"
+status=$?
+cannot_use folder/tunes.abcx
+has ''
+end
+
+begin 'a folder in the place of an archive'
+mkdir tunes.abcx
+for word in make run check; do
+    ./tunes "$word" tunes.abcx < /dev/null > "$work/out" 2> "$work/err"
+    status=$?
+    cannot_use tunes.abcx
+done
+has tunes.abcx
+end
+
+begin 'an archive that another program has open'
+./tunes make tunes.abcx > "$work/out"
+cp tunes.abcx "$work/wanted"
+for word in make run check; do
+    flock tunes.abcx ./tunes "$word" tunes.abcx < /dev/null > "$work/out" 2> "$work/err"
+    status=$?
+    cannot_use tunes.abcx
+done
+same tunes.abcx "$work/wanted"
+end
+
+# Runs a command as somebody who may not open every file, as root may.
+as_nobody() {
+    if [ "$(id -u)" -eq 0 ]; then
+        setpriv --reuid=65534 --regid=65534 --clear-groups "$@"
+    else
+        "$@"
+    fi
+}
+
+chmod 755 "$work"
+begin 'an archive without permission'
+./tunes make tunes.abcx > "$work/out"
+cp tunes.abcx "$work/wanted"
+if as_nobody ./tunes --version > "$work/out" 2> "$work/err"; then
+    for mode in 0 444; do
+        chmod "$mode" tunes.abcx
+        for word in make run check; do
+            as_nobody ./tunes "$word" tunes.abcx < /dev/null > "$work/out" 2> "$work/err"
+            status=$?
+            cannot_use tunes.abcx
+        done
+    done
+    chmod 600 tunes.abcx
+    same tunes.abcx "$work/wanted"
+    end
+else
+    printf 'skipped %s: nobody but root may run the program here\n' "$title"
+fi
+
+begin 'making an archive where the disk is full'
+(
+    trap '' XFSZ
+    ulimit -f 4
+    exec ./tunes make tunes.abcx
+) > "$work/out" 2> "$work/err"
+status=$?
+ends_with 1
+says 'refused 22 Device'
+rm -f tunes.abcx
+run make
+ends_with 0
+holds 'layout 1 tunes 0 sets 0'
+end
+
+# STREAMS THAT ARE CLOSED OR FULL
+
+# Runs a command with some of the streams 0, 1 and 2 closed, the others over files; it reads script.
+closing() {
+    streams=$1
+    shift
+    : > "$work/out"
+    : > "$work/err"
+    (
+        exec < script > "$work/out" 2> "$work/err"
+        case $streams in *0*) exec <&- ;; esac
+        case $streams in *1*) exec >&- ;; esac
+        case $streams in *2*) exec 2>&- ;; esac
+        exec ./tunes "$@"
+    )
+    status=$?
+}
+
+# The status is 1 where standard output is closed, and else this one.
+ends_unless_closed() {
+    case $streams in *1*) fits=1 ;; *) fits=$1 ;; esac
+    [ "$status" -eq "$fits" ] ||
+        wrong "status $status in place of $fits where the streams $streams are closed"
+}
+
+every='0 1 2 01 02 12 012'
+
+begin 'making an archive with streams closed'
+./tunes make tunes.abcx > "$work/out"
+: > script
+for closed in $every; do
+    closing "$closed" make "made-$closed"
+    ends_unless_closed 0
+    # it was made, or is not there
+    [ ! -e "made-$closed" ] || same "made-$closed" tunes.abcx
+    [ "$status" -ne 0 ] || [ -e "made-$closed" ] || wrong 'no archive was made'
+done
+end
+
+begin 'checking an archive with streams closed'
+./tunes make tunes.abcx > "$work/out"
+./tunes run tunes.abcx < examples/kesh-jig.script > "$work/out"
+cp tunes.abcx "$work/wanted"
+: > script
+for closed in $every; do
+    closing "$closed" check tunes.abcx
+    ends_unless_closed 0
+    [ "$status" -ne 0 ] || says 'layout 1 tunes 1 sets 0'
+    same tunes.abcx "$work/wanted"
+    closing "$closed" check absent.abcx
+    ends_with 1
+    closing "$closed" check script
+    ends_unless_closed 3
+done
+[ ! -s script ] || wrong 'a file that is no archive was written'
+has 'script tunes.abcx'
+end
+
+begin 'running a script over an archive with streams closed'
+./tunes make tunes.abcx > "$work/out"
+./tunes run tunes.abcx < examples/kesh-jig.script > "$work/out"
+cp tunes.abcx "$work/wanted"
+echo 'show 1' > script
+for closed in $every; do
+    closing "$closed" run tunes.abcx
+    same tunes.abcx "$work/wanted"
+    # without an input there is no reply to write
+    case $closed in
+    *0*) [ "$status" -eq 0 ] || wrong "status $status at an input that is closed" ;;
+    *) ends_unless_closed 0 ;;
+    esac
+    case $closed in
+    *[01]*) ;;
+    *) [ "$(head -n 1 "$work/out")" = 'ok show 1 1 50' ] || wrong 'no reply is written' ;;
+    esac
+done
+[ "$(cat script)" = 'show 1' ] || wrong 'the script was written'
+# a command whose reply cannot be written took place, and the run ends there
+import 'X:1\nK:C\n' > script
+for closed in 1 12; do
+    cp "$work/wanted" tunes.abcx
+    cat script script > twice && mv twice script
+    closing "$closed" run tunes.abcx
+    ends_with 1
+    holds 'layout 1 tunes 2 sets 0'
+done
+end
+
+begin 'running a script in memory with streams closed'
+echo export > script
+for closed in $every; do
+    closing "$closed" list
+    case $closed in
+    *0*) [ "$status" -eq 0 ] || wrong "status $status at an input that is closed" ;;
+    *) ends_unless_closed 0 ;;
+    esac
+done
+[ "$(cat script)" = export ] || wrong 'the script was written'
+has script
+end
+
+if [ -e /dev/full ]; then
+    begin 'replies where standard output is full'
+    ./tunes make tunes.abcx > /dev/full 2> "$work/err"
+    status=$?
+    ends_with 1
+    holds 'layout 1 tunes 0 sets 0'
+    for words in 'make tunes.abcx' 'check tunes.abcx' 'check absent.abcx'; do
+        ./tunes $words > /dev/full 2> "$work/err"
+        status=$?
+        ends_with 1
+    done
+    for words in 'run tunes.abcx' list; do
+        ./tunes $words < examples/kesh-jig.script > /dev/full 2> "$work/err"
+        status=$?
+        ends_with 1
+    done
+    holds 'layout 1 tunes 1 sets 0'
+    end
+fi
+
+begin 'help and version where standard output is closed or full'
+: > script
+for word in --help --version; do
+    for closed in 1 12 01 012; do
+        closing "$closed" "$word"
+        ends_with 1
+        ! grep -q 'Error: ' "$work/err" || wrong 'standard error has a raw error'
+    done
+    if [ -e /dev/full ]; then
+        ./tunes "$word" > /dev/full 2> "$work/err"
+        status=$?
+        ends_with 1
+        ! grep -q 'Error: ' "$work/err" || wrong 'standard error has a raw error'
+    fi
+done
+end
 
 # Each recipe that the pages print was run.
 names=$(sed -n 's/^<!-- recipe: \([a-z-]*\).*/\1/p' "$root/README.md" "$root/docs/USING.md")

@@ -9,8 +9,9 @@
 //! one more call of the disk before it fails for good. What a stop then leaves, whether all that
 //! was written since the last sync is lost or kept, is opened. It has to hold the state after the
 //! steps that were answered, or that after one more. Each opening is stopped at each of its calls
-//! too. The file that is left at the end is cut at many places: it is then no archive, a damaged
-//! one, or still holds the last state.
+//! too. Then a program is ended at each call, while the system runs on: a disk that was not made
+//! stable is opened, whole and until a call fails. The file that is left at the end is cut at many
+//! places: it is then no archive, a damaged one, or still holds the last state.
 #![tactic(auto)]
 
 mod cuts;
@@ -20,7 +21,7 @@ mod texts;
 use cuts::{cut_left, cut_made};
 use std::io;
 use std::process::ExitCode;
-use stops::{Outcome, stop_making, stop_steps};
+use stops::{Outcome, end_steps, stop_making, stop_steps};
 use texts::{Texts, states_after};
 
 fn main(rt: HostRuntime) -> io::Result<ExitCode> {
@@ -30,15 +31,19 @@ fn main(rt: HostRuntime) -> io::Result<ExitCode> {
     say(&rt, "make", making)?;
     let steps = stop_steps(rt.alloc(), &texts, states.as_slice())?;
     say(&rt, "steps", steps)?;
+    let ends = end_steps(rt.alloc(), &texts, states.as_slice())?;
+    say(&rt, "ends", ends)?;
     let cuts = cut_made(rt.alloc())? && cut_left(rt.alloc(), &texts, states.as_slice())?;
     if cuts {
         println!(&rt; "cuts: each leaves no archive, a damaged one, or the last state")?;
     } else {
         println!(&rt; "cuts: one leaves another state, or is refused otherwise")?;
     }
-    match (making, steps) {
-        (Outcome::AsBeforeOrAfter, Outcome::AsBeforeOrAfter) if cuts => Ok(ExitCode::SUCCESS),
-        _ => Ok(ExitCode::FAILURE),
+    let good = Outcome::AsBeforeOrAfter;
+    if making == good && steps == good && ends == good && cuts {
+        Ok(ExitCode::SUCCESS)
+    } else {
+        Ok(ExitCode::FAILURE)
     }
 }
 

@@ -3,13 +3,18 @@ use crate::texts::{Texts, replies_of};
 use std::alloc::Global;
 use std::io;
 use tune_archive::{Archive, TuneStore};
-use tune_disk::{Disk, FuseDisk, MemoryDisk, StopChoice};
+use tune_disk::{FuseDisk, MemoryDisk, StopChoice};
+use tune_journal::OpenFault;
 
 /// How many calls of the disk are tried at most.
 const MOST_CALLS: u64 = 5_000;
 
 /// How many calls of an opening are tried at most.
 const MOST_CALLS_OF_OPENING: u64 = 200;
+
+/// The first calls of an opening, over which its faults are spread from one step to the next. It
+/// has no factor in common with the numbers of calls of a commit.
+const SPREAD: u64 = 31;
 
 /// Fewer calls than these are no archive at work.
 const FEWEST_CALLS: u64 = 3;
@@ -75,6 +80,52 @@ pub(crate) fn stop_steps(alloc: Global, texts: &Texts, states: &[Vec<u8>]) -> io
         }
     }
     Ok(Outcome::TooFew)
+}
+
+// Ends a program that carries out the steps, at each call, while the system runs on: the disk then
+// shows what was written, and not all of it is stable. It is opened so; and it is opened until one
+// of the calls fails, and what a stop then leaves is opened.
+pub(crate) fn end_steps(alloc: Global, texts: &Texts, states: &[Vec<u8>]) -> io::Result<Outcome> {
+    for calls in 0..MOST_CALLS {
+        for fuse in [calls % SPREAD, MOST_CALLS_OF_OPENING] {
+            let ended = carry_out(alloc, texts, calls)?;
+            let answered = ended.answered;
+            let from = answered.min(states.len());
+            let to = from.saturating_add(2).min(states.len());
+            match open_unstable(alloc, texts, ended.disk, fuse, &states[from..to], calls)? {
+                Outcome::AsBeforeOrAfter => {}
+                other => return Ok(other),
+            }
+            if answered >= texts.steps.len() {
+                return Ok(enough(calls));
+            }
+        }
+    }
+    Ok(Outcome::TooFew)
+}
+
+// Opens a disk that holds what is not yet stable, and fails after so many calls. Where it opens, it
+// has to hold one of these states; and so has what a stop leaves then.
+fn open_unstable(
+    alloc: Global,
+    texts: &Texts,
+    disk: MemoryDisk,
+    fuse: u64,
+    states: &[Vec<u8>],
+    at: u64,
+) -> io::Result<Outcome> {
+    let disk = match Archive::open(alloc, FuseDisk::new(disk, fuse)) {
+        Ok(archive) => archive.into_disk().into_inner(),
+        Err(refused) if refused.why == OpenFault::Device => refused.disk.into_inner(),
+        Err(_) => return Ok(Outcome::NotOpened(at)),
+    };
+    for choice in CHOICES {
+        match open_left(alloc, texts, disk.stopped(choice)?, states, at)? {
+            Outcome::AsBeforeOrAfter => {}
+            other => return Ok(other),
+        }
+    }
+    open_left(alloc, texts, disk, states, at)
 }
 
 // The end of a sweep after so many calls.

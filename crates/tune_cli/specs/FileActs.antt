@@ -48,8 +48,8 @@ pub record Makes {D : Type 0} (honest : D → Type 0) (failures : D → ℕ) (st
       ⊎ HasNotMade honest failures state was now old new status
 
 -- OPENING
--- An archive was not opened, and why; meanwhile a stop leaves what it might have left before, or the
--- same pages as the disk showed, and so the same states.
+-- An archive was not opened, and why; meanwhile a stop leaves what it might have left before, or
+-- the same pages as the disk showed, and so the same states.
 pub record HasNotOpened {D : Type 0} (honest : D → Type 0) (failures : D → ℕ)
     (state : D → DiskState) (was now : Option (List ℕ)) (old new : D) (status : ℕ) : Type 0 where
   pub why : OpenFault
@@ -90,8 +90,8 @@ pub record RanScript {D : Type 0} (kept : store.Ghosts (Shelf D)) (state : D →
   -- the archive as it was opened, and as it was at the end
   pub before : Shelf D
   pub after : Shelf D
-  -- it was opened with the state that the disk stood for; meanwhile a stop leaves what it might have
-  -- left before, or the same pages as the disk showed
+  -- it was opened with the state that the disk stood for; meanwhile a stop leaves what it might
+  -- have left before, or the same pages as the disk showed
   pub opened : StandsForState (state old).seen (kept.state before)
   pub opening : SinceThen (state old) (state_at state before.pages.disk) (LeftOrSame (state old))
   -- then one list of commands was carried out, of which everything is said

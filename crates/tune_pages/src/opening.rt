@@ -1,7 +1,7 @@
 // Pages that are made, and pages that are being opened, of which each is claimed once.
-ghost use Rattle.std.specs.Prelude.{◌≡◌, ◌≢◌, ◌<◌, ◌≤◌, ◌-◌, ◌++◌, [], ◌∷◌, ℕ, true, false, List, Some};
+ghost use Rattle.std.specs.Prelude.{◌≡◌, ◌≢◌, ◌<◌, ◌≤◌, ◌-◌, ◌++◌, [], ◌∷◌, ℕ, true, false, List};
 ghost use Rattle.std.specs.Prelude.{length, replicate, slice_set, MatchResult, IfOk, IfErr};
-ghost use Rattle.std.specs.Prelude.{IfSome, OnOk};
+ghost use Rattle.std.specs.Prelude.{IfSome, OnOk, Some};
 ghost use Rattle.tune_disk.specs.Disk.{Looks};
 ghost use Rattle.tune_disk.specs.Stops.{SinceThen, LeavesOnly};
 ghost use Rattle.tune_journal.specs.Image.{StandsFor, gate_of};

@@ -1,7 +1,8 @@
 use Rattle.std.proofs.Common.{subst}
 use Rattle.tune_journal.specs.Image.{StandsFor, pages_of}
 use Rattle.tune_journal.proofs.Above.{stands_once}
-use Rattle.tune_journal.proofs.Openings.{looked_leaves, looked_keeps, ended_leaves, ended_keeps, recovered_stands, sees_damaged, closed_rest, open_entries, sees_open_gate}
+use Rattle.tune_journal.proofs.Openings.{looked_leaves, looked_keeps, ended_leaves, ended_keeps, recovered_stands, sees_damaged, closed_rest, open_entries}
+use Rattle.tune_journal.proofs.Openings.{sees_open_gate}
 use Rattle.tune_journal.proofs.Openings.{open_bounds}
 use Rattle.tune_journal.proofs.Rests.{rest_leaves, rest_stands}
 use Rattle.tune_journal.proofs.journal.Journal.open.Goals as goal
