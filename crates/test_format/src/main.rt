@@ -10,8 +10,8 @@
 //! `data/archives` has cases, between which an empty line stands: `case NAME`; `root BYTES`, which
 //! the root begins with; a line `chain BYTES` for each chain, put on the next pages from page 1 on;
 //! `claims ANSWER`, what is claimed of these pages; and `opens ANSWER`, what comes of opening an
-//! archive of them. A tune is shown by its number, its revision and its first page. Lines that begin
-//! with `#` are passed over, in both.
+//! archive of them. A tune is shown by its number, its revision and its first page. Lines that
+//! begin with `#` are passed over, in both.
 //!
 //! The program prints a line for each case, and how many came out as written; where one did not, it
 //! ends with status 1.
