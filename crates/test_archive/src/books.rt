@@ -1,13 +1,25 @@
-// Calls on lines, books and texts of tunes.
+// Calls on lines, books and texts of tunes:
+//
+//     lines TEXT           from where to where each line goes, and its text with a bar behind it
+//     count-lines TEXT     how many lines there are
+//     split LONGEST BOOK   how many tunes the book has, or why it is refused; the texts are kept
+//     judge LONGEST BOOK   the same of a book that is judged first
+//     text PLACE           the kept text at a place, from 1
+//     copy PLACE           a copy of it
+//     write NUMBER..       the book of the kept texts, with these numbers
+//     bytes TEXT           a copy of the bytes
+//     stored LONGEST LETTERS TEXT
+//                          `tune` where so many letters A with this text behind them are the text
+//                          of a tune of at most so many bytes; `handed back` where they are not
 ghost use Rattle.std.specs.Prelude.{◌≤◌};
 
+use crate::answer::Answer;
 use crate::arguments::{Arguments, no_data};
 use crate::cases::Bench;
 use abc_fields::{BookFault, ByteText, Lines, TuneText, judge_book, split_book};
 use std::alloc::Global;
 use std::fs::{File, Files};
 use std::io;
-use std::io::Write;
 use tune_books::write_book;
 
 // The greatest length of a tune's text that may be asked for.
@@ -33,7 +45,7 @@ impl Bench for Books {
         _rt: &R,
         name: &str,
         given: Arguments,
-        answer: &mut Vec<u8>,
+        answer: &mut Answer,
     ) -> io::Result<()> {
         match name {
             "lines" => show_lines(self.alloc, given, answer),
@@ -54,7 +66,7 @@ impl Books {
         &mut self,
         call: &str,
         mut given: Arguments,
-        answer: &mut Vec<u8>,
+        answer: &mut Answer,
     ) -> io::Result<()> {
         let longest = given.size()?;
         let book = given.text(self.alloc)?;
@@ -70,25 +82,25 @@ impl Books {
             Ok(tunes) => {
                 let count = tunes.len();
                 self.tunes = tunes;
-                write!(answer, "{count}")
+                answer.say(count)
             }
-            Err(fault) => write!(answer, "{fault:?}"),
+            Err(fault) => answer.name(fault),
         }
     }
 
     // The text at a place, or a copy of it.
-    fn show_text(&self, call: &str, mut given: Arguments, answer: &mut Vec<u8>) -> io::Result<()> {
+    fn show_text(&self, call: &str, mut given: Arguments, answer: &mut Answer) -> io::Result<()> {
         let index = given.size()?.checked_sub(1).ok_or(no_data())?;
         let text = self.tunes.get(index).ok_or(no_data())?;
         if call == "copy" {
             let copy = text.copy(self.alloc)?;
-            return Ok(answer.extend_from_slice(copy.bytes())?);
+            return answer.add(copy.bytes());
         }
-        Ok(answer.extend_from_slice(text.bytes())?)
+        answer.add(text.bytes())
     }
 
     // The book of these texts, with these numbers.
-    fn write(&self, mut given: Arguments, answer: &mut Vec<u8>) -> io::Result<()> {
+    fn write(&self, mut given: Arguments, answer: &mut Answer) -> io::Result<()> {
         let mut numbers = Vec::new(self.alloc);
         for _ in 0..self.tunes.len() {
             numbers.push(given.number()?)?;
@@ -99,7 +111,7 @@ impl Books {
             return Err(no_data());
         }
         let book = write_book(self.alloc, numbers, texts)?;
-        Ok(answer.extend_from_slice(book.as_slice())?)
+        answer.add(book.as_slice())
     }
 }
 
@@ -117,32 +129,33 @@ fn judged_texts(alloc: Global, book: &[u8], longest: usize) -> Result<Vec<TuneTe
 }
 
 // For each line where it is from, where it ends, and its text, with a bar behind it.
-fn show_lines(alloc: Global, mut given: Arguments, answer: &mut Vec<u8>) -> io::Result<()> {
+fn show_lines(alloc: Global, mut given: Arguments, answer: &mut Answer) -> io::Result<()> {
     for line in Lines::new(&given.text(alloc)?) {
-        let (from, to) = (line.from, line.to);
-        write!(answer, "{from} {to} ")?;
-        answer.extend_from_slice(line.text)?;
-        answer.push(b'|')?;
+        answer.say(line.from)?;
+        answer.say(line.to)?;
+        answer.add(b" ")?;
+        answer.add(line.text)?;
+        answer.add(b"|")?;
     }
     Ok(())
 }
 
-fn count_lines(alloc: Global, mut given: Arguments, answer: &mut Vec<u8>) -> io::Result<()> {
+fn count_lines(alloc: Global, mut given: Arguments, answer: &mut Answer) -> io::Result<()> {
     let mut count: u32 = 0;
     for _ in Lines::new(&given.text(alloc)?) {
         count = count.saturating_add(1);
     }
-    write!(answer, "{count}")
+    answer.say(count)
 }
 
-fn copy_bytes(alloc: Global, mut given: Arguments, answer: &mut Vec<u8>) -> io::Result<()> {
+fn copy_bytes(alloc: Global, mut given: Arguments, answer: &mut Answer) -> io::Result<()> {
     let copy = ByteText::copy_of(alloc, &given.text(alloc)?)?;
-    Ok(answer.extend_from_slice(copy.as_slice())?)
+    answer.add(copy.as_slice())
 }
 
 // Whether stored bytes are the text of a tune with at most so many bytes: letters, so many of them,
 // and then a text. They are the bytes of the text, or are handed back.
-fn show_stored(alloc: Global, mut given: Arguments, answer: &mut Vec<u8>) -> io::Result<()> {
+fn show_stored(alloc: Global, mut given: Arguments, answer: &mut Answer) -> io::Result<()> {
     let longest = given.size()?;
     let mut stored = vec![in alloc; b'A'; given.size()?]?;
     stored.extend_from_slice(&given.text(alloc)?)?;
@@ -150,8 +163,8 @@ fn show_stored(alloc: Global, mut given: Arguments, answer: &mut Vec<u8>) -> io:
         return Err(no_data());
     }
     match TuneText::from_stored(ByteText::copy_of(alloc, &stored)?, longest) {
-        Ok(tune) if tune.bytes() == stored.as_slice() => write!(answer, "tune"),
-        Err(back) if back.as_slice() == stored.as_slice() => write!(answer, "handed back"),
-        _ => write!(answer, "other bytes"),
+        Ok(tune) if tune.bytes() == stored.as_slice() => answer.say("tune"),
+        Err(back) if back.as_slice() == stored.as_slice() => answer.say("handed back"),
+        _ => answer.say("other bytes"),
     }
 }

@@ -1,4 +1,5 @@
 // Cases of a file, each a list of calls with the answers that are wanted.
+use crate::answer::Answer;
 use crate::arguments::{Arguments, bytes_of, no_data};
 use std::alloc::Global;
 use std::fs::{File, Files};
@@ -14,7 +15,7 @@ pub(crate) trait Bench: Drop {
         rt: &R,
         name: &str,
         given: Arguments,
-        answer: &mut Vec<u8>,
+        answer: &mut Answer,
     ) -> io::Result<()>;
 }
 
@@ -79,11 +80,11 @@ fn other_answer<B: Bench, R: AllocGlobal + Files<File = File>>(
     rt: &R,
     bench: &mut B,
     line: &str,
-) -> io::Result<Option<Vec<u8>>> {
+) -> io::Result<Option<Answer>> {
     let (call, wanted) = line.split_once(" = ").unwrap_or((line, ""));
     let (name, rest) = call.split_once(' ').unwrap_or((call, ""));
     let wanted = bytes_of(rt.alloc(), wanted)?;
-    let mut answer = Vec::new(rt.alloc());
+    let mut answer = Answer::new(rt.alloc());
     bench.call(rt, name, Arguments::new(rest), &mut answer)?;
     if answer.as_slice() == wanted.as_slice() {
         Ok(None)

@@ -1,11 +1,16 @@
-// Calls on the words of the program.
+// Calls on the words of the program, its name being the first of them:
+//
+//     action WORD..        the action that they ask for, or the kind of the error; `Missing` where
+//                          there is no subcommand
+//     report WORD..        the status where they ask for none, whether standard output names
+//                          `list`, and whether standard error names `tunes`
+use crate::answer::Answer;
 use crate::arguments::{Arguments, bytes_of, no_data};
 use crate::cases::Bench;
 use crate::screen::Screen;
 use std::alloc::Global;
 use std::fs::{File, Files};
 use std::io;
-use std::io::Write;
 use tune_cli::{WordsFault, action, report};
 
 /// Nothing is kept between two calls.
@@ -24,7 +29,7 @@ impl Bench for CommandLines {
         _rt: &R,
         name: &str,
         given: Arguments,
-        answer: &mut Vec<u8>,
+        answer: &mut Answer,
     ) -> io::Result<()> {
         let words = words_of(self.alloc, given.rest())?;
         match name {
@@ -46,26 +51,28 @@ fn words_of(alloc: Global, given: &str) -> io::Result<Vec<String>> {
 
 // The action that these words ask for, or the kind of the error: `Missing` where there is no
 // subcommand.
-fn show_action(alloc: Global, words: &[String], answer: &mut Vec<u8>) -> io::Result<()> {
+fn show_action(alloc: Global, words: &[String], answer: &mut Answer) -> io::Result<()> {
     match action(alloc, words) {
-        Ok(action) => write!(answer, "{action:?}"),
-        Err(WordsFault::Missing) => write!(answer, "Missing"),
+        Ok(action) => answer.name(action),
+        Err(WordsFault::Missing) => answer.say("Missing"),
         Err(WordsFault::Clap(error)) => {
             let kind = error.kind();
-            write!(answer, "{kind:?}")
+            answer.name(kind)
         }
     }
 }
 
 // The status for these words, and which of the two streams says what it has to.
-fn show_report(alloc: Global, words: &[String], answer: &mut Vec<u8>) -> io::Result<()> {
+fn show_report(alloc: Global, words: &[String], answer: &mut Answer) -> io::Result<()> {
     let Err(fault) = action(alloc, words) else {
-        return write!(answer, "an action");
+        return answer.say("an action");
     };
     let screen = Screen::new(alloc);
     let status = report(&screen, &fault)?;
     let (output, errors) = screen.into_texts();
     let output = output.contains("list");
     let errors = errors.contains("tunes");
-    write!(answer, "{status} {output} {errors}")
+    answer.say(status)?;
+    answer.say(output)?;
+    answer.say(errors)
 }

@@ -1,6 +1,17 @@
-//! The program `test_archive`.
+//! The program `test_archive`: books, set lists, the words of the program, scripts that are too
+//! large to lie in files, and readers and writers that fail.
+//!
+//! `data/` has a file of cases for each of them. A case is a block of lines: its name, and then
+//! calls that are made in turn, one a line: the name of the call, its words, and ` = ` with the
+//! answer that is wanted, where there is one. Which calls there are is said where they are made:
+//! in books.rt, sets.rt, command_lines.rt and scripts.rt. Bytes stand for themselves, but for `\n`,
+//! `\r`, `\s`, a blank, `\xNN`, the byte of two hexadecimal digits, and `\e`, nothing.
+//!
+//! The program prints a line for each case, or each call that answers otherwise, and how many
+//! cases came out as written; where one did not, it ends with status 1.
 #![tactic(auto)]
 
+mod answer;
 mod arguments;
 mod books;
 mod cases;

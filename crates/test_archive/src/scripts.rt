@@ -1,4 +1,28 @@
-// Calls on scripts over an archive in memory.
+// Calls on scripts over an archive in memory:
+//
+//     script PIECE         nothing; adds to the script (pieces.rt)
+//     replies PIECE        nothing; adds to the replies that it has to give
+//     cut LEN              nothing; the script is its first bytes, so many
+//     next                 nothing; script and replies are empty again
+//     anew                 nothing; the archive is empty again
+//     run                  how the run ends, and how many bytes of the script are left
+//     reader-fails READ WRITTEN
+//                          how a run ends over an empty archive, of the first bytes of the script,
+//                          where the reader fails after these; so many bytes of replies are wanted
+//     writer-fails CALLS   how a run ends where the writer fails after so many calls
+//     writer-fails-each COUNT
+//                          nothing, where each run over an empty archive ends as it has to, and
+//                          leaves tune 1, where the writer fails after 0 calls, 1 call and so on
+//     in-turn              how a run ends, and how many replies were flushed; whether a line was
+//                          asked for before the replies to those before it were flushed
+//     status, status-reader-fails, status-writer-fails CALLS
+//                          the status of the program's `list`; a reader that fails does so behind
+//                          the script
+//     tune NUMBER          a tune's number, revision and text, and those of its copy
+//     wear                 the number of the last tune, when the archive was filled over and over
+//
+// Where the replies of a run are not those that are wanted, the answer says from which byte on.
+use crate::answer::Answer;
 use crate::arguments::{Arguments, no_data};
 use crate::cases::Bench;
 use crate::pieces::add_piece;
@@ -8,7 +32,6 @@ use std::alloc::Global;
 use std::cell::Cell;
 use std::fs::{File, Files};
 use std::io;
-use std::io::{Read, Write};
 use tune_cli::{Action, RunEnd, act, run};
 use tune_store::{Command, ListArchive, Reply, Tune, TuneStore};
 
@@ -36,7 +59,7 @@ impl Bench for Scripts {
         rt: &R,
         name: &str,
         given: Arguments,
-        answer: &mut Vec<u8>,
+        answer: &mut Answer,
     ) -> io::Result<()> {
         match name {
             "script" | "replies" | "next" | "anew" | "cut" => self.write(name, given),
@@ -49,7 +72,7 @@ impl Bench for Scripts {
             "tune" => self.show_tune(given, answer),
             "wear" => {
                 let last = wear(self.alloc, &mut self.archive);
-                write!(answer, "{last:?}")
+                answer.name(last)
             }
             _ => Err(no_data()),
         }
@@ -79,13 +102,13 @@ impl Scripts {
     }
 
     // Calls that run the script.
-    fn run(&mut self, call: &str, mut given: Arguments, answer: &mut Vec<u8>) -> io::Result<()> {
+    fn run(&mut self, call: &str, mut given: Arguments, answer: &mut Answer) -> io::Result<()> {
         match call {
             "run" => self.run_whole(answer),
             "reader-fails" => self.run_failing_reader(given.size()?, given.size()?, answer),
             "writer-fails" => {
                 let (end, _) = self.run_failing_writer(given.number()?);
-                write!(answer, "{end:?}")
+                answer.name(end)
             }
             "writer-fails-each" => self.run_failing_writers(given.number()?, answer),
             _ => self.run_in_turn(answer),
@@ -93,12 +116,13 @@ impl Scripts {
     }
 
     // Runs the script, and says how it ends, and how many bytes are left.
-    fn run_whole(&mut self, answer: &mut Vec<u8>) -> io::Result<()> {
+    fn run_whole(&mut self, answer: &mut Answer) -> io::Result<()> {
         let mut reader = self.script.as_slice();
         let mut written = Vec::new(self.alloc);
         let end = run(self.alloc, &mut reader, &mut written, &mut self.archive);
         let left = reader.len();
-        write!(answer, "{end:?} {left}")?;
+        answer.name(end)?;
+        answer.say(left)?;
         say_difference(&written, &self.replies, answer)
     }
 
@@ -108,7 +132,7 @@ impl Scripts {
         &mut self,
         read: usize,
         wanted: usize,
-        answer: &mut Vec<u8>,
+        answer: &mut Answer,
     ) -> io::Result<()> {
         let text = self.script.get(..read).ok_or(no_data())?;
         let wanted = self.replies.get(..wanted).ok_or(no_data())?;
@@ -116,7 +140,7 @@ impl Scripts {
         let mut written = Vec::new(self.alloc);
         self.archive = ListArchive::new(self.alloc);
         let end = run(self.alloc, &mut reader, &mut written, &mut self.archive);
-        write!(answer, "{end:?}")?;
+        answer.name(end)?;
         say_difference(&written, wanted, answer)
     }
 
@@ -131,13 +155,15 @@ impl Scripts {
     // The same over empty archives, with writers that fail after 0 calls and more, below so many.
     // Says after which calls the run ends in another way than by its writer or its input, or tune 1
     // is not there.
-    fn run_failing_writers(&mut self, most: u32, answer: &mut Vec<u8>) -> io::Result<()> {
+    fn run_failing_writers(&mut self, most: u32, answer: &mut Answer) -> io::Result<()> {
         for calls in 0..most {
             self.archive = ListArchive::new(self.alloc);
             let (end, has_failed) = self.run_failing_writer(calls);
             let is_shown = self.archive.apply(&Command::Show(1)).is_ok();
             if end != end_of(has_failed) || !is_shown {
-                write!(answer, "{end:?} after {calls}, ")?;
+                answer.name(end)?;
+                answer.say("after")?;
+                answer.say(calls)?;
             }
         }
         Ok(())
@@ -145,7 +171,7 @@ impl Scripts {
 
     // Runs the script with a reader that notices whether it is asked for a line before the replies
     // to all lines before it were flushed.
-    fn run_in_turn(&mut self, answer: &mut Vec<u8>) -> io::Result<()> {
+    fn run_in_turn(&mut self, answer: &mut Answer) -> io::Result<()> {
         let flushes = Flushes {
             flushed: Cell::new(0),
             asked_early: Cell::new(false),
@@ -160,13 +186,12 @@ impl Scripts {
             flushes: &flushes,
         };
         let end = run(self.alloc, &mut reader, &mut writer, &mut self.archive);
-        let flushed = flushes.flushed.get();
-        let early = if flushes.asked_early.get() {
-            ", asked early"
-        } else {
-            ""
-        };
-        write!(answer, "{end:?} {flushed}{early}")
+        answer.name(end)?;
+        answer.say(flushes.flushed.get())?;
+        if flushes.asked_early.get() {
+            answer.say("asked early")?;
+        }
+        Ok(())
     }
 
     // The status of the program's `list`, for the script.
@@ -175,13 +200,13 @@ impl Scripts {
         rt: &T,
         call: &str,
         mut given: Arguments,
-        answer: &mut Vec<u8>,
+        answer: &mut Answer,
     ) -> io::Result<()> {
         let mut text = self.script.as_slice();
         if call == "status-writer-fails" {
             let mut writer = FailingWriter::new(given.number()?);
             let status = act(rt, &Action::List, &mut text, &mut writer);
-            return write!(answer, "{status}");
+            return answer.say(status);
         }
         let mut written = Vec::new(self.alloc);
         let status = if call == "status" {
@@ -189,12 +214,12 @@ impl Scripts {
         } else {
             act(rt, &Action::List, &mut FailingReader { text }, &mut written)
         };
-        write!(answer, "{status}")?;
+        answer.say(status)?;
         say_difference(&written, &self.replies, answer)
     }
 
     // The number of a tune, its revision, its text and that of its copy.
-    fn show_tune(&mut self, mut given: Arguments, answer: &mut Vec<u8>) -> io::Result<()> {
+    fn show_tune(&mut self, mut given: Arguments, answer: &mut Answer) -> io::Result<()> {
         match self.archive.apply(&Command::Show(given.number()?)) {
             Ok(Reply::Shown(tune)) => {
                 add_tune(&tune, answer)?;
@@ -206,10 +231,11 @@ impl Scripts {
     }
 }
 
-fn add_tune(tune: &Tune, answer: &mut Vec<u8>) -> io::Result<()> {
-    let (number, revision) = (tune.number, tune.revision);
-    write!(answer, "{number} {revision} ")?;
-    Ok(answer.extend_from_slice(tune.text.bytes())?)
+fn add_tune(tune: &Tune, answer: &mut Answer) -> io::Result<()> {
+    answer.say(tune.number)?;
+    answer.say(tune.revision)?;
+    answer.add(b" ")?;
+    answer.add(tune.text.bytes())
 }
 
 // How a run ends where the writer has failed, or has not.
@@ -222,14 +248,17 @@ fn end_of(has_failed: bool) -> RunEnd {
 }
 
 // Says where the replies differ from what is wanted, if they do.
-fn say_difference(written: &[u8], wanted: &[u8], answer: &mut Vec<u8>) -> io::Result<()> {
+fn say_difference(written: &[u8], wanted: &[u8], answer: &mut Answer) -> io::Result<()> {
     if written == wanted {
         return Ok(());
     }
-    let common = written
-        .iter()
-        .zip(wanted)
-        .take_while(|(a, b)| a == b)
-        .count();
-    write!(answer, ", another reply from byte {common} on")
+    let mut common: usize = 0;
+    for (a, b) in written.iter().zip(wanted) {
+        if a != b {
+            break;
+        }
+        common = common.saturating_add(1);
+    }
+    answer.say("other replies from byte")?;
+    answer.say(common)
 }

@@ -1,11 +1,32 @@
-// Calls on set lists.
+// Calls on set lists:
+//
+//     create NAME, add NAME NUMBER, cut NAME PLACE, drop NAME
+//                          what the call gives
+//     renumbered FROM TO   nothing
+//     show, show-copy      a line for each set, or each that was copied: its name and its numbers
+//     rows                 a line for each set: its name, and how many places it has
+//     write, len           the bytes of all sets, and how many there are
+//     holds NUMBER         the name of the least set with the number, or `none`
+//     places NAME, places-len NAME
+//                          the numbers of a set, and how many these are
+//     copy                 nothing; the copy is kept
+//     name NAME            the name as a set has it, or `none`
+//     same NAME NAME       whether a copy of the first name is the second
+//     read BYTES           `Ok`, and the sets are those of the bytes; or why they are refused
+//     read-written         the same of the bytes of all sets
+//     read-places COUNT    the same of bytes of one set `a`, of so many places
+//     read-sets LAST       the same of bytes of sets with the names 1000 to this one
+//     week                 nothing; makes three sets
+//     fill NAME COUNT      nothing; adds the numbers from 0 on to a set, so many of them
+//     create-sets COUNT    nothing; makes the sets `s0`, `s1` and so on
+//     own-sets COUNT       adds to each of these its number; how many hold it, and are found by it
+use crate::answer::Answer;
 use crate::arguments::{Arguments, no_data};
 use crate::cases::Bench;
 use crate::many_sets::{fill_set, make_sets, make_week, of_places, of_sets, own_sets};
 use std::alloc::Global;
 use std::fs::{File, Files};
 use std::io;
-use std::io::Write;
 use tune_sets::{SetLists, SetName};
 
 /// Set lists, and a copy of what they were.
@@ -30,7 +51,7 @@ impl Bench for Sets {
         _rt: &R,
         name: &str,
         given: Arguments,
-        answer: &mut Vec<u8>,
+        answer: &mut Answer,
     ) -> io::Result<()> {
         match name {
             "create" | "add" | "cut" | "drop" | "renumbered" => self.change(name, given, answer),
@@ -45,7 +66,7 @@ impl Bench for Sets {
 
 impl Sets {
     // Calls that change one set, or each.
-    fn change(&mut self, call: &str, mut given: Arguments, answer: &mut Vec<u8>) -> io::Result<()> {
+    fn change(&mut self, call: &str, mut given: Arguments, answer: &mut Answer) -> io::Result<()> {
         if call == "renumbered" {
             self.lists.renumbered(given.number()?, given.number()?);
             return Ok(());
@@ -54,53 +75,53 @@ impl Sets {
         match call {
             "create" => {
                 let made = self.lists.create(&name);
-                write!(answer, "{made:?}")
+                answer.name(made)
             }
             "add" => {
                 let place = self.lists.add(&name, given.number()?);
-                write!(answer, "{place:?}")
+                answer.name(place)
             }
             "cut" => {
                 let done = self.lists.cut(&name, given.size()?);
-                write!(answer, "{done:?}")
+                answer.name(done)
             }
             _ => {
                 let done = self.lists.drop_set(&name);
-                write!(answer, "{done:?}")
+                answer.name(done)
             }
         }
     }
 
     // Calls that tell of all sets.
-    fn show(&self, call: &str, answer: &mut Vec<u8>) -> io::Result<()> {
+    fn show(&self, call: &str, answer: &mut Answer) -> io::Result<()> {
         match call {
             "show" => show_sets(&self.lists, answer),
             "show-copy" => show_sets(&self.copy, answer),
             "rows" => show_rows(&self.lists, answer),
-            "write" => Ok(answer.extend_from_slice(self.lists.write()?.as_slice())?),
+            "write" => answer.add(self.lists.write()?.as_slice()),
             _ => {
                 let len = self.lists.as_slice().len();
-                write!(answer, "{len}")
+                answer.say(len)
             }
         }
     }
 
     // Calls that ask for one number, or one set.
-    fn look_up(&self, call: &str, mut given: Arguments, answer: &mut Vec<u8>) -> io::Result<()> {
+    fn look_up(&self, call: &str, mut given: Arguments, answer: &mut Answer) -> io::Result<()> {
         if call == "holds" {
             return add_name(self.lists.holds(given.number()?), answer);
         }
         let name = given.bytes(self.alloc)?;
         let places = self.lists.places(&name);
         if call == "places" {
-            return write!(answer, "{places:?}");
+            return answer.name(places);
         }
         let len = places.map(|numbers| numbers.len());
-        write!(answer, "{len:?}")
+        answer.name(len)
     }
 
     // Calls that read set lists from bytes.
-    fn read(&mut self, call: &str, mut given: Arguments, answer: &mut Vec<u8>) -> io::Result<()> {
+    fn read(&mut self, call: &str, mut given: Arguments, answer: &mut Answer) -> io::Result<()> {
         let bytes = match call {
             "read" => given.bytes(self.alloc)?,
             "read-places" => of_places(self.alloc, given.number()?)?,
@@ -110,9 +131,9 @@ impl Sets {
         match SetLists::read(self.alloc, &bytes) {
             Ok(lists) => {
                 self.lists = lists;
-                write!(answer, "Ok")
+                answer.say("Ok")
             }
-            Err(fault) => write!(answer, "{fault:?}"),
+            Err(fault) => answer.name(fault),
         }
     }
 
@@ -121,7 +142,7 @@ impl Sets {
         &mut self,
         call: &str,
         mut given: Arguments,
-        answer: &mut Vec<u8>,
+        answer: &mut Answer,
     ) -> io::Result<()> {
         match call {
             "copy" => {
@@ -133,7 +154,7 @@ impl Sets {
             "create-sets" => make_sets(self.alloc, &mut self.lists, given.number()?),
             "own-sets" => {
                 let found = own_sets(self.alloc, &mut self.lists, given.number()?)?;
-                write!(answer, "{found}")
+                answer.say(found)
             }
             _ => Err(no_data()),
         }
@@ -141,39 +162,38 @@ impl Sets {
 }
 
 // A line for each set: its name, a colon, and its numbers.
-fn show_sets(lists: &SetLists, answer: &mut Vec<u8>) -> io::Result<()> {
+fn show_sets(lists: &SetLists, answer: &mut Answer) -> io::Result<()> {
     for set in lists.as_slice() {
-        answer.extend_from_slice(set.name.as_slice())?;
-        answer.push(b':')?;
-        show_numbers(set.numbers.as_slice(), answer)?;
-        answer.push(b'\n')?;
+        answer.add(set.name.as_slice())?;
+        answer.add(b":")?;
+        say_numbers(set.numbers.as_slice(), answer)?;
+        answer.add(b"\n")?;
     }
     Ok(())
 }
 
-// Each number, after a blank.
-fn show_numbers(numbers: &[u32], answer: &mut Vec<u8>) -> io::Result<()> {
+fn say_numbers(numbers: &[u32], answer: &mut Answer) -> io::Result<()> {
     for number in numbers {
-        write!(answer, " {number}")?;
+        answer.say(*number)?;
     }
     Ok(())
 }
 
 // A line for each row: the name of the set, and how many places it has.
-fn show_rows(lists: &SetLists, answer: &mut Vec<u8>) -> io::Result<()> {
+fn show_rows(lists: &SetLists, answer: &mut Answer) -> io::Result<()> {
     for row in lists.rows()?.as_slice() {
-        let places = row.places;
-        answer.extend_from_slice(row.name.as_slice())?;
-        write!(answer, " {places}\n")?;
+        answer.add(row.name.as_slice())?;
+        answer.say(row.places)?;
+        answer.add(b"\n")?;
     }
     Ok(())
 }
 
 // The bytes of a name, or `none`.
-fn add_name(name: Option<SetName>, answer: &mut Vec<u8>) -> io::Result<()> {
+fn add_name(name: Option<SetName>, answer: &mut Answer) -> io::Result<()> {
     match name {
-        Some(name) => Ok(answer.extend_from_slice(name.as_slice())?),
-        None => write!(answer, "none"),
+        Some(name) => answer.add(name.as_slice()),
+        None => answer.say("none"),
     }
 }
 
@@ -182,7 +202,7 @@ fn answer_names(
     alloc: Global,
     call: &str,
     mut given: Arguments,
-    answer: &mut Vec<u8>,
+    answer: &mut Answer,
 ) -> io::Result<()> {
     let name = SetName::new(&given.bytes(alloc)?);
     if call == "name" {
@@ -193,7 +213,7 @@ fn answer_names(
         (Some(name), Some(other)) => {
             let copy = name;
             let is_same = copy == other;
-            write!(answer, "{is_same}")
+            answer.say(is_same)
         }
         _ => Err(no_data()),
     }
