@@ -1,237 +1,170 @@
-// Lines, books and archives, called as a library.
+// Calls on lines, books and texts of tunes:
+//
+//     lines TEXT           from where to where each line goes, and its text with a bar behind it
+//     count-lines TEXT     how many lines there are
+//     split LONGEST BOOK   how many tunes the book has, or why it is refused; the texts are kept
+//     judge LONGEST BOOK   the same of a book that is judged first
+//     text PLACE           the kept text at a place, from 1
+//     copy PLACE           a copy of it
+//     write NUMBER..       the book of the kept texts, with these numbers
+//     bytes TEXT           a copy of the bytes
+//     stored LONGEST LETTERS TEXT
+//                          `tune` where so many letters A with this text behind them are the text
+//                          of a tune of at most so many bytes; `handed back` where they are not
 ghost use Rattle.std.specs.Prelude.{◌≤◌};
 
-use abc_fields::{BookFault, ByteText, Lines, TuneFault, judge_book, split_book};
+use crate::answer::Answer;
+use crate::arguments::{Arguments, no_data};
+use crate::cases::Bench;
+use abc_fields::{BookFault, ByteText, Lines, TuneText, judge_book, split_book};
 use std::alloc::Global;
-use std::process::Abort;
-use std::test::Fail;
+use std::fs::{File, Files};
+use std::io;
 use tune_books::write_book;
-use tune_store::{Command, ListArchive, Refusal, Reply, Tune, TuneStore};
 
-#[test]
-fn reads_lines_with_each_ending(rt: HostRuntime) {
-    let text = b"a\nbc\r\n\rd\r\r\n\n e";
-    let wanted = [
-        (0, 1, b"a".as_slice()),
-        (2, 4, b"bc"),
-        (6, 6, b""),
-        (7, 8, b"d"),
-        (9, 9, b""),
-        (11, 11, b""),
-        (12, 14, b" e"),
-    ];
-    let mut lines = Lines::new(text);
-    for (from, to, line) in wanted {
-        let found = lines.next().map(|l| (l.from, l.to, l.text));
-        assert_eq!(&rt; found, Some((from, to, line)));
-    }
-    assert!(&rt; lines.next().is_none());
-    assert!(&rt; Lines::new(b"").next().is_none());
-    assert_eq!(&rt; Lines::new(b"\n").count(), 1);
-    assert_eq!(&rt; Lines::new(b"\xef\xbb\xbf").count(), 1);
+// The greatest length of a tune's text that may be asked for.
+const LONGEST: usize = 64_000;
+
+/// The texts of the tunes of a book.
+#[derive(Drop)]
+pub(crate) struct Books {
+    alloc: Global,
+    tunes: Vec<TuneText>,
 }
 
-#[test]
-fn splits_a_book_into_the_texts_of_its_tunes(rt: HostRuntime) -> Result<(), Fail> {
-    let book = b"\n \nX:5\nT:a\nK:C\nX:\nT:b\nK:C\nABc|\n\nfree text\nK:D\n\nX:5\nK:C";
-    let tunes = split_book(rt.alloc(), book, 14)?;
-    assert_eq!(&rt; tunes.len(), 3);
-    for (place, wanted) in [
-        (0, b"T:a\nK:C\n".as_slice()),
-        (1, b"T:b\nK:C\nABc|\n"),
-        (2, b"K:C\n"),
-    ] {
-        assert_eq!(&rt; tunes.get(place).map(|tune| tune.bytes()), Some(wanted));
-    }
-    Ok(())
-}
-
-#[test]
-fn judges_a_book_before_it_makes_texts(rt: HostRuntime) -> Result<(), Fail> {
-    let book = b"\xef\xbb\xbfR:reel\r\n\r\nX:1\r\nK:C\r\nX:2\rR:jig\rK:D";
-    let judged = judge_book(rt.alloc(), book, 11)?;
-    assert_eq!(&rt; judged.count(), 2);
-    let tunes = judged.texts(rt.alloc())?;
-    assert_eq!(&rt; tunes.len(), 2);
-    for (place, wanted) in [(0, b"R:reel\nK:C\n".as_slice()), (1, b"R:jig\nK:D\n")] {
-        assert_eq!(&rt; tunes.get(place).map(|tune| tune.bytes()), Some(wanted));
-    }
-    let fault = judge_book(rt.alloc(), book, 10).err();
-    assert_eq!(&rt;
-        fault,
-        Some(BookFault::BadTune {
-            place: 1,
-            fault: TuneFault::TooLong,
-        })
-    );
-    Ok(())
-}
-
-// Checks the texts of the tunes of a book.
-fn check_texts<R: AllocGlobal + Abort>(rt: &R, book: &[u8], wanted: &[&[u8]]) -> Result<(), Fail> {
-    let tunes = split_book(rt.alloc(), book, 16_000)?;
-    assert_eq!(rt; tunes.len(), wanted.len());
-    for (tune, text) in tunes.iter().zip(wanted) {
-        assert_eq!(rt; tune.bytes(), *text);
-    }
-    Ok(())
-}
-
-// Where a header is long, and a tune carries few of its lines.
-#[test]
-fn carries_lines_of_a_long_header_in_order(rt: HostRuntime) -> Result<(), Fail> {
-    let mut header = Vec::new(rt.alloc());
-    for line in [b"C:a\n".as_slice(), b"U:b\n", b"C:c\n", b"U:d\n"] {
-        header.extend_from_slice(line)?;
-        for _ in 0..10 {
-            header.extend_from_slice(b"N:e\n")?;
+impl Bench for Books {
+    fn new(alloc: Global) -> Books {
+        Books {
+            alloc,
+            tunes: Vec::new(alloc),
         }
     }
-    let mut book = Vec::from_slice(rt.alloc(), &header)?;
-    book.extend_from_slice(b"\nX:1\nN:f\nK:C\n\nX:2\nK:D\n\nX:3\nC:g\nN:h\nK:E\nN:i\n")?;
-    header.extend_from_slice(b"K:D\n")?;
-    let wanted = [
-        b"N:f\nC:a\nU:b\nC:c\nU:d\nK:C\n".as_slice(),
-        &header,
-        b"C:g\nN:h\nU:b\nU:d\nK:E\nN:i\n",
-    ];
-    check_texts(&rt, &book, &wanted)
+
+    fn call<R: AllocGlobal + Files<File = File>>(
+        &mut self,
+        _rt: &R,
+        name: &str,
+        given: Arguments,
+        answer: &mut Answer,
+    ) -> io::Result<()> {
+        match name {
+            "lines" => show_lines(self.alloc, given, answer),
+            "count-lines" => count_lines(self.alloc, given, answer),
+            "split" | "judge" => self.take_book(name, given, answer),
+            "text" | "copy" => self.show_text(name, given, answer),
+            "write" => self.write(given, answer),
+            "bytes" => copy_bytes(self.alloc, given, answer),
+            "stored" => show_stored(self.alloc, given, answer),
+            _ => Err(no_data()),
+        }
+    }
 }
 
-#[test]
-fn carries_lines_of_a_short_header_in_order(rt: HostRuntime) -> Result<(), Fail> {
-    let book = b"C:a\nN:b\n+:c\nC:d\nN:e\n\nX:1\nK:C\n\nX:2\nN:f\nK:D\n\nX:3\nC:g\nN:h\nK:E\n";
-    let wanted = [
-        b"C:a\nN:b\n+:c\nC:d\nN:e\nK:C\n".as_slice(),
-        b"N:f\nC:a\nC:d\nK:D\n",
-        b"C:g\nN:h\nK:E\n",
-    ];
-    check_texts(&rt, book, &wanted)
+impl Books {
+    // Takes the texts of a book, or answers why it is refused.
+    fn take_book(
+        &mut self,
+        call: &str,
+        mut given: Arguments,
+        answer: &mut Answer,
+    ) -> io::Result<()> {
+        let longest = given.size()?;
+        let book = given.text(self.alloc)?;
+        if longest > LONGEST {
+            return Err(no_data());
+        }
+        let texts = if call == "judge" {
+            judged_texts(self.alloc, &book, longest)
+        } else {
+            split_book(self.alloc, &book, longest)
+        };
+        match texts {
+            Ok(tunes) => {
+                let count = tunes.len();
+                self.tunes = tunes;
+                answer.say(count)
+            }
+            Err(fault) => answer.name(fault),
+        }
+    }
+
+    // The text at a place, or a copy of it.
+    fn show_text(&self, call: &str, mut given: Arguments, answer: &mut Answer) -> io::Result<()> {
+        let index = given.size()?.checked_sub(1).ok_or(no_data())?;
+        let text = self.tunes.get(index).ok_or(no_data())?;
+        if call == "copy" {
+            let copy = text.copy(self.alloc)?;
+            return answer.add(copy.bytes());
+        }
+        answer.add(text.bytes())
+    }
+
+    // The book of these texts, with these numbers.
+    fn write(&self, mut given: Arguments, answer: &mut Answer) -> io::Result<()> {
+        let mut numbers = Vec::new(self.alloc);
+        for _ in 0..self.tunes.len() {
+            numbers.push(given.number()?)?;
+        }
+        let numbers = numbers.as_slice();
+        let texts = self.tunes.as_slice();
+        if numbers.len() != texts.len() {
+            return Err(no_data());
+        }
+        let book = write_book(self.alloc, numbers, texts)?;
+        answer.add(book.as_slice())
+    }
 }
 
-// The refusal of a book.
-fn refusal(alloc: Global, book: &[u8], longest: usize) -> Option<BookFault>
+// The texts of a book that is judged first, if as many were counted.
+fn judged_texts(alloc: Global, book: &[u8], longest: usize) -> Result<Vec<TuneText>, BookFault>
     requires { longest ≤ 64000 }
 {
-    split_book(alloc, book, longest).err()
-}
-
-#[test]
-fn refuses_books(rt: HostRuntime) {
-    let no_key = TuneFault::NoKey;
-    let too_long = TuneFault::TooLong;
-    for (book, longest, wanted) in [
-        (b"".as_slice(), 14, BookFault::NoTune),
-        (b" \n\t\n", 14, BookFault::NoTune),
-        (b"a\n", 14, BookFault::NoTune),
-        (b"\xef\xbb\xbf\xef\xbb\xbfX:1\nK:C\n", 14, BookFault::NoTune),
-        (
-            b"X:1\nK:C\nX:2\nT:a\n",
-            14,
-            BookFault::BadTune {
-                place: 2,
-                fault: no_key,
-            },
-        ),
-        (
-            b"X:1\nK:C\n",
-            3,
-            BookFault::BadTune {
-                place: 1,
-                fault: too_long,
-            },
-        ),
-        (
-            b"X:1\nT:abc\n",
-            3,
-            BookFault::BadTune {
-                place: 1,
-                fault: no_key,
-            },
-        ),
-        (
-            b"X:1\nK:C\nX:2\nK:C\nABc|\n\nX:3\n",
-            8,
-            BookFault::BadTune {
-                place: 2,
-                fault: too_long,
-            },
-        ),
-    ] {
-        assert_eq!(&rt; refusal(rt.alloc(), book, longest), Some(wanted));
+    let judged = judge_book(alloc, book, longest)?;
+    let texts = judged.texts(alloc)?;
+    if texts.len() == judged.count() {
+        Ok(texts)
+    } else {
+        Err(BookFault::NoTune)
     }
 }
 
-#[test]
-fn copies_are_their_sources(rt: HostRuntime) -> Result<(), Fail> {
-    let book = b"X:1\nT:\xff\nK:C\n";
-    assert_eq!(&rt;
-        ByteText::copy_of(rt.alloc(), book)?.as_slice(),
-        book.as_slice()
-    );
-    let tunes = split_book(rt.alloc(), book, 16_000)?;
-    let tune = tunes.first().ok_or("no tune")?;
-    assert_eq!(&rt; tune.copy(rt.alloc())?.bytes(), b"T:\xff\nK:C\n".as_slice());
-    Ok(())
-}
-
-// An archive of 20,000 tunes `K:C`, imported one by one.
-fn full_archive(alloc: Global, import: &Command) -> Result<ListArchive, Fail> {
-    let mut archive = ListArchive::new(alloc);
-    for _ in 0..20_000 {
-        archive.apply(import)?;
-    }
-    Ok(archive)
-}
-
-// Checks the tune of a number in that archive.
-fn check_tune<R: AllocGlobal + Abort>(
-    rt: &R,
-    archive: &mut ListArchive,
-    number: u32,
-) -> Result<(), Fail> {
-    let tune = shown(archive.apply(&Command::Show(number))?)?;
-    assert_eq!(rt; (tune.number, tune.revision), (number, 1));
-    assert_eq!(rt; tune.text.bytes(), b"K:C\n".as_slice());
-    let copy = tune.copy(rt.alloc())?;
-    assert_eq!(rt; copy.text.bytes(), b"K:C\n".as_slice());
-    Ok(())
-}
-
-#[test]
-fn holds_as_many_tunes_as_it_may(rt: HostRuntime) -> Result<(), Fail> {
-    let import = Command::Import(ByteText::copy_of(rt.alloc(), b"X:1\nK:C\n")?);
-    let mut archive = full_archive(rt.alloc(), &import)?;
-    let refusal = archive.apply(&import).err();
-    assert_eq!(&rt; refusal, Some(Refusal::ArchiveFull));
-    let refusal = archive.apply(&Command::Show(20_001)).err();
-    assert_eq!(&rt; refusal, Some(Refusal::Unknown { number: 20_001 }));
-    for number in [1, 2, 9_999, 10_000, 19_999, 20_000] {
-        check_tune(&rt, &mut archive, number)?;
+// For each line where it is from, where it ends, and its text, with a bar behind it.
+fn show_lines(alloc: Global, mut given: Arguments, answer: &mut Answer) -> io::Result<()> {
+    for line in Lines::new(&given.text(alloc)?) {
+        answer.say(line.from)?;
+        answer.say(line.to)?;
+        answer.add(b" ")?;
+        answer.add(line.text)?;
+        answer.add(b"|")?;
     }
     Ok(())
 }
 
-// The tune of a reply that shows one.
-fn shown(reply: Reply) -> Result<Tune, Fail> {
-    match reply {
-        Reply::Shown(tune) => Ok(tune),
-        _ => Err(Fail::from("no tune is shown")),
+fn count_lines(alloc: Global, mut given: Arguments, answer: &mut Answer) -> io::Result<()> {
+    let mut count: u32 = 0;
+    for _ in Lines::new(&given.text(alloc)?) {
+        count = count.saturating_add(1);
     }
+    answer.say(count)
 }
 
-#[test]
-fn writes_books(rt: HostRuntime) -> Result<(), Fail> {
-    let texts = split_book(rt.alloc(), b"X:1\nT:a\nK:C\nX:2\nK:D\nABc|", 16_000)?;
-    let texts = texts.as_slice();
-    let numbers = [40, 7].as_slice();
-    assert!(&rt; numbers.len() == texts.len());
-    let book = write_book(rt.alloc(), numbers, texts)?;
-    assert_eq!(&rt;
-        book.as_slice(),
-        b"%abc-2.1\n\nX:40\nT:a\nK:C\n\nX:7\nK:D\nABc|\n".as_slice()
-    );
-    let book = write_book(rt.alloc(), &[], &[])?;
-    assert_eq!(&rt; book.as_slice(), b"%abc-2.1\n".as_slice());
-    Ok(())
+fn copy_bytes(alloc: Global, mut given: Arguments, answer: &mut Answer) -> io::Result<()> {
+    let copy = ByteText::copy_of(alloc, &given.text(alloc)?)?;
+    answer.add(copy.as_slice())
+}
+
+// Whether stored bytes are the text of a tune with at most so many bytes: letters, so many of them,
+// and then a text. They are the bytes of the text, or are handed back.
+fn show_stored(alloc: Global, mut given: Arguments, answer: &mut Answer) -> io::Result<()> {
+    let longest = given.size()?;
+    let mut stored = vec![in alloc; b'A'; given.size()?]?;
+    stored.extend_from_slice(&given.text(alloc)?)?;
+    if longest > LONGEST {
+        return Err(no_data());
+    }
+    match TuneText::from_stored(ByteText::copy_of(alloc, &stored)?, longest) {
+        Ok(tune) if tune.bytes() == stored.as_slice() => answer.say("tune"),
+        Err(back) if back.as_slice() == stored.as_slice() => answer.say("handed back"),
+        _ => answer.say("other bytes"),
+    }
 }

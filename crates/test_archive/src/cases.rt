@@ -1,34 +1,94 @@
-// A script on an empty archive, and the replies that it has to give, byte for byte.
+// Cases of a file, each a list of calls with the answers that are wanted.
+use crate::answer::Answer;
+use crate::arguments::{Arguments, bytes_of, no_data};
 use std::alloc::Global;
-use std::io::Write;
-use std::process::Abort;
-use std::test::Fail;
-use tune_cli::{RunEnd, run};
-use tune_store::ListArchive;
+use std::fs::{File, Files};
+use std::{fs, io};
 
-pub(crate) fn check<R: AllocGlobal + Abort>(
+/// What the calls of a case are made on. Each case begins with a new one.
+pub(crate) trait Bench: Drop {
+    fn new(alloc: Global) -> Self;
+
+    /// Makes the call of a name, and writes its answer.
+    fn call<R: AllocGlobal + Files<File = File>>(
+        &mut self,
+        rt: &R,
+        name: &str,
+        given: Arguments,
+        answer: &mut Answer,
+    ) -> io::Result<()>;
+}
+
+/// How many cases there were.
+#[derive(Clone, Copy)]
+pub(crate) struct Count {
+    pub(crate) all: u32,
+    pub(crate) as_written: u32,
+}
+
+impl Count {
+    pub(crate) const NONE: Count = Count {
+        all: 0,
+        as_written: 0,
+    };
+
+    // With a case more.
+    fn with(self, as_written: bool) -> Count {
+        Count {
+            all: self.all.saturating_add(1),
+            as_written: self.as_written.saturating_add(u32::from(as_written)),
+        }
+    }
+}
+
+/// Tries the cases of a file, and counts them on.
+pub(crate) fn try_cases<B: Bench, R: AllocGlobal + Files<File = File> + Print>(
     rt: &R,
-    name: &str,
-    script: &[u8],
-    replies: &[u8],
-) -> Result<(), Fail> {
-    let mut reader = script;
-    let mut writer = Vec::new(rt.alloc());
-    let mut archive = ListArchive::new(rt.alloc());
-    let end = run(rt.alloc(), &mut reader, &mut writer, &mut archive);
-    assert_eq!(rt; end, RunEnd::Ended, "{name}");
-    assert_eq!(rt; writer.as_slice(), replies, "{name}");
-    Ok(())
+    file: &str,
+    mut count: Count,
+) -> io::Result<Count> {
+    let text = fs::read_to_string(rt, file)?;
+    for case in text.as_str().split("\n\n") {
+        count = count.with(try_case::<B, R>(rt, case)?);
+    }
+    Ok(count)
 }
 
-// Adds a line of these words and the length of a book, and the book.
-pub(crate) fn add_book(script: &mut Vec<u8>, words: &str, book: &[u8]) -> Result<(), Fail> {
-    let len = book.len();
-    write!(script, "{words} {len}\n")?;
-    script.extend_from_slice(book)?;
-    Ok(())
+// Tries a case, and says whether each call answers as written.
+fn try_case<B: Bench, R: AllocGlobal + Files<File = File> + Print>(
+    rt: &R,
+    case: &str,
+) -> io::Result<bool> {
+    let (name, calls) = case.split_once('\n').ok_or(no_data())?;
+    let mut bench = B::new(rt.alloc());
+    let mut as_written = true;
+    for line in calls.lines() {
+        if let Some(answer) = other_answer(rt, &mut bench, line)? {
+            as_written = false;
+            let answer = String::from_utf8_lossy(rt.alloc(), answer.as_slice())?;
+            println!(rt; "{name}: {line}: it answers {answer:?}")?;
+        }
+    }
+    if as_written {
+        println!(rt; "{name}: as written")?;
+    }
+    Ok(as_written)
 }
 
-pub(crate) fn letters_of(alloc: Global, letters: usize) -> Result<Vec<u8>, Fail> {
-    Ok(vec![in alloc; b'A'; letters]?)
+// What the call of a line answers, where this is not what is wanted.
+fn other_answer<B: Bench, R: AllocGlobal + Files<File = File>>(
+    rt: &R,
+    bench: &mut B,
+    line: &str,
+) -> io::Result<Option<Answer>> {
+    let (call, wanted) = line.split_once(" = ").unwrap_or((line, ""));
+    let (name, rest) = call.split_once(' ').unwrap_or((call, ""));
+    let wanted = bytes_of(rt.alloc(), wanted)?;
+    let mut answer = Answer::new(rt.alloc());
+    bench.call(rt, name, Arguments::new(rest), &mut answer)?;
+    if answer.as_slice() == wanted.as_slice() {
+        Ok(None)
+    } else {
+        Ok(Some(answer))
+    }
 }

@@ -12,8 +12,3 @@ mod recorded_store;
 pub use any_store::{apply_to_open, apply_two};
 pub use disk_store::DiskStore;
 pub use recorded_store::RecordedStore;
-
-#[cfg(test)]
-mod faulty_catalog;
-#[cfg(test)]
-mod tests;

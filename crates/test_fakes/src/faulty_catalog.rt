@@ -1,8 +1,8 @@
-// A catalog of which some texts cannot be read.
+// Calls on a catalog of which some texts cannot be read.
+use crate::calls::no_data;
 use abc_fields::{ByteText, TuneText};
 use std::alloc::Global;
-use std::process::Abort;
-use std::test::Fail;
+use std::io;
 use tune_queries::{Query, QueryText};
 use tune_sets::SetLists;
 use tune_store::{Catalog, Command, Label, ListArchive, Plan, Refusal, Reply, TuneStore, decide};
@@ -83,61 +83,53 @@ impl Catalog for FaultyCatalog {
 }
 
 // Two tunes, of which the text of the first alone can be read.
-fn two_tunes(alloc: Global, fails: bool) -> Result<FaultyCatalog, Fail> {
+fn two_tunes(alloc: Global, fails: bool) -> io::Result<FaultyCatalog> {
     let mut archive = ListArchive::new(alloc);
     let book = ByteText::copy_of(alloc, b"X:1\nT:air\nK:C\nX:2\nT:airs\nK:D\n")?;
-    archive.apply(&Command::Import(book))?;
-    Ok(FaultyCatalog {
-        archive,
-        readable: 1,
-        fails,
-    })
-}
-
-// Each question that reads both texts ends at the second, without a reply.
-fn check_questions<R: AllocGlobal + Abort>(
-    rt: &R,
-    fails: bool,
-    wanted: Refusal,
-) -> Result<(), Fail> {
-    let title = QueryText::new(ByteText::copy_of(rt.alloc(), b"air")?).ok_or("too long")?;
-    for question in [
-        Command::Find(Query::Title(title)),
-        Command::Titles,
-        Command::ExportAll,
-        Command::Show(2),
-    ] {
-        let mut catalog = two_tunes(rt.alloc(), fails)?;
-        assert_eq!(rt;
-            decide(rt.alloc(), &mut catalog, &question).err(),
-            Some(wanted)
-        );
+    match archive.apply(&Command::Import(book)) {
+        Ok(_) => Ok(FaultyCatalog {
+            archive,
+            readable: 1,
+            fails,
+        }),
+        Err(_) => Err(no_data()),
     }
-    Ok(())
 }
 
-#[test]
-fn questions_end_at_a_text_that_cannot_be_read(rt: HostRuntime) -> Result<(), Fail> {
-    check_questions(&rt, true, Refusal::Device)?;
-    check_questions(&rt, false, Refusal::OutOfMemory)
+// The command of a name.
+fn command(alloc: Global, name: &str) -> io::Result<Command> {
+    match name {
+        "find-air" => match QueryText::new(ByteText::copy_of(alloc, b"air")?) {
+            Some(title) => Ok(Command::Find(Query::Title(title))),
+            None => Err(no_data()),
+        },
+        "titles" => Ok(Command::Titles),
+        "export" => Ok(Command::ExportAll),
+        "show-1" => Ok(Command::Show(1)),
+        "show-2" => Ok(Command::Show(2)),
+        "delete-2" => Ok(Command::Delete(2)),
+        _ => Err(no_data()),
+    }
 }
 
-// What needs no text that cannot be read is decided as ever.
-#[test]
-fn reads_no_other_text(rt: HostRuntime) -> Result<(), Fail> {
-    let mut catalog = two_tunes(rt.alloc(), true)?;
-    let Plan { change: _, reply } = decide(rt.alloc(), &mut catalog, &Command::Show(1))?;
+// What is decided of a command.
+pub(crate) fn asked(alloc: Global, name: &str, fails: bool) -> io::Result<String> {
+    let mut catalog = two_tunes(alloc, fails)?;
+    match decide(alloc, &mut catalog, &command(alloc, name)?) {
+        Ok(Plan { change: _, reply }) => shown(alloc, reply),
+        Err(refusal) => Ok(format!(in alloc; "{refusal:?}")?),
+    }
+}
+
+// A reply that shows or deletes a tune.
+fn shown(alloc: Global, reply: Reply) -> io::Result<String> {
     match reply {
         Reply::Shown(tune) => {
-            assert_eq!(&rt; (tune.number, tune.revision), (1, 1));
-            assert_eq!(&rt; tune.text.bytes(), b"T:air\nK:C\n".as_slice());
+            let text = String::from_utf8_lossy(alloc, tune.text.bytes())?;
+            let (number, revision) = (tune.number, tune.revision);
+            Ok(format!(in alloc; "{number} {revision} {text:?}")?)
         }
-        _ => return Err(Fail::from("no tune is shown")),
+        Reply::Deleted { number } => Ok(format!(in alloc; "{number} is deleted")?),
+        _ => Ok(format!(in alloc; "another reply")?),
     }
-    let Plan { change: _, reply } = decide(rt.alloc(), &mut catalog, &Command::Delete(2))?;
-    match reply {
-        Reply::Deleted { number } => assert_eq!(&rt; number, 2),
-        _ => return Err(Fail::from("no tune is deleted")),
-    }
-    Ok(())
 }
