@@ -18,7 +18,6 @@ use crate::arguments::{Arguments, no_data};
 use crate::cases::Bench;
 use abc_fields::{BookFault, ByteText, Lines, TuneText, judge_book, split_book};
 use std::alloc::Global;
-use std::fs::{File, Files};
 use std::io;
 use tune_books::write_book;
 
@@ -40,13 +39,7 @@ impl Bench for Books {
         }
     }
 
-    fn call<R: AllocGlobal + Files<File = File>>(
-        &mut self,
-        _rt: &R,
-        name: &str,
-        given: Arguments,
-        answer: &mut Answer,
-    ) -> io::Result<()> {
+    fn call(&mut self, name: &str, given: Arguments, answer: &mut Answer) -> io::Result<()> {
         match name {
             "lines" => show_lines(self.alloc, given, answer),
             "count-lines" => count_lines(self.alloc, given, answer),

@@ -2,7 +2,7 @@
 use crate::answer::Answer;
 use crate::arguments::{Arguments, bytes_of, no_data};
 use std::alloc::Global;
-use std::fs::{File, Files};
+use std::fs::Files;
 use std::{fs, io};
 
 /// What the calls of a case are made on. Each case begins with a new one.
@@ -10,13 +10,7 @@ pub(crate) trait Bench: Drop {
     fn new(alloc: Global) -> Self;
 
     /// Makes the call of a name, and writes its answer.
-    fn call<R: AllocGlobal + Files<File = File>>(
-        &mut self,
-        rt: &R,
-        name: &str,
-        given: Arguments,
-        answer: &mut Answer,
-    ) -> io::Result<()>;
+    fn call(&mut self, name: &str, given: Arguments, answer: &mut Answer) -> io::Result<()>;
 }
 
 /// How many cases there were.
@@ -42,7 +36,7 @@ impl Count {
 }
 
 /// Tries the cases of a file, and counts them on.
-pub(crate) fn try_cases<B: Bench, R: AllocGlobal + Files<File = File> + Print>(
+pub(crate) fn try_cases<B: Bench, R: AllocGlobal + Files + Print>(
     rt: &R,
     file: &str,
     mut count: Count,
@@ -55,15 +49,12 @@ pub(crate) fn try_cases<B: Bench, R: AllocGlobal + Files<File = File> + Print>(
 }
 
 // Tries a case, and says whether each call answers as written.
-fn try_case<B: Bench, R: AllocGlobal + Files<File = File> + Print>(
-    rt: &R,
-    case: &str,
-) -> io::Result<bool> {
+fn try_case<B: Bench, R: AllocGlobal + Print>(rt: &R, case: &str) -> io::Result<bool> {
     let (name, calls) = case.split_once('\n').ok_or(no_data())?;
     let mut bench = B::new(rt.alloc());
     let mut as_written = true;
     for line in calls.lines() {
-        if let Some(answer) = other_answer(rt, &mut bench, line)? {
+        if let Some(answer) = other_answer(rt.alloc(), &mut bench, line)? {
             as_written = false;
             let answer = String::from_utf8_lossy(rt.alloc(), answer.as_slice())?;
             println!(rt; "{name}: {line}: it answers {answer:?}")?;
@@ -76,16 +67,12 @@ fn try_case<B: Bench, R: AllocGlobal + Files<File = File> + Print>(
 }
 
 // What the call of a line answers, where this is not what is wanted.
-fn other_answer<B: Bench, R: AllocGlobal + Files<File = File>>(
-    rt: &R,
-    bench: &mut B,
-    line: &str,
-) -> io::Result<Option<Answer>> {
+fn other_answer<B: Bench>(alloc: Global, bench: &mut B, line: &str) -> io::Result<Option<Answer>> {
     let (call, wanted) = line.split_once(" = ").unwrap_or((line, ""));
     let (name, rest) = call.split_once(' ').unwrap_or((call, ""));
-    let wanted = bytes_of(rt.alloc(), wanted)?;
-    let mut answer = Answer::new(rt.alloc());
-    bench.call(rt, name, Arguments::new(rest), &mut answer)?;
+    let wanted = bytes_of(alloc, wanted)?;
+    let mut answer = Answer::new(alloc);
+    bench.call(name, Arguments::new(rest), &mut answer)?;
     if answer.as_slice() == wanted.as_slice() {
         Ok(None)
     } else {

@@ -9,7 +9,6 @@ use crate::arguments::{Arguments, bytes_of, no_data};
 use crate::cases::Bench;
 use crate::screen::Screen;
 use std::alloc::Global;
-use std::fs::{File, Files};
 use std::io;
 use tune_cli::{WordsFault, action, report};
 
@@ -24,13 +23,7 @@ impl Bench for CommandLines {
         CommandLines { alloc }
     }
 
-    fn call<R: AllocGlobal + Files<File = File>>(
-        &mut self,
-        _rt: &R,
-        name: &str,
-        given: Arguments,
-        answer: &mut Answer,
-    ) -> io::Result<()> {
+    fn call(&mut self, name: &str, given: Arguments, answer: &mut Answer) -> io::Result<()> {
         let words = words_of(self.alloc, given.rest())?;
         match name {
             "action" => show_action(self.alloc, &words, answer),

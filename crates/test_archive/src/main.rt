@@ -17,6 +17,7 @@ mod books;
 mod cases;
 mod command_lines;
 mod many_sets;
+mod no_files;
 mod pieces;
 mod pipes;
 mod screen;

@@ -18,6 +18,9 @@
 //     status, status-reader-fails, status-writer-fails CALLS
 //                          the status of the program's `list`; a reader that fails does so behind
 //                          the script
+//     file-status make, file-status run, file-status check
+//                          the status of the program's action on a file that cannot be opened, and
+//                          what it writes
 //     tune NUMBER          a tune's number, revision and text, and those of its copy
 //     wear                 the number of the last tune, when the archive was filled over and over
 //
@@ -25,12 +28,12 @@
 use crate::answer::Answer;
 use crate::arguments::{Arguments, no_data};
 use crate::cases::Bench;
+use crate::no_files::NoFiles;
 use crate::pieces::add_piece;
 use crate::pipes::{AskingReader, CountingWriter, FailingReader, FailingWriter, Flushes};
 use crate::wear::wear;
 use std::alloc::Global;
 use std::cell::Cell;
-use std::fs::{File, Files};
 use std::io;
 use tune_cli::{Action, RunEnd, act, run};
 use tune_store::{Command, ListArchive, Reply, Tune, TuneStore};
@@ -54,21 +57,16 @@ impl Bench for Scripts {
         }
     }
 
-    fn call<R: AllocGlobal + Files<File = File>>(
-        &mut self,
-        rt: &R,
-        name: &str,
-        given: Arguments,
-        answer: &mut Answer,
-    ) -> io::Result<()> {
+    fn call(&mut self, name: &str, given: Arguments, answer: &mut Answer) -> io::Result<()> {
         match name {
             "script" | "replies" | "next" | "anew" | "cut" => self.write(name, given),
             "run" | "reader-fails" | "writer-fails" | "writer-fails-each" | "in-turn" => {
                 self.run(name, given, answer)
             }
             "status" | "status-reader-fails" | "status-writer-fails" => {
-                self.list(rt, name, given, answer)
+                self.list(name, given, answer)
             }
+            "file-status" => self.act_on_file(given, answer),
             "tune" => self.show_tune(given, answer),
             "wear" => {
                 let last = wear(self.alloc, &mut self.archive);
@@ -195,27 +193,49 @@ impl Scripts {
     }
 
     // The status of the program's `list`, for the script.
-    fn list<T: AllocGlobal + Files<File = File>>(
-        &self,
-        rt: &T,
-        call: &str,
-        mut given: Arguments,
-        answer: &mut Answer,
-    ) -> io::Result<()> {
+    fn list(&self, call: &str, mut given: Arguments, answer: &mut Answer) -> io::Result<()> {
+        let rt = NoFiles { alloc: self.alloc };
         let mut text = self.script.as_slice();
         if call == "status-writer-fails" {
             let mut writer = FailingWriter::new(given.number()?);
-            let status = act(rt, &Action::List, &mut text, &mut writer);
+            let status = act(&rt, &Action::List, &mut text, &mut writer);
             return answer.say(status);
         }
         let mut written = Vec::new(self.alloc);
         let status = if call == "status" {
-            act(rt, &Action::List, &mut text, &mut written)
+            act(&rt, &Action::List, &mut text, &mut written)
         } else {
-            act(rt, &Action::List, &mut FailingReader { text }, &mut written)
+            act(
+                &rt,
+                &Action::List,
+                &mut FailingReader { text },
+                &mut written,
+            )
         };
         answer.say(status)?;
         say_difference(&written, &self.replies, answer)
+    }
+
+    // The status of an action on a file that cannot be opened, and what is written.
+    fn act_on_file(&self, mut given: Arguments, answer: &mut Answer) -> io::Result<()> {
+        let file = String::from_str(self.alloc, "tunes.abcx")?;
+        let action = match given.word() {
+            "make" => Action::Make(file),
+            "run" => Action::Run(file),
+            "check" => Action::Check(file),
+            _ => return Err(no_data()),
+        };
+        let mut text = self.script.as_slice();
+        let mut written = Vec::new(self.alloc);
+        let status = act(
+            &NoFiles { alloc: self.alloc },
+            &action,
+            &mut text,
+            &mut written,
+        );
+        answer.say(status)?;
+        answer.add(b" ")?;
+        answer.add(written.as_slice())
     }
 
     // The number of a tune, its revision, its text and that of its copy.

@@ -25,7 +25,6 @@ use crate::arguments::{Arguments, no_data};
 use crate::cases::Bench;
 use crate::many_sets::{fill_set, make_sets, make_week, of_places, of_sets, own_sets};
 use std::alloc::Global;
-use std::fs::{File, Files};
 use std::io;
 use tune_sets::{SetLists, SetName};
 
@@ -46,13 +45,7 @@ impl Bench for Sets {
         }
     }
 
-    fn call<R: AllocGlobal + Files<File = File>>(
-        &mut self,
-        _rt: &R,
-        name: &str,
-        given: Arguments,
-        answer: &mut Answer,
-    ) -> io::Result<()> {
+    fn call(&mut self, name: &str, given: Arguments, answer: &mut Answer) -> io::Result<()> {
         match name {
             "create" | "add" | "cut" | "drop" | "renumbered" => self.change(name, given, answer),
             "name" | "same" => answer_names(self.alloc, name, given, answer),
