@@ -9,8 +9,9 @@ use abc_fields::TuneText;
 use tune_disk::Disk;
 use tune_format::Row;
 use tune_pages::Fault;
+use tune_queries::Sought;
 use tune_sets::SetLists;
-use tune_store::{Catalog, Label, Refusal};
+use tune_store::{Catalog, Label, Refusal, all_places};
 
 impl<D: Disk> Catalog for Archive<D> {
     ghost use Rattle.tune_contents.specs.Holds.{labels_in};
@@ -96,6 +97,10 @@ impl<D: Disk> Catalog for Archive<D> {
             Some(fetched) => &fetched.text,
             None => unreachable!(),
         }
+    }
+
+    fn candidates(&mut self, _sought: &Sought<'_>) -> Result<Vec<usize>, Refusal> {
+        Ok(all_places(self.alloc, self.contents.rows.len())?)
     }
 }
 

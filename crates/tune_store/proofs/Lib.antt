@@ -12,3 +12,4 @@ pub mod LookUpLemmas
 pub mod InsertLemmas
 pub mod QuestionLemmas
 pub mod ListLemmas
+pub mod CandidateLemmas

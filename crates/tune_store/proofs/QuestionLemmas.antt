@@ -65,7 +65,7 @@ abbrev pub row_if : Bool → ℕ → List ℕ → List IndexRow
 row_if found number text = cond found (record { number = number; title = first_shown (titles_of text) } ∷ []) []
 
 -- as of the first tune
-found_first : (query : Query) (tune : Tune) (tunes : List Tune)
+pub found_first : (query : Query) (tune : Tune) (tunes : List Tune)
     → found query (tune ∷ tunes) ≡ row_if (matches query tune.text) tune.number tune.text ++ found query tunes
 found_first query tune tunes = elim (cases_Bool (matches query tune.text)) [ inl same ↦ rw same refl | inr other ↦ rw other refl ]
 

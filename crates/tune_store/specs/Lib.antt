@@ -10,6 +10,7 @@ pub mod Stops
 pub mod Revisions
 pub mod Places
 pub mod Stores
+pub mod Candidates
 pub mod Labels
 pub mod Plans
 pub mod Inside

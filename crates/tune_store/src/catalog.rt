@@ -1,6 +1,8 @@
 // What a store tells of its tunes.
 ghost use Rattle.std.specs.Prelude.{◌≡◌, ◌≢◌, ◌<◌, ℕ, List, length, slice_index_or, ⊤};
-ghost use Rattle.std.specs.Prelude.{IfSome, IfNone, MatchResult};
+ghost use Rattle.std.specs.Prelude.{IfOk, IfSome, IfNone, MatchResult};
+ghost use Rattle.std.specs.List.{range_with_len};
+ghost use Rattle.tune_store.specs.Candidates.{PlacesRise, HoldsFound};
 ghost use Rattle.tune_store.specs.Labels.{labels_of, LabelsRise};
 ghost use Rattle.tune_store.specs.Plans.{EndsFetch, IsRefusalOfFetch};
 ghost use Rattle.tune_store.specs.State.{State};
@@ -10,6 +12,8 @@ ghost use Rattle.tune_sets.specs.declared.set_lists.TuneSet.{TuneSet};
 
 use crate::command::Refusal;
 use abc_fields::TuneText;
+use std::alloc::{AllocError, Global};
+use tune_queries::Sought;
 use tune_sets::SetLists;
 
 /// What every store knows of a tune without reading its text.
@@ -86,6 +90,16 @@ pub trait Catalog {
         ensures { honest self.now
             → (d : Tune) → result.now ≡ (slice_index_or (state self.now).tunes place d).text };
 
+    /// The places of tunes at which a query is to be tried, rising: that of each tune that it finds
+    /// is among them. It is refused where memory ran out, or the device failed.
+    fn candidates(&mut self, sought: &Sought<'_>) -> Result<Vec<usize>, Refusal>
+        ensures { MatchResult result
+            (λ places. fetched self.old self.new
+            × PlacesRise 0 (length (labels self.old)) places.items
+            × (honest self.new → HoldsFound sought.now (state self.old).tunes places.items))
+            (λ refusal. IsRefusalOfFetch refusal
+            × EndsFetch fetched failed self.old refusal self.new) };
+
     /// Nothing was fetched.
     ghost none_fetched: { (catalog : Self) → fetched catalog catalog };
 
@@ -117,4 +131,15 @@ pub trait Catalog {
     /// The set lists are those that it holds.
     ghost sets_are: { (catalog : Self) → honest catalog
         → sets catalog ≡ (state catalog).sets };
+}
+
+/// The places of so many tunes: what a store without an index tries a query at.
+pub fn all_places(alloc: Global, count: usize) -> Result<Vec<usize>, AllocError>
+    ensures { IfOk result (λ places. places.items ≡ range_with_len 0 count) }
+{
+    let mut places = Vec::with_capacity(alloc, count)?;
+    for place in 0..count {
+        places.push(place)?;
+    }
+    Ok(places)
 }

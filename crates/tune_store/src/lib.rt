@@ -13,7 +13,7 @@ mod tune;
 mod tune_plans;
 mod tune_store;
 
-pub use catalog::{Catalog, Label};
+pub use catalog::{Catalog, Label, all_places};
 pub use command::{Command, Refusal, Reply};
 pub use laws::{law_of_places, law_of_revisions};
 pub use list_archive::ListArchive;

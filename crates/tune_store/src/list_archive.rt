@@ -15,7 +15,7 @@ ghost use Rattle.tune_store.specs.declared.command.Refusal.{Refusal};
 ghost use Rattle.tune_store.specs.Plans.{CanChange, CanChangeTo};
 ghost use Rattle.tune_store.specs.Inside.Lists.{CarriedOut, Made, IsPlaceAfter, state_with};
 
-use crate::catalog::{Catalog, Label};
+use crate::catalog::{Catalog, Label, all_places};
 use crate::command::{Command, Refusal, Reply};
 use crate::plans::{Change, Plan, decide};
 use crate::tune::Tune;
@@ -23,6 +23,7 @@ use crate::tune_store::TuneStore;
 use abc_fields::TuneText;
 use std::alloc::Global;
 use std::marker::Model;
+use tune_queries::Sought;
 use tune_sets::SetLists;
 
 /// A list of tunes and set lists in memory. A clause sees the state.
@@ -125,6 +126,10 @@ impl Catalog for ListArchive {
 
     fn text(&self, place: usize) -> &TuneText {
         &self.tunes[place].text
+    }
+
+    fn candidates(&mut self, _sought: &Sought<'_>) -> Result<Vec<usize>, Refusal> {
+        Ok(all_places(self.alloc, self.tunes.len())?)
     }
 }
 

@@ -1,5 +1,6 @@
 // Answers questions.
-ghost use Rattle.std.specs.Prelude.{◌≡◌, ℕ, List, [], ◌∷◌, ◌++◌, map, None, Some, Ok, Err};
+ghost use Rattle.std.specs.Prelude.{◌≡◌, ◌<◌, ℕ, List, [], ◌∷◌, ◌++◌, map, None, Some, Ok, Err};
+ghost use Rattle.std.specs.Prelude.{length, slice_index_or};
 ghost use Rattle.std.specs.Prelude.{if◌then◌else◌, IfOk, IfErr, OnOk, MatchResult};
 ghost use Rattle.abc_fields.specs.Fields.{titles_of};
 ghost use Rattle.tune_queries.specs.Queries.{finds};
@@ -11,6 +12,7 @@ ghost use Rattle.tune_store.specs.Questions.{titled, row_found, set_shown, expor
 ghost use Rattle.tune_store.specs.Plans.{Decided, EndsFetch, IsRefusalOfPlan, IsRefusalOfFetch};
 ghost use Rattle.tune_store.specs.Inside.Questions.{title_rows};
 ghost use Rattle.tune_store.specs.declared.command.Reply.TheVariants as reply;
+ghost use Rattle.tune_store.specs.declared.tune.Tune.{Tune};
 
 use crate::catalog::Catalog;
 use crate::command::{Command, Refusal, Reply};
@@ -63,12 +65,35 @@ pub(crate) fn find<C: Catalog>(
 {
     let sought = query.sought()?;
     let mut rows = Vec::new(alloc);
-    for place in 0..catalog.len() {
-        let number = catalog.label(place).number;
-        catalog.fetch(place)?;
-        add_if_found(alloc, &mut rows, &sought, number, catalog.text(place))?;
+    let places = catalog.candidates(&sought)?;
+    for place in &places {
+        try_at(alloc, catalog, &mut rows, &sought, *place)?;
     }
     Ok(Plan::answer(Reply::Found(RowList::from_vec(rows))))
+}
+
+// Tries a query at the tune at a place, and puts its row behind these rows where it is found.
+fn try_at<C: Catalog>(
+    alloc: Global,
+    catalog: &mut C,
+    rows: &mut Vec<IndexRow>,
+    sought: &Sought,
+    place: usize,
+) -> Result<(), Refusal>
+    requires { place < length (C.labels catalog.old) }
+    ensures row { OnOk result (C.honest catalog.new → (d : Tune)
+        → let tune = slice_index_or (C.state catalog.old).tunes place d in
+        rows.new.items ≡ rows.old.items ++ (if finds sought.now tune.text
+        then record { number = tune.number; title = first_shown (titles_of tune.text) } ∷ []
+        else [])) }
+    ensures names { IfErr result IsRefusalOfFetch }
+    ensures fetched { MatchResult result (λ _. C.fetched catalog.old catalog.new)
+        (λ refusal. EndsFetch C.fetched C.failed catalog.old refusal catalog.new) }
+{
+    let number = catalog.label(place).number;
+    catalog.fetch(place)?;
+    add_if_found(alloc, rows, sought, number, catalog.text(place))?;
+    Ok(())
 }
 
 // Puts the row of a tune behind these rows, where a query finds it.

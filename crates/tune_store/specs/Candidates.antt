@@ -1,0 +1,17 @@
+-- Which tunes a store looks at where a query is asked.
+use Rattle.std.specs.Prelude.{◌≡◌, ℕ, ◌+◌, ◌<◌, ◌≤◌, List, [], ◌∷◌, length, slice_index_or, true, ⊤}
+use Rattle.std.specs.List.{Contains}
+use Rattle.tune_queries.specs.Queries.{finds}
+use Rattle.tune_queries.specs.declared.sought.Sought.{Sought}
+use Rattle.tune_store.specs.declared.tune.Tune.{Tune}
+
+-- places in a list of so many tunes, each above the one before it, from this one on
+abbrev pub PlacesRise : ℕ → ℕ → List ℕ → Type 0
+PlacesRise low count [] = ⊤
+PlacesRise low count (place ∷ places) =
+    (low ≤ place) × (place < count) × PlacesRise (place + 1) count places
+
+-- among these places is that of each tune that a query finds
+abbrev pub HoldsFound : Sought → List Tune → List ℕ → Type 0
+HoldsFound sought tunes places = (place : ℕ) (d : Tune) → place < length tunes
+    → finds sought (slice_index_or tunes place d).text ≡ true → Contains places place
