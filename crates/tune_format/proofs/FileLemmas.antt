@@ -1,4 +1,5 @@
 -- Pages that hold tunes and sets are read as these, and a file as its pages.
+use Rattle.tune_store.specs.declared.layout.Layout.{Layout}
 use Rattle.std.proofs.Common.{◌≡◌, ◌≢◌, inl, inr, ℕ, zero, suc, ◌+◌, ◌*◌, ◌/◌, ◌^◌, ◌<◌, ◌≤◌, List, [], ◌∷◌, ◌++◌, length, take, drop, replicate}
 use Rattle.std.proofs.Common.{true, false, refl, sym, ◌∙◌, ap, arith, length-append}
 use Rattle.std.proofs.Math.Seq.{take-append_seam, drop-append_seam}
@@ -103,9 +104,9 @@ tunes_read pages (tune ∷ tunes) (part ∷ texts) few rooms holds reads =
     (λ i. tune_of (sym read.0 i) (first i) ∷ tunes_of (length tunes) pages (written_rows (rows_of tunes texts)))
     ∙ (λ i. tune_read tune rooms.0.1 i ∷ tunes_read pages tunes texts few rooms.1 later reads.1 i)
 
-rooms_of : (tunes : List Tune) → greatest tunes < 2 ^ 32 → AllByRecursion IsTune tunes → AllByRecursion HasRoom tunes
-rooms_of [] small each = tt
-rooms_of (tune ∷ tunes) small each = ((omega (arith, small), omega (arith, each.0.revision)), rooms_of tunes (omega (arith, small)) each.1)
+rooms_of : (layout : Layout) (tunes : List Tune) → greatest tunes < 2 ^ 32 → AllByRecursion (IsTune layout) tunes → AllByRecursion HasRoom tunes
+rooms_of layout [] small each = tt
+rooms_of layout (tune ∷ tunes) small each = ((omega (arith, small), omega (arith, each.0.revision)), rooms_of layout tunes (omega (arith, small)) each.1)
 
 -- SETS
 numbers_read : (numbers rest : List ℕ) → AllByRecursion (λ n. n < 2 ^ 32) numbers → numbers_of (length numbers) (written_numbers numbers ++ rest) ≡ numbers
@@ -169,7 +170,7 @@ filed_parts pages tunes sets filed =
     let known = free_once (root_and_trails parts) none filed.parts.apart in
     reads_parts pages parts filed.parts.chains (once_free (trails parts) none known.0.1 known.1.1)
 
-pub tunes_filed : (pages : List (List ℕ)) (tunes : List Tune) (sets : List TuneSet) → Filed pages tunes sets → IsTunes tunes → length pages < 2 ^ 32
+pub tunes_filed : {layout : Layout} → (pages : List (List ℕ)) (tunes : List Tune) (sets : List TuneSet) → Filed pages tunes sets → IsTunes layout tunes → length pages < 2 ^ 32
     → tunes_in pages ≡ tunes
 tunes_filed pages tunes sets filed are few =
     let reads = filed_parts pages tunes sets filed in
@@ -177,7 +178,7 @@ tunes_filed pages tunes sets filed are few =
     let list = ap (chain_at pages) filed.root.list ∙ reads.0.0 ∙ filed.listed in
     let count : length (written_rows rows) / 8 ≡ length tunes = omega (arith, length-rows rows, rows_count tunes filed.texts filed.are_tunes) in
     ap (tunes_listed pages) list ∙ ap (λ n. tunes_of n pages (written_rows rows)) count
-    ∙ tunes_read pages tunes filed.texts few (rooms_of tunes (omega (arith, are.numbers)) are.each) filed.are_tunes reads.1.1
+    ∙ tunes_read pages tunes filed.texts few (rooms_of _ tunes (omega (arith, are.numbers)) are.each) filed.are_tunes reads.1.1
 
 pub sets_filed : (pages : List (List ℕ)) (tunes : List Tune) (sets : List TuneSet) → Filed pages tunes sets → AreSetLists sets → sets_in pages ≡ sets
 sets_filed pages tunes sets filed are =

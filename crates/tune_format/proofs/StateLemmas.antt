@@ -12,7 +12,7 @@ pub state_read : (pages : List (List ℕ)) (state : State) → IsStateOf pages s
 state_read pages state is =
     let tunes = tunes_filed pages state.tunes state.sets is.filed is.within.tunes (omega (arith, is.few)) in
     let sets = sets_filed pages state.tunes state.sets is.filed is.within.sets in
-    (λ i. record { tunes = tunes i; sets = sets i })
+    (λ i. record { layout = sym is.layout i; tunes = tunes i; sets = sets i })
 
 pub file_read : (file : List ℕ) (state : State) → StandsForState file state → state_in file ≡ state
 unfolding state_in
@@ -54,4 +54,4 @@ empty_within = record {
 }
 
 pub empty_state_of : (image : List ℕ) → IsRoot image 0 0 → IsStateOf (image ∷ []) empty_state
-empty_state_of image root = record { filed = empty_filed image root; within = empty_within; few = omega arith }
+empty_state_of image root = record { layout = refl; filed = empty_filed image root; within = empty_within; few = omega arith }

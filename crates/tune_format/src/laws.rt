@@ -11,6 +11,7 @@ ghost use Rattle.tune_sets.specs.SetBytes.{written_sets};
 ghost use Rattle.tune_sets.specs.Sets.{AreSetLists};
 ghost use Rattle.tune_sets.specs.declared.set_lists.TuneSet.{TuneSet};
 ghost use Rattle.tune_store.specs.State.{State, IsTunes, empty_state};
+ghost use Rattle.tune_store.specs.declared.layout.Layout.{Layout};
 ghost use Rattle.tune_store.specs.declared.tune.Tune.{Tune};
 ghost use Rattle.tune_format.specs.Filed.{row_of, rows_of, HoldTunes, HoldsTuneAt, Filed};
 ghost use Rattle.tune_format.specs.Layout.{most_pages_of_archive};
@@ -133,8 +134,8 @@ pub fn law_of_texts()
 pub fn law_of_files()
     ensures pages { (file : List ℕ) (pages : List (List ℕ)) → StandsFor pages file
         → pages_in file ≡ pages }
-    ensures tunes { (pages : List (List ℕ)) (tunes : List Tune) (sets : List TuneSet)
-        → Filed pages tunes sets → IsTunes tunes → length pages ≤ most_pages_of_archive
+    ensures tunes { (layout : Layout) (pages : List (List ℕ)) (tunes : List Tune)
+        (sets : List TuneSet) → Filed pages tunes sets → IsTunes layout tunes → length pages ≤ most_pages_of_archive
         → tunes_in pages ≡ tunes }
     ensures sets { (pages : List (List ℕ)) (tunes : List Tune) (sets : List TuneSet)
         → Filed pages tunes sets → AreSetLists sets → sets_in pages ≡ sets }

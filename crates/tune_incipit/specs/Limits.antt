@@ -5,4 +5,4 @@ abbrev pub fewest_notes : ℕ
 fewest_notes = 2
 
 abbrev pub most_notes : ℕ
-most_notes = 8
+most_notes = 12

@@ -18,7 +18,7 @@ use thiserror::Error;
 pub const FEWEST_NOTES: usize = 2;
 
 /// The most notes that an incipit may be asked by (this archive's profile).
-pub const MOST_NOTES: usize = 8;
+pub const MOST_NOTES: usize = 12;
 
 // The steps after one more note, where this is the last one before it.
 fn with_note(steps: Steps, last: Option<NoteToken>, token: NoteToken) -> Steps

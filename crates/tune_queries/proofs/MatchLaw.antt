@@ -18,7 +18,6 @@ use Rattle.abc_keys.specs.declared.scales.Mode.{Mode}
 use Rattle.abc_keys.specs.declared.scales.Mode.TheVariants.{Major, Lydian, Mixolydian, Dorian, Minor, Phrygian, Locrian}
 use Rattle.abc_keys.specs.ScaleTable.{letter_number, sign_number, mode_number, same_scale}
 use Rattle.tune_incipit.specs.Incipits.{incipit_of, tune_notes, query_notes}
-use Rattle.tune_incipit.specs.Limits.{most_notes}
 use Rattle.tune_titles.specs.Articles.{small_letters}
 use Rattle.tune_titles.specs.Titles.{sorting_title, title_matches, same_rhythm}
 use Rattle.tune_queries.specs.declared.queries.Query.{Query}
@@ -144,9 +143,9 @@ key_law (Some a) (Some b) = (
 )
 
 -- THE LAW
-pub law_of_query : (asked : Query) → LawOfQuery asked
-law_of_query (query.Title text) tune = title_law text (titles_of tune)
-law_of_query (query.Rhythm text) tune = rhythm_law text (rhythm_of tune)
-law_of_query (query.Key text) tune = key_law (scale_of_text text) (scale_of_text (key_text_of tune))
-law_of_query (query.Notes text) tune =
-    front_law Decides-int_eq (incipit_of most_notes (tune_notes tune)) (incipit_of most_notes (query_notes text))
+pub law_of_query : (notes : ℕ) (asked : Query) → LawOfQuery notes asked
+law_of_query notes (query.Title text) tune = title_law text (titles_of tune)
+law_of_query notes (query.Rhythm text) tune = rhythm_law text (rhythm_of tune)
+law_of_query notes (query.Key text) tune = key_law (scale_of_text text) (scale_of_text (key_text_of tune))
+law_of_query notes (query.Notes text) tune =
+    front_law Decides-int_eq (incipit_of notes (tune_notes tune)) (incipit_of notes (query_notes text))

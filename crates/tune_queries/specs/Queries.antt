@@ -10,7 +10,7 @@ use Rattle.abc_keys.specs.declared.scales.Scale.{Scale}
 use Rattle.abc_keys.specs.Keys.{key_of_text, scale_of}
 use Rattle.abc_keys.specs.ScaleTable.{same_scale}
 use Rattle.tune_incipit.specs.Incipits.{incipit_of, tune_notes, query_notes}
-use Rattle.tune_incipit.specs.Limits.{fewest_notes, most_notes}
+use Rattle.tune_incipit.specs.Limits.{fewest_notes}
 use Rattle.tune_titles.specs.Articles.{small_letters}
 use Rattle.tune_titles.specs.Titles.{sorting_title, title_matches, same_rhythm}
 use Rattle.tune_queries.specs.declared.queries.Query.{Query}
@@ -50,25 +50,26 @@ is_bad (query.Notes text) = nat_lt (counting_notes text) fewest_notes
 
 -- WHICH TUNES IT FINDS
 -- a tune of whose titles one has a sorting title that begins with the query's; one of the same
--- rhythm, but for capitals; one in the same scale; one whose incipit begins with the query's
-abbrev pub matches : Query → List ℕ → Bool
-matches (query.Title text) tune = list_any (title_matches text) (titles_of tune)
-matches (query.Rhythm text) tune = option_map_or (same_rhythm text) (rhythm_of tune) false
-matches (query.Key text) tune =
+-- rhythm, but for capitals; one in the same scale; one whose incipit, by so many notes, begins with
+-- the query's
+abbrev pub matches : ℕ → Query → List ℕ → Bool
+matches notes (query.Title text) tune = list_any (title_matches text) (titles_of tune)
+matches notes (query.Rhythm text) tune = option_map_or (same_rhythm text) (rhythm_of tune) false
+matches notes (query.Key text) tune =
     option_map_or (λ scale. is_scale scale (scale_of_text (key_text_of tune)))
     (scale_of_text text) false
-matches (query.Notes text) tune = begins_steps
-    (incipit_of most_notes (tune_notes tune)) (incipit_of most_notes (query_notes text))
+matches notes (query.Notes text) tune = begins_steps
+    (incipit_of notes (tune_notes tune)) (incipit_of notes (query_notes text))
 
 -- the same of a query made ready, which holds a sorting title, a rhythm, a scale, or steps
-abbrev pub finds : Sought → List ℕ → Bool
-finds (sought.Title prefix) tune =
+abbrev pub finds : ℕ → Sought → List ℕ → Bool
+finds notes (sought.Title prefix) tune =
     list_any (λ title. begins_with (sorting_title title) prefix) (titles_of tune)
-finds (sought.Rhythm rhythm) tune =
+finds notes (sought.Rhythm rhythm) tune =
     option_map_or (same_rhythm rhythm.now) (rhythm_of tune) false
-finds (sought.Key scale) tune = is_scale scale (scale_of_text (key_text_of tune))
-finds (sought.Notes steps) tune =
-    begins_steps (incipit_of most_notes (tune_notes tune)) steps
+finds notes (sought.Key scale) tune = is_scale scale (scale_of_text (key_text_of tune))
+finds notes (sought.Notes steps) tune =
+    begins_steps (incipit_of notes (tune_notes tune)) steps
 
 -- THE SAME IN A READER'S WORDS
 -- a text or a list of steps that begins with another
@@ -76,16 +77,17 @@ abbrev pub BeginsWith : {X : Type 0} → List X → List X → Type 0
 BeginsWith {X} whole front = (rest : List X) × (front ++ rest ≡ whole)
 
 -- the query finds the tune of this text
-abbrev pub Matches : Query → List ℕ → Type 0
-Matches (query.Title text) tune = (title : List ℕ) × Contains (titles_of tune) title
+abbrev pub Matches : ℕ → Query → List ℕ → Type 0
+Matches notes (query.Title text) tune = (title : List ℕ) × Contains (titles_of tune) title
     × BeginsWith (sorting_title title) (sorting_title text)
-Matches (query.Rhythm text) tune = (rhythm : List ℕ) × (rhythm_of tune ≡ Some rhythm)
+Matches notes (query.Rhythm text) tune = (rhythm : List ℕ) × (rhythm_of tune ≡ Some rhythm)
     × (small_letters text ≡ small_letters rhythm)
-Matches (query.Key text) tune = (scale : Scale) × (scale_of_text text ≡ Some scale)
+Matches notes (query.Key text) tune = (scale : Scale) × (scale_of_text text ≡ Some scale)
     × (scale_of_text (key_text_of tune) ≡ Some scale)
-Matches (query.Notes text) tune = BeginsWith
-    (incipit_of most_notes (tune_notes tune)) (incipit_of most_notes (query_notes text))
+Matches notes (query.Notes text) tune = BeginsWith
+    (incipit_of notes (tune_notes tune)) (incipit_of notes (query_notes text))
 
 -- which tunes the query finds, and none else
-abbrev pub LawOfQuery : Query → Type 0
-LawOfQuery query = (text : List ℕ) → (matches query text ≡ true) ↔ Matches query text
+abbrev pub LawOfQuery : ℕ → Query → Type 0
+LawOfQuery notes query =
+    (text : List ℕ) → (matches notes query text ≡ true) ↔ Matches notes query text

@@ -1,5 +1,5 @@
 // Queries made ready, and the tunes that they find.
-ghost use Rattle.std.specs.Prelude.{◌≡◌, ◌↔◌, ℕ, List, true, not, nat_lt, Some, IsErr, IfOk};
+ghost use Rattle.std.specs.Prelude.{◌≡◌, ◌≤◌, ◌↔◌, ℕ, List, true, not, nat_lt, Some, IsErr, IfOk};
 ghost use Rattle.abc_fields.specs.Bytes.{is_all_blank};
 ghost use Rattle.abc_fields.specs.Fields.{has_bytes, key_text_of};
 ghost use Rattle.tune_incipit.specs.Incipits.{incipit_of, tune_notes, query_notes};
@@ -13,7 +13,7 @@ use crate::scales::is_same_scale;
 use abc_fields::{TuneText, fields, is_blank};
 use abc_keys::{Scale, key_of};
 use thiserror::Error;
-use tune_incipit::{MOST_NOTES, Steps, begins, query_steps, steps};
+use tune_incipit::{Steps, begins, query_steps, steps};
 use tune_titles::{TitlePrefix, rhythm_matches};
 
 /// Why a query is refused: it asks for nothing. That is a title of spaces and tabs alone, a rhythm
@@ -37,36 +37,41 @@ pub enum Sought<'a> {
 }
 
 impl Sought<'_> {
-    /// Whether it finds the tune of this text. It reads the tune's header, or the body up to the
-    /// last note that an incipit has.
-    pub fn matches(&self, text: &TuneText) -> bool
-        ensures { result ≡ finds self.now text.now }
+    /// Whether it finds the tune of this text, by openings of `notes` notes, from 2 to 12. It reads
+    /// the tune's header, or the body up to the last of these notes.
+    pub fn matches(&self, notes: usize, text: &TuneText) -> bool
+        requires few { fewest_notes ≤ notes }
+        requires many { notes ≤ most_notes }
+        ensures { result ≡ finds notes self.now text.now }
     {
         match self {
             Sought::Title(prefix) => prefix.matches_tune(text),
             Sought::Rhythm(query) => rhythm_matches(query, text),
             Sought::Key(scale) => is_in_scale(scale, text),
-            Sought::Notes(front) => begins_with_steps(front, text),
+            Sought::Notes(front) => begins_with_steps(front, notes, text),
         }
     }
 }
 
 impl Query {
-    /// The query, made ready to be tried on tunes. It finds exactly the tunes that match the query,
-    /// and it is refused exactly where the query is bad.
+    /// The query, made ready to be tried on tunes by openings of `notes` notes, from 2 to 12. It
+    /// finds exactly the tunes that match the query so, and it is refused exactly where the query
+    /// is bad.
     ///
     /// The law of queries stands beside it: which tunes match, in a reader's words.
-    pub fn sought(&self) -> Result<Sought<'_>, BadQuery>
+    pub fn sought(&self, notes: usize) -> Result<Sought<'_>, BadQuery>
+        requires few { fewest_notes ≤ notes }
+        requires many { notes ≤ most_notes }
         ensures finds { IfOk result (λ ready. (text : List ℕ)
-            → finds ready text ≡ matches self.now text) }
+            → finds notes ready text ≡ matches notes self.now text) }
         ensures bad { IsErr result ↔ is_bad self.now ≡ true }
-        ensures law { LawOfQuery self.now }
+        ensures law { LawOfQuery notes self.now }
     {
         match self {
             Query::Title(text) => Ok(Sought::Title(prefix_of(text.bytes())?)),
             Query::Rhythm(text) => Ok(Sought::Rhythm(rhythm_of(text.bytes())?)),
             Query::Key(text) => Ok(Sought::Key(scale_of(text.bytes())?)),
-            Query::Notes(text) => Ok(Sought::Notes(steps_of(text)?)),
+            Query::Notes(text) => Ok(Sought::Notes(steps_of(text, notes)?)),
         }
     }
 }
@@ -111,11 +116,13 @@ fn scale_of(text: &[u8]) -> Result<Scale, BadQuery>
 }
 
 // The steps of a query, unless too few of its notes count.
-fn steps_of(text: &QueryText) -> Result<Steps, BadQuery>
-    ensures ok { IfOk result (λ steps. steps ≡ incipit_of most_notes (query_notes text.now)) }
+fn steps_of(text: &QueryText, notes: usize) -> Result<Steps, BadQuery>
+    requires few { fewest_notes ≤ notes }
+    requires many { notes ≤ most_notes }
+    ensures ok { IfOk result (λ steps. steps ≡ incipit_of notes (query_notes text.now)) }
     ensures bad { IsErr result ↔ nat_lt (counting_notes text.now) fewest_notes ≡ true }
 {
-    match query_steps(text.bytes(), MOST_NOTES) {
+    match query_steps(text.bytes(), notes) {
         Ok(steps) => Ok(steps),
         Err(_) => Err(BadQuery),
     }
@@ -132,8 +139,10 @@ fn is_in_scale(scale: &Scale, text: &TuneText) -> bool
 }
 
 // Whether the incipit of the tune begins with these steps.
-fn begins_with_steps(front: &Steps, text: &TuneText) -> bool
-    ensures { result ≡ begins_steps (incipit_of most_notes (tune_notes text.now)) front.now }
+fn begins_with_steps(front: &Steps, notes: usize, text: &TuneText) -> bool
+    requires few { fewest_notes ≤ notes }
+    requires many { notes ≤ most_notes }
+    ensures { result ≡ begins_steps (incipit_of notes (tune_notes text.now)) front.now }
 {
-    begins(front, &steps(text, MOST_NOTES))
+    begins(front, &steps(text, notes))
 }

@@ -26,26 +26,27 @@ use Rattle.tune_store.proofs.StateLemmas.{KeepsLimits, state_after_import, state
 use Rattle.tune_store.proofs.MoveLemmas.{state_after_move, number_within}
 use Rattle.tune_store.proofs.NamedLemmas.{KeepsNumbers, append_keeps, with_tune_keeps, named_after, named_without, named_moved}
 use Rattle.tune_store.proofs.NamedLemmas.{named_create, named_add, named_cut, named_drop}
+use Rattle.tune_store.specs.declared.layout.Layout.{Layout}
 
 -- IMPORT, REPLACE
 -- the two tests of an import let only texts through for which there is room
-import_tests : (tunes : List Tune) (texts : List (List ℕ)) (reply : Reply) (full spent : Bool) → ltb most_tunes (length tunes + length texts) ≡ full
+import_tests : {layout : Layout} → (tunes : List Tune) (texts : List (List ℕ)) (reply : Reply) (full spent : Bool) → ltb (most_tunes layout) (length tunes + length texts) ≡ full
     → ltb greatest_number (greatest tunes + length texts) ≡ spent
-    → IsTunes tunes → AllByRecursion (IsTextWithin longest_text) texts
-    → KeepsLimits (cond full (tunes, Err ArchiveFull) (cond spent (tunes, Err NumbersSpent) (with_texts tunes texts, Ok reply)))
+    → IsTunes layout tunes → AllByRecursion (IsTextWithin (longest_text layout)) texts
+    → KeepsLimits layout (cond full (tunes, Err ArchiveFull) (cond spent (tunes, Err NumbersSpent) (with_texts tunes texts, Ok reply)))
 import_tests tunes texts reply true spent room numbers is within = is
 import_tests tunes texts reply false true room numbers is within = is
 import_tests tunes texts reply false false room numbers is within = state_after_import tunes texts is within (ltb-false _ _ room) (ltb-false _ _ numbers)
 
 -- an import keeps the limits, where the texts of its book are within the length
-import_limits : (tunes : List Tune) (texts : Texts) → IsTunes tunes → TextsWithin longest_text texts → KeepsLimits (import_book tunes texts)
+import_limits : {layout : Layout} → (tunes : List Tune) (texts : Texts) → IsTunes layout tunes → TextsWithin (longest_text layout) texts → KeepsLimits layout (import_book layout tunes texts)
 import_limits tunes (Err why) is within = is
-import_limits tunes (Ok texts) is within =
-    import_tests tunes texts _ (ltb most_tunes (length tunes + length texts)) (ltb greatest_number (greatest tunes + length texts)) refl refl is within
+import_limits {layout = layout} tunes (Ok texts) is within =
+    import_tests tunes texts _ (ltb (most_tunes layout) (length tunes + length texts)) (ltb greatest_number (greatest tunes + length texts)) refl refl is within
 
 -- so does a replacement
-replace_limits : (tunes : List Tune) (number revision : ℕ) (texts : Texts) → IsTunes tunes → TextsWithin longest_text texts
-    → KeepsLimits (replace_book tunes number revision texts)
+replace_limits : {layout : Layout} → (tunes : List Tune) (number revision : ℕ) (texts : Texts) → IsTunes layout tunes → TextsWithin (longest_text layout) texts
+    → KeepsLimits layout (replace_book tunes number revision texts)
 replace_limits tunes number revision (Err why) is within = is
 replace_limits tunes number revision (Ok []) is within = is
 replace_limits tunes number revision (Ok (text ∷ [])) is within = state_after_text tunes number revision text (tune_at number tunes) is within.0
@@ -64,10 +65,10 @@ two_tests_keep_numbers old new false true x y reply keeps = λ number was. was
 two_tests_keep_numbers old new false false x y reply keeps = keeps
 
 -- an import keeps the numbers
-import_numbers : (tunes : List Tune) (texts : Texts) → KeepsNumbersIn tunes (import_book tunes texts)
-import_numbers tunes (Err why) = λ number was. was
-import_numbers tunes (Ok texts) =
-    two_tests_keep_numbers tunes (with_texts tunes texts) (ltb most_tunes (length tunes + length texts))
+import_numbers : (layout : Layout) (tunes : List Tune) (texts : Texts) → KeepsNumbersIn tunes (import_book layout tunes texts)
+import_numbers layout tunes (Err why) = λ number was. was
+import_numbers layout tunes (Ok texts) =
+    two_tests_keep_numbers tunes (with_texts tunes texts) (ltb (most_tunes layout) (length tunes + length texts))
     (ltb greatest_number (greatest tunes + length texts)) _ _ _ (append_keeps tunes _)
 
 -- so does a replacement, of the tune that was found
@@ -86,8 +87,8 @@ replace_numbers tunes number revision (Ok (text ∷ [])) = replace_tune_numbers 
 replace_numbers tunes number revision (Ok (text ∷ next ∷ texts)) = λ other was. was
 
 -- A DELETION
-delete_limits : (tunes : List Tune) (number : ℕ) (held : Option (List ℕ)) (found : Option Tune) → IsTunes tunes
-    → KeepsLimits (delete_tune tunes number held found)
+delete_limits : {layout : Layout} → (tunes : List Tune) (number : ℕ) (held : Option (List ℕ)) (found : Option Tune) → IsTunes layout tunes
+    → KeepsLimits layout (delete_tune tunes number held found)
 delete_limits tunes number held None is = is
 delete_limits tunes number (Some name) (Some tune) is = is
 delete_limits tunes number None (Some tune) is = state_after_delete number tunes is
@@ -142,16 +143,16 @@ add_limits state name number (Some tune) is e =
 -- a state within the limits stays within them
 pub step_keeps_limits : (state : State) (command : Command) → IsState state → IsState (step state command).0
 step_keeps_limits state (Import book) is =
-    let texts : Texts = book_answer longest_text book in
+    let texts : Texts = book_answer (longest_text state.layout) book in
     record {
-      tunes = import_limits state.tunes texts is.tunes (book_within longest_text book);
+      tunes = import_limits state.tunes texts is.tunes (book_within (longest_text state.layout) book);
       sets = is.sets;
-      named = named_after state.tunes _ state.sets (import_numbers state.tunes texts) is.named;
+      named = named_after state.tunes _ state.sets (import_numbers _ state.tunes texts) is.named;
     }
 step_keeps_limits state (Replace number revision book) is =
-    let texts : Texts = book_answer longest_text book in
+    let texts : Texts = book_answer (longest_text state.layout) book in
     record {
-      tunes = replace_limits state.tunes number revision texts is.tunes (book_within longest_text book);
+      tunes = replace_limits state.tunes number revision texts is.tunes (book_within (longest_text state.layout) book);
       sets = is.sets;
       named = named_after state.tunes _ state.sets (replace_numbers state.tunes number revision texts) is.named;
     }

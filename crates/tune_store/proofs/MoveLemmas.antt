@@ -10,6 +10,7 @@ use Rattle.tune_store.specs.TuneSteps.{without, inserted, moved_tune, moved_if, 
 use Rattle.tune_store.specs.declared.tune.Tune.{Tune}
 use Rattle.tune_store.proofs.PlaceLemmas.{tune_at-number, tune_at-without_other}
 use Rattle.tune_store.proofs.StateLemmas.{rises-without, greatest-without, each-without}
+use Rattle.tune_store.specs.declared.layout.Layout.{Layout}
 
 -- the tune under a number
 abbrev pub under : ℕ → Tune → Tune
@@ -63,7 +64,7 @@ length-inserted new (tune ∷ tunes) = elim (cases_Bool (ltb new.number tune.num
 ]
 
 -- and good tunes all
-each-inserted : (new : Tune) (tunes : List Tune) → IsTune new → AllByRecursion IsTune tunes → AllByRecursion IsTune (inserted new tunes)
+each-inserted : {layout : Layout} → (new : Tune) (tunes : List Tune) → IsTune layout new → AllByRecursion (IsTune layout) tunes → AllByRecursion (IsTune layout) (inserted new tunes)
 each-inserted new [] is each = (is, tt)
 each-inserted new (tune ∷ tunes) is each = elim (cases_Bool (ltb new.number tune.number)) [
   | inl before ↦ rw before (is, each)
@@ -99,10 +100,10 @@ length-without_one number (first ∷ tunes) tune found = elim (cases_Bool (eqb f
 ]
 
 -- the tune of a number is a good one
-tune_at-is : (number : ℕ) (tunes : List Tune) (tune : Tune) → AllByRecursion IsTune tunes → tune_at number tunes ≡ Some tune → IsTune tune
+tune_at-is : {layout : Layout} → (number : ℕ) (tunes : List Tune) (tune : Tune) → AllByRecursion (IsTune layout) tunes → tune_at number tunes ≡ Some tune → IsTune layout tune
 tune_at-is number [] tune each found = cc
-tune_at-is number (first ∷ tunes) tune each found = elim (cases_Bool (eqb first.number number)) [
-  | inl same ↦ let it = rw same at found in let e : first ≡ tune = cc in subst IsTune e each.0
+tune_at-is {layout = layout} number (first ∷ tunes) tune each found = elim (cases_Bool (eqb first.number number)) [
+  | inl same ↦ let it = rw same at found in let e : first ≡ tune = cc in subst (IsTune layout) e each.0
   | inr other ↦ let later = rw other at found in tune_at-is number tunes tune each.1 later
 ]
 
@@ -112,26 +113,26 @@ still_free : (number to : ℕ) (tunes : List Tune) → number ≢ to → tune_at
 still_free number to tunes apart free = tune_at-without_other to number tunes apart ∙ free
 
 -- the tune that was found, under a number that is free, keeps the limits
-moved_tune_keeps : (tune : Tune) (to : ℕ) (tunes : List Tune) → IsTunes tunes → tune_at tune.number tunes ≡ Some tune → tune_at to tunes ≡ None
-    → 0 < to → to ≤ greatest_number → IsTunes (moved_tune tune to tunes)
-moved_tune_keeps tune to tunes is found free above within =
+moved_tune_keeps : {layout : Layout} → (tune : Tune) (to : ℕ) (tunes : List Tune) → IsTunes layout tunes → tune_at tune.number tunes ≡ Some tune → tune_at to tunes ≡ None
+    → 0 < to → to ≤ greatest_number → IsTunes layout (moved_tune tune to tunes)
+moved_tune_keeps {layout = layout} tune to tunes is found free above within =
     let rest : List Tune = without tune.number tunes in
     let gone = still_free tune.number to tunes (free_apart tune.number to tunes tune found free) free in
     let it = tune_at-is tune.number tunes tune is.each found in
-    let its : IsTune (under to tune) = record { revised = it.revised; revision = it.revision; text = it.text; fits = it.fits } in
+    let its : IsTune layout (under to tune) = record { revised = it.revised; revision = it.revision; text = it.text; fits = it.fits } in
     record {
       rises = rises-inserted (under to tune) 0 rest above gone (rises-without tune.number 0 tunes is.rises);
       numbers = omega (arith, greatest-inserted (under to tune) rest, greatest-without tune.number tunes, is.numbers, within);
-      each = each-inserted (under to tune) rest its (each-without tune.number tunes is.each);
+      each = each-inserted (under to tune) rest its (each-without _ tune.number tunes is.each);
       count = omega (arith, length-inserted (under to tune) rest, length-without_one tune.number tunes tune found, is.count);
     }
 
 -- a tune under a number that is free keeps the limits
-pub state_after_move : (number to : ℕ) (tunes : List Tune) → IsTunes tunes → tune_at to tunes ≡ None → 0 < to → to ≤ greatest_number
-    → IsTunes (moved number to tunes)
-state_after_move number to tunes is free above within = by_found (tune_at number tunes) refl
+pub state_after_move : {layout : Layout} → (number to : ℕ) (tunes : List Tune) → IsTunes layout tunes → tune_at to tunes ≡ None → 0 < to → to ≤ greatest_number
+    → IsTunes layout (moved number to tunes)
+state_after_move {layout = layout} number to tunes is free above within = by_found (tune_at number tunes) refl
   where
-    by_found : (found : Option Tune) → tune_at number tunes ≡ found → IsTunes (moved_if to tunes found)
+    by_found : (found : Option Tune) → tune_at number tunes ≡ found → IsTunes layout (moved_if to tunes found)
     by_found None e = is
     by_found (Some tune) e =
         let own : tune_at tune.number tunes ≡ Some tune = ap (λ n. tune_at n tunes) (tune_at-number number tunes tune e) ∙ e in

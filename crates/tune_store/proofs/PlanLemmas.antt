@@ -21,6 +21,7 @@ use Rattle.tune_store.specs.declared.command.Refusal.{Refusal}
 use Rattle.tune_store.specs.declared.command.Refusal.TheVariants.{Stale, Worn}
 use Rattle.tune_store.proofs.StateLemmas.{greatest_last}
 use Rattle.tune_store.proofs.PlaceLemmas.{tune_at-place, tune_at-none, with_tune-place, without-place}
+use Rattle.tune_store.specs.declared.layout.Layout.{Layout}
 
 -- ROWS
 -- what a look-up behind the end gives
@@ -88,11 +89,11 @@ last_label tunes labels label len rises same count some at =
 
 -- IMPORT
 -- texts for which there is room are added
-pub import_adds : (tunes : List Tune) (texts : List (List ℕ)) (first last : ℕ) → length tunes + length texts ≤ most_tunes
+pub import_adds : (layout : Layout) (tunes : List Tune) (texts : List (List ℕ)) (first last : ℕ) → length tunes + length texts ≤ (most_tunes layout)
     → greatest tunes + length texts ≤ greatest_number → first ≡ greatest tunes + 1 → last ≡ greatest tunes + length texts
-    → import_texts tunes texts ≡ (tunes ++ numbered first texts, Ok (Imported first last))
-import_adds tunes texts first last room numbers is_first is_last =
-    rw (is_first, is_last, le-ltb most_tunes (length tunes + length texts) room, le-ltb greatest_number (greatest tunes + length texts) numbers) refl
+    → import_texts layout tunes texts ≡ (tunes ++ numbered first texts, Ok (Imported first last))
+import_adds layout tunes texts first last room numbers is_first is_last =
+    rw (is_first, is_last, le-ltb (most_tunes layout) (length tunes + length texts) room, le-ltb greatest_number (greatest tunes + length texts) numbers) refl
 
 -- REPLACE
 -- a tune of another revision

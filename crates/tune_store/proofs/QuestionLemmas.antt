@@ -24,6 +24,7 @@ use Rattle.tune_store.specs.declared.catalog.Label.{Label}
 use Rattle.tune_store.specs.declared.command.Reply.TheVariants.{SetExported}
 use Rattle.tune_store.proofs.PlanLemmas.{IsPlaceOf, labels_long, label_at, no_tune, no_label}
 use Rattle.tune_store.proofs.PlaceLemmas.{tune_at-place}
+use Rattle.tune_store.specs.declared.layout.Layout.{Layout}
 
 -- THE NEXT OF A LIST
 -- what is gathered, with the next part of what is left
@@ -65,20 +66,9 @@ abbrev pub row_if : Bool → ℕ → List ℕ → List IndexRow
 row_if found number text = cond found (record { number = number; title = first_shown (titles_of text) } ∷ []) []
 
 -- as of the first tune
-pub found_first : (query : Query) (tune : Tune) (tunes : List Tune)
-    → found query (tune ∷ tunes) ≡ row_if (matches query tune.text) tune.number tune.text ++ found query tunes
-found_first query tune tunes = elim (cases_Bool (matches query tune.text)) [ inl same ↦ rw same refl | inr other ↦ rw other refl ]
-
--- the rows with that of the next tune, where it is found
-pub found_next : (query : Query) (finds : Bool) (tunes : List Tune) (place number : ℕ) (text : List ℕ) (rows new all : List IndexRow)
-    → IsNext tunes place number text → finds ≡ matches query text → new ≡ rows ++ row_if finds number text
-    → rows ++ found query (drop place tunes) ≡ all → new ++ found query (drop (place + 1) tunes) ≡ all
-found_next query finds tunes place number text rows new all is same added before =
-    let part = row_if finds number text in
-    let rest = found query (drop (place + 1) tunes) in
-    let splits : found query (drop place tunes) ≡ part ++ rest =
-    rw (next-drop tunes place number text is, same, is.named, is.written) (found_first query (get_or tunes place no_tune) (drop (place + 1) tunes)) in
-    gathered rows part (found query (drop place tunes)) rest new all added splits before
+pub found_first : (notes : ℕ) (query : Query) (tune : Tune) (tunes : List Tune)
+    → found notes query (tune ∷ tunes) ≡ row_if (matches notes query tune.text) tune.number tune.text ++ found notes query tunes
+found_first notes query tune tunes = elim (cases_Bool (matches notes query tune.text)) [ inl same ↦ rw same refl | inr other ↦ rw other refl ]
 
 -- TITLES
 -- the titles with those of the next tune

@@ -28,6 +28,7 @@ use Rattle.tune_store.proofs.StepLemmas.{KeepsOnErr, refused_keeps, answers_clos
 use Rattle.tune_store.proofs.PlaceLemmas.{tune_at-number, tune_at-with_tune_same, tune_at-with_tune_other, tune_at-append, tune_at-without_other}
 use Rattle.tune_store.proofs.PlaceLemmas.{tune_at-without_same}
 use Rattle.tune_store.proofs.MoveLemmas.{tune_at-moved_to, tune_at-moved_other}
+use Rattle.tune_store.specs.declared.layout.Layout.{Layout}
 
 -- AN ACCEPTED REPLACE
 -- the tune in the place of the one of a number is the tune of the number
@@ -78,7 +79,7 @@ replace_raises tunes number named (Ok (text ∷ next ∷ texts)) accepted = cc
 -- an accepted Replace names the current revision, and raises it by one
 pub accepted_replace_raises : (state : State) (number named : ℕ) (book : List ℕ) → AcceptedReplaceRaises state number named book
 accepted_replace_raises state number named book accepted =
-    let raises = replace_raises state.tunes number named (book_answer longest_text book) accepted in
+    let raises = replace_raises state.tunes number named (book_answer (longest_text state.layout) book) accepted in
     record { named = raises.named; raised = raises.raised }
 
 -- ANY OTHER COMMAND
@@ -103,10 +104,10 @@ two_tests_leave number old new false true x y reply same = refl
 two_tests_leave number old new false false x y reply same = ap revision same
 
 -- an import leaves the revision of a tune that was there
-import_leaves : (tunes : List Tune) (number : ℕ) (texts : Texts) → IsSome (tune_at number tunes) → LeavesRevision number tunes (import_book tunes texts)
-import_leaves tunes number (Err why) was = refl
-import_leaves tunes number (Ok texts) was =
-    two_tests_leave number tunes (with_texts tunes texts) (ltb most_tunes (length tunes + length texts))
+import_leaves : (layout : Layout) (tunes : List Tune) (number : ℕ) (texts : Texts) → IsSome (tune_at number tunes) → LeavesRevision number tunes (import_book layout tunes texts)
+import_leaves layout tunes number (Err why) was = refl
+import_leaves layout tunes number (Ok texts) was =
+    two_tests_leave number tunes (with_texts tunes texts) (ltb (most_tunes layout) (length tunes + length texts))
     (ltb greatest_number (greatest tunes + length texts)) _ _ _ (tune_at-append number tunes _ was)
 
 -- a replacement of another tune that was found leaves it
@@ -203,10 +204,10 @@ add_leaves state name number (Some tune) = refl
 
 -- any other command leaves the revision of a tune that is there before and after it
 pub others_keep_revision : (state : State) (number : ℕ) (command : Command) → IsState state → OthersKeepRevision state number command
-others_keep_revision state number (Import book) is other was there = import_leaves state.tunes number (book_answer longest_text book) was
+others_keep_revision state number (Import book) is other was there = import_leaves _ state.tunes number (book_answer (longest_text state.layout) book) was
 others_keep_revision state number (Replace replaced named book) is other was there = elim (cases_Bool (eqb replaced number)) [
   | inl same ↦ let refused = rw same at other in ap (revision_of number) (refused_leaves state (Replace replaced named book) refused)
-  | inr differs ↦ replace_leaves state.tunes number replaced named (book_answer longest_text book) (eqb-false replaced number differs)
+  | inr differs ↦ replace_leaves state.tunes number replaced named (book_answer (longest_text state.layout) book) (eqb-false replaced number differs)
 ]
 others_keep_revision state number (Delete deleted) is other was there =
     delete_leaves state.tunes number deleted (holder deleted state.sets) (tune_at deleted state.tunes) is.tunes.rises there
@@ -219,10 +220,10 @@ others_keep_revision state number command is other was there = refl
 keeps_revision : (state : State) (number : ℕ) (command : Command) → IsFalse (replaces number state command)
     → IsFalse (is_delete_of number command && accepts state command) → HasTune number state
     → CarriesRevision command number state (step state command)
-keeps_revision state number (Import book) other stays was = import_leaves state.tunes number (book_answer longest_text book) was
+keeps_revision state number (Import book) other stays was = import_leaves _ state.tunes number (book_answer (longest_text state.layout) book) was
 keeps_revision state number (Replace replaced named book) other stays was = elim (cases_Bool (eqb replaced number)) [
   | inl same ↦ let refused = rw same at other in ap (revision_of number) (refused_leaves state (Replace replaced named book) refused)
-  | inr differs ↦ replace_leaves state.tunes number replaced named (book_answer longest_text book) (eqb-false replaced number differs)
+  | inr differs ↦ replace_leaves state.tunes number replaced named (book_answer (longest_text state.layout) book) (eqb-false replaced number differs)
 ]
 keeps_revision state number (Delete deleted) other stays was = elim (cases_Bool (eqb deleted number)) [
   | inl same ↦ let refused = rw same at stays in ap (revision_of number) (refused_leaves state (Delete deleted) refused)

@@ -10,6 +10,7 @@ use Rattle.tune_store.specs.declared.tune.Tune.{Tune}
 use Rattle.tune_store.specs.Limits.{longest_text, most_tunes, greatest_number, greatest_revision}
 use Rattle.tune_store.specs.declared.command.Reply.TheVariants.{Replaced}
 use Rattle.tune_store.specs.declared.command.Refusal.TheVariants.{Stale, Worn}
+use Rattle.tune_store.specs.declared.layout.Layout.{Layout}
 
 -- RISING NUMBERS
 -- the last number is the greatest
@@ -39,9 +40,9 @@ rises-append low (tune ∷ tunes) more rises later =
     (rises.0, rises-append tune.number tunes more rises.1 (subst P same later))
 
 -- what holds of the tunes of two lists holds of all
-each-append : (tunes more : List Tune) → AllByRecursion IsTune tunes → AllByRecursion IsTune more → AllByRecursion IsTune (tunes ++ more)
-each-append [] more each later = later
-each-append (tune ∷ tunes) more each later = (each.0, each-append tunes more each.1 later)
+each-append : (layout : Layout) (tunes more : List Tune) → AllByRecursion (IsTune layout) tunes → AllByRecursion (IsTune layout) more → AllByRecursion (IsTune layout) (tunes ++ more)
+each-append layout [] more each later = later
+each-append layout (tune ∷ tunes) more each later = (each.0, each-append layout tunes more each.1 later)
 
 -- NEW TUNES
 -- one text more makes one tune more, with the next number
@@ -75,15 +76,15 @@ rises-numbered low number [] l = tt
 rises-numbered low number (text ∷ texts) l = (l, rises-numbered number (number + 1) texts (omega arith))
 
 -- new tunes of good texts are good tunes
-each-numbered : (number : ℕ) (texts : List (List ℕ)) → AllByRecursion (IsTextWithin longest_text) texts → AllByRecursion IsTune (numbered number texts)
-each-numbered number [] within = tt
-each-numbered number (text ∷ texts) within =
-    (record { revised = omega arith; revision = omega arith; text = within.0.tune_text; fits = within.0.fits }, each-numbered (number + 1) texts within.1)
+each-numbered : (layout : Layout) (number : ℕ) (texts : List (List ℕ)) → AllByRecursion (IsTextWithin (longest_text layout)) texts → AllByRecursion (IsTune layout) (numbered number texts)
+each-numbered layout number [] within = tt
+each-numbered layout number (text ∷ texts) within =
+    (record { revised = omega arith; revision = omega arith; text = within.0.tune_text; fits = within.0.fits }, each-numbered layout (number + 1) texts within.1)
 
 -- new tunes of good texts keep the limits, where there is room for them
-pub state_after_import : (tunes : List Tune) (texts : List (List ℕ)) → IsTunes tunes → AllByRecursion (IsTextWithin longest_text) texts
-    → length tunes + length texts ≤ most_tunes → greatest tunes + length texts ≤ greatest_number
-    → IsTunes (with_texts tunes texts)
+pub state_after_import : {layout : Layout} → (tunes : List Tune) (texts : List (List ℕ)) → IsTunes layout tunes → AllByRecursion (IsTextWithin (longest_text layout)) texts
+    → length tunes + length texts ≤ (most_tunes layout) → greatest tunes + length texts ≤ greatest_number
+    → IsTunes layout (with_texts tunes texts)
 state_after_import tunes texts is within room numbers =
     let P : ℕ → Type 0 = λ n. RisesFrom n (numbered (greatest tunes + 1) texts) in
     let low : greatest tunes ≡ max 0 (greatest tunes) = omega arith in
@@ -91,7 +92,7 @@ state_after_import tunes texts is within room numbers =
     record {
       rises = rises-append 0 tunes _ is.rises (subst P low (rises-numbered (greatest tunes) (greatest tunes + 1) texts (omega arith)));
       numbers = top;
-      each = each-append tunes _ is.each (each-numbered (greatest tunes + 1) texts within);
+      each = each-append _ tunes _ is.each (each-numbered _ (greatest tunes + 1) texts within);
       count = omega (arith, length-append tunes (numbered (greatest tunes + 1) texts), length-numbered (greatest tunes + 1) texts);
     }
   where
@@ -132,7 +133,7 @@ length-with_tune new (tune ∷ tunes) = elim (cases_Bool (eqb tune.number new.nu
 ]
 
 -- and good tunes all
-each-with_tune : (new : Tune) (tunes : List Tune) → IsTune new → AllByRecursion IsTune tunes → AllByRecursion IsTune (with_tune new tunes)
+each-with_tune : {layout : Layout} → (new : Tune) (tunes : List Tune) → IsTune layout new → AllByRecursion (IsTune layout) tunes → AllByRecursion (IsTune layout) (with_tune new tunes)
 each-with_tune new [] is each = tt
 each-with_tune new (tune ∷ tunes) is each = elim (cases_Bool (eqb tune.number new.number)) [
   | inl same ↦ rw same (is, each.1)
@@ -140,7 +141,7 @@ each-with_tune new (tune ∷ tunes) is each = elim (cases_Bool (eqb tune.number 
 ]
 
 -- a good tune in the place of one keeps the limits
-pub state_after_replace : (new : Tune) (tunes : List Tune) → IsTune new → IsTunes tunes → IsTunes (with_tune new tunes)
+pub state_after_replace : {layout : Layout} → (new : Tune) (tunes : List Tune) → IsTune layout new → IsTunes layout tunes → IsTunes layout (with_tune new tunes)
 state_after_replace new tunes is state = record {
   rises = rises-with_tune new 0 tunes state.rises;
   numbers = omega (arith, greatest-with_tune new tunes, state.numbers);
@@ -149,17 +150,17 @@ state_after_replace new tunes is state = record {
 }
 
 -- a good text in the place of a tune's, which has not the greatest revision, makes a good tune
-pub revised_is_tune : (tune : Tune) (text : List ℕ) → IsTextWithin longest_text text → tune.revision < greatest_revision → IsTune (revised tune text)
+pub revised_is_tune : {layout : Layout} → (tune : Tune) (text : List ℕ) → IsTextWithin (longest_text layout) text → tune.revision < greatest_revision → IsTune layout (revised tune text)
 revised_is_tune tune text within less = record { revised = omega arith; revision = omega arith; text = within.tune_text; fits = within.fits }
 
 -- an outcome whose tunes keep the limits
-abbrev pub KeepsLimits : TunesOutcome → Type 0
-KeepsLimits outcome = IsTunes outcome.0
+abbrev pub KeepsLimits : Layout → TunesOutcome → Type 0
+KeepsLimits layout outcome = IsTunes layout outcome.0
 
 -- of a replacement's two tests the second lets only a tune through that has not the greatest revision
-by_tests : (tune : Tune) (tunes : List Tune) (number : ℕ) (text : List ℕ) (stale young : Bool) → IsTextWithin longest_text text
-    → ltb tune.revision greatest_revision ≡ young → IsTunes tunes
-    → KeepsLimits (cond stale (tunes, Err (Stale tune.revision))
+by_tests : {layout : Layout} → (tune : Tune) (tunes : List Tune) (number : ℕ) (text : List ℕ) (stale young : Bool) → IsTextWithin (longest_text layout) text
+    → ltb tune.revision greatest_revision ≡ young → IsTunes layout tunes
+    → KeepsLimits layout (cond stale (tunes, Err (Stale tune.revision))
     (cond (not young) (tunes, Err Worn)
     (with_tune (revised tune text) tunes, Ok (Replaced number (tune.revision + 1)))))
 by_tests tune tunes number text true young within y state = state
@@ -168,9 +169,9 @@ by_tests tune tunes number text false true within y state =
     state_after_replace (revised tune text) tunes (revised_is_tune tune text within (ltb-true tune.revision greatest_revision y)) state
 
 -- a replacement keeps the limits, where its text is good
-pub state_after_text : (tunes : List Tune) (number revision : ℕ) (text : List ℕ) (found : Option Tune) → IsTunes tunes
-    → IsTextWithin longest_text text
-    → KeepsLimits (replace_tune tunes number revision text found)
+pub state_after_text : {layout : Layout} → (tunes : List Tune) (number revision : ℕ) (text : List ℕ) (found : Option Tune) → IsTunes layout tunes
+    → IsTextWithin (longest_text layout) text
+    → KeepsLimits layout (replace_tune tunes number revision text found)
 state_after_text tunes number revision text None state within = state
 state_after_text tunes number revision text (Some tune) state within =
     by_tests tune tunes number text (not (eqb tune.revision revision)) (ltb tune.revision greatest_revision) within refl state
@@ -211,18 +212,18 @@ length-without number (tune ∷ tunes) = elim (cases_Bool (eqb tune.number numbe
 ]
 
 -- and good tunes all
-pub each-without : (number : ℕ) (tunes : List Tune) → AllByRecursion IsTune tunes → AllByRecursion IsTune (without number tunes)
-each-without number [] each = tt
-each-without number (tune ∷ tunes) each = elim (cases_Bool (eqb tune.number number)) [
+pub each-without : (layout : Layout) (number : ℕ) (tunes : List Tune) → AllByRecursion (IsTune layout) tunes → AllByRecursion (IsTune layout) (without number tunes)
+each-without layout number [] each = tt
+each-without layout number (tune ∷ tunes) each = elim (cases_Bool (eqb tune.number number)) [
   | inl same ↦ rw same each.1
-  | inr other ↦ rw other (each.0, each-without number tunes each.1)
+  | inr other ↦ rw other (each.0, each-without layout number tunes each.1)
 ]
 
 -- a tune less keeps the limits
-pub state_after_delete : (number : ℕ) (tunes : List Tune) → IsTunes tunes → IsTunes (without number tunes)
+pub state_after_delete : {layout : Layout} → (number : ℕ) (tunes : List Tune) → IsTunes layout tunes → IsTunes layout (without number tunes)
 state_after_delete number tunes state = record {
   rises = rises-without number 0 tunes state.rises;
   numbers = omega (arith, greatest-without number tunes, state.numbers);
-  each = each-without number tunes state.each;
+  each = each-without _ number tunes state.each;
   count = omega (arith, length-without number tunes, state.count);
 }

@@ -34,6 +34,7 @@ use Rattle.tune_store.specs.declared.command.Refusal.{Refusal}
 use Rattle.tune_store.specs.declared.command.Refusal.TheVariants.{BookTooLong, NoTune, BadTune, NotOne, Unknown, Stale, Worn, ArchiveFull}
 use Rattle.tune_store.specs.declared.command.Refusal.TheVariants.{NumbersSpent, Taken, InSet, NoSuchSet, SetTaken, SetFull, SetsFull, NoSuchPlace}
 use Rattle.tune_store.specs.declared.command.Refusal.TheVariants.{BadName, BadNumber, BadQuery, FileFull, OutOfMemory, Device, Closed}
+use Rattle.tune_store.specs.declared.layout.Layout.{Layout}
 
 -- CALLS OF SETS
 -- where sets refuse, they stay, and the refusal is one of these
@@ -124,10 +125,10 @@ two_tests_keep old new false true x y reply refusal h = refl
 two_tests_keep old new false false x y reply refusal h = cc
 
 -- an import that is refused keeps the tunes
-import_keeps : (old : List Tune) (texts : Texts) → KeepsOnErr old (import_book old texts)
-import_keeps old (Err fault) refusal h = refl
-import_keeps old (Ok texts) refusal h =
-    two_tests_keep old _ (ltb most_tunes (length old + length texts)) (ltb greatest_number (greatest old + length texts)) _ _ _ refusal h
+import_keeps : (layout : Layout) (old : List Tune) (texts : Texts) → KeepsOnErr old (import_book layout old texts)
+import_keeps layout old (Err fault) refusal h = refl
+import_keeps layout old (Ok texts) refusal h =
+    two_tests_keep old _ (ltb (most_tunes layout) (length old + length texts)) (ltb greatest_number (greatest old + length texts)) _ _ _ refusal h
 
 -- so does a replacement, of the tune that was found
 replace_tune_keeps : (old : List Tune) (number revision : ℕ) (text : List ℕ) (found : Option Tune)
@@ -179,8 +180,8 @@ add_keeps old name number (Some tune) = sets_keep (IsOwnOrMemory (SetAdd name nu
 
 -- a command that is refused keeps the state
 pub refused_keeps : (old : State) (command : Command) → KeepsOnErr old (step old command)
-refused_keeps old (Import book) = step_keeps old _ (import_keeps old.tunes (book_answer longest_text book))
-refused_keeps old (Replace number revision book) = step_keeps old _ (replace_keeps old.tunes number revision (book_answer longest_text book))
+refused_keeps old (Import book) = step_keeps old _ (import_keeps _ old.tunes (book_answer (longest_text old.layout) book))
+refused_keeps old (Replace number revision book) = step_keeps old _ (replace_keeps old.tunes number revision (book_answer (longest_text old.layout) book))
 refused_keeps old (Delete number) = step_keeps old _ (delete_keeps old.tunes number (holder number old.sets) (tune_at number old.tunes))
 refused_keeps old (Renumber number to) =
     renumber_step (KeepsOnErr old) old number to (λ good same found other. renumber_keeps old number to good same found other)
@@ -227,10 +228,10 @@ replace_fault number revision book (fault.BadTune place why) = inl tt
 replace_fault number revision book fault.OutOfMemory = inr refl
 
 -- the refusals of an import
-import_refuses : (old : List Tune) (book : List ℕ) (texts : Texts) → Refuses (IsOwnOrMemory (Import book)) (import_book old texts).1
-import_refuses old book (Err fault) refusal h = let same : refusal_of fault ≡ refusal = cc in subst (IsOwnOrMemory (Import book)) same (import_fault book fault)
-import_refuses old book (Ok texts) refusal h =
-    two_tests_refuse (IsOwnOrMemory (Import book)) old _ (ltb most_tunes (length old + length texts))
+import_refuses : (layout : Layout) (old : List Tune) (book : List ℕ) (texts : Texts) → Refuses (IsOwnOrMemory (Import book)) (import_book layout old texts).1
+import_refuses layout old book (Err fault) refusal h = let same : refusal_of fault ≡ refusal = cc in subst (IsOwnOrMemory (Import book)) same (import_fault book fault)
+import_refuses layout old book (Ok texts) refusal h =
+    two_tests_refuse (IsOwnOrMemory (Import book)) old _ (ltb (most_tunes layout) (length old + length texts))
     (ltb greatest_number (greatest old + length texts)) _ _ _ (inl tt) (inl tt) refusal h
 
 -- those of a replacement, of the tune that was found
@@ -310,8 +311,8 @@ show_refuses number (Some tune) refusal h = cc
 
 -- the refusals of each command
 step_refuses : (old : State) (command : Command) → Refuses (IsOwnOrMemory command) (step old command).1
-step_refuses old (Import book) = import_refuses old.tunes book (book_answer longest_text book)
-step_refuses old (Replace number revision book) = replace_refuses old.tunes number revision book (book_answer longest_text book)
+step_refuses old (Import book) = import_refuses _ old.tunes book (book_answer (longest_text old.layout) book)
+step_refuses old (Replace number revision book) = replace_refuses old.tunes number revision book (book_answer (longest_text old.layout) book)
 step_refuses old (Delete number) = delete_refuses old.tunes number (holder number old.sets) (tune_at number old.tunes)
 step_refuses old (Renumber number to) =
     renumber_step (λ o. Refuses (IsOwnOrMemory (Renumber number to)) o.1) old number to

@@ -11,7 +11,7 @@ PlacesRise low count [] = ⊤
 PlacesRise low count (place ∷ places) =
     (low ≤ place) × (place < count) × PlacesRise (place + 1) count places
 
--- among these places is that of each tune that a query finds
-abbrev pub HoldsFound : Sought → List Tune → List ℕ → Type 0
-HoldsFound sought tunes places = (place : ℕ) (d : Tune) → place < length tunes
-    → finds sought (slice_index_or tunes place d).text ≡ true → Contains places place
+-- among these places is that of each tune that a query finds, by so many notes
+abbrev pub HoldsFound : ℕ → Sought → List Tune → List ℕ → Type 0
+HoldsFound notes sought tunes places = (place : ℕ) (d : Tune) → place < length tunes
+    → finds notes sought (slice_index_or tunes place d).text ≡ true → Contains places place

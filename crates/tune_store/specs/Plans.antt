@@ -6,6 +6,7 @@ use Rattle.std.specs.List.{remove, Contains, AllByRecursion}
 use Rattle.tune_sets.specs.Sets.{renumbered_sets}
 use Rattle.tune_sets.specs.Calls.{create_set, add_number, cut_place, drop_set}
 use Rattle.tune_sets.specs.declared.set_lists.TuneSet.{TuneSet}
+use Rattle.tune_store.specs.declared.layout.Layout.{Layout}
 use Rattle.tune_store.specs.declared.tune.Tune.{Tune}
 use Rattle.tune_store.specs.declared.catalog.Label.{Label}
 use Rattle.tune_store.specs.Limits.{most_tunes, greatest_number}
@@ -42,7 +43,7 @@ changed_sets change sets = sets
 
 -- the state after it
 abbrev pub changed : Change → State → State
-changed change state = record {
+changed change state = record state {
   tunes = changed_tunes change state.tunes;
   sets = changed_sets change state.sets;
 }
@@ -55,24 +56,24 @@ after (Some change) state = changed change state
 -- A change can be carried out on tunes of these labels, and on these sets: they stay within the
 -- limits, new numbers are above all others, there is a tune at its place, or of its number, and the
 -- sets accept it.
-abbrev pub CanChange : Change → List Label → List TuneSet → Type 0
-CanChange (Add first texts) labels sets = (length labels + vec_len texts ≤ most_tunes)
+abbrev pub CanChange : Change → Layout → List Label → List TuneSet → Type 0
+CanChange (Add first texts) layout labels sets = (length labels + vec_len texts ≤ most_tunes layout)
     × (first + vec_len texts ≤ greatest_number + 1)
     × AllByRecursion (λ label. label.number < first) labels × (0 < first)
-CanChange (Put place tune) labels sets = (place < length labels)
+CanChange (Put place tune) layout labels sets = (place < length labels)
     × ((d : Label) → (slice_index_or labels place d).number ≡ tune.number)
-CanChange (Take place) labels sets = place < length labels
-CanChange (Move number to) labels sets = Contains (numbers_of labels) number
+CanChange (Take place) layout labels sets = place < length labels
+CanChange (Move number to) layout labels sets = Contains (numbers_of labels) number
     × (¬ Contains (numbers_of labels) to) × (0 < to) × (to ≤ greatest_number)
-CanChange (NewSet name) labels sets = IsOk (create_set name sets).1
-CanChange (AddPlace name number) labels sets = IsOk (add_number name number sets).1
-CanChange (CutPlace name place) labels sets = IsOk (cut_place name place sets).1
-CanChange (DropSet name) labels sets = IsOk (drop_set name sets).1
+CanChange (NewSet name) layout labels sets = IsOk (create_set name sets).1
+CanChange (AddPlace name number) layout labels sets = IsOk (add_number name number sets).1
+CanChange (CutPlace name place) layout labels sets = IsOk (cut_place name place sets).1
+CanChange (DropSet name) layout labels sets = IsOk (drop_set name sets).1
 
 -- the same of a change, if there is one
-abbrev pub CanChangeTo : Option Change → List Label → List TuneSet → Type 0
-CanChangeTo None labels sets = ⊤
-CanChangeTo (Some change) labels sets = CanChange change labels sets
+abbrev pub CanChangeTo : Option Change → Layout → List Label → List TuneSet → Type 0
+CanChangeTo None layout labels sets = ⊤
+CanChangeTo (Some change) layout labels sets = CanChange change layout labels sets
 
 -- whether a change may ask for memory, in a store that has its tunes in memory
 abbrev pub grows : Option Change → Bool

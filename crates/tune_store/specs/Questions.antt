@@ -35,12 +35,13 @@ abbrev pub row_of : Tune → IndexRow
 row_of tune = record { number = tune.number; title = first_shown (titles_of tune.text) }
 
 -- a row for each tune that a query finds
-abbrev pub found : Query → List Tune → List IndexRow
-found query tunes = map row_of (filter (λ tune. matches query tune.text) tunes)
+abbrev pub found : ℕ → Query → List Tune → List IndexRow
+found notes query tunes = map row_of (filter (λ tune. matches notes query tune.text) tunes)
 
 -- the tunes that a query finds, unless it asks for nothing
-abbrev pub find : Query → List Tune → Result Reply Refusal
-find query tunes = if is_bad query then Err BadQuery else Ok (Found (found query tunes))
+abbrev pub find : ℕ → Query → List Tune → Result Reply Refusal
+find notes query tunes =
+    if is_bad query then Err BadQuery else Ok (Found (found notes query tunes))
 
 -- TITLES
 -- a row for each of these titles of a tune, at places from this one on

@@ -5,17 +5,24 @@ use Rattle.std.specs.List.{AllByRecursion}
 use Rattle.abc_fields.specs.Tunes.{IsTuneText}
 use Rattle.tune_sets.specs.Sets.{AreSetLists}
 use Rattle.tune_sets.specs.declared.set_lists.TuneSet.{TuneSet}
+use Rattle.tune_store.specs.declared.layout.Layout.{Layout}
+use Rattle.tune_store.specs.declared.layout.Layout.TheVariants.{One}
 use Rattle.tune_store.specs.declared.tune.Tune.{Tune}
 use Rattle.tune_store.specs.Limits.{longest_text, most_tunes, greatest_number, greatest_revision}
 
--- tunes by rising number, and set lists by rising name
+-- a layout, tunes by rising number, and set lists by rising name
 pub record State : Type 0 where
+  pub layout : Layout
   pub tunes : List Tune
   pub sets : List TuneSet
 
--- the state of an archive in which nothing is yet
+-- the state of an archive of a layout in which nothing is yet
+abbrev pub empty_of : Layout → State
+empty_of layout = record { layout = layout; tunes = []; sets = [] }
+
+-- that of a new archive in memory
 abbrev pub empty_state : State
-empty_state = record { tunes = []; sets = [] }
+empty_state = empty_of One
 
 -- what a store stands for, and whether an earlier call was answered by a fault of its device
 pub record Standing : Type 0 where
@@ -42,18 +49,18 @@ RisesFrom low [] = ⊤
 RisesFrom low (tune ∷ tunes) = (low < tune.number) × RisesFrom tune.number tunes
 
 -- a tune within the limits
-pub record IsTune (tune : Tune) : Type 0 where
+pub record IsTune (layout : Layout) (tune : Tune) : Type 0 where
   pub revised : 0 < tune.revision
   pub revision : tune.revision ≤ greatest_revision
   pub text : IsTuneText tune.text
-  pub fits : length tune.text ≤ longest_text
+  pub fits : length tune.text ≤ longest_text layout
 
 -- tunes within the limits, by rising number
-pub record IsTunes (tunes : List Tune) : Type 0 where
+pub record IsTunes (layout : Layout) (tunes : List Tune) : Type 0 where
   pub rises : RisesFrom 0 tunes
   pub numbers : greatest tunes ≤ greatest_number
-  pub each : AllByRecursion IsTune tunes
-  pub count : length tunes ≤ most_tunes
+  pub each : AllByRecursion (IsTune layout) tunes
+  pub count : length tunes ≤ most_tunes layout
 
 -- each of these numbers is that of a tune
 abbrev pub AreHeld : List Tune → List ℕ → Type 0
@@ -65,6 +72,6 @@ NameTunes tunes sets = AllByRecursion (λ set. AreHeld tunes set.numbers) sets
 
 -- a state within the limits
 pub record IsState (state : State) : Type 0 where
-  pub tunes : IsTunes state.tunes
+  pub tunes : IsTunes state.layout state.tunes
   pub sets : AreSetLists state.sets
   pub named : NameTunes state.tunes state.sets

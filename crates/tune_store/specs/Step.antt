@@ -3,7 +3,7 @@ use Rattle.std.specs.Prelude.{Ok}
 use Rattle.abc_fields.specs.Books.{book_answer}
 use Rattle.tune_sets.specs.Sets.{holder}
 use Rattle.tune_sets.specs.Calls.{places_of, rows_of}
-use Rattle.tune_store.specs.Limits.{longest_text}
+use Rattle.tune_store.specs.Limits.{longest_text, notes_of}
 use Rattle.tune_store.specs.State.{State, tune_at}
 use Rattle.tune_store.specs.TuneSteps.{Outcome, tunes_step, import_book, replace_book}
 use Rattle.tune_store.specs.TuneSteps.{delete_tune, renumber}
@@ -19,16 +19,17 @@ use Rattle.tune_store.specs.declared.command.Reply.TheVariants as reply
 -- the state after a command, and its answer
 abbrev pub step : State → Command → Outcome
 step state (Import book) =
-    tunes_step state (import_book state.tunes (book_answer longest_text book))
+    tunes_step state
+    (import_book state.layout state.tunes (book_answer (longest_text state.layout) book))
 step state (Replace number revision book) =
     tunes_step state
-    (replace_book state.tunes number revision (book_answer longest_text book))
+    (replace_book state.tunes number revision (book_answer (longest_text state.layout) book))
 step state (Delete number) =
     tunes_step state
     (delete_tune state.tunes number (holder number state.sets) (tune_at number state.tunes))
 step state (Renumber number to) = renumber state number to
 step state (Show number) = (state, shown number (tune_at number state.tunes))
-step state (Find query) = (state, find query state.tunes)
+step state (Find query) = (state, find (notes_of state.layout) query state.tunes)
 step state Titles = (state, Ok (reply.Titled (titled state.tunes)))
 step state (SetNew name) = set_new state name
 step state (SetAdd name number) = set_add state name number

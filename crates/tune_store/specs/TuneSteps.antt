@@ -5,6 +5,7 @@ use Rattle.abc_fields.specs.Books.{Texts}
 use Rattle.abc_fields.specs.declared.book.BookFault.{BookFault}
 use Rattle.abc_fields.specs.declared.book.BookFault.TheVariants as fault
 use Rattle.tune_sets.specs.Sets.{renumbered_sets}
+use Rattle.tune_store.specs.declared.layout.Layout.{Layout}
 use Rattle.tune_store.specs.declared.tune.Tune.{Tune}
 use Rattle.tune_store.specs.Limits.{most_tunes, greatest_number, greatest_revision}
 use Rattle.tune_store.specs.State.{State, greatest, tune_at}
@@ -49,9 +50,9 @@ abbrev pub with_texts : List Tune → List (List ℕ) → List Tune
 with_texts tunes texts = tunes ++ numbered (greatest tunes + 1) texts
 
 -- the texts of a book: all of them are added, or none
-abbrev pub import_texts : List Tune → List (List ℕ) → TunesOutcome
-import_texts tunes texts =
-    if nat_lt most_tunes (length tunes + length texts) then (tunes, Err ArchiveFull)
+abbrev pub import_texts : Layout → List Tune → List (List ℕ) → TunesOutcome
+import_texts layout tunes texts =
+    if nat_lt (most_tunes layout) (length tunes + length texts) then (tunes, Err ArchiveFull)
     else if nat_lt greatest_number (greatest tunes + length texts)
     then (tunes, Err NumbersSpent)
     else (
@@ -60,9 +61,9 @@ import_texts tunes texts =
     )
 
 -- the tunes of a book, or why it has none
-abbrev pub import_book : List Tune → Texts → TunesOutcome
-import_book tunes (Ok texts) = import_texts tunes texts
-import_book tunes (Err why) = (tunes, Err (refusal_of why))
+abbrev pub import_book : Layout → List Tune → Texts → TunesOutcome
+import_book layout tunes (Ok texts) = import_texts layout tunes texts
+import_book layout tunes (Err why) = (tunes, Err (refusal_of why))
 
 -- THE TUNE OF A NUMBER CHANGED
 -- the tunes with this one in the place of the one of its number
@@ -139,7 +140,7 @@ moved number to tunes = moved_if to tunes (tune_at number tunes)
 
 -- the same, and each place of a set that names the tune names it by the new number
 abbrev pub renumbered_state : ℕ → ℕ → State → State
-renumbered_state number to state = record {
+renumbered_state number to state = record state {
   tunes = moved number to state.tunes;
   sets = renumbered_sets number to state.sets;
 }

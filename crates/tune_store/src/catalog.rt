@@ -5,12 +5,15 @@ ghost use Rattle.std.specs.List.{range_with_len};
 ghost use Rattle.tune_store.specs.Candidates.{PlacesRise, HoldsFound};
 ghost use Rattle.tune_store.specs.Labels.{labels_of, LabelsRise};
 ghost use Rattle.tune_store.specs.Plans.{EndsFetch, IsRefusalOfFetch};
+ghost use Rattle.tune_store.specs.Limits.{notes_of};
 ghost use Rattle.tune_store.specs.State.{State};
+ghost use Rattle.tune_store.specs.declared.layout.Layout.{Layout};
 ghost use Rattle.tune_store.specs.declared.tune.Tune.{Tune};
 ghost use Rattle.tune_store.specs.declared.catalog.Label.{Label};
 ghost use Rattle.tune_sets.specs.declared.set_lists.TuneSet.{TuneSet};
 
 use crate::command::Refusal;
+use crate::layout::Layout;
 use abc_fields::TuneText;
 use std::alloc::{AllocError, Global};
 use tune_queries::Sought;
@@ -33,6 +36,9 @@ pub struct Label {
 pub trait Catalog {
     /// The labels of its tunes, by rising number. They are known whatever a device does.
     ghost labels: { Self → List Label };
+
+    /// Its layout. It is known whatever a device does.
+    ghost layout: { Self → Layout };
 
     /// Its set lists. They are known whatever a device does.
     ghost sets: { Self → List TuneSet };
@@ -70,6 +76,10 @@ pub trait Catalog {
         ensures none { IfNone result ((place : ℕ) (d : Label) → place < length (labels self.now)
             → (slice_index_or (labels self.now) place d).number ≢ number) };
 
+    /// Its layout.
+    fn layout(&self) -> Layout
+        ensures { result ≡ layout self.now };
+
     /// The set lists.
     fn sets(&self) -> &SetLists
         ensures { result.now ≡ sets self.now };
@@ -96,7 +106,8 @@ pub trait Catalog {
         ensures { MatchResult result
             (λ places. fetched self.old self.new
             × PlacesRise 0 (length (labels self.old)) places.items
-            × (honest self.new → HoldsFound sought.now (state self.old).tunes places.items))
+            × (honest self.new → HoldsFound (notes_of (layout self.old)) sought.now
+            (state self.old).tunes places.items))
             (λ refusal. IsRefusalOfFetch refusal
             × EndsFetch fetched failed self.old refusal self.new) };
 
@@ -114,6 +125,9 @@ pub trait Catalog {
     /// A fetch changes no label.
     ghost labels_stay: { (old new : Self) → fetched old new → labels new ≡ labels old };
 
+    /// Nor the layout.
+    ghost layout_stays: { (old new : Self) → fetched old new → layout new ≡ layout old };
+
     /// Nor a set list.
     ghost sets_stay: { (old new : Self) → fetched old new → sets new ≡ sets old };
 
@@ -127,6 +141,10 @@ pub trait Catalog {
     /// The labels are those of its tunes.
     ghost labels_are: { (catalog : Self) → honest catalog
         → labels catalog ≡ labels_of (state catalog).tunes };
+
+    /// The layout is that of what it holds.
+    ghost layout_is: { (catalog : Self) → honest catalog
+        → layout catalog ≡ (state catalog).layout };
 
     /// The set lists are those that it holds.
     ghost sets_are: { (catalog : Self) → honest catalog

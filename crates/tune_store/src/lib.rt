@@ -4,6 +4,7 @@
 mod catalog;
 mod command;
 mod laws;
+mod layout;
 mod list_archive;
 mod plans;
 mod questions;
@@ -16,8 +17,9 @@ mod tune_store;
 pub use catalog::{Catalog, Label, all_places};
 pub use command::{Command, Refusal, Reply};
 pub use laws::{law_of_places, law_of_revisions};
+pub use layout::Layout;
 pub use list_archive::ListArchive;
 pub use plans::{Change, Plan, decide};
 pub use rows::{IndexRow, RowList};
-pub use tune::{GREATEST_NUMBER, GREATEST_REVISION, LONGEST_TEXT, MOST_TUNES, Tune};
+pub use tune::{GREATEST_NUMBER, GREATEST_REVISION, Tune};
 pub use tune_store::TuneStore;

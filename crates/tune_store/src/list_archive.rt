@@ -17,6 +17,7 @@ ghost use Rattle.tune_store.specs.Inside.Lists.{CarriedOut, Made, IsPlaceAfter, 
 
 use crate::catalog::{Catalog, Label, all_places};
 use crate::command::{Command, Refusal, Reply};
+use crate::layout::Layout;
 use crate::plans::{Change, Plan, decide};
 use crate::tune::Tune;
 use crate::tune_store::TuneStore;
@@ -30,6 +31,7 @@ use tune_sets::SetLists;
 #[derive(Drop)]
 pub struct ListArchive {
     alloc: Global,
+    layout: Layout,
     tunes: Vec<Tune>,
     sets: SetLists,
 }
@@ -41,9 +43,9 @@ impl Model for ListArchive {
 
     ghost use Rattle.tune_store.specs.Inside.Lists.{state_with};
 
-    ghost view = { λ archive. state_with archive.tunes.items archive.sets };
+    ghost view = { λ archive. state_with archive.layout archive.tunes.items archive.sets };
 
-    ghost invariant = { λ archive. IsState (state_with archive.tunes.items archive.sets) };
+    ghost invariant = { λ archive. IsState (state_with archive.layout archive.tunes.items archive.sets) };
 }
 
 impl ListArchive {
@@ -54,6 +56,7 @@ impl ListArchive {
     {
         ListArchive {
             alloc,
+            layout: Layout::One,
             tunes: Vec::new(alloc),
             sets: SetLists::new(alloc),
         }
@@ -74,6 +77,8 @@ impl Catalog for ListArchive {
 
     ghost labels = { λ archive. labels_of archive.tunes };
 
+    ghost layout = { λ archive. archive.layout };
+
     ghost sets = { λ archive. archive.sets };
 
     ghost state = { λ archive. archive };
@@ -90,6 +95,8 @@ impl Catalog for ListArchive {
 
     ghost labels_stay = { λ old new same. ap (λ state. labels_of state.tunes) same };
 
+    ghost layout_stays = { λ old new same. ap (λ state. state.layout) same };
+
     ghost sets_stay = { λ old new same. ap (λ state. state.sets) same };
 
     ghost was_honest = { λ old new same honest. honest };
@@ -97,6 +104,8 @@ impl Catalog for ListArchive {
     ghost state_stays = { λ old new same honest. same };
 
     ghost labels_are = { λ archive honest. refl };
+
+    ghost layout_is = { λ archive honest. refl };
 
     ghost sets_are = { λ archive honest. refl };
 
@@ -114,6 +123,10 @@ impl Catalog for ListArchive {
 
     fn place_of(&self, number: u32) -> Option<usize> {
         place_of(&self.tunes, number)
+    }
+
+    fn layout(&self) -> Layout {
+        self.layout
     }
 
     fn sets(&self) -> &SetLists {
@@ -173,30 +186,40 @@ impl TuneStore for ListArchive {
             self.old self.new (passed self.old command.now result) }
     {
         let plan = decide(self.alloc, self, command)?;
-        carry_out(&mut self.tunes, &mut self.sets, plan)
+        carry_out(self.layout, &mut self.tunes, &mut self.sets, plan)
     }
 }
 
 // Makes the change of a plan, and gives its reply. The one refusal is out of memory.
-fn carry_out(tunes: &mut Vec<Tune>, sets: &mut SetLists, plan: Plan) -> Result<Reply, Refusal>
+fn carry_out(
+    layout: Layout,
+    tunes: &mut Vec<Tune>,
+    sets: &mut SetLists,
+    plan: Plan,
+) -> Result<Reply, Refusal>
     requires rises { RisesFrom 0 tunes.old.items }
-    requires possible { CanChangeTo plan.change (labels_of tunes.old.items) sets.old }
-    ensures { CarriedOut (state_with tunes.old.items sets.old) plan result
-        (state_with tunes.new.items sets.new) }
+    requires possible { CanChangeTo plan.change layout (labels_of tunes.old.items) sets.old }
+    ensures { CarriedOut (state_with layout tunes.old.items sets.old) plan result
+        (state_with layout tunes.new.items sets.new) }
 {
     let Plan { change, reply } = plan;
     if let Some(change) = change {
-        make(tunes, sets, change)?;
+        make(layout, tunes, sets, change)?;
     }
     Ok(reply)
 }
 
 // Makes a change. The error is out of memory, and everything stays then.
-fn make(tunes: &mut Vec<Tune>, sets: &mut SetLists, change: Change) -> Result<(), Refusal>
+fn make(
+    _layout: Layout,
+    tunes: &mut Vec<Tune>,
+    sets: &mut SetLists,
+    change: Change,
+) -> Result<(), Refusal>
     requires rises { RisesFrom 0 tunes.old.items }
-    requires possible { CanChange change (labels_of tunes.old.items) sets.old }
-    ensures { Made (state_with tunes.old.items sets.old) change result
-        (state_with tunes.new.items sets.new) }
+    requires possible { CanChange change _layout (labels_of tunes.old.items) sets.old }
+    ensures { Made (state_with _layout tunes.old.items sets.old) change result
+        (state_with _layout tunes.new.items sets.new) }
 {
     match change {
         Change::Add { first, texts } => {

@@ -96,7 +96,7 @@ pub fn decide<C: Catalog>(
         (λ plan. grows plan.change ≡ true → takes_memory command.now ≡ true)
         (λ refusal. refusal ≡ Refusal.OutOfMemory → takes_memory command.now ≡ true) }
     ensures possible { IfOk result
-        (λ plan. CanChangeTo plan.change (C.labels catalog.old) (C.sets catalog.old)) }
+        (λ plan. CanChangeTo plan.change (C.layout catalog.old) (C.labels catalog.old) (C.sets catalog.old)) }
     ensures asks { asks command.now ≡ true → IfOk result (λ plan. plan.change ≡ None) }
     ensures fetched { MatchResult result (λ _. C.fetched catalog.old catalog.new)
         (λ refusal. EndsFetch C.fetched C.failed catalog.old refusal catalog.new) }

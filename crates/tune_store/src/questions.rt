@@ -1,11 +1,13 @@
 // Answers questions.
 ghost use Rattle.std.specs.Prelude.{◌≡◌, ◌<◌, ℕ, List, [], ◌∷◌, ◌++◌, map, None, Some, Ok, Err};
-ghost use Rattle.std.specs.Prelude.{length, slice_index_or};
+ghost use Rattle.std.specs.Prelude.{◌≤◌, length, slice_index_or};
 ghost use Rattle.std.specs.Prelude.{if◌then◌else◌, IfOk, IfErr, OnOk, MatchResult};
 ghost use Rattle.abc_fields.specs.Fields.{titles_of};
+ghost use Rattle.tune_incipit.specs.Limits.{fewest_notes, most_notes};
 ghost use Rattle.tune_queries.specs.Queries.{finds};
 ghost use Rattle.tune_sets.specs.Calls.{places_of, rows_of};
 ghost use Rattle.tune_titles.specs.Order.{Row, row_order, in_order};
+ghost use Rattle.tune_store.specs.Limits.{notes_of};
 ghost use Rattle.tune_store.specs.State.{State, RisesFrom, tune_at};
 ghost use Rattle.tune_store.specs.Questions.{shown, find, first_shown, titles_from, title_row};
 ghost use Rattle.tune_store.specs.Questions.{titled, row_found, set_shown, exported, set_exported};
@@ -57,17 +59,19 @@ pub(crate) fn find<C: Catalog>(
     query: &Query,
 ) -> Result<Plan, Refusal>
     ensures planned { let state = C.state catalog.old in
-        C.honest catalog.new → Decided state result (state, find query.now state.tunes) }
+        C.honest catalog.new → Decided state result
+        (state, find (notes_of state.layout) query.now state.tunes) }
     ensures names { IfErr result (IsRefusalOfPlan (Command.Find query.now)) }
     ensures asks { IfOk result (λ plan. plan.change ≡ None) }
     ensures fetched { MatchResult result (λ _. C.fetched catalog.old catalog.new)
         (λ refusal. EndsFetch C.fetched C.failed catalog.old refusal catalog.new) }
 {
-    let sought = query.sought()?;
+    let notes = catalog.layout().notes();
+    let sought = query.sought(notes)?;
     let mut rows = Vec::new(alloc);
     let places = catalog.candidates(&sought)?;
     for place in &places {
-        try_at(alloc, catalog, &mut rows, &sought, *place)?;
+        try_at(alloc, catalog, &mut rows, &sought, notes, *place)?;
     }
     Ok(Plan::answer(Reply::Found(RowList::from_vec(rows))))
 }
@@ -78,12 +82,15 @@ fn try_at<C: Catalog>(
     catalog: &mut C,
     rows: &mut Vec<IndexRow>,
     sought: &Sought,
+    notes: usize,
     place: usize,
 ) -> Result<(), Refusal>
-    requires { place < length (C.labels catalog.old) }
+    requires place { place < length (C.labels catalog.old) }
+    requires few { fewest_notes ≤ notes }
+    requires many { notes ≤ most_notes }
     ensures row { OnOk result (C.honest catalog.new → (d : Tune)
         → let tune = slice_index_or (C.state catalog.old).tunes place d in
-        rows.new.items ≡ rows.old.items ++ (if finds sought.now tune.text
+        rows.new.items ≡ rows.old.items ++ (if finds notes sought.now tune.text
         then record { number = tune.number; title = first_shown (titles_of tune.text) } ∷ []
         else [])) }
     ensures names { IfErr result IsRefusalOfFetch }
@@ -92,7 +99,7 @@ fn try_at<C: Catalog>(
 {
     let number = catalog.label(place).number;
     catalog.fetch(place)?;
-    add_if_found(alloc, rows, sought, number, catalog.text(place))?;
+    add_if_found(alloc, rows, sought, notes, number, catalog.text(place))?;
     Ok(())
 }
 
@@ -101,14 +108,17 @@ fn add_if_found(
     alloc: Global,
     rows: &mut Vec<IndexRow>,
     sought: &Sought,
+    notes: usize,
     number: u32,
     text: &TuneText,
 ) -> Result<(), AllocError>
+    requires few { fewest_notes ≤ notes }
+    requires many { notes ≤ most_notes }
     ensures { OnOk result (rows.new.items ≡ rows.old.items
-        ++ (if finds sought.now text.now
+        ++ (if finds notes sought.now text.now
         then record { number = number; title = first_shown (titles_of text.now) } ∷ [] else [])) }
 {
-    if sought.matches(text) {
+    if sought.matches(notes, text) {
         rows.push(row_of(alloc, number, text)?)?;
     }
     Ok(())

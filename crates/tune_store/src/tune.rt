@@ -1,14 +1,8 @@
-// A tune of an archive, and the limits of archives.
+// A tune of an archive, and the limits of numbers and revisions.
 ghost use Rattle.std.specs.Prelude.{◌≡◌, IfOk};
 
 use abc_fields::TuneText;
 use std::alloc::{AllocError, Global};
-
-/// How many bytes the text of a tune has at most (this archive's profile).
-pub const LONGEST_TEXT: usize = 16_000;
-
-/// How many tunes an archive has at most (this archive's profile).
-pub const MOST_TUNES: usize = 20_000;
 
 /// The greatest number that a tune may have (this archive's profile). The least is 1.
 pub const GREATEST_NUMBER: u32 = 999_999;

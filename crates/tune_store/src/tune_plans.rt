@@ -17,23 +17,27 @@ ghost use Rattle.tune_store.specs.Inside.Plans.{IsOwnOrMemory};
 use crate::catalog::Catalog;
 use crate::command::{Command, Refusal, Reply};
 use crate::plans::{Change, Plan};
-use crate::tune::{GREATEST_NUMBER, GREATEST_REVISION, LONGEST_TEXT, MOST_TUNES, Tune};
+use crate::tune::{GREATEST_NUMBER, GREATEST_REVISION, Tune};
 use abc_fields::{TuneText, judge_book, split_book};
 use std::alloc::Global;
 
 // What a book of new tunes asks for.
 pub(crate) fn import<C: Catalog>(alloc: Global, catalog: &C, book: &[u8]) -> Result<Plan, Refusal>
-    ensures planned { (state : State) → IsTunes state.tunes
+    ensures planned { (state : State) → IsTunes state.layout state.tunes
+        → C.layout catalog.now ≡ state.layout
         → labels_of state.tunes ≡ C.labels catalog.now → Decided state result
-        (tunes_step state (import_book state.tunes (book_answer longest_text book.now))) }
+        (tunes_step state (import_book state.layout state.tunes
+        (book_answer (longest_text state.layout) book.now))) }
     ensures names { IfErr result (IsOwnOrMemory (Command.Import book.now)) }
     ensures possible { IfOk result
-        (λ plan. CanChangeTo plan.change (C.labels catalog.now) (C.sets catalog.now)) }
+        (λ plan. CanChangeTo plan.change (C.layout catalog.now) (C.labels catalog.now) (C.sets catalog.now)) }
 {
-    let judged = judge_book(alloc, book, LONGEST_TEXT)?;
+    let layout = catalog.layout();
+    let judged = judge_book(alloc, book, layout.longest_text())?;
     let count = judged.count();
     let len = catalog.len();
-    if count > MOST_TUNES || len > MOST_TUNES - count {
+    let most = layout.most_tunes();
+    if count > most || len > most - count {
         return Err(Refusal::ArchiveFull);
     }
     let greatest = last_number(catalog);
@@ -69,14 +73,15 @@ pub(crate) fn replace<C: Catalog>(
     revision: u32,
     book: &[u8],
 ) -> Result<Plan, Refusal>
-    ensures planned { (state : State) → IsTunes state.tunes
+    ensures planned { (state : State) → IsTunes state.layout state.tunes
+        → C.layout catalog.now ≡ state.layout
         → labels_of state.tunes ≡ C.labels catalog.now → Decided state result (tunes_step state
-        (replace_book state.tunes number revision (book_answer longest_text book.now))) }
+        (replace_book state.tunes number revision (book_answer (longest_text state.layout) book.now))) }
     ensures names { IfErr result (IsOwnOrMemory (Command.Replace number revision book.now)) }
     ensures possible { IfOk result
-        (λ plan. CanChangeTo plan.change (C.labels catalog.now) (C.sets catalog.now)) }
+        (λ plan. CanChangeTo plan.change (C.layout catalog.now) (C.labels catalog.now) (C.sets catalog.now)) }
 {
-    let text = only_text(split_book(alloc, book, LONGEST_TEXT)?)?;
+    let text = only_text(split_book(alloc, book, catalog.layout().longest_text())?)?;
     replace_text(catalog, number, revision, text)
 }
 
@@ -106,7 +111,7 @@ fn replace_text<C: Catalog>(
     ensures names { IfErr result (λ refusal.
         (book : List ℕ) → IsOwnOrMemory (Command.Replace number revision book) refusal) }
     ensures possible { IfOk result
-        (λ plan. CanChangeTo plan.change (C.labels catalog.now) (C.sets catalog.now)) }
+        (λ plan. CanChangeTo plan.change (C.layout catalog.now) (C.labels catalog.now) (C.sets catalog.now)) }
 {
     let Some(place) = catalog.place_of(number) else {
         return Err(Refusal::Unknown { number });
@@ -136,7 +141,7 @@ pub(crate) fn delete<C: Catalog>(catalog: &C, number: u32) -> Result<Plan, Refus
         (holder number state.sets) (tune_at number state.tunes))) }
     ensures names { IfErr result (IsRefusalOfOwn (Command.Delete number)) }
     ensures possible { IfOk result
-        (λ plan. CanChangeTo plan.change (C.labels catalog.now) (C.sets catalog.now)) }
+        (λ plan. CanChangeTo plan.change (C.layout catalog.now) (C.labels catalog.now) (C.sets catalog.now)) }
     ensures takes { IfOk result (λ plan. grows plan.change ≡ false) }
 {
     let Some(place) = catalog.place_of(number) else {
@@ -155,7 +160,7 @@ pub(crate) fn renumber<C: Catalog>(catalog: &C, number: u32, to: u32) -> Result<
         → Decided state result (renumber state number to) }
     ensures names { IfErr result (IsRefusalOfOwn (Command.Renumber number to)) }
     ensures possible { IfOk result
-        (λ plan. CanChangeTo plan.change (C.labels catalog.now) (C.sets catalog.now)) }
+        (λ plan. CanChangeTo plan.change (C.layout catalog.now) (C.labels catalog.now) (C.sets catalog.now)) }
     ensures takes { IfOk result (λ plan. grows plan.change ≡ false) }
 {
     if to == 0 || to > GREATEST_NUMBER {

@@ -2,6 +2,7 @@
 use Rattle.std.specs.Prelude.{◌≡◌, ℕ, ◌<◌, ◌≤◌, List, length, true, Result, Ok, Err, Some}
 use Rattle.std.specs.List.{AllWithin}
 use Rattle.tune_sets.specs.declared.set_lists.TuneSet.{TuneSet}
+use Rattle.tune_store.specs.declared.layout.Layout.{Layout}
 use Rattle.tune_store.specs.State.{State}
 use Rattle.tune_store.specs.Plans.{after, changed, grows}
 use Rattle.tune_store.specs.declared.tune.Tune.{Tune}
@@ -11,9 +12,9 @@ use Rattle.tune_store.specs.declared.command.Reply.{Reply}
 use Rattle.tune_store.specs.declared.command.Refusal.{Refusal}
 use Rattle.tune_store.specs.declared.command.Refusal.TheVariants.{OutOfMemory}
 
--- the state of a list of tunes and of sets
-abbrev pub state_with : List Tune → List TuneSet → State
-state_with tunes sets = record { tunes = tunes; sets = sets }
+-- the state of a layout, a list of tunes and of sets
+abbrev pub state_with : Layout → List Tune → List TuneSet → State
+state_with layout tunes sets = record { layout = layout; tunes = tunes; sets = sets }
 
 -- from this state to that a plan was carried out, and its reply given; or memory ran out, which the
 -- change asked for, and the state is as it was

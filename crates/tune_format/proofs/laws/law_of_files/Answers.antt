@@ -6,7 +6,7 @@ use Rattle.tune_format.proofs.laws.law_of_files.Goals as goal
 pub returns : goal.returns
 returns c = record {
   pages = λ file pages. pages_read pages file;
-  tunes = λ pages tunes sets filed are few. tunes_filed pages tunes sets filed are (omega (arith, few));
+  tunes = λ layout pages tunes sets filed are few. tunes_filed pages tunes sets filed are (omega (arith, few));
   sets = sets_filed;
   state = state_read;
   file = file_read;

@@ -8,5 +8,5 @@ invariant-loop-place g l = record {
   since : g.C.Catalog.fetched l.initial.catalog l.catalog;
   rows : g.C.Catalog.honest l.catalog
       → let tunes = (g.C.Catalog.state l.fn.catalog).tunes in
-      l.rows.items ++ rows_at_places l.query tunes (drop l.place-index l.place-items) ≡ rows_at_places l.query tunes l.place-items;
+      l.rows.items ++ rows_at_places l.notes l.query tunes (drop l.place-index l.place-items) ≡ rows_at_places l.notes l.query tunes l.place-items;
 }

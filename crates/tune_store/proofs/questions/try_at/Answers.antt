@@ -14,6 +14,6 @@ returns-clause-row g c = λ honest d.
     let stays = ap (λ (s : State). s.tunes) (law.state_stays old c.fetch.new.self one honest) in
     let same : labels_of tunes ≡ g.C.Catalog.labels old = sym (law.labels_are old (law.was_honest old c.fetch.new.self one honest)) in
     let named : c.label-number.result.number ≡ (get_or tunes c.args.place d).number =
-    ap (λ (r : Label). r.number) (c.label-number.ensures no_label ∙ label_at tunes (g.C.Catalog.labels old) c.args.place d no_label same c.requires) in
+    ap (λ (r : Label). r.number) (c.label-number.ensures no_label ∙ label_at tunes (g.C.Catalog.labels old) c.args.place d no_label same c.requires.place) in
     let written = rw stays at (c.text.ensures honest d) in
     rw (← named, ← written) c.in_ok-add_if_found.ensures
