@@ -5,14 +5,14 @@ ghost use Rattle.tune_store.specs.State.{empty_state};
 ghost use Rattle.test_stores.specs.Record.{LeftSince, IsOfCount, IsRecorded, last_place};
 ghost use Rattle.test_stores.specs.Inside.Settling.{settles, left_earlier};
 
-use crate::asking::asks;
+use crate::asking::{asks, takes_pages};
 use std::alloc::{AllocError, Global};
 use tune_store::{Command, ListArchive, Refusal, Reply, TuneStore};
 
 /// A fake store: an archive in memory, and the record of a device that holds one number, how many
 /// tunes there are. Each accepted change writes it, and each entry is a file that a stop may have
 /// left: the last now, the others earlier. The device is full after `most` entries: from then on
-/// each change is refused `FileFull`.
+/// each command that may take pages is refused `FileFull`, and others still find room.
 #[derive(Drop)]
 pub struct RecordedStore {
     archive: ListArchive,
@@ -21,7 +21,7 @@ pub struct RecordedStore {
 }
 
 impl RecordedStore {
-    /// A store without a tune, whose record begins with that. The device has room for `most`
+    /// A store without a tune, whose record begins with that. Its device is full after `most`
     /// entries. The error is out of memory.
     pub fn new(alloc: Global, most: usize) -> Result<RecordedStore, AllocError>
         ensures state { IfOk result (λ store. ⟦<RecordedStore as TuneStore>⟧.state store
@@ -66,7 +66,7 @@ impl TuneStore for RecordedStore {
         left_earlier store.entries.items since earlier file le left };
 
     fn apply(&mut self, command: &Command) -> Result<Reply, Refusal> {
-        if !asks(command) && self.entries.len() >= self.most {
+        if takes_pages(command) && self.entries.len() >= self.most {
             return Err(Refusal::FileFull);
         }
         self.entries.reserve(1)?;

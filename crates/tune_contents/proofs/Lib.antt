@@ -7,3 +7,5 @@ pub mod ListLemmas
 pub mod RisingLemmas
 pub mod RowLemmas
 pub mod StepLemmas
+pub mod TakesLemmas
+pub mod StatePages

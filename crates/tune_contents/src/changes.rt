@@ -4,7 +4,10 @@ ghost use Rattle.tune_pages.specs.Kept.{HonestAt};
 ghost use Rattle.tune_pages.specs.Reading.{LooksAt};
 ghost use Rattle.tune_pages.specs.Work.{stand, Fits};
 ghost use Rattle.tune_sets.specs.declared.faults.SetFault.TheVariants as set_fault;
-ghost use Rattle.tune_pages.specs.declared.fault.Fault.TheVariants.{OutOfMemory};
+ghost use Rattle.tune_pages.specs.declared.fault.Fault.TheVariants.{OutOfMemory, FileFull};
+ghost use Rattle.std.specs.Prelude.{◌+◌, ◌<◌};
+ghost use Rattle.tune_pages.specs.Faults.{free_pages};
+ghost use Rattle.tune_sets.specs.Sets.{AreSetLists};
 ghost use Rattle.tune_store.specs.Plans.{changed_sets, CanChange};
 ghost use Rattle.tune_contents.specs.Answers.{AnswersLay};
 ghost use Rattle.tune_contents.specs.Claimed.{AreRows};
@@ -12,6 +15,8 @@ ghost use Rattle.tune_contents.specs.Holds.{labels_in, HoldsSomeState, LaysState
 ghost use Rattle.tune_contents.specs.Inside.Changes.{RowsAccept, SetsAccept, LaysChange, KeepsRows};
 ghost use Rattle.tune_contents.specs.Inside.Changes.{changes_tunes, changes_sets};
 ghost use Rattle.tune_contents.specs.Inside.Laying.{HoldsSomeTunes};
+ghost use Rattle.tune_pages.specs.FreePages.{TakesAtMost};
+ghost use Rattle.tune_contents.specs.Inside.Takes.{change_pages};
 
 use crate::contents::Contents;
 use crate::laying::{add_tunes, lay_contents, put_tune, take_tune};
@@ -86,6 +91,8 @@ fn lay_tunes<D: Disk>(
     ensures rows { OnOk result (KeepsRows change rows.old.items rows.new.items) }
     ensures looks { LooksAt D.honest D.failures D.state result pages.old pages.new }
     ensures answer { AnswersLay result pages.new.closed }
+    ensures takes { HonestAt D.honest pages.new.disk → TakesAtMost (change_pages change) result
+        (stand pages.old work.old) (stand pages.new work.new) }
 {
     match change {
         Change::Add { first, texts } => add_tunes(alloc, pages, work, rows, first, texts),
@@ -164,6 +171,12 @@ pub fn lay<D: Disk>(
     ensures fits { OnOk result (Fits pages.new work.new) }
     ensures looks { LooksAt D.honest D.failures D.state result pages.old pages.new }
     ensures answer { AnswersLay result pages.new.closed }
+    // For a change within the limits the file is full only where fewer pages are free than its
+    // tunes, the list and the set lists have.
+    ensures full { HonestAt D.honest pages.new.disk → AreRows contents.now.rows.items
+        → AreSetLists (changed_sets change contents.now.sets) → IfErr result (λ fault.
+        fault ≡ FileFull
+        → free_pages (stand pages.old work.old).used < change_pages change + 144) }
 {
     let mut rows = copy_rows(room, &contents.rows)?;
     let sets = sets_after(&contents.sets, &change)?;

@@ -5,6 +5,7 @@
 mod changes;
 mod claiming;
 mod contents;
+mod laws;
 mod laying;
 mod room;
 mod rows;
@@ -12,4 +13,5 @@ mod rows;
 pub use changes::lay;
 pub use claiming::claim;
 pub use contents::Contents;
+pub use laws::law_of_state_pages;
 pub use room::Room;

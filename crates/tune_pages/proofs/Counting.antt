@@ -11,7 +11,7 @@ use Rattle.tune_pages.specs.declared.fault.Fault.{Fault}
 use Rattle.tune_pages.specs.declared.fault.Fault.TheVariants.{FileFull, OutOfMemory, Device, Closed}
 use Rattle.tune_pages.proofs.Putting.{Laid, free_within}
 
-abbrev worth : Bool → ℕ
+abbrev pub worth : Bool → ℕ
 worth b = cond (not b) 1 0
 
 full_none : (m : List Bool) → IsFull m → free_pages m ≡ 0

@@ -18,3 +18,5 @@ pub mod Taking
 pub mod Searching
 pub mod Lookups
 pub mod Examples
+pub mod FreePages
+pub mod Wants

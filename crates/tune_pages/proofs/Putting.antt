@@ -10,6 +10,7 @@ use Rattle.tune_pages.specs.Chain.{next_of, piece_of, IsLink, Leads, bytes_along
 use Rattle.tune_pages.specs.Layout.{piece_room}
 use Rattle.tune_pages.specs.Stand.{Stand, IsUsed, IsFree, IsLeastFree, AllLeastFree, marked, AllFree, KeepsOthers, PutsChain, placed}
 use Rattle.tune_pages.specs.Stand.{with_page, taken, taken_with}
+use Rattle.tune_pages.proofs.Wants.{as_many}
 use Rattle.tune_pages.proofs.Chains.{SameAlong, leads_kept, bytes_kept, leads_more, bytes_more, marked_more, free_more}
 
 pub length-placed : (p : ℕ) (image : List ℕ) (pages : List (List ℕ)) → p ≤ length pages → length (placed p image pages) ≡ max (length pages) (p + 1)
@@ -216,8 +217,9 @@ laid_more old now first page next done image one two laid is_one is_two free_nex
 -- the last page
 pub laid_end : (old now : Stand) (first page : ℕ) (done image bytes : List ℕ) (two : Stand) → Laid old now first page done
     → two ≡ with_page page image now → IsLink image → next_of image ≡ 0 → done ++ piece_of image ≡ bytes → IsPadded image
+    → 0 < length (piece_of image) → length (piece_of image) ≤ piece_room
     → (trail : List ℕ) × PutsChain old two first trail bytes
-laid_end old now first page done image bytes two laid is link goes whole is_padded = (
+laid_end old now first page done image bytes two laid is link goes whole is_padded some few = (
   trail',
   record {
     chain = record {
@@ -226,6 +228,8 @@ laid_end old now first page done image bytes two laid is link goes whole is_padd
           ∙ ap (λ (b : List ℕ). b ++ piece_of image) laid.read ∙ whole;
     };
     padded = put.padded;
+    count = as_many (length trail') (length bytes) (omega (arith, size, laid.count, some, length-append laid.trail (page ∷ [])))
+        (omega (arith, size, laid.count, few, length-append laid.trail (page ∷ [])));
     free = laid.free;
     least = laid.least;
     used = ap (λ (s : Stand). s.used) is ∙ laid.used;
@@ -238,6 +242,9 @@ laid_end old now first page done image bytes two laid is link goes whole is_padd
   where
     trail' : List ℕ
     trail' = laid.trail ++ page ∷ []
+
+    size : length bytes ≡ length done + length (piece_of image)
+    size = ap (λ (b : List ℕ). length b) (sym whole) ∙ length-append done (piece_of image)
 
     page_in : page ≤ length now.pages
     page_in = omega (arith, laid.within)
@@ -300,8 +307,8 @@ taken_used old now one first page next done laid is = subst (λ (s : Stand). IsU
 -- A chain of one page.
 pub laid_alone : (old now : Stand) (page : ℕ) (image bytes : List ℕ) → now ≡ taken_with page image old → IsLeastFree old.used page → 0 < page
     → page ≤ length old.pages → IsLink image → next_of image ≡ 0 → piece_of image ≡ bytes → IsPadded image
-    → (trail : List ℕ) × PutsChain old now page trail bytes
-laid_alone old now page image bytes is least some le link ends holds is_padded = (
+    → 0 < length bytes → length bytes ≤ piece_room → (trail : List ℕ) × PutsChain old now page trail bytes
+laid_alone old now page image bytes is least some le link ends holds is_padded has few = (
   page ∷ [],
   record {
     chain = record {
@@ -315,6 +322,7 @@ laid_alone old now page image bytes is least some le link ends holds is_padded =
       holds = append-nil (piece_of (page_at now.pages page)) ∙ ap piece_of here ∙ holds;
     };
     padded = All-cons (λ p. IsPadded (page_at now.pages p)) page [] (subst IsPadded (sym here) is_padded) (All-nil (λ (p : ℕ). IsPadded (page_at now.pages p)));
+    count = as_many 1 (length bytes) (omega (arith, has)) (omega (arith, few));
     free = (least.free, tt);
     least = (least, tt);
     used = ap (λ (s : Stand). s.used) is;

@@ -9,4 +9,5 @@ pub mod Layout
 pub mod Opened
 pub mod Reading
 pub mod Stand
+pub mod FreePages
 pub mod Work

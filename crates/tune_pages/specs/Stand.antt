@@ -4,6 +4,7 @@ use Rattle.std.specs.Prelude.{◌++◌, length, take, drop, slice_index_or, slic
 use Rattle.tune_journal.specs.Layout.{block_bytes}
 use Rattle.tune_journal.specs.Pages.{page_at}
 use Rattle.tune_pages.specs.Chain.{IsChain, ArePadded}
+use Rattle.tune_pages.specs.Faults.{pages_for}
 
 -- A list of pages, and which of them are in use; it has a mark for each page up to the limit.
 pub record Stand : Type 0 where
@@ -79,10 +80,12 @@ pub record KeepsOthers (trail : List ℕ) (old new : List (List ℕ)) : Type 0 w
   pub longer : length old ≤ length new
   pub same : (p : ℕ) → All (λ q. q ≢ p) trail → page_at new p ≡ page_at old p
 
--- A new chain stands on pages that were free, the least ones, and nothing else changes.
+-- A new chain stands on pages that were free, the least ones, as many as its bytes want, and
+-- nothing else changes.
 pub record PutsChain (old new : Stand) (first : ℕ) (trail bytes : List ℕ) : Type 0 where
   pub chain : IsChain new.pages first trail bytes
   pub padded : ArePadded new.pages trail
+  pub count : length trail ≡ pages_for (length bytes)
   pub free : AllFree trail old.used
   pub least : AllLeastFree trail old.used
   pub used : new.used ≡ marked true trail old.used

@@ -3,6 +3,10 @@ ghost use Rattle.std.specs.Prelude.{◌≡◌, ◌<◌, ◌≤◌, ◌++◌, [],
 ghost use Rattle.tune_pages.specs.Chain.{IsChain};
 ghost use Rattle.tune_pages.specs.Frame.{Apart, AllApart, Allocates, Frees, Puts, TradesPages};
 ghost use Rattle.tune_pages.specs.Stand.{Stand, IsUsed, IsFree, PutsChain, HasChain};
+ghost use Rattle.tune_pages.specs.Stand.{AllUsed, AllFree, marked};
+ghost use Rattle.tune_pages.specs.Faults.{free_pages, pages_for};
+ghost use Rattle.tune_journal.specs.Layout.{block_bytes};
+ghost use Rattle.std.specs.Prelude.{◌+◌, All, true, false};
 ghost use Rattle.tune_pages.specs.Stand.{taken, with_page, without_page, without_pages};
 ghost use Rattle.tune_pages.specs.Work.{FitsOn, stand_on};
 ghost use Rattle.tune_pages.specs.declared.work.Work.{Work};
@@ -101,4 +105,15 @@ pub fn law_of_works()
     ensures count { (pages : List (List ℕ)) (used : List Bool) (work : Work)
         → FitsOn pages used work → length pages ≤ length used
         → length (stand_on pages used work).pages ≤ length (stand_on pages used work).used }
+{}
+
+/// The law of free pages: how many pages are free.
+pub fn law_of_free_pages()
+    ensures freed { (trail : List ℕ) (used : List Bool) → AllUsed trail used
+        → free_pages (marked false trail used) ≡ free_pages used + length trail }
+    ensures taken { (trail : List ℕ) (used : List Bool) → AllFree trail used
+        → free_pages (marked true trail used) + length trail ≡ free_pages used }
+    ensures count { (pages : List (List ℕ)) (first : ℕ) (trail bytes : List ℕ)
+        → All (λ page. length page ≡ block_bytes) pages → IsChain pages first trail bytes
+        → length trail ≡ pages_for (length bytes) }
 {}

@@ -75,7 +75,7 @@ list_raised old new command (Err refusal) answers = tt
 pub answers_within : (old new : Standing) (command : Command) (answer : Result Reply Refusal) → Answers old command answer new
     → IsState old.state → IsState new.state
 answers_within _ _ _ _ (stepped old new command answer e) is = subst IsState (ap (λ (o : Outcome). o.0) e) (step_keeps_limits old command is)
-answers_within _ _ _ _ (file_full old command changes) is = is
+answers_within _ _ _ _ (file_full old command takes) is = is
 answers_within _ _ _ _ (no_memory old command) is = is
 answers_within _ _ _ _ (failed_before old command) is = is
 answers_within _ _ _ _ (failed_after old command) is = step_keeps_limits old command is

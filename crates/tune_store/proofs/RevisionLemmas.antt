@@ -283,7 +283,7 @@ answer_counts _ _ _ _ number current (stepped old new command answer e) is_open 
     let P : Outcome → Type 0 = λ o. IsFalse (is_delete_of number command && is_ok o.1)
     → revision_of (now_at command (is_ok o.1) number) o.0 ≡ Some (current + cond (is_replace_of number command && is_ok o.1) 1 0) in
     subst P e (step_counts old number current command has) stays
-answer_counts _ _ _ _ number current (file_full old command changes) is_open has stays =
+answer_counts _ _ _ _ number current (file_full old command takes) is_open has stays =
     rw (and_false (is_replace_of number command), number_stays command number, add-zero) has
 answer_counts _ _ _ _ number current (no_memory old command) is_open has stays =
     rw (and_false (is_replace_of number command), number_stays command number, add-zero) has
@@ -295,7 +295,7 @@ answer_counts _ _ _ _ number current (is_closed old command) is_open has stays =
 open_before : (old new : Standing) (command : Command) (answer : Result Reply Refusal) → Answers old command answer new
     → new.closed ≡ false → old.closed ≡ false
 open_before _ _ _ _ (stepped old new command answer e) is_open = refl
-open_before _ _ _ _ (file_full old command changes) is_open = refl
+open_before _ _ _ _ (file_full old command takes) is_open = refl
 open_before _ _ _ _ (no_memory old command) is_open = refl
 open_before _ _ _ _ (failed_before old command) is_open = refl
 open_before _ _ _ _ (failed_after old command) is_open = refl
@@ -328,7 +328,7 @@ answers_raise _ _ _ _ (stepped old new command (Ok reply) e) =
     let P : Outcome → Type 0 = λ o. IsTrue (is_ok o.1) → RaisesReplaced command old o.0 in
     subst P e (step_raises old command) refl
 answers_raise _ _ _ _ (stepped old new command (Err refusal) e) = tt
-answers_raise _ _ _ _ (file_full old command changes) = tt
+answers_raise _ _ _ _ (file_full old command takes) = tt
 answers_raise _ _ _ _ (no_memory old command) = tt
 answers_raise _ _ _ _ (failed_before old command) = tt
 answers_raise _ _ _ _ (failed_after old command) = tt

@@ -431,7 +431,7 @@ pub refused_stays : (old new : Standing) (command : Command) (answer : Result Re
 refused_stays _ _ _ _ (stepped old new command (Ok reply) e) = tt
 refused_stays _ _ _ _ (stepped old new command (Err refusal) e) =
     λ other. ap open_at (sym (ap (λ (o : Outcome). o.0) e) ∙ refused_keeps old command refusal (ap (λ (o : Outcome). o.1) e))
-refused_stays _ _ _ _ (file_full old command changes) = λ other. refl
+refused_stays _ _ _ _ (file_full old command takes) = λ other. refl
 refused_stays _ _ _ _ (no_memory old command) = λ other. refl
 refused_stays _ _ _ _ (failed_before old command) = λ other. absurd (other refl)
 refused_stays _ _ _ _ (failed_after old command) = λ other. absurd (other refl)
@@ -452,7 +452,7 @@ answers_name _ _ _ _ (stepped old new command (Err refusal) e) = elim (step_refu
   | inl own ↦ inl own
   | inr memory ↦ inr (subst (IsRefusalOfAny command) (sym memory) tt)
 ]
-answers_name _ _ _ _ (file_full old command changes) = inr changes
+answers_name _ _ _ _ (file_full old command takes) = inr takes
 answers_name _ _ _ _ (no_memory old command) = inr tt
 answers_name _ _ _ _ (failed_before old command) = inr tt
 answers_name _ _ _ _ (failed_after old command) = inr tt
@@ -464,7 +464,7 @@ pub answers_close : (old new : Standing) (command : Command) (answer : Result Re
 answers_close _ _ _ _ (stepped old new command (Ok reply) e) = refl
 answers_close _ _ _ _ (stepped old new command (Err refusal) e) =
     sym (ap not (open_after refusal (step_not_of_device old command refusal (ap (λ (o : Outcome). o.1) e))))
-answers_close _ _ _ _ (file_full old command changes) = refl
+answers_close _ _ _ _ (file_full old command takes) = refl
 answers_close _ _ _ _ (no_memory old command) = refl
 answers_close _ _ _ _ (failed_before old command) = refl
 answers_close _ _ _ _ (failed_after old command) = refl
@@ -475,7 +475,7 @@ pub closed_answers : (old new : Standing) (command : Command) (answer : Result R
     → (answer ≡ Err Closed) ↔ (old.closed ≡ true)
 closed_answers _ _ _ _ (stepped old new command answer e) =
     (λ h. absurd (step_not_of_device old command Closed (ap (λ (o : Outcome). o.1) e ∙ h) (inr refl)), λ h. cc)
-closed_answers _ _ _ _ (file_full old command changes) = (λ h. cc, λ h. cc)
+closed_answers _ _ _ _ (file_full old command takes) = (λ h. cc, λ h. cc)
 closed_answers _ _ _ _ (no_memory old command) = (λ h. cc, λ h. cc)
 closed_answers _ _ _ _ (failed_before old command) = (λ h. cc, λ h. cc)
 closed_answers _ _ _ _ (failed_after old command) = (λ h. cc, λ h. cc)
@@ -487,7 +487,7 @@ pub answers_reach : (old new : Standing) (command : Command) (answer : Result Re
 answers_reach _ _ _ _ (stepped old new command (Ok reply) e) = inr (inl (sym (ap (λ (o : Outcome). o.0) e)))
 answers_reach _ _ _ _ (stepped old new command (Err refusal) e) =
     inl (sym (ap (λ (o : Outcome). o.0) e) ∙ refused_keeps old command refusal (ap (λ (o : Outcome). o.1) e))
-answers_reach _ _ _ _ (file_full old command changes) = inl refl
+answers_reach _ _ _ _ (file_full old command takes) = inl refl
 answers_reach _ _ _ _ (no_memory old command) = inl refl
 answers_reach _ _ _ _ (failed_before old command) = inl refl
 answers_reach _ _ _ _ (failed_after old command) = inr (inl refl)

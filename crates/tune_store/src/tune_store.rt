@@ -42,9 +42,10 @@ pub trait TuneStore {
     ghost stands_for: { List ℕ → State → Type 0 } = { λ _ _. ⊥ };
 
     /// Carries out a command, or refuses it. The refusals are those of the command, `FileFull`
-    /// of a change where no page is free for it, `OutOfMemory`, `Device` where the device failed,
-    /// and `Closed` where it failed before. After each but `Device` the store is as it was. After
-    /// `Device` it is closed, and makes no device call any more.
+    /// where no page is free for an import, a replace, a set-new or a set-add, `OutOfMemory`,
+    /// `Device` where the device failed, and `Closed` where it failed before. After each but
+    /// `Device` the store is as it was. After `Device` it is closed, and makes no device call any
+    /// more.
     ///
     /// A question leaves the device at the moment at which it was, whatever it is answered, and so
     /// does a command that is refused, but for `Device`: nothing is written (`quiet`).

@@ -1,4 +1,7 @@
-use Rattle.std.proofs.Common.{◌∙◌, List, subst, sym}
+use Rattle.std.proofs.Common.{◌∙◌, List, subst, sym, arith}
+use Rattle.std.proofs.lemmas.Result.{err_from_is_err_and}
+use Rattle.tune_sets.specs.Sets.{AreSetLists}
+use Rattle.tune_contents.proofs.StatePages.{lists_count}
 use Rattle.tune_pages.specs.Work.{stand}
 use Rattle.tune_format.specs.declared.rows.Row.{Row}
 use Rattle.tune_contents.specs.declared.contents.Contents.{Contents}
@@ -46,3 +49,17 @@ returns-clause-rows g c =
     let left = c.lay_tunes.new.rows.items in
     let same = c.in_ok-rows.ensures.rows ∙ c.deref.ensures.value in
     (subst (λ (rows : List Row). KeepsRows c.args.change rows left) same c.in_ok-lay_tunes.ensures.rows) old.sets c.requires.possible
+
+pub returns-in_err-nexts-clause-full : goal.returns-in_err-nexts-clause-full
+returns-in_err-nexts-clause-full g c =
+    let p = err_from_is_err_and c.from_residual-in_err-nexts.result c.from_residual-in_err-nexts.ensures.1 in
+    let old = c.args.contents.now in
+    let left = c.lay_tunes.new.rows.items in
+    let same = c.in_ok-rows.ensures.rows ∙ c.deref.ensures.value in
+    λ h rows sets.
+    (let kept = (subst (λ (r : List Row). KeepsRows c.args.change r left) same c.in_ok-lay_tunes.ensures.rows) old.sets c.requires.possible rows in
+    let are = subst AreSetLists (sym c.in_ok-sets.ensures.sets) sets in
+    let lists = lists_count left c.in_ok-sets.sets kept.few are in
+    let tunes = c.in_ok-lay_tunes.ensures.takes (c.in_err-nexts.ensures.looks.was_honest h) in
+    let takes = rw c.deref-2.ensures.value at c.in_err-nexts.ensures.takes h in
+    rw (p.1, p.2) (λ e. (let lt = takes e in omega (arith, lt, tunes, lists))))

@@ -1,3 +1,6 @@
+use Rattle.tune_pages.specs.Work.{stand}
+use Rattle.tune_pages.specs.FreePages.{TakesAtMost}
+use Rattle.tune_contents.specs.Inside.Takes.{change_pages}
 use Rattle.std.proofs.Common.{◌≡◌, ◌++◌, OnOk, slice_set, subst, sym, vec_len}
 use Rattle.std.specs.List.{remove, range_with_len}
 use Rattle.tune_store.specs.declared.plans.Change.{Change}
@@ -47,3 +50,15 @@ returns-in-Move-clause-rows g c =
     let to = c.in-Move.to in
     let keeps : KeepsRows (Move number to) rows left = λ sets can are. c.move_row.ensures.rows are (none_labelled rows to can.1) can.2 can.3 in
     subst (λ (change : Change). KeepsRows change rows left) (sym c.in-Move.is) keeps
+
+pub returns-in-Add-clause-takes : goal.returns-in-Add-clause-takes
+returns-in-Add-clause-takes g c =
+    let old = stand c.args.pages.now c.args.work.now in
+    let new = stand c.args.pages.now c.add_tunes.new.work in
+    λ h. subst (λ (change : Change). TakesAtMost (change_pages change) c.add_tunes.result old new) (sym c.in-Add.is) c.add_tunes.ensures.takes
+
+pub returns-in-Put-clause-takes : goal.returns-in-Put-clause-takes
+returns-in-Put-clause-takes g c =
+    let old = stand c.args.pages.now c.args.work.now in
+    let new = stand c.put_tune.new.pages c.put_tune.new.work in
+    λ h. subst (λ (change : Change). TakesAtMost (change_pages change) c.put_tune.result old new) (sym c.in-Put.is) (c.put_tune.ensures.takes h)

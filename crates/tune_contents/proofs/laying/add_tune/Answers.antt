@@ -1,4 +1,6 @@
-use Rattle.std.proofs.Common.{◌≡◌, [], ◌∷◌, ◌++◌, ◌∙◌, ap, sym, subst, List, ℕ, rules}
+use Rattle.tune_pages.specs.Faults.{pages_for}
+use Rattle.tune_contents.proofs.TakesLemmas.{put_count}
+use Rattle.std.proofs.Common.{length, ◌+◌, arith, ◌≡◌, [], ◌∷◌, ◌++◌, ◌∙◌, ap, sym, subst, List, ℕ, rules}
 use Rattle.std.proofs.lemmas.List.{map-append}
 use Rattle.tune_pages.specs.Stand.{PutsChain}
 use Rattle.tune_pages.specs.Work.{stand}
@@ -30,3 +32,13 @@ returns-clause-numbers g c =
     let row : Row = record { number = c.args.number; revision = 1; first = c.in_ok-first.first } in
     let pushed : c.push.new.self.items ≡ rows ++ row ∷ [] = search rules in
     ap numbers_in pushed ∙ map-append (λ (r : Row). r.number) rows (row ∷ [])
+
+pub returns-clause-takes : goal.returns-clause-takes
+returns-clause-takes g c =
+    let old = stand c.args.pages.now c.args.work.now in
+    let new = stand c.args.pages.now c.put_chain.new.work in
+    let put = c.in_ok-first.ensures.chain in
+    let size : length c.deref.result.now ≡ length c.args.text.now + 2 = search rules in
+    let taken = put_count old new c.in_ok-first.first put.0 c.deref.result.now put.1 in
+    let same : pages_for (length c.deref.result.now) ≡ pages_for (length c.args.text.now + 2) = ap pages_for size in
+    omega (arith, taken, same)

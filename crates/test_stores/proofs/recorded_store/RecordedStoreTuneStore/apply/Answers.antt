@@ -5,7 +5,7 @@ use Rattle.test_stores.proofs.RecordLemmas.{pushes}
 use Rattle.test_stores.proofs.recorded_store.RecordedStoreTuneStore.apply.Goals as goal
 
 pub returns-then-len-self-clause-answer : goal.returns-then-len-self-clause-answer
-returns-then-len-self-clause-answer c = λ honest. file_full c.args.self.now.archive c.args.command.now (sym c.asks.ensures ∙ c.if-not-asks.true)
+returns-then-len-self-clause-answer c = λ honest. file_full c.args.self.now.archive c.args.command.now (sym c.takes_pages.ensures ∙ c.if-takes_pages.true)
 
 pub returns-in_err-reserve-clause-answer : goal.returns-in_err-reserve-clause-answer
 returns-in_err-reserve-clause-answer c = λ honest.

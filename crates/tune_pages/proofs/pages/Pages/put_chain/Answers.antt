@@ -17,7 +17,8 @@ returns-then-bytes-le-ROOM-clause-chain g c =
     let link = link_last bytes c.link.result.bytes some few c.link.ensures in
     let call = c.take_least.ensures in
     ok_from c.take_least.result _ _ _ _
-    (λ page least within stand. laid_alone old now page c.link.result.bytes bytes stand least within.0 within.2 link.0 link.1 link.2 link.3)
+    (λ page least within stand. laid_alone old now page c.link.result.bytes bytes stand least within.0 within.2 link.0 link.1 link.2 link.3
+    some few)
     call.least call.within call.stand
 
 pub returns-then-bytes-le-ROOM-clause-answer : goal.returns-then-bytes-le-ROOM-clause-answer

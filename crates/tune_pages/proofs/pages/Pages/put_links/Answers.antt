@@ -2,6 +2,7 @@ use Rattle.std.proofs.Common.{◌≡◌, ◌<◌, ◌≤◌, ◌+◌, ◌-◌, �
 use Rattle.std.proofs.lemmas.List.{length-drop, length-take, take_all, take-append-drop}
 use Rattle.std.proofs.Math.Seq.{take-add}
 use Rattle.std.proofs.lemmas.Result.{err_from_is_err_and}
+use Rattle.tune_pages.specs.Chain.{piece_of}
 use Rattle.tune_pages.specs.Inside.Link.{link_bytes}
 use Rattle.tune_pages.specs.Stand.{Stand}
 use Rattle.tune_pages.specs.Work.{stand_on}
@@ -50,8 +51,11 @@ returns-clause-chain g c =
     (omega (arith, length-drop c.loop-at.at c.args.bytes.now)) (c.link-2.ensures
     ∙ ap (λ (l : List ℕ). link_bytes 0 l)
     (take_all (length c.args.bytes.now - c.loop-at.at) rest (omega (arith, length-drop c.loop-at.at c.args.bytes.now)))) in
+    let size : length (piece_of c.link-2.result.bytes) ≡ length rest = ap (λ (l : List ℕ). length l) link.2 in
+    let left = length-drop c.loop-at.at c.args.bytes.now in
     laid_end _ _ _ _ _ _ _ _ c.loop-at.invariant.laid c.in_ok-put_page-2.ensures.stand link.0 link.1
     (ap (λ (l : List ℕ). take c.loop-at.at c.args.bytes.now ++ l) link.2 ∙ take-append-drop c.loop-at.at c.args.bytes.now) link.3
+    (omega (arith, left, size)) (omega (arith, left, size))
 
 -- Where no page is left, more are wanted.
 pub returns-in_err-first-clause-answer : goal.returns-in_err-first-clause-answer

@@ -1,0 +1,58 @@
+-- How many pages chains take and give back.
+use Rattle.std.proofs.Common.{◌≡◌, ◌≢◌, ℕ, ◌+◌, ◌*◌, ◌<◌, ◌≤◌, List, [], ◌∷◌, ◌++◌, length, get_or, set, take, drop, replicate, Bool, true, false, not, All}
+use Rattle.std.proofs.Common.{refl, sym, ap, subst, arith, length-append, length-take, length-drop}
+use Rattle.std.proofs.lemmas.Grind.{div_ceil_times}
+use Rattle.std.proofs.lemmas.List.Sums.{sum_by-set}
+use Rattle.tune_journal.specs.Pages.{page_at}
+use Rattle.tune_pages.specs.Chain.{next_of, size_of, piece_of, IsLink, Leads, bytes_along, IsChain}
+use Rattle.tune_pages.specs.Faults.{free_pages, pages_for}
+use Rattle.tune_pages.specs.Layout.{piece_room}
+use Rattle.tune_pages.specs.Stand.{IsUsed, AllUsed, AllFree, marked}
+use Rattle.tune_pages.proofs.Counting.{worth, marked_less}
+use Rattle.tune_pages.proofs.Finishing.{used_within}
+
+-- each page has the bytes of a block
+abbrev pub AreSized : List (List ℕ) → Type 0
+AreSized pages = All (λ page. length page ≡ 4096) pages
+
+given_more : (m : List Bool) (p : ℕ) → IsUsed m p → free_pages (set m p false) ≡ free_pages m + 1
+given_more m p used =
+    let none : worth (get_or m p false) ≡ 0 = ap worth used in
+    let both = sum_by-set worth m p false false (used_within m p used) in
+    omega (arith, none, both)
+
+-- Pages that are given back are free, and no others become so.
+pub freed_more : (t : List ℕ) (m : List Bool) → AllUsed t m → free_pages (marked false t m) ≡ free_pages m + length t
+freed_more [] m all = omega arith
+freed_more (p ∷ t) m all = (let more = freed_more t (set m p false) all.1 in let here = given_more m p all.0 in omega (arith, more, here))
+
+piece_length : (image : List ℕ) → length image ≡ 4096 → IsLink image → length (piece_of image) ≡ size_of image
+unfolding piece_of
+piece_length image whole link = omega (arith, whole, link.most, length-take (size_of image) (drop 6 image), length-drop 6 image)
+
+-- The bytes of a chain fill all its pages but the last, and that is not empty.
+pub along_count : (pages : List (List ℕ)) (first : ℕ) (trail : List ℕ) → AreSized pages → Leads pages first trail 0
+    → (length (bytes_along pages trail) ≤ piece_room * length trail) × (piece_room * length trail < length (bytes_along pages trail) + piece_room)
+along_count pages first [] sized leads = (omega arith, omega arith)
+along_count pages first (p ∷ []) sized leads =
+    let image = page_at pages p in
+    let whole = piece_length image (sized p [] leads.2) leads.3 in
+    let all = length-append (piece_of image) (bytes_along pages []) in
+    (omega (arith, whole, all, leads.3.most), omega (arith, whole, all, leads.3.some))
+along_count pages first (p ∷ q ∷ t) sized leads =
+    let image = page_at pages p in
+    let whole = piece_length image (sized p [] leads.2) leads.3 in
+    let more = along_count pages (next_of image) (q ∷ t) sized leads.4 in
+    let all = length-append (piece_of image) (bytes_along pages (q ∷ t)) in
+    let some : next_of image ≢ 0 = λ e. absurd (omega (arith, e, leads.4.0, leads.4.1)) in
+    let full = leads.3.full some in
+    (omega (arith, whole, full, all, more.0), omega (arith, whole, full, all, more.1))
+
+-- A chain has as many pages as its bytes want.
+pub chain_count : (pages : List (List ℕ)) (first : ℕ) (trail bytes : List ℕ) → AreSized pages → IsChain pages first trail bytes
+    → length trail ≡ pages_for (length bytes)
+chain_count pages first trail bytes sized chain =
+    let both = along_count pages first trail sized chain.leads in
+    let size : length (bytes_along pages trail) ≡ length bytes = ap (λ (b : List ℕ). length b) chain.holds in
+    let ceil = div_ceil_times (length bytes) piece_room (omega arith) in
+    omega (arith, both.0, both.1, size, ceil.0, ceil.1)

@@ -1,0 +1,9 @@
+-- How many pages so many bytes want.
+use Rattle.std.proofs.Common.{◌≡◌, ℕ, ◌+◌, ◌*◌, ◌<◌, ◌≤◌, arith}
+use Rattle.std.proofs.lemmas.Grind.{div_ceil_times}
+use Rattle.tune_pages.specs.Layout.{piece_room}
+use Rattle.tune_pages.specs.Faults.{pages_for}
+
+-- as many as hold them, all but the last full
+pub as_many : (t n : ℕ) → piece_room * t < n + piece_room → n ≤ piece_room * t → t ≡ pages_for n
+as_many t n lt le = (let ceil = div_ceil_times n piece_room (omega arith) in omega (arith, lt, le, ceil.0, ceil.1))
