@@ -1,4 +1,5 @@
 -- Parts and tunes that are claimed.
+use Rattle.tune_store.specs.declared.layout.Layout.{Layout}
 use Rattle.std.proofs.Common.{◌≡◌, ℕ, List, [], ◌∷◌, ◌++◌, Bool, true, Result, Ok, Err, IfOk, IfErr, refl, sym, ◌∙◌, ap, subst}
 use Rattle.std.proofs.lemmas.List.{append-nil}
 use Rattle.tune_pages.specs.Claim.{Claimable, IsClaimable}
@@ -57,13 +58,13 @@ part_claimable pages claimed first front has there =
 
 -- ONE TUNE
 -- of the part that was claimed, each tune there is the one of its bytes
-pub tune_claimed : (pages : List (List ℕ)) (front : List Part) (now : List Bool) (low number first : ℕ) (bytes : List ℕ)
-    → ClaimsPart pages front now first bytes → IsTuneThere pages front low number first
-    → (revision : ℕ) × (text : List ℕ) × IsTuneChain bytes revision text
+pub tune_claimed : {layout : Layout} → (pages : List (List ℕ)) (front : List Part) (now : List Bool) (low number first : ℕ) (bytes : List ℕ)
+    → ClaimsPart pages front now first bytes → IsTuneThere layout pages front low number first
+    → (revision : ℕ) × (text : List ℕ) × IsTuneChain layout bytes revision text
 tune_claimed pages front now low number first bytes claims is =
     let part = is.there.part in
     let same : part ≡ claims.part = claims.only part (its_part pages front part is.there.more is.there.are) is.there.is_first in
-    (is.revision, is.text, subst (λ l. IsTuneChain l is.revision is.text) (ap (λ p. p.bytes) same ∙ claims.holds) is.tune)
+    (is.revision, is.text, subst (λ l. IsTuneChain _ l is.revision is.text) (ap (λ p. p.bytes) same ∙ claims.holds) is.tune)
 
 pub claims_on : (now pages : List (List ℕ)) (front : List Part) (claimed : List Bool) (first : ℕ) (bytes : List ℕ) → now ≡ pages
     → ClaimsPart now front claimed first bytes → ClaimsPart pages front claimed first bytes

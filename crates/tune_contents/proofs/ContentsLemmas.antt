@@ -6,6 +6,7 @@ use Rattle.tune_pages.specs.Stand.{Stand}
 use Rattle.tune_sets.specs.SetBytes.{written_sets}
 use Rattle.tune_sets.specs.declared.set_lists.TuneSet.{TuneSet}
 use Rattle.tune_sets.proofs.PlaceLemmas.{unheld_renumbered}
+use Rattle.tune_store.specs.declared.layout.Layout.{Layout}
 use Rattle.tune_store.specs.Plans.{CanChange, changed_sets, changed_tunes}
 use Rattle.tune_store.specs.State.{State, RisesFrom}
 use Rattle.tune_store.specs.declared.tune.Tune.{Tune}
@@ -22,25 +23,25 @@ use Rattle.tune_contents.specs.declared.contents.Contents.{Contents}
 use Rattle.tune_contents.proofs.ArchiveLemmas.{with_tunes}
 
 -- WHAT A CHANGE ASKS
-pub rows_accept : (change : Change) (rows : List Row) (sets : List TuneSet) → CanChange change (labels_in rows) sets → RowsAccept change rows
-rows_accept (Add first texts) rows sets can = let most = can.1 in omega (arith, most)
-rows_accept (Put place tune) rows sets can = let within = can.0 in omega (arith, within, length-map rows label_in)
-rows_accept (Take place) rows sets can = omega (arith, can, length-map rows label_in)
-rows_accept (Move number to) rows sets can = tt
-rows_accept (NewSet name) rows sets can = tt
-rows_accept (AddPlace name number) rows sets can = tt
-rows_accept (CutPlace name place) rows sets can = tt
-rows_accept (DropSet name) rows sets can = tt
+pub rows_accept : (layout : Layout) (change : Change) (rows : List Row) (sets : List TuneSet) → CanChange change layout (labels_in rows) sets → RowsAccept change rows
+rows_accept layout (Add first texts) rows sets can = let most = can.1 in omega (arith, most)
+rows_accept layout (Put place tune) rows sets can = let within = can.0 in omega (arith, within, length-map rows label_in)
+rows_accept layout (Take place) rows sets can = omega (arith, can, length-map rows label_in)
+rows_accept layout (Move number to) rows sets can = tt
+rows_accept layout (NewSet name) rows sets can = tt
+rows_accept layout (AddPlace name number) rows sets can = tt
+rows_accept layout (CutPlace name place) rows sets can = tt
+rows_accept layout (DropSet name) rows sets can = tt
 
-pub sets_accept : (change : Change) (rows : List Row) (sets : List TuneSet) → CanChange change (labels_in rows) sets → SetsAccept change sets
-sets_accept (Add first texts) rows sets can = tt
-sets_accept (Put place tune) rows sets can = tt
-sets_accept (Take place) rows sets can = tt
-sets_accept (Move number to) rows sets can = tt
-sets_accept (NewSet name) rows sets can = can
-sets_accept (AddPlace name number) rows sets can = can
-sets_accept (CutPlace name place) rows sets can = can
-sets_accept (DropSet name) rows sets can = can
+pub sets_accept : (layout : Layout) (change : Change) (rows : List Row) (sets : List TuneSet) → CanChange change layout (labels_in rows) sets → SetsAccept change sets
+sets_accept layout (Add first texts) rows sets can = tt
+sets_accept layout (Put place tune) rows sets can = tt
+sets_accept layout (Take place) rows sets can = tt
+sets_accept layout (Move number to) rows sets can = tt
+sets_accept layout (NewSet name) rows sets can = can
+sets_accept layout (AddPlace name number) rows sets can = can
+sets_accept layout (CutPlace name place) rows sets can = can
+sets_accept layout (DropSet name) rows sets can = can
 
 is_none : (found : Option (List ℕ)) → is_some found ≡ false → found ≡ None
 is_none None h = refl
@@ -70,10 +71,11 @@ archive_of s c state h = record {
   sets_bytes = h.filed.are_sets ∙ ap (λ (l : List TuneSet). written_sets l) (sym h.sets);
 }
 
-contents_of : (s : Stand) (c : Contents) (tunes : List Tune) (sets : List TuneSet) → c.sets ≡ sets
+contents_of : (s : Stand) (c : Contents) (layout : Layout) (tunes : List Tune) (sets : List TuneSet) → c.layout ≡ layout → c.sets ≡ sets
     → HoldsArchive s c.list_first c.sets_first c.rows.items c.sets tunes c.rows.items → IsRoot (page_at s.pages 0) c.list_first c.sets_first
-    → HoldsContents s c (record { tunes = tunes; sets = sets })
-contents_of s c tunes sets same a root = record {
+    → HoldsContents s c (record { layout = layout; tunes = tunes; sets = sets })
+contents_of s c layout tunes sets known same a root = record {
+  layout = known;
   filed = record {
     list = a.list;
     set_lists = a.set_lists;
@@ -114,12 +116,12 @@ some_archive s mid c rows change (state, rises, h) lays same =
 
 -- the tunes, and then the lists
 pub state_laid : (s mid new : Stand) (c left : Contents) (change : Change) → LaysChange s mid c.rows.items left.rows.items change
-    → (changes_tunes change ≡ false → left.rows.items ≡ c.rows.items) → left.sets ≡ changed_sets change c.sets
+    → (changes_tunes change ≡ false → left.rows.items ≡ c.rows.items) → left.layout ≡ c.layout → left.sets ≡ changed_sets change c.sets
     → LaysContents mid new (c.list_first, c.sets_first) (left.list_first, left.sets_first) (changes_tunes change) (changes_sets change c.sets) left.rows.items
     left.sets
     → LaysState s new c left change
-state_laid s mid new c left change lays same sets whole = λ state rises h.
+state_laid s mid new c left change lays same known sets whole = λ state rises h.
     (let tunes = changed_tunes change state.tunes in
     let done = whole c.rows.items c.sets tunes (λ e. sym (same e)) (λ e. sym (sets ∙ sets_stay change c.sets e))
     (changing s mid c left.rows.items change state rises h lays) in
-    contents_of new left tunes (changed_sets change state.sets) (sets ∙ ap (λ (l : List TuneSet). changed_sets change l) h.sets) done.0 done.1)
+    contents_of new left state.layout tunes (changed_sets change state.sets) (known ∙ h.layout) (sets ∙ ap (λ (l : List TuneSet). changed_sets change l) h.sets) done.0 done.1)

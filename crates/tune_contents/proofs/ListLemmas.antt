@@ -11,8 +11,10 @@ use Rattle.tune_pages.specs.declared.fault.ClaimFault.TheVariants.{Damaged, OutO
 use Rattle.tune_sets.specs.Sets.{AreSetLists}
 use Rattle.tune_sets.specs.SetBytes.{written_sets}
 use Rattle.tune_sets.specs.declared.set_lists.TuneSet.{TuneSet}
+use Rattle.tune_store.specs.declared.layout.Layout.{Layout}
+use Rattle.tune_store.specs.declared.layout.Layout.TheVariants.{One}
 use Rattle.tune_store.specs.Limits.{greatest_number}
-use Rattle.tune_store.specs.State.{greatest, tune_at, AreHeld}
+use Rattle.tune_store.specs.State.{IsTunes, greatest, tune_at, AreHeld}
 use Rattle.tune_store.specs.declared.tune.Tune.{Tune}
 use Rattle.tune_format.specs.Filed.{HoldTunes, rows_of}
 use Rattle.tune_format.specs.Parts.{Part, AreParts}
@@ -111,11 +113,11 @@ lists_claimed mid now pages claimed then last image lf sf list sets on also mark
 
 -- THE TUNES
 tunes_there : (pages : List (List ℕ)) (claimed : List Bool) (lf sf : ℕ) (list sets : List ℕ) (l : ClaimsLists pages claimed lf sf list sets)
-    → IsStateThere pages → AreTunesThere pages (l.list_part ∷ l.sets_part ∷ []) 0 list
+    → IsStateThere pages → AreTunesThere One pages (l.list_part ∷ l.sets_part ∷ []) 0 list
 tunes_there pages claimed lf sf list sets l there =
     let filed = there.1.filed in
     let same = l.only there.0.tunes there.0.sets filed in
-    let tunes = there.1.within.tunes in (
+    let tunes : IsTunes One there.0.tunes = subst (λ layout. IsTunes layout there.0.tunes) there.1.layout there.1.within.tunes in (
       there.0.tunes,
       filed.texts,
       record {
@@ -133,11 +135,11 @@ tunes_there pages claimed lf sf list sets l there =
 
 pub tunes_fault : (f : ClaimFault) (now pages : List (List ℕ)) (claimed : List Bool) (lf sf : ℕ) (list sets : List ℕ) → now ≡ pages
     → (0 < length pages → ClaimsLists pages claimed lf sf list sets)
-    → ((front : List Part) → HasClaimed now claimed front → IsChainFault f (AreTunesThere now front 0 list)) → IsChainFault f (IsStateThere pages)
+    → ((front : List Part) → HasClaimed now claimed front → IsChainFault f (AreTunesThere One now front 0 list)) → IsChainFault f (IsStateThere pages)
 tunes_fault Damaged now pages claimed lf sf list sets on lists call = λ there.
     let l = lists (state_some pages there) in
     call (l.list_part ∷ l.sets_part ∷ []) (on_now now pages claimed _ on l.has)
-    (subst (λ p. AreTunesThere p (l.list_part ∷ l.sets_part ∷ []) 0 list) (sym on) (tunes_there pages claimed lf sf list sets l there))
+    (subst (λ p. AreTunesThere One p (l.list_part ∷ l.sets_part ∷ []) 0 list) (sym on) (tunes_there pages claimed lf sf list sets l there))
 tunes_fault OutOfMemory now pages claimed lf sf list sets on lists call = tt
 tunes_fault Device now pages claimed lf sf list sets on lists call = tt
 
@@ -181,10 +183,10 @@ has_tune number (tune ∷ tunes) (part ∷ texts) (inr has) = elim (cases_Bool (
   | inr differs ↦ rw differs (has_tune number tunes texts has)
 ]
 
-pub sets_named : (f : ClaimFault) (pages : List (List ℕ)) (claimed : List Bool) (lf sf : ℕ) (list sets : List ℕ) (rows : List Row)
-    → (0 < length pages → ClaimsLists pages claimed lf sf list sets) → AreRows rows → list ≡ written_rows rows
+pub sets_named : (layout : Layout) (f : ClaimFault) (pages : List (List ℕ)) (claimed : List Bool) (lf sf : ℕ) (list sets : List ℕ) (rows : List Row)
+    → (0 < length pages → ClaimsLists pages claimed lf sf list sets) → AreRows layout rows → list ≡ written_rows rows
     → IsChainFault f ((lists : List TuneSet) × AreSetLists lists × (written_sets lists ≡ sets) × NameRows rows lists) → IsChainFault f (IsStateThere pages)
-sets_named Damaged pages claimed lf sf list sets rows lists are listed none = λ there.
+sets_named layout Damaged pages claimed lf sf list sets rows lists are listed none = λ there.
     let l = lists (state_some pages there) in
     let filed = there.1.filed in
     let same = l.only there.0.tunes there.0.sets filed in
@@ -201,8 +203,8 @@ sets_named Damaged pages claimed lf sf list sets rows lists are listed none = λ
           (λ set names. each_all (HasNumber rows) set.numbers
           (all_map (λ number. IsSome (tune_at number there.0.tunes)) (HasNumber rows) held set.numbers names)) there.0.sets there.1.within.named),
     )
-sets_named OutOfMemory pages claimed lf sf list sets rows lists are listed none = tt
-sets_named Device pages claimed lf sf list sets rows lists are listed none = tt
+sets_named layout OutOfMemory pages claimed lf sf list sets rows lists are listed none = tt
+sets_named layout Device pages claimed lf sf list sets rows lists are listed none = tt
 
 -- THE STATE
 length-rows_of : (tunes : List Tune) (texts : List Part) → HoldTunes texts tunes → length (rows_of tunes texts) ≡ length tunes
@@ -212,17 +214,18 @@ length-rows_of (tune ∷ tunes) (part ∷ texts) hold = let later : HoldTunes te
 
 pub state_claimed : (now pages : List (List ℕ)) (claimed last : List Bool) (lf sf : ℕ) (list bytes : List ℕ) (rows : List Row) (sets : List TuneSet)
     → now ≡ pages
-    → ClaimsLists pages claimed lf sf list bytes → AreRows rows → list ≡ written_rows rows → written_sets sets ≡ bytes → AreSetLists sets → NameRows rows sets
-    → ((front : List Part) → HasClaimed now claimed front → (low : ℕ) × (low ≤ greatest_number) × TunesClaimed now front last rows low)
-    → IsClaimed pages rows sets lf sf last
+    → ClaimsLists pages claimed lf sf list bytes → AreRows One rows → list ≡ written_rows rows → written_sets sets ≡ bytes → AreSetLists sets → NameRows rows sets
+    → ((front : List Part) → HasClaimed now claimed front → (low : ℕ) × (low ≤ greatest_number) × TunesClaimed One now front last rows low)
+    → IsClaimed pages One rows sets lf sf last
 state_claimed now pages claimed last lf sf list bytes rows sets on l are listed written are_sets names call =
     let front = l.list_part ∷ l.sets_part ∷ [] in
     let got = call front (on_now now pages claimed front on l.has) in
-    let t : TunesClaimed pages front last rows got.0 = subst (λ p. TunesClaimed p front last rows got.0) on got.2 in
+    let t : TunesClaimed One pages front last rows got.0 = subst (λ p. TunesClaimed One p front last rows got.0) on got.2 in
     let held : (number : ℕ) → HasNumber rows number → IsSome (tune_at number t.tunes) =
     λ number has. has_tune number t.tunes t.texts (subst (λ r. HasNumber r number) t.rows_are has) in
     let size = ap (λ r. length r) t.rows_are in
     record {
+      first_layout = refl;
       tunes = t.tunes;
       filed = record {
         list = l.list_part;

@@ -6,6 +6,7 @@ use Rattle.std.proofs.Math.ListN.{get_or-map}
 use Rattle.std.proofs.lemmas.List.{length-map, set-get_or}
 use Rattle.std.proofs.lemmas.List.Edits.{length-insert, length-remove}
 use Rattle.std.proofs.lemmas.List.FromFn.{length-range_with_len}
+use Rattle.tune_store.specs.declared.layout.Layout.{Layout}
 use Rattle.tune_store.specs.Labels.{numbers_of}
 use Rattle.tune_store.specs.Limits.{most_tunes, greatest_number}
 use Rattle.tune_store.specs.declared.catalog.Label.{Label}
@@ -21,10 +22,10 @@ Rises low [] = Unit {0}
 Rises low (number ∷ numbers) = (low < number) × Rises number numbers
 
 -- the numbers of rows by rising number, within the limits
-record AreNumbers (numbers : List ℕ) : Type 0 where
+record AreNumbers (layout : Layout) (numbers : List ℕ) : Type 0 where
   rise : Rises 0 numbers
   within : AllByRecursion (λ number. number ≤ greatest_number) numbers
-  few : length numbers ≤ most_tunes
+  few : length numbers ≤ most_tunes layout
 
 numbers_rise : (low : ℕ) (rows : List Row) → RowsRise low rows → Rises low (numbers_in rows)
 numbers_rise low [] rise = tt
@@ -44,14 +45,14 @@ rows_within : (rows : List Row) → AllByRecursion (λ number. number ≤ greate
 rows_within [] within = tt
 rows_within (row ∷ rows) within = (within.0, rows_within rows within.1)
 
-are_numbers : (rows : List Row) → AreRows rows → AreNumbers (numbers_in rows)
+are_numbers : {layout : Layout} → (rows : List Row) → AreRows layout rows → AreNumbers layout (numbers_in rows)
 are_numbers rows are = record {
   rise = numbers_rise 0 rows are.rise;
   within = numbers_within rows are.numbers;
   few = omega (arith, are.few, length-map rows (λ (row : Row). row.number));
 }
 
-are_rows : (rows : List Row) → AreNumbers (numbers_in rows) → AreRows rows
+are_rows : {layout : Layout} → (rows : List Row) → AreNumbers layout (numbers_in rows) → AreRows layout rows
 are_rows rows are = record {
   rise = rows_rise 0 rows are.rise;
   numbers = rows_within rows are.within;
@@ -70,12 +71,12 @@ number_there rows place number named =
     ∙ ap (λ (label : Label). label.number) (sym (get_or-map label_in rows place some_row)) ∙ named (label_in some_row)
 
 -- its number is that of the row there
-pub rows_put : (rows left : List Row) (place number : ℕ) → ((d : Label) → (get_or (labels_in rows) place d).number ≡ number)
-    → numbers_in left ≡ slice_set (numbers_in rows) place number → AreRows rows → AreRows left
-rows_put rows left place number named put are =
+pub rows_put : {layout : Layout} → (rows left : List Row) (place number : ℕ) → ((d : Label) → (get_or (labels_in rows) place d).number ≡ number)
+    → numbers_in left ≡ slice_set (numbers_in rows) place number → AreRows layout rows → AreRows layout left
+rows_put {layout} rows left place number named put are =
     let same : numbers_in left ≡ numbers_in rows =
     put ∙ ap (slice_set (numbers_in rows) place) (sym (number_there rows place number named)) ∙ set-get_or (numbers_in rows) place 0 in
-    are_rows left (subst AreNumbers (sym same) (are_numbers rows are))
+    are_rows left (subst (AreNumbers layout) (sym same) (are_numbers rows are))
 
 -- TUNES BEHIND THE OTHERS
 rises_from : (low first count : ℕ) → low < first → Rises low (range_with_len first count)
@@ -116,13 +117,13 @@ numbers_next numbers mid left first number count next is more so_far added =
     ∙ ap (λ all. numbers ++ all) (sym (range_next first count)) ∙ ap (λ n. numbers ++ range_with_len first n) (sym e)
 
 -- their numbers are above all others
-pub rows_added : (rows left : List Row) (first count : ℕ) → length (labels_in rows) + count ≤ most_tunes → first + count ≤ greatest_number + 1
+pub rows_added : {layout : Layout} → (rows left : List Row) (first count : ℕ) → length (labels_in rows) + count ≤ most_tunes layout → first + count ≤ greatest_number + 1
     → AllByRecursion (λ label. label.number < first) (labels_in rows) → 0 < first
-    → numbers_in left ≡ numbers_in rows ++ range_with_len first count → AreRows rows → AreRows left
-rows_added rows left first count few most below some added are =
+    → numbers_in left ≡ numbers_in rows ++ range_with_len first count → AreRows layout rows → AreRows layout left
+rows_added {layout} rows left first count few most below some added are =
     let numbers = numbers_in rows in
     let is = are_numbers rows are in
-    let all : AreNumbers (numbers ++ range_with_len first count) = record {
+    let all : AreNumbers layout (numbers ++ range_with_len first count) = record {
       rise = rises_on 0 first count numbers some (numbers_below first rows below) is.rise;
       within = within_on first count numbers most is.within;
       few = omega (
@@ -134,7 +135,7 @@ rows_added rows left first count few most below some added are =
         length-map rows label_in,
       );
     } in
-    are_rows left (subst AreNumbers (sym added) all)
+    are_rows left (subst (AreNumbers layout) (sym added) all)
 
 -- A TUNE TAKEN OUT
 rise_low : (low high : ℕ) (rows : List Row) → low ≤ high → RowsRise high rows → RowsRise low rows
@@ -151,14 +152,14 @@ all_cut P [] place l all = absurd (omega arith)
 all_cut P (row ∷ rows) zero l all = all.1
 all_cut P (row ∷ rows) (suc place) l all = (all.0, all_cut P rows place (omega arith) all.1)
 
-rows_cut : (rows : List Row) (place : ℕ) → place < length rows → AreRows rows → AreRows (remove rows place)
+rows_cut : {layout : Layout} → (rows : List Row) (place : ℕ) → place < length rows → AreRows layout rows → AreRows layout (remove rows place)
 rows_cut rows place l are = record {
   rise = rise_cut 0 rows place l are.rise;
   numbers = all_cut (λ row. row.number ≤ greatest_number) rows place l are.numbers;
   few = omega (arith, are.few, length-remove rows place l);
 }
 
-pub rows_taken : (rows : List Row) (place : ℕ) → place < length (labels_in rows) → AreRows rows → AreRows (remove rows place)
+pub rows_taken : {layout : Layout} → (rows : List Row) (place : ℕ) → place < length (labels_in rows) → AreRows layout rows → AreRows layout (remove rows place)
 rows_taken rows place l are = rows_cut rows place (omega (arith, l, length-map rows label_in)) are
 
 -- A TUNE UNDER ANOTHER NUMBER
@@ -196,9 +197,9 @@ none_has to [] none = tt
 none_has to (row ∷ rows) none = (λ e. none (0, omega arith, e), none_has to rows (λ (place, l, e). none (suc place, omega arith, e)))
 
 -- it goes where its new number belongs
-pub rows_moved : (rows : List Row) (to place at : ℕ) (new : Row) → place < length rows → at ≤ length (remove rows place)
-    → (RowsRise 0 (remove rows place) → IsRowAfter to (remove rows place) at) → new.number ≡ to → AreRows rows → (Contains (numbers_in rows) to → ⊥) → 0 < to
-    → to ≤ greatest_number → AreRows (insert (remove rows place) at new)
+pub rows_moved : {layout : Layout} → (rows : List Row) (to place at : ℕ) (new : Row) → place < length rows → at ≤ length (remove rows place)
+    → (RowsRise 0 (remove rows place) → IsRowAfter to (remove rows place) at) → new.number ≡ to → AreRows layout rows → (Contains (numbers_in rows) to → ⊥) → 0 < to
+    → to ≤ greatest_number → AreRows layout (insert (remove rows place) at new)
 rows_moved rows to place at new l within after is are none some most =
     let left = remove rows place in
     let fewer = rows_cut rows place l are in

@@ -15,7 +15,8 @@ use Rattle.tune_sets.specs.SetBytes.{written_sets, written_set, written_numbers}
 use Rattle.tune_sets.specs.Sets.{IsTuneSet, AreSetLists}
 use Rattle.tune_sets.specs.declared.set_lists.TuneSet.{TuneSet}
 use Rattle.tune_sets.proofs.ByteLemmas.{length-written_numbers}
-use Rattle.tune_store.specs.State.{State, IsTune, IsState}
+use Rattle.tune_store.specs.declared.layout.Layout.TheVariants.{One}
+use Rattle.tune_store.specs.State.{State, IsTune, IsTunes, IsState}
 use Rattle.tune_store.specs.declared.tune.Tune.{Tune}
 use Rattle.tune_format.specs.Filed.{HoldTunes, rows_of}
 use Rattle.tune_format.specs.Parts.{Part, IsPart, trails, root_and_trails, HoldsParts}
@@ -61,7 +62,7 @@ parts_count s parts sized holds =
 pub at_most : (n k : ℕ) → n ≤ 4090 * k → pages_for n ≤ k
 at_most n k le = let ceil = div_ceil_times n 4090 (omega arith) in omega (arith, le, ceil.0, ceil.1)
 
-tune_pages : (tunes : List Tune) → AllByRecursion IsTune tunes → chain_pages (map written_tune tunes) ≤ 4 * length tunes
+tune_pages : (tunes : List Tune) → AllByRecursion (IsTune One) tunes → chain_pages (map written_tune tunes) ≤ 4 * length tunes
 tune_pages [] are = omega arith
 tune_pages (tune ∷ tunes) are =
     let size : length (written_tune tune) ≡ length tune.text + 2 = omega arith in
@@ -92,20 +93,22 @@ list_size (row ∷ rows) = let more = list_size rows in omega (arith, more)
 
 -- ALL
 -- A state within the limits uses at most 80,145 pages: the root, 80,000 of tunes, 40 of their list and 104 of the set lists.
-pub state_count : (s : Stand) (contents : Contents) (state : State) → HoldsContents s contents state → IsState state → AreSized s.pages
+pub state_count : (s : Stand) (contents : Contents) (state : State) → HoldsContents s contents state → IsState state → state.layout ≡ One → AreSized s.pages
     → length s.used ≤ free_pages s.used + 80145
-state_count s contents state holds within sized =
+state_count s contents state holds within first sized =
     let filed = holds.filed in
+    let are : IsTunes One state.tunes = subst (λ layout. IsTunes layout state.tunes) first within.tunes in
+    let most : length state.tunes ≤ 20000 = are.count in
     let all = parts_count s (filed.list ∷ filed.set_lists ∷ filed.texts) sized holds.holds in
     let rows = rows_of state.tunes filed.texts in
     let listed : length filed.list.bytes ≡ 8 * length rows = ap length filed.listed ∙ list_size rows in
     let count = rows_count state.tunes filed.texts filed.are_tunes in
-    let list = at_most (length filed.list.bytes) 40 (omega (arith, listed, count, within.tunes.count)) in
+    let list = at_most (length filed.list.bytes) 40 (omega (arith, listed, count, most)) in
     let size : length filed.set_lists.bytes ≡ length (written_sets state.sets) = ap length filed.are_sets in
     let sets = at_most (length filed.set_lists.bytes) 104 (omega (arith, size, sets_size state.sets within.sets.each, within.sets.count)) in
     let texts : chain_pages (bytes_of filed.texts) ≡ chain_pages (map written_tune state.tunes) = ap chain_pages filed.are_tunes in
-    let tunes = tune_pages state.tunes within.tunes.each in
-    omega (arith, all, list, sets, texts, tunes, within.tunes.count)
+    let tunes = tune_pages state.tunes are.each in
+    omega (arith, all, list, sets, texts, tunes, most)
 
 -- The lists of a state within the limits take 144 pages at most.
 pub lists_count : (rows : List Row) (sets : List TuneSet) → length rows ≤ 20000 → AreSetLists sets

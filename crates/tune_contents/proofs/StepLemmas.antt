@@ -5,6 +5,7 @@ use Rattle.std.specs.List.{AllByRecursion}
 use Rattle.std.proofs.lemmas.Bool.{eqb-true}
 use Rattle.std.proofs.lemmas.List.{append-nil, append_assoc, length-append}
 use Rattle.tune_pages.specs.Chain.{Leads}
+use Rattle.tune_store.specs.declared.layout.Layout.{Layout}
 use Rattle.tune_store.specs.Limits.{most_tunes, greatest_number}
 use Rattle.tune_store.specs.State.{IsTune, RisesFrom, greatest}
 use Rattle.tune_store.specs.declared.tune.Tune.{Tune}
@@ -30,7 +31,7 @@ part_small : (pages : List (List ℕ)) (part : Part) → IsPart pages part → l
 part_small pages part is few = leads_small pages part.first part.trail is.leads few
 
 -- A list that goes on has a first tune, with a part of its own, and others.
-record FirstTune (pages : List (List ℕ)) (front : List Part) (low : ℕ) (list : List ℕ) (tunes : List Tune) (texts : List Part) : Type 0 where
+record FirstTune (layout : Layout) (pages : List (List ℕ)) (front : List Part) (low : ℕ) (list : List ℕ) (tunes : List Tune) (texts : List Part) : Type 0 where
   pub tune : Tune
   pub part : Part
   pub tail : List Tune
@@ -38,8 +39,8 @@ record FirstTune (pages : List (List ℕ)) (front : List Part) (low : ℕ) (list
   pub are_tunes : tunes ≡ tune ∷ tail
   pub are_texts : texts ≡ part ∷ more
 
-first_tune : (pages : List (List ℕ)) (front : List Part) (low : ℕ) (list : List ℕ) (tunes : List Tune) (texts : List Part) → row_bytes ≤ length list
-    → TunesStand pages front low list tunes texts → FirstTune pages front low list tunes texts
+first_tune : {layout : Layout} → (pages : List (List ℕ)) (front : List Part) (low : ℕ) (list : List ℕ) (tunes : List Tune) (texts : List Part) → row_bytes ≤ length list
+    → TunesStand layout pages front low list tunes texts → FirstTune layout pages front low list tunes texts
 first_tune pages front low list [] texts some stand = absurd (let size = ap (λ l. length l) stand.listed in omega (arith, some, size))
 first_tune pages front low list (tune ∷ tail) [] some stand = absurd (let size = ap (λ l. length l) stand.listed in omega (arith, some, size))
 first_tune pages front low list (tune ∷ tail) (part ∷ more) some stand = record {
@@ -56,20 +57,20 @@ abbrev pub IsFirstRow : List ℕ → ℕ → ℕ → List ℕ → Type 0
 IsFirstRow list number first rest = (row : Row) (after : List Row) → row.number < 4294967296 → row.first < 4294967296
     → list ≡ written_rows (row ∷ after) → (row.number ≡ number) × (row.first ≡ first) × (rest ≡ written_rows after)
 
-head_row : (pages : List (List ℕ)) (front : List Part) (low : ℕ) (list : List ℕ) (tune : Tune) (part : Part) (tail : List Tune) (more : List Part)
-    (number first : ℕ) (rest : List ℕ) → IsFirstRow list number first rest → TunesStand pages front low list (tune ∷ tail) (part ∷ more)
+head_row : {layout : Layout} → (pages : List (List ℕ)) (front : List Part) (low : ℕ) (list : List ℕ) (tune : Tune) (part : Part) (tail : List Tune) (more : List Part)
+    (number first : ℕ) (rest : List ℕ) → IsFirstRow list number first rest → TunesStand layout pages front low list (tune ∷ tail) (part ∷ more)
     → (tune.number ≡ number) × (part.first ≡ first) × (rest ≡ written_rows (rows_of tail more))
 head_row pages front low list tune part tail more number first rest only stand =
     only (row_of tune part) (rows_of tail more) (let top = stand.numbers in omega (arith, top))
     (part_small pages part (its_part pages front part more stand.are) stand.few_pages) stand.listed
 
 -- where the tunes of a list stand, the first of them does
-tune_there_of : (pages : List (List ℕ)) (front : List Part) (low : ℕ) (list : List ℕ) (tune : Tune) (part : Part) (tail : List Tune) (more : List Part)
-    (number first : ℕ) (rest : List ℕ) → IsFirstRow list number first rest → TunesStand pages front low list (tune ∷ tail) (part ∷ more)
-    → IsTuneThere pages front low number first
+tune_there_of : {layout : Layout} → (pages : List (List ℕ)) (front : List Part) (low : ℕ) (list : List ℕ) (tune : Tune) (part : Part) (tail : List Tune) (more : List Part)
+    (number first : ℕ) (rest : List ℕ) → IsFirstRow list number first rest → TunesStand layout pages front low list (tune ∷ tail) (part ∷ more)
+    → IsTuneThere layout pages front low number first
 tune_there_of pages front low list tune part tail more number first rest only stand =
     let head = head_row pages front low list tune part tail more number first rest only stand in
-    let its : IsTune tune = stand.each.0 in
+    let its : IsTune _ tune = stand.each.0 in
     let held = stand.hold in
     record {
       there = record { part = part; more = more; are = stand.are; is_first = head.1 };
@@ -80,20 +81,20 @@ tune_there_of pages front low list tune part tail more number first rest only st
       below = (let top = stand.numbers in omega (arith, top, head.0));
     }
 
-pub tune_there : (pages : List (List ℕ)) (front : List Part) (low : ℕ) (list : List ℕ) (number first : ℕ) (rest : List ℕ) → row_bytes ≤ length list
-    → IsFirstRow list number first rest → AreTunesThere pages front low list → IsTuneThere pages front low number first
+pub tune_there : {layout : Layout} → (pages : List (List ℕ)) (front : List Part) (low : ℕ) (list : List ℕ) (number first : ℕ) (rest : List ℕ) → row_bytes ≤ length list
+    → IsFirstRow list number first rest → AreTunesThere layout pages front low list → IsTuneThere layout pages front low number first
 tune_there pages front low list number first rest some only there =
     let stand = there.2 in
     let f = first_tune pages front low list there.0 there.1 some stand in
     tune_there_of pages front low list f.tune f.part f.tail f.more number first rest only
-    (subst (λ t. TunesStand pages front low list t (f.part ∷ f.more)) f.are_tunes
-    (subst (λ t. TunesStand pages front low list there.0 t) f.are_texts stand))
+    (subst (λ t. TunesStand _ pages front low list t (f.part ∷ f.more)) f.are_tunes
+    (subst (λ t. TunesStand _ pages front low list there.0 t) f.are_texts stand))
 
 -- and the others stand behind it
-tunes_behind_of : (pages : List (List ℕ)) (front : List Part) (low : ℕ) (list : List ℕ) (tune : Tune) (part : Part) (tail : List Tune) (more : List Part)
+tunes_behind_of : {layout : Layout} → (pages : List (List ℕ)) (front : List Part) (low : ℕ) (list : List ℕ) (tune : Tune) (part : Part) (tail : List Tune) (more : List Part)
     (now : List Bool) (bytes : List ℕ) (number first : ℕ) (rest : List ℕ) (claims : ClaimsPart pages front now first bytes) → IsFirstRow list number first rest
-    → TunesStand pages front low list (tune ∷ tail) (part ∷ more)
-    → AreTunesThere pages (front ++ claims.part ∷ []) number rest
+    → TunesStand layout pages front low list (tune ∷ tail) (part ∷ more)
+    → AreTunesThere layout pages (front ++ claims.part ∷ []) number rest
 tunes_behind_of pages front low list tune part tail more now bytes number first rest claims only stand =
     let head = head_row pages front low list tune part tail more number first rest only stand in
     let same : part ≡ claims.part = claims.only part (its_part pages front part more stand.are) head.1 in
@@ -115,19 +116,19 @@ tunes_behind_of pages front low list tune part tail more now bytes number first 
       },
     )
 
-pub tunes_behind : (pages : List (List ℕ)) (front : List Part) (low : ℕ) (list : List ℕ) (now : List Bool) (bytes : List ℕ) (number first : ℕ)
+pub tunes_behind : {layout : Layout} → (pages : List (List ℕ)) (front : List Part) (low : ℕ) (list : List ℕ) (now : List Bool) (bytes : List ℕ) (number first : ℕ)
     (rest : List ℕ) (claims : ClaimsPart pages front now first bytes) → row_bytes ≤ length list → IsFirstRow list number first rest
-    → AreTunesThere pages front low list → AreTunesThere pages (front ++ claims.part ∷ []) number rest
+    → AreTunesThere layout pages front low list → AreTunesThere layout pages (front ++ claims.part ∷ []) number rest
 tunes_behind pages front low list now bytes number first rest claims some only there =
     let stand = there.2 in
     let f = first_tune pages front low list there.0 there.1 some stand in
     tunes_behind_of pages front low list f.tune f.part f.tail f.more now bytes number first rest claims only
-    (subst (λ t. TunesStand pages front low list t (f.part ∷ f.more)) f.are_tunes
-    (subst (λ t. TunesStand pages front low list there.0 t) f.are_texts stand))
+    (subst (λ t. TunesStand _ pages front low list t (f.part ∷ f.more)) f.are_tunes
+    (subst (λ t. TunesStand _ pages front low list there.0 t) f.are_texts stand))
 
 -- a list that is neither empty nor as long as a row has no tunes
-pub rest_none : (pages : List (List ℕ)) (front : List Part) (low : ℕ) (list : List ℕ) → length list < row_bytes → 0 < length list
-    → AreTunesThere pages front low list → ⊥
+pub rest_none : {layout : Layout} → (pages : List (List ℕ)) (front : List Part) (low : ℕ) (list : List ℕ) → length list < row_bytes → 0 < length list
+    → AreTunesThere layout pages front low list → ⊥
 rest_none pages front low list short some there =
     let size = ap (λ l. length l) there.2.listed ∙ length-rows (rows_of there.0 there.1) in
     omega (arith, short, some, size)
@@ -137,8 +138,8 @@ length-rows_of [] texts = omega arith
 length-rows_of (tune ∷ tunes) [] = omega arith
 length-rows_of (tune ∷ tunes) (part ∷ texts) = omega (arith, length-rows_of tunes texts)
 
-pub list_long : (pages : List (List ℕ)) (front : List Part) (low : ℕ) (list : List ℕ) → row_bytes * most_tunes < length list
-    → AreTunesThere pages front low list → ⊥
+pub list_long : {layout : Layout} → (pages : List (List ℕ)) (front : List Part) (low : ℕ) (list : List ℕ) → row_bytes * most_tunes layout < length list
+    → AreTunesThere layout pages front low list → ⊥
 list_long pages front low list long there =
     let size = ap (λ l. length l) there.2.listed ∙ length-rows (rows_of there.0 there.1) in
     omega (arith, long, size, length-rows_of there.0 there.1, there.2.few)
@@ -164,7 +165,7 @@ rows_more list rows low rest row later so lt le is = record {
       ∙ ap (λ l. l ++ later) (ap (λ l. written_rows rows ++ l) (sym (append-nil (written_row row))) ∙ sym (rows-append rows (row ∷ [])));
 }
 
-pub rows_end : (list : List ℕ) (rows : List Row) (low : ℕ) (rest : List ℕ) → RowsSoFar list rows low rest → length list ≤ row_bytes * most_tunes → AreRows rows
+pub rows_end : {layout : Layout} → (list : List ℕ) (rows : List Row) (low : ℕ) (rest : List ℕ) → RowsSoFar list rows low rest → length list ≤ row_bytes * most_tunes layout → AreRows layout rows
 rows_end list rows low rest so few =
     let size = ap (λ l. length l) so.listed in
     record {
@@ -195,13 +196,13 @@ row_as row number first later rest same also some =
     (λ i. written_row (record { number = same i; revision = row.revision; first = also i }) ++ later) ∙ some row.revision
 
 -- CLAIMS SO FAR
-pub claims_start : (pages : List (List ℕ)) (front : List Part) (list : List ℕ) (claimed : List Bool) (rows : List Row) → rows ≡ []
-    → HasClaimed pages claimed front → ClaimsSoFar pages front list claimed rows 0 list
-claims_start pages front list claimed rows none has =
+pub claims_start : {layout : Layout} → (pages : List (List ℕ)) (front : List Part) (list : List ℕ) (claimed : List Bool) (rows : List Row) → rows ≡ []
+    → HasClaimed pages claimed front → ClaimsSoFar layout pages front list claimed rows 0 list
+claims_start {layout} pages front list claimed rows none has =
     let whole = claimed_as pages claimed front (front ++ []) (sym (append-nil front)) has in
     record {
       so_far = record { tunes = []; texts = []; has = whole; hold = refl; rows_are = none; rises = tt; top = refl; each = tt };
-      goes_on = λ there. subst (λ l. AreTunesThere pages l 0 list) (sym (append-nil front)) there;
+      goes_on = λ there. subst (λ l. AreTunesThere layout pages l 0 list) (sym (append-nil front)) there;
     }
 
 top_more : (tunes : List Tune) (tune : Tune) → greatest tunes < tune.number → greatest (tunes ++ tune ∷ []) ≡ tune.number
@@ -213,11 +214,11 @@ rises_tune : (low : ℕ) (tunes : List Tune) (tune : Tune) → RisesFrom low tun
 rises_tune low [] tune rises above lt = (above, tt)
 rises_tune low (t ∷ tunes) tune rises above lt = (rises.0, rises_tune t.number tunes tune rises.1 (omega (arith, lt)) (omega (arith, lt)))
 
-pub claims_more : (pages : List (List ℕ)) (front : List Part) (list : List ℕ) (claimed now : List Bool) (rows : List Row) (low : ℕ) (rest : List ℕ) (row : Row)
-    (later : List ℕ) (so : ClaimsSoFar pages front list claimed rows low rest) → row_bytes ≤ length rest → IsFirstRow rest row.number row.first later
-    → ClaimsTune pages (front ++ so.so_far.texts) low now row
-    → ClaimsSoFar pages front list now (rows ++ row ∷ []) row.number later
-claims_more pages front list claimed now rows low rest row later so some only claims =
+pub claims_more : {layout : Layout} → (pages : List (List ℕ)) (front : List Part) (list : List ℕ) (claimed now : List Bool) (rows : List Row) (low : ℕ) (rest : List ℕ) (row : Row)
+    (later : List ℕ) (so : ClaimsSoFar layout pages front list claimed rows low rest) → row_bytes ≤ length rest → IsFirstRow rest row.number row.first later
+    → ClaimsTune layout pages (front ++ so.so_far.texts) low now row
+    → ClaimsSoFar layout pages front list now (rows ++ row ∷ []) row.number later
+claims_more {layout} pages front list claimed now rows low rest row later so some only claims =
     let s = so.so_far in
     let part = claims.claims.part in
     let tune : Tune = record { number = row.number; revision = row.revision; text = claims.text } in
@@ -235,7 +236,7 @@ claims_more pages front list claimed now rows low rest row later so some only cl
         rows_are = (λ i. s.rows_are i ++ sym its_row i ∷ []) ∙ sym (rows_join s.texts (part ∷ []) s.tunes (tune ∷ []) s.hold);
         rises = rises_tune 0 s.tunes tune s.rises (omega (arith, claims.above)) (omega (arith, claims.above, s.top));
         top = top_more s.tunes tune (omega (arith, claims.above, s.top));
-        each = all_join IsTune s.tunes (tune ∷ []) s.each (
+        each = all_join (IsTune layout) s.tunes (tune ∷ []) s.each (
           record {
             revised = claims.tune.revised;
             revision = claims.tune.few;
@@ -245,7 +246,7 @@ claims_more pages front list claimed now rows low rest row later so some only cl
           tt,
         );
       };
-      goes_on = λ there. subst (λ l. AreTunesThere pages l row.number later) listing
+      goes_on = λ there. subst (λ l. AreTunesThere layout pages l row.number later) listing
           (tunes_behind pages (front ++ s.texts) low rest now claims.bytes row.number row.first later claims.claims some only (so.goes_on there));
     }
 
@@ -257,27 +258,27 @@ rows_turn list rows items low rest row number later so same lt le is pushed =
     subst (λ r. RowsSoFar list r number later) (sym pushed) (subst (λ n. RowsSoFar list (rows ++ row ∷ []) n later) same
     (rows_more list rows low rest row later so (omega (arith, same, lt)) (omega (arith, same, le)) is))
 
-pub claims_turn : (old pages : List (List ℕ)) (front : List Part) (list : List ℕ) (claimed now : List Bool) (rows items : List Row) (low : ℕ) (rest : List ℕ)
-    (row : Row) (number first : ℕ) (later : List ℕ) → old ≡ pages → ClaimsSoFar pages front list claimed rows low rest
+pub claims_turn : {layout : Layout} → (old pages : List (List ℕ)) (front : List Part) (list : List ℕ) (claimed now : List Bool) (rows items : List Row) (low : ℕ) (rest : List ℕ)
+    (row : Row) (number first : ℕ) (later : List ℕ) → old ≡ pages → ClaimsSoFar layout pages front list claimed rows low rest
     → row.number ≡ number → row.first ≡ first → written_row row ++ later ≡ rest → IsFirstRow rest number first later
-    → ((front : List Part) → HasClaimed old claimed front → ClaimsTune old front low now row) → items ≡ rows ++ row ∷ []
-    → ClaimsSoFar pages front list now items number later
-claims_turn old pages front list claimed now rows items low rest row number first later on so same also is only claims pushed =
+    → ((front : List Part) → HasClaimed old claimed front → ClaimsTune layout old front low now row) → items ≡ rows ++ row ∷ []
+    → ClaimsSoFar layout pages front list now items number later
+claims_turn {layout} old pages front list claimed now rows items low rest row number first later on so same also is only claims pushed =
     let turned : IsFirstRow rest row.number row.first later = subst (λ n. IsFirstRow rest n row.first later) (sym same)
     (subst (λ f. IsFirstRow rest number f later) (sym also) only) in
-    let its : ClaimsTune pages (front ++ so.so_far.texts) low now row = subst (λ l. ClaimsTune l (front ++ so.so_far.texts) low now row) on
+    let its : ClaimsTune layout pages (front ++ so.so_far.texts) low now row = subst (λ l. ClaimsTune layout l (front ++ so.so_far.texts) low now row) on
     (claims (front ++ so.so_far.texts) (subst (λ l. HasClaimed l claimed (front ++ so.so_far.texts)) (sym on) so.so_far.has)) in
-    subst (λ r. ClaimsSoFar pages front list now r number later) (sym pushed)
-    (subst (λ n. ClaimsSoFar pages front list now (rows ++ row ∷ []) n later) same
+    subst (λ r. ClaimsSoFar layout pages front list now r number later) (sym pushed)
+    (subst (λ n. ClaimsSoFar layout pages front list now (rows ++ row ∷ []) n later) same
     (claims_more pages front list claimed now rows low rest row later so (omega (arith, row_long row later rest is)) turned its))
 
 -- where the tunes of the whole list stand, the next one of the rest does
-pub turn_there : (old pages : List (List ℕ)) (front : List Part) (list : List ℕ) (claimed : List Bool) (rows : List Row) (low : ℕ) (rest : List ℕ)
-    (number first : ℕ) (later : List ℕ) → old ≡ pages → (so : ClaimsSoFar pages front list claimed rows low rest)
+pub turn_there : {layout : Layout} → (old pages : List (List ℕ)) (front : List Part) (list : List ℕ) (claimed : List Bool) (rows : List Row) (low : ℕ) (rest : List ℕ)
+    (number first : ℕ) (later : List ℕ) → old ≡ pages → (so : ClaimsSoFar layout pages front list claimed rows low rest)
     → ((revision : ℕ) → written_row (record { number = number; revision = revision; first = first }) ++ later ≡ rest) → IsFirstRow rest number first later
-    → AreTunesThere pages front 0 list
-    → IsTuneThere old (front ++ so.so_far.texts) low number first
-turn_there old pages front list claimed rows low rest number first later on so some only there =
+    → AreTunesThere layout pages front 0 list
+    → IsTuneThere layout old (front ++ so.so_far.texts) low number first
+turn_there {layout} old pages front list claimed rows low rest number first later on so some only there =
     let row : Row = record { number = number; revision = 0; first = first } in
-    subst (λ l. IsTuneThere l (front ++ so.so_far.texts) low number first) (sym on)
+    subst (λ l. IsTuneThere layout l (front ++ so.so_far.texts) low number first) (sym on)
     (tune_there pages (front ++ so.so_far.texts) low rest number first later (omega (arith, row_long row later rest (some 0))) only (so.goes_on there))

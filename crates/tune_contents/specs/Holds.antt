@@ -21,6 +21,7 @@ labels_in rows = map label_in rows
 -- The pages hold a state, and nothing else is in use. Its tunes stand where the rows say; its set
 -- lists are those in memory, and where the lists begin is known.
 pub record HoldsContents (s : Stand) (contents : Contents) (state : State) : Type 0 where
+  pub layout : contents.layout ≡ state.layout
   pub filed : Filed s.pages state.tunes state.sets
   pub holds : HoldsParts s (filed.list ∷ filed.set_lists ∷ filed.texts)
   pub listed : contents.rows.items ≡ rows_of state.tunes filed.texts

@@ -9,6 +9,7 @@ ghost use Rattle.std.specs.Prelude.{◌+◌, ◌<◌};
 ghost use Rattle.tune_pages.specs.Faults.{free_pages};
 ghost use Rattle.tune_sets.specs.Sets.{AreSetLists};
 ghost use Rattle.tune_store.specs.Plans.{changed_sets, CanChange};
+ghost use Rattle.tune_store.specs.declared.layout.Layout.TheVariants.{One};
 ghost use Rattle.tune_contents.specs.Answers.{AnswersLay};
 ghost use Rattle.tune_contents.specs.Claimed.{AreRows};
 ghost use Rattle.tune_contents.specs.Holds.{labels_in, HoldsSomeState, LaysState};
@@ -161,21 +162,23 @@ pub fn lay<D: Disk>(
 ) -> Result<Contents, Fault>
     requires open { pages.old.closed ≡ false }
     requires fits { Fits pages.old work.old }
-    requires possible { CanChange change
+    requires possible { CanChange change contents.now.layout
         (labels_in contents.now.rows.items) contents.now.sets }
     requires holds { HonestAt D.honest pages.old.disk
         → HoldsSomeState (stand pages.old work.old) contents.now }
     ensures lays { IfOk result (λ left. HonestAt D.honest pages.new.disk → LaysState
         (stand pages.old work.old) (stand pages.new work.new) contents.now left change) }
-    ensures rows { AreRows contents.now.rows.items → IfOk result (λ left. AreRows left.rows.items) }
+    ensures rows { AreRows contents.now.layout contents.now.rows.items
+        → IfOk result (λ left. AreRows left.layout left.rows.items) }
     ensures fits { OnOk result (Fits pages.new work.new) }
     ensures looks { LooksAt D.honest D.failures D.state result pages.old pages.new }
     ensures answer { AnswersLay result pages.new.closed }
     // For a change within the limits the file is full only where fewer pages are free than its
     // tunes, the list and the set lists have.
-    ensures full { HonestAt D.honest pages.new.disk → AreRows contents.now.rows.items
-        → AreSetLists (changed_sets change contents.now.sets) → IfErr result (λ fault.
-        fault ≡ FileFull
+    ensures full { HonestAt D.honest pages.new.disk
+        → contents.now.layout ≡ One → AreRows contents.now.layout contents.now.rows.items
+        → AreSetLists (changed_sets change contents.now.sets)
+        → IfErr result (λ fault. fault ≡ FileFull
         → free_pages (stand pages.old work.old).used < change_pages change + 144) }
 {
     let mut rows = copy_rows(room, &contents.rows)?;
@@ -187,6 +190,7 @@ pub fn lay<D: Disk>(
     let list = &mut room.list;
     let nexts = lay_contents(list, pages, work, firsts, &rows, &sets, lists, names)?;
     Ok(Contents {
+        layout: contents.layout,
         rows,
         sets,
         list_first: nexts.0,

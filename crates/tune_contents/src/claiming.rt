@@ -4,7 +4,7 @@ ghost use Rattle.std.specs.Prelude.{IfOk, IfErr, IfSome, IfNone, IsTrue, ◌↔�
 ghost use Rattle.tune_sets.specs.Sets.{AreSetLists};
 ghost use Rattle.tune_sets.specs.SetBytes.{written_sets};
 ghost use Rattle.tune_sets.specs.declared.set_lists.TuneSet.{TuneSet};
-ghost use Rattle.tune_store.specs.Limits.{greatest_number, most_tunes};
+ghost use Rattle.tune_store.specs.Limits.{greatest_number};
 ghost use Rattle.tune_store.specs.State.{State};
 ghost use Rattle.tune_format.specs.Layout.{row_bytes};
 ghost use Rattle.tune_format.specs.Parts.{Part};
@@ -29,7 +29,7 @@ use tune_disk::Disk;
 use tune_format::{Row, read_root, read_text, row_at};
 use tune_pages::{ClaimFault, Opening};
 use tune_sets::{ReadFault, SetLists, TuneSet};
-use tune_store::{GREATEST_NUMBER, GREATEST_REVISION, LONGEST_TEXT, MOST_TUNES};
+use tune_store::{GREATEST_NUMBER, GREATEST_REVISION, Layout};
 
 // How many bytes the list of tunes has for each.
 const ROW_BYTES: usize = 8;
@@ -58,9 +58,10 @@ struct Lists {
 pub fn claim<D: Disk>(alloc: Global, opening: &mut Opening<D>) -> Result<Contents, ClaimFault>
     requires { opening.old.claimed ≡ only_root (length opening.old.pages) }
     ensures claimed { IfOk result (λ contents. D.honest opening.new.disk
-        → 0 < length opening.old.pages → IsClaimed opening.old.pages contents.rows.items
-        contents.sets contents.list_first contents.sets_first opening.new.claimed) }
-    ensures rows { IfOk result (λ contents. AreRows contents.rows.items) }
+        → 0 < length opening.old.pages → IsClaimed opening.old.pages contents.layout
+        contents.rows.items contents.sets contents.list_first contents.sets_first
+        opening.new.claimed) }
+    ensures rows { IfOk result (λ contents. AreRows contents.layout contents.rows.items) }
     ensures damaged { IfErr result (λ fault. D.honest opening.new.disk
         → IsChainFault fault ((state : State) × IsStateOf opening.old.pages state)) }
     ensures looks { LooksOpening D.honest D.failures D.state result opening.old opening.new }
@@ -71,9 +72,11 @@ pub fn claim<D: Disk>(alloc: Global, opening: &mut Opening<D>) -> Result<Content
         list,
         sets,
     } = claim_lists(opening)?;
-    let rows = claim_tunes(alloc, opening, &list)?;
+    let layout = Layout::One;
+    let rows = claim_tunes(alloc, opening, layout, &list)?;
     let sets = read_named_sets(alloc, &rows, &sets)?;
     Ok(Contents {
+        layout,
         rows,
         sets,
         list_first,
@@ -122,27 +125,29 @@ fn claim_part<D: Disk>(opening: &mut Opening<D>, first: u32) -> Result<Vec<u8>, 
 fn claim_tunes<D: Disk>(
     alloc: Global,
     opening: &mut Opening<D>,
+    layout: Layout,
     list: &[u8],
 ) -> Result<Vec<Row>, ClaimFault>
     ensures claimed { IfOk result (λ rows. (list.now ≡ written_rows rows.items)
         × (D.honest opening.new.disk → (front : List Part)
         → HasClaimed opening.old.pages opening.old.claimed front → (low : ℕ)
         × (low ≤ greatest_number)
-        × TunesClaimed opening.old.pages front opening.new.claimed rows.items low)) }
-    ensures rows { IfOk result (λ rows. AreRows rows.items) }
+        × TunesClaimed layout opening.old.pages front opening.new.claimed rows.items low)) }
+    ensures rows { IfOk result (λ rows. AreRows layout rows.items) }
     ensures damaged { IfErr result (λ fault. D.honest opening.new.disk → (front : List Part)
         → HasClaimed opening.old.pages opening.old.claimed front
-        → IsChainFault fault (AreTunesThere opening.old.pages front 0 list.now)) }
+        → IsChainFault fault (AreTunesThere layout opening.old.pages front 0 list.now)) }
     ensures looks { LooksOpening D.honest D.failures D.state result opening.old opening.new }
 {
-    if list.len() > ROW_BYTES * MOST_TUNES {
+    let most = layout.most_tunes();
+    if list.len() > ROW_BYTES * most {
         return Err(ClaimFault::Damaged);
     }
     let mut rows = Vec::new(alloc);
     let mut low = 0;
     let mut rest = list;
     while let Some((number, first, later)) = first_row(rest) {
-        let row = claim_tune(alloc, opening, low, number, first)?;
+        let row = claim_tune(alloc, opening, layout, low, number, first)?;
         if rows.push(row).is_err() {
             return Err(ClaimFault::OutOfMemory);
         }
@@ -185,25 +190,26 @@ fn behind_row(list: &[u8]) -> &[u8]
 fn claim_tune<D: Disk>(
     alloc: Global,
     opening: &mut Opening<D>,
+    layout: Layout,
     low: u32,
     number: u32,
     first: u32,
 ) -> Result<Row, ClaimFault>
     ensures claims { IfOk result (λ row. D.honest opening.new.disk → (front : List Part)
         → HasClaimed opening.old.pages opening.old.claimed front
-        → ClaimsTune opening.old.pages front low opening.new.claimed row) }
+        → ClaimsTune layout opening.old.pages front low opening.new.claimed row) }
     ensures row { IfOk result (λ row. (row.number ≡ number) × (row.first ≡ first)
         × (low < number) × (number ≤ greatest_number)) }
     ensures damaged { IfErr result (λ fault. D.honest opening.new.disk → (front : List Part)
         → HasClaimed opening.old.pages opening.old.claimed front
-        → IsChainFault fault (IsTuneThere opening.old.pages front low number first)) }
+        → IsChainFault fault (IsTuneThere layout opening.old.pages front low number first)) }
     ensures looks { LooksOpening D.honest D.failures D.state result opening.old opening.new }
 {
     if number <= low || number > GREATEST_NUMBER {
         return Err(ClaimFault::Damaged);
     }
     let bytes = claim_part(opening, first)?;
-    let revision = revision_of(alloc, &bytes)?;
+    let revision = revision_of(alloc, layout, &bytes)?;
     Ok(Row {
         number,
         revision,
@@ -212,10 +218,10 @@ fn claim_tune<D: Disk>(
 }
 
 // The revision of the tune of a chain, whose text has to be that of one tune.
-fn revision_of(alloc: Global, bytes: &[u8]) -> Result<u16, ClaimFault>
-    ensures ok { IfOk result (λ revision. (text : List ℕ) × IsTuneChain bytes.now revision text) }
+fn revision_of(alloc: Global, layout: Layout, bytes: &[u8]) -> Result<u16, ClaimFault>
+    ensures ok { IfOk result (λ revision. (text : List ℕ) × IsTuneChain layout bytes.now revision text) }
     ensures damaged { IfErr result (λ fault. IsChainFault fault
-        ((revision : ℕ) × (text : List ℕ) × IsTuneChain bytes.now revision text)) }
+        ((revision : ℕ) × (text : List ℕ) × IsTuneChain layout bytes.now revision text)) }
     ensures err { IfErr result (λ fault. fault ≢ ClaimFault.Device) }
 {
     let Some((revision, text)) = read_text(bytes) else {
@@ -227,7 +233,7 @@ fn revision_of(alloc: Global, bytes: &[u8]) -> Result<u16, ClaimFault>
     let Ok(text) = ByteText::copy_of(alloc, text) else {
         return Err(ClaimFault::OutOfMemory);
     };
-    match TuneText::from_stored(text, LONGEST_TEXT) {
+    match TuneText::from_stored(text, layout.longest_text()) {
         Ok(_) => Ok(revision),
         Err(_) => Err(ClaimFault::Damaged),
     }

@@ -4,6 +4,7 @@ ghost use Rattle.std.specs.Prelude.{IfSome, IfNone};
 ghost use Rattle.std.specs.List.{Contains};
 ghost use Rattle.tune_store.specs.Limits.{greatest_number};
 ghost use Rattle.tune_format.specs.declared.rows.Row.{Row};
+ghost use Rattle.tune_store.specs.declared.layout.Layout.{Layout};
 ghost use Rattle.tune_contents.specs.Inside.Rows.{IsRowAfter, MovesTunes, numbers_in};
 ghost use Rattle.tune_contents.specs.Claimed.{AreRows, RowsRise};
 
@@ -37,8 +38,9 @@ fn place_after(rows: &[Row], number: u32) -> usize
 // Gives the row of a number another one, and moves it to where that belongs.
 pub(crate) fn move_row(rows: &mut Vec<Row>, number: u32, to: u32)
     ensures moves { MovesTunes rows.old.items rows.new.items number to }
-    ensures rows { AreRows rows.old.items → ¬ Contains (numbers_in rows.old.items) to
-        → 0 < to → to ≤ greatest_number → AreRows rows.new.items }
+    ensures rows { (layout : Layout) → AreRows layout rows.old.items
+        → ¬ Contains (numbers_in rows.old.items) to → 0 < to → to ≤ greatest_number
+        → AreRows layout rows.new.items }
 {
     if let Some(place) = place_of(rows, number) {
         let mut row = rows.remove(place);

@@ -8,6 +8,7 @@ use Rattle.tune_sets.specs.declared.set_lists.TuneSet.{TuneSet}
 use Rattle.tune_store.specs.Plans.{changed_tunes, CanChange}
 use Rattle.tune_store.specs.State.{RisesFrom}
 use Rattle.tune_store.specs.declared.tune.Tune.{Tune}
+use Rattle.tune_store.specs.declared.layout.Layout.{Layout}
 use Rattle.tune_store.specs.declared.plans.Change.{Change}
 use Rattle.tune_store.specs.declared.plans.Change.TheVariants.{Add, Put, Take, Move, NewSet}
 use Rattle.tune_store.specs.declared.plans.Change.TheVariants.{AddPlace, CutPlace, DropSet}
@@ -57,5 +58,5 @@ LaysChange old new rows left change = (ahead : List Part) (tunes : List Tune)
 
 -- Rows within the limits stay so, by rising number, where the change can be made of them.
 abbrev pub KeepsRows : Change → List Row → List Row → Type 0
-KeepsRows change rows left = (sets : List TuneSet) → CanChange change (labels_in rows) sets
-    → AreRows rows → AreRows left
+KeepsRows change rows left = (layout : Layout) (sets : List TuneSet)
+    → CanChange change layout (labels_in rows) sets → AreRows layout rows → AreRows layout left

@@ -8,6 +8,7 @@ use Rattle.tune_pages.specs.Stand.{marked}
 use Rattle.tune_sets.specs.declared.set_lists.TuneSet.{TuneSet}
 use Rattle.tune_store.specs.Limits.{longest_text, most_tunes, greatest_number, greatest_revision}
 use Rattle.tune_store.specs.State.{State, IsTune, RisesFrom, greatest}
+use Rattle.tune_store.specs.declared.layout.Layout.{Layout}
 use Rattle.tune_store.specs.declared.tune.Tune.{Tune}
 use Rattle.tune_format.specs.Filed.{Filed, HoldTunes, rows_of}
 use Rattle.tune_format.specs.Layout.{most_pages_of_archive}
@@ -41,36 +42,36 @@ pub record IsPartThere (pages : List (List ℕ)) (front : List Part) (first : �
 
 -- ONE TUNE
 -- these bytes are a revision and the text of one tune, within the limits
-pub record IsTuneChain (bytes : List ℕ) (revision : ℕ) (text : List ℕ) : Type 0 where
+pub record IsTuneChain (layout : Layout) (bytes : List ℕ) (revision : ℕ) (text : List ℕ) : Type 0 where
   pub written : written_text revision text ≡ bytes
   pub revised : 0 < revision
   pub few : revision ≤ greatest_revision
-  pub good : IsTextWithin longest_text text
+  pub good : IsTextWithin (longest_text layout) text
 
 -- Behind parts that were claimed, the tune of a row was, under a number above this one.
-pub record ClaimsTune (pages : List (List ℕ)) (front : List Part) (low : ℕ) (now : List Bool)
+pub record ClaimsTune (layout : Layout) (pages : List (List ℕ)) (front : List Part) (low : ℕ) (now : List Bool)
     (row : Row) : Type 0 where
   pub bytes : List ℕ
   pub claims : ClaimsPart pages front now row.first bytes
   pub text : List ℕ
-  pub tune : IsTuneChain bytes row.revision text
+  pub tune : IsTuneChain layout bytes row.revision text
   pub above : low < row.number
   pub below : row.number ≤ greatest_number
 
 -- Behind these parts some tune of this number stands there, and more parts behind it.
-pub record IsTuneThere (pages : List (List ℕ)) (front : List Part) (low number first : ℕ)
+pub record IsTuneThere (layout : Layout) (pages : List (List ℕ)) (front : List Part) (low number first : ℕ)
     : Type 0 where
   pub there : IsPartThere pages front first
   pub revision : ℕ
   pub text : List ℕ
-  pub tune : IsTuneChain there.part.bytes revision text
+  pub tune : IsTuneChain layout there.part.bytes revision text
   pub above : low < number
   pub below : number ≤ greatest_number
 
 -- THE TUNES OF A LIST
 -- Behind these parts stand those of tunes, under rising numbers above this one, each within the
 -- limits, and this is the list of them.
-pub record TunesStand (pages : List (List ℕ)) (front : List Part) (low : ℕ) (list : List ℕ)
+pub record TunesStand (layout : Layout) (pages : List (List ℕ)) (front : List Part) (low : ℕ) (list : List ℕ)
     (tunes : List Tune) (texts : List Part) : Type 0 where
   pub few_pages : length pages ≤ most_pages_of_archive
   pub are : AreParts pages (front ++ texts)
@@ -78,16 +79,16 @@ pub record TunesStand (pages : List (List ℕ)) (front : List Part) (low : ℕ) 
   pub listed : list ≡ written_rows (rows_of tunes texts)
   pub rises : RisesFrom low tunes
   pub numbers : greatest tunes ≤ greatest_number
-  pub each : AllByRecursion IsTune tunes
-  pub few : length tunes ≤ most_tunes
+  pub each : AllByRecursion (IsTune layout) tunes
+  pub few : length tunes ≤ most_tunes layout
 
 -- tunes of this list stand behind these parts
-abbrev pub AreTunesThere : List (List ℕ) → List Part → ℕ → List ℕ → Type 0
-AreTunesThere pages front low list =
-    (tunes : List Tune) × (texts : List Part) × TunesStand pages front low list tunes texts
+abbrev pub AreTunesThere : Layout → List (List ℕ) → List Part → ℕ → List ℕ → Type 0
+AreTunesThere layout pages front low list =
+    (tunes : List Tune) × (texts : List Part) × TunesStand layout pages front low list tunes texts
 
 -- Behind parts that were claimed, the tunes of these rows were, by rising numbers up to this one.
-pub record TunesClaimed (pages : List (List ℕ)) (front : List Part) (claimed : List Bool)
+pub record TunesClaimed (layout : Layout) (pages : List (List ℕ)) (front : List Part) (claimed : List Bool)
     (rows : List Row) (low : ℕ) : Type 0 where
   pub tunes : List Tune
   pub texts : List Part
@@ -96,15 +97,15 @@ pub record TunesClaimed (pages : List (List ℕ)) (front : List Part) (claimed :
   pub rows_are : rows ≡ rows_of tunes texts
   pub rises : RisesFrom 0 tunes
   pub top : greatest tunes ≡ low
-  pub each : AllByRecursion IsTune tunes
+  pub each : AllByRecursion (IsTune layout) tunes
 
 -- So far: the tunes of these rows were claimed, and where tunes of the whole list stand, those of
 -- the rest of it stand behind these.
-pub record ClaimsSoFar (pages : List (List ℕ)) (front : List Part) (list : List ℕ)
+pub record ClaimsSoFar (layout : Layout) (pages : List (List ℕ)) (front : List Part) (list : List ℕ)
     (claimed : List Bool) (rows : List Row) (low : ℕ) (rest : List ℕ) : Type 0 where
-  pub so_far : TunesClaimed pages front claimed rows low
-  pub goes_on : AreTunesThere pages front 0 list
-      → AreTunesThere pages (front ++ so_far.texts) low rest
+  pub so_far : TunesClaimed layout pages front claimed rows low
+  pub goes_on : AreTunesThere layout pages front 0 list
+      → AreTunesThere layout pages (front ++ so_far.texts) low rest
 
 -- THE LISTS
 -- The root names two parts, the list of tunes and the set lists, and these were claimed, with these

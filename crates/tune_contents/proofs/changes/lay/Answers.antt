@@ -1,4 +1,5 @@
-use Rattle.std.proofs.Common.{◌∙◌, List, subst, sym, arith}
+use Rattle.std.proofs.Common.{◌∙◌, ◌≤◌, List, length, refl, subst, sym, arith}
+use Rattle.tune_store.specs.Limits.{most_tunes}
 use Rattle.std.proofs.lemmas.Result.{err_from_is_err_and}
 use Rattle.tune_sets.specs.Sets.{AreSetLists}
 use Rattle.tune_contents.proofs.StatePages.{lists_count}
@@ -36,19 +37,19 @@ returns-clause-lays g c = λ h.
     let old = c.args.contents.now in
     let change = c.args.change in
     let nexts = c.in_ok-nexts.nexts in
-    let left : Contents = record { rows = c.lay_tunes.new.rows; sets = c.in_ok-sets.sets; list_first = nexts.0; sets_first = nexts.1 } in
+    let left : Contents = record { layout = old.layout; rows = c.lay_tunes.new.rows; sets = c.in_ok-sets.sets; list_first = nexts.0; sets_first = nexts.1 } in
     let same = c.in_ok-rows.ensures.rows ∙ c.deref.ensures.value in
     let lays = subst (λ (r : List Row). LaysChange s mid r left.rows.items change) same
     (c.in_ok-lay_tunes.ensures.lays (c.in_ok-nexts.ensures.looks.was_honest h)) in
     let whole = rw (c.changes_tunes-lists.ensures, c.changes_sets-names.ensures, c.deref-2.ensures.value) at c.in_ok-nexts.ensures.lays h in
-    state_laid s mid new old left change lays (λ e. c.in_ok-lay_tunes.ensures.same e ∙ same) c.in_ok-sets.ensures.sets whole)
+    state_laid s mid new old left change lays (λ e. c.in_ok-lay_tunes.ensures.same e ∙ same) refl c.in_ok-sets.ensures.sets whole)
 
 pub returns-clause-rows : goal.returns-clause-rows
 returns-clause-rows g c =
     let old = c.args.contents.now in
     let left = c.lay_tunes.new.rows.items in
     let same = c.in_ok-rows.ensures.rows ∙ c.deref.ensures.value in
-    (subst (λ (rows : List Row). KeepsRows c.args.change rows left) same c.in_ok-lay_tunes.ensures.rows) old.sets c.requires.possible
+    (subst (λ (rows : List Row). KeepsRows c.args.change rows left) same c.in_ok-lay_tunes.ensures.rows) old.layout old.sets c.requires.possible
 
 pub returns-in_err-nexts-clause-full : goal.returns-in_err-nexts-clause-full
 returns-in_err-nexts-clause-full g c =
@@ -56,10 +57,10 @@ returns-in_err-nexts-clause-full g c =
     let old = c.args.contents.now in
     let left = c.lay_tunes.new.rows.items in
     let same = c.in_ok-rows.ensures.rows ∙ c.deref.ensures.value in
-    λ h rows sets.
-    (let kept = (subst (λ (r : List Row). KeepsRows c.args.change r left) same c.in_ok-lay_tunes.ensures.rows) old.sets c.requires.possible rows in
+    λ h first rows sets.
+    (let kept = (subst (λ (r : List Row). KeepsRows c.args.change r left) same c.in_ok-lay_tunes.ensures.rows) old.layout old.sets c.requires.possible rows in
     let are = subst AreSetLists (sym c.in_ok-sets.ensures.sets) sets in
-    let lists = lists_count left c.in_ok-sets.sets kept.few are in
+    let lists = lists_count left c.in_ok-sets.sets (subst (λ layout. length left ≤ most_tunes layout) first kept.few) are in
     let tunes = c.in_ok-lay_tunes.ensures.takes (c.in_err-nexts.ensures.looks.was_honest h) in
     let takes = rw c.deref-2.ensures.value at c.in_err-nexts.ensures.takes h in
     rw (p.1, p.2) (λ e. (let lt = takes e in omega (arith, lt, tunes, lists))))

@@ -21,7 +21,7 @@ returns-in-Add-clause-rows g c =
     subst (λ (change : Change). OnOk c.add_tunes.result (KeepsRows change rows left)) (sym c.in-Add.is)
     (ok_as c.add_tunes.result (λ _. numbers_in left ≡ numbers_in rows ++ range_with_len first count)
     (λ _. KeepsRows (Add first c.in-Add.texts) rows left)
-    (λ _ added sets can are. rows_added rows left first count can.0 can.1 can.2 can.3 added are) c.add_tunes.ensures.numbers)
+    (λ _ added layout sets can are. rows_added rows left first count can.0 can.1 can.2 can.3 added are) c.add_tunes.ensures.numbers)
 
 pub returns-in-Put-clause-rows : goal.returns-in-Put-clause-rows
 returns-in-Put-clause-rows g c =
@@ -31,7 +31,7 @@ returns-in-Put-clause-rows g c =
     let number = c.in-Put.tune.number in
     subst (λ (change : Change). OnOk c.put_tune.result (KeepsRows change rows left)) (sym c.in-Put.is)
     (ok_as c.put_tune.result (λ _. numbers_in left ≡ slice_set (numbers_in rows) place number) (λ _. KeepsRows (Put place c.in-Put.tune) rows left)
-    (λ _ put sets can are. rows_put rows left place number can.1 put are) c.put_tune.ensures.numbers)
+    (λ _ put layout sets can are. rows_put rows left place number can.1 put are) c.put_tune.ensures.numbers)
 
 pub returns-in-Take-clause-rows : goal.returns-in-Take-clause-rows
 returns-in-Take-clause-rows g c =
@@ -40,7 +40,7 @@ returns-in-Take-clause-rows g c =
     let place = c.in-Take.place in
     subst (λ (change : Change). OnOk c.take_tune.result (KeepsRows change rows left)) (sym c.in-Take.is)
     (ok_as c.take_tune.result (λ _. left ≡ remove rows place) (λ _. KeepsRows (Take place) rows left)
-    (λ _ taken sets can are. subst AreRows (sym taken) (rows_taken rows place can are)) c.take_tune.ensures.rows)
+    (λ _ taken layout sets can are. subst (AreRows layout) (sym taken) (rows_taken rows place can are)) c.take_tune.ensures.rows)
 
 pub returns-in-Move-clause-rows : goal.returns-in-Move-clause-rows
 returns-in-Move-clause-rows g c =
@@ -48,7 +48,7 @@ returns-in-Move-clause-rows g c =
     let left = c.move_row.new.rows.items in
     let number = c.in-Move.number in
     let to = c.in-Move.to in
-    let keeps : KeepsRows (Move number to) rows left = λ sets can are. c.move_row.ensures.rows are (none_labelled rows to can.1) can.2 can.3 in
+    let keeps : KeepsRows (Move number to) rows left = λ layout sets can are. c.move_row.ensures.rows layout are (none_labelled rows to can.1) can.2 can.3 in
     subst (λ (change : Change). KeepsRows change rows left) (sym c.in-Move.is) keeps
 
 pub returns-in-Add-clause-takes : goal.returns-in-Add-clause-takes

@@ -27,7 +27,7 @@ returns-in_err-sets-clause-damaged g c =
     rw p.1 (λ h.
     let one = rows.looks.was_honest h in
     subst (λ (f : ClaimFault). IsChainFault f (IsStateThere c.args.opening.now.pages)) (sym p.2)
-    (sets_named c.in_err-sets.field-0.0 _ _ _ _ _ _ _ (lists.claims one) rows.rows
+    (sets_named _ c.in_err-sets.field-0.0 _ _ _ _ _ _ _ (lists.claims one) rows.rows
     (sym c.deref.ensures.value ∙ rows.claimed.0) (named_as c.in_err-sets.field-0.0 _ _ _ _ c.deref-3.ensures.value c.deref-2.ensures.value call.damaged)))
 
 pub returns-clause-claimed : goal.returns-clause-claimed

@@ -10,16 +10,16 @@ use Rattle.tune_contents.proofs.claiming.claim_tune.Goals as goal
 pub returns-in_err-bytes-clause-damaged : goal.returns-in_err-bytes-clause-damaged
 returns-in_err-bytes-clause-damaged g c =
     let p = err_from_is_err_and c.from_residual.result c.from_residual.ensures.1 in
-    rw p.1 (λ h front has. subst (λ (f : ClaimFault). IsChainFault f (IsTuneThere c.args.opening.now.pages front c.args.low c.args.number c.args.first))
+    rw p.1 (λ h front has. subst (λ (f : ClaimFault). IsChainFault f (IsTuneThere c.args.layout c.args.opening.now.pages front c.args.low c.args.number c.args.first))
     (sym p.2)
     (fault_as c.in_err-bytes.field-0.0 _ _ (λ is. is.there) (c.in_err-bytes.ensures.damaged h front has)))
 
 pub returns-in_err-revision-clause-damaged : goal.returns-in_err-revision-clause-damaged
 returns-in_err-revision-clause-damaged g c =
     let p = err_from_is_err_and c.from_residual-in_err-revision.result c.from_residual-in_err-revision.ensures.1 in
-    rw p.1 (λ h front has. subst (λ (f : ClaimFault). IsChainFault f (IsTuneThere c.args.opening.now.pages front c.args.low c.args.number c.args.first))
+    rw p.1 (λ h front has. subst (λ (f : ClaimFault). IsChainFault f (IsTuneThere c.args.layout c.args.opening.now.pages front c.args.low c.args.number c.args.first))
     (sym p.2)
     (fault_as c.in_err-revision.field-0.0 _ _
-    (λ is. subst (λ l. (revision : ℕ) × (text : List ℕ) × IsTuneChain l revision text) (sym c.deref.ensures.value)
+    (λ is. subst (λ l. (revision : ℕ) × (text : List ℕ) × IsTuneChain c.args.layout l revision text) (sym c.deref.ensures.value)
     (tune_claimed _ front _ c.args.low c.args.number c.args.first _ (c.in_ok-bytes.ensures.claims h front has) is))
     c.in_err-revision.ensures.damaged))

@@ -8,8 +8,8 @@ use Rattle.tune_contents.proofs.StepLemmas.{list_long, rows_start, claims_start,
 use Rattle.tune_contents.proofs.StepLemmas.{rows_all, none_left, some_left, rows_end, row_long, row_as}
 use Rattle.tune_contents.proofs.claiming.claim_tunes.Goals as goal
 
-pub returns-then-list-clause-damaged : goal.returns-then-list-clause-damaged
-returns-then-list-clause-damaged g c = λ h front has there. list_long _ front 0 _ (omega (arith, c.if-list.true)) there
+pub returns-then-list-most-clause-damaged : goal.returns-then-list-most-clause-damaged
+returns-then-list-most-clause-damaged g c = λ h front has there. list_long _ front 0 _ (omega (arith, c.if-list-most.true, c.most_tunes-most.ensures.most)) there
 
 pub loop-number-init : goal.loop-number-init
 loop-number-init g c = record {
@@ -31,7 +31,7 @@ returns-in_err-row-clause-damaged g c =
     rw p.1 (λ h front has.
     let so = inv.claims (call.looks.was_honest h) front has in
     let on = inv.pages (call.looks.was_honest h) in
-    subst (λ (f : ClaimFault). IsChainFault f (AreTunesThere c.args.opening.now.pages front 0 c.args.list.now)) (sym p.2)
+    subst (λ (f : ClaimFault). IsChainFault f (AreTunesThere c.args.layout c.args.opening.now.pages front 0 c.args.list.now)) (sym p.2)
     (fault_as c.in_err-row.field-0.0 _ _
     (turn_there _ _ front _ _ _ _ _ _ _ _ on so row.some row.only)
     (call.damaged h (front ++ so.so_far.texts) (subst (λ l. HasClaimed l c.loop-number.opening.claimed (front ++ so.so_far.texts)) (sym on) so.so_far.has))))
@@ -70,4 +70,4 @@ returns-clause-claimed g c =
     (rows_all _ _ _ _ inv.rows none, (λ h front has. (c.loop-number.low, inv.rows.top, (inv.claims h front has).so_far)))
 
 pub returns-clause-rows : goal.returns-clause-rows
-returns-clause-rows g c = rows_end _ _ _ _ c.loop-number.invariant.rows (omega (arith, c.if-list.false))
+returns-clause-rows g c = rows_end _ _ _ _ c.loop-number.invariant.rows (omega (arith, c.if-list-most.false, c.most_tunes-most.ensures.most))

@@ -13,7 +13,7 @@ invariant-loop-number g l = record {
   failures : g.D.Disk.failures l.opening.disk ≡ g.D.Disk.failures l.initial.opening.disk;
   rows : RowsSoFar l.list l.rows.items l.low l.rest;
   claims : g.D.Disk.honest l.opening.disk → (front : List Part) → HasClaimed l.initial.opening.pages l.initial.opening.claimed front
-      → ClaimsSoFar l.initial.opening.pages front l.list l.opening.claimed l.rows.items l.low l.rest;
+      → ClaimsSoFar l.layout l.initial.opening.pages front l.list l.opening.claimed l.rows.items l.low l.rest;
 }
 
 abbrev pub decreases-loop-number : goal.decreases-loop-number

@@ -23,14 +23,14 @@ returns-in-Some-clause-moves c =
     (subst (λ (r : List Row). RowsRise 0 r → IsRowAfter c.args.to r c.place_after-place.result) left c.place_after-place.ensures.after))
 
 pub returns-in-Some-clause-rows : goal.returns-in-Some-clause-rows
-returns-in-Some-clause-rows c = λ are none some most.
+returns-in-Some-clause-rows c = λ layout are none some most.
     (let rows = c.args.rows.now.items in
     let row = c.remove-row.result in
     let within : c.in-Some.place < length rows = rw c.deref.ensures.value at c.in-Some.ensures.within in
     let left : c.deref-in-Some.result.now ≡ remove rows c.in-Some.place = c.deref-in-Some.ensures.value ∙ c.remove-row.ensures.items in
     let new : Row = record { number = c.args.to; revision = row.revision; first = row.first } in
     let put : c.insert.new.self.items ≡ insert c.remove-row.new.self.items c.place_after-place.result new = search rules in
-    subst AreRows (sym (put ∙ ap (λ (r : List Row). insert r c.place_after-place.result new) c.remove-row.ensures.items))
+    subst (AreRows layout) (sym (put ∙ ap (λ (r : List Row). insert r c.place_after-place.result new) c.remove-row.ensures.items))
     (rows_moved rows c.args.to c.in-Some.place c.place_after-place.result new within
     (subst (λ (r : List Row). c.place_after-place.result ≤ length r) left c.place_after-place.ensures.within)
     (subst (λ (r : List Row). RowsRise 0 r → IsRowAfter c.args.to r c.place_after-place.result) left c.place_after-place.ensures.after) refl are none
