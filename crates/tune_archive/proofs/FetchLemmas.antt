@@ -13,8 +13,10 @@ use Rattle.tune_pages.specs.Stand.{Stand, HasChain}
 use Rattle.tune_pages.specs.declared.fault.Fault.{Fault}
 use Rattle.tune_pages.specs.declared.fault.Fault.TheVariants.{FileFull, OutOfMemory, Device, Closed}
 use Rattle.tune_store.specs.Labels.{labels_of, LabelsRise}
-use Rattle.tune_store.specs.State.{State, IsState, IsTune}
+use Rattle.tune_store.specs.State.{State, IsState, IsTune, IsTunes}
 use Rattle.tune_store.specs.declared.catalog.Label.{Label}
+use Rattle.tune_store.specs.declared.layout.Layout.{Layout}
+use Rattle.tune_store.specs.declared.layout.Layout.TheVariants.{One}
 use Rattle.tune_store.specs.declared.tune.Tune.{Tune}
 use Rattle.tune_format.specs.Filed.{row_of, rows_of, HoldTunes, HoldsTuneAt}
 use Rattle.tune_format.specs.Layout.{most_pages_of_archive}
@@ -74,7 +76,7 @@ middle P (first ∷ front) tune back each = middle P front tune back each.1
 -- the text of the tune at a place stands where its row says
 pub text_there : (s : Stand) (contents : Contents) (state : State) (place first : ℕ) (d : Row) (e : Tune) → HoldsContents s contents state → IsState state
     → place < length contents.rows.items → first ≡ (get_or contents.rows.items place d).first
-    → (revision : ℕ) × HoldsText s first revision (get_or state.tunes place e).text
+    → (revision : ℕ) × HoldsText contents.layout s first revision (get_or state.tunes place e).text
 text_there s contents state place first d e holds within l is =
     let texts = holds.filed.texts in
     let tunes = state.tunes in
@@ -89,12 +91,14 @@ text_there s contents state place first d e holds within l is =
     ∙ ap (λ (n : ℕ). get_or (front ++ mine ∷ back) n d) (sym row.1) ∙ get_or-append_seam front mine back d in
     let its_tune : get_or tunes place e ≡ at.tune = ap (λ (ts : List Tune). get_or ts place e) at.are_tunes
     ∙ ap (λ (n : ℕ). get_or (at.front ++ at.tune ∷ at.back) n e) (sym at.is_place) ∙ get_or-append_seam at.front at.tune at.back e in
-    let good : IsTune at.tune = middle IsTune at.front at.tune at.back (subst (AllByRecursion IsTune) at.are_tunes within.tunes.each) in
+    let known : IsTunes contents.layout tunes = subst (λ layout. IsTunes layout tunes) (sym holds.layout) within.tunes in
+    let each : AllByRecursion (IsTune contents.layout) (at.front ++ at.tune ∷ at.back) = subst (AllByRecursion (IsTune contents.layout)) at.are_tunes known.each in
+    let good = middle (IsTune contents.layout) at.front at.tune at.back each in
     let bound = good.revision in
     let its_first : first ≡ at.part.first = is ∙ ap (λ (r : Row). r.first) its_row in
     let has : HasChain s at.part.first at.part.trail at.part.bytes =
     has_text s (holds.filed.list ∷ holds.filed.set_lists ∷ []) texts tunes place holds.holds at in
-    let held : HoldsText s first at.tune.revision at.tune.text = record {
+    let held : HoldsText contents.layout s first at.tune.revision at.tune.text = record {
       trail = at.part.trail;
       bytes = at.part.bytes;
       has = subst (λ (n : ℕ). HasChain s n at.part.trail at.part.bytes) (sym its_first) has;
@@ -104,42 +108,42 @@ text_there s contents state place first d e holds within l is =
         good = record { tune_text = good.text; fits = good.fits };
       };
     } in
-    (at.tune.revision, subst (λ (t : Tune). HoldsText s first at.tune.revision t.text) (sym its_tune) held)
+    (at.tune.revision, subst (λ (t : Tune). HoldsText contents.layout s first at.tune.revision t.text) (sym its_tune) held)
 
 pub some_text : (s : Stand) (contents : Contents) (state : State) (place first : ℕ) (d : Row) → HoldsContents s contents state → IsState state
-    → place < length contents.rows.items → first ≡ (get_or contents.rows.items place d).first → HoldsSomeText s first
+    → place < length contents.rows.items → first ≡ (get_or contents.rows.items place d).first → HoldsSomeText contents.layout s first
 some_text s contents state place first d holds within l is =
     let e : Tune = record { number = 0; revision = 0; text = [] } in
     let there = text_there s contents state place first d e holds within l is in
     (there.0, (get_or state.tunes place e).text, there.1)
 
 -- what was read of a chain and is the text of its bytes is the text there
-pub text_read : {T : Type 0} (text : T → List ℕ) (Honest : Type 0) (s mid : Stand) (first : ℕ) (bytes : List ℕ) (result : Result T Fault)
+pub text_read : {T : Type 0} (layout : Layout) (text : T → List ℕ) (Honest : Type 0) (s mid : Stand) (first : ℕ) (bytes : List ℕ) (result : Result T Fault)
     → (Honest → (trail all : List ℕ) → HasChain mid first trail all → bytes ≡ all) → mid ≡ s
-    → IfOk result (λ t. (revision : ℕ) (other : List ℕ) → IsTextOf bytes revision other → text t ≡ other)
-    → IfOk result (λ t. Honest → (revision : ℕ) (other : List ℕ) → HoldsText s first revision other → text t ≡ other)
-text_read text Honest s mid first bytes (Err fault) read same ok = tt
-text_read text Honest s mid first bytes (Ok t) read same ok = λ honest revision other holds.
+    → IfOk result (λ t. (revision : ℕ) (other : List ℕ) → IsTextOf layout bytes revision other → text t ≡ other)
+    → IfOk result (λ t. Honest → (revision : ℕ) (other : List ℕ) → HoldsText layout s first revision other → text t ≡ other)
+text_read layout text Honest s mid first bytes (Err fault) read same ok = tt
+text_read layout text Honest s mid first bytes (Ok t) read same ok = λ honest revision other holds.
     (let has : HasChain mid first holds.trail holds.bytes = subst (λ (m : Stand). HasChain m first holds.trail holds.bytes) (sym same) holds.has in
-    ok revision other (subst (λ (l : List ℕ). IsTextOf l revision other) (sym (read honest holds.trail holds.bytes has)) holds.is))
+    ok revision other (subst (λ (l : List ℕ). IsTextOf layout l revision other) (sym (read honest holds.trail holds.bytes has)) holds.is))
 
 -- no text stands where what was read is none
-abbrev NoText : List ℕ → Type 0
-NoText bytes = (revision : ℕ) (other : List ℕ) → IsTextOf bytes revision other → ⊥
+abbrev NoText : Layout → List ℕ → Type 0
+NoText layout bytes = (revision : ℕ) (other : List ℕ) → IsTextOf layout bytes revision other → ⊥
 
-no_text : (Honest : Type 0) (s mid : Stand) (first : ℕ) (bytes : List ℕ) → (Honest → (trail all : List ℕ) → HasChain mid first trail all → bytes ≡ all)
-    → mid ≡ s → NoText bytes → Honest → HoldsSomeText s first → ⊥
-no_text Honest s mid first bytes read same none h (revision, other, holds) =
+no_text : (layout : Layout) (Honest : Type 0) (s mid : Stand) (first : ℕ) (bytes : List ℕ) → (Honest → (trail all : List ℕ) → HasChain mid first trail all → bytes ≡ all)
+    → mid ≡ s → NoText layout bytes → Honest → HoldsSomeText layout s first → ⊥
+no_text layout Honest s mid first bytes read same none h (revision, other, holds) =
     let has : HasChain mid first holds.trail holds.bytes = subst (λ (m : Stand). HasChain m first holds.trail holds.bytes) (sym same) holds.has in
-    none revision other (subst (λ (l : List ℕ). IsTextOf l revision other) (sym (read h holds.trail holds.bytes has)) holds.is)
+    none revision other (subst (λ (l : List ℕ). IsTextOf layout l revision other) (sym (read h holds.trail holds.bytes has)) holds.is)
 
 -- a text that was not read although its chain was: there was no memory, or there is none
 module _ {D : Type 0} (honest : D → Type 0) (failures : D → ℕ) (state : D → DiskState) (old new : Kept D)
-    (s mid : Stand) (first : ℕ) (bytes : List ℕ) where
+    (layout : Layout) (s mid : Stand) (first : ℕ) (bytes : List ℕ) where
   pub looks_on : {T U : Type 0} (chain : U) (result : Result T Fault) → LooksAt {T = U} honest failures state (Ok chain) old new
       → (HonestAt honest new.disk → (trail all : List ℕ) → HasChain mid first trail all → bytes ≡ all) → mid ≡ s
-      → (HonestAt honest old.disk → HoldsSomeText s first)
-      → IfErr result (λ fault. (fault ≡ OutOfMemory) ⊎ ((fault ≡ Device) × NoText bytes))
+      → (HonestAt honest old.disk → HoldsSomeText layout s first)
+      → IfErr result (λ fault. (fault ≡ OutOfMemory) ⊎ ((fault ≡ Device) × NoText layout bytes))
       → LooksAt honest failures state result old new
   looks_on chain (Ok text) looks read same there fault = record {
     was_honest = looks.was_honest;
@@ -161,7 +165,7 @@ module _ {D : Type 0} (honest : D → Type 0) (failures : D → ℕ) (state : D 
   looks_on chain (Err Device) looks read same there (inr is) = record {
     was_honest = looks.was_honest;
     same_state = looks.same_state;
-    counted = λ h. absurd (no_text (HonestAt honest new.disk) s mid first bytes read same is.1 h (there (looks.was_honest h)));
+    counted = λ h. absurd (no_text layout (HonestAt honest new.disk) s mid first bytes read same is.1 h (there (looks.was_honest h)));
     same = λ ne. absurd (ne refl);
   }
 
@@ -202,6 +206,7 @@ module _ {D : Type 0} (honest : D → Type 0) (failures : D → ℕ) (state : D 
         record {
           holds = subst (λ (s : Stand). HoldsContents s contents (state_on state new.disk)) (sym stand)
               (subst (λ (s : State). HoldsContents (stand_of old) contents s) (sym its) held.holds);
+          first_layout = subst (λ (s : State). s.layout ≡ One) (sym its) held.first_layout;
           within = subst IsState (sym its) held.within;
           few = subst (λ (p : List (List ℕ)). length p ≤ most_pages_of_archive) (sym pages) held.few;
           rest = subst (λ (p : List (List ℕ)). LeavesOnly (state_at state new.disk).now (StandsFor p)) (sym pages)
@@ -213,7 +218,7 @@ module _ {D : Type 0} (honest : D → Type 0) (failures : D → ℕ) (state : D 
   pub fetches : (old new : Shelf D) (place first : ℕ) (d : Row) (last : Fetched) → IsShelf honest state old.pages old.contents old.closed
       → old.closed ≡ false → place < length old.contents.rows.items → first ≡ (get_or old.contents.rows.items place d).first
       → LooksAt {T = List ℕ} honest failures state (Ok last.text) old.pages new.pages
-      → (HonestAt honest new.pages.disk → (revision : ℕ) (other : List ℕ) → HoldsText (stand_of old.pages) first revision other → last.text ≡ other)
+      → (HonestAt honest new.pages.disk → (revision : ℕ) (other : List ℕ) → HoldsText old.contents.layout (stand_of old.pages) first revision other → last.text ≡ other)
       → new.contents ≡ old.contents → new.closed ≡ old.closed → new.fetched ≡ Some last
       → Fetches honest failures state old new × HasFetched honest state new place
   fetches old new place first d last shelf is_open l is looks text contents closed fetched = (

@@ -10,6 +10,7 @@ use Rattle.tune_pages.specs.Stand.{Stand}
 use Rattle.tune_pages.specs.declared.fault.Fault.{Fault}
 use Rattle.tune_pages.specs.declared.fault.Fault.TheVariants.{FileFull, OutOfMemory, Device, Closed}
 use Rattle.tune_pages.specs.contracts.fault.Fault.{the_type}
+use Rattle.tune_store.specs.declared.layout.Layout.TheVariants.{One}
 use Rattle.tune_store.specs.Plans.{changed}
 use Rattle.tune_store.specs.State.{State, IsState}
 use Rattle.tune_store.specs.Stops.{HasFailed}
@@ -51,7 +52,7 @@ module _ {D : Type 0} (honest : D → Type 0) (state : D → DiskState) (may_sta
 
   module _ (old : Kept D) (contents : Contents) (holds : HoldsState state old contents) where
     before_is : IsStateOf old.pages (state_on state old.disk)
-    before_is = record { filed = holds.holds.filed; within = holds.within; few = holds.few }
+    before_is = record { layout = holds.first_layout; filed = holds.holds.filed; within = holds.within; few = holds.few }
 
     rests : LeavesOnly (state_at state old.disk).now (λ file. StandsForState file (state_on state old.disk))
     rests file may = record { pages = old.pages; stands = holds.rest file may; is = before_is }
@@ -60,7 +61,7 @@ module _ {D : Type 0} (honest : D → Type 0) (state : D → DiskState) (may_sta
       module _ (change : Change) (within : IsState (changed change (state_on state old.disk))) where
         after_is : (next : Stand) (left : Contents) → HoldsContents next left (changed change (state_on state old.disk))
             → length next.pages ≤ length old.used → IsStateOf next.pages (changed change (state_on state old.disk))
-        after_is next left held few = record { filed = held.filed; within = within; few = omega (arith, few, marks) }
+        after_is next left held few = record { layout = holds.first_layout; filed = held.filed; within = within; few = omega (arith, few, marks) }
 
         -- a stop at any moment leaves the state before or the one after
         passes_laid_states : (new : DiskState) → PassesLaid (state_at state old.disk) new (stand_of old) contents change
@@ -104,6 +105,7 @@ module _ {D : Type 0} (honest : D → Type 0) (state : D → DiskState) (may_sta
             let is = sym (made_state new left h laid) in
             record {
               holds = subst (λ (s : State). HoldsContents (stand_of new) left s) is (laid.lays before holds.within.tunes.rises holds.holds);
+              first_layout = subst (λ (s : State). s.layout ≡ One) is holds.first_layout;
               within = subst (λ (s : State). IsState s) is within;
               few = omega (arith, laid.few, marks);
               rest = laid.rest;
@@ -119,6 +121,7 @@ module _ {D : Type 0} (honest : D → Type 0) (state : D → DiskState) (may_sta
         record {
           holds = subst (λ (s : Stand). HoldsContents s contents (state_on state new.disk)) stood
               (subst (λ (s : State). HoldsContents (stand_of old) contents s) seen holds.holds);
+          first_layout = subst (λ (s : State). s.layout ≡ One) seen holds.first_layout;
           within = subst (λ (s : State). IsState s) seen holds.within;
           few = omega (arith, holds.few, stays.same.count);
           rest = subst (λ (d : DiskState). LeavesOnly d.now (StandsFor new.pages)) disk
@@ -160,7 +163,7 @@ module _ {D : Type 0} (honest : D → Type 0) (failures : D → ℕ) (state : D 
   -- what was laid
   module _ (left : Contents) (calls : CallsWhere honest failures (Ok left) old.pages.disk new.pages.disk)
       (laid : HonestAt honest new.pages.disk → HasLaid state old.pages new.pages old.contents left change) where
-    pub made_shelf : AreRows left.rows.items → length new.pages.used ≡ length old.pages.used → new.pages.closed ≡ false
+    pub made_shelf : AreRows left.layout left.rows.items → length new.pages.used ≡ length old.pages.used → new.pages.closed ≡ false
         → IsShelf honest state new.pages left old.closed
     made_shelf rows marks opened = record {
       rows = rows;

@@ -22,6 +22,7 @@ use Rattle.tune_pages.specs.Opened.{only_root, IsUnopenedFor, LeavesSame}
 use Rattle.tune_pages.specs.Stand.{Stand}
 use Rattle.tune_pages.proofs.Chains.{length-marked}
 use Rattle.tune_store.specs.State.{State, IsState, empty_state}
+use Rattle.tune_store.specs.declared.layout.Layout.TheVariants.{One}
 use Rattle.tune_format.specs.Layout.{most_pages_of_archive}
 use Rattle.tune_format.specs.Parts.{Part, AreParts}
 use Rattle.tune_format.specs.States.{IsStateOf, StandsForState}
@@ -39,13 +40,14 @@ use Rattle.tune_archive.specs.Shelf.{Shelf, IsSound, state_on, StandsForOneOf}
 -- WHAT PAGES HOLD
 -- pages on which a state was claimed hold it, and nothing else is in use
 pub claims_hold : (pages : List (List ℕ)) (claimed : List Bool) (limit : ℕ) (contents : Contents) → length pages ≤ limit
-    → (is : IsClaimed pages contents.rows.items contents.sets contents.list_first contents.sets_first claimed)
+    → (is : IsClaimed pages contents.layout contents.rows.items contents.sets contents.list_first contents.sets_first claimed)
     → HoldsContents (record { pages = pages; used = claimed ++ replicate (limit - length pages) false }) contents
-    (record { tunes = is.tunes; sets = contents.sets })
+    (record { layout = contents.layout; tunes = is.tunes; sets = contents.sets })
 claims_hold pages claimed limit contents few is =
     let used = claimed ++ replicate (limit - length pages) false in
     let parts = is.filed.list ∷ is.filed.set_lists ∷ is.filed.texts in
     record {
+      layout = refl;
       filed = is.filed;
       holds = held_parts (record { pages = pages; used = used }) limit parts is.filed.parts few
           (open_parts pages claimed used limit parts is.filed.parts few is.marks refl);
@@ -66,10 +68,11 @@ none_filed image root = record {
 }
 
 -- a root alone that names no list holds no tunes and no sets
-pub root_holds : (image : List ℕ) (limit : ℕ) (contents : Contents) → IsRoot image 0 0 → 1 ≤ limit → contents.rows.items ≡ [] → contents.sets ≡ []
+pub root_holds : (image : List ℕ) (limit : ℕ) (contents : Contents) → IsRoot image 0 0 → 1 ≤ limit → contents.layout ≡ One → contents.rows.items ≡ [] → contents.sets ≡ []
     → (contents.list_first ≡ 0) × (contents.sets_first ≡ 0)
     → HoldsContents (record { pages = image ∷ []; used = only_root limit }) contents empty_state
-root_holds image limit contents root some rows sets firsts = record {
+root_holds image limit contents root some known rows sets firsts = record {
+  layout = known;
   filed = record {
     list = no_part;
     set_lists = no_part;
@@ -97,16 +100,18 @@ shown_stays honest state stays (Some disk) h = stays disk h
 -- the state that pages hold is the one that their disk is read as
 pub disk_holds : {D : Type 0} (state : D → DiskState) (kept : Kept D) (contents : Contents) (s : State)
     → MayLeave (state_at state kept.disk).now (state_at state kept.disk).seen → LeavesOnly (state_at state kept.disk).now (StandsFor kept.pages)
-    → length kept.pages ≤ most_pages_of_archive → IsState s → HoldsContents (stand_of kept) contents s → HoldsState state kept contents
-disk_holds state kept contents s stays rest few within holds =
+    → length kept.pages ≤ most_pages_of_archive → s.layout ≡ One → IsState s → HoldsContents (stand_of kept) contents s
+    → HoldsState state kept contents
+disk_holds state kept contents s stays rest few first within holds =
     let file = (state_at state kept.disk).seen in
     let read : state_on state kept.disk ≡ s = file_read file s (record {
       pages = kept.pages;
       stands = rest file stays;
-      is = record { filed = holds.filed; within = within; few = few };
+      is = record { layout = first; filed = holds.filed; within = within; few = few };
     }) in
     record {
       holds = subst (λ (x : State). HoldsContents (stand_of kept) contents x) (sym read) holds;
+      first_layout = subst (λ (x : State). x.layout ≡ One) (sym read) first;
       within = subst IsState (sym read) within;
       few = few;
       rest = rest;
@@ -189,9 +194,9 @@ claims_refused Device pages old new shown is = tt
 pub opened_shelf : {D : Type 0} (honest : D → Type 0) (state : D → DiskState) → ((disk : D) → honest disk → MayLeave (state disk).now (state disk).seen)
     → (disk : D) (kept : Kept D) (pages : List (List ℕ)) (claimed : List Bool) (contents : Contents) → kept.disk ≡ Some disk → kept.pages ≡ pages
     → kept.used ≡ claimed ++ replicate (most_pages_of_archive - length pages) false → kept.closed ≡ false → length kept.used ≡ most_pages_of_archive
-    → length pages ≤ most_pages_of_archive → 0 < length kept.pages → AreRows contents.rows.items
+    → length pages ≤ most_pages_of_archive → 0 < length kept.pages → AreRows contents.layout contents.rows.items
     → (honest disk → LeavesOnly (state disk).now (StandsFor pages))
-    → (honest disk → 0 < length pages → IsClaimed pages contents.rows.items contents.sets contents.list_first contents.sets_first claimed)
+    → (honest disk → 0 < length pages → IsClaimed pages contents.layout contents.rows.items contents.sets contents.list_first contents.sets_first claimed)
     → IsShelf honest state kept contents false
 opened_shelf honest state stays disk kept pages claimed contents same_disk same_pages same_used is_open marks few some rows rest claims = record {
   rows = rows;
@@ -200,12 +205,12 @@ opened_shelf honest state stays disk kept pages claimed contents same_disk same_
   holds = λ h e.
       let here = subst (HonestAt honest) same_disk h in
       let is = claims here (subst (λ (l : List (List ℕ)). 0 < length l) same_pages some) in
-      let s : State = record { tunes = is.tunes; sets = contents.sets } in
+      let s : State = record { layout = contents.layout; tunes = is.tunes; sets = contents.sets } in
       let holds = claims_hold pages claimed most_pages_of_archive contents few is in
       disk_holds state kept contents s (shown_stays honest state stays kept.disk h)
       (subst (λ (l : List (List ℕ)). LeavesOnly (state_at state kept.disk).now (StandsFor l)) (sym same_pages)
       (subst (λ (d : Option _). LeavesOnly (state_at state d).now (StandsFor pages)) (sym same_disk) (rest here)))
-      (subst (λ (l : List (List ℕ)). length l ≤ most_pages_of_archive) (sym same_pages) few) is.within
+      (subst (λ (l : List (List ℕ)). length l ≤ most_pages_of_archive) (sym same_pages) few) is.first_layout is.within
       (subst (λ (st : Stand). HoldsContents st contents s)
       (λ i. record { pages = sym same_pages i; used = sym same_used i }) holds);
 }
@@ -215,10 +220,10 @@ pub made_shelf : {D : Type 0} (honest : D → Type 0) (state : D → DiskState) 
     → (kept : Kept D) (image : List ℕ) (contents : Contents) → (HonestAt honest kept.disk → kept.pages ≡ image ∷ [])
     → kept.used ≡ only_root most_pages_of_archive → kept.closed ≡ false → IsRoot image 0 0
     → (HonestAt honest kept.disk → LeavesOnly (state_at state kept.disk).now (StandsFor (image ∷ [])))
-    → contents.rows.items ≡ [] → contents.sets ≡ [] → (contents.list_first ≡ 0) × (contents.sets_first ≡ 0)
+    → contents.layout ≡ One → contents.rows.items ≡ [] → contents.sets ≡ [] → (contents.list_first ≡ 0) × (contents.sets_first ≡ 0)
     → IsShelf honest state kept contents false
-made_shelf honest state stays kept image contents pages used is_open root rest rows sets firsts = record {
-  rows = subst AreRows (sym rows) (record { rise = tt; numbers = tt; few = omega arith });
+made_shelf honest state stays kept image contents pages used is_open root rest known rows sets firsts = record {
+  rows = subst (AreRows contents.layout) (sym rows) (record { rise = tt; numbers = tt; few = omega arith });
   marks = λ e.
       ap (λ (l : List Bool). length l) used ∙ length-marked true (0 ∷ []) (replicate most_pages_of_archive false)
       ∙ length-replicate most_pages_of_archive false;
@@ -226,10 +231,10 @@ made_shelf honest state stays kept image contents pages used is_open root rest r
   holds = λ h e.
       disk_holds state kept contents empty_state (shown_stays honest state stays kept.disk h)
       (subst (λ (l : List (List ℕ)). LeavesOnly (state_at state kept.disk).now (StandsFor l)) (sym (pages h)) (rest h))
-      (subst (λ (l : List (List ℕ)). length l ≤ most_pages_of_archive) (sym (pages h)) (omega arith)) empty_within
+      (subst (λ (l : List (List ℕ)). length l ≤ most_pages_of_archive) (sym (pages h)) (omega arith)) refl empty_within
       (subst (λ (st : Stand). HoldsContents st contents empty_state)
       (λ i. record { pages = sym (pages h) i; used = sym used i })
-      (root_holds image most_pages_of_archive contents root (omega arith) rows sets firsts));
+      (root_holds image most_pages_of_archive contents root (omega arith) known rows sets firsts));
 }
 
 -- A root alone is read as the state in which nothing is yet.

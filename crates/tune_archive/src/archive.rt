@@ -3,6 +3,7 @@ ghost use Rattle.std.specs.Prelude.{◌≡◌, true, false, None, Some, length, 
 ghost use Rattle.tune_disk.specs.Stops.{LeavesOnly};
 ghost use Rattle.tune_format.specs.States.{StandsForState};
 ghost use Rattle.tune_pages.specs.Kept.{HonestAt, state_at};
+ghost use Rattle.tune_store.specs.Limits.{layout_number};
 ghost use Rattle.tune_archive.specs.Shelf.{state_of};
 ghost use Rattle.tune_archive.specs.Inside.Holding.{IsShelf};
 
@@ -16,9 +17,6 @@ use tune_pages::Pages;
 
 /// How many pages an archive has at most (this archive's profile).
 pub(crate) const MOST_PAGES: u32 = 1_000_000;
-
-// The layout of the pages.
-const LAYOUT: u32 = 1;
 
 /// The text of the tune at a place.
 #[derive(Drop)]
@@ -99,16 +97,17 @@ impl<D: Disk> Archive<D> {
     pub fn counts(&self) -> Result<Counts, Closed>
         ensures answer { MatchResult result (λ _. self.now.closed ≡ false)
             (λ _. self.now.closed ≡ true) }
-        ensures counts { MatchResult result (λ counts. (counts.layout ≡ 1)
-            × (HonestAt D.honest self.now.pages.disk
-            → (counts.tunes ≡ length (state_of D.state self.now).tunes)
-            × (counts.sets ≡ length (state_of D.state self.now).sets))) (λ _. Unit {0}) }
+        ensures counts { MatchResult result (λ counts.
+            HonestAt D.honest self.now.pages.disk
+            → (counts.layout ≡ layout_number (state_of D.state self.now).layout)
+            × (counts.tunes ≡ length (state_of D.state self.now).tunes)
+            × (counts.sets ≡ length (state_of D.state self.now).sets)) (λ _. Unit {0}) }
     {
         if self.closed {
             return Err(Closed);
         }
         Ok(Counts {
-            layout: LAYOUT,
+            layout: self.contents.layout.number(),
             tunes: self.contents.rows.as_slice().len(),
             sets: self.contents.sets.as_slice().len(),
         })

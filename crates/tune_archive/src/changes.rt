@@ -39,11 +39,11 @@ fn change_pages<D: Disk>(
     change: Change,
 ) -> Result<Contents, Fault>
     requires open { pages.old.closed ≡ false }
-    requires possible { CanChange change
+    requires possible { CanChange change contents.now.layout
         (labels_in contents.now.rows.items) contents.now.sets }
     requires holds { HonestAt D.honest pages.old.disk
         → HoldsSomeState (stand_of pages.old) contents.now }
-    requires rows { AreRows contents.now.rows.items }
+    requires rows { AreRows contents.now.layout contents.now.rows.items }
     requires few { HonestAt D.honest pages.old.disk
         → length pages.old.pages ≤ length pages.old.used }
     ensures calls { CallsWhere D.honest D.failures result pages.old.disk pages.new.disk }
@@ -52,7 +52,7 @@ fn change_pages<D: Disk>(
         contents.now change }
     ensures laid { IfOk result (λ left. HonestAt D.honest pages.new.disk
         → HasLaid D.state pages.old pages.new contents.now left change) }
-    ensures rows { IfOk result (λ left. AreRows left.rows.items) }
+    ensures rows { IfOk result (λ left. AreRows left.layout left.rows.items) }
     ensures marks { OnOk result (length pages.new.used ≡ length pages.old.used) }
     ensures stays { IfErr result (λ fault. fault ≢ Device
         → StaysKept D.honest D.state pages.old pages.new) }
@@ -68,7 +68,7 @@ impl<D: Disk> Archive<D> {
     // Makes a change, whole or not at all. It closes the archive where the device failed.
     pub(crate) fn make_change(&mut self, change: Change) -> Result<(), Refusal>
         requires open { self.old.closed ≡ false }
-        requires possible { CanChange change
+        requires possible { CanChange change self.old.contents.layout
             (labels_in self.old.contents.rows.items) self.old.contents.sets }
         requires within { HonestAt D.honest self.old.pages.disk
             → IsState (changed change (state_of D.state self.old)) }

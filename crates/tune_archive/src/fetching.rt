@@ -11,7 +11,7 @@ use tune_format::Row;
 use tune_pages::Fault;
 use tune_queries::Sought;
 use tune_sets::SetLists;
-use tune_store::{Catalog, Label, Refusal, all_places};
+use tune_store::{Catalog, Label, Layout, Refusal, all_places};
 
 impl<D: Disk> Catalog for Archive<D> {
     ghost use Rattle.tune_contents.specs.Holds.{labels_in};
@@ -19,9 +19,12 @@ impl<D: Disk> Catalog for Archive<D> {
     ghost use Rattle.tune_archive.specs.Inside.Fetching.{Tells, HasFetched, Fetches, FailsFetch};
     ghost use Rattle.tune_archive.specs.Inside.Fetched.{none_fetched, more_fetched};
     ghost use Rattle.tune_archive.specs.Inside.Fetched.{fetched_and_failed, told_before};
-    ghost use Rattle.tune_archive.specs.Inside.Fetched.{labels_stay, sets_stay, state_stays};
+    ghost use Rattle.tune_archive.specs.Inside.Fetched.{labels_stay, layout_stays};
+    ghost use Rattle.tune_archive.specs.Inside.Fetched.{sets_stay, state_stays};
 
     ghost labels = { λ archive. labels_in archive.contents.rows.items };
+
+    ghost layout = { λ archive. archive.contents.layout };
 
     ghost sets = { λ archive. archive.contents.sets };
 
@@ -43,6 +46,8 @@ impl<D: Disk> Catalog for Archive<D> {
 
     ghost labels_stay = { labels_stay D.Disk.honest D.Disk.failures D.Disk.state };
 
+    ghost layout_stays = { layout_stays D.Disk.honest D.Disk.failures D.Disk.state };
+
     ghost sets_stay = { sets_stay D.Disk.honest D.Disk.failures D.Disk.state };
 
     ghost was_honest = { told_before D.Disk.honest D.Disk.failures D.Disk.state };
@@ -50,6 +55,8 @@ impl<D: Disk> Catalog for Archive<D> {
     ghost state_stays = { state_stays D.Disk.honest D.Disk.failures D.Disk.state };
 
     ghost labels_are = { λ archive told. told.labels };
+
+    ghost layout_is = { λ archive told. told.layout };
 
     ghost sets_are = { λ archive told. told.sets };
 
@@ -69,6 +76,10 @@ impl<D: Disk> Catalog for Archive<D> {
         place_of(&self.contents.rows, number)
     }
 
+    fn layout(&self) -> Layout {
+        self.contents.layout
+    }
+
     fn sets(&self) -> &SetLists {
         &self.contents.sets
     }
@@ -77,9 +88,10 @@ impl<D: Disk> Catalog for Archive<D> {
         if self.closed {
             return Err(Refusal::Device);
         }
+        let layout = self.contents.layout;
         let first = self.contents.rows[place].first;
         self.fetched = None;
-        match read_tune(self.alloc, &mut self.pages, first) {
+        match read_tune(self.alloc, &mut self.pages, layout, first) {
             Ok(text) => {
                 self.fetched = Some(Fetched { place, text });
                 Ok(())

@@ -8,6 +8,7 @@ ghost use Rattle.tune_pages.specs.Kept.{HonestAt, state_at, failures_at};
 ghost use Rattle.tune_pages.specs.Opened.{only_root, IsUnmadePagesFor, IsPagesMakeReason};
 ghost use Rattle.tune_pages.specs.Opened.{IsPagesOpenReason, IsUndoneFor};
 ghost use Rattle.tune_store.specs.State.{empty_state};
+ghost use Rattle.tune_store.specs.declared.layout.Layout.TheVariants.{One};
 ghost use Rattle.tune_format.specs.Layout.{most_pages_of_archive};
 ghost use Rattle.tune_format.specs.States.{IsStateOf, StandsForState};
 ghost use Rattle.tune_contents.specs.Claimed.{AreRows, IsClaimed};
@@ -24,14 +25,17 @@ use tune_format::write_root;
 use tune_journal::{OpenFault, Refused};
 use tune_pages::{ClaimFault, Opening, Pages};
 use tune_sets::SetLists;
+use tune_store::Layout;
 
 // The contents of an archive in which nothing is yet.
 fn nothing(alloc: Global) -> Contents
+    ensures layout { result.layout ≡ One }
     ensures rows { result.rows.items ≡ [] }
     ensures sets { result.sets ≡ [] }
     ensures firsts { (result.list_first ≡ 0) × (result.sets_first ≡ 0) }
 {
     Contents {
+        layout: Layout::One,
         rows: Vec::new(alloc),
         sets: SetLists::new(alloc),
         list_first: 0,
@@ -151,9 +155,9 @@ impl<D: Disk> Archive<D> {
     ) -> Result<Archive<D>, Refused<D>>
         requires rest { LeavesPages D.honest D.state opening.disk opening.pages }
         requires claimed { D.honest opening.disk → 0 < length opening.pages
-            → IsClaimed opening.pages contents.rows.items contents.sets contents.list_first
-            contents.sets_first opening.claimed }
-        requires rows { AreRows contents.rows.items }
+            → IsClaimed opening.pages contents.layout contents.rows.items contents.sets
+            contents.list_first contents.sets_first opening.claimed }
+        requires rows { AreRows contents.layout contents.rows.items }
         ensures disk { disk_of result ≡ Some opening.disk }
         ensures state { IfOk result (λ archive. D.honest opening.disk
             → IsStateOf opening.pages (state_of D.state archive)) }

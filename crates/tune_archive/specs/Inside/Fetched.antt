@@ -46,6 +46,10 @@ module _ {D : Type 0} (honest : D → Type 0) (failures : D → ℕ) (state : D 
       → labels_in new.contents.rows.items ≡ labels_in old.contents.rows.items
   labels_stay old new fetches = ap (λ contents. labels_in contents.rows.items) fetches.contents
 
+  pub layout_stays : (old new : Shelf D) → Fetches honest failures state old new
+      → new.contents.layout ≡ old.contents.layout
+  layout_stays old new fetches = ap (λ contents. contents.layout) fetches.contents
+
   pub sets_stay : (old new : Shelf D) → Fetches honest failures state old new
       → new.contents.sets ≡ old.contents.sets
   sets_stay old new fetches = ap (λ contents. contents.sets) fetches.contents
@@ -66,5 +70,6 @@ module _ {D : Type 0} (honest : D → Type 0) (failures : D → ℕ) (state : D 
         was_honest = fetches.was_honest told.was_honest;
         labels = sym (labels_stay old new fetches) ∙ told.labels
             ∙ ap (λ s. labels_of s.tunes) same;
+        layout = sym (layout_stays old new fetches) ∙ told.layout ∙ ap (λ s. s.layout) same;
         sets = sym (sets_stay old new fetches) ∙ told.sets ∙ ap (λ s. s.sets) same;
       }

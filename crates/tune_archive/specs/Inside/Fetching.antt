@@ -11,6 +11,7 @@ use Rattle.tune_pages.specs.declared.fault.Fault.TheVariants.{Closed}
 use Rattle.tune_store.specs.Labels.{labels_of}
 use Rattle.tune_store.specs.Limits.{longest_text}
 use Rattle.tune_store.specs.Stops.{HasFailed}
+use Rattle.tune_store.specs.declared.layout.Layout.{Layout}
 use Rattle.tune_store.specs.declared.tune.Tune.{Tune}
 use Rattle.tune_format.specs.Written.{written_text}
 use Rattle.tune_contents.specs.Holds.{labels_in}
@@ -18,22 +19,24 @@ use Rattle.tune_archive.specs.Shelf.{Shelf, state_of}
 use Rattle.tune_archive.specs.declared.archive.Fetched.{Fetched}
 
 -- A TEXT
--- these bytes are a revision and this text of a tune
-pub record IsTextOf (bytes : List ℕ) (revision : ℕ) (text : List ℕ) : Type 0 where
+-- these bytes are a revision and this text of a tune, within the limits of the layout
+pub record IsTextOf (layout : Layout) (bytes : List ℕ) (revision : ℕ) (text : List ℕ) : Type 0 where
   pub written : written_text revision text ≡ bytes
   pub few : revision < 2 ^ 16
-  pub good : IsTextWithin longest_text text
+  pub good : IsTextWithin (longest_text layout) text
 
 -- The chain that begins there is in use, and holds a revision and this text of a tune.
-pub record HoldsText (s : Stand) (first revision : ℕ) (text : List ℕ) : Type 0 where
+pub record HoldsText (layout : Layout) (s : Stand) (first revision : ℕ) (text : List ℕ)
+    : Type 0 where
   pub trail : List ℕ
   pub bytes : List ℕ
   pub has : HasChain s first trail bytes
-  pub is : IsTextOf bytes revision text
+  pub is : IsTextOf layout bytes revision text
 
 -- some text stands there
-abbrev pub HoldsSomeText : Stand → ℕ → Type 0
-HoldsSomeText s first = (revision : ℕ) × (text : List ℕ) × HoldsText s first revision text
+abbrev pub HoldsSomeText : Layout → Stand → ℕ → Type 0
+HoldsSomeText layout s first =
+    (revision : ℕ) × (text : List ℕ) × HoldsText layout s first revision text
 
 -- A text that is read from open pages is refused for memory, which leaves them open, or for the
 -- device.
@@ -54,6 +57,7 @@ pub record Tells {D : Type 0} (honest : D → Type 0) (state : D → DiskState) 
     : Type 0 where
   pub was_honest : HonestAt honest archive.pages.disk
   pub labels : labels_in archive.contents.rows.items ≡ labels_of (state_of state archive).tunes
+  pub layout : archive.contents.layout ≡ (state_of state archive).layout
   pub sets : archive.contents.sets ≡ (state_of state archive).sets
 
 -- The text of the tune at a place was read last.

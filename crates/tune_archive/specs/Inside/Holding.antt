@@ -6,6 +6,7 @@ use Rattle.tune_journal.specs.Image.{StandsFor}
 use Rattle.tune_pages.specs.Kept.{Kept, HonestAt, state_at}
 use Rattle.tune_pages.specs.Stand.{Stand}
 use Rattle.tune_store.specs.State.{IsState}
+use Rattle.tune_store.specs.declared.layout.Layout.TheVariants.{One}
 use Rattle.tune_format.specs.Layout.{most_pages_of_archive}
 use Rattle.tune_contents.specs.Claimed.{AreRows}
 use Rattle.tune_contents.specs.Holds.{HoldsContents}
@@ -16,10 +17,11 @@ use Rattle.tune_archive.specs.Shelf.{state_on}
 abbrev pub stand_of : {D : Type 0} → Kept D → Stand
 stand_of kept = record { pages = kept.pages; used = kept.used }
 
--- The pages hold the state of the disk, which is within the limits; a stop now leaves them alone.
+-- The pages hold the state of the disk, which is of layout 1 and within its limits; a stop now leaves them alone.
 pub record HoldsState {D : Type 0} (state : D → DiskState) (kept : Kept D) (contents : Contents)
     : Type 0 where
   pub holds : HoldsContents (stand_of kept) contents (state_on state kept.disk)
+  pub first_layout : (state_on state kept.disk).layout ≡ One
   pub within : IsState (state_on state kept.disk)
   pub few : length kept.pages ≤ most_pages_of_archive
   pub rest : LeavesOnly (state_at state kept.disk).now (StandsFor kept.pages)
@@ -28,7 +30,7 @@ pub record HoldsState {D : Type 0} (state : D → DiskState) (kept : Kept D) (co
 -- that there may be, which hold its state where the disk is honest.
 pub record IsShelf {D : Type 0} (honest : D → Type 0) (state : D → DiskState) (kept : Kept D)
     (contents : Contents) (closed : Bool) : Type 0 where
-  pub rows : AreRows contents.rows.items
+  pub rows : AreRows contents.layout contents.rows.items
   pub marks : closed ≡ false → length kept.used ≡ most_pages_of_archive
   pub is_open : closed ≡ false → kept.closed ≡ false
   pub holds : HonestAt honest kept.disk → closed ≡ false → HoldsState state kept contents
