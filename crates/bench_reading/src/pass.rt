@@ -1,7 +1,7 @@
 // One pass over the tunes of a book.
 use abc_fields::{Fields, TuneText, fields};
 use abc_notes::{Letter, Notes, key_of, signature};
-use tune_incipit::{MOST_NOTES, Steps, steps};
+use tune_incipit::{Steps, steps};
 
 // What is read of each tune.
 #[derive(Clone, Copy)]
@@ -47,7 +47,7 @@ fn read(tune: &TuneText, what: What) -> u64 {
             field_bytes(&found).wrapping_add(changed_letters(found.key))
         }
         What::Notes => semitones(Notes::of_tune(tune)),
-        What::Steps => step_semitones(&steps(tune, MOST_NOTES)),
+        What::Steps => step_semitones(&steps(tune, NOTES)),
     }
 }
 
@@ -59,6 +59,9 @@ fn field_bytes(found: &Fields) -> u64 {
     }
     sum
 }
+
+// How many notes an incipit is asked by in layout 1.
+const NOTES: usize = 8;
 
 const LETTERS: [Letter; 7] = [
     Letter::C,

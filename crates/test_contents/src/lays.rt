@@ -1,6 +1,7 @@
 // Changes of an archive, laid on its pages, and what is claimed then.
 ghost use Rattle.std.specs.Prelude.{◌≡◌, ◌<◌, ◌≤◌, List, [], ◌∷◌, false, IfOk, OnOk};
 ghost use Rattle.tune_store.specs.Plans.{CanChange};
+ghost use Rattle.tune_store.specs.declared.layout.Layout.TheVariants.{One};
 ghost use Rattle.tune_contents.specs.Holds.{labels_in};
 
 use crate::disks::TestDisk;
@@ -12,7 +13,7 @@ use tune_contents::{Contents, Room, claim, lay};
 use tune_format::{Row, write_root};
 use tune_pages::{Fault, Pages};
 use tune_sets::{SetLists, SetName};
-use tune_store::{Change, Tune};
+use tune_store::{Change, Layout, Tune};
 
 const LULLABY: &[u8] = b"T:Lullaby\nK:C\n";
 
@@ -46,7 +47,7 @@ fn changed<D: TestDisk>(
     change: Change,
 ) -> Result<Contents, Fail>
     requires open { pages.old.closed ≡ false }
-    requires possible { CanChange change
+    requires possible { CanChange change contents.now.layout
         (labels_in contents.now.rows.items) contents.now.sets }
     ensures open { OnOk result (pages.new.closed ≡ false) }
 {
@@ -59,9 +60,11 @@ fn changed<D: TestDisk>(
 // Nothing, as an archive without tunes has it in memory.
 fn nothing(alloc: Global) -> Contents
     ensures rows { result.rows.items ≡ [] }
+    ensures layout { result.layout ≡ One }
     ensures sets { result.sets ≡ [] }
 {
     Contents {
+        layout: Layout::One,
         rows: Vec::new(alloc),
         sets: SetLists::new(alloc),
         list_first: 0,
@@ -103,6 +106,7 @@ fn two(
     rows.push(one)?;
     rows.push(other)?;
     Ok(Contents {
+        layout: Layout::One,
         rows,
         sets: SetLists::new(alloc),
         list_first,
@@ -245,7 +249,8 @@ pub(crate) fn moves_a_tune<R: AllocGlobal + Abort, D: TestDisk>(rt: &R) -> Resul
 // A new set list of this name.
 fn new_set(contents: &Contents, name: SetName) -> Result<Change, Fail>
     ensures possible { IfOk result (λ change.
-        CanChange change (labels_in contents.now.rows.items) contents.now.sets) }
+        CanChange change contents.now.layout (labels_in contents.now.rows.items)
+        contents.now.sets) }
 {
     contents.sets.copy()?.create(name.as_slice())?;
     Ok(Change::NewSet { name })
@@ -254,7 +259,8 @@ fn new_set(contents: &Contents, name: SetName) -> Result<Change, Fail>
 // A number more in the set list of this name.
 fn add_place(contents: &Contents, name: SetName, number: u32) -> Result<Change, Fail>
     ensures possible { IfOk result (λ change.
-        CanChange change (labels_in contents.now.rows.items) contents.now.sets) }
+        CanChange change contents.now.layout (labels_in contents.now.rows.items)
+        contents.now.sets) }
 {
     contents.sets.copy()?.add(name.as_slice(), number)?;
     Ok(Change::AddPlace { name, number })

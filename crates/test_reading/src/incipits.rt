@@ -49,7 +49,8 @@ fn steps_of_tune(alloc: Global, book: &[u8]) -> io::Result<Steps> {
 // The steps of a query, none where it is refused.
 fn steps_of_query(count: &[u8], query: &[u8]) -> io::Result<Option<Steps>> {
     let notes = match count {
-        [digit @ b'2'..=b'8'] => usize::from(*digit - b'0'),
+        [digit @ b'2'..=b'9'] => usize::from(*digit - b'0'),
+        b"12" => 12,
         _ => return Err(unreadable()),
     };
     if query.len() > 4_000_000 {

@@ -6,6 +6,7 @@ use Rattle.tune_journal.specs.declared.open_fault.OpenFault.{OpenFault}
 use Rattle.tune_journal.specs.declared.open_fault.OpenFault.TheVariants.{NotArchive, Damaged}
 use Rattle.tune_journal.specs.declared.open_fault.OpenFault.TheVariants.{NotEmpty, OutOfMemory}
 use Rattle.tune_journal.specs.declared.open_fault.OpenFault.TheVariants.{Device}
+use Rattle.tune_store.specs.Limits.{layout_number}
 use Rattle.tune_store.specs.State.{State}
 use Rattle.tune_scripts.specs.declared.runs.RunEnd.{RunEnd}
 use Rattle.tune_scripts.specs.declared.runs.RunEnd.TheVariants.{Ended}
@@ -43,4 +44,5 @@ line_of layout tunes sets =
 
 -- the same of a state
 abbrev pub counts_bytes : State → List ℕ
-counts_bytes state = line_of 1 (length state.tunes) (length state.sets)
+counts_bytes state =
+    line_of (layout_number state.layout) (length state.tunes) (length state.sets)
