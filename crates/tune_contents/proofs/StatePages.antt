@@ -106,6 +106,24 @@ list_size (row ∷ rows) = let more = list_size rows in omega (arith, more)
 pub list_count : (rows : List Row) → length rows ≤ most_tunes → list_pages rows ≤ most_list_pages
 list_count rows few = at_most (length (written_rows rows)) most_list_pages (omega (arith, few, list_size rows))
 
+-- CHAINS
+-- none that holds a part of a state has more pages
+module _ (pages : List (List ℕ)) (sized : AreSized pages) (part : Part) (is : IsPart pages part) where
+  trail_count : (bytes : List ℕ) → part.bytes ≡ bytes → length part.trail ≡ pages_for (length bytes)
+  trail_count bytes holds = chain_count pages part.first part.trail part.bytes sized is ∙ ap (λ (l : List ℕ). pages_for (length l)) holds
+
+  pub tune_few : (tune : Tune) → part.bytes ≡ written_tune tune → length tune.text ≤ longest_text → length part.trail ≤ most_tune_pages
+  tune_few tune holds fits =
+      let size : length (written_tune tune) ≡ length tune.text + revision_bytes = omega arith in
+      let same : pages_for (length (written_tune tune)) ≡ tune_pages tune.text = ap pages_for size in
+      omega (arith, trail_count (written_tune tune) holds, same, text_count tune.text fits)
+
+  pub list_few : (rows : List Row) → part.bytes ≡ written_rows rows → length rows ≤ most_tunes → length part.trail ≤ most_list_pages
+  list_few rows holds few = omega (arith, trail_count (written_rows rows) holds, list_count rows few)
+
+  pub sets_few : (sets : List TuneSet) → part.bytes ≡ written_sets sets → AreSetLists sets → length part.trail ≤ most_sets_pages
+  sets_few sets holds are = omega (arith, trail_count (written_sets sets) holds, sets_count sets are)
+
 -- ALL
 -- the root, and the chains of a state within the limits
 pub state_count : (s : Stand) (contents : Contents) (state : State) → HoldsContents s contents state → IsState state → AreSized s.pages

@@ -13,7 +13,7 @@ ghost use Rattle.tune_format.specs.Written.{written_row, written_rows};
 ghost use Rattle.tune_format.specs.declared.rows.Row.{Row};
 ghost use Rattle.tune_pages.specs.Claim.{IsChainFault, LooksOpening};
 ghost use Rattle.tune_pages.specs.Opened.{only_root};
-ghost use Rattle.tune_contents.specs.Inside.Claiming.{HasClaimed, ClaimsPart, IsPartThere};
+ghost use Rattle.tune_contents.specs.Inside.Claiming.{AreBlocks, HasClaimed, ClaimsPart, IsPartThere};
 ghost use Rattle.tune_contents.specs.Inside.Claiming.{IsTuneChain, ClaimsTune, IsTuneThere};
 ghost use Rattle.tune_contents.specs.Inside.Claiming.{TunesClaimed, AreTunesThere};
 ghost use Rattle.tune_contents.specs.Inside.Claiming.{ClaimsLists, IsStateThere};
@@ -34,6 +34,12 @@ use tune_store::{GREATEST_NUMBER, GREATEST_REVISION, LONGEST_TEXT, MOST_TUNES};
 // How many bytes the list of tunes has for each.
 const ROW_BYTES: usize = 8;
 
+// How many pages the chain of a tune has at most, that of the list of tunes, and that of the set
+// lists.
+const MOST_TUNE_PAGES: u32 = 4;
+const MOST_LIST_PAGES: u32 = 40;
+const MOST_SETS_PAGES: u32 = 104;
+
 // The list of tunes and the set lists of an archive, as bytes, and where they begin.
 #[derive(Drop)]
 struct Lists {
@@ -44,7 +50,8 @@ struct Lists {
 }
 
 /// Claims what an archive has on its pages: the list of tunes, the set lists and each tune, whose
-/// text is read and let go. Nothing but the root was claimed before.
+/// text is read and let go. Nothing but the root was claimed before. A chain that is longer than
+/// that of any state is not read to its end, so that no file takes more memory than an archive may.
 ///
 /// # Errors
 ///
@@ -65,6 +72,8 @@ pub fn claim<D: Disk>(alloc: Global, opening: &mut Opening<D>) -> Result<Content
         → IsChainFault fault ((state : State) × IsStateOf opening.old.pages state)) }
     ensures looks { LooksOpening D.honest D.failures D.state result opening.old opening.new }
 {
+    // Its contract says that each page has the bytes of a block.
+    let _count = opening.count();
     let Lists {
         list_first,
         sets_first,
@@ -83,7 +92,8 @@ pub fn claim<D: Disk>(alloc: Global, opening: &mut Opening<D>) -> Result<Content
 
 // Claims the list of tunes and the set lists.
 fn claim_lists<D: Disk>(opening: &mut Opening<D>) -> Result<Lists, ClaimFault>
-    requires { opening.old.claimed ≡ only_root (length opening.old.pages) }
+    requires root { opening.old.claimed ≡ only_root (length opening.old.pages) }
+    requires sized { D.honest opening.old.disk → AreBlocks opening.old.pages }
     ensures claims { IfOk result (λ lists. D.honest opening.new.disk
         → 0 < length opening.old.pages → ClaimsLists opening.old.pages opening.new.claimed
         lists.list_first lists.sets_first lists.list.items lists.sets.items) }
@@ -95,8 +105,8 @@ fn claim_lists<D: Disk>(opening: &mut Opening<D>) -> Result<Lists, ClaimFault>
     let Some((list_first, sets_first)) = read_root(&root) else {
         return Err(ClaimFault::Damaged);
     };
-    let list = claim_part(opening, list_first)?;
-    let sets = claim_part(opening, sets_first)?;
+    let list = claim_part(opening, list_first, MOST_LIST_PAGES)?;
+    let sets = claim_part(opening, sets_first, MOST_SETS_PAGES)?;
     Ok(Lists {
         list_first,
         sets_first,
@@ -105,17 +115,21 @@ fn claim_lists<D: Disk>(opening: &mut Opening<D>) -> Result<Lists, ClaimFault>
     })
 }
 
-// Claims the part that begins at a page, and gives its bytes.
-fn claim_part<D: Disk>(opening: &mut Opening<D>, first: u32) -> Result<Vec<u8>, ClaimFault>
+// Claims the part of at most so many pages that begins at this one, and gives its bytes.
+fn claim_part<D: Disk>(
+    opening: &mut Opening<D>,
+    first: u32,
+    most: u32,
+) -> Result<Vec<u8>, ClaimFault>
     ensures claims { IfOk result (λ bytes. D.honest opening.new.disk → (front : List Part)
         → HasClaimed opening.old.pages opening.old.claimed front
         → ClaimsPart opening.old.pages front opening.new.claimed first bytes.items) }
     ensures damaged { IfErr result (λ fault. D.honest opening.new.disk → (front : List Part)
         → HasClaimed opening.old.pages opening.old.claimed front
-        → IsChainFault fault (IsPartThere opening.old.pages front first)) }
+        → IsChainFault fault (IsPartThere opening.old.pages front first most)) }
     ensures looks { LooksOpening D.honest D.failures D.state result opening.old opening.new }
 {
-    opening.claim_chain(first)
+    opening.claim_chain_within(first, most)
 }
 
 // Claims each tune of a list.
@@ -202,7 +216,7 @@ fn claim_tune<D: Disk>(
     if number <= low || number > GREATEST_NUMBER {
         return Err(ClaimFault::Damaged);
     }
-    let bytes = claim_part(opening, first)?;
+    let bytes = claim_part(opening, first, MOST_TUNE_PAGES)?;
     let revision = revision_of(alloc, &bytes)?;
     Ok(Row {
         number,

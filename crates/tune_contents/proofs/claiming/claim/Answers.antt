@@ -15,7 +15,7 @@ returns-in_err-rows-clause-damaged g c =
     rw p.1 (λ h.
     let one = call.looks.was_honest h in
     subst (λ (f : ClaimFault). IsChainFault f (IsStateThere c.args.opening.now.pages)) (sym p.2)
-    (tunes_fault c.in_err-rows.field-0.0 _ _ _ _ _ _ _ (lists.looks.same_pages one)
+    (tunes_fault c.in_err-rows.field-0.0 _ _ _ _ _ _ _ (lists.looks.same_pages one) (c.count-count.ensures.sized (lists.looks.was_honest one))
     (λ some. lists_as _ _ _ _ _ _ _ c.deref.ensures.value (lists.claims one some)) (call.damaged h)))
 
 pub returns-in_err-sets-clause-damaged : goal.returns-in_err-sets-clause-damaged

@@ -12,8 +12,8 @@ returns-in_err-list-clause-damaged g c =
     let call = c.in_err-list.ensures in
     let read = c.in_ok-root.ensures in
     rw p.1 (λ h. subst (λ (f : ClaimFault). IsChainFault f (IsStateThere c.args.opening.now.pages)) (sym p.2)
-    (list_fault c.in_err-list.field-0.0 _ _ _ _ _ _ (read.looks.same_pages (call.looks.was_honest h)) (read.claimed ∙ c.requires)
-    (read.image (call.looks.was_honest h)) c.in-Some.ensures.some (call.damaged h)))
+    (list_fault c.in_err-list.field-0.0 _ _ _ _ _ _ (read.looks.same_pages (call.looks.was_honest h)) (read.claimed ∙ c.requires.root)
+    (read.image (call.looks.was_honest h)) c.in-Some.ensures.some (c.requires.sized (read.looks.was_honest (call.looks.was_honest h))) (call.damaged h)))
 
 pub returns-in_err-sets-clause-damaged : goal.returns-in_err-sets-clause-damaged
 returns-in_err-sets-clause-damaged g c =
@@ -26,7 +26,7 @@ returns-in_err-sets-clause-damaged g c =
     let two = list.looks.was_honest one in
     subst (λ (f : ClaimFault). IsChainFault f (IsStateThere c.args.opening.now.pages)) (sym p.2)
     (sets_fault c.in_err-sets.field-0.0 _ _ _ _ _ _ _ _ _ (read.looks.same_pages two) (list.looks.same_pages one ∙ read.looks.same_pages two)
-    (read.claimed ∙ c.requires) (read.image two) c.in-Some.ensures.some (list.claims one) (call.damaged h)))
+    (read.claimed ∙ c.requires.root) (read.image two) c.in-Some.ensures.some (list.claims one) (c.requires.sized (read.looks.was_honest two)) (call.damaged h)))
 
 pub returns-clause-claims : goal.returns-clause-claims
 returns-clause-claims g c = λ h some.
@@ -36,4 +36,4 @@ returns-clause-claims g c = λ h some.
     let one = sets.looks.was_honest h in
     let two = list.looks.was_honest one in
     lists_claimed _ _ _ _ _ _ _ _ _ _ _ (read.looks.same_pages two) (list.looks.same_pages one ∙ read.looks.same_pages two)
-    (read.claimed ∙ c.requires) (read.image two) c.in-Some.ensures.some some (list.claims one) (sets.claims h)
+    (read.claimed ∙ c.requires.root) (read.image two) c.in-Some.ensures.some some (list.claims one) (sets.claims h)
