@@ -1,5 +1,5 @@
 -- What opening claims.
-use Rattle.std.specs.Prelude.{◌≡◌, ℕ, Bool, List, length, Result, MatchResult}
+use Rattle.std.specs.Prelude.{◌≡◌, ℕ, ◌≤◌, Bool, List, length, Result, MatchResult}
 use Rattle.tune_disk.specs.Disk.{DiskState, CountsUp}
 use Rattle.tune_pages.specs.Chain.{IsChain}
 use Rattle.tune_pages.specs.Claims.{Claims}
@@ -17,6 +17,11 @@ pub record Claimable (pages : List (List ℕ)) (claimed : List Bool) (first : �
 abbrev pub IsClaimable : List (List ℕ) → List Bool → ℕ → Type 0
 IsClaimable pages claimed first =
     (trail : List ℕ) × (bytes : List ℕ) × Claimable pages claimed first trail bytes
+
+-- the same of at most so many pages
+abbrev pub IsClaimableWithin : ℕ → List (List ℕ) → List Bool → ℕ → Type 0
+IsClaimableWithin most pages claimed first = (trail : List ℕ) × (bytes : List ℕ)
+    × Claimable pages claimed first trail bytes × (length trail ≤ most)
 
 -- `Damaged` is answered only where what is claimed is not there.
 abbrev pub IsChainFault : ClaimFault → Type 0 → Type 0

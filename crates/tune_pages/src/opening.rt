@@ -1,18 +1,18 @@
 // Pages that are made, and pages that are being opened, of which each is claimed once.
 ghost use Rattle.std.specs.Prelude.{◌≡◌, ◌≢◌, ◌<◌, ◌≤◌, ◌-◌, ◌++◌, [], ◌∷◌, ℕ, true, false, List};
 ghost use Rattle.std.specs.Prelude.{length, replicate, slice_set, MatchResult, IfOk, IfErr};
-ghost use Rattle.std.specs.Prelude.{IfSome, OnOk, Some};
+ghost use Rattle.std.specs.Prelude.{IfSome, OnOk, Some, All};
 ghost use Rattle.tune_disk.specs.Disk.{Looks};
 ghost use Rattle.tune_disk.specs.Stops.{SinceThen, LeavesOnly};
 ghost use Rattle.tune_journal.specs.Image.{StandsFor, gate_of};
-ghost use Rattle.tune_journal.specs.Layout.{most_pages, gate_open};
+ghost use Rattle.tune_journal.specs.Layout.{block_bytes, most_pages, gate_open};
 ghost use Rattle.tune_journal.specs.Making.{IsEmptyFile, StandsForNoneOr};
 ghost use Rattle.tune_journal.specs.Moments.{KeepsEither, LeftOrSame, LeavesPages};
 ghost use Rattle.tune_journal.specs.Pages.{page_at};
 ghost use Rattle.tune_journal.specs.Refusal.{CountsFailureIf, CountsFailureWhere, IsSynced};
 ghost use Rattle.tune_pages.specs.Chain.{next_of, piece_of, IsLink};
 ghost use Rattle.tune_pages.specs.Claim.{Claimable, IsClaimable, IsChainFault, IsPageFault};
-ghost use Rattle.tune_pages.specs.Claim.{LooksOpening};
+ghost use Rattle.tune_pages.specs.Claim.{IsClaimableWithin, LooksOpening};
 ghost use Rattle.tune_pages.specs.Inside.Claiming.{CanLink};
 ghost use Rattle.tune_pages.specs.Kept.{HonestAt, state_at, failures_at};
 ghost use Rattle.tune_pages.specs.Opened.{only_root, disk_of_pages, disk_of_claims};
@@ -126,12 +126,47 @@ impl<D: Disk> Opening<D> {
             → IsChainFault fault (IsClaimable self.old.pages self.old.claimed first)) }
         ensures looks { LooksOpening D.honest D.failures D.state result self.old self.new }
     {
+        let most = self.count();
+        self.claim_chain_within(first, most)
+    }
+
+    /// Claims the pages of the chain that begins at `first`, of which there may be up to `most`, and
+    /// gives its bytes. Past these no page is read, so that the bytes of a chain that is too long
+    /// take no more memory than those of `most` pages.
+    ///
+    /// # Errors
+    ///
+    /// `Damaged` where no chain of at most `most` pages begins there whose pages are all still to be
+    /// claimed; `OutOfMemory`; `Device` where the disk failed.
+    pub fn claim_chain_within(&mut self, first: u32, most: u32) -> Result<Vec<u8>, ClaimFault>
+        ensures chain { IfOk result (λ bytes. D.honest self.new.disk → (trail : List ℕ)
+            × Claimable self.old.pages self.old.claimed first trail bytes.items
+            × (self.new.claimed ≡ marked true trail self.old.claimed) × (length trail ≤ most)) }
+        ensures damaged { IfErr result (λ fault. D.honest self.new.disk
+            → IsChainFault fault (IsClaimableWithin most self.old.pages self.old.claimed first)) }
+        ensures looks { LooksOpening D.honest D.failures D.state result self.old self.new }
+    {
         let mut bytes = Vec::new(self.alloc);
         let mut page = first;
+        let mut left = most;
         while page != 0 {
+            if left == 0 {
+                return Err(ClaimFault::Damaged);
+            }
             page = self.claim_link(page, &mut bytes)?;
+            left -= 1;
         }
         Ok(bytes)
+    }
+
+    /// How many pages there are, the root among them.
+    pub fn count(&self) -> u32
+        ensures count { result ≡ length self.now.pages }
+        ensures marks { result ≡ length self.now.claimed }
+        ensures sized { D.honest self.now.disk
+            → All (λ page. length page ≡ block_bytes) self.now.pages }
+    {
+        self.journal.count()
     }
 
     /// The image of the root, which is claimed from the start.

@@ -1,9 +1,10 @@
 // The pages of an open archive.
 ghost use Rattle.std.specs.Prelude.{◌≡◌, ℕ, ◌<◌, ◌≤◌, false, Some, length, IfOk, MatchResult};
-ghost use Rattle.std.specs.Prelude.{true};
-ghost use Rattle.tune_journal.specs.Layout.{most_pages};
+ghost use Rattle.std.specs.Prelude.{true, All};
+ghost use Rattle.tune_journal.specs.Layout.{block_bytes, most_pages};
 ghost use Rattle.tune_journal.specs.Moments.{LeavesPages};
 ghost use Rattle.tune_pages.specs.Faults.{AnswersBegin};
+ghost use Rattle.tune_pages.specs.Kept.{HonestAt};
 ghost use Rattle.tune_pages.specs.Stand.{IsUsed, IsFree};
 ghost use Rattle.tune_pages.specs.Work.{stand, Fits, IsIdle};
 
@@ -133,7 +134,13 @@ impl<D: Disk> Pages<D> {
         ensures below { self.now.closed ≡ false
             → (p : ℕ) → IsUsed self.now.used p → p < length self.now.pages }
         ensures few { self.now.closed ≡ false → length self.now.pages ≤ result }
+        ensures sized { self.now.closed ≡ false → HonestAt D.honest self.now.disk
+            → All (λ page. length page ≡ block_bytes) self.now.pages }
     {
+        // The journal's count says that each of its pages has the bytes of a block.
+        if let Held::Open(journal) = &self.held {
+            let _ = journal.count();
+        }
         self.limit
     }
 

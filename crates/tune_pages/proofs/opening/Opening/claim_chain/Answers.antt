@@ -1,29 +1,7 @@
-use Rattle.std.proofs.Common.{◌≢◌, sym, ◌∙◌, subst, arith}
-use Rattle.std.proofs.lemmas.Result.{err_from_is_err_and}
-use Rattle.tune_pages.specs.Claim.{IsChainFault, IsClaimable}
-use Rattle.tune_pages.specs.declared.fault.ClaimFault.{ClaimFault}
-use Rattle.tune_pages.proofs.Claiming.{walked_next, walked_fault}
+use Rattle.tune_pages.proofs.Claiming.{fault_of_all}
 use Rattle.tune_pages.proofs.opening.Opening.claim_chain.Goals as goal
 
-pub loop-page-preserved : goal.loop-page-preserved
-loop-page-preserved g c =
-    let inv = c.loop-page.invariant in
-    let call = c.in_ok-page.ensures in
-    record {
-      honest = λ h. inv.honest (call.looks.was_honest h);
-      same = λ h. call.looks.same_state h ∙ inv.same (call.looks.was_honest h);
-      pages = λ h. call.looks.same_pages h ∙ inv.pages (call.looks.was_honest h);
-      count = call.looks.count ∙ inv.count;
-      failures = call.looks.counted ∙ inv.failures;
-      walk = λ h. walked_next _ _ _ _ _ _ _ _ _ _ (inv.pages (call.looks.was_honest h)) (omega arith) (inv.walk (call.looks.was_honest h))
-          call.free (call.link h) (call.bytes h);
-    }
-
-pub returns-in_err-page-clause-damaged : goal.returns-in_err-page-clause-damaged
-returns-in_err-page-clause-damaged g c =
-    let inv = c.loop-page.invariant in
-    let ne : c.loop-page.page ≢ 0 = omega arith in
-    let call = c.in_err-page.ensures in
-    let p = err_from_is_err_and c.from_residual.result c.from_residual.ensures.1 in
-    rw p.1 (λ h. subst (λ (f : ClaimFault). IsChainFault f (IsClaimable c.args.self.now.pages c.args.self.now.claimed c.args.first)) (sym p.2)
-    (walked_fault _ _ _ _ _ _ _ _ (inv.pages (call.looks.was_honest h)) ne (inv.walk (call.looks.was_honest h)) (call.damaged h)))
+pub returns-clause-damaged : goal.returns-clause-damaged
+returns-clause-damaged g c =
+    fault_of_all c.claim_chain_within.result _ c.args.self.now.pages c.args.self.now.claimed c.args.first c.count-most.result
+    c.count-most.ensures.marks c.claim_chain_within.ensures.damaged

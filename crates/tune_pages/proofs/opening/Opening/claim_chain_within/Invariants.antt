@@ -1,7 +1,7 @@
-use Rattle.std.proofs.Common.{◌≡◌, not, length}
+use Rattle.std.proofs.Common.{◌≡◌, ◌-◌, ◌≤◌, not, length}
 use Rattle.std.specs.List.{count_by}
 use Rattle.tune_pages.proofs.Claiming.{Walked}
-use Rattle.tune_pages.proofs.opening.Opening.claim_chain.Given as goal
+use Rattle.tune_pages.proofs.opening.Opening.claim_chain_within.Given as goal
 
 abbrev pub invariant-loop-page : goal.invariant-loop-page
 invariant-loop-page g l = record {
@@ -10,7 +10,8 @@ invariant-loop-page g l = record {
   pages : g.D.Disk.honest l.self.disk → l.self.pages ≡ l.initial.self.pages;
   count : length l.self.pages ≡ length l.initial.self.pages;
   failures : g.D.Disk.failures l.self.disk ≡ g.D.Disk.failures l.initial.self.disk;
-  walk : g.D.Disk.honest l.self.disk → Walked l.initial.self.pages l.initial.self.claimed l.first l.page l.bytes.items l.self.claimed;
+  walk : g.D.Disk.honest l.self.disk → Walked l.initial.self.pages l.initial.self.claimed l.first l.page (l.most - l.left) l.bytes.items l.self.claimed;
+  few : l.left ≤ l.most;
 }
 
 abbrev pub decreases-loop-page : goal.decreases-loop-page
