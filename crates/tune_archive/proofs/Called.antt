@@ -10,7 +10,7 @@ use Rattle.tune_store.specs.State.{State, IsState}
 use Rattle.tune_store.specs.Step.{step}
 use Rattle.tune_store.specs.TuneSteps.{Outcome}
 use Rattle.tune_store.specs.Plans.{changed, after, Decides, EndsFetch}
-use Rattle.tune_store.specs.Answers.{Answers, open_at, closed_at, stepped, file_full, no_memory, failed_before, failed_after, is_closed, passed}
+use Rattle.tune_store.specs.Answers.{Answers, open_at, closed_at, stepped, no_memory, failed_before, failed_after, is_closed, passed}
 use Rattle.tune_store.specs.Answers.{asks, may_write}
 use Rattle.tune_store.specs.Stops.{Passes, StandsForOne}
 use Rattle.tune_store.specs.declared.plans.Change.{Change}
@@ -18,7 +18,7 @@ use Rattle.tune_store.specs.declared.plans.Plan.{Plan}
 use Rattle.tune_store.specs.declared.command.Command.{Command}
 use Rattle.tune_store.specs.declared.command.Reply.{Reply}
 use Rattle.tune_store.specs.declared.command.Refusal.{Refusal}
-use Rattle.tune_store.specs.declared.command.Refusal.TheVariants.{FileFull, OutOfMemory, Device, Closed}
+use Rattle.tune_store.specs.declared.command.Refusal.TheVariants.{OutOfMemory, Device, Closed}
 use Rattle.tune_store.proofs.StepLemmas.{answers_reach}
 use Rattle.tune_store.proofs.ListLemmas.{list_refused, answers_within}
 use Rattle.tune_store.proofs.LimitLemmas.{step_keeps_limits}
@@ -63,16 +63,9 @@ failed old new was is command e f (inr done) =
     closes old new was is command (Err Device) e f
     (subst (λ state. Answers (open_at old) command (Err Device) (closed_at state)) (sym done) (failed_after old command))
 
--- there was no page or no memory for a change
-spared : (old new : State) (command : Command) (why : Refusal) → asks command ≡ false → (why ≡ FileFull) ⊎ (why ≡ OutOfMemory) → new ≡ old
-    → Answers (open_at old) command (Err why) (open_at new)
-spared old new command why changes (inl full) same = rw (full, same) (file_full old command changes)
-spared old new command why changes (inr memory) same = rw (memory, same) (no_memory old command)
-
--- then no state after it was passed
-none_passed : (old : State) (command : Command) (why : Refusal) → (why ≡ FileFull) ⊎ (why ≡ OutOfMemory) → passed old command (Err why) ≡ []
-none_passed old command why (inl full) = rw full refl
-none_passed old command why (inr memory) = rw memory refl
+-- there was no memory for a change
+spared : (old new : State) (command : Command) (why : Refusal) → why ≡ OutOfMemory → new ≡ old → Answers (open_at old) command (Err why) (open_at new)
+spared old new command why memory same = rw (memory, same) (no_memory old command)
 
 -- WRITES
 -- a command that asks for a change is no question
@@ -256,7 +249,7 @@ module _ {D : Type 0} (honest : D → Type 0) (failures : D → ℕ) (state : D 
         record {
           was_honest = λ h. fetches.was_honest (makes.was_honest h);
           answers = λ h. stays _ _ old.closed new.closed command (Err why) e spares.1
-              (spared _ _ command why changes spares.0 (ap (λ at. state_in at.seen) (disk h)));
+              (spared _ _ command why spares.0 (ap (λ at. state_in at.seen) (disk h)));
           moves = λ h. inl (disk h);
         })
     | inr fails ↦ record {
