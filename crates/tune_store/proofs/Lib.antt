@@ -13,3 +13,4 @@ pub mod InsertLemmas
 pub mod QuestionLemmas
 pub mod ListLemmas
 pub mod CandidateLemmas
+pub mod ChangeLemmas

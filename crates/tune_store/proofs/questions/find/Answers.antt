@@ -1,4 +1,4 @@
-use Rattle.std.proofs.Common.{◌≡◌, ◌<◌, ◌≤◌, inl, inr, Bool, cond, subst, false, [], length, get_or, refl, sym, ap, ◌∙◌, drop, arith, append-nil}
+use Rattle.std.proofs.Common.{◌≡◌, inl, inr, Bool, cond, subst, false, [], length, refl, sym, ap, ◌∙◌, drop, arith, append-nil}
 use Rattle.std.proofs.lemmas.Bool.{cases_Bool}
 use Rattle.tune_queries.specs.Queries.{is_bad}
 use Rattle.tune_store.specs.Questions.{found}

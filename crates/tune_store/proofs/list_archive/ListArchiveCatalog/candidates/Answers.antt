@@ -1,5 +1,4 @@
-use Rattle.std.proofs.Common.{◌≡◌, ◌+◌, ◌<◌, ◌≤◌, refl, ◌∙◌, length, ap, arith}
-use Rattle.std.specs.List.{range_with_len}
+use Rattle.std.proofs.Common.{◌≡◌, ◌+◌, ◌<◌, ◌≤◌, refl, length, ap, arith}
 use Rattle.tune_store.proofs.PlanLemmas.{labels_long}
 use Rattle.tune_store.proofs.CandidateLemmas.{range_rises, range_has}
 use Rattle.tune_store.specs.State.{State}

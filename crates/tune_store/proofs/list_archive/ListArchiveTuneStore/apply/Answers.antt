@@ -34,7 +34,7 @@ carried c =
     let same : state_with c.self-2.inside.layout c.self-2.inside.tunes.items c.self-2.inside.sets ≡ c.args.self.now = c.self-2.view_is ∙ c.in_ok-plan.ensures.fetched in
     let new : State = state_with c.self-2.inside.layout c.carry_out.new.tunes.items c.carry_out.new.sets in
     let P : State → Type 0 = λ state. CarriedOut state c.in_ok-plan.plan c.carry_out.result new in
-    subst P same c.carry_out.ensures
+    subst P same (c.carry_out.ensures c.self-2.inside.layout)
 
 planned : (c : goal.After-carry_out)
     → Answers (open_at c.args.self.now) c.args.command.now c.carry_out.result (open_at (state_with c.self-2.inside.layout c.carry_out.new.tunes.items c.carry_out.new.sets))
