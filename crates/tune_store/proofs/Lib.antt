@@ -14,3 +14,4 @@ pub mod QuestionLemmas
 pub mod ListLemmas
 pub mod CandidateLemmas
 pub mod ChangeLemmas
+pub mod NumberLemmas
