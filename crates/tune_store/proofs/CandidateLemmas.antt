@@ -55,7 +55,8 @@ not_below low count (first ∷ places) place rise has = elim (first_or_later fir
 abbrev pub rows_at_places : ℕ → Query → List Tune → List ℕ → List IndexRow
 rows_at_places notes query tunes [] = []
 rows_at_places notes query tunes (place ∷ places) =
-    row_if (matches notes query (get_or tunes place no_tune).text) (get_or tunes place no_tune).number (get_or tunes place no_tune).text ++ rows_at_places notes query tunes places
+    row_if (matches notes query (get_or tunes place no_tune).text) (get_or tunes place no_tune).number (get_or tunes place no_tune).text
+    ++ rows_at_places notes query tunes places
 
 -- the found from a place on
 found_from : (notes : ℕ) (query : Query) (tunes : List Tune) (place : ℕ) → place < length tunes

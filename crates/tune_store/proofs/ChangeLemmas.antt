@@ -105,7 +105,8 @@ new_alters name sets ok same = elim (cases_Bool (is_good_name name)) [
   | inr bad ↦ let refused = rw bad at ok in cc
 ]
 
-add_alters : (name : List ℕ) (number : ℕ) (sets : List TuneSet) (found : Option TuneSet) → set_at name sets ≡ found → AltersSets sets (add_to name number sets found)
+add_alters : (name : List ℕ) (number : ℕ) (sets : List TuneSet) (found : Option TuneSet) → set_at name sets ≡ found
+    → AltersSets sets (add_to name number sets found)
 add_alters name number sets None there ok same = cc
 add_alters name number sets (Some set) there ok same = elim (cases_Bool (leb most_places (length set.numbers))) [
   | inl full ↦ let refused = rw full at ok in cc
@@ -124,7 +125,8 @@ has_place_within place numbers has = elim (cases_Bool (ltb 0 place)) [
   | inr none ↦ let not_there = rw none at has in cc
 ]
 
-cut_alters : (name : List ℕ) (place : ℕ) (sets : List TuneSet) (found : Option TuneSet) → set_at name sets ≡ found → AltersSets sets (cut_from name place sets found)
+cut_alters : (name : List ℕ) (place : ℕ) (sets : List TuneSet) (found : Option TuneSet) → set_at name sets ≡ found
+    → AltersSets sets (cut_from name place sets found)
 cut_alters name place sets None there ok same = cc
 cut_alters name place sets (Some set) there ok same = elim (cases_Bool (has_place place set.numbers)) [
   | inl has ↦
@@ -145,13 +147,15 @@ found_of_label : (number : ℕ) (tunes : List Tune) (labels : List Label) → Ri
     → (tune : Tune) × (tune_at number tunes ≡ Some tune)
 found_of_label number tunes labels rises same has =
     let many = length-map labels (λ (label : Label). label.number) in
-    let l : has.0 < length labels = omega (arith, has.1) in
-    (get_or tunes has.0 no_tune, place_found number tunes labels has.0 (record {
-      rises = rises;
-      same = same;
-      within = l;
-      found = λ e. sym (get_or-map (λ (label : Label). label.number) labels has.0 e number l) ∙ has.2;
-    }))
+    let l : has.0 < length labels = omega (arith, has.1) in (
+      get_or tunes has.0 no_tune,
+      place_found number tunes labels has.0 (record {
+        rises = rises;
+        same = same;
+        within = l;
+        found = λ e. sym (get_or-map (λ (label : Label). label.number) labels has.0 e number l) ∙ has.2;
+      }),
+    )
 
 free_of_labels : (number : ℕ) (tunes : List Tune) (labels : List Label) → labels_of tunes ≡ labels → (Contains (numbers_of labels) number → ⊥)
     → tune_at number tunes ≡ None

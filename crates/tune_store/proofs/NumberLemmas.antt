@@ -1,5 +1,6 @@
 -- The places of numbers that rise, in labels whose numbers rise.
-use Rattle.std.proofs.Common.{◌≡◌, ◌≢◌, ◌⊎◌, inl, inr, ℕ, zero, suc, ◌+◌, ◌<◌, ◌≤◌, ◌++◌, ltb, eqb, List, [], ◌∷◌, length, get_or, take, refl, ap, sym, ◌∙◌, arith, Result, Ok, Err, Vec, Global}
+use Rattle.std.proofs.Common.{◌≡◌, ◌≢◌, ◌⊎◌, inl, inr, ℕ, zero, suc, ◌+◌, ◌<◌, ◌≤◌, ◌++◌, ltb, eqb, List, [], ◌∷◌, length, get_or, take, refl, ap, sym, ◌∙◌}
+use Rattle.std.proofs.Common.{arith, Result, Ok, Err, Vec, Global}
 use Rattle.std.proofs.lemmas.Bool.{cases_Bool, ltb-true, ltb-false, eqb-true, eqb-false}
 use Rattle.std.proofs.lemmas.List.{get_or-take, get_or_default, length-take}
 use Rattle.std.proofs.lemmas.Map.Keys.{below_from_sorted}
@@ -62,9 +63,12 @@ places_push : (low count place : ℕ) (places : List ℕ) → PlacesRise low cou
     → ((other : ℕ) → Contains places other → other < place) → PlacesRise low count (places ++ place ∷ [])
 places_push low count place [] rise l within before = (l, within, tt)
 places_push low count place (first ∷ places) rise l within before =
-    let less = before first (zero, omega arith, refl) in
-    (rise.0, rise.1, places_push (first + 1) count place places rise.2 (omega arith) within
-    (λ other has. before other (Contains-append_right (first ∷ []) places other has)))
+    let less = before first (zero, omega arith, refl) in (
+      rise.0,
+      rise.1,
+      places_push (first + 1) count place places rise.2 (omega arith) within
+          (λ other has. before other (Contains-append_right (first ∷ []) places other has)),
+    )
 
 -- each is within the count
 place_within : (low count : ℕ) (places : List ℕ) (place : ℕ) → PlacesRise low count places → Contains places place → place < count

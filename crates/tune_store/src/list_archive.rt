@@ -46,7 +46,8 @@ impl Model for ListArchive {
 
     ghost view = { λ archive. state_with archive.layout archive.tunes.items archive.sets };
 
-    ghost invariant = { λ archive. IsState (state_with archive.layout archive.tunes.items archive.sets) };
+    ghost invariant = { λ archive.
+        IsState (state_with archive.layout archive.tunes.items archive.sets) };
 }
 
 impl ListArchive {

@@ -77,8 +77,9 @@ pub(crate) fn replace<C: Catalog>(
 ) -> Result<Plan, Refusal>
     ensures planned { (state : State) → IsTunes state.layout state.tunes
         → C.layout catalog.now ≡ state.layout
-        → labels_of state.tunes ≡ C.labels catalog.now → Decided state result (tunes_step state
-        (replace_book state.tunes number revision (book_answer (longest_text state.layout) book.now))) }
+        → labels_of state.tunes ≡ C.labels catalog.now → Decided state result
+        (tunes_step state (replace_book state.tunes number revision
+        (book_answer (longest_text state.layout) book.now))) }
     ensures names { IfErr result (IsOwnOrMemory (Command.Replace number revision book.now)) }
     ensures possible { IfOk result
         (λ plan. CanChangeTo plan.change

@@ -1,6 +1,6 @@
-use Rattle.std.proofs.Common.{◌≡◌, ℕ, ◌+◌, ◌<◌, ◌++◌, [], ◌∷◌, length, get_or, take, Some, subst, arith, rules}
+use Rattle.std.proofs.Common.{◌≡◌, ◌++◌, [], ◌∷◌, get_or, take, subst, rules}
 use Rattle.std.proofs.lemmas.List.{take_more, take_all}
-use Rattle.tune_store.specs.Candidates.{ArePlacesOf, PlacesRise}
+use Rattle.tune_store.specs.Candidates.{ArePlacesOf}
 use Rattle.tune_store.proofs.NumberLemmas.{IsNextPlace, places_none, places_more, places_are, above_taken}
 use Rattle.tune_store.proofs.places.places_of_rising.Goals as goal
 use Rattle.tune_store.proofs.places.places_of_rising.Goals.{in-Some+in_ok-push, in_default}
@@ -14,25 +14,25 @@ loop-number-preserved g c =
     let number = get_or numbers i 0 in
     let more = take_more numbers i 0 c.loop-number-test.true in
     elim c.match-place_of.branch [
-    | in-Some+in_ok-push w ↦
-        let is : IsNextPlace (take i numbers) number labels w.in-Some.place = record {
-          rise = c.len.ensures.rise;
-          above = above_taken numbers i c.requires c.loop-number-test.true;
-          within = w.in-Some.ensures.within;
-          has = w.in-Some.ensures.found;
-        } in
-        let added : c.match-place_of.places.items ≡ c.loop-number.places.items ++ w.in-Some.place ∷ [] = search rules in
-        rw (added, more) record {
-          rise = places_more (take i numbers) number labels w.in-Some.place _ is kept.rise kept.are;
-          are = places_are (take i numbers) number labels w.in-Some.place _ is kept.are;
-        }
-    | in_default w ↦
-        let stays : c.match-place_of.places.items ≡ c.loop-number.places.items = search rules in
-        rw (stays, more) record {
-          rise = kept.rise;
-          are = places_none (take i numbers) number labels _ w.in_default.ensures.none kept.are;
-        }
-  ]
+      | in-Some+in_ok-push w ↦
+          let is : IsNextPlace (take i numbers) number labels w.in-Some.place = record {
+            rise = c.len.ensures.rise;
+            above = above_taken numbers i c.requires c.loop-number-test.true;
+            within = w.in-Some.ensures.within;
+            has = w.in-Some.ensures.found;
+          } in
+          let added : c.match-place_of.places.items ≡ c.loop-number.places.items ++ w.in-Some.place ∷ [] = search rules in
+          rw (added, more) record {
+            rise = places_more (take i numbers) number labels w.in-Some.place _ is kept.rise kept.are;
+            are = places_are (take i numbers) number labels w.in-Some.place _ is kept.are;
+          }
+      | in_default w ↦
+          let stays : c.match-place_of.places.items ≡ c.loop-number.places.items = search rules in
+          rw (stays, more) record {
+            rise = kept.rise;
+            are = places_none (take i numbers) number labels _ w.in_default.ensures.none kept.are;
+          }
+    ]
 
 pub returns-clause-places : goal.returns-clause-places
 returns-clause-places g c =
