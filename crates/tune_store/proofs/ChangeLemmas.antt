@@ -99,13 +99,13 @@ create_alters name sets None ok same = elim (cases_Bool (leb most_sets (length s
   | inr room ↦ let e = rw room at same in absurd (omega (arith, ap weight e, weight-inserted (empty_set name) sets))
 ]
 
-new_alters : (name : List ℕ) (sets : List TuneSet) → AltersSets sets (create_set name sets)
+pub new_alters : (name : List ℕ) (sets : List TuneSet) → AltersSets sets (create_set name sets)
 new_alters name sets ok same = elim (cases_Bool (is_good_name name)) [
   | inl good ↦ create_alters name sets (set_at name sets) (rw good at ok) (rw good at same)
   | inr bad ↦ let refused = rw bad at ok in cc
 ]
 
-add_alters : (name : List ℕ) (number : ℕ) (sets : List TuneSet) (found : Option TuneSet) → set_at name sets ≡ found
+pub add_alters : (name : List ℕ) (number : ℕ) (sets : List TuneSet) (found : Option TuneSet) → set_at name sets ≡ found
     → AltersSets sets (add_to name number sets found)
 add_alters name number sets None there ok same = cc
 add_alters name number sets (Some set) there ok same = elim (cases_Bool (leb most_places (length set.numbers))) [
@@ -125,7 +125,7 @@ has_place_within place numbers has = elim (cases_Bool (ltb 0 place)) [
   | inr none ↦ let not_there = rw none at has in cc
 ]
 
-cut_alters : (name : List ℕ) (place : ℕ) (sets : List TuneSet) (found : Option TuneSet) → set_at name sets ≡ found
+pub cut_alters : (name : List ℕ) (place : ℕ) (sets : List TuneSet) (found : Option TuneSet) → set_at name sets ≡ found
     → AltersSets sets (cut_from name place sets found)
 cut_alters name place sets None there ok same = cc
 cut_alters name place sets (Some set) there ok same = elim (cases_Bool (has_place place set.numbers)) [
@@ -137,7 +137,7 @@ cut_alters name place sets (Some set) there ok same = elim (cases_Bool (has_plac
   | inr none ↦ let refused = rw none at ok in cc
 ]
 
-drop_alters : (name : List ℕ) (sets : List TuneSet) (found : Option TuneSet) → set_at name sets ≡ found → AltersSets sets (drop_found name sets found)
+pub drop_alters : (name : List ℕ) (sets : List TuneSet) (found : Option TuneSet) → set_at name sets ≡ found → AltersSets sets (drop_found name sets found)
 drop_alters name sets None there ok same = cc
 drop_alters name sets (Some set) there ok same = absurd (omega (arith, ap weight same, weight-without name sets set there))
 

@@ -15,3 +15,4 @@ pub mod ListLemmas
 pub mod CandidateLemmas
 pub mod ChangeLemmas
 pub mod NumberLemmas
+pub mod KeptLemmas

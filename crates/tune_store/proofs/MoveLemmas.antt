@@ -93,7 +93,7 @@ tune_at-inserted_other number new (tune ∷ tunes) apart = elim (cases_Bool (ltb
 
 -- A TUNE LESS
 -- there is one less, where it was there
-length-without_one : (number : ℕ) (tunes : List Tune) (tune : Tune) → tune_at number tunes ≡ Some tune → length (without number tunes) + 1 ≡ length tunes
+pub length-without_one : (number : ℕ) (tunes : List Tune) (tune : Tune) → tune_at number tunes ≡ Some tune → length (without number tunes) + 1 ≡ length tunes
 length-without_one number [] tune found = cc
 length-without_one number (first ∷ tunes) tune found = elim (cases_Bool (eqb first.number number)) [
   | inl same ↦ rw same (omega arith)

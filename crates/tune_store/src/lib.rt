@@ -17,7 +17,7 @@ mod tune_store;
 
 pub use catalog::{Catalog, Label, all_places};
 pub use command::{Command, Refusal, Reply};
-pub use laws::{law_of_places, law_of_revisions};
+pub use laws::{law_of_changes, law_of_places, law_of_revisions};
 pub use layout::Layout;
 pub use list_archive::ListArchive;
 pub use places::places_of_numbers;
