@@ -3,6 +3,7 @@ ghost use Rattle.std.specs.Prelude.{◌≡◌, ◌≢◌, ◌↔◌, true, false
 ghost use Rattle.tune_pages.specs.Kept.{HonestAt, state_at, failures_at};
 ghost use Rattle.tune_store.specs.Answers.{Answers, IsRefusalOf, passed, stays_open, may_write};
 ghost use Rattle.tune_store.specs.Revisions.{RaisesReplaced};
+ghost use Rattle.tune_store.specs.Step.{step};
 ghost use Rattle.tune_store.specs.Stops.{HasFailed};
 ghost use Rattle.tune_store.specs.Stores.{StorePasses, standing_of};
 ghost use Rattle.tune_archive.specs.Media.{moment_of};
@@ -76,6 +77,10 @@ impl<D: Disk> TuneStore for Archive<D> {
             (failures_at D.failures self.new.pages.disk) }
         ensures quiet { may_write command.now result ≡ false
             → HonestAt D.honest self.new.pages.disk
+            → moment_of (state_at D.state self.new.pages.disk)
+            ≡ moment_of (state_at D.state self.old.pages.disk) }
+        ensures unchanged { (step (state_of D.state self.old) command.now).0
+            ≡ state_of D.state self.old → HonestAt D.honest self.new.pages.disk
             → moment_of (state_at D.state self.new.pages.disk)
             ≡ moment_of (state_at D.state self.old.pages.disk) }
     {
