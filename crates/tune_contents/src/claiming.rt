@@ -37,7 +37,9 @@ const ROW_BYTES: usize = 8;
 // How many pages the chain of a tune has at most, that of the list of tunes, and that of the set
 // lists.
 const MOST_TUNE_PAGES: u32 = 4;
+
 const MOST_LIST_PAGES: u32 = 40;
+
 const MOST_SETS_PAGES: u32 = 104;
 
 // The list of tunes and the set lists of an archive, as bytes, and where they begin.
