@@ -15,7 +15,7 @@ ghost use Rattle.tune_archive.specs.Inside.Holding.{stand_of};
 
 use crate::archive::Archive;
 use std::mem;
-use tune_contents::{Contents, Room, lay, law_of_state_pages};
+use tune_contents::{Contents, Room, law_of_state_pages, lay};
 use tune_disk::Disk;
 use tune_pages::{Fault, Pages};
 use tune_store::{Change, Refusal};
