@@ -1,13 +1,13 @@
 -- How many pages are free again when pages are freed, and how many pages a chain has.
-use Rattle.std.proofs.Common.{◌≡◌, ◌≢◌, ℕ, ◌+◌, ◌*◌, ◌<◌, ◌≤◌, List, [], ◌∷◌, ◌++◌, length, get_or, set, take, drop, replicate, Bool, true, false, not, All}
-use Rattle.std.proofs.Common.{refl, sym, ap, subst, arith, length-append, length-take, length-drop}
+use Rattle.std.proofs.Common.{◌≡◌, ◌≢◌, ℕ, ◌+◌, ◌*◌, ◌<◌, ◌≤◌, List, [], ◌∷◌, length, get_or, set, drop, Bool, false, All}
+use Rattle.std.proofs.Common.{ap, arith, length-append, length-take, length-drop}
 use Rattle.std.proofs.lemmas.List.Sums.{sum_by-set}
 use Rattle.tune_journal.specs.Layout.{block_bytes}
 use Rattle.tune_journal.specs.Pages.{page_at}
 use Rattle.tune_pages.specs.Chain.{next_of, size_of, piece_of, IsLink, Leads, bytes_along, IsChain}
 use Rattle.tune_pages.specs.Faults.{free_pages, pages_for}
 use Rattle.tune_pages.specs.Layout.{piece_room}
-use Rattle.tune_pages.specs.Stand.{IsUsed, AllUsed, AllFree, marked}
+use Rattle.tune_pages.specs.Stand.{IsUsed, AllUsed, marked}
 use Rattle.tune_pages.proofs.Counting.{worth}
 use Rattle.tune_pages.proofs.Finishing.{used_within}
 use Rattle.tune_pages.proofs.Wants.{as_many}

@@ -104,22 +104,12 @@ module _ {D : Type 0} (honest : D → Type 0) where
       still = looks.same.closed ∙ so.still;
     }
 
-    fault_from : (fault : Fault) (H : Type 0) (a b c : ℕ) → b ≡ a → CountsFaultWhere H fault b c → CountsFaultWhere H fault a c
-    fault_from fault H a b c is counts = subst (λ (n : ℕ). CountsFaultWhere H fault n c) is counts
-
-    -- or a last one that was refused
-    pub looks_err : {T U : Type 0} (fault : Fault) (a b c : Kept D) → Looked a b → LooksAt {T = T} honest failures state (Err fault) b c
-        → LooksAt {T = U} honest failures state (Err fault) a c
-    looks_err fault a b c so looks = record {
-      was_honest = λ h. so.was_honest (looks.was_honest h);
-      same_state = λ h. looks.same_state h ∙ so.same_state (looks.was_honest h);
-      counted = fault_from fault (HonestAt honest c.disk) (failures_at failures a.disk) (failures_at failures b.disk)
-          (failures_at failures c.disk) so.counted looks.counted;
-      same = λ ne. same_then a b c looks.was_honest so.same (looks.same ne);
-    }
-
+    -- are one look
     pub looks_ok : {T : Type 0} (x : T) (a b : Kept D) → Looked a b → LooksAt honest failures state (Ok x) a b
     looks_ok x a b so = record { was_honest = so.was_honest; same_state = so.same_state; counted = so.counted; same = so.same }
+
+    fault_from : (fault : Fault) (H : Type 0) (a b c : ℕ) → b ≡ a → CountsFaultWhere H fault b c → CountsFaultWhere H fault a c
+    fault_from fault H a b c is counts = subst (λ (n : ℕ). CountsFaultWhere H fault n c) is counts
 
     -- a refusal of no call of the disk
     quiet : (fault : Fault) (H : Type 0) (a b : ℕ) → fault ≢ Device → b ≡ a → CountsFaultWhere H fault a b
@@ -127,27 +117,6 @@ module _ {D : Type 0} (honest : D → Type 0) where
     quiet OutOfMemory H a b ne is = is
     quiet Device H a b ne is = absurd (ne refl)
     quiet Closed H a b ne is = is
-
-    pub looks_quiet : {T : Type 0} (fault : Fault) (a b : Kept D) → fault ≢ Device → Looked a b → LooksAt {T = T} honest failures state (Err fault) a b
-    looks_quiet fault a b ne so = record {
-      was_honest = so.was_honest;
-      same_state = so.same_state;
-      counted = quiet fault (HonestAt honest b.disk) (failures_at failures a.disk) (failures_at failures b.disk) ne so.counted;
-      same = λ other. so.same;
-    }
-
-    -- a disk that showed what cannot be is not honest, and closes the pages
-    pub looks_lost : {T : Type 0} (a b c : Kept D) → Looked a b → c.disk ≡ b.disk → (HonestAt honest b.disk → ⊥)
-        → LooksAt {T = T} honest failures state (Err Device) a c
-    looks_lost a b c so is lies = record {
-      was_honest = λ h. absurd (none h);
-      same_state = λ h. absurd (none h);
-      counted = λ h. absurd (none h);
-      same = λ ne. absurd (ne refl);
-    }
-      where
-        none : HonestAt honest c.disk → ⊥
-        none h = lies (subst (HonestAt honest) is h)
 
     -- ONE LOOK AND THE NEXT
     pub look_none : {T : Type 0} (x : T) (k : Kept D) → LooksAt honest failures state (Ok x) k k
@@ -158,6 +127,7 @@ module _ {D : Type 0} (honest : D → Type 0) where
       same = record { pages = λ h. refl; count = refl; used = refl; limit = refl; closed = refl };
     }
 
+    -- the second may be refused
     look_err : {T U : Type 0} (x : T) (fault : Fault) (a b c : Kept D) → LooksAt honest failures state (Ok x) a b
         → LooksAt {T = U} honest failures state (Err fault) b c → LooksAt {T = U} honest failures state (Err fault) a c
     look_err x fault a b c one two = record {
@@ -178,6 +148,7 @@ module _ {D : Type 0} (honest : D → Type 0) where
     }
     look_next x (Err fault) a b c one two = look_err x fault a b c one two
 
+    -- or its caller refuses
     pub look_refused : {T U : Type 0} (x : T) (fault : Fault) (a b : Kept D) → fault ≢ Device → LooksAt honest failures state (Ok x) a b
         → LooksAt {T = U} honest failures state (Err fault) a b
     look_refused x fault a b ne one = record {
@@ -187,6 +158,7 @@ module _ {D : Type 0} (honest : D → Type 0) where
       same = λ other. one.same;
     }
 
+    -- a disk that showed what cannot be is not honest
     pub look_lost : {T U : Type 0} (x : T) (a b c : Kept D) → LooksAt honest failures state (Ok x) a b → c.disk ≡ b.disk
         → (HonestAt honest b.disk → ⊥) → LooksAt {T = U} honest failures state (Err Device) a c
     look_lost x a b c one is lies = record {

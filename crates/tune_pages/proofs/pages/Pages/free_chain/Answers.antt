@@ -1,8 +1,6 @@
-use Rattle.std.proofs.Common.{◌≡◌, ◌≢◌, sym, subst, arith, Err}
-use Rattle.tune_pages.specs.Reading.{LooksAt}
+use Rattle.std.proofs.Common.{◌≡◌, ◌≢◌, arith}
 use Rattle.tune_pages.specs.Work.{stand}
-use Rattle.tune_pages.specs.declared.fault.Fault.{Fault}
-use Rattle.tune_pages.proofs.Looking.{looked_more, looks_lost}
+use Rattle.tune_pages.proofs.Looking.{looked_more}
 use Rattle.tune_pages.proofs.Walks.{leads_some, frees_more, frees_link, frees_end}
 use Rattle.tune_pages.proofs.pages.Pages.free_chain.Goals as goal
 

@@ -1,13 +1,11 @@
-use Rattle.std.proofs.Common.{◌≡◌, ◌≢◌, ◌-◌, ◌++◌, length, false, refl, sym, ◌∙◌, ap, subst, arith, rules, Err}
+use Rattle.std.proofs.Common.{◌≡◌, ◌≢◌, ◌-◌, ◌++◌, length, false, refl, sym, ◌∙◌, ap, subst, arith, rules}
 use Rattle.tune_journal.specs.Pages.{page_at}
 use Rattle.tune_pages.specs.Chain.{next_of, piece_of, IsLink}
 use Rattle.tune_pages.specs.Inside.Walking.{HasLink}
 use Rattle.tune_pages.specs.Kept.{Kept}
-use Rattle.tune_pages.specs.Reading.{LooksAt}
 use Rattle.tune_pages.specs.Stand.{Stand}
 use Rattle.tune_pages.specs.Work.{stand}
-use Rattle.tune_pages.specs.declared.fault.Fault.{Fault}
-use Rattle.tune_pages.proofs.Looking.{stand_marks, stand_kept, looked_none, looked_more, looks_lost}
+use Rattle.tune_pages.proofs.Looking.{stand_marks, stand_kept, looked_none, looked_more}
 use Rattle.tune_pages.proofs.Walks.{leads_some, reads_start, reads_more, reads_link, reads_enough, reads_end}
 use Rattle.tune_pages.proofs.pages.Pages.read_chain.Goals as goal
 
