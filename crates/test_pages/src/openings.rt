@@ -26,7 +26,9 @@ pub(crate) fn call_opening(
             Ok(bytes) => show(&bytes, answer)?,
             Err(fault) => show_fault(fault, answer)?,
         },
-        OpeningCall::ClaimChainWithin(first, most) => match opening.claim_chain_within(first, most) {
+        OpeningCall::ClaimChainWithin(first, most) => match opening.claim_chain_within(
+            first, most,
+        ) {
             Ok(bytes) => show(&bytes, answer)?,
             Err(fault) => show_fault(fault, answer)?,
         },
