@@ -30,6 +30,8 @@ pub(crate) enum OpeningCall {
     Root,
     ClaimPage(u32),
     ClaimChain(u32),
+    ClaimChainWithin(u32, u32),
+    Count,
     Done(u32),
 }
 
@@ -92,6 +94,11 @@ impl OpeningCall {
             "root" => Some(OpeningCall::Root),
             "claim-page" => Some(OpeningCall::ClaimPage(page(rest, at)?)),
             "claim-chain" => Some(OpeningCall::ClaimChain(page(rest, at)?)),
+            "claim-chain-within" => {
+                let (first, most) = rest.split_once(' ')?;
+                Some(OpeningCall::ClaimChainWithin(page(first, at)?, page(most, at)?))
+            }
+            "count" => Some(OpeningCall::Count),
             "done" => Some(OpeningCall::Done(page(rest, at)?)),
             _ => None,
         }

@@ -16,7 +16,8 @@
 //! - `magic`: writes the magic alone. `size`: how many bytes the file has.
 //! - `make LIMIT BYTES`: pages with this root, of which there may be so many. `open`: an opening.
 //!
-//! Those of an opening are `root`, `claim-page PAGE`, `claim-chain FIRST`, and `done LIMIT`, which
+//! Those of an opening are `root`, `claim-page PAGE`, `claim-chain FIRST`, `count` (how many pages
+//! there are), `claim-chain-within FIRST MOST` of at most so many pages, and `done LIMIT`, which
 //! gives the pages. `begin` begins a work on pages, and drops the one that was begun before.
 //!
 //! Those of a work are `allocate`, `free PAGE`, `put-page PAGE BYTES`, `put-chain BYTES`,

@@ -26,6 +26,13 @@ pub(crate) fn call_opening(
             Ok(bytes) => show(&bytes, answer)?,
             Err(fault) => show_fault(fault, answer)?,
         },
+        OpeningCall::ClaimChainWithin(first, most) => match opening.claim_chain_within(
+            first, most,
+        ) {
+            Ok(bytes) => show(&bytes, answer)?,
+            Err(fault) => show_fault(fault, answer)?,
+        },
+        OpeningCall::Count => write!(answer, "{}", opening.count())?,
         OpeningCall::Done(limit) => return end_opening(opening, limit, answer),
     }
     Ok(Held::Opening(opening))

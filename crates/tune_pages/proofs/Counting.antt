@@ -1,8 +1,7 @@
--- How many pages are free, and how many a chain wants.
-use Rattle.std.proofs.Common.{◌≡◌, ℕ, ◌+◌, ◌*◌, ◌<◌, ◌≤◌, List, [], ◌∷◌, ◌++◌, length, get_or, set, Bool, true, not, cond}
+-- How many pages are free, and where they are too few.
+use Rattle.std.proofs.Common.{◌≡◌, ℕ, ◌+◌, ◌<◌, ◌≤◌, List, [], ◌∷◌, ◌++◌, length, get_or, set, Bool, true, not, cond}
 use Rattle.std.proofs.Common.{sym, ap, subst, arith, length-append}
 use Rattle.std.specs.Prelude.{Result, Ok, Err, IfOk}
-use Rattle.std.proofs.lemmas.Grind.{div_ceil_times}
 use Rattle.std.proofs.lemmas.List.Sums.{sum_by-set, sum_by-le}
 use Rattle.tune_pages.specs.Faults.{IsWorkFault, AnswersWork, free_pages, pages_for}
 use Rattle.tune_pages.specs.Layout.{piece_room}
@@ -10,11 +9,13 @@ use Rattle.tune_pages.specs.Stand.{Stand, IsFree, IsFull, AllFree, marked}
 use Rattle.tune_pages.specs.declared.fault.Fault.{Fault}
 use Rattle.tune_pages.specs.declared.fault.Fault.TheVariants.{FileFull, OutOfMemory, Device, Closed}
 use Rattle.tune_pages.proofs.Putting.{Laid, free_within}
+use Rattle.tune_pages.proofs.Wants.{wants_more}
 
 abbrev pub worth : Bool → ℕ
 worth b = cond (not b) 1 0
 
-full_none : (m : List Bool) → IsFull m → free_pages m ≡ 0
+-- Where every page is in use, none is free.
+pub full_none : (m : List Bool) → IsFull m → free_pages m ≡ 0
 full_none m all = let le = sum_by-le worth 0 m (λ k d lt. subst (λ (b : Bool). worth b ≤ 0) (sym (all k d lt)) (omega arith)) in omega (arith, le)
 
 taken_less : (m : List Bool) (p : ℕ) → IsFree m p → free_pages (set m p true) + 1 ≡ free_pages m
@@ -26,10 +27,6 @@ taken_less m p free =
 pub marked_less : (t : List ℕ) (m : List Bool) → AllFree t m → free_pages (marked true t m) + length t ≡ free_pages m
 marked_less [] m all = omega arith
 marked_less (p ∷ t) m all = (let more = marked_less t (set m p true) all.1 in let here = taken_less m p all.0 in omega (arith, more, here))
-
--- n bytes want more pages than k, if they do not fit k pages.
-pub wants_more : (k n : ℕ) → piece_room * k < n → k < pages_for n
-wants_more k n lt = (let most = (div_ceil_times n piece_room (omega arith)).0 in omega (arith, lt, most))
 
 -- No page was free at the start: one is wanted.
 pub none_at_first : (old : Stand) (n : ℕ) → 0 < n → IsFull old.used → free_pages old.used < pages_for n

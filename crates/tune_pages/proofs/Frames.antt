@@ -189,7 +189,7 @@ root_trades old new image p = record {
 
 -- A NEW CHAIN
 -- the pages that were free are in use, each once
-free_used : (trail : List ℕ) (m : List Bool) → AllFree trail m → AllUsed trail (marked true trail m)
+pub free_used : (trail : List ℕ) (m : List Bool) → AllFree trail m → AllUsed trail (marked true trail m)
 free_used [] m free = tt
 free_used (p ∷ trail) m free = (
   used_stays trail (set m p true) p here,
@@ -203,6 +203,24 @@ free_used (p ∷ trail) m free = (
 
     apart : All (λ q. q ≢ p) trail
     apart = used_apart trail (set m p true) p free.1 (used_either (set m p true) p here)
+
+-- a page in use is none of those that were free
+used_beside : (trail : List ℕ) (m : List Bool) (p : ℕ) → AllFree trail m → IsUsed m p → All (λ q. q ≢ p) trail
+used_beside trail m p free is = used_apart trail m p free (used_either m p is)
+
+-- Pages that were in use stay so beside those, and are none of them.
+pub used_past : (trail others : List ℕ) (m : List Bool) → AllFree trail m → AllUsed others m → AllUsed others (marked true trail m) × AllApart others trail
+used_past trail others m free used = (
+  used_kept others m (marked true trail m)
+      (λ k d lt. marked_other true trail m (get_or others k d) false (used_beside trail m (get_or others k d) free (each k d lt))) used,
+  each_apart others trail (λ k d lt. all_apart (get_or others k d) trail (used_beside trail m (get_or others k d) free (each k d lt))),
+)
+  where
+    each : All (λ p. IsUsed m p) others
+    each = used_each others m used
+
+pub mark_past : (b d : Bool) (trail : List ℕ) (m : List Bool) (p : ℕ) → Apart p trail → get_or (marked b trail m) p d ≡ get_or m p d
+mark_past b d trail m p apart = marked_other b trail m p d (apart_all p trail apart)
 
 pub put_has : (old new : Stand) (first : ℕ) (trail bytes : List ℕ) → PutsChain old new first trail bytes → HasChain new first trail bytes
 put_has old new first trail bytes put = record { chain = put.chain; used = subst (AllUsed trail) (sym put.used) (free_used trail old.used put.free) }

@@ -1,32 +1,35 @@
--- How many pages chains take and give back.
-use Rattle.std.proofs.Common.{◌≡◌, ◌≢◌, ℕ, ◌+◌, ◌*◌, ◌<◌, ◌≤◌, List, [], ◌∷◌, ◌++◌, length, get_or, set, take, drop, replicate, Bool, true, false, not, All}
-use Rattle.std.proofs.Common.{refl, sym, ap, subst, arith, length-append, length-take, length-drop}
-use Rattle.std.proofs.lemmas.Grind.{div_ceil_times}
+-- How many pages are free again when pages are freed, and how many pages a chain has.
+use Rattle.std.proofs.Common.{◌≡◌, ◌≢◌, ℕ, ◌+◌, ◌*◌, ◌<◌, ◌≤◌, List, [], ◌∷◌, length, get_or, set, drop, Bool, false, All}
+use Rattle.std.proofs.Common.{ap, arith, length-append, length-take, length-drop}
 use Rattle.std.proofs.lemmas.List.Sums.{sum_by-set}
+use Rattle.tune_journal.specs.Layout.{block_bytes}
 use Rattle.tune_journal.specs.Pages.{page_at}
 use Rattle.tune_pages.specs.Chain.{next_of, size_of, piece_of, IsLink, Leads, bytes_along, IsChain}
 use Rattle.tune_pages.specs.Faults.{free_pages, pages_for}
 use Rattle.tune_pages.specs.Layout.{piece_room}
-use Rattle.tune_pages.specs.Stand.{IsUsed, AllUsed, AllFree, marked}
-use Rattle.tune_pages.proofs.Counting.{worth, marked_less}
+use Rattle.tune_pages.specs.Stand.{IsUsed, AllUsed, marked}
+use Rattle.tune_pages.proofs.Counting.{worth}
 use Rattle.tune_pages.proofs.Finishing.{used_within}
+use Rattle.tune_pages.proofs.Wants.{as_many}
 
 -- each page has the bytes of a block
 abbrev pub AreSized : List (List ℕ) → Type 0
-AreSized pages = All (λ page. length page ≡ 4096) pages
+AreSized pages = All (λ page. length page ≡ block_bytes) pages
 
+-- a page that is freed is one free page more
 given_more : (m : List Bool) (p : ℕ) → IsUsed m p → free_pages (set m p false) ≡ free_pages m + 1
 given_more m p used =
     let none : worth (get_or m p false) ≡ 0 = ap worth used in
     let both = sum_by-set worth m p false false (used_within m p used) in
     omega (arith, none, both)
 
--- Pages that are given back are free, and no others become so.
+-- Pages in use that are freed are so many free pages more.
 pub freed_more : (t : List ℕ) (m : List Bool) → AllUsed t m → free_pages (marked false t m) ≡ free_pages m + length t
 freed_more [] m all = omega arith
 freed_more (p ∷ t) m all = (let more = freed_more t (set m p false) all.1 in let here = given_more m p all.0 in omega (arith, more, here))
 
-piece_length : (image : List ℕ) → length image ≡ 4096 → IsLink image → length (piece_of image) ≡ size_of image
+-- a page of a chain holds as many bytes as it says
+piece_length : (image : List ℕ) → length image ≡ block_bytes → IsLink image → length (piece_of image) ≡ size_of image
 unfolding piece_of
 piece_length image whole link = omega (arith, whole, link.most, length-take (size_of image) (drop 6 image), length-drop 6 image)
 
@@ -54,5 +57,4 @@ pub chain_count : (pages : List (List ℕ)) (first : ℕ) (trail bytes : List �
 chain_count pages first trail bytes sized chain =
     let both = along_count pages first trail sized chain.leads in
     let size : length (bytes_along pages trail) ≡ length bytes = ap (λ (b : List ℕ). length b) chain.holds in
-    let ceil = div_ceil_times (length bytes) piece_room (omega arith) in
-    omega (arith, both.0, both.1, size, ceil.0, ceil.1)
+    as_many (length trail) (length bytes) (omega (arith, both.1, size)) (omega (arith, both.0, size))

@@ -5,6 +5,7 @@ use Rattle.tune_journal.proofs.Above.{length-pages_after}
 use Rattle.tune_pages.specs.Faults.{CountsFaultWhere}
 use Rattle.tune_pages.specs.Kept.{Kept, HonestAt, state_at, failures_at}
 use Rattle.tune_pages.specs.Reading.{SameKept, LooksAt, SameStand}
+use Rattle.tune_pages.specs.Stand.{Stand}
 use Rattle.tune_pages.specs.Work.{front, used_in, count_in, stand_on, stand, FitsOn, Fits}
 use Rattle.tune_pages.specs.declared.fault.Fault.{Fault}
 use Rattle.tune_pages.specs.declared.fault.Fault.TheVariants.{FileFull, OutOfMemory, Device, Closed}
@@ -57,6 +58,15 @@ module _ {D : Type 0} (honest : D → Type 0) where
   stand_ok (Ok x) Else old new w same = stand_kept old new w same
   stand_ok (Err fault) Else old new w same = tt
 
+  -- what stands for the same after two looks
+  pub stands_then : (one two : Kept D) (old now new : Stand) → (HonestAt honest two.disk → HonestAt honest one.disk)
+      → SameStand (HonestAt honest one.disk) old now → SameStand (HonestAt honest two.disk) now new → SameStand (HonestAt honest two.disk) old new
+  stands_then one two old now new back first next = record {
+    same = λ h. next.same h ∙ first.same (back h);
+    count = next.count ∙ first.count;
+    used = next.used ∙ first.used;
+  }
+
   same_then : (a b c : Kept D) → (HonestAt honest c.disk → HonestAt honest b.disk) → SameKept honest a b → SameKept honest b c → SameKept honest a c
   same_then a b c back one two = record {
     pages = λ h. two.pages h ∙ one.pages (back h);
@@ -94,22 +104,12 @@ module _ {D : Type 0} (honest : D → Type 0) where
       still = looks.same.closed ∙ so.still;
     }
 
-    fault_from : (fault : Fault) (H : Type 0) (a b c : ℕ) → b ≡ a → CountsFaultWhere H fault b c → CountsFaultWhere H fault a c
-    fault_from fault H a b c is counts = subst (λ (n : ℕ). CountsFaultWhere H fault n c) is counts
-
-    -- or a last one that was refused
-    pub looks_err : {T U : Type 0} (fault : Fault) (a b c : Kept D) → Looked a b → LooksAt {T = T} honest failures state (Err fault) b c
-        → LooksAt {T = U} honest failures state (Err fault) a c
-    looks_err fault a b c so looks = record {
-      was_honest = λ h. so.was_honest (looks.was_honest h);
-      same_state = λ h. looks.same_state h ∙ so.same_state (looks.was_honest h);
-      counted = fault_from fault (HonestAt honest c.disk) (failures_at failures a.disk) (failures_at failures b.disk)
-          (failures_at failures c.disk) so.counted looks.counted;
-      same = λ ne. same_then a b c looks.was_honest so.same (looks.same ne);
-    }
-
+    -- are one look
     pub looks_ok : {T : Type 0} (x : T) (a b : Kept D) → Looked a b → LooksAt honest failures state (Ok x) a b
     looks_ok x a b so = record { was_honest = so.was_honest; same_state = so.same_state; counted = so.counted; same = so.same }
+
+    fault_from : (fault : Fault) (H : Type 0) (a b c : ℕ) → b ≡ a → CountsFaultWhere H fault b c → CountsFaultWhere H fault a c
+    fault_from fault H a b c is counts = subst (λ (n : ℕ). CountsFaultWhere H fault n c) is counts
 
     -- a refusal of no call of the disk
     quiet : (fault : Fault) (H : Type 0) (a b : ℕ) → fault ≢ Device → b ≡ a → CountsFaultWhere H fault a b
@@ -118,18 +118,50 @@ module _ {D : Type 0} (honest : D → Type 0) where
     quiet Device H a b ne is = absurd (ne refl)
     quiet Closed H a b ne is = is
 
-    pub looks_quiet : {T : Type 0} (fault : Fault) (a b : Kept D) → fault ≢ Device → Looked a b → LooksAt {T = T} honest failures state (Err fault) a b
-    looks_quiet fault a b ne so = record {
-      was_honest = so.was_honest;
-      same_state = so.same_state;
-      counted = quiet fault (HonestAt honest b.disk) (failures_at failures a.disk) (failures_at failures b.disk) ne so.counted;
-      same = λ other. so.same;
+    -- ONE LOOK AND THE NEXT
+    pub look_none : {T : Type 0} (x : T) (k : Kept D) → LooksAt honest failures state (Ok x) k k
+    look_none x k = record {
+      was_honest = λ h. h;
+      same_state = λ h. refl;
+      counted = refl;
+      same = record { pages = λ h. refl; count = refl; used = refl; limit = refl; closed = refl };
     }
 
-    -- a disk that showed what cannot be is not honest, and closes the pages
-    pub looks_lost : {T : Type 0} (a b c : Kept D) → Looked a b → c.disk ≡ b.disk → (HonestAt honest b.disk → ⊥)
-        → LooksAt {T = T} honest failures state (Err Device) a c
-    looks_lost a b c so is lies = record {
+    -- the second may be refused
+    look_err : {T U : Type 0} (x : T) (fault : Fault) (a b c : Kept D) → LooksAt honest failures state (Ok x) a b
+        → LooksAt {T = U} honest failures state (Err fault) b c → LooksAt {T = U} honest failures state (Err fault) a c
+    look_err x fault a b c one two = record {
+      was_honest = λ h. one.was_honest (two.was_honest h);
+      same_state = λ h. two.same_state h ∙ one.same_state (two.was_honest h);
+      counted = fault_from fault (HonestAt honest c.disk) (failures_at failures a.disk) (failures_at failures b.disk)
+          (failures_at failures c.disk) one.counted two.counted;
+      same = λ ne. same_then a b c two.was_honest one.same (two.same ne);
+    }
+
+    pub look_next : {T U : Type 0} (x : T) (result : Result U Fault) (a b c : Kept D) → LooksAt honest failures state (Ok x) a b
+        → LooksAt honest failures state result b c → LooksAt honest failures state result a c
+    look_next x (Ok y) a b c one two = record {
+      was_honest = λ h. one.was_honest (two.was_honest h);
+      same_state = λ h. two.same_state h ∙ one.same_state (two.was_honest h);
+      counted = two.counted ∙ one.counted;
+      same = same_then a b c two.was_honest one.same two.same;
+    }
+    look_next x (Err fault) a b c one two = look_err x fault a b c one two
+
+    -- or its caller refuses
+    pub look_refused : {T U : Type 0} (x : T) (fault : Fault) (a b : Kept D) → fault ≢ Device → LooksAt honest failures state (Ok x) a b
+        → LooksAt {T = U} honest failures state (Err fault) a b
+    look_refused x fault a b ne one = record {
+      was_honest = one.was_honest;
+      same_state = one.same_state;
+      counted = quiet fault (HonestAt honest b.disk) (failures_at failures a.disk) (failures_at failures b.disk) ne one.counted;
+      same = λ other. one.same;
+    }
+
+    -- a disk that showed what cannot be is not honest
+    pub look_lost : {T U : Type 0} (x : T) (a b c : Kept D) → LooksAt honest failures state (Ok x) a b → c.disk ≡ b.disk
+        → (HonestAt honest b.disk → ⊥) → LooksAt {T = U} honest failures state (Err Device) a c
+    look_lost x a b c one is lies = record {
       was_honest = λ h. absurd (none h);
       same_state = λ h. absurd (none h);
       counted = λ h. absurd (none h);

@@ -3,11 +3,11 @@ pub mod Claim
 pub mod Claims
 pub mod Faults
 pub mod Frame
+pub mod FreePages
 pub mod Inside
 pub mod Kept
 pub mod Layout
 pub mod Opened
 pub mod Reading
 pub mod Stand
-pub mod FreePages
 pub mod Work

@@ -1,15 +1,21 @@
 // What calls with a work leave alone.
-ghost use Rattle.std.specs.Prelude.{◌≡◌, ◌<◌, ◌≤◌, ◌++◌, [], ◌∷◌, ℕ, List, Bool, length};
-ghost use Rattle.tune_pages.specs.Chain.{IsChain};
-ghost use Rattle.tune_pages.specs.Frame.{Apart, AllApart, Allocates, Frees, Puts, TradesPages};
-ghost use Rattle.tune_pages.specs.Stand.{Stand, IsUsed, IsFree, PutsChain, HasChain};
-ghost use Rattle.tune_pages.specs.Stand.{AllUsed, AllFree, marked};
-ghost use Rattle.tune_pages.specs.Faults.{free_pages, pages_for};
+ghost use Rattle.std.specs.Prelude.{◌≡◌, ◌≢◌, ◌+◌, ◌<◌, ◌≤◌, ◌++◌, [], ◌∷◌, ℕ, List, Bool, true, false};
+ghost use Rattle.std.specs.Prelude.{All, length, slice_index_or, Result, Ok, Err};
 ghost use Rattle.tune_journal.specs.Layout.{block_bytes};
-ghost use Rattle.std.specs.Prelude.{◌+◌, All, true, false};
+ghost use Rattle.tune_pages.specs.Chain.{IsChain};
+ghost use Rattle.tune_pages.specs.Faults.{free_pages, pages_for};
+ghost use Rattle.tune_pages.specs.Frame.{Apart, AllApart, Allocates, Frees, Puts, TradesPages};
+ghost use Rattle.tune_pages.specs.Kept.{Kept, HonestAt};
+ghost use Rattle.tune_pages.specs.Reading.{LooksAt, SameStand};
+ghost use Rattle.tune_pages.specs.Stand.{Stand, IsUsed, IsFree, IsFull, AllUsed, AllFree, marked};
+ghost use Rattle.tune_pages.specs.Stand.{PutsChain, HasChain};
 ghost use Rattle.tune_pages.specs.Stand.{taken, with_page, without_page, without_pages};
-ghost use Rattle.tune_pages.specs.Work.{FitsOn, stand_on};
+ghost use Rattle.tune_pages.specs.Work.{stand, Fits, FitsOn, stand_on};
+ghost use Rattle.tune_pages.specs.declared.fault.Fault.{Fault};
+ghost use Rattle.tune_pages.specs.declared.fault.Fault.TheVariants.{Device};
 ghost use Rattle.tune_pages.specs.declared.work.Work.{Work};
+
+use tune_disk::Disk;
 
 /// The laws of chains. They speak of pages as a work stands for them (`Stand`), and of what each
 /// call with a work makes of these: its clause `stand` or `chain`.
@@ -59,6 +65,9 @@ pub fn law_of_chains()
 /// - `beside`: an owner who has more pages trades the same.
 /// - `chains`: a chain that is none of the owner's stays, with its bytes, and is none of the
 ///   owner's then.
+/// - `claimed`: pages that were claimed while they were free are in use, each once.
+/// - `beside_claimed`: and pages that were in use before that stay so, and are none of them.
+/// - `beside_marked`: a page keeps its mark where others are marked.
 pub fn law_of_frames()
     ensures allocates { (s : Stand) (page : ℕ) → IsFree s.used page → 0 < page
         → page ≤ length s.pages → Allocates s (taken page s) page }
@@ -86,6 +95,13 @@ pub fn law_of_frames()
         (trail bytes : List ℕ) → TradesPages before after old new
         → HasChain old first trail bytes → AllApart trail before
         → HasChain new first trail bytes × AllApart trail after }
+    ensures claimed { (trail : List ℕ) (used : List Bool) → AllFree trail used
+        → AllUsed trail (marked true trail used) }
+    ensures beside_claimed { (trail others : List ℕ) (used : List Bool) → AllFree trail used
+        → AllUsed others used → AllUsed others (marked true trail used) × AllApart others trail }
+    ensures beside_marked { (mark past : Bool) (trail : List ℕ) (used : List Bool) (page : ℕ)
+        → Apart page trail
+        → slice_index_or (marked mark trail used) page past ≡ slice_index_or used page past }
 {}
 
 /// The laws of works: what holds of the pages that a work stands for, whatever was done with it.
@@ -107,13 +123,56 @@ pub fn law_of_works()
         → length (stand_on pages used work).pages ≤ length (stand_on pages used work).used }
 {}
 
-/// The law of free pages: how many pages are free.
+/// The law of free pages: how many of the pages up to the limit are free.
+///
+/// - `freed`: pages in use that are freed are so many more.
+/// - `taken`: free pages that are taken are so many less.
+/// - `full`: where all are in use, none is free.
+/// - `count`: a chain has as many pages as its bytes want.
 pub fn law_of_free_pages()
     ensures freed { (trail : List ℕ) (used : List Bool) → AllUsed trail used
         → free_pages (marked false trail used) ≡ free_pages used + length trail }
     ensures taken { (trail : List ℕ) (used : List Bool) → AllFree trail used
         → free_pages (marked true trail used) + length trail ≡ free_pages used }
+    ensures full { (used : List Bool) → IsFull used → free_pages used ≡ 0 }
     ensures count { (pages : List (List ℕ)) (first : ℕ) (trail bytes : List ℕ)
         → All (λ page. length page ≡ block_bytes) pages → IsChain pages first trail bytes
         → length trail ≡ pages_for (length bytes) }
+{}
+
+/// The laws of looks: what calls that only look come to, one after another. They speak of `Pages`
+/// as they are before such calls, between them and after them.
+///
+/// - `none`: no call looks.
+/// - `next`: a look that went well and a next one, whatever this answers, are one look, with the
+///   answer of the next one.
+/// - `refused`: a caller of a look that went well may refuse for a reason that is not the disk's.
+/// - `closed`: where the disk showed what cannot be, a caller may answer `Device`, as `close` does.
+/// - `fits`, `stand`: after a look that went well a work stands for the same as before.
+/// - `stands`: what stands for the same after one look, and the same again after the next, stands
+///   for the same after both.
+pub fn law_of_looks<D: Disk, T, U>()
+    ensures none { (value : T) (one : Kept D)
+        → LooksAt D.honest D.failures D.state (Ok value) one one }
+    ensures next { (value : T) (result : Result U Fault) (one two three : Kept D)
+        → LooksAt D.honest D.failures D.state (Ok value) one two
+        → LooksAt D.honest D.failures D.state result two three
+        → LooksAt D.honest D.failures D.state result one three }
+    ensures refused { (value : T) (fault : Fault) (one two : Kept D) → fault ≢ Device
+        → LooksAt D.honest D.failures D.state (Ok value) one two
+        → LooksAt {T = U} D.honest D.failures D.state (Err fault) one two }
+    ensures closed { (value : T) (one two three : Kept D)
+        → LooksAt D.honest D.failures D.state (Ok value) one two
+        → three.disk ≡ two.disk → (HonestAt D.honest two.disk → ⊥)
+        → LooksAt {T = U} D.honest D.failures D.state (Err Device) one three }
+    ensures fits { (value : T) (one two : Kept D) (work : Work)
+        → LooksAt D.honest D.failures D.state (Ok value) one two → Fits one work → Fits two work }
+    ensures stand { (value : T) (one two : Kept D) (work : Work)
+        → LooksAt D.honest D.failures D.state (Ok value) one two
+        → SameStand (HonestAt D.honest two.disk) (stand one work) (stand two work) }
+    ensures stands { (one two : Kept D) (old now new : Stand)
+        → (HonestAt D.honest two.disk → HonestAt D.honest one.disk)
+        → SameStand (HonestAt D.honest one.disk) old now
+        → SameStand (HonestAt D.honest two.disk) now new
+        → SameStand (HonestAt D.honest two.disk) old new }
 {}

@@ -1,12 +1,14 @@
 // The pages of an open archive.
 ghost use Rattle.std.specs.Prelude.{◌≡◌, ℕ, ◌<◌, ◌≤◌, false, Some, length, IfOk, MatchResult};
-ghost use Rattle.std.specs.Prelude.{true, All};
+ghost use Rattle.std.specs.Prelude.{true, All, Err};
 ghost use Rattle.tune_journal.specs.Layout.{block_bytes, most_pages};
 ghost use Rattle.tune_journal.specs.Moments.{LeavesPages};
-ghost use Rattle.tune_pages.specs.Faults.{AnswersBegin};
+ghost use Rattle.tune_pages.specs.Faults.{AnswersBegin, IsReadFault};
 ghost use Rattle.tune_pages.specs.Kept.{HonestAt};
+ghost use Rattle.tune_pages.specs.Reading.{LooksAt};
 ghost use Rattle.tune_pages.specs.Stand.{IsUsed, IsFree};
 ghost use Rattle.tune_pages.specs.Work.{stand, Fits, IsIdle};
+ghost use Rattle.tune_pages.specs.declared.fault.Fault.TheVariants.{Device};
 
 use crate::fault::Fault;
 use crate::work::Work;
@@ -142,6 +144,25 @@ impl<D: Disk> Pages<D> {
             let _ = journal.count();
         }
         self.limit
+    }
+
+    /// Closes the pages, where the disk showed what cannot be, as a page that has not the form of
+    /// what is kept there. An honest disk shows no such page. The answer is `Device`, for a caller to
+    /// hand on.
+    pub fn close(&mut self) -> Fault
+        requires { HonestAt D.honest self.old.disk → ⊥ }
+        ensures fault { result ≡ Device }
+        ensures closed { self.new.closed ≡ true }
+        ensures disk { self.new.disk ≡ self.old.disk }
+        ensures pages { (self.new.pages ≡ self.old.pages) × (self.new.used ≡ self.old.used)
+            × (self.new.limit ≡ self.old.limit) }
+        ensures looks { LooksAt {T = Unit {0}} D.honest D.failures D.state (Err result)
+            self.old self.new }
+        ensures answer { self.old.closed ≡ false
+            → IsReadFault result self.old.closed self.new.closed }
+    {
+        self.closed = true;
+        Fault::Device
     }
 
     /// The disk, which stands for the pages where these are not closed.

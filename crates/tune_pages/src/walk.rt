@@ -10,7 +10,6 @@ ghost use Rattle.tune_pages.specs.Reading.{LooksAt, SameStand};
 ghost use Rattle.tune_pages.specs.Stand.{IsUsed, HasChain, HasSomeChain};
 ghost use Rattle.tune_pages.specs.Stand.{without_page, without_pages};
 ghost use Rattle.tune_pages.specs.Work.{stand, Fits, IsIdle};
-ghost use Rattle.tune_pages.specs.declared.fault.Fault.TheVariants.{Device};
 
 use crate::fault::Fault;
 use crate::link::{add_piece, is_link, next_page};
@@ -192,15 +191,5 @@ impl<D: Disk> Pages<D> {
             Ok(()) => Ok(is_link(image)),
             Err(fault) => Err(fault),
         }
-    }
-
-    // Closes the pages: the disk showed what cannot be.
-    fn close(&mut self) -> Fault
-        ensures fault { result ≡ Device }
-        ensures disk { self.new.disk ≡ self.old.disk }
-        ensures closed { self.new.closed ≡ true }
-    {
-        self.closed = true;
-        Fault::Device
     }
 }

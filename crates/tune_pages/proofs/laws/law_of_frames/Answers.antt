@@ -1,6 +1,7 @@
 use Rattle.tune_pages.proofs.Frames.{taken_allocates, without_frees, with_puts, allocates_trades, frees_trades, puts_trades}
 use Rattle.tune_pages.proofs.Frames.{root_trades, put_chain_trades, free_chain_trades}
 use Rattle.tune_pages.proofs.Frames.{trades_none, trades_then, trades_beside, chain_traded}
+use Rattle.tune_pages.proofs.Frames.{free_used, used_past, mark_past}
 use Rattle.tune_pages.proofs.laws.law_of_frames.Goals as goal
 
 pub returns-clause-allocates : goal.returns-clause-allocates
@@ -41,3 +42,12 @@ returns-clause-beside c = trades_beside
 
 pub returns-clause-chains : goal.returns-clause-chains
 returns-clause-chains c = chain_traded
+
+pub returns-clause-claimed : goal.returns-clause-claimed
+returns-clause-claimed c = free_used
+
+pub returns-clause-beside_claimed : goal.returns-clause-beside_claimed
+returns-clause-beside_claimed c = used_past
+
+pub returns-clause-beside_marked : goal.returns-clause-beside_marked
+returns-clause-beside_marked c = mark_past

@@ -1,8 +1,6 @@
-use Rattle.std.proofs.Common.{◌≡◌, ◌≢◌, sym, subst, arith, Err}
-use Rattle.tune_pages.specs.Reading.{LooksAt}
+use Rattle.std.proofs.Common.{◌≡◌, ◌≢◌, arith}
 use Rattle.tune_pages.specs.Work.{stand}
-use Rattle.tune_pages.specs.declared.fault.Fault.{Fault}
-use Rattle.tune_pages.proofs.Looking.{looked_more, looks_lost}
+use Rattle.tune_pages.proofs.Looking.{looked_more}
 use Rattle.tune_pages.proofs.Walks.{leads_some, frees_more, frees_link, frees_end}
 use Rattle.tune_pages.proofs.pages.Pages.free_chain.Goals as goal
 
@@ -23,20 +21,15 @@ loop-page-preserved g c =
           c.args.first c.loop-page.page c.in-Ok-Some.next ne (inv.walk (call.looks.was_honest h)) (some.next h).0 (some.next h).1 (some.stand h);
     }
 
-pub returns-in-Ok-None-clause-looks : goal.returns-in-Ok-None-clause-looks
-returns-in-Ok-None-clause-looks g c =
-    let inv = c.loop-page.invariant in
-    let call = c.in-Ok-None.ensures in
+-- Where a page of the chain is no such page, the disk lies.
+pub close-requires : goal.close-requires
+close-requires g c = λ h.
+    (let inv = c.loop-page.invariant in
     let none = rw c.in-Ok-None.field-0-is at c.in-Ok-None.ensures in
     let ne : c.loop-page.page ≢ 0 = omega arith in
-    let at = c.loop-page.self in
-    let so = looked_more g.D.Disk.honest g.D.Disk.failures g.D.Disk.state c.in-Ok-None.field-0 c.args.self.now at c.free_link.new.self inv.looked call.looks in
-    subst (λ (f : Fault). LooksAt g.D.Disk.honest g.D.Disk.failures g.D.Disk.state (Err f) c.args.self.now c.close.new.self) (sym c.close.ensures.fault)
-    (looks_lost g.D.Disk.honest g.D.Disk.failures g.D.Disk.state c.args.self.now c.free_link.new.self c.close.new.self so c.close.ensures.disk
-    (λ h. let now = call.looks.was_honest h in
-    let walk = inv.walk now in
-    let some = c.requires.chain (inv.looked.was_honest now) (leads_some _ _ _ _ ne walk.leads) in
-    none.none h (frees_link _ _ _ _ _ _ ne walk some.2)))
+    let walk = inv.walk (c.in-Ok-None.ensures.looks.was_honest h) in
+    let some = c.requires.chain (inv.looked.was_honest (c.in-Ok-None.ensures.looks.was_honest h)) (leads_some _ _ _ _ ne walk.leads) in
+    none.none h (frees_link _ _ _ _ _ _ ne walk some.2))
 
 pub returns-clause-stand : goal.returns-clause-stand
 returns-clause-stand g c = λ h trail all has.

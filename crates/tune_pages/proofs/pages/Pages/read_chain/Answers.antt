@@ -1,13 +1,11 @@
-use Rattle.std.proofs.Common.{◌≡◌, ◌≢◌, ◌-◌, ◌++◌, length, false, refl, sym, ◌∙◌, ap, subst, arith, rules, Err}
+use Rattle.std.proofs.Common.{◌≡◌, ◌≢◌, ◌-◌, ◌++◌, length, false, refl, sym, ◌∙◌, ap, subst, arith, rules}
 use Rattle.tune_journal.specs.Pages.{page_at}
 use Rattle.tune_pages.specs.Chain.{next_of, piece_of, IsLink}
 use Rattle.tune_pages.specs.Inside.Walking.{HasLink}
 use Rattle.tune_pages.specs.Kept.{Kept}
-use Rattle.tune_pages.specs.Reading.{LooksAt}
 use Rattle.tune_pages.specs.Stand.{Stand}
 use Rattle.tune_pages.specs.Work.{stand}
-use Rattle.tune_pages.specs.declared.fault.Fault.{Fault}
-use Rattle.tune_pages.proofs.Looking.{stand_marks, stand_kept, looked_none, looked_more, looks_lost}
+use Rattle.tune_pages.proofs.Looking.{stand_marks, stand_kept, looked_none, looked_more}
 use Rattle.tune_pages.proofs.Walks.{leads_some, reads_start, reads_more, reads_link, reads_enough, reads_end}
 use Rattle.tune_pages.proofs.pages.Pages.read_chain.Goals as goal
 
@@ -47,36 +45,29 @@ loop-page-preserved g c =
           c.loop-page.left (c.loop-page.left - 1) ne (inv.walk now) there.0 there.1 there.2 (omega (arith, more));
     }
 
-pub returns-then-left-eq0-clause-looks : goal.returns-then-left-eq0-clause-looks
-returns-then-left-eq0-clause-looks g c =
-    let inv = c.loop-page.invariant in
+-- Where turns are left for no more, the disk lies: a chain comes to its end before that.
+pub close-requires : goal.close-requires
+close-requires g c = λ h.
+    (let inv = c.loop-page.invariant in
     let ne : c.loop-page.page ≢ 0 = omega arith in
     let none : c.loop-page.left ≡ 0 = omega arith in
-    subst (λ (f : Fault). LooksAt g.D.Disk.honest g.D.Disk.failures g.D.Disk.state (Err f) c.args.self.now c.close.new.self) (sym c.close.ensures.fault)
-    (looks_lost g.D.Disk.honest g.D.Disk.failures g.D.Disk.state c.args.self.now c.loop-page.self c.close.new.self inv.looked c.close.ensures.disk
-    (λ h. let walk = inv.walk h in
+    let walk = inv.walk h in
     let some = c.requires.chain (inv.looked.was_honest h) (leads_some _ _ _ _ ne walk.leads) in
     let left = reads_enough _ _ _ _ _ _ _ ne walk some.2 in
-    absurd (omega (arith, left, none))))
+    absurd (omega (arith, left, none)))
 
-pub returns-in-Ok-None-clause-looks : goal.returns-in-Ok-None-clause-looks
-returns-in-Ok-None-clause-looks g c =
-    let inv = c.loop-page.invariant in
-    let call = c.in-Ok-None.ensures in
-    let lost = c.close-in-Ok-None in
+-- And where a page of the chain is no such page.
+pub close-requires-in-Ok-None : goal.close-requires-in-Ok-None
+close-requires-in-Ok-None g c = λ h.
+    (let inv = c.loop-page.invariant in
     let none = rw c.in-Ok-None.field-0-is at c.in-Ok-None.ensures in
     let ne : c.loop-page.page ≢ 0 = omega arith in
-    let at = c.loop-page.self in
-    let so = looked_more g.D.Disk.honest g.D.Disk.failures g.D.Disk.state c.in-Ok-None.field-0 c.args.self.now at c.read_piece.new.self inv.looked call.looks in
-    subst (λ (f : Fault). LooksAt g.D.Disk.honest g.D.Disk.failures g.D.Disk.state (Err f) c.args.self.now lost.new.self)
-    (sym lost.ensures.fault)
-    (looks_lost g.D.Disk.honest g.D.Disk.failures g.D.Disk.state c.args.self.now c.read_piece.new.self lost.new.self so lost.ensures.disk
-    (λ h. let now = call.looks.was_honest h in
+    let now = c.in-Ok-None.ensures.looks.was_honest h in
     let walk = inv.walk now in
     let some = c.requires.chain (inv.looked.was_honest now) (leads_some _ _ _ _ ne walk.leads) in
     let link = reads_link _ _ _ _ _ _ _ ne walk some.2 in
     let is = (stand_kept g.D.Disk.honest c.args.self.now c.loop-page.self c.args.work.now inv.looked.same).same now in
-    none.none h (subst (λ (s : Stand). HasLink s c.loop-page.page) (sym is) link)))
+    none.none h (subst (λ (s : Stand). HasLink s c.loop-page.page) (sym is) link))
 
 pub returns-clause-bytes : goal.returns-clause-bytes
 returns-clause-bytes g c = λ h trail all has.
