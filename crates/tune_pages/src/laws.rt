@@ -1,5 +1,6 @@
 // What calls with a work leave alone.
-ghost use Rattle.std.specs.Prelude.{◌≡◌, ◌≢◌, ◌+◌, ◌<◌, ◌≤◌, ◌++◌, [], ◌∷◌, ℕ, List, Bool, true, false};
+ghost use Rattle.std.specs.Prelude.{◌≡◌, ◌≢◌, ◌+◌, ◌<◌, ◌≤◌, ◌++◌, [], ◌∷◌, ℕ, List, Bool};
+ghost use Rattle.std.specs.Prelude.{true, false};
 ghost use Rattle.std.specs.Prelude.{All, length, slice_index_or, Result, Ok, Err};
 ghost use Rattle.tune_journal.specs.Layout.{block_bytes};
 ghost use Rattle.tune_pages.specs.Chain.{IsChain};
