@@ -97,10 +97,7 @@ pub fn claim<D: Disk>(alloc: Global, opening: &mut Opening<D>) -> Result<Content
 }
 
 // Claims the list of tunes and the set lists.
-fn claim_lists<D: Disk>(
-    opening: &mut Opening<D>,
-    layout: Layout,
-) -> Result<Lists, ClaimFault>
+fn claim_lists<D: Disk>(opening: &mut Opening<D>, layout: Layout) -> Result<Lists, ClaimFault>
     requires first { layout ≡ One }
     requires root { opening.old.claimed ≡ only_root (length opening.old.pages) }
     requires sized { D.honest opening.old.disk → AreBlocks opening.old.pages }

@@ -1,5 +1,4 @@
-use Rattle.std.proofs.Common.{◌∙◌, ◌≤◌, List, length, refl, subst, sym, arith}
-use Rattle.tune_store.specs.Limits.{most_tunes}
+use Rattle.std.proofs.Common.{◌∙◌, List, refl, subst, sym, arith}
 use Rattle.std.proofs.lemmas.Result.{err_from_is_err_and}
 use Rattle.tune_sets.specs.Sets.{AreSetLists}
 use Rattle.tune_contents.proofs.ChangePages.{change_count, sets_after}
