@@ -3,9 +3,11 @@ use crate::calls::no_data;
 use abc_fields::{ByteText, TuneText};
 use std::alloc::Global;
 use std::io;
-use tune_queries::{Query, QueryText};
+use tune_queries::{Query, QueryText, Sought};
 use tune_sets::SetLists;
-use tune_store::{Catalog, Command, Label, ListArchive, Plan, Refusal, Reply, TuneStore, decide};
+use tune_store::{
+    Catalog, Command, Label, Layout, ListArchive, Plan, Refusal, Reply, TuneStore, decide,
+};
 
 // A fake catalog: an archive in memory. No text can be read but those of the first `readable`
 // tunes: the device fails, or memory runs out.
@@ -22,6 +24,8 @@ impl Catalog for FaultyCatalog {
     ghost use Rattle.tune_store.specs.Labels.{labels_of};
 
     ghost labels = { λ it. labels_of it.archive.tunes };
+
+    ghost layout = { λ it. it.archive.layout };
 
     ghost sets = { λ it. it.archive.sets };
 
@@ -41,6 +45,8 @@ impl Catalog for FaultyCatalog {
 
     ghost labels_stay = { λ old new same. ap (λ it. labels_of it.archive.tunes) same };
 
+    ghost layout_stays = { λ old new same. ap (λ it. it.archive.layout) same };
+
     ghost sets_stay = { λ old new same. ap (λ it. it.archive.sets) same };
 
     ghost was_honest = { λ old new same honest. honest };
@@ -48,6 +54,8 @@ impl Catalog for FaultyCatalog {
     ghost state_stays = { λ old new same honest. ap (λ it. it.archive) same };
 
     ghost labels_are = { λ it honest. refl };
+
+    ghost layout_is = { λ it honest. refl };
 
     ghost sets_are = { λ it honest. refl };
 
@@ -61,6 +69,10 @@ impl Catalog for FaultyCatalog {
 
     fn place_of(&self, number: u32) -> Option<usize> {
         self.archive.place_of(number)
+    }
+
+    fn layout(&self) -> Layout {
+        self.archive.layout()
     }
 
     fn sets(&self) -> &SetLists {
@@ -79,6 +91,10 @@ impl Catalog for FaultyCatalog {
 
     fn text(&self, place: usize) -> &TuneText {
         self.archive.text(place)
+    }
+
+    fn candidates(&mut self, sought: &Sought<'_>) -> Result<Vec<usize>, Refusal> {
+        self.archive.candidates(sought)
     }
 }
 

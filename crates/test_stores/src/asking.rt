@@ -26,9 +26,6 @@ pub(crate) fn takes_pages(command: &Command) -> bool
 {
     matches!(
         command,
-        Command::Import(_)
-            | Command::Replace { .. }
-            | Command::SetNew(_)
-            | Command::SetAdd { .. }
+        Command::Import(_) | Command::Replace { .. } | Command::SetNew(_) | Command::SetAdd { .. }
     )
 }

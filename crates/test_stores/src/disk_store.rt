@@ -7,14 +7,15 @@ ghost use Rattle.tune_archive.specs.Inside.Media.{left_before};
 ghost use Rattle.test_stores.specs.Marks.{IsMark, IsMarked};
 ghost use Rattle.test_stores.specs.Inside.Marks.{is_mark, LeavesMarks};
 
-use crate::asking::asks;
+use crate::keeping::changes_nothing;
 use std::alloc::Global;
 use tune_disk::{DeviceFault, Disk};
 use tune_store::{Command, ListArchive, Refusal, Reply, TuneStore};
 
 /// A fake store over any disk: an archive in memory, which writes a mark of one byte on the disk at
-/// each change that is accepted. Any file of at most one byte stands for any state: it keeps no
-/// tunes, and shows that what the trait of stores says can be met over a disk that fails.
+/// each accepted command that changes something. Any file of at most one byte stands for any state:
+/// it keeps no tunes, and shows that what the trait of stores says can be met over a disk that
+/// fails.
 #[derive(Drop)]
 pub struct DiskStore<D: Disk> {
     archive: ListArchive,
@@ -69,7 +70,7 @@ impl<D: Disk> TuneStore for DiskStore<D> {
             return Err(Refusal::Closed);
         }
         let reply = self.archive.apply(command)?;
-        if asks(command) {
+        if changes_nothing(command) {
             return Ok(reply);
         }
         match mark(&mut self.disk) {

@@ -7,6 +7,7 @@
 mod any_store;
 mod asking;
 mod disk_store;
+mod keeping;
 mod recorded_store;
 
 pub use any_store::{apply_to_open, apply_two};

@@ -6,6 +6,7 @@ ghost use Rattle.test_stores.specs.Record.{LeftSince, IsOfCount, IsRecorded, las
 ghost use Rattle.test_stores.specs.Inside.Settling.{settles, left_earlier};
 
 use crate::asking::{asks, takes_pages};
+use crate::keeping::changes_nothing;
 use std::alloc::{AllocError, Global};
 use tune_store::{Command, ListArchive, Refusal, Reply, TuneStore};
 
@@ -71,7 +72,7 @@ impl TuneStore for RecordedStore {
         }
         self.entries.reserve(1)?;
         let reply = self.archive.apply(command)?;
-        if asks(command) {
+        if changes_nothing(command) {
             return Ok(reply);
         }
         add_entry(&mut self.entries, self.archive.len());

@@ -1,5 +1,5 @@
 -- How a call of an archive in a file ends: what it answers, and which states it passes.
-use Rattle.std.proofs.Common.{◌≡◌, ◌⊎◌, inl, inr, ℕ, List, [], ◌∷◌, Bool, false, true, not, refl, sym, ◌∙◌, ap, subst}
+use Rattle.std.proofs.Common.{◌≡◌, ◌⊎◌, inl, inr, ℕ, List, [], ◌∷◌, Bool, false, true, not, refl, sym, ◌∙◌, ap, subst, ◌≢◌}
 use Rattle.std.proofs.Common.{Option, None, Some, Result, Ok, Err}
 use Rattle.tune_disk.specs.Disk.{DiskState}
 use Rattle.tune_disk.specs.Stops.{LeavesOnly, SinceThen}
@@ -10,7 +10,7 @@ use Rattle.tune_store.specs.State.{State, IsState}
 use Rattle.tune_store.specs.Step.{step}
 use Rattle.tune_store.specs.TuneSteps.{Outcome}
 use Rattle.tune_store.specs.Plans.{changed, after, Decides, EndsFetch}
-use Rattle.tune_store.specs.Answers.{Answers, open_at, closed_at, stepped, file_full, no_memory, failed_before, failed_after, is_closed, passed}
+use Rattle.tune_store.specs.Answers.{Answers, open_at, closed_at, stepped, no_memory, failed_before, failed_after, is_closed, passed}
 use Rattle.tune_store.specs.Answers.{asks, may_write}
 use Rattle.tune_store.specs.Stops.{Passes, StandsForOne}
 use Rattle.tune_store.specs.declared.plans.Change.{Change}
@@ -18,7 +18,7 @@ use Rattle.tune_store.specs.declared.plans.Plan.{Plan}
 use Rattle.tune_store.specs.declared.command.Command.{Command}
 use Rattle.tune_store.specs.declared.command.Reply.{Reply}
 use Rattle.tune_store.specs.declared.command.Refusal.{Refusal}
-use Rattle.tune_store.specs.declared.command.Refusal.TheVariants.{FileFull, OutOfMemory, Device, Closed}
+use Rattle.tune_store.specs.declared.command.Refusal.TheVariants.{OutOfMemory, Device, Closed}
 use Rattle.tune_store.proofs.StepLemmas.{answers_reach}
 use Rattle.tune_store.proofs.ListLemmas.{list_refused, answers_within}
 use Rattle.tune_store.proofs.LimitLemmas.{step_keeps_limits}
@@ -63,16 +63,9 @@ failed old new was is command e f (inr done) =
     closes old new was is command (Err Device) e f
     (subst (λ state. Answers (open_at old) command (Err Device) (closed_at state)) (sym done) (failed_after old command))
 
--- there was no page or no memory for a change
-spared : (old new : State) (command : Command) (why : Refusal) → asks command ≡ false → (why ≡ FileFull) ⊎ (why ≡ OutOfMemory) → new ≡ old
-    → Answers (open_at old) command (Err why) (open_at new)
-spared old new command why changes (inl full) same = rw (full, same) (file_full old command changes)
-spared old new command why changes (inr memory) same = rw (memory, same) (no_memory old command)
-
--- then no state after it was passed
-none_passed : (old : State) (command : Command) (why : Refusal) → (why ≡ FileFull) ⊎ (why ≡ OutOfMemory) → passed old command (Err why) ≡ []
-none_passed old command why (inl full) = rw full refl
-none_passed old command why (inr memory) = rw memory refl
+-- there was no memory for a change
+spared : (old new : State) (command : Command) (why : Refusal) → why ≡ OutOfMemory → new ≡ old → Answers (open_at old) command (Err why) (open_at new)
+spared old new command why memory same = rw (memory, same) (no_memory old command)
 
 -- WRITES
 -- a command that asks for a change is no question
@@ -114,7 +107,7 @@ module _ {D : Type 0} (honest : D → Type 0) (failures : D → ℕ) (state : D 
     pub answers : HonestAt honest new.pages.disk
         → Answers (record { state = state_of state old; closed = old.closed }) command answer (record { state = state_of state new; closed = new.closed })
     pub moves : HonestAt honest new.pages.disk → (state_at state new.pages.disk ≡ state_at state old.pages.disk)
-        ⊎ ((may_write command answer ≡ true) × SinceThen (state_at state old.pages.disk) (state_at state new.pages.disk)
+        ⊎ ((may_write command answer ≡ true) × ((step (state_of state old) command).0 ≢ state_of state old) × SinceThen (state_at state old.pages.disk) (state_at state new.pages.disk)
         (StandsForOne StandsForState (state_of state old ∷ passed (state_of state old) command answer)))
 
   -- what may not have written left the disk at its moment
@@ -124,6 +117,15 @@ module _ {D : Type 0} (honest : D → Type 0) (failures : D → ℕ) (state : D 
   stays_at old new command answer ended quiet h = elim (ended.moves h) [
     | inl same ↦ ap moment_of same
     | inr wrote ↦ (let may = wrote.0 in cc)
+  ]
+
+  -- nor did a command that leaves the state as it is move it
+  pub stays_where : (old new : Shelf D) (command : Command) (answer : Result Reply Refusal) → Ended old new command answer
+      → (step (state_of state old) command).0 ≡ state_of state old → HonestAt honest new.pages.disk
+      → moment_of (state_at state new.pages.disk) ≡ moment_of (state_at state old.pages.disk)
+  stays_where old new command answer ended same h = elim (ended.moves h) [
+    | inl stays ↦ ap moment_of stays
+    | inr wrote ↦ absurd (wrote.1 same)
   ]
 
   -- it passes the states of its answer
@@ -137,7 +139,7 @@ module _ {D : Type 0} (honest : D → Type 0) (failures : D → ℕ) (state : D 
         within = λ h. answers_within _ _ _ _ (ended.answers h) (sound.within (ended.was_honest h));
         rest = at_rest new holds;
       })
-      (λ h. elim (ended.moves h) [ inl same ↦ inl same | inr wrote ↦ inr wrote.1 ]) (λ sound h file stands. stands)
+      (λ h. elim (ended.moves h) [ inl same ↦ inl same | inr wrote ↦ inr wrote.2 ]) (λ sound h file stands. stands)
 
   -- a call on a closed archive
   pub ended_closed : (archive : Shelf D) (command : Command) → archive.closed ≡ true → Ended archive archive command (Err Closed)
@@ -182,6 +184,15 @@ module _ {D : Type 0} (honest : D → Type 0) (failures : D → ℕ) (state : D 
       decides (tells mid is (fetches.closed ∙ e) h) (within old was e (fetches.was_honest h))
 
   -- a question that was answered
+  -- a change that was decided alters the state
+  pub alters : (old mid : Shelf D) (command : Command) (asked : Option Change) (change : Change) → Holds old → Holds mid → old.closed ≡ false
+      → Fetches honest failures state old mid
+      → (Tells honest state mid → IsState (state_of state old) → (step (state_of state old) command).0 ≡ state_of state old → asked ≡ None)
+      → asked ≡ Some change → HonestAt honest mid.pages.disk → (step (state_of state old) command).0 ≢ state_of state old
+  alters old mid command asked change was is e fetches none some h same =
+      (let told = tells mid is (fetches.closed ∙ e) h in
+      let both : None ≡ Some change = sym (none told (within old was e (fetches.was_honest h)) same) ∙ some in cc)
+
   pub ended_answered : (old new : Shelf D) (command : Command) (reply : Reply) → old.closed ≡ false → Fetches honest failures state old new
       → (HonestAt honest new.pages.disk → step (state_of state old) command ≡ (state_of state old, Ok reply)) → Ended old new command (Ok reply)
   ended_answered old new command reply e fetches steps = record {
@@ -227,10 +238,11 @@ module _ {D : Type 0} (honest : D → Type 0) (failures : D → ℕ) (state : D 
 
   -- a change that was made
   pub ended_changed : (old mid new : Shelf D) (command : Command) (change : Change) (reply : Reply) → old.closed ≡ false
-      → asks command ≡ false → Fetches honest failures state old mid
+      → asks command ≡ false → (HonestAt honest mid.pages.disk → (step (state_of state old) command).0 ≢ state_of state old)
+      → Fetches honest failures state old mid
       → (HonestAt honest mid.pages.disk → step (state_of state old) command ≡ (changed change (state_of state old), Ok reply))
       → MakesChange honest failures state (Ok tt) mid new change → Ended old new command (Ok reply)
-  ended_changed old mid new command change reply e changes fetches steps makes = record {
+  ended_changed old mid new command change reply e changes differs fetches steps makes = record {
     was_honest = λ h. fetches.was_honest (makes.was_honest h);
     answers = λ h.
         (let before = makes.was_honest h in
@@ -240,23 +252,25 @@ module _ {D : Type 0} (honest : D → Type 0) (failures : D → ℕ) (state : D 
         stays _ _ old.closed new.closed command (Ok reply) e makes.made.0 (stepped _ _ command (Ok reply) (subst P next (steps before))));
     moves = λ h. inr (
       ap not changes,
+      differs (makes.was_honest h),
       moved old mid new command change reply fetches (steps (makes.was_honest h)) (makes.was_honest h) (makes.moments h),
     );
   }
 
   -- a change that was not made, or of which that is not known
   pub ended_unmade : (old mid new : Shelf D) (command : Command) (change : Change) (reply : Reply) (why : Refusal) → old.closed ≡ false
-      → asks command ≡ false → Fetches honest failures state old mid
+      → asks command ≡ false → (HonestAt honest mid.pages.disk → (step (state_of state old) command).0 ≢ state_of state old)
+      → Fetches honest failures state old mid
       → (HonestAt honest mid.pages.disk → step (state_of state old) command ≡ (changed change (state_of state old), Ok reply))
       → MakesChange honest failures state (Err why) mid new change → Ended old new command (Err why)
-  ended_unmade old mid new command change reply why e changes fetches steps makes = elim makes.made [
+  ended_unmade old mid new command change reply why e changes differs fetches steps makes = elim makes.made [
     | inl spares ↦
         (let disk : HonestAt honest new.pages.disk → state_at state new.pages.disk ≡ state_at state old.pages.disk =
         λ h. spares.2 h ∙ fetches.same_state (makes.was_honest h) in
         record {
           was_honest = λ h. fetches.was_honest (makes.was_honest h);
           answers = λ h. stays _ _ old.closed new.closed command (Err why) e spares.1
-              (spared _ _ command why changes spares.0 (ap (λ at. state_in at.seen) (disk h)));
+              (spared _ _ command why spares.0 (ap (λ at. state_in at.seen) (disk h)));
           moves = λ h. inl (disk h);
         })
     | inr fails ↦ record {
@@ -278,6 +292,7 @@ module _ {D : Type 0} (honest : D → Type 0) (failures : D → ℕ) (state : D 
           (StandsForOne StandsForState (state_of state old ∷ passed (state_of state old) command (Err one))) in
           inr (
             may_fail command why changes fails.0,
+            differs before,
             subst Q (sym fails.0) (moved old mid new command change reply fetches (steps before) before (makes.moments h)),
           ));
     }

@@ -3,4 +3,5 @@ pub mod DiskMoments
 pub mod FetchLemmas
 pub mod LaidChanges
 pub mod MadeChanges
+pub mod NeverFull
 pub mod OpenedArchives

@@ -1,6 +1,5 @@
 -- What a change that was made, or was not, is to an archive.
 use Rattle.std.proofs.Common.{◌≡◌, ◌≢◌, ◌⊎◌, inl, inr, ℕ, ◌≤◌, List, Bool, true, false, length, refl, sym, ◌∙◌, ap, subst, arith, Option, Some, None, Ok, Err}
-use denote.Enum.Bare.{sameb}
 use Rattle.tune_disk.specs.Disk.{DiskState, MayLeave, CountsUp}
 use Rattle.tune_disk.specs.Stops.{LeavesOnly, SinceThen}
 use Rattle.tune_disk.proofs.Moments.{since_same, since_now, since_weaker}
@@ -9,7 +8,6 @@ use Rattle.tune_pages.specs.Kept.{Kept, HonestAt, state_at}
 use Rattle.tune_pages.specs.Stand.{Stand}
 use Rattle.tune_pages.specs.declared.fault.Fault.{Fault}
 use Rattle.tune_pages.specs.declared.fault.Fault.TheVariants.{FileFull, OutOfMemory, Device, Closed}
-use Rattle.tune_pages.specs.contracts.fault.Fault.{the_type}
 use Rattle.tune_store.specs.declared.layout.Layout.TheVariants.{One}
 use Rattle.tune_store.specs.Plans.{changed}
 use Rattle.tune_store.specs.State.{State, IsState}
@@ -24,7 +22,7 @@ use Rattle.tune_contents.specs.Claimed.{AreRows}
 use Rattle.tune_contents.specs.Holds.{HoldsContents}
 use Rattle.tune_contents.specs.declared.contents.Contents.{Contents}
 use Rattle.tune_archive.specs.Shelf.{Shelf, state_on, state_of, StandsForOneOf}
-use Rattle.tune_archive.specs.Inside.Changing.{CallsWhere, PassesChange, PassesLaid, HasLaid, StaysKept, IsUnmadeChange, MakesChange, refusal_of}
+use Rattle.tune_archive.specs.Inside.Changing.{CallsWhere, PassesChange, PassesLaid, HasLaid, StaysKept, StaysWithin, IsUnmadeChange, MakesChange, refusal_of, closes}
 use Rattle.tune_archive.specs.Inside.Holding.{stand_of, HoldsState, IsShelf}
 
 -- a count that rises tells of a failure
@@ -128,20 +126,22 @@ module _ {D : Type 0} (honest : D → Type 0) (state : D → DiskState) (may_sta
               (subst (λ pages. LeavesOnly (state_at state old.disk).now (StandsFor pages)) pages holds.rest);
         }
 
--- whether a fault closes an archive
-abbrev pub is_device : Fault → Bool
-is_device FileFull = false
-is_device OutOfMemory = false
-is_device Device = true
-is_device Closed = false
-
-device_is : (fault : Fault) → sameb the_type fault Device ≡ is_device fault
-device_is FileFull = refl
-device_is OutOfMemory = refl
-device_is Device = refl
-device_is Closed = refl
-
 -- THE ARCHIVE
+-- It holds a state within the limits, and the one after a change that is asked for is within them too.
+pub stays_within : {D : Type 0} (honest : D → Type 0) (state : D → DiskState) (old whole : Shelf D) → old ≡ whole
+    → IsShelf honest state old.pages old.contents old.closed → whole.closed ≡ false → (change : Change)
+    → (HonestAt honest whole.pages.disk → IsState (changed change (state_of state whole)))
+    → HonestAt honest old.pages.disk → StaysWithin (stand_of old.pages) old.contents change
+stays_within {D} honest state old whole same shelf was_open change limits h =
+    let held = shelf.holds h (ap (λ (s : Shelf D). s.closed) same ∙ was_open) in
+    record {
+      state = state_of state old;
+      holds = held.holds;
+      within = held.within;
+      first_layout = held.first_layout;
+      next = (subst (λ (s : Shelf D). HonestAt honest s.pages.disk → IsState (changed change (state_of state s))) (sym same) limits) h;
+    }
+
 -- `whole` is the archive as the call had it, `old` the same by its fields.
 module _ {D : Type 0} (honest : D → Type 0) (failures : D → ℕ) (state : D → DiskState)
     (may_stay : (disk : D) → honest disk → MayLeave (state disk).now (state disk).seen) (old whole : Shelf D) (same : old ≡ whole)
@@ -191,19 +191,19 @@ module _ {D : Type 0} (honest : D → Type 0) (failures : D → ℕ) (state : D 
 
   -- what was refused
   module _ (fault : Fault) (calls : CallsWhere {T = Contents} honest failures (Err fault) old.pages.disk new.pages.disk)
-      (closes : new.closed ≡ sameb the_type fault Device) (answer : IsLayFault fault new.pages.closed)
-      (stays : fault ≢ Device → StaysKept honest state old.pages new.pages) where
-    stays_open : (fault : Fault) → new.closed ≡ is_device fault → IsLayFault fault new.pages.closed
+      (shuts : new.closed ≡ closes fault) (answer : IsLayFault fault new.pages.closed)
+      (stays : fault ≢ Device → StaysKept honest state old.pages new.pages) (never : HonestAt honest new.pages.disk → fault ≢ FileFull) where
+    stays_open : (fault : Fault) → new.closed ≡ closes fault → IsLayFault fault new.pages.closed
         → (fault ≢ Device → StaysKept honest state old.pages new.pages) → new.closed ≡ false
         → StaysKept honest state old.pages new.pages × (new.pages.closed ≡ false)
-    stays_open FileFull is answer stays e = (stays (λ same. cc), answer)
+    stays_open FileFull is answer stays e = absurd (let no : true ≡ false = sym is ∙ e in cc)
     stays_open OutOfMemory is answer stays e = (stays (λ same. cc), answer)
     stays_open Device is answer stays e = absurd (let no : true ≡ false = sym is ∙ e in cc)
     stays_open Closed is answer stays e = absurd answer
 
     pub kept_shelf : IsShelf honest state new.pages old.contents new.closed
     kept_shelf =
-        let kept = stays_open fault (closes ∙ device_is fault) answer stays in
+        let kept = stays_open fault shuts answer stays in
         record {
           rows = shelf.rows;
           marks = λ e. ap (λ (l : List Bool). length l) (kept e).0.same.used ∙ shelf.marks is_open;
@@ -212,24 +212,24 @@ module _ {D : Type 0} (honest : D → Type 0) (failures : D → ℕ) (state : D 
         }
 
     why_unmade : (fault : Fault) → CallsWhere {T = Contents} honest failures (Err fault) old.pages.disk new.pages.disk
-        → new.closed ≡ is_device fault → IsLayFault fault new.pages.closed → (fault ≢ Device → StaysKept honest state old.pages new.pages)
-        → IsUnmadeChange honest failures state (refusal_of fault) old new change
-    why_unmade FileFull calls is answer stays = inl (inl refl, is, (stays (λ same. cc)).disk)
-    why_unmade OutOfMemory calls is answer stays = inl (inr refl, is, (stays (λ same. cc)).disk)
-    why_unmade Device calls is answer stays = inr (
+        → new.closed ≡ closes fault → IsLayFault fault new.pages.closed → (fault ≢ Device → StaysKept honest state old.pages new.pages)
+        → (HonestAt honest new.pages.disk → fault ≢ FileFull) → IsUnmadeChange honest failures state (refusal_of fault) old new change
+    why_unmade FileFull calls is answer stays never = inr (refl, is, (λ h. absurd (never h refl)), (λ h. absurd (never h refl)))
+    why_unmade OutOfMemory calls is answer stays never = inl (refl, is, (stays (λ same. cc)).disk)
+    why_unmade Device calls is answer stays never = inr (
       refl,
       is,
       (λ h. (let was = calls.was_honest h in
           has_either honest state may_stay old.pages old.contents (shelf.holds was is_open) (shelf.marks is_open) change (within was) new.pages h (passes h))),
       (λ h. has_failed _ _ (calls.counted h)),
     )
-    why_unmade Closed calls is answer stays = absurd answer
+    why_unmade Closed calls is answer stays never = absurd answer
 
     unmade_here : MakesChange honest failures state (Err (refusal_of fault)) old new change
     unmade_here = record {
       was_honest = calls.was_honest;
       moments = λ h. passes_now h (calls.was_honest h);
-      made = why_unmade fault calls (closes ∙ device_is fault) answer stays;
+      made = why_unmade fault calls shuts answer stays never;
     }
 
     pub unmade : (refusal : Refusal) → refusal ≡ refusal_of fault → MakesChange honest failures state (Err refusal) whole new change

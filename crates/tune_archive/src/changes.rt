@@ -4,31 +4,39 @@ ghost use Rattle.tune_contents.specs.Answers.{AnswersLay};
 ghost use Rattle.tune_contents.specs.Claimed.{AreRows};
 ghost use Rattle.tune_contents.specs.Holds.{labels_in, HoldsSomeState};
 ghost use Rattle.tune_pages.specs.Kept.{HonestAt, state_at};
-ghost use Rattle.tune_pages.specs.declared.fault.Fault.TheVariants.{Device};
+ghost use Rattle.tune_pages.specs.declared.fault.Fault.TheVariants.{FileFull, Device};
+ghost use Rattle.tune_format.specs.Layout.{most_pages_of_archive};
 ghost use Rattle.tune_store.specs.Plans.{CanChange, changed};
 ghost use Rattle.tune_store.specs.State.{IsState};
 ghost use Rattle.tune_archive.specs.Shelf.{state_of};
 ghost use Rattle.tune_archive.specs.Inside.Changing.{CallsWhere, PassesChange, HasLaid, StaysKept};
-ghost use Rattle.tune_archive.specs.Inside.Changing.{refusal_of, MakesChange};
+ghost use Rattle.tune_archive.specs.Inside.Changing.{StaysWithin, refusal_of, closes, MakesChange};
 ghost use Rattle.tune_archive.specs.Inside.Holding.{stand_of};
 
 use crate::archive::Archive;
 use std::mem;
-use tune_contents::{Contents, Room, lay};
+use tune_contents::{Contents, Room, law_of_state_pages, lay};
 use tune_disk::Disk;
 use tune_pages::{Fault, Pages};
 use tune_store::{Change, Refusal};
 
-// The refusal that tells of a fault of pages.
+// The refusal that tells of a fault of pages. No archive that a device keeps as it was written
+// comes to have too few pages.
 fn refusal_of(fault: Fault) -> Refusal
     ensures { result ≡ refusal_of fault }
 {
     match fault {
-        Fault::FileFull => Refusal::FileFull,
         Fault::OutOfMemory => Refusal::OutOfMemory,
-        Fault::Device => Refusal::Device,
+        Fault::Device | Fault::FileFull => Refusal::Device,
         Fault::Closed => Refusal::Closed,
     }
+}
+
+// Whether a fault of pages closes the archive.
+fn closes(fault: Fault) -> bool
+    ensures { result ≡ closes fault }
+{
+    matches!(fault, Fault::Device | Fault::FileFull)
 }
 
 // Makes a change in one work, whole or not at all, and gives what is to be kept in memory then.
@@ -46,6 +54,9 @@ fn change_pages<D: Disk>(
     requires rows { AreRows contents.now.layout contents.now.rows.items }
     requires few { HonestAt D.honest pages.old.disk
         → length pages.old.pages ≤ length pages.old.used }
+    requires many { length pages.old.used ≡ most_pages_of_archive }
+    requires within { HonestAt D.honest pages.old.disk
+        → StaysWithin (stand_of pages.old) contents.now change }
     ensures calls { CallsWhere D.honest D.failures result pages.old.disk pages.new.disk }
     ensures moments { HonestAt D.honest pages.new.disk → PassesChange
         (state_at D.state pages.old.disk) (state_at D.state pages.new.disk) (stand_of pages.old)
@@ -57,7 +68,12 @@ fn change_pages<D: Disk>(
     ensures stays { IfErr result (λ fault. fault ≢ Device
         → StaysKept D.honest D.state pages.old pages.new) }
     ensures answer { AnswersLay result pages.new.closed }
+    ensures never_full { IfErr result (λ fault.
+        HonestAt D.honest pages.new.disk → fault ≢ FileFull) }
 {
+    law_of_state_pages();
+    // Its contract says that each page has the bytes of a block.
+    let _limit = pages.limit();
     let mut work = pages.begin()?;
     let left = lay(room, pages, &mut work, contents, change)?;
     pages.finish(work)?;
@@ -65,7 +81,8 @@ fn change_pages<D: Disk>(
 }
 
 impl<D: Disk> Archive<D> {
-    // Makes a change, whole or not at all. It closes the archive where the device failed.
+    // Makes a change, whole or not at all. It closes the archive where the device failed, and where
+    // the pages are full, as they never are of a device that keeps what was written.
     pub(crate) fn make_change(&mut self, change: Change) -> Result<(), Refusal>
         requires open { self.old.closed ≡ false }
         requires possible { CanChange change self.old.contents.layout
@@ -81,7 +98,7 @@ impl<D: Disk> Archive<D> {
                 Ok(())
             }
             Err(fault) => {
-                self.closed = fault == Fault::Device;
+                self.closed = closes(fault);
                 Err(refusal_of(fault))
             }
         }

@@ -138,6 +138,13 @@ impl<D: Disk> Archive<D> {
             (λ refused.
             CountsFailureIf refused.why (D.failures opening.disk) (D.failures refused.disk)) }
     {
+        // Nothing is read of a file that has more pages than an archive.
+        if opening.count() > MOST_PAGES {
+            return Err(Refused {
+                disk: opening.into_disk(),
+                why: OpenFault::Damaged,
+            });
+        }
         match claim(alloc, &mut opening) {
             Ok(contents) => Archive::with_claims(alloc, opening, contents),
             Err(fault) => Err(Refused {

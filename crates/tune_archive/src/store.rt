@@ -1,4 +1,13 @@
 // An archive in a file as a store of tunes.
+ghost use Rattle.std.specs.Prelude.{◌≡◌, ◌≢◌, ◌↔◌, true, false, not, IfOk, IfErr, IsErrOf};
+ghost use Rattle.tune_pages.specs.Kept.{HonestAt, state_at, failures_at};
+ghost use Rattle.tune_store.specs.Answers.{Answers, IsRefusalOf, passed, stays_open, may_write};
+ghost use Rattle.tune_store.specs.Revisions.{RaisesReplaced};
+ghost use Rattle.tune_store.specs.Step.{step};
+ghost use Rattle.tune_store.specs.Stops.{HasFailed};
+ghost use Rattle.tune_store.specs.Stores.{StorePasses, standing_of};
+ghost use Rattle.tune_archive.specs.Media.{moment_of};
+ghost use Rattle.tune_archive.specs.Shelf.{state_of};
 ghost use Rattle.tune_archive.specs.Inside.Holding.{IsShelf};
 
 use crate::archive::Archive;
@@ -45,7 +54,36 @@ impl<D: Disk> TuneStore for Archive<D> {
     ghost since_earlier = { λ archive since earlier file le left.
         left_before (state_at D.Disk.state archive.pages.disk) since earlier file le left };
 
-    fn apply(&mut self, command: &Command) -> Result<Reply, Refusal> {
+    /// Its file is never full: an archive uses few of the pages that there may be, and a change takes
+    /// few of the others.
+    fn apply(&mut self, command: &Command) -> Result<Reply, Refusal>
+        ensures answer { HonestAt D.honest self.new.pages.disk → Answers
+            (standing_of ⟦<Archive<D> as TuneStore>⟧ self.old) command.now result
+            (standing_of ⟦<Archive<D> as TuneStore>⟧ self.new) }
+        ensures room { IsErrOf result Refusal.FileFull → ⊥ }
+        ensures refused { IfErr result (λ refusal. refusal ≢ Refusal.Device
+            → HonestAt D.honest self.new.pages.disk
+            → state_of D.state self.new ≡ state_of D.state self.old) }
+        ensures names { IfErr result (IsRefusalOf command.now) }
+        ensures replaced { IfOk result (λ _. HonestAt D.honest self.new.pages.disk
+            → RaisesReplaced command.now (state_of D.state self.old) (state_of D.state self.new)) }
+        ensures closes { self.new.closed ≡ not (stays_open result) }
+        ensures when_closed { IsErrOf result Refusal.Closed ↔ (self.old.closed ≡ true) }
+        ensures idle { self.old.closed ≡ true → self.new ≡ self.old }
+        ensures stops { StorePasses ⟦<Archive<D> as TuneStore>⟧
+            self.old self.new (passed (state_of D.state self.old) command.now result) }
+        ensures cause { HonestAt D.honest self.new.pages.disk → IsErrOf result Refusal.Device
+            → HasFailed (failures_at D.failures self.old.pages.disk)
+            (failures_at D.failures self.new.pages.disk) }
+        ensures quiet { may_write command.now result ≡ false
+            → HonestAt D.honest self.new.pages.disk
+            → moment_of (state_at D.state self.new.pages.disk)
+            ≡ moment_of (state_at D.state self.old.pages.disk) }
+        ensures unchanged { (step (state_of D.state self.old) command.now).0
+            ≡ state_of D.state self.old → HonestAt D.honest self.new.pages.disk
+            → moment_of (state_at D.state self.new.pages.disk)
+            ≡ moment_of (state_at D.state self.old.pages.disk) }
+    {
         if self.closed {
             return Err(Refusal::Closed);
         }

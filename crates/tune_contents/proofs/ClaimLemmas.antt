@@ -2,7 +2,7 @@
 use Rattle.tune_store.specs.declared.layout.Layout.{Layout}
 use Rattle.std.proofs.Common.{◌≡◌, ℕ, List, [], ◌∷◌, ◌++◌, Bool, true, Result, Ok, Err, IfOk, IfErr, refl, sym, ◌∙◌, ap, subst}
 use Rattle.std.proofs.lemmas.List.{append-nil}
-use Rattle.tune_pages.specs.Claim.{Claimable, IsClaimable}
+use Rattle.tune_pages.specs.Claim.{Claimable, IsClaimableWithin}
 use Rattle.tune_pages.specs.Stand.{marked}
 use Rattle.tune_pages.proofs.Chains.{chain_once}
 use Rattle.tune_format.specs.Parts.{Part, IsPart, AreParts}
@@ -50,11 +50,11 @@ claims_part pages claimed now first bytes front got has =
     }
 
 -- where a part stands that begins there, its chain can be claimed
-pub part_claimable : (pages : List (List ℕ)) (claimed : List Bool) (first : ℕ) (front : List Part) → HasClaimed pages claimed front
-    → IsPartThere pages front first → IsClaimable pages claimed first
-part_claimable pages claimed first front has there =
-    subst (IsClaimable pages claimed) there.is_first
-    (there.part.trail, there.part.bytes, can_claim pages claimed there.part front there.more there.are has.marks)
+pub part_claimable : (pages : List (List ℕ)) (claimed : List Bool) (first most : ℕ) (front : List Part) → HasClaimed pages claimed front
+    → IsPartThere pages front first most → IsClaimableWithin most pages claimed first
+part_claimable pages claimed first most front has there =
+    subst (IsClaimableWithin most pages claimed) there.is_first
+    (there.part.trail, there.part.bytes, can_claim pages claimed there.part front there.more there.are has.marks, there.few)
 
 -- ONE TUNE
 -- of the part that was claimed, each tune there is the one of its bytes

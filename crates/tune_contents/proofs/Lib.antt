@@ -1,4 +1,5 @@
 pub mod ArchiveLemmas
+pub mod ChangePages
 pub mod ClaimLemmas
 pub mod ClaimedRowLemmas
 pub mod ContentsLemmas
@@ -6,6 +7,6 @@ pub mod LayLemmas
 pub mod ListLemmas
 pub mod RisingLemmas
 pub mod RowLemmas
+pub mod StatePages
 pub mod StepLemmas
 pub mod TakesLemmas
-pub mod StatePages

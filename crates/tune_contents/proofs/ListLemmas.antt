@@ -13,7 +13,7 @@ use Rattle.tune_sets.specs.SetBytes.{written_sets}
 use Rattle.tune_sets.specs.declared.set_lists.TuneSet.{TuneSet}
 use Rattle.tune_store.specs.declared.layout.Layout.{Layout}
 use Rattle.tune_store.specs.declared.layout.Layout.TheVariants.{One}
-use Rattle.tune_store.specs.Limits.{greatest_number}
+use Rattle.tune_store.specs.Limits.{greatest_number, most_tunes}
 use Rattle.tune_store.specs.State.{IsTunes, greatest, tune_at, AreHeld}
 use Rattle.tune_store.specs.declared.tune.Tune.{Tune}
 use Rattle.tune_format.specs.Filed.{HoldTunes, rows_of}
@@ -23,10 +23,13 @@ use Rattle.tune_format.specs.declared.rows.Row.{Row}
 use Rattle.tune_format.proofs.Bytes.{number_front}
 use Rattle.tune_format.proofs.Once.{all_map, none_free}
 use Rattle.tune_format.proofs.PartLemmas.{no_parts}
-use Rattle.tune_contents.specs.Inside.Claiming.{HasClaimed, ClaimsPart, IsPartThere, AreTunesThere, TunesClaimed, ClaimsLists, IsStateThere}
+use Rattle.tune_format.proofs.TextLemmas.{rows_count}
+use Rattle.tune_contents.specs.Inside.Claiming.{AreBlocks, HasClaimed, ClaimsPart, IsPartThere, AreTunesThere, TunesClaimed, ClaimsLists, IsStateThere}
 use Rattle.tune_contents.specs.Claimed.{IsClaimed}
 use Rattle.tune_contents.specs.Inside.ClaimedRows.{HasNumber, NumberRows, NameRows}
 use Rattle.tune_contents.specs.Claimed.{AreRows}
+use Rattle.tune_contents.specs.Most.{most_list_pages, most_sets_pages}
+use Rattle.tune_contents.proofs.StatePages.{list_few, sets_few}
 use Rattle.tune_contents.proofs.ClaimedRowLemmas.{all_each, each_all}
 
 no_front : (pages : List (List ℕ)) (claimed : List Bool) → claimed ≡ only_root (length pages) → 0 < length pages → HasClaimed pages claimed []
@@ -39,22 +42,31 @@ on_now : (now pages : List (List ℕ)) (claimed : List Bool) (parts : List Part)
 on_now now pages claimed parts on has = subst (λ l. HasClaimed l claimed parts) (sym on) has
 
 -- THE ROOT AND THE LISTS
-list_there : (pages : List (List ℕ)) (lf sf : ℕ) → IsRoot (page_at pages 0) lf sf → IsStateThere pages → IsPartThere pages [] lf
-list_there pages lf sf root there = record {
-  part = there.1.filed.list;
-  more = there.1.filed.set_lists ∷ there.1.filed.texts;
-  are = there.1.filed.parts;
-  is_first = sym there.1.filed.root.list ∙ root.list;
-}
+list_there : (pages : List (List ℕ)) (lf sf : ℕ) → IsRoot (page_at pages 0) lf sf → AreBlocks pages → IsStateThere pages
+    → IsPartThere pages [] lf (most_list_pages One)
+list_there pages lf sf root sized there =
+    let filed = there.1.filed in
+    let tunes = there.0.tunes in
+    let count = rows_count tunes filed.texts filed.are_tunes in
+    let most = subst (λ layout. length tunes ≤ most_tunes layout) there.1.layout there.1.within.tunes.count in
+    record {
+      part = filed.list;
+      more = filed.set_lists ∷ filed.texts;
+      are = filed.parts;
+      is_first = sym filed.root.list ∙ root.list;
+      few = list_few pages sized filed.list filed.parts.chains.0 One (rows_of tunes filed.texts) filed.listed
+          (omega (arith, count, most));
+    }
 
 pub list_fault : (f : ClaimFault) (now pages : List (List ℕ)) (claimed : List Bool) (image : List ℕ) (lf sf : ℕ) → now ≡ pages
     → claimed ≡ only_root (length pages) → image ≡ page_at pages 0 → IsRoot image lf sf
-    → ((front : List Part) → HasClaimed now claimed front → IsChainFault f (IsPartThere now front lf)) → IsChainFault f (IsStateThere pages)
-list_fault Damaged now pages claimed image lf sf on marks is root call = λ there.
+    → AreBlocks pages → ((front : List Part) → HasClaimed now claimed front → IsChainFault f (IsPartThere now front lf (most_list_pages One)))
+    → IsChainFault f (IsStateThere pages)
+list_fault Damaged now pages claimed image lf sf on marks is root sized call = λ there.
     call [] (on_now now pages claimed [] on (no_front pages claimed marks (state_some pages there)))
-    (subst (λ l. IsPartThere l [] lf) (sym on) (list_there pages lf sf (subst (λ l. IsRoot l lf sf) is root) there))
-list_fault OutOfMemory now pages claimed image lf sf on marks is root call = tt
-list_fault Device now pages claimed image lf sf on marks is root call = tt
+    (subst (λ l. IsPartThere l [] lf (most_list_pages One)) (sym on) (list_there pages lf sf (subst (λ l. IsRoot l lf sf) is root) sized there))
+list_fault OutOfMemory now pages claimed image lf sf on marks is root sized call = tt
+list_fault Device now pages claimed image lf sf on marks is root sized call = tt
 
 -- the list of tunes, claimed first
 first_claimed : (mid pages : List (List ℕ)) (claimed then : List Bool) (lf : ℕ) (list : List ℕ) → mid ≡ pages → claimed ≡ only_root (length pages)
@@ -63,9 +75,8 @@ first_claimed mid pages claimed then lf list on marks some claims = subst (λ l.
     (claims [] (on_now mid pages claimed [] on (no_front pages claimed marks some)))
 
 sets_there : (pages : List (List ℕ)) (then : List Bool) (lf sf : ℕ) (list : List ℕ) → IsRoot (page_at pages 0) lf sf
-    → (first : ClaimsPart pages [] then lf list)
-    → IsStateThere pages → IsPartThere pages (first.part ∷ []) sf
-sets_there pages then lf sf list root first there =
+    → (first : ClaimsPart pages [] then lf list) → AreBlocks pages → IsStateThere pages → IsPartThere pages (first.part ∷ []) sf most_sets_pages
+sets_there pages then lf sf list root first sized there =
     let filed = there.1.filed in
     let same : filed.list ≡ first.part = first.only filed.list filed.parts.chains.0 (sym filed.root.list ∙ root.list) in
     record {
@@ -73,19 +84,21 @@ sets_there pages then lf sf list root first there =
       more = filed.texts;
       are = subst (λ p. AreParts pages (p ∷ filed.set_lists ∷ filed.texts)) same filed.parts;
       is_first = sym filed.root.sets ∙ root.sets;
+      few = sets_few pages sized filed.set_lists filed.parts.chains.1.0 One there.0.sets filed.are_sets there.1.within.sets;
     }
 
 pub sets_fault : (f : ClaimFault) (mid now pages : List (List ℕ)) (claimed then : List Bool) (image : List ℕ) (lf sf : ℕ) (list : List ℕ) → mid ≡ pages
     → now ≡ pages → claimed ≡ only_root (length pages) → image ≡ page_at pages 0 → IsRoot image lf sf
     → ((front : List Part) → HasClaimed mid claimed front → ClaimsPart mid front then lf list)
-    → ((front : List Part) → HasClaimed now then front → IsChainFault f (IsPartThere now front sf)) → IsChainFault f (IsStateThere pages)
-sets_fault Damaged mid now pages claimed then image lf sf list on also marks is root claims call = λ there.
+    → AreBlocks pages → ((front : List Part) → HasClaimed now then front → IsChainFault f (IsPartThere now front sf most_sets_pages))
+    → IsChainFault f (IsStateThere pages)
+sets_fault Damaged mid now pages claimed then image lf sf list on also marks is root claims sized call = λ there.
     let first = first_claimed mid pages claimed then lf list on marks (state_some pages there) claims in
     call (first.part ∷ []) (on_now now pages then _ also first.has)
-    (subst (λ l. IsPartThere l (first.part ∷ []) sf) (sym also)
-    (sets_there pages then lf sf list (subst (λ l. IsRoot l lf sf) is root) first there))
-sets_fault OutOfMemory mid now pages claimed then image lf sf list on also marks is root claims call = tt
-sets_fault Device mid now pages claimed then image lf sf list on also marks is root claims call = tt
+    (subst (λ l. IsPartThere l (first.part ∷ []) sf most_sets_pages) (sym also)
+    (sets_there pages then lf sf list (subst (λ l. IsRoot l lf sf) is root) first sized there))
+sets_fault OutOfMemory mid now pages claimed then image lf sf list on also marks is root claims sized call = tt
+sets_fault Device mid now pages claimed then image lf sf list on also marks is root claims sized call = tt
 
 pub lists_claimed : (mid now pages : List (List ℕ)) (claimed then last : List Bool) (image : List ℕ) (lf sf : ℕ) (list sets : List ℕ) → mid ≡ pages
     → now ≡ pages → claimed ≡ only_root (length pages) → image ≡ page_at pages 0 → IsRoot image lf sf → 0 < length pages
@@ -112,16 +125,17 @@ lists_claimed mid now pages claimed then last image lf sf list sets on also mark
     }
 
 -- THE TUNES
-tunes_there : (pages : List (List ℕ)) (claimed : List Bool) (lf sf : ℕ) (list sets : List ℕ) (l : ClaimsLists pages claimed lf sf list sets)
-    → IsStateThere pages → AreTunesThere One pages (l.list_part ∷ l.sets_part ∷ []) 0 list
-tunes_there pages claimed lf sf list sets l there =
+tunes_there : (layout : Layout) → layout ≡ One → (pages : List (List ℕ)) (claimed : List Bool) (lf sf : ℕ) (list sets : List ℕ) (l : ClaimsLists pages claimed lf sf list sets)
+    → AreBlocks pages → IsStateThere pages → AreTunesThere layout pages (l.list_part ∷ l.sets_part ∷ []) 0 list
+tunes_there layout first pages claimed lf sf list sets l sized there =
     let filed = there.1.filed in
     let same = l.only there.0.tunes there.0.sets filed in
-    let tunes : IsTunes One there.0.tunes = subst (λ layout. IsTunes layout there.0.tunes) there.1.layout there.1.within.tunes in (
+    let tunes : IsTunes layout there.0.tunes = subst (λ other. IsTunes other there.0.tunes) (there.1.layout ∙ sym first) there.1.within.tunes in (
       there.0.tunes,
       filed.texts,
       record {
         few_pages = there.1.few;
+        sized = sized;
         are = subst (λ p. AreParts pages (p ∷ l.sets_part ∷ filed.texts)) same.0
             (subst (λ p. AreParts pages (filed.list ∷ p ∷ filed.texts)) same.1 filed.parts);
         hold = filed.are_tunes;
@@ -133,15 +147,15 @@ tunes_there pages claimed lf sf list sets l there =
       },
     )
 
-pub tunes_fault : (f : ClaimFault) (now pages : List (List ℕ)) (claimed : List Bool) (lf sf : ℕ) (list sets : List ℕ) → now ≡ pages
-    → (0 < length pages → ClaimsLists pages claimed lf sf list sets)
-    → ((front : List Part) → HasClaimed now claimed front → IsChainFault f (AreTunesThere One now front 0 list)) → IsChainFault f (IsStateThere pages)
-tunes_fault Damaged now pages claimed lf sf list sets on lists call = λ there.
+pub tunes_fault : (layout : Layout) → layout ≡ One → (f : ClaimFault) (now pages : List (List ℕ)) (claimed : List Bool) (lf sf : ℕ) (list sets : List ℕ) → now ≡ pages
+    → AreBlocks pages → (0 < length pages → ClaimsLists pages claimed lf sf list sets)
+    → ((front : List Part) → HasClaimed now claimed front → IsChainFault f (AreTunesThere layout now front 0 list)) → IsChainFault f (IsStateThere pages)
+tunes_fault layout first Damaged now pages claimed lf sf list sets on sized lists call = λ there.
     let l = lists (state_some pages there) in
     call (l.list_part ∷ l.sets_part ∷ []) (on_now now pages claimed _ on l.has)
-    (subst (λ p. AreTunesThere One p (l.list_part ∷ l.sets_part ∷ []) 0 list) (sym on) (tunes_there pages claimed lf sf list sets l there))
-tunes_fault OutOfMemory now pages claimed lf sf list sets on lists call = tt
-tunes_fault Device now pages claimed lf sf list sets on lists call = tt
+    (subst (λ p. AreTunesThere layout p (l.list_part ∷ l.sets_part ∷ []) 0 list) (sym on) (tunes_there layout first pages claimed lf sf list sets l sized there))
+tunes_fault layout first OutOfMemory now pages claimed lf sf list sets on sized lists call = tt
+tunes_fault layout first Device now pages claimed lf sf list sets on sized lists call = tt
 
 -- the same facts of equal bytes
 pub lists_as : (pages : List (List ℕ)) (claimed : List Bool) (lf sf : ℕ) (list other sets : List ℕ) → other ≡ list
@@ -207,25 +221,20 @@ sets_named layout OutOfMemory pages claimed lf sf list sets rows lists are liste
 sets_named layout Device pages claimed lf sf list sets rows lists are listed none = tt
 
 -- THE STATE
-length-rows_of : (tunes : List Tune) (texts : List Part) → HoldTunes texts tunes → length (rows_of tunes texts) ≡ length tunes
-length-rows_of [] texts hold = refl
-length-rows_of (tune ∷ tunes) [] hold = absurd (let size = ap (λ l. length l) hold in omega arith)
-length-rows_of (tune ∷ tunes) (part ∷ texts) hold = let later : HoldTunes texts tunes = cc in omega (arith, length-rows_of tunes texts later)
-
-pub state_claimed : (now pages : List (List ℕ)) (claimed last : List Bool) (lf sf : ℕ) (list bytes : List ℕ) (rows : List Row) (sets : List TuneSet)
+pub state_claimed : (layout : Layout) → layout ≡ One → (now pages : List (List ℕ)) (claimed last : List Bool) (lf sf : ℕ) (list bytes : List ℕ) (rows : List Row) (sets : List TuneSet)
     → now ≡ pages
-    → ClaimsLists pages claimed lf sf list bytes → AreRows One rows → list ≡ written_rows rows → written_sets sets ≡ bytes → AreSetLists sets → NameRows rows sets
-    → ((front : List Part) → HasClaimed now claimed front → (low : ℕ) × (low ≤ greatest_number) × TunesClaimed One now front last rows low)
-    → IsClaimed pages One rows sets lf sf last
-state_claimed now pages claimed last lf sf list bytes rows sets on l are listed written are_sets names call =
+    → ClaimsLists pages claimed lf sf list bytes → AreRows layout rows → list ≡ written_rows rows → written_sets sets ≡ bytes → AreSetLists sets → NameRows rows sets
+    → ((front : List Part) → HasClaimed now claimed front → (low : ℕ) × (low ≤ greatest_number) × TunesClaimed layout now front last rows low)
+    → IsClaimed pages layout rows sets lf sf last
+state_claimed layout first now pages claimed last lf sf list bytes rows sets on l are listed written are_sets names call =
     let front = l.list_part ∷ l.sets_part ∷ [] in
     let got = call front (on_now now pages claimed front on l.has) in
-    let t : TunesClaimed One pages front last rows got.0 = subst (λ p. TunesClaimed One p front last rows got.0) on got.2 in
+    let t : TunesClaimed layout pages front last rows got.0 = subst (λ p. TunesClaimed layout p front last rows got.0) on got.2 in
     let held : (number : ℕ) → HasNumber rows number → IsSome (tune_at number t.tunes) =
     λ number has. has_tune number t.tunes t.texts (subst (λ r. HasNumber r number) t.rows_are has) in
     let size = ap (λ r. length r) t.rows_are in
     record {
-      first_layout = refl;
+      first_layout = first;
       tunes = t.tunes;
       filed = record {
         list = l.list_part;
@@ -242,7 +251,7 @@ state_claimed now pages claimed last lf sf list bytes rows sets on l are listed 
           rises = t.rises;
           numbers = omega (arith, t.top, got.1);
           each = t.each;
-          count = omega (arith, are.few, size, length-rows_of t.tunes t.texts t.hold);
+          count = omega (arith, are.few, size, rows_count t.tunes t.texts t.hold);
         };
         sets = are_sets;
         named = all_map (λ set. NumberRows rows set.numbers) (λ set. AreHeld t.tunes set.numbers)

@@ -21,6 +21,7 @@ use Rattle.tune_contents.specs.Inside.Claiming.{HasClaimed, ClaimsPart, ClaimsTu
 use Rattle.tune_contents.specs.Inside.ClaimedRows.{RowsSoFar}
 use Rattle.tune_contents.specs.Claimed.{AreRows, RowsRise}
 use Rattle.tune_contents.proofs.ClaimLemmas.{claimed_as, its_part}
+use Rattle.tune_contents.proofs.StatePages.{tune_few}
 
 -- the first page of a part has a number of 32 bits
 leads_small : (pages : List (List ℕ)) (first : ℕ) (trail : List ℕ) → Leads pages first trail 0 → length pages ≤ most_pages_of_archive → first < 4294967296
@@ -73,7 +74,13 @@ tune_there_of pages front low list tune part tail more number first rest only st
     let its : IsTune _ tune = stand.each.0 in
     let held = stand.hold in
     record {
-      there = record { part = part; more = more; are = stand.are; is_first = head.1 };
+      there = record {
+        part = part;
+        more = more;
+        are = stand.are;
+        is_first = head.1;
+        few = tune_few pages stand.sized part (its_part pages front part more stand.are) _ tune (cc) its.fits;
+      };
       revision = tune.revision;
       text = tune.text;
       tune = record { written = cc; revised = its.revised; few = its.revision; good = record { tune_text = its.text; fits = its.fits } };
@@ -106,6 +113,7 @@ tunes_behind_of pages front low list tune part tail more now bytes number first 
       more,
       record {
         few_pages = stand.few_pages;
+        sized = stand.sized;
         are = subst (AreParts pages) listing stand.are;
         hold = later;
         listed = head.2;

@@ -1,7 +1,7 @@
 -- How many free pages a change takes.
-use Rattle.std.proofs.Common.{◌≡◌, ℕ, ◌+◌, ◌<◌, ◌≤◌, List, [], ◌∷◌, ◌++◌, length, Bool, false, refl, sym, ap, subst, arith}
-use Rattle.std.proofs.Common.{Result, Ok, Err, IfOk, OnOk, IfErr}
-use Rattle.tune_pages.specs.Faults.{free_pages, pages_for, AnswersWork, AnswersRead}
+use Rattle.std.proofs.Common.{◌≡◌, ℕ, ◌+◌, ◌<◌, ◌≤◌, List, [], ◌∷◌, ◌++◌, length, Bool, ap, arith}
+use Rattle.std.proofs.Common.{Result, Ok, Err, IfOk}
+use Rattle.tune_pages.specs.Faults.{free_pages, pages_for, AnswersWork}
 use Rattle.tune_pages.specs.Stand.{Stand, PutsChain, HasChain, HasSomeChain, without_pages}
 use Rattle.tune_pages.specs.declared.fault.Fault.{Fault}
 use Rattle.tune_pages.specs.declared.fault.Fault.TheVariants.{FileFull, OutOfMemory, Device, Closed}

@@ -2,5 +2,5 @@ pub mod Changes
 pub mod Claiming
 pub mod ClaimedRows
 pub mod Laying
-pub mod Takes
 pub mod Rows
+pub mod Takes

@@ -2,3 +2,4 @@ pub mod Answers
 pub mod Claimed
 pub mod Holds
 pub mod Inside
+pub mod Most

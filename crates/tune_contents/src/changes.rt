@@ -1,22 +1,21 @@
 // A change of an archive, laid on its pages.
-ghost use Rattle.std.specs.Prelude.{◌≡◌, false, IfOk, IfErr, OnOk};
+ghost use Rattle.std.specs.Prelude.{◌≡◌, ◌<◌, false, IfOk, IfErr, OnOk};
+ghost use Rattle.tune_pages.specs.Faults.{free_pages};
+ghost use Rattle.tune_pages.specs.FreePages.{TakesAtMost};
 ghost use Rattle.tune_pages.specs.Kept.{HonestAt};
 ghost use Rattle.tune_pages.specs.Reading.{LooksAt};
 ghost use Rattle.tune_pages.specs.Work.{stand, Fits};
-ghost use Rattle.tune_sets.specs.declared.faults.SetFault.TheVariants as set_fault;
 ghost use Rattle.tune_pages.specs.declared.fault.Fault.TheVariants.{OutOfMemory, FileFull};
-ghost use Rattle.std.specs.Prelude.{◌+◌, ◌<◌};
-ghost use Rattle.tune_pages.specs.Faults.{free_pages};
-ghost use Rattle.tune_sets.specs.Sets.{AreSetLists};
-ghost use Rattle.tune_store.specs.Plans.{changed_sets, CanChange};
-ghost use Rattle.tune_store.specs.declared.layout.Layout.TheVariants.{One};
+ghost use Rattle.tune_sets.specs.declared.faults.SetFault.TheVariants as set_fault;
+ghost use Rattle.tune_store.specs.Plans.{changed, changed_sets, CanChange};
+ghost use Rattle.tune_store.specs.State.{State, IsState};
 ghost use Rattle.tune_contents.specs.Answers.{AnswersLay};
 ghost use Rattle.tune_contents.specs.Claimed.{AreRows};
-ghost use Rattle.tune_contents.specs.Holds.{labels_in, HoldsSomeState, LaysState};
+ghost use Rattle.tune_contents.specs.Holds.{labels_in, HoldsContents, HoldsSomeState, LaysState};
+ghost use Rattle.tune_contents.specs.Most.{most_chain_pages};
 ghost use Rattle.tune_contents.specs.Inside.Changes.{RowsAccept, SetsAccept, LaysChange, KeepsRows};
 ghost use Rattle.tune_contents.specs.Inside.Changes.{changes_tunes, changes_sets};
 ghost use Rattle.tune_contents.specs.Inside.Laying.{HoldsSomeTunes};
-ghost use Rattle.tune_pages.specs.FreePages.{TakesAtMost};
 ghost use Rattle.tune_contents.specs.Inside.Takes.{change_pages};
 
 use crate::contents::Contents;
@@ -148,6 +147,8 @@ fn sets_after(sets: &SetLists, change: &Change) -> Result<SetLists, Fault>
 /// - `rows`, of every disk: rows by rising number, within the limits, stay so.
 /// - `looks`: no page of the disk changes.
 /// - `fits`: the work may be changed further, or finished.
+/// - `full`: where the state after the change is within the limits, the file is full only where
+///   fewer pages are free than the chains of a state have at most.
 ///
 /// # Errors
 ///
@@ -173,13 +174,11 @@ pub fn lay<D: Disk>(
     ensures fits { OnOk result (Fits pages.new work.new) }
     ensures looks { LooksAt D.honest D.failures D.state result pages.old pages.new }
     ensures answer { AnswersLay result pages.new.closed }
-    // For a change within the limits the file is full only where fewer pages are free than its
-    // tunes, the list and the set lists have.
     ensures full { HonestAt D.honest pages.new.disk
-        → contents.now.layout ≡ One → AreRows contents.now.layout contents.now.rows.items
-        → AreSetLists (changed_sets change contents.now.sets)
-        → IfErr result (λ fault. fault ≡ FileFull
-        → free_pages (stand pages.old work.old).used < change_pages change + 144) }
+        → AreRows contents.now.layout contents.now.rows.items
+        → (state : State) → HoldsContents (stand pages.old work.old) contents.now state
+        → IsState (changed change state) → IfErr result (λ fault. fault ≡ FileFull
+        → free_pages (stand pages.old work.old).used < most_chain_pages contents.now.layout) }
 {
     let mut rows = copy_rows(room, &contents.rows)?;
     let sets = sets_after(&contents.sets, &change)?;

@@ -6,6 +6,7 @@ ghost use Rattle.tune_sets.specs.SetBytes.{written_sets};
 ghost use Rattle.tune_sets.specs.declared.set_lists.TuneSet.{TuneSet};
 ghost use Rattle.tune_store.specs.Limits.{greatest_number};
 ghost use Rattle.tune_store.specs.State.{State};
+ghost use Rattle.tune_store.specs.declared.layout.Layout.TheVariants.{One};
 ghost use Rattle.tune_format.specs.Layout.{row_bytes};
 ghost use Rattle.tune_format.specs.Parts.{Part};
 ghost use Rattle.tune_format.specs.States.{IsStateOf};
@@ -13,7 +14,7 @@ ghost use Rattle.tune_format.specs.Written.{written_row, written_rows};
 ghost use Rattle.tune_format.specs.declared.rows.Row.{Row};
 ghost use Rattle.tune_pages.specs.Claim.{IsChainFault, LooksOpening};
 ghost use Rattle.tune_pages.specs.Opened.{only_root};
-ghost use Rattle.tune_contents.specs.Inside.Claiming.{HasClaimed, ClaimsPart, IsPartThere};
+ghost use Rattle.tune_contents.specs.Inside.Claiming.{AreBlocks, HasClaimed, ClaimsPart, IsPartThere};
 ghost use Rattle.tune_contents.specs.Inside.Claiming.{IsTuneChain, ClaimsTune, IsTuneThere};
 ghost use Rattle.tune_contents.specs.Inside.Claiming.{TunesClaimed, AreTunesThere};
 ghost use Rattle.tune_contents.specs.Inside.Claiming.{ClaimsLists, IsStateThere};
@@ -27,12 +28,18 @@ use abc_fields::{ByteText, TuneText};
 use std::alloc::Global;
 use tune_disk::Disk;
 use tune_format::{Row, read_root, read_text, row_at};
-use tune_pages::{ClaimFault, Opening};
+use tune_pages::{ClaimFault, Opening, pages_for};
 use tune_sets::{ReadFault, SetLists, TuneSet};
 use tune_store::{GREATEST_NUMBER, GREATEST_REVISION, Layout};
 
 // How many bytes the list of tunes has for each.
 const ROW_BYTES: usize = 8;
+
+// How many bytes the revision of a tune has, before its text.
+const REVISION_BYTES: usize = 2;
+
+// How many pages the chain of the set lists has at most.
+const MOST_SETS_PAGES: usize = 104;
 
 // The list of tunes and the set lists of an archive, as bytes, and where they begin.
 #[derive(Drop)]
@@ -44,7 +51,8 @@ struct Lists {
 }
 
 /// Claims what an archive has on its pages: the list of tunes, the set lists and each tune, whose
-/// text is read and let go. Nothing but the root was claimed before.
+/// text is read and let go. Nothing but the root was claimed before. A chain that is longer than
+/// that of any state is not read to its end, so that no file takes more memory than an archive may.
 ///
 /// # Errors
 ///
@@ -66,13 +74,16 @@ pub fn claim<D: Disk>(alloc: Global, opening: &mut Opening<D>) -> Result<Content
         → IsChainFault fault ((state : State) × IsStateOf opening.old.pages state)) }
     ensures looks { LooksOpening D.honest D.failures D.state result opening.old opening.new }
 {
+    // Its contract says that each page has the bytes of a block.
+    let _count = opening.count();
+    // The version that a root has is that of layout 1.
+    let layout = Layout::One;
     let Lists {
         list_first,
         sets_first,
         list,
         sets,
-    } = claim_lists(opening)?;
-    let layout = Layout::One;
+    } = claim_lists(opening, layout)?;
     let rows = claim_tunes(alloc, opening, layout, &list)?;
     let sets = read_named_sets(alloc, &rows, &sets)?;
     Ok(Contents {
@@ -85,8 +96,13 @@ pub fn claim<D: Disk>(alloc: Global, opening: &mut Opening<D>) -> Result<Content
 }
 
 // Claims the list of tunes and the set lists.
-fn claim_lists<D: Disk>(opening: &mut Opening<D>) -> Result<Lists, ClaimFault>
-    requires { opening.old.claimed ≡ only_root (length opening.old.pages) }
+fn claim_lists<D: Disk>(
+    opening: &mut Opening<D>,
+    layout: Layout,
+) -> Result<Lists, ClaimFault>
+    requires first { layout ≡ One }
+    requires root { opening.old.claimed ≡ only_root (length opening.old.pages) }
+    requires sized { D.honest opening.old.disk → AreBlocks opening.old.pages }
     ensures claims { IfOk result (λ lists. D.honest opening.new.disk
         → 0 < length opening.old.pages → ClaimsLists opening.old.pages opening.new.claimed
         lists.list_first lists.sets_first lists.list.items lists.sets.items) }
@@ -98,8 +114,9 @@ fn claim_lists<D: Disk>(opening: &mut Opening<D>) -> Result<Lists, ClaimFault>
     let Some((list_first, sets_first)) = read_root(&root) else {
         return Err(ClaimFault::Damaged);
     };
-    let list = claim_part(opening, list_first)?;
-    let sets = claim_part(opening, sets_first)?;
+    let most = pages_for(ROW_BYTES * layout.most_tunes());
+    let list = claim_part(opening, list_first, most)?;
+    let sets = claim_part(opening, sets_first, MOST_SETS_PAGES)?;
     Ok(Lists {
         list_first,
         sets_first,
@@ -108,17 +125,21 @@ fn claim_lists<D: Disk>(opening: &mut Opening<D>) -> Result<Lists, ClaimFault>
     })
 }
 
-// Claims the part that begins at a page, and gives its bytes.
-fn claim_part<D: Disk>(opening: &mut Opening<D>, first: u32) -> Result<Vec<u8>, ClaimFault>
+// Claims the part of at most so many pages that begins at this one, and gives its bytes.
+fn claim_part<D: Disk>(
+    opening: &mut Opening<D>,
+    first: u32,
+    most: usize,
+) -> Result<Vec<u8>, ClaimFault>
     ensures claims { IfOk result (λ bytes. D.honest opening.new.disk → (front : List Part)
         → HasClaimed opening.old.pages opening.old.claimed front
         → ClaimsPart opening.old.pages front opening.new.claimed first bytes.items) }
     ensures damaged { IfErr result (λ fault. D.honest opening.new.disk → (front : List Part)
         → HasClaimed opening.old.pages opening.old.claimed front
-        → IsChainFault fault (IsPartThere opening.old.pages front first)) }
+        → IsChainFault fault (IsPartThere opening.old.pages front first most)) }
     ensures looks { LooksOpening D.honest D.failures D.state result opening.old opening.new }
 {
-    opening.claim_chain(first)
+    opening.claim_chain_within(first, most)
 }
 
 // Claims each tune of a list.
@@ -208,7 +229,8 @@ fn claim_tune<D: Disk>(
     if number <= low || number > GREATEST_NUMBER {
         return Err(ClaimFault::Damaged);
     }
-    let bytes = claim_part(opening, first)?;
+    let most = pages_for(layout.longest_text() + REVISION_BYTES);
+    let bytes = claim_part(opening, first, most)?;
     let revision = revision_of(alloc, layout, &bytes)?;
     Ok(Row {
         number,

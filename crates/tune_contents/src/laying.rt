@@ -3,6 +3,8 @@ ghost use Rattle.std.specs.Prelude.{◌≡◌, ◌≢◌, ◌+◌, ◌^◌, ◌<
 ghost use Rattle.std.specs.Prelude.{slice_set, vec_len};
 ghost use Rattle.std.specs.Prelude.{IfOk, IfErr, OnOk};
 ghost use Rattle.std.specs.List.{remove, range_with_len};
+ghost use Rattle.tune_pages.specs.Faults.{pages_for};
+ghost use Rattle.tune_pages.specs.FreePages.{TakesAtMost};
 ghost use Rattle.tune_pages.specs.Kept.{HonestAt};
 ghost use Rattle.tune_pages.specs.Reading.{LooksAt};
 ghost use Rattle.tune_pages.specs.Stand.{HasSomeChain};
@@ -17,9 +19,7 @@ ghost use Rattle.tune_contents.specs.Inside.Laying.{SwapsChain, LaysRoot, LaysLi
 ghost use Rattle.tune_contents.specs.Inside.Laying.{HoldsSomeArchive, LaysContents};
 ghost use Rattle.tune_contents.specs.Inside.Laying.{HoldsSomeTunes, LaysTunes};
 ghost use Rattle.tune_contents.specs.Inside.Rows.{numbers_in};
-ghost use Rattle.tune_pages.specs.FreePages.{TakesAtMost};
-ghost use Rattle.tune_contents.specs.Inside.Takes.{text_pages};
-ghost use Rattle.tune_pages.specs.Faults.{pages_for};
+ghost use Rattle.tune_contents.specs.Inside.Takes.{tune_pages, text_pages, list_pages, sets_pages};
 
 use abc_fields::TuneText;
 use std::alloc::Global;
@@ -46,8 +46,8 @@ fn swap_chain<D: Disk>(
         (stand pages.old work.old) (stand pages.new work.new) first next bytes.now) }
     ensures looks { LooksAt D.honest D.failures D.state result pages.old pages.new }
     ensures answer { AnswersLay result pages.new.closed }
-    ensures takes { HonestAt D.honest pages.new.disk → TakesAtMost (pages_for (length bytes.now)) result
-        (stand pages.old work.old) (stand pages.new work.new) }
+    ensures takes { HonestAt D.honest pages.new.disk → TakesAtMost (pages_for (length bytes.now))
+        result (stand pages.old work.old) (stand pages.new work.new) }
 {
     pages.free_chain(work, first)?;
     pages.put_chain(work, bytes)
@@ -84,8 +84,8 @@ pub(crate) fn put_tune<D: Disk>(
         ≡ slice_set (numbers_in rows.old.items) place tune.now.number) }
     ensures looks { LooksAt D.honest D.failures D.state result pages.old pages.new }
     ensures answer { AnswersLay result pages.new.closed }
-    ensures takes { HonestAt D.honest pages.new.disk → TakesAtMost (pages_for (length tune.now.text + 2)) result
-        (stand pages.old work.old) (stand pages.new work.new) }
+    ensures takes { HonestAt D.honest pages.new.disk → TakesAtMost (tune_pages tune.now.text)
+        result (stand pages.old work.old) (stand pages.new work.new) }
 {
     let Ok(bytes) = write_text(alloc, tune.revision, tune.text.bytes()) else {
         return Err(Fault::OutOfMemory);
@@ -118,8 +118,8 @@ pub(crate) fn take_tune<D: Disk>(
     ensures rows { OnOk result (rows.new.items ≡ remove rows.old.items place) }
     ensures looks { LooksAt D.honest D.failures D.state result pages.old pages.new }
     ensures answer { AnswersLay result pages.new.closed }
-    ensures takes { HonestAt D.honest pages.new.disk → TakesAtMost (0) result
-        (stand pages.old work.old) (stand pages.new work.new) }
+    ensures takes { HonestAt D.honest pages.new.disk → TakesAtMost 0
+        result (stand pages.old work.old) (stand pages.new work.new) }
 {
     pages.free_chain(work, first_at(rows, place))?;
     rows.remove(place);
@@ -143,7 +143,7 @@ fn add_tune<D: Disk>(
     ensures numbers { OnOk result (numbers_in rows.new.items
         ≡ numbers_in rows.old.items ++ number ∷ []) }
     ensures quiet { IfErr result (λ fault. (fault ≢ Device) × (fault ≢ Closed)) }
-    ensures takes { TakesAtMost (pages_for (length text.now + 2)) result
+    ensures takes { TakesAtMost (tune_pages text.now) result
         (stand pages.now work.old) (stand pages.now work.new) }
 {
     let Ok(bytes) = write_text(alloc, 1, text.bytes()) else {
@@ -208,8 +208,8 @@ fn lay_list<D: Disk>(
         (written_rows rows.now)) }
     ensures looks { LooksAt D.honest D.failures D.state result pages.old pages.new }
     ensures answer { AnswersLay result pages.new.closed }
-    ensures takes { HonestAt D.honest pages.new.disk → TakesAtMost (pages_for (length (written_rows rows.now))) result
-        (stand pages.old work.old) (stand pages.new work.new) }
+    ensures takes { HonestAt D.honest pages.new.disk → TakesAtMost (list_pages rows.now)
+        result (stand pages.old work.old) (stand pages.new work.new) }
 {
     let Ok(()) = write_rows(rows, list) else {
         return Err(Fault::OutOfMemory);
@@ -234,8 +234,8 @@ fn lay_sets<D: Disk>(
         (written_sets sets.now)) }
     ensures looks { LooksAt D.honest D.failures D.state result pages.old pages.new }
     ensures answer { AnswersLay result pages.new.closed }
-    ensures takes { HonestAt D.honest pages.new.disk → TakesAtMost (pages_for (length (written_sets sets.now))) result
-        (stand pages.old work.old) (stand pages.new work.new) }
+    ensures takes { HonestAt D.honest pages.new.disk → TakesAtMost (sets_pages sets.now)
+        result (stand pages.old work.old) (stand pages.new work.new) }
 {
     let Ok(bytes) = sets.write() else {
         return Err(Fault::OutOfMemory);
@@ -256,8 +256,7 @@ fn lay_root<D: Disk>(
     ensures root { OnOk result (LaysRoot
         (stand pages.now work.old) (stand pages.now work.new) list_first sets_first) }
     ensures quiet { IfErr result (λ fault. (fault ≢ Device) × (fault ≢ Closed)) }
-    ensures takes { TakesAtMost (0) result
-        (stand pages.now work.old) (stand pages.now work.new) }
+    ensures takes { TakesAtMost 0 result (stand pages.now work.old) (stand pages.now work.new) }
 {
     law_of_works();
     pages.put_page(work, 0, &write_root(list_first, sets_first))
@@ -281,8 +280,8 @@ fn lay_list_where<D: Disk>(
         (stand pages.old work.old) (stand pages.new work.new) list_first next changes rows.now) }
     ensures looks { LooksAt D.honest D.failures D.state result pages.old pages.new }
     ensures answer { AnswersLay result pages.new.closed }
-    ensures takes { HonestAt D.honest pages.new.disk → TakesAtMost (pages_for (length (written_rows rows.now))) result
-        (stand pages.old work.old) (stand pages.new work.new) }
+    ensures takes { HonestAt D.honest pages.new.disk → TakesAtMost (list_pages rows.now)
+        result (stand pages.old work.old) (stand pages.new work.new) }
 {
     if changes {
         lay_list(list, pages, work, list_first, rows)
@@ -308,8 +307,8 @@ fn lay_sets_where<D: Disk>(
         (stand pages.old work.old) (stand pages.new work.new) sets_first next changes sets.now) }
     ensures looks { LooksAt D.honest D.failures D.state result pages.old pages.new }
     ensures answer { AnswersLay result pages.new.closed }
-    ensures takes { HonestAt D.honest pages.new.disk → TakesAtMost (pages_for (length (written_sets sets.now))) result
-        (stand pages.old work.old) (stand pages.new work.new) }
+    ensures takes { HonestAt D.honest pages.new.disk → TakesAtMost (sets_pages sets.now)
+        result (stand pages.old work.old) (stand pages.new work.new) }
 {
     if changes {
         lay_sets(pages, work, sets_first, sets)
@@ -340,8 +339,8 @@ pub(crate) fn lay_contents<D: Disk>(
         sets.now) }
     ensures looks { LooksAt D.honest D.failures D.state result pages.old pages.new }
     ensures answer { AnswersLay result pages.new.closed }
-    ensures takes { HonestAt D.honest pages.new.disk → TakesAtMost (pages_for (length (written_rows rows.now))
-        + pages_for (length (written_sets sets.now))) result
+    ensures takes { HonestAt D.honest pages.new.disk → TakesAtMost
+        (list_pages rows.now + sets_pages sets.now) result
         (stand pages.old work.old) (stand pages.new work.new) }
 {
     let (list_first, sets_first) = firsts;

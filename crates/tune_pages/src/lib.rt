@@ -19,6 +19,7 @@ mod work;
 
 pub use fault::{ClaimFault, Fault};
 pub use laws::{law_of_chains, law_of_frames, law_of_free_pages, law_of_looks, law_of_works};
+pub use link::pages_for;
 pub use opening::Opening;
 pub use pages::Pages;
 pub use work::Work;

@@ -2,6 +2,7 @@
 ghost use Rattle.std.specs.Prelude.{◌≡◌, ◌↔◌, ◌≤◌, ◌-◌, ◌++◌, length, replicate, IsTrue, OnOk};
 ghost use Rattle.std.specs.Int.{w16, w32, to_be_bytes};
 ghost use Rattle.tune_pages.specs.Chain.{next_of, size_of, piece_of, IsLink};
+ghost use Rattle.tune_pages.specs.Faults.{pages_for};
 ghost use Rattle.tune_pages.specs.Inside.Link.{link_bytes};
 ghost use Rattle.tune_pages.specs.Layout.{piece_room};
 
@@ -10,6 +11,13 @@ use tune_journal::PageImage;
 
 /// The most bytes that a page of a chain holds.
 pub(crate) const ROOM: usize = 4090;
+
+/// How many pages the chain of so many bytes has.
+pub fn pages_for(bytes: usize) -> usize
+    ensures { result ≡ pages_for bytes }
+{
+    bytes.div_ceil(ROOM)
+}
 
 /// The number of the next page, 0 at the end.
 #[tactic(auto, unfolding(crate::specs::Chain::next_of))]

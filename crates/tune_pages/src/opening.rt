@@ -126,7 +126,7 @@ impl<D: Disk> Opening<D> {
             → IsChainFault fault (IsClaimable self.old.pages self.old.claimed first)) }
         ensures looks { LooksOpening D.honest D.failures D.state result self.old self.new }
     {
-        let most = self.count();
+        let most = self.count() as usize;
         self.claim_chain_within(first, most)
     }
 
@@ -138,7 +138,7 @@ impl<D: Disk> Opening<D> {
     ///
     /// `Damaged` where no chain of at most `most` pages begins there whose pages are all still to be
     /// claimed; `OutOfMemory`; `Device` where the disk failed.
-    pub fn claim_chain_within(&mut self, first: u32, most: u32) -> Result<Vec<u8>, ClaimFault>
+    pub fn claim_chain_within(&mut self, first: u32, most: usize) -> Result<Vec<u8>, ClaimFault>
         ensures chain { IfOk result (λ bytes. D.honest self.new.disk → (trail : List ℕ)
             × Claimable self.old.pages self.old.claimed first trail bytes.items
             × (self.new.claimed ≡ marked true trail self.old.claimed) × (length trail ≤ most)) }

@@ -1,6 +1,6 @@
 -- What is found at places among which is that of each tune that a query finds.
-use Rattle.std.proofs.Common.{◌≡◌, ◌≢◌, ◌⊎◌, inl, inr, ℕ, zero, suc, ◌+◌, ◌-◌, ◌<◌, ◌≤◌, ◌++◌, Bool, true, false, List, [], ◌∷◌, length, get_or, drop, drop-cons}
-use Rattle.std.proofs.Common.{refl, ap, sym, ◌∙◌, subst, add-one, append_assoc, append-nil, arith}
+use Rattle.std.proofs.Common.{◌≡◌, ◌⊎◌, inl, inr, ℕ, zero, suc, ◌+◌, ◌-◌, ◌<◌, ◌≤◌, ◌++◌, Bool, true, false, List, [], ◌∷◌, length, get_or, drop, drop-cons}
+use Rattle.std.proofs.Common.{refl, ap, sym, ◌∙◌, add-one, append_assoc, arith}
 use Rattle.std.proofs.Math.ListN.{drop_of_length-le}
 use Rattle.std.proofs.lemmas.Bool.{cases_Bool}
 use Rattle.std.proofs.lemmas.List.FromFn.{length-range_with_len, get_or-range_with_len}
@@ -55,7 +55,8 @@ not_below low count (first ∷ places) place rise has = elim (first_or_later fir
 abbrev pub rows_at_places : ℕ → Query → List Tune → List ℕ → List IndexRow
 rows_at_places notes query tunes [] = []
 rows_at_places notes query tunes (place ∷ places) =
-    row_if (matches notes query (get_or tunes place no_tune).text) (get_or tunes place no_tune).number (get_or tunes place no_tune).text ++ rows_at_places notes query tunes places
+    row_if (matches notes query (get_or tunes place no_tune).text) (get_or tunes place no_tune).number (get_or tunes place no_tune).text
+    ++ rows_at_places notes query tunes places
 
 -- the found from a place on
 found_from : (notes : ℕ) (query : Query) (tunes : List Tune) (place : ℕ) → place < length tunes

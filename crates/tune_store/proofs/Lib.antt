@@ -13,3 +13,6 @@ pub mod InsertLemmas
 pub mod QuestionLemmas
 pub mod ListLemmas
 pub mod CandidateLemmas
+pub mod ChangeLemmas
+pub mod NumberLemmas
+pub mod KeptLemmas

@@ -30,7 +30,8 @@ use Rattle.tune_store.specs.declared.layout.Layout.{Layout}
 
 -- IMPORT, REPLACE
 -- the two tests of an import let only texts through for which there is room
-import_tests : {layout : Layout} → (tunes : List Tune) (texts : List (List ℕ)) (reply : Reply) (full spent : Bool) → ltb (most_tunes layout) (length tunes + length texts) ≡ full
+import_tests : {layout : Layout} → (tunes : List Tune) (texts : List (List ℕ)) (reply : Reply) (full spent : Bool)
+    → ltb (most_tunes layout) (length tunes + length texts) ≡ full
     → ltb greatest_number (greatest tunes + length texts) ≡ spent
     → IsTunes layout tunes → AllByRecursion (IsTextWithin (longest_text layout)) texts
     → KeepsLimits layout (cond full (tunes, Err ArchiveFull) (cond spent (tunes, Err NumbersSpent) (with_texts tunes texts, Ok reply)))
@@ -39,7 +40,8 @@ import_tests tunes texts reply false true room numbers is within = is
 import_tests tunes texts reply false false room numbers is within = state_after_import tunes texts is within (ltb-false _ _ room) (ltb-false _ _ numbers)
 
 -- an import keeps the limits, where the texts of its book are within the length
-import_limits : {layout : Layout} → (tunes : List Tune) (texts : Texts) → IsTunes layout tunes → TextsWithin (longest_text layout) texts → KeepsLimits layout (import_book layout tunes texts)
+import_limits : {layout : Layout} → (tunes : List Tune) (texts : Texts) → IsTunes layout tunes → TextsWithin (longest_text layout) texts
+    → KeepsLimits layout (import_book layout tunes texts)
 import_limits tunes (Err why) is within = is
 import_limits {layout = layout} tunes (Ok texts) is within =
     import_tests tunes texts _ (ltb (most_tunes layout) (length tunes + length texts)) (ltb greatest_number (greatest tunes + length texts)) refl refl is within

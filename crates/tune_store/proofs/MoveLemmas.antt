@@ -64,7 +64,8 @@ length-inserted new (tune ∷ tunes) = elim (cases_Bool (ltb new.number tune.num
 ]
 
 -- and good tunes all
-each-inserted : {layout : Layout} → (new : Tune) (tunes : List Tune) → IsTune layout new → AllByRecursion (IsTune layout) tunes → AllByRecursion (IsTune layout) (inserted new tunes)
+each-inserted : {layout : Layout} → (new : Tune) (tunes : List Tune) → IsTune layout new → AllByRecursion (IsTune layout) tunes
+    → AllByRecursion (IsTune layout) (inserted new tunes)
 each-inserted new [] is each = (is, tt)
 each-inserted new (tune ∷ tunes) is each = elim (cases_Bool (ltb new.number tune.number)) [
   | inl before ↦ rw before (is, each)
@@ -92,7 +93,7 @@ tune_at-inserted_other number new (tune ∷ tunes) apart = elim (cases_Bool (ltb
 
 -- A TUNE LESS
 -- there is one less, where it was there
-length-without_one : (number : ℕ) (tunes : List Tune) (tune : Tune) → tune_at number tunes ≡ Some tune → length (without number tunes) + 1 ≡ length tunes
+pub length-without_one : (number : ℕ) (tunes : List Tune) (tune : Tune) → tune_at number tunes ≡ Some tune → length (without number tunes) + 1 ≡ length tunes
 length-without_one number [] tune found = cc
 length-without_one number (first ∷ tunes) tune found = elim (cases_Bool (eqb first.number number)) [
   | inl same ↦ rw same (omega arith)
@@ -100,7 +101,8 @@ length-without_one number (first ∷ tunes) tune found = elim (cases_Bool (eqb f
 ]
 
 -- the tune of a number is a good one
-tune_at-is : {layout : Layout} → (number : ℕ) (tunes : List Tune) (tune : Tune) → AllByRecursion (IsTune layout) tunes → tune_at number tunes ≡ Some tune → IsTune layout tune
+tune_at-is : {layout : Layout} → (number : ℕ) (tunes : List Tune) (tune : Tune) → AllByRecursion (IsTune layout) tunes → tune_at number tunes ≡ Some tune
+    → IsTune layout tune
 tune_at-is number [] tune each found = cc
 tune_at-is {layout = layout} number (first ∷ tunes) tune each found = elim (cases_Bool (eqb first.number number)) [
   | inl same ↦ let it = rw same at found in let e : first ≡ tune = cc in subst (IsTune layout) e each.0
@@ -113,7 +115,8 @@ still_free : (number to : ℕ) (tunes : List Tune) → number ≢ to → tune_at
 still_free number to tunes apart free = tune_at-without_other to number tunes apart ∙ free
 
 -- the tune that was found, under a number that is free, keeps the limits
-moved_tune_keeps : {layout : Layout} → (tune : Tune) (to : ℕ) (tunes : List Tune) → IsTunes layout tunes → tune_at tune.number tunes ≡ Some tune → tune_at to tunes ≡ None
+moved_tune_keeps : {layout : Layout} → (tune : Tune) (to : ℕ) (tunes : List Tune) → IsTunes layout tunes → tune_at tune.number tunes ≡ Some tune
+    → tune_at to tunes ≡ None
     → 0 < to → to ≤ greatest_number → IsTunes layout (moved_tune tune to tunes)
 moved_tune_keeps {layout = layout} tune to tunes is found free above within =
     let rest : List Tune = without tune.number tunes in

@@ -24,7 +24,6 @@ use Rattle.tune_store.specs.declared.catalog.Label.{Label}
 use Rattle.tune_store.specs.declared.command.Reply.TheVariants.{SetExported}
 use Rattle.tune_store.proofs.PlanLemmas.{IsPlaceOf, labels_long, label_at, no_tune, no_label}
 use Rattle.tune_store.proofs.PlaceLemmas.{tune_at-place}
-use Rattle.tune_store.specs.declared.layout.Layout.{Layout}
 
 -- THE NEXT OF A LIST
 -- what is gathered, with the next part of what is left

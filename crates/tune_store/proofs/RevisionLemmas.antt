@@ -104,7 +104,8 @@ two_tests_leave number old new false true x y reply same = refl
 two_tests_leave number old new false false x y reply same = ap revision same
 
 -- an import leaves the revision of a tune that was there
-import_leaves : (layout : Layout) (tunes : List Tune) (number : ℕ) (texts : Texts) → IsSome (tune_at number tunes) → LeavesRevision number tunes (import_book layout tunes texts)
+import_leaves : (layout : Layout) (tunes : List Tune) (number : ℕ) (texts : Texts) → IsSome (tune_at number tunes)
+    → LeavesRevision number tunes (import_book layout tunes texts)
 import_leaves layout tunes number (Err why) was = refl
 import_leaves layout tunes number (Ok texts) was =
     two_tests_leave number tunes (with_texts tunes texts) (ltb (most_tunes layout) (length tunes + length texts))

@@ -40,7 +40,8 @@ rises-append low (tune ∷ tunes) more rises later =
     (rises.0, rises-append tune.number tunes more rises.1 (subst P same later))
 
 -- what holds of the tunes of two lists holds of all
-each-append : (layout : Layout) (tunes more : List Tune) → AllByRecursion (IsTune layout) tunes → AllByRecursion (IsTune layout) more → AllByRecursion (IsTune layout) (tunes ++ more)
+each-append : (layout : Layout) (tunes more : List Tune) → AllByRecursion (IsTune layout) tunes → AllByRecursion (IsTune layout) more
+    → AllByRecursion (IsTune layout) (tunes ++ more)
 each-append layout [] more each later = later
 each-append layout (tune ∷ tunes) more each later = (each.0, each-append layout tunes more each.1 later)
 
@@ -76,13 +77,17 @@ rises-numbered low number [] l = tt
 rises-numbered low number (text ∷ texts) l = (l, rises-numbered number (number + 1) texts (omega arith))
 
 -- new tunes of good texts are good tunes
-each-numbered : (layout : Layout) (number : ℕ) (texts : List (List ℕ)) → AllByRecursion (IsTextWithin (longest_text layout)) texts → AllByRecursion (IsTune layout) (numbered number texts)
+each-numbered : (layout : Layout) (number : ℕ) (texts : List (List ℕ)) → AllByRecursion (IsTextWithin (longest_text layout)) texts
+    → AllByRecursion (IsTune layout) (numbered number texts)
 each-numbered layout number [] within = tt
 each-numbered layout number (text ∷ texts) within =
-    (record { revised = omega arith; revision = omega arith; text = within.0.tune_text; fits = within.0.fits }, each-numbered layout (number + 1) texts within.1)
+    let new : IsTune layout record { number = number; revision = 1; text = text } =
+    record { revised = omega arith; revision = omega arith; text = within.0.tune_text; fits = within.0.fits } in
+    (new, each-numbered layout (number + 1) texts within.1)
 
 -- new tunes of good texts keep the limits, where there is room for them
-pub state_after_import : {layout : Layout} → (tunes : List Tune) (texts : List (List ℕ)) → IsTunes layout tunes → AllByRecursion (IsTextWithin (longest_text layout)) texts
+pub state_after_import : {layout : Layout} → (tunes : List Tune) (texts : List (List ℕ)) → IsTunes layout tunes
+    → AllByRecursion (IsTextWithin (longest_text layout)) texts
     → length tunes + length texts ≤ (most_tunes layout) → greatest tunes + length texts ≤ greatest_number
     → IsTunes layout (with_texts tunes texts)
 state_after_import tunes texts is within room numbers =
@@ -133,7 +138,8 @@ length-with_tune new (tune ∷ tunes) = elim (cases_Bool (eqb tune.number new.nu
 ]
 
 -- and good tunes all
-each-with_tune : {layout : Layout} → (new : Tune) (tunes : List Tune) → IsTune layout new → AllByRecursion (IsTune layout) tunes → AllByRecursion (IsTune layout) (with_tune new tunes)
+each-with_tune : {layout : Layout} → (new : Tune) (tunes : List Tune) → IsTune layout new → AllByRecursion (IsTune layout) tunes
+    → AllByRecursion (IsTune layout) (with_tune new tunes)
 each-with_tune new [] is each = tt
 each-with_tune new (tune ∷ tunes) is each = elim (cases_Bool (eqb tune.number new.number)) [
   | inl same ↦ rw same (is, each.1)
@@ -150,7 +156,8 @@ state_after_replace new tunes is state = record {
 }
 
 -- a good text in the place of a tune's, which has not the greatest revision, makes a good tune
-pub revised_is_tune : {layout : Layout} → (tune : Tune) (text : List ℕ) → IsTextWithin (longest_text layout) text → tune.revision < greatest_revision → IsTune layout (revised tune text)
+pub revised_is_tune : {layout : Layout} → (tune : Tune) (text : List ℕ) → IsTextWithin (longest_text layout) text → tune.revision < greatest_revision
+    → IsTune layout (revised tune text)
 revised_is_tune tune text within less = record { revised = omega arith; revision = omega arith; text = within.tune_text; fits = within.fits }
 
 -- an outcome whose tunes keep the limits
@@ -175,11 +182,6 @@ pub state_after_text : {layout : Layout} → (tunes : List Tune) (number revisio
 state_after_text tunes number revision text None state within = state
 state_after_text tunes number revision text (Some tune) state within =
     by_tests tune tunes number text (not (eqb tune.revision revision)) (ltb tune.revision greatest_revision) within refl state
-
--- the one of texts within a length is within it
-pub only_within : (longest : ℕ) (texts : List (List ℕ)) (text : List ℕ) → AllByRecursion (IsTextWithin longest) texts → texts ≡ text ∷ []
-    → IsTextWithin longest text
-only_within longest texts text each e = let P : List (List ℕ) → Type 0 = λ ts. AllByRecursion (IsTextWithin longest) ts in (subst P e each).0
 
 -- A TUNE LESS
 -- numbers above one are above a lower one
@@ -212,7 +214,8 @@ length-without number (tune ∷ tunes) = elim (cases_Bool (eqb tune.number numbe
 ]
 
 -- and good tunes all
-pub each-without : (layout : Layout) (number : ℕ) (tunes : List Tune) → AllByRecursion (IsTune layout) tunes → AllByRecursion (IsTune layout) (without number tunes)
+pub each-without : (layout : Layout) (number : ℕ) (tunes : List Tune) → AllByRecursion (IsTune layout) tunes
+    → AllByRecursion (IsTune layout) (without number tunes)
 each-without layout number [] each = tt
 each-without layout number (tune ∷ tunes) each = elim (cases_Bool (eqb tune.number number)) [
   | inl same ↦ rw same each.1

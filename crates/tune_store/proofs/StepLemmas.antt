@@ -229,7 +229,9 @@ replace_fault number revision book fault.OutOfMemory = inr refl
 
 -- the refusals of an import
 import_refuses : (layout : Layout) (old : List Tune) (book : List ℕ) (texts : Texts) → Refuses (IsOwnOrMemory (Import book)) (import_book layout old texts).1
-import_refuses layout old book (Err fault) refusal h = let same : refusal_of fault ≡ refusal = cc in subst (IsOwnOrMemory (Import book)) same (import_fault book fault)
+import_refuses layout old book (Err fault) refusal h =
+    let same : refusal_of fault ≡ refusal = cc in
+    subst (IsOwnOrMemory (Import book)) same (import_fault book fault)
 import_refuses layout old book (Ok texts) refusal h =
     two_tests_refuse (IsOwnOrMemory (Import book)) old _ (ltb (most_tunes layout) (length old + length texts))
     (ltb greatest_number (greatest old + length texts)) _ _ _ (inl tt) (inl tt) refusal h
@@ -436,13 +438,6 @@ refused_stays _ _ _ _ (no_memory old command) = λ other. refl
 refused_stays _ _ _ _ (failed_before old command) = λ other. absurd (other refl)
 refused_stays _ _ _ _ (failed_after old command) = λ other. absurd (other refl)
 refused_stays _ _ _ _ (is_closed old command) = λ other. refl
-
--- the same of what it stands for alone, where that is known of it by its device
-pub refused_where : (H : Type 0) (old new : Standing) (command : Command) (answer : Result Reply Refusal) → Answers old command answer new
-    → IfErr answer (λ refusal. refusal ≢ Device → H → new.state ≡ old.state)
-refused_where H old new command (Ok reply) answers = tt
-refused_where H old new command (Err refusal) answers = λ other honest.
-    ap (λ (s : Standing). s.state) (refused_stays old new command (Err refusal) answers other)
 
 -- each refusal is one that may come to the command
 pub answers_name : (old new : Standing) (command : Command) (answer : Result Reply Refusal) → Answers old command answer new

@@ -1,6 +1,6 @@
 -- What a store may answer a command, and what it stands for then.
 use Rattle.std.specs.Prelude.{◌≡◌, ◌⊎◌, List, [], ◌∷◌, Bool, true, false, not, Result, Ok, Err}
-use Rattle.std.specs.Prelude.{⊤}
+use Rattle.std.specs.Prelude.{⊤, ◌==◌}
 use Rattle.tune_store.specs.State.{State, Standing}
 use Rattle.tune_store.specs.Step.{step}
 use Rattle.tune_store.specs.declared.command.Command.{Command}
@@ -87,6 +87,12 @@ abbrev pub may_write : Command → Result Reply Refusal → Bool
 may_write command (Ok reply) = not (asks command)
 may_write command (Err Device) = not (asks command)
 may_write command (Err refusal) = false
+
+-- whether a command, though it is accepted, leaves the state as it is: a question, and another
+-- number for a tune that is its own
+abbrev pub changes_nothing : Command → Bool
+changes_nothing (Renumber number to) = number == to
+changes_nothing command = asks command
 
 -- WHICH REFUSALS MAY COME TO WHICH COMMAND
 -- the refusals of a book that has no tunes to give

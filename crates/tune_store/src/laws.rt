@@ -1,9 +1,10 @@
 // What holds of commands on a plain list of tunes and set lists, over whole runs of them.
-ghost use Rattle.std.specs.Prelude.{◌≡◌, ℕ, List, IsTrue, IsFalse, Err, IsOk};
+ghost use Rattle.std.specs.Prelude.{◌≡◌, ℕ, List, true, IsTrue, IsFalse, Err, IsOk};
 ghost use Rattle.tune_sets.specs.Calls.{places_of};
 ghost use Rattle.tune_sets.specs.Laws.{Holds, IsLeastHolder};
 ghost use Rattle.tune_store.specs.State.{State, IsState, Standing};
 ghost use Rattle.tune_store.specs.Step.{step};
+ghost use Rattle.tune_store.specs.Answers.{changes_nothing};
 ghost use Rattle.tune_store.specs.Runs.{Answered};
 ghost use Rattle.tune_store.specs.Revisions.{accepts, AcceptedReplaceRaises, OthersKeepRevision};
 ghost use Rattle.tune_store.specs.Revisions.{RevisionCounts, AcceptedReplaceIsCurrent};
@@ -69,4 +70,15 @@ pub fn law_of_places()
         → IsLeastHolder number name state.sets }
     ensures free { (state : State) (number : ℕ) (name : List ℕ)
         → IsTrue (accepts state (Delete number)) → ¬ Holds number name state.sets }
+{}
+
+/// The law of changes: which accepted commands leave a plain list of tunes and set lists as it is.
+///
+/// - `kept`: questions do, and a `Renumber` to the tune's own number.
+/// - `changed`: no other does.
+pub fn law_of_changes()
+    ensures kept { (state : State) (command : Command)
+        → changes_nothing command ≡ true → (step state command).0 ≡ state }
+    ensures changed { (state : State) (command : Command) → IsTrue (accepts state command)
+        → (step state command).0 ≡ state → changes_nothing command ≡ true }
 {}

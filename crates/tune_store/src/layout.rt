@@ -3,8 +3,8 @@ ghost use Rattle.std.specs.Prelude.{◌≡◌, ◌≤◌};
 ghost use Rattle.tune_incipit.specs.Limits.{fewest_notes, most_notes};
 ghost use Rattle.tune_store.specs.Limits.{layout_number, longest_text, most_tunes, notes_of};
 
-/// The layout of an archive: it says by how many notes `find` tells openings apart, and how much the
-/// archive may hold (this archive's profile).
+/// The layout of an archive: by how many notes `find` tells openings apart, and how much there may
+/// be in it (this archive's profile).
 #[derive(Clone, Copy, Debug, PartialEq, Eq)]
 pub enum Layout {
     /// Layout 1.

@@ -11,6 +11,7 @@ ghost use Rattle.tune_store.specs.Answers.{takes_memory};
 ghost use Rattle.tune_store.specs.Revisions.{RaisesReplaced};
 ghost use Rattle.tune_store.specs.Stores.{StorePasses};
 ghost use Rattle.tune_store.specs.declared.catalog.Label.{Label};
+ghost use Rattle.tune_store.specs.declared.layout.Layout.{Layout};
 ghost use Rattle.tune_store.specs.declared.command.Refusal.{Refusal};
 ghost use Rattle.tune_store.specs.Plans.{CanChange, CanChangeTo};
 ghost use Rattle.tune_store.specs.Inside.Lists.{CarriedOut, Made, IsPlaceAfter, state_with};
@@ -45,7 +46,8 @@ impl Model for ListArchive {
 
     ghost view = { λ archive. state_with archive.layout archive.tunes.items archive.sets };
 
-    ghost invariant = { λ archive. IsState (state_with archive.layout archive.tunes.items archive.sets) };
+    ghost invariant = { λ archive.
+        IsState (state_with archive.layout archive.tunes.items archive.sets) };
 }
 
 impl ListArchive {
@@ -186,40 +188,32 @@ impl TuneStore for ListArchive {
             self.old self.new (passed self.old command.now result) }
     {
         let plan = decide(self.alloc, self, command)?;
-        carry_out(self.layout, &mut self.tunes, &mut self.sets, plan)
+        carry_out(&mut self.tunes, &mut self.sets, plan)
     }
 }
 
 // Makes the change of a plan, and gives its reply. The one refusal is out of memory.
-fn carry_out(
-    layout: Layout,
-    tunes: &mut Vec<Tune>,
-    sets: &mut SetLists,
-    plan: Plan,
-) -> Result<Reply, Refusal>
+fn carry_out(tunes: &mut Vec<Tune>, sets: &mut SetLists, plan: Plan) -> Result<Reply, Refusal>
     requires rises { RisesFrom 0 tunes.old.items }
-    requires possible { CanChangeTo plan.change layout (labels_of tunes.old.items) sets.old }
-    ensures { CarriedOut (state_with layout tunes.old.items sets.old) plan result
-        (state_with layout tunes.new.items sets.new) }
+    requires possible { (layout : Layout)
+        × CanChangeTo plan.change layout (labels_of tunes.old.items) sets.old }
+    ensures { (layout : Layout) → CarriedOut (state_with layout tunes.old.items sets.old) plan
+        result (state_with layout tunes.new.items sets.new) }
 {
     let Plan { change, reply } = plan;
     if let Some(change) = change {
-        make(layout, tunes, sets, change)?;
+        make(tunes, sets, change)?;
     }
     Ok(reply)
 }
 
 // Makes a change. The error is out of memory, and everything stays then.
-fn make(
-    _layout: Layout,
-    tunes: &mut Vec<Tune>,
-    sets: &mut SetLists,
-    change: Change,
-) -> Result<(), Refusal>
+fn make(tunes: &mut Vec<Tune>, sets: &mut SetLists, change: Change) -> Result<(), Refusal>
     requires rises { RisesFrom 0 tunes.old.items }
-    requires possible { CanChange change _layout (labels_of tunes.old.items) sets.old }
-    ensures { Made (state_with _layout tunes.old.items sets.old) change result
-        (state_with _layout tunes.new.items sets.new) }
+    requires possible { (layout : Layout)
+        × CanChange change layout (labels_of tunes.old.items) sets.old }
+    ensures { (layout : Layout) → Made (state_with layout tunes.old.items sets.old) change result
+        (state_with layout tunes.new.items sets.new) }
 {
     match change {
         Change::Add { first, texts } => {

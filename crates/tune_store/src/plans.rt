@@ -1,6 +1,7 @@
 // Decides commands: by the rules that are here alone, for every store.
 ghost use Rattle.std.specs.Prelude.{◌≡◌, true, None, Some, IfOk, IfErr, MatchResult};
 ghost use Rattle.tune_store.specs.State.{IsState};
+ghost use Rattle.tune_store.specs.Step.{step};
 ghost use Rattle.tune_store.specs.Answers.{takes_memory, asks};
 ghost use Rattle.tune_store.specs.Plans.{Decides, CanChangeTo, EndsFetch, IsRefusalOfPlan, grows};
 
@@ -78,6 +79,8 @@ impl Plan {
 /// where the device failed in reading a text.
 ///
 /// - `decided`: the plan, or the refusal, is that of the plain list (`step`).
+/// - `changes`: a command that leaves the plain list as it is, as a `Renumber` to the tune's own
+///   number, has no change. So each change changes something.
 /// - `names`, of every device: which refusals may come.
 /// - `memory`, of every device: some commands are never refused for memory, and their changes ask
 ///   for none.
@@ -91,12 +94,16 @@ pub fn decide<C: Catalog>(
 ) -> Result<Plan, Refusal>
     ensures decided { C.honest catalog.new → IsState (C.state catalog.old)
         → Decides (C.state catalog.old) command.now result }
+    ensures changes { C.honest catalog.new → IsState (C.state catalog.old)
+        → (step (C.state catalog.old) command.now).0 ≡ C.state catalog.old
+        → IfOk result (λ plan. plan.change ≡ None) }
     ensures names { IfErr result (IsRefusalOfPlan command.now) }
     ensures memory { MatchResult result
         (λ plan. grows plan.change ≡ true → takes_memory command.now ≡ true)
         (λ refusal. refusal ≡ Refusal.OutOfMemory → takes_memory command.now ≡ true) }
     ensures possible { IfOk result
-        (λ plan. CanChangeTo plan.change (C.layout catalog.old) (C.labels catalog.old) (C.sets catalog.old)) }
+        (λ plan. CanChangeTo plan.change
+        (C.layout catalog.old) (C.labels catalog.old) (C.sets catalog.old)) }
     ensures asks { asks command.now ≡ true → IfOk result (λ plan. plan.change ≡ None) }
     ensures fetched { MatchResult result (λ _. C.fetched catalog.old catalog.new)
         (λ refusal. EndsFetch C.fetched C.failed catalog.old refusal catalog.new) }

@@ -7,6 +7,7 @@ ghost use Rattle.tune_store.specs.SetSteps.{set_new, set_add, set_cut, set_drop}
 ghost use Rattle.tune_store.specs.Labels.{labels_of};
 ghost use Rattle.tune_store.specs.Answers.{IsRefusalOfOwn};
 ghost use Rattle.tune_store.specs.Plans.{Decided, CanChangeTo, grows};
+ghost use Rattle.tune_store.specs.Inside.Plans.{Alters};
 
 use crate::catalog::Catalog;
 use crate::command::{Command, Refusal, Reply};
@@ -35,7 +36,9 @@ pub(crate) fn set_new<C: Catalog>(catalog: &C, name: &[u8]) -> Result<Plan, Refu
         → Decided state result (set_new state name.now) }
     ensures names { IfErr result (IsRefusalOfOwn (Command.SetNew name.now)) }
     ensures possible { IfOk result
-        (λ plan. CanChangeTo plan.change (C.layout catalog.now) (C.labels catalog.now) (C.sets catalog.now)) }
+        (λ plan. CanChangeTo plan.change
+        (C.layout catalog.now) (C.labels catalog.now) (C.sets catalog.now)) }
+    ensures alters { IfOk result (λ plan. Alters plan.change (C.labels catalog.now)) }
 {
     let sets = catalog.sets();
     let Some(held) = SetName::new(name) else {
@@ -58,7 +61,9 @@ pub(crate) fn set_add<C: Catalog>(catalog: &C, name: &[u8], number: u32) -> Resu
         → Decided state result (set_add state name.now number) }
     ensures names { IfErr result (IsRefusalOfOwn (Command.SetAdd name.now number)) }
     ensures possible { IfOk result
-        (λ plan. CanChangeTo plan.change (C.layout catalog.now) (C.labels catalog.now) (C.sets catalog.now)) }
+        (λ plan. CanChangeTo plan.change
+        (C.layout catalog.now) (C.labels catalog.now) (C.sets catalog.now)) }
+    ensures alters { IfOk result (λ plan. Alters plan.change (C.labels catalog.now)) }
 {
     if catalog.place_of(number).is_none() {
         return Err(Refusal::Unknown { number });
@@ -79,7 +84,9 @@ pub(crate) fn set_cut<C: Catalog>(catalog: &C, name: &[u8], place: u32) -> Resul
         → Decided state result (set_cut state name.now place) }
     ensures names { IfErr result (IsRefusalOfOwn (Command.SetCut name.now place)) }
     ensures possible { IfOk result
-        (λ plan. CanChangeTo plan.change (C.layout catalog.now) (C.labels catalog.now) (C.sets catalog.now)) }
+        (λ plan. CanChangeTo plan.change
+        (C.layout catalog.now) (C.labels catalog.now) (C.sets catalog.now)) }
+    ensures alters { IfOk result (λ plan. Alters plan.change (C.labels catalog.now)) }
     ensures takes { IfOk result (λ plan. grows plan.change ≡ false) }
 {
     let numbers = catalog.sets().places(name)?;
@@ -97,7 +104,9 @@ pub(crate) fn set_drop<C: Catalog>(catalog: &C, name: &[u8]) -> Result<Plan, Ref
         → Decided state result (set_drop state name.now) }
     ensures names { IfErr result (IsRefusalOfOwn (Command.SetDrop name.now)) }
     ensures possible { IfOk result
-        (λ plan. CanChangeTo plan.change (C.layout catalog.now) (C.labels catalog.now) (C.sets catalog.now)) }
+        (λ plan. CanChangeTo plan.change
+        (C.layout catalog.now) (C.labels catalog.now) (C.sets catalog.now)) }
+    ensures alters { IfOk result (λ plan. Alters plan.change (C.labels catalog.now)) }
     ensures takes { IfOk result (λ plan. grows plan.change ≡ false) }
 {
     let name = held_name(catalog.sets(), name)?;

@@ -12,7 +12,7 @@ ghost use Rattle.tune_store.specs.TuneSteps.{delete_tune, renumber};
 ghost use Rattle.tune_store.specs.Labels.{labels_of};
 ghost use Rattle.tune_store.specs.Answers.{IsRefusalOfOwn};
 ghost use Rattle.tune_store.specs.Plans.{Decided, CanChangeTo, grows};
-ghost use Rattle.tune_store.specs.Inside.Plans.{IsOwnOrMemory};
+ghost use Rattle.tune_store.specs.Inside.Plans.{Alters, IsOwnOrMemory};
 
 use crate::catalog::Catalog;
 use crate::command::{Command, Refusal, Reply};
@@ -30,7 +30,9 @@ pub(crate) fn import<C: Catalog>(alloc: Global, catalog: &C, book: &[u8]) -> Res
         (book_answer (longest_text state.layout) book.now))) }
     ensures names { IfErr result (IsOwnOrMemory (Command.Import book.now)) }
     ensures possible { IfOk result
-        (λ plan. CanChangeTo plan.change (C.layout catalog.now) (C.labels catalog.now) (C.sets catalog.now)) }
+        (λ plan. CanChangeTo plan.change
+        (C.layout catalog.now) (C.labels catalog.now) (C.sets catalog.now)) }
+    ensures alters { IfOk result (λ plan. Alters plan.change (C.labels catalog.now)) }
 {
     let layout = catalog.layout();
     let judged = judge_book(alloc, book, layout.longest_text())?;
@@ -75,11 +77,14 @@ pub(crate) fn replace<C: Catalog>(
 ) -> Result<Plan, Refusal>
     ensures planned { (state : State) → IsTunes state.layout state.tunes
         → C.layout catalog.now ≡ state.layout
-        → labels_of state.tunes ≡ C.labels catalog.now → Decided state result (tunes_step state
-        (replace_book state.tunes number revision (book_answer (longest_text state.layout) book.now))) }
+        → labels_of state.tunes ≡ C.labels catalog.now → Decided state result
+        (tunes_step state (replace_book state.tunes number revision
+        (book_answer (longest_text state.layout) book.now))) }
     ensures names { IfErr result (IsOwnOrMemory (Command.Replace number revision book.now)) }
     ensures possible { IfOk result
-        (λ plan. CanChangeTo plan.change (C.layout catalog.now) (C.labels catalog.now) (C.sets catalog.now)) }
+        (λ plan. CanChangeTo plan.change
+        (C.layout catalog.now) (C.labels catalog.now) (C.sets catalog.now)) }
+    ensures alters { IfOk result (λ plan. Alters plan.change (C.labels catalog.now)) }
 {
     let text = only_text(split_book(alloc, book, catalog.layout().longest_text())?)?;
     replace_text(catalog, number, revision, text)
@@ -111,7 +116,9 @@ fn replace_text<C: Catalog>(
     ensures names { IfErr result (λ refusal.
         (book : List ℕ) → IsOwnOrMemory (Command.Replace number revision book) refusal) }
     ensures possible { IfOk result
-        (λ plan. CanChangeTo plan.change (C.layout catalog.now) (C.labels catalog.now) (C.sets catalog.now)) }
+        (λ plan. CanChangeTo plan.change
+        (C.layout catalog.now) (C.labels catalog.now) (C.sets catalog.now)) }
+    ensures alters { IfOk result (λ plan. Alters plan.change (C.labels catalog.now)) }
 {
     let Some(place) = catalog.place_of(number) else {
         return Err(Refusal::Unknown { number });
@@ -141,7 +148,9 @@ pub(crate) fn delete<C: Catalog>(catalog: &C, number: u32) -> Result<Plan, Refus
         (holder number state.sets) (tune_at number state.tunes))) }
     ensures names { IfErr result (IsRefusalOfOwn (Command.Delete number)) }
     ensures possible { IfOk result
-        (λ plan. CanChangeTo plan.change (C.layout catalog.now) (C.labels catalog.now) (C.sets catalog.now)) }
+        (λ plan. CanChangeTo plan.change
+        (C.layout catalog.now) (C.labels catalog.now) (C.sets catalog.now)) }
+    ensures alters { IfOk result (λ plan. Alters plan.change (C.labels catalog.now)) }
     ensures takes { IfOk result (λ plan. grows plan.change ≡ false) }
 {
     let Some(place) = catalog.place_of(number) else {
@@ -160,7 +169,9 @@ pub(crate) fn renumber<C: Catalog>(catalog: &C, number: u32, to: u32) -> Result<
         → Decided state result (renumber state number to) }
     ensures names { IfErr result (IsRefusalOfOwn (Command.Renumber number to)) }
     ensures possible { IfOk result
-        (λ plan. CanChangeTo plan.change (C.layout catalog.now) (C.labels catalog.now) (C.sets catalog.now)) }
+        (λ plan. CanChangeTo plan.change
+        (C.layout catalog.now) (C.labels catalog.now) (C.sets catalog.now)) }
+    ensures alters { IfOk result (λ plan. Alters plan.change (C.labels catalog.now)) }
     ensures takes { IfOk result (λ plan. grows plan.change ≡ false) }
 {
     if to == 0 || to > GREATEST_NUMBER {

@@ -2,6 +2,7 @@
 ghost use Rattle.std.specs.Prelude.{◌≡◌, ◌≢◌, ◌↔◌, ◌≤◌, ℕ, List, true, false, not, ⊤};
 ghost use Rattle.std.specs.Prelude.{Bool, IfOk, IfErr, IsErrOf};
 ghost use Rattle.tune_store.specs.State.{State, IsState, standing_by};
+ghost use Rattle.tune_store.specs.Step.{step};
 ghost use Rattle.tune_store.specs.Answers.{Answers, IsRefusalOf, passed, stays_open, may_write};
 ghost use Rattle.tune_store.specs.Revisions.{RaisesReplaced};
 ghost use Rattle.tune_store.specs.Stops.{Passes, HasFailed};
@@ -48,7 +49,9 @@ pub trait TuneStore {
     /// more.
     ///
     /// A question leaves the device at the moment at which it was, whatever it is answered, and so
-    /// does a command that is refused, but for `Device`: nothing is written (`quiet`).
+    /// does a command that is refused, but for `Device`: nothing is written (`quiet`). Nor is
+    /// anything written for a command that changes nothing, though it is accepted, as a `Renumber`
+    /// of a tune to its own number (`unchanged`).
     fn apply(&mut self, command: &Command) -> Result<Reply, Refusal>
         ensures answer { honest self.new → Answers (standing_by state closed self.old) command.now
             result (standing_by state closed self.new) }
@@ -65,7 +68,9 @@ pub trait TuneStore {
         ensures cause { honest self.new → IsErrOf result Refusal.Device
             → HasFailed (failures self.old) (failures self.new) }
         ensures quiet { may_write command.now result ≡ false → honest self.new
-            → moment self.new ≡ moment self.old };
+            → moment self.new ≡ moment self.old }
+        ensures unchanged { (step (state self.old) command.now).0 ≡ state self.old
+            → honest self.new → moment self.new ≡ moment self.old };
 
     /// Where the store is open, a stop now leaves its state.
     ghost settled: { (store : Self) (file : List ℕ) → sound store → honest store

@@ -1,5 +1,5 @@
 -- How a change of an archive is made on its pages.
-use Rattle.std.specs.Prelude.{◌≡◌, ◌⊎◌, ◌≤◌, ℕ, true, false, length, Option, Result, MatchResult}
+use Rattle.std.specs.Prelude.{◌≡◌, ◌⊎◌, ◌≤◌, ℕ, Bool, true, false, length, Option, Result, MatchResult}
 use Rattle.tune_disk.specs.Disk.{DiskState}
 use Rattle.tune_disk.specs.Stops.{LeavesOnly, SinceThen}
 use Rattle.tune_journal.specs.Image.{StandsFor, StandsForEither}
@@ -10,17 +10,27 @@ use Rattle.tune_pages.specs.Stand.{Stand}
 use Rattle.tune_pages.specs.declared.fault.Fault.{Fault}
 use Rattle.tune_pages.specs.declared.fault.Fault.TheVariants.{FileFull, OutOfMemory, Device}
 use Rattle.tune_pages.specs.declared.fault.Fault.TheVariants.{Closed}
+use Rattle.tune_store.specs.declared.layout.Layout.TheVariants.{One}
 use Rattle.tune_store.specs.Plans.{changed}
+use Rattle.tune_store.specs.State.{State, IsState}
 use Rattle.tune_store.specs.Stops.{HasFailed}
 use Rattle.tune_store.specs.declared.command.Refusal.{Refusal}
 use Rattle.tune_store.specs.declared.command.Refusal.TheVariants as refusal
 use Rattle.tune_store.specs.declared.plans.Change.{Change}
-use Rattle.tune_contents.specs.Holds.{LaysState}
+use Rattle.tune_contents.specs.Holds.{HoldsContents, LaysState}
 use Rattle.tune_contents.specs.declared.contents.Contents.{Contents}
 use Rattle.tune_archive.specs.Shelf.{Shelf, state_of, StandsForOneOf}
 use Rattle.tune_archive.specs.Inside.Holding.{stand_of}
 
 -- PAGES
+-- They hold a state within the limits, and the one after the change is within them too.
+pub record StaysWithin (s : Stand) (contents : Contents) (change : Change) : Type 0 where
+  pub state : State
+  pub holds : HoldsContents s contents state
+  pub first_layout : state.layout ≡ One
+  pub within : IsState state
+  pub next : IsState (changed change state)
+
 -- The disk as a change leaves it, whatever it answers: honesty is kept backwards, and each failure
 -- of an honest disk is counted.
 pub record CallsWhere {D T : Type 0} (honest : D → Type 0) (failures : D → ℕ)
@@ -60,19 +70,27 @@ pub record StaysKept {D : Type 0} (honest : D → Type 0) (state : D → DiskSta
   pub disk : HonestAt honest new.disk → state_at state new.disk ≡ state_at state old.disk
 
 -- THE ARCHIVE
--- A fault of pages as a refusal.
+-- A fault of pages as a refusal. Pages of an honest disk are never too few for an archive, so full
+-- ones tell of a device that failed.
 abbrev pub refusal_of : Fault → Refusal
-refusal_of FileFull = refusal.FileFull
+refusal_of FileFull = refusal.Device
 refusal_of OutOfMemory = refusal.OutOfMemory
 refusal_of Device = refusal.Device
 refusal_of Closed = refusal.Closed
 
--- A change that was not made: there was no page or no memory for it, and the disk is as it was; or
--- the device failed, so that it was made or was not, and the archive is closed.
+-- whether it closes the archive
+abbrev pub closes : Fault → Bool
+closes FileFull = true
+closes OutOfMemory = false
+closes Device = true
+closes Closed = false
+
+-- A change that was not made: there was no memory for it, and the disk is as it was; or the device
+-- failed, so that it was made or was not, and the archive is closed.
 abbrev pub IsUnmadeChange : {D : Type 0} → (D → Type 0) → (D → ℕ) → (D → DiskState) → Refusal
     → Shelf D → Shelf D → Change → Type 0
 IsUnmadeChange honest failures state why old new change =
-    (((why ≡ refusal.FileFull) ⊎ (why ≡ refusal.OutOfMemory)) × (new.closed ≡ false)
+    ((why ≡ refusal.OutOfMemory) × (new.closed ≡ false)
     × (HonestAt honest new.pages.disk
     → state_at state new.pages.disk ≡ state_at state old.pages.disk))
     ⊎ ((why ≡ refusal.Device) × (new.closed ≡ true)

@@ -1,8 +1,9 @@
 -- What opening has claimed.
 use Rattle.std.specs.Prelude.{◌≡◌, ℕ, ◌<◌, ◌≤◌, List, [], ◌∷◌, ◌++◌, Bool, false, true}
-use Rattle.std.specs.Prelude.{length, replicate}
+use Rattle.std.specs.Prelude.{All, length, replicate}
 use Rattle.std.specs.List.{AllByRecursion}
 use Rattle.abc_fields.specs.Tunes.{IsTextWithin}
+use Rattle.tune_journal.specs.Layout.{block_bytes}
 use Rattle.tune_journal.specs.Pages.{page_at}
 use Rattle.tune_pages.specs.Stand.{marked}
 use Rattle.tune_sets.specs.declared.set_lists.TuneSet.{TuneSet}
@@ -16,6 +17,11 @@ use Rattle.tune_format.specs.Parts.{Part, IsPart, AreParts, root_and_trails}
 use Rattle.tune_format.specs.States.{IsStateOf}
 use Rattle.tune_format.specs.Written.{IsRoot, written_rows, written_text}
 use Rattle.tune_format.specs.declared.rows.Row.{Row}
+use Rattle.tune_contents.specs.Most.{most_tune_pages}
+
+-- each page has the bytes of a block
+abbrev pub AreBlocks : List (List ℕ) → Type 0
+AreBlocks pages = All (λ page. length page ≡ block_bytes) pages
 
 -- These parts stand on the pages, and the root and their pages are what was claimed.
 pub record HasClaimed (pages : List (List ℕ)) (claimed : List Bool) (parts : List Part)
@@ -33,12 +39,14 @@ pub record ClaimsPart (pages : List (List ℕ)) (front : List Part) (now : List 
   pub holds : part.bytes ≡ bytes
   pub only : (other : Part) → IsPart pages other → other.first ≡ first → other ≡ part
 
--- Behind these parts some part stands there that begins at this page, and more parts behind it.
-pub record IsPartThere (pages : List (List ℕ)) (front : List Part) (first : ℕ) : Type 0 where
+-- Behind these parts some part stands there that begins at this page, of at most so many pages, and
+-- more parts behind it.
+pub record IsPartThere (pages : List (List ℕ)) (front : List Part) (first most : ℕ) : Type 0 where
   pub part : Part
   pub more : List Part
   pub are : AreParts pages (front ++ part ∷ more)
   pub is_first : part.first ≡ first
+  pub few : length part.trail ≤ most
 
 -- ONE TUNE
 -- these bytes are a revision and the text of one tune, within the limits
@@ -61,7 +69,7 @@ pub record ClaimsTune (layout : Layout) (pages : List (List ℕ)) (front : List 
 -- Behind these parts some tune of this number stands there, and more parts behind it.
 pub record IsTuneThere (layout : Layout) (pages : List (List ℕ)) (front : List Part) (low number first : ℕ)
     : Type 0 where
-  pub there : IsPartThere pages front first
+  pub there : IsPartThere pages front first (most_tune_pages layout)
   pub revision : ℕ
   pub text : List ℕ
   pub tune : IsTuneChain layout there.part.bytes revision text
@@ -74,6 +82,7 @@ pub record IsTuneThere (layout : Layout) (pages : List (List ℕ)) (front : List
 pub record TunesStand (layout : Layout) (pages : List (List ℕ)) (front : List Part) (low : ℕ) (list : List ℕ)
     (tunes : List Tune) (texts : List Part) : Type 0 where
   pub few_pages : length pages ≤ most_pages_of_archive
+  pub sized : AreBlocks pages
   pub are : AreParts pages (front ++ texts)
   pub hold : HoldTunes texts tunes
   pub listed : list ≡ written_rows (rows_of tunes texts)

@@ -1,6 +1,20 @@
+use Rattle.std.proofs.lemmas.Result.{err_from_is_err_and}
 use Rattle.tune_pages.specs.Work.{stand}
+use Rattle.tune_archive.specs.Inside.Holding.{stand_of}
 use Rattle.tune_archive.proofs.LaidChanges.{passes_laid, has_laid, same_marks}
+use Rattle.tune_archive.proofs.NeverFull.{never_full}
 use Rattle.tune_archive.proofs.changes.change_pages.Goals as goal
+
+pub returns-in_err-left-clause-never_full : goal.returns-in_err-left-clause-never_full
+returns-in_err-left-clause-never_full g c =
+    let p = err_from_is_err_and c.from_residual-in_err-left.result c.from_residual-in_err-left.ensures.1 in
+    let old = c.args.pages.now in
+    let contents = c.args.contents.now in
+    rw (p.1, p.2) (λ h.
+    let was = c.in_err-left.ensures.looks.was_honest h in
+    never_full (stand old c.in_ok-work.work) (stand_of old) contents c.args.change c.in_err-left.field-0.0 c.law_of_state_pages.ensures
+    c.in_ok-work.ensures.stand (c.requires.within was) c.requires.many (c.limit-limit.ensures.sized c.requires.open was)
+    (c.in_err-left.ensures.full h c.requires.rows))
 
 pub returns-in_err-finish-clause-moments : goal.returns-in_err-finish-clause-moments
 returns-in_err-finish-clause-moments g c = λ h.

@@ -2,7 +2,8 @@ use Rattle.std.proofs.Common.{◌∙◌, ◌≤◌, List, length, refl, subst, s
 use Rattle.tune_store.specs.Limits.{most_tunes}
 use Rattle.std.proofs.lemmas.Result.{err_from_is_err_and}
 use Rattle.tune_sets.specs.Sets.{AreSetLists}
-use Rattle.tune_contents.proofs.StatePages.{lists_count}
+use Rattle.tune_contents.proofs.ChangePages.{change_count, sets_after}
+use Rattle.tune_contents.proofs.StatePages.{list_count, sets_count}
 use Rattle.tune_pages.specs.Work.{stand}
 use Rattle.tune_format.specs.declared.rows.Row.{Row}
 use Rattle.tune_contents.specs.declared.contents.Contents.{Contents}
@@ -51,16 +52,27 @@ returns-clause-rows g c =
     let same = c.in_ok-rows.ensures.rows ∙ c.deref.ensures.value in
     (subst (λ (rows : List Row). KeepsRows c.args.change rows left) same c.in_ok-lay_tunes.ensures.rows) old.layout old.sets c.requires.possible
 
+pub returns-in_err-lay_tunes-clause-full : goal.returns-in_err-lay_tunes-clause-full
+returns-in_err-lay_tunes-clause-full g c =
+    let p = err_from_is_err_and c.from_residual-in_err-lay_tunes.result c.from_residual-in_err-lay_tunes.ensures.1 in
+    let s = stand c.args.pages.now c.args.work.now in
+    λ h rows state holds is.
+    (let most = change_count s c.args.contents.now c.args.change state holds c.requires.possible is in
+    let takes = c.in_err-lay_tunes.ensures.takes h in
+    rw (p.1, p.2) (λ e. (let lt = takes e in omega (arith, lt, most))))
+
 pub returns-in_err-nexts-clause-full : goal.returns-in_err-nexts-clause-full
 returns-in_err-nexts-clause-full g c =
     let p = err_from_is_err_and c.from_residual-in_err-nexts.result c.from_residual-in_err-nexts.ensures.1 in
+    let s = stand c.args.pages.now c.args.work.now in
     let old = c.args.contents.now in
     let left = c.lay_tunes.new.rows.items in
     let same = c.in_ok-rows.ensures.rows ∙ c.deref.ensures.value in
-    λ h first rows sets.
+    λ h rows state holds is.
     (let kept = (subst (λ (r : List Row). KeepsRows c.args.change r left) same c.in_ok-lay_tunes.ensures.rows) old.layout old.sets c.requires.possible rows in
-    let are = subst AreSetLists (sym c.in_ok-sets.ensures.sets) sets in
-    let lists = lists_count left c.in_ok-sets.sets (subst (λ layout. length left ≤ most_tunes layout) first kept.few) are in
+    let list = list_count old.layout left kept.few in
+    let sets = sets_count c.in_ok-sets.sets (subst AreSetLists (sym c.in_ok-sets.ensures.sets) (sets_after s old c.args.change state holds is)) in
+    let most = change_count s old c.args.change state holds c.requires.possible is in
     let tunes = c.in_ok-lay_tunes.ensures.takes (c.in_err-nexts.ensures.looks.was_honest h) in
     let takes = rw c.deref-2.ensures.value at c.in_err-nexts.ensures.takes h in
-    rw (p.1, p.2) (λ e. (let lt = takes e in omega (arith, lt, tunes, lists))))
+    rw (p.1, p.2) (λ e. (let lt = takes e in omega (arith, lt, tunes, list, sets, most))))

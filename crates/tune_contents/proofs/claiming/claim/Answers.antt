@@ -1,7 +1,8 @@
-use Rattle.std.proofs.Common.{sym, ◌∙◌, subst}
+use Rattle.std.proofs.Common.{refl, sym, ◌∙◌, subst}
 use Rattle.std.proofs.lemmas.Result.{err_from_is_err_and}
 use Rattle.tune_pages.specs.Claim.{IsChainFault}
 use Rattle.tune_pages.specs.declared.fault.ClaimFault.{ClaimFault}
+use Rattle.tune_store.specs.declared.layout.Layout.TheVariants.{One}
 use Rattle.tune_contents.specs.Inside.Claiming.{IsStateThere}
 use Rattle.tune_contents.specs.Inside.ClaimedRows.{NameRows}
 use Rattle.tune_contents.proofs.ListLemmas.{tunes_fault, lists_as, named_as, sets_named, state_claimed}
@@ -15,7 +16,7 @@ returns-in_err-rows-clause-damaged g c =
     rw p.1 (λ h.
     let one = call.looks.was_honest h in
     subst (λ (f : ClaimFault). IsChainFault f (IsStateThere c.args.opening.now.pages)) (sym p.2)
-    (tunes_fault c.in_err-rows.field-0.0 _ _ _ _ _ _ _ (lists.looks.same_pages one)
+    (tunes_fault One refl c.in_err-rows.field-0.0 _ _ _ _ _ _ _ (lists.looks.same_pages one) (c.count-count.ensures.sized (lists.looks.was_honest one))
     (λ some. lists_as _ _ _ _ _ _ _ c.deref.ensures.value (lists.claims one some)) (call.damaged h)))
 
 pub returns-in_err-sets-clause-damaged : goal.returns-in_err-sets-clause-damaged
@@ -36,5 +37,5 @@ returns-clause-claimed g c = λ h some.
     let rows = c.in_ok-rows.ensures in
     let lists = c.in_ok-list_first.ensures in
     let one = rows.looks.was_honest h in
-    state_claimed _ _ _ _ _ _ _ _ _ _ (lists.looks.same_pages one) (lists.claims one some) rows.rows (sym c.deref.ensures.value ∙ rows.claimed.0)
+    state_claimed One refl _ _ _ _ _ _ _ _ _ _ (lists.looks.same_pages one) (lists.claims one some) rows.rows (sym c.deref.ensures.value ∙ rows.claimed.0)
     (sets.same.0 ∙ c.deref-3.ensures.value) sets.same.1 (subst (λ r. NameRows r c.in_ok-sets.sets) c.deref-2.ensures.value sets.named) (rows.claimed.1 h)

@@ -1,8 +1,11 @@
-use Rattle.std.proofs.Common.{ℕ, List, sym, subst}
+use Rattle.std.proofs.Common.{◌≡◌, ℕ, ◌+◌, List, ap, ◌∙◌, sym, subst}
 use Rattle.std.proofs.lemmas.Result.{err_from_is_err_and}
 use Rattle.tune_pages.specs.Claim.{IsChainFault}
 use Rattle.tune_pages.specs.declared.fault.ClaimFault.{ClaimFault}
 use Rattle.tune_pages.proofs.Claiming.{fault_as}
+use Rattle.tune_pages.specs.Faults.{pages_for}
+use Rattle.tune_format.specs.Layout.{revision_bytes}
+use Rattle.tune_contents.specs.Most.{most_tune_pages}
 use Rattle.tune_contents.specs.Inside.Claiming.{IsTuneChain, IsTuneThere}
 use Rattle.tune_contents.proofs.ClaimLemmas.{tune_claimed}
 use Rattle.tune_contents.proofs.claiming.claim_tune.Goals as goal
@@ -10,9 +13,11 @@ use Rattle.tune_contents.proofs.claiming.claim_tune.Goals as goal
 pub returns-in_err-bytes-clause-damaged : goal.returns-in_err-bytes-clause-damaged
 returns-in_err-bytes-clause-damaged g c =
     let p = err_from_is_err_and c.from_residual.result c.from_residual.ensures.1 in
+    let most : c.pages_for-most.result ≡ most_tune_pages c.args.layout =
+    c.pages_for-most.ensures ∙ ap (λ (n : ℕ). pages_for (n + revision_bytes)) c.longest_text.ensures.longest in
     rw p.1 (λ h front has. subst (λ (f : ClaimFault). IsChainFault f (IsTuneThere c.args.layout c.args.opening.now.pages front c.args.low c.args.number c.args.first))
     (sym p.2)
-    (fault_as c.in_err-bytes.field-0.0 _ _ (λ is. is.there) (c.in_err-bytes.ensures.damaged h front has)))
+    (fault_as c.in_err-bytes.field-0.0 _ _ (λ is. is.there) (rw most at c.in_err-bytes.ensures.damaged h front has)))
 
 pub returns-in_err-revision-clause-damaged : goal.returns-in_err-revision-clause-damaged
 returns-in_err-revision-clause-damaged g c =

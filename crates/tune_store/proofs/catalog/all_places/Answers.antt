@@ -1,5 +1,4 @@
-use Rattle.std.proofs.Common.{◌≡◌, ◌∙◌, ap, sym, ◌++◌, [], ◌∷◌, ◌+◌, add-one, arith}
-use Rattle.std.specs.List.{range_with_len}
+use Rattle.std.proofs.Common.{◌≡◌, ◌+◌, add-one, arith}
 use Rattle.tune_store.proofs.CandidateLemmas.{range_next}
 use Rattle.tune_store.proofs.catalog.all_places.Goals as goal
 

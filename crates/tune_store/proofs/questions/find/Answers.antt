@@ -1,4 +1,4 @@
-use Rattle.std.proofs.Common.{◌≡◌, ◌<◌, ◌≤◌, inl, inr, Bool, cond, subst, false, [], length, get_or, refl, sym, ap, ◌∙◌, drop, arith, append-nil}
+use Rattle.std.proofs.Common.{◌≡◌, inl, inr, Bool, cond, subst, false, [], length, refl, sym, ap, ◌∙◌, drop, arith, append-nil}
 use Rattle.std.proofs.lemmas.Bool.{cases_Bool}
 use Rattle.tune_queries.specs.Queries.{is_bad}
 use Rattle.tune_store.specs.Questions.{found}
@@ -66,5 +66,8 @@ returns-clause-planned g c = λ honest.
     let none : drop c.loop-place.place-index places ≡ [] = drop_of_length-le places c.loop-place-test.false in
     let rows = rw none at (c.loop-place.invariant.rows honest) in
     let is : c.loop-place.rows.items ≡ found c.notes-notes.result query tunes = sym (append-nil c.loop-place.rows.items) ∙ rows ∙ sym all in
-    let good : is_bad query ≡ false = elim (cases_Bool (is_bad query)) [ inl bad ↦ absurd (subst (λ (b : Bool). cond b ⊥ (Unit {0})) (c.in_ok-sought.ensures.bad.1 bad) tt) | inr other ↦ other ] in
+    let good : is_bad query ≡ false = elim (cases_Bool (is_bad query)) [
+      | inl bad ↦ absurd (subst (λ (b : Bool). cond b ⊥ (Unit {0})) (c.in_ok-sought.ensures.bad.1 bad) tt)
+      | inr other ↦ other
+    ] in
     rw (c.answer.ensures.change, c.answer.ensures.reply, c.from_vec.ensures, is, ← own, good) refl

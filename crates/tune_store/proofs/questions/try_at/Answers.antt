@@ -1,4 +1,4 @@
-use Rattle.std.proofs.Common.{◌≡◌, ◌<◌, length, get_or, sym, ap, ◌∙◌}
+use Rattle.std.proofs.Common.{◌≡◌, get_or, sym, ap, ◌∙◌}
 use Rattle.tune_store.specs.State.{State}
 use Rattle.tune_store.specs.Labels.{labels_of}
 use Rattle.tune_store.specs.declared.catalog.Label.{Label}

@@ -4,6 +4,7 @@ use Rattle.tune_store.specs.Limits.{longest_text, most_tunes, greatest_number}
 use Rattle.tune_store.specs.State.{greatest}
 use Rattle.tune_store.specs.TuneSteps.{tunes_step}
 use Rattle.tune_store.proofs.PlanLemmas.{labels_long, import_adds}
+use Rattle.tune_store.proofs.ChangeLemmas.{some_texts}
 use Rattle.tune_store.proofs.tune_plans.import.Goals as goal
 
 pub returns-clause-planned : goal.returns-clause-planned
@@ -35,3 +36,8 @@ returns-clause-possible g c =
       c.last_number-greatest.ensures.above,
       omega arith,
     )
+
+pub returns-clause-alters : goal.returns-clause-alters
+returns-clause-alters g c =
+    let some = some_texts _ c.args.book.now c.in_ok-judged.judged c.in_ok-judged.ensures.texts in
+    rw c.change.ensures.change (omega (arith, ap length c.in_ok-texts.ensures, c.in_ok-texts.texts.ok.0))

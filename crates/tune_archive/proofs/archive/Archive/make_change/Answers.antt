@@ -1,7 +1,11 @@
 use Rattle.std.proofs.Common.{None, refl}
 use Rattle.tune_archive.specs.Shelf.{Shelf}
-use Rattle.tune_archive.proofs.MadeChanges.{made_shelf, made, kept_shelf, unmade}
+use Rattle.tune_archive.proofs.MadeChanges.{stays_within, made_shelf, made, kept_shelf, unmade}
 use Rattle.tune_archive.proofs.archive.Archive.make_change.Goals as goal
+
+pub change_pages-requires-clause-within : goal.change_pages-requires-clause-within
+change_pages-requires-clause-within g c =
+    stays_within g.D.Disk.honest g.D.Disk.state _ c.args.self.now c.self.view_is c.self.invariant c.requires.open c.args.change c.requires.within
 
 pub invariant_of-self : goal.invariant_of-self
 invariant_of-self g c =
@@ -22,11 +26,11 @@ invariant_of-self-in-Err g c =
       pages = c.change_pages.new.pages;
       contents = c.self.inside.contents;
       fetched = None;
-      closed = c.eq-self-inside.result;
+      closed = c.closes-self-inside.result;
     } in
     let done = c.in-Err.ensures in
     kept_shelf g.D.Disk.honest g.D.Disk.failures g.D.Disk.state g.met.D.Disk.seen_may_stay _ c.args.self.now c.self.view_is c.self.invariant c.requires.open
-    c.args.change c.requires.within new done.moments c.in-Err.fault done.calls c.eq-self-inside.ensures done.answer done.stays
+    c.args.change c.requires.within new done.moments c.in-Err.fault done.calls c.closes-self-inside.ensures done.answer done.stays done.never_full
 
 pub returns-in-Ok : goal.returns-in-Ok
 returns-in-Ok g c =
@@ -47,9 +51,9 @@ returns-in-Err g c =
       pages = c.change_pages.new.pages;
       contents = c.self.inside.contents;
       fetched = None;
-      closed = c.eq-self-inside.result;
+      closed = c.closes-self-inside.result;
     } in
     let done = c.in-Err.ensures in
     unmade g.D.Disk.honest g.D.Disk.failures g.D.Disk.state g.met.D.Disk.seen_may_stay _ c.args.self.now c.self.view_is c.self.invariant c.requires.open
-    c.args.change c.requires.within new done.moments c.in-Err.fault done.calls c.eq-self-inside.ensures done.answer done.stays c.refusal_of.result
-    c.refusal_of.ensures
+    c.args.change c.requires.within new done.moments c.in-Err.fault done.calls c.closes-self-inside.ensures done.answer done.stays done.never_full
+    c.refusal_of.result c.refusal_of.ensures

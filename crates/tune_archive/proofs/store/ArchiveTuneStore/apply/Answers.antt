@@ -4,7 +4,7 @@ use Rattle.tune_archive.specs.Shelf.{state_of}
 use Rattle.tune_store.specs.Plans.{changed, after}
 use Rattle.tune_store.specs.Step.{step}
 use Rattle.tune_archive.proofs.Called.{Holds, Ended, answers_closed, passes, ended_refused, ended_unmade, ended_changed, ended_answered, stays_within}
-use Rattle.tune_archive.proofs.Called.{decided, no_question, stays_at}
+use Rattle.tune_archive.proofs.Called.{decided, alters, no_question, stays_at, stays_where}
 use Rattle.tune_store.proofs.RevisionLemmas.{raised_where}
 use Rattle.std.specs.Prelude.{⊤}
 use Rattle.tune_archive.proofs.store.ArchiveTuneStore.apply.Goals as goal
@@ -34,6 +34,9 @@ pub returns-in_err-change-clause-quiet : goal.returns-in_err-change-clause-quiet
 returns-in_err-change-clause-quiet g c =
     let answer : c.from_residual.result ≡ Err c.in_err-change.field-0.0 = search rules in
     rw answer (stays_at g.D.Disk.honest g.D.Disk.failures g.D.Disk.state _ _ _ _ (refused g c))
+
+pub returns-in_err-change-clause-unchanged : goal.returns-in_err-change-clause-unchanged
+returns-in_err-change-clause-unchanged g c = stays_where g.D.Disk.honest g.D.Disk.failures g.D.Disk.state _ _ _ _ (refused g c)
 
 -- WHERE A CHANGE IS ASKED FOR
 pub make_change-made-requires-clause-within : goal.make_change-made-requires-clause-within
@@ -67,7 +70,9 @@ unmade g c =
     c.holds.ensures is_open c.in_ok-change.ensures.fetched c.in_ok-change.ensures.decided h) in
     ended_unmade g.D.Disk.honest g.D.Disk.failures g.D.Disk.state c.args.self.now c.decide-decided.new.catalog c.make_change-made.new.self
     c.args.command.now c.in-Some.change plan.reply c.in_err-made.field-0.0 is_open
-    (no_question _ _ c.in-Some.change c.in_ok-change.ensures.asks c.in-Some.is) c.in_ok-change.ensures.fetched steps c.in_err-made.ensures
+    (no_question _ _ c.in-Some.change c.in_ok-change.ensures.asks c.in-Some.is)
+    (alters g.D.Disk.honest g.D.Disk.failures g.D.Disk.state c.args.self.now c.decide-decided.new.catalog c.args.command.now _ c.in-Some.change was
+    c.holds.ensures is_open c.in_ok-change.ensures.fetched c.in_ok-change.ensures.changes c.in-Some.is) c.in_ok-change.ensures.fetched steps c.in_err-made.ensures
 
 pub returns-in_err-made-clause-answer : goal.returns-in_err-made-clause-answer
 returns-in_err-made-clause-answer g c =
@@ -78,6 +83,9 @@ pub returns-in_err-made-clause-quiet : goal.returns-in_err-made-clause-quiet
 returns-in_err-made-clause-quiet g c =
     let answer : c.from_residual-in_err-made.result ≡ Err c.in_err-made.field-0.0 = search rules in
     rw answer (stays_at g.D.Disk.honest g.D.Disk.failures g.D.Disk.state _ _ _ _ (unmade g c))
+
+pub returns-in_err-made-clause-unchanged : goal.returns-in_err-made-clause-unchanged
+returns-in_err-made-clause-unchanged g c = stays_where g.D.Disk.honest g.D.Disk.failures g.D.Disk.state _ _ _ _ (unmade g c)
 
 pub returns-in_err-made-clause-stops : goal.returns-in_err-made-clause-stops
 returns-in_err-made-clause-stops g c =
@@ -108,7 +116,9 @@ well g c =
       | in-Some+in_ok-made w ↦ record {
         ended = subst (λ one. Ended honest failures state c.args.self.now one c.args.command.now (Ok plan.reply)) (sym w.self-is)
             (ended_changed honest failures state c.args.self.now c.decide-decided.new.catalog w.make_change-made.new.self c.args.command.now
-            w.in-Some.change plan.reply is_open (no_question _ _ w.in-Some.change c.in_ok-change.ensures.asks w.in-Some.is) fetched
+            w.in-Some.change plan.reply is_open (no_question _ _ w.in-Some.change c.in_ok-change.ensures.asks w.in-Some.is)
+            (alters honest failures state c.args.self.now c.decide-decided.new.catalog c.args.command.now _ w.in-Some.change was c.holds.ensures is_open
+            fetched c.in_ok-change.ensures.changes w.in-Some.is) fetched
             (λ h. subst (λ one. step old c.args.command.now ≡ (after one old, Ok plan.reply)) w.in-Some.is (planned h)) w.in_ok-made.ensures);
         holds = subst (Holds honest failures state) (sym w.self-is) w.holds-in-Some.ensures;
       }
@@ -131,3 +141,6 @@ returns-clause-stops g c = passes g.D.Disk.honest g.D.Disk.failures g.D.Disk.sta
 
 pub returns-clause-quiet : goal.returns-clause-quiet
 returns-clause-quiet g c = stays_at g.D.Disk.honest g.D.Disk.failures g.D.Disk.state _ _ _ _ (well g c).ended
+
+pub returns-clause-unchanged : goal.returns-clause-unchanged
+returns-clause-unchanged g c = stays_where g.D.Disk.honest g.D.Disk.failures g.D.Disk.state _ _ _ _ (well g c).ended

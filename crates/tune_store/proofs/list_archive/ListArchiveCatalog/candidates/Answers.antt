@@ -1,5 +1,4 @@
-use Rattle.std.proofs.Common.{◌≡◌, ◌+◌, ◌<◌, ◌≤◌, refl, ◌∙◌, length, ap, arith}
-use Rattle.std.specs.List.{range_with_len}
+use Rattle.std.proofs.Common.{◌≡◌, ◌+◌, ◌<◌, ◌≤◌, refl, length, ap, arith}
 use Rattle.tune_store.proofs.PlanLemmas.{labels_long}
 use Rattle.tune_store.proofs.CandidateLemmas.{range_rises, range_has}
 use Rattle.tune_store.specs.State.{State}
@@ -13,5 +12,10 @@ returns c =
     let items = c.in_ok-all_places.ensures in
     let many = labels_long tunes (labels_of tunes) refl in
     let whole : count ≡ length tunes = omega (arith, c.len.ensures, c.self.inside.tunes.ok.0, ap (λ (s : State). length s.tunes) c.self.view_is) in
-    let fits : 0 + count ≤ length (labels_of tunes) = omega (arith, many, whole) in
-    (refl, rw items (range_rises 0 count _ fits), λ honest place d l found. let in_range : place < count = omega (arith, l, whole) in rw items (range_has count place in_range))
+    let fits : 0 + count ≤ length (labels_of tunes) = omega (arith, many, whole) in (
+      refl,
+      rw items (range_rises 0 count _ fits),
+      λ honest place d l found.
+          let in_range : place < count = omega (arith, l, whole) in
+          rw items (range_has count place in_range),
+    )

@@ -27,19 +27,23 @@ returns-in_err-plan-clause-room c =
 held : (c : goal.After-carry_out) → IsState c.args.self.now
 held c = subst IsState c.self.view_is c.self.invariant
 
+-- what it holds then
+abbrev new_state : goal.After-carry_out → State
+new_state c = state_with c.self-2.inside.layout c.carry_out.new.tunes.items c.carry_out.new.sets
+
 -- a plan for the state that was there
 carried : (c : goal.After-carry_out)
-    → CarriedOut c.args.self.now c.in_ok-plan.plan c.carry_out.result (state_with c.self-2.inside.layout c.carry_out.new.tunes.items c.carry_out.new.sets)
+    → CarriedOut c.args.self.now c.in_ok-plan.plan c.carry_out.result (new_state c)
 carried c =
-    let same : state_with c.self-2.inside.layout c.self-2.inside.tunes.items c.self-2.inside.sets ≡ c.args.self.now = c.self-2.view_is ∙ c.in_ok-plan.ensures.fetched in
-    let new : State = state_with c.self-2.inside.layout c.carry_out.new.tunes.items c.carry_out.new.sets in
-    let P : State → Type 0 = λ state. CarriedOut state c.in_ok-plan.plan c.carry_out.result new in
-    subst P same c.carry_out.ensures
+    let old : State = state_with c.self-2.inside.layout c.self-2.inside.tunes.items c.self-2.inside.sets in
+    let same : old ≡ c.args.self.now = c.self-2.view_is ∙ c.in_ok-plan.ensures.fetched in
+    let P : State → Type 0 = λ state. CarriedOut state c.in_ok-plan.plan c.carry_out.result (new_state c) in
+    subst P same (c.carry_out.ensures c.self-2.inside.layout)
 
 planned : (c : goal.After-carry_out)
-    → Answers (open_at c.args.self.now) c.args.command.now c.carry_out.result (open_at (state_with c.self-2.inside.layout c.carry_out.new.tunes.items c.carry_out.new.sets))
+    → Answers (open_at c.args.self.now) c.args.command.now c.carry_out.result (open_at (new_state c))
 planned c =
-    list_planned c.args.self.now (state_with c.self-2.inside.layout c.carry_out.new.tunes.items c.carry_out.new.sets) c.args.command.now c.in_ok-plan.plan c.carry_out.result
+    list_planned c.args.self.now (new_state c) c.args.command.now c.in_ok-plan.plan c.carry_out.result
     (c.in_ok-plan.ensures.decided tt (held c)) (carried c)
 
 pub invariant_of-self : goal.invariant_of-self

@@ -1,0 +1,73 @@
+-- How many pages a change takes that leads to a state within the limits.
+use Rattle.std.proofs.Common.{◌≡◌, ℕ, zero, suc, ◌+◌, ◌*◌, ◌<◌, ◌≤◌, List, [], ◌∷◌, length, slice_set, ap, sym, subst, ◌∙◌, arith, length-append}
+use Rattle.std.specs.List.{AllByRecursion}
+use Rattle.std.proofs.lemmas.List.{length-set}
+use Rattle.tune_pages.specs.Stand.{Stand}
+use Rattle.tune_sets.specs.Sets.{AreSetLists}
+use Rattle.tune_store.specs.Limits.{most_tunes}
+use Rattle.tune_store.specs.Plans.{changed, changed_sets, CanChange}
+use Rattle.tune_store.specs.State.{State, IsState, IsTune}
+use Rattle.tune_store.specs.declared.layout.Layout.{Layout}
+use Rattle.tune_store.specs.TuneSteps.{numbered}
+use Rattle.tune_store.specs.declared.tune.Tune.{Tune}
+use Rattle.tune_store.specs.declared.plans.Change.{Change}
+use Rattle.tune_store.specs.declared.plans.Change.TheVariants.{Add, Put, Take, Move, NewSet}
+use Rattle.tune_store.specs.declared.plans.Change.TheVariants.{AddPlace, CutPlace, DropSet}
+use Rattle.tune_store.proofs.StateLemmas.{length-numbered}
+use Rattle.tune_format.specs.declared.rows.Row.{Row}
+use Rattle.tune_format.proofs.Once.{all_right}
+use Rattle.tune_format.proofs.TextLemmas.{rows_count}
+use Rattle.tune_contents.specs.Holds.{labels_in, HoldsContents}
+use Rattle.tune_contents.specs.Most.{most_tune_pages}
+use Rattle.tune_contents.specs.declared.contents.Contents.{Contents}
+use Rattle.tune_contents.specs.Inside.Changes.{RowsAccept}
+use Rattle.tune_contents.specs.Inside.Takes.{text_pages, change_pages}
+use Rattle.tune_contents.proofs.ContentsLemmas.{rows_accept}
+use Rattle.tune_contents.proofs.StatePages.{text_count, times_count}
+
+texts_count : (layout : Layout) (first : ℕ) (texts : List (List ℕ)) → AllByRecursion (IsTune layout) (numbered first texts)
+    → text_pages texts ≤ most_tune_pages layout * length texts
+texts_count layout first [] are = omega arith
+texts_count layout first (text ∷ texts) are =
+    let here = text_count layout text are.0.fits in
+    let more = texts_count layout (first + 1) texts are.1 in
+    omega (arith, here, more)
+
+-- the tune that was put at a place is one of the tunes then
+put_there : (layout : Layout) (tunes : List Tune) (place : ℕ) (tune : Tune) → place < length tunes
+    → AllByRecursion (IsTune layout) (slice_set tunes place tune) → IsTune layout tune
+put_there layout [] place tune lt are = absurd (omega (arith, lt))
+put_there layout (one ∷ tunes) zero tune lt are = are.0
+put_there layout (one ∷ tunes) (suc place) tune lt are = put_there layout tunes place tune (omega (arith, lt)) are.1
+
+tunes_count : (change : Change) (state : State) (rows : List Row) → length rows ≡ length state.tunes → RowsAccept change rows
+    → IsState (changed change state) → change_pages change ≤ most_tunes state.layout * most_tune_pages state.layout
+tunes_count (Add first texts) state rows same accept is =
+    let all = texts_count state.layout first texts.items (all_right (IsTune state.layout) state.tunes (numbered first texts.items) is.tunes.each) in
+    let few = is.tunes.count in
+    times_count _ (length texts.items) _ _ all (omega (arith, few, length-append state.tunes (numbered first texts.items), length-numbered first texts.items))
+tunes_count (Put place tune) state rows same accept is =
+    let its = put_there state.layout state.tunes place tune (omega (arith, accept, same)) is.tunes.each in
+    let pages = text_count state.layout tune.text its.fits in
+    let some : length (slice_set state.tunes place tune) ≡ length state.tunes = length-set state.tunes place tune in
+    times_count _ 1 _ _ (omega (arith, pages)) (omega (arith, some, accept, same, is.tunes.count))
+tunes_count (Take place) state rows same accept is = omega arith
+tunes_count (Move number to) state rows same accept is = omega arith
+tunes_count (NewSet name) state rows same accept is = omega arith
+tunes_count (AddPlace name number) state rows same accept is = omega arith
+tunes_count (CutPlace name place) state rows same accept is = omega arith
+tunes_count (DropSet name) state rows same accept is = omega arith
+
+-- Where it leads to a state within the limits, a change puts no more pages of tunes than such a state has.
+pub change_count : (s : Stand) (contents : Contents) (change : Change) (state : State) → HoldsContents s contents state
+    → CanChange change contents.layout (labels_in contents.rows.items) contents.sets → IsState (changed change state) → change_pages change ≤ most_tunes contents.layout * most_tune_pages contents.layout
+change_count s contents change state holds can is =
+    subst (λ layout. change_pages change ≤ most_tunes layout * most_tune_pages layout) (sym holds.layout)
+    (tunes_count change state contents.rows.items
+    (ap (λ (rows : List Row). length rows) holds.listed ∙ rows_count state.tunes holds.filed.texts holds.filed.are_tunes)
+    (rows_accept contents.layout change contents.rows.items contents.sets can) is)
+
+-- and its set lists are within the limits
+pub sets_after : (s : Stand) (contents : Contents) (change : Change) (state : State) → HoldsContents s contents state → IsState (changed change state)
+    → AreSetLists (changed_sets change contents.sets)
+sets_after s contents change state holds is = rw holds.sets is.sets
