@@ -60,7 +60,8 @@ tunes_count (DropSet name) state rows same accept is = omega arith
 
 -- Where it leads to a state within the limits, a change puts no more pages of tunes than such a state has.
 pub change_count : (s : Stand) (contents : Contents) (change : Change) (state : State) → HoldsContents s contents state
-    → CanChange change contents.layout (labels_in contents.rows.items) contents.sets → IsState (changed change state) → change_pages change ≤ most_tunes contents.layout * most_tune_pages contents.layout
+    → CanChange change contents.layout (labels_in contents.rows.items) contents.sets → IsState (changed change state)
+    → change_pages change ≤ most_tunes contents.layout * most_tune_pages contents.layout
 change_count s contents change state holds can is =
     subst (λ layout. change_pages change ≤ most_tunes layout * most_tune_pages layout) (sym holds.layout)
     (tunes_count change state contents.rows.items
