@@ -21,7 +21,7 @@ use Rattle.tune_contents.specs.Holds.{labels_in, HoldsContents}
 use Rattle.tune_contents.specs.Most.{most_tune_pages}
 use Rattle.tune_contents.specs.declared.contents.Contents.{Contents}
 use Rattle.tune_contents.specs.Inside.Changes.{RowsAccept}
-use Rattle.tune_contents.specs.Inside.Takes.{text_pages, change_pages}
+use Rattle.tune_contents.specs.Takes.{text_pages, change_pages}
 use Rattle.tune_contents.proofs.ContentsLemmas.{rows_accept}
 use Rattle.tune_contents.proofs.StatePages.{text_count, times_count}
 
