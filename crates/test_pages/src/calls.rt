@@ -30,7 +30,7 @@ pub(crate) enum OpeningCall {
     Root,
     ClaimPage(u32),
     ClaimChain(u32),
-    ClaimChainWithin(u32, u32),
+    ClaimChainWithin(u32, usize),
     Count,
     Done(u32),
 }
@@ -96,7 +96,7 @@ impl OpeningCall {
             "claim-chain" => Some(OpeningCall::ClaimChain(page(rest, at)?)),
             "claim-chain-within" => {
                 let (first, most) = rest.split_once(' ')?;
-                Some(OpeningCall::ClaimChainWithin(page(first, at)?, page(most, at)?))
+                Some(OpeningCall::ClaimChainWithin(page(first, at)?, most.parse().ok()?))
             }
             "count" => Some(OpeningCall::Count),
             "done" => Some(OpeningCall::Done(page(rest, at)?)),

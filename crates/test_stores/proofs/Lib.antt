@@ -1,2 +1,3 @@
 pub mod RecordLemmas
 pub mod MarkLemmas
+pub mod KeptLemmas

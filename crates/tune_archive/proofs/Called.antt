@@ -107,7 +107,8 @@ module _ {D : Type 0} (honest : D → Type 0) (failures : D → ℕ) (state : D 
     pub answers : HonestAt honest new.pages.disk
         → Answers (record { state = state_of state old; closed = old.closed }) command answer (record { state = state_of state new; closed = new.closed })
     pub moves : HonestAt honest new.pages.disk → (state_at state new.pages.disk ≡ state_at state old.pages.disk)
-        ⊎ ((may_write command answer ≡ true) × ((step (state_of state old) command).0 ≢ state_of state old) × SinceThen (state_at state old.pages.disk) (state_at state new.pages.disk)
+        ⊎ ((may_write command answer ≡ true) × ((step (state_of state old) command).0 ≢ state_of state old)
+        × SinceThen (state_at state old.pages.disk) (state_at state new.pages.disk)
         (StandsForOne StandsForState (state_of state old ∷ passed (state_of state old) command answer)))
 
   -- what may not have written left the disk at its moment

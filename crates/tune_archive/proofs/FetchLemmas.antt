@@ -92,7 +92,8 @@ text_there s contents state place first d e holds within l is =
     let its_tune : get_or tunes place e ≡ at.tune = ap (λ (ts : List Tune). get_or ts place e) at.are_tunes
     ∙ ap (λ (n : ℕ). get_or (at.front ++ at.tune ∷ at.back) n e) (sym at.is_place) ∙ get_or-append_seam at.front at.tune at.back e in
     let known : IsTunes contents.layout tunes = subst (λ layout. IsTunes layout tunes) (sym holds.layout) within.tunes in
-    let each : AllByRecursion (IsTune contents.layout) (at.front ++ at.tune ∷ at.back) = subst (AllByRecursion (IsTune contents.layout)) at.are_tunes known.each in
+    let each : AllByRecursion (IsTune contents.layout) (at.front ++ at.tune ∷ at.back) = subst
+    (AllByRecursion (IsTune contents.layout)) at.are_tunes known.each in
     let good = middle (IsTune contents.layout) at.front at.tune at.back each in
     let bound = good.revision in
     let its_first : first ≡ at.part.first = is ∙ ap (λ (r : Row). r.first) its_row in
@@ -131,7 +132,8 @@ text_read layout text Honest s mid first bytes (Ok t) read same ok = λ honest r
 abbrev NoText : Layout → List ℕ → Type 0
 NoText layout bytes = (revision : ℕ) (other : List ℕ) → IsTextOf layout bytes revision other → ⊥
 
-no_text : (layout : Layout) (Honest : Type 0) (s mid : Stand) (first : ℕ) (bytes : List ℕ) → (Honest → (trail all : List ℕ) → HasChain mid first trail all → bytes ≡ all)
+no_text : (layout : Layout) (Honest : Type 0) (s mid : Stand) (first : ℕ) (bytes : List ℕ)
+    → (Honest → (trail all : List ℕ) → HasChain mid first trail all → bytes ≡ all)
     → mid ≡ s → NoText layout bytes → Honest → HoldsSomeText layout s first → ⊥
 no_text layout Honest s mid first bytes read same none h (revision, other, holds) =
     let has : HasChain mid first holds.trail holds.bytes = subst (λ (m : Stand). HasChain m first holds.trail holds.bytes) (sym same) holds.has in
@@ -218,7 +220,8 @@ module _ {D : Type 0} (honest : D → Type 0) (failures : D → ℕ) (state : D 
   pub fetches : (old new : Shelf D) (place first : ℕ) (d : Row) (last : Fetched) → IsShelf honest state old.pages old.contents old.closed
       → old.closed ≡ false → place < length old.contents.rows.items → first ≡ (get_or old.contents.rows.items place d).first
       → LooksAt {T = List ℕ} honest failures state (Ok last.text) old.pages new.pages
-      → (HonestAt honest new.pages.disk → (revision : ℕ) (other : List ℕ) → HoldsText old.contents.layout (stand_of old.pages) first revision other → last.text ≡ other)
+      → (HonestAt honest new.pages.disk → (revision : ℕ) (other : List ℕ) → HoldsText old.contents.layout (stand_of old.pages) first revision other
+      → last.text ≡ other)
       → new.contents ≡ old.contents → new.closed ≡ old.closed → new.fetched ≡ Some last
       → Fetches honest failures state old new × HasFetched honest state new place
   fetches old new place first d last shelf is_open l is looks text contents closed fetched = (

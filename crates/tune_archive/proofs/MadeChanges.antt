@@ -22,7 +22,8 @@ use Rattle.tune_contents.specs.Claimed.{AreRows}
 use Rattle.tune_contents.specs.Holds.{HoldsContents}
 use Rattle.tune_contents.specs.declared.contents.Contents.{Contents}
 use Rattle.tune_archive.specs.Shelf.{Shelf, state_on, state_of, StandsForOneOf}
-use Rattle.tune_archive.specs.Inside.Changing.{CallsWhere, PassesChange, PassesLaid, HasLaid, StaysKept, StaysWithin, IsUnmadeChange, MakesChange, refusal_of, closes}
+use Rattle.tune_archive.specs.Inside.Changing.{CallsWhere, PassesChange, PassesLaid, HasLaid, StaysKept, StaysWithin}
+use Rattle.tune_archive.specs.Inside.Changing.{IsUnmadeChange, MakesChange, refusal_of, closes}
 use Rattle.tune_archive.specs.Inside.Holding.{stand_of, HoldsState, IsShelf}
 
 -- a count that rises tells of a failure

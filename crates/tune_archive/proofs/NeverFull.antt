@@ -21,7 +21,8 @@ pub never_full : (start before : Stand) (contents : Contents) (change : Change) 
     → All (λ page. length page ≡ block_bytes) s.pages → length s.used ≤ free_pages s.used + most_used state.layout)
     → start ≡ before → StaysWithin before contents change → length before.used ≡ most_pages_of_archive
     → All (λ page. length page ≡ block_bytes) before.pages
-    → ((state : State) → HoldsContents start contents state → IsState (changed change state) → fault ≡ FileFull → free_pages start.used < most_chain_pages contents.layout)
+    → ((state : State) → HoldsContents start contents state → IsState (changed change state) → fault ≡ FileFull
+    → free_pages start.used < most_chain_pages contents.layout)
     → fault ≢ FileFull
 never_full start before contents change fault law begun stays marks sized full is =
     let first = stays.first_layout in

@@ -68,7 +68,8 @@ none_filed image root = record {
 }
 
 -- a root alone that names no list holds no tunes and no sets
-pub root_holds : (image : List ℕ) (limit : ℕ) (contents : Contents) → IsRoot image 0 0 → 1 ≤ limit → contents.layout ≡ One → contents.rows.items ≡ [] → contents.sets ≡ []
+pub root_holds : (image : List ℕ) (limit : ℕ) (contents : Contents) → IsRoot image 0 0 → 1 ≤ limit → contents.layout ≡ One → contents.rows.items ≡ []
+    → contents.sets ≡ []
     → (contents.list_first ≡ 0) × (contents.sets_first ≡ 0)
     → HoldsContents (record { pages = image ∷ []; used = only_root limit }) contents empty_state
 root_holds image limit contents root some known rows sets firsts = record {

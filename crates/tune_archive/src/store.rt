@@ -54,8 +54,8 @@ impl<D: Disk> TuneStore for Archive<D> {
     ghost since_earlier = { λ archive since earlier file le left.
         left_before (state_at D.Disk.state archive.pages.disk) since earlier file le left };
 
-    /// Its file is never full: an archive uses few of the pages that there may be, and a change takes
-    /// few of the others.
+    /// Its file is never full: an archive uses few of the pages that there may be, and a change
+    /// takes few of the others.
     fn apply(&mut self, command: &Command) -> Result<Reply, Refusal>
         ensures answer { HonestAt D.honest self.new.pages.disk → Answers
             (standing_of ⟦<Archive<D> as TuneStore>⟧ self.old) command.now result

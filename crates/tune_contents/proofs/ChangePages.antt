@@ -21,7 +21,7 @@ use Rattle.tune_contents.specs.Holds.{labels_in, HoldsContents}
 use Rattle.tune_contents.specs.Most.{most_tune_pages}
 use Rattle.tune_contents.specs.declared.contents.Contents.{Contents}
 use Rattle.tune_contents.specs.Inside.Changes.{RowsAccept}
-use Rattle.tune_contents.specs.Inside.Takes.{text_pages, change_pages}
+use Rattle.tune_contents.specs.Takes.{text_pages, change_pages}
 use Rattle.tune_contents.proofs.ContentsLemmas.{rows_accept}
 use Rattle.tune_contents.proofs.StatePages.{text_count, times_count}
 
@@ -60,7 +60,8 @@ tunes_count (DropSet name) state rows same accept is = omega arith
 
 -- Where it leads to a state within the limits, a change puts no more pages of tunes than such a state has.
 pub change_count : (s : Stand) (contents : Contents) (change : Change) (state : State) → HoldsContents s contents state
-    → CanChange change contents.layout (labels_in contents.rows.items) contents.sets → IsState (changed change state) → change_pages change ≤ most_tunes contents.layout * most_tune_pages contents.layout
+    → CanChange change contents.layout (labels_in contents.rows.items) contents.sets → IsState (changed change state)
+    → change_pages change ≤ most_tunes contents.layout * most_tune_pages contents.layout
 change_count s contents change state holds can is =
     subst (λ layout. change_pages change ≤ most_tunes layout * most_tune_pages layout) (sym holds.layout)
     (tunes_count change state contents.rows.items

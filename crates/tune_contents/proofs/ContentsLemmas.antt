@@ -23,7 +23,8 @@ use Rattle.tune_contents.specs.declared.contents.Contents.{Contents}
 use Rattle.tune_contents.proofs.ArchiveLemmas.{with_tunes}
 
 -- WHAT A CHANGE ASKS
-pub rows_accept : (layout : Layout) (change : Change) (rows : List Row) (sets : List TuneSet) → CanChange change layout (labels_in rows) sets → RowsAccept change rows
+pub rows_accept : (layout : Layout) (change : Change) (rows : List Row) (sets : List TuneSet) → CanChange change layout (labels_in rows) sets
+    → RowsAccept change rows
 rows_accept layout (Add first texts) rows sets can = let most = can.1 in omega (arith, most)
 rows_accept layout (Put place tune) rows sets can = let within = can.0 in omega (arith, within, length-map rows label_in)
 rows_accept layout (Take place) rows sets can = omega (arith, can, length-map rows label_in)
@@ -33,7 +34,8 @@ rows_accept layout (AddPlace name number) rows sets can = tt
 rows_accept layout (CutPlace name place) rows sets can = tt
 rows_accept layout (DropSet name) rows sets can = tt
 
-pub sets_accept : (layout : Layout) (change : Change) (rows : List Row) (sets : List TuneSet) → CanChange change layout (labels_in rows) sets → SetsAccept change sets
+pub sets_accept : (layout : Layout) (change : Change) (rows : List Row) (sets : List TuneSet) → CanChange change layout (labels_in rows) sets
+    → SetsAccept change sets
 sets_accept layout (Add first texts) rows sets can = tt
 sets_accept layout (Put place tune) rows sets can = tt
 sets_accept layout (Take place) rows sets can = tt
@@ -124,4 +126,5 @@ state_laid s mid new c left change lays same known sets whole = λ state rises h
     (let tunes = changed_tunes change state.tunes in
     let done = whole c.rows.items c.sets tunes (λ e. sym (same e)) (λ e. sym (sets ∙ sets_stay change c.sets e))
     (changing s mid c left.rows.items change state rises h lays) in
-    contents_of new left state.layout tunes (changed_sets change state.sets) (known ∙ h.layout) (sets ∙ ap (λ (l : List TuneSet). changed_sets change l) h.sets) done.0 done.1)
+    contents_of new left state.layout tunes (changed_sets change state.sets) (known ∙ h.layout)
+    (sets ∙ ap (λ (l : List TuneSet). changed_sets change l) h.sets) done.0 done.1)

@@ -125,7 +125,8 @@ lists_claimed mid now pages claimed then last image lf sf list sets on also mark
     }
 
 -- THE TUNES
-tunes_there : (layout : Layout) → layout ≡ One → (pages : List (List ℕ)) (claimed : List Bool) (lf sf : ℕ) (list sets : List ℕ) (l : ClaimsLists pages claimed lf sf list sets)
+tunes_there : (layout : Layout) → layout ≡ One
+    → (pages : List (List ℕ)) (claimed : List Bool) (lf sf : ℕ) (list sets : List ℕ) (l : ClaimsLists pages claimed lf sf list sets)
     → AreBlocks pages → IsStateThere pages → AreTunesThere layout pages (l.list_part ∷ l.sets_part ∷ []) 0 list
 tunes_there layout first pages claimed lf sf list sets l sized there =
     let filed = there.1.filed in
@@ -147,13 +148,15 @@ tunes_there layout first pages claimed lf sf list sets l sized there =
       },
     )
 
-pub tunes_fault : (layout : Layout) → layout ≡ One → (f : ClaimFault) (now pages : List (List ℕ)) (claimed : List Bool) (lf sf : ℕ) (list sets : List ℕ) → now ≡ pages
+pub tunes_fault : (layout : Layout) → layout ≡ One → (f : ClaimFault) (now pages : List (List ℕ)) (claimed : List Bool) (lf sf : ℕ) (list sets : List ℕ)
+    → now ≡ pages
     → AreBlocks pages → (0 < length pages → ClaimsLists pages claimed lf sf list sets)
     → ((front : List Part) → HasClaimed now claimed front → IsChainFault f (AreTunesThere layout now front 0 list)) → IsChainFault f (IsStateThere pages)
 tunes_fault layout first Damaged now pages claimed lf sf list sets on sized lists call = λ there.
     let l = lists (state_some pages there) in
     call (l.list_part ∷ l.sets_part ∷ []) (on_now now pages claimed _ on l.has)
-    (subst (λ p. AreTunesThere layout p (l.list_part ∷ l.sets_part ∷ []) 0 list) (sym on) (tunes_there layout first pages claimed lf sf list sets l sized there))
+    (subst (λ p. AreTunesThere layout p (l.list_part ∷ l.sets_part ∷ []) 0 list) (sym on)
+    (tunes_there layout first pages claimed lf sf list sets l sized there))
 tunes_fault layout first OutOfMemory now pages claimed lf sf list sets on sized lists call = tt
 tunes_fault layout first Device now pages claimed lf sf list sets on sized lists call = tt
 
@@ -221,9 +224,11 @@ sets_named layout OutOfMemory pages claimed lf sf list sets rows lists are liste
 sets_named layout Device pages claimed lf sf list sets rows lists are listed none = tt
 
 -- THE STATE
-pub state_claimed : (layout : Layout) → layout ≡ One → (now pages : List (List ℕ)) (claimed last : List Bool) (lf sf : ℕ) (list bytes : List ℕ) (rows : List Row) (sets : List TuneSet)
+pub state_claimed : (layout : Layout) → layout ≡ One
+    → (now pages : List (List ℕ)) (claimed last : List Bool) (lf sf : ℕ) (list bytes : List ℕ) (rows : List Row) (sets : List TuneSet)
     → now ≡ pages
-    → ClaimsLists pages claimed lf sf list bytes → AreRows layout rows → list ≡ written_rows rows → written_sets sets ≡ bytes → AreSetLists sets → NameRows rows sets
+    → ClaimsLists pages claimed lf sf list bytes → AreRows layout rows → list ≡ written_rows rows → written_sets sets ≡ bytes → AreSetLists sets
+    → NameRows rows sets
     → ((front : List Part) → HasClaimed now claimed front → (low : ℕ) × (low ≤ greatest_number) × TunesClaimed layout now front last rows low)
     → IsClaimed pages layout rows sets lf sf last
 state_claimed layout first now pages claimed last lf sf list bytes rows sets on l are listed written are_sets names call =

@@ -117,7 +117,8 @@ numbers_next numbers mid left first number count next is more so_far added =
     ∙ ap (λ all. numbers ++ all) (sym (range_next first count)) ∙ ap (λ n. numbers ++ range_with_len first n) (sym e)
 
 -- their numbers are above all others
-pub rows_added : {layout : Layout} → (rows left : List Row) (first count : ℕ) → length (labels_in rows) + count ≤ most_tunes layout → first + count ≤ greatest_number + 1
+pub rows_added : {layout : Layout} → (rows left : List Row) (first count : ℕ) → length (labels_in rows) + count ≤ most_tunes layout
+    → first + count ≤ greatest_number + 1
     → AllByRecursion (λ label. label.number < first) (labels_in rows) → 0 < first
     → numbers_in left ≡ numbers_in rows ++ range_with_len first count → AreRows layout rows → AreRows layout left
 rows_added {layout} rows left first count few most below some added are =
@@ -198,7 +199,8 @@ none_has to (row ∷ rows) none = (λ e. none (0, omega arith, e), none_has to r
 
 -- it goes where its new number belongs
 pub rows_moved : {layout : Layout} → (rows : List Row) (to place at : ℕ) (new : Row) → place < length rows → at ≤ length (remove rows place)
-    → (RowsRise 0 (remove rows place) → IsRowAfter to (remove rows place) at) → new.number ≡ to → AreRows layout rows → (Contains (numbers_in rows) to → ⊥) → 0 < to
+    → (RowsRise 0 (remove rows place) → IsRowAfter to (remove rows place) at) → new.number ≡ to → AreRows layout rows → (Contains (numbers_in rows) to → ⊥)
+    → 0 < to
     → to ≤ greatest_number → AreRows layout (insert (remove rows place) at new)
 rows_moved rows to place at new l within after is are none some most =
     let left = remove rows place in

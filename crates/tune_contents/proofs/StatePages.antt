@@ -28,7 +28,7 @@ use Rattle.tune_format.specs.declared.rows.Row.{Row}
 use Rattle.tune_contents.specs.Holds.{HoldsContents}
 use Rattle.tune_contents.specs.Most.{most_tune_pages, most_list_pages, most_sets_pages, most_used}
 use Rattle.tune_contents.specs.declared.contents.Contents.{Contents}
-use Rattle.tune_contents.specs.Inside.Takes.{tune_pages, list_pages, sets_pages}
+use Rattle.tune_contents.specs.Takes.{tune_pages, list_pages, sets_pages}
 
 -- the pages of chains of these bytes
 abbrev chain_pages : List (List ℕ) → ℕ

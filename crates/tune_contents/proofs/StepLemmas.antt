@@ -40,7 +40,8 @@ record FirstTune (layout : Layout) (pages : List (List ℕ)) (front : List Part)
   pub are_tunes : tunes ≡ tune ∷ tail
   pub are_texts : texts ≡ part ∷ more
 
-first_tune : {layout : Layout} → (pages : List (List ℕ)) (front : List Part) (low : ℕ) (list : List ℕ) (tunes : List Tune) (texts : List Part) → row_bytes ≤ length list
+first_tune : {layout : Layout} → (pages : List (List ℕ)) (front : List Part) (low : ℕ) (list : List ℕ) (tunes : List Tune) (texts : List Part)
+    → row_bytes ≤ length list
     → TunesStand layout pages front low list tunes texts → FirstTune layout pages front low list tunes texts
 first_tune pages front low list [] texts some stand = absurd (let size = ap (λ l. length l) stand.listed in omega (arith, some, size))
 first_tune pages front low list (tune ∷ tail) [] some stand = absurd (let size = ap (λ l. length l) stand.listed in omega (arith, some, size))
@@ -58,7 +59,8 @@ abbrev pub IsFirstRow : List ℕ → ℕ → ℕ → List ℕ → Type 0
 IsFirstRow list number first rest = (row : Row) (after : List Row) → row.number < 4294967296 → row.first < 4294967296
     → list ≡ written_rows (row ∷ after) → (row.number ≡ number) × (row.first ≡ first) × (rest ≡ written_rows after)
 
-head_row : {layout : Layout} → (pages : List (List ℕ)) (front : List Part) (low : ℕ) (list : List ℕ) (tune : Tune) (part : Part) (tail : List Tune) (more : List Part)
+head_row : {layout : Layout}
+    → (pages : List (List ℕ)) (front : List Part) (low : ℕ) (list : List ℕ) (tune : Tune) (part : Part) (tail : List Tune) (more : List Part)
     (number first : ℕ) (rest : List ℕ) → IsFirstRow list number first rest → TunesStand layout pages front low list (tune ∷ tail) (part ∷ more)
     → (tune.number ≡ number) × (part.first ≡ first) × (rest ≡ written_rows (rows_of tail more))
 head_row pages front low list tune part tail more number first rest only stand =
@@ -66,7 +68,8 @@ head_row pages front low list tune part tail more number first rest only stand =
     (part_small pages part (its_part pages front part more stand.are) stand.few_pages) stand.listed
 
 -- where the tunes of a list stand, the first of them does
-tune_there_of : {layout : Layout} → (pages : List (List ℕ)) (front : List Part) (low : ℕ) (list : List ℕ) (tune : Tune) (part : Part) (tail : List Tune) (more : List Part)
+tune_there_of : {layout : Layout}
+    → (pages : List (List ℕ)) (front : List Part) (low : ℕ) (list : List ℕ) (tune : Tune) (part : Part) (tail : List Tune) (more : List Part)
     (number first : ℕ) (rest : List ℕ) → IsFirstRow list number first rest → TunesStand layout pages front low list (tune ∷ tail) (part ∷ more)
     → IsTuneThere layout pages front low number first
 tune_there_of pages front low list tune part tail more number first rest only stand =
@@ -88,7 +91,8 @@ tune_there_of pages front low list tune part tail more number first rest only st
       below = (let top = stand.numbers in omega (arith, top, head.0));
     }
 
-pub tune_there : {layout : Layout} → (pages : List (List ℕ)) (front : List Part) (low : ℕ) (list : List ℕ) (number first : ℕ) (rest : List ℕ) → row_bytes ≤ length list
+pub tune_there : {layout : Layout} → (pages : List (List ℕ)) (front : List Part) (low : ℕ) (list : List ℕ) (number first : ℕ) (rest : List ℕ)
+    → row_bytes ≤ length list
     → IsFirstRow list number first rest → AreTunesThere layout pages front low list → IsTuneThere layout pages front low number first
 tune_there pages front low list number first rest some only there =
     let stand = there.2 in
@@ -98,7 +102,8 @@ tune_there pages front low list number first rest some only there =
     (subst (λ t. TunesStand _ pages front low list there.0 t) f.are_texts stand))
 
 -- and the others stand behind it
-tunes_behind_of : {layout : Layout} → (pages : List (List ℕ)) (front : List Part) (low : ℕ) (list : List ℕ) (tune : Tune) (part : Part) (tail : List Tune) (more : List Part)
+tunes_behind_of : {layout : Layout}
+    → (pages : List (List ℕ)) (front : List Part) (low : ℕ) (list : List ℕ) (tune : Tune) (part : Part) (tail : List Tune) (more : List Part)
     (now : List Bool) (bytes : List ℕ) (number first : ℕ) (rest : List ℕ) (claims : ClaimsPart pages front now first bytes) → IsFirstRow list number first rest
     → TunesStand layout pages front low list (tune ∷ tail) (part ∷ more)
     → AreTunesThere layout pages (front ++ claims.part ∷ []) number rest
@@ -124,7 +129,8 @@ tunes_behind_of pages front low list tune part tail more now bytes number first 
       },
     )
 
-pub tunes_behind : {layout : Layout} → (pages : List (List ℕ)) (front : List Part) (low : ℕ) (list : List ℕ) (now : List Bool) (bytes : List ℕ) (number first : ℕ)
+pub tunes_behind : {layout : Layout}
+    → (pages : List (List ℕ)) (front : List Part) (low : ℕ) (list : List ℕ) (now : List Bool) (bytes : List ℕ) (number first : ℕ)
     (rest : List ℕ) (claims : ClaimsPart pages front now first bytes) → row_bytes ≤ length list → IsFirstRow list number first rest
     → AreTunesThere layout pages front low list → AreTunesThere layout pages (front ++ claims.part ∷ []) number rest
 tunes_behind pages front low list now bytes number first rest claims some only there =
@@ -173,7 +179,8 @@ rows_more list rows low rest row later so lt le is = record {
       ∙ ap (λ l. l ++ later) (ap (λ l. written_rows rows ++ l) (sym (append-nil (written_row row))) ∙ sym (rows-append rows (row ∷ [])));
 }
 
-pub rows_end : {layout : Layout} → (list : List ℕ) (rows : List Row) (low : ℕ) (rest : List ℕ) → RowsSoFar list rows low rest → length list ≤ row_bytes * most_tunes layout → AreRows layout rows
+pub rows_end : {layout : Layout} → (list : List ℕ) (rows : List Row) (low : ℕ) (rest : List ℕ) → RowsSoFar list rows low rest
+    → length list ≤ row_bytes * most_tunes layout → AreRows layout rows
 rows_end list rows low rest so few =
     let size = ap (λ l. length l) so.listed in
     record {
@@ -222,7 +229,8 @@ rises_tune : (low : ℕ) (tunes : List Tune) (tune : Tune) → RisesFrom low tun
 rises_tune low [] tune rises above lt = (above, tt)
 rises_tune low (t ∷ tunes) tune rises above lt = (rises.0, rises_tune t.number tunes tune rises.1 (omega (arith, lt)) (omega (arith, lt)))
 
-pub claims_more : {layout : Layout} → (pages : List (List ℕ)) (front : List Part) (list : List ℕ) (claimed now : List Bool) (rows : List Row) (low : ℕ) (rest : List ℕ) (row : Row)
+pub claims_more : {layout : Layout}
+    → (pages : List (List ℕ)) (front : List Part) (list : List ℕ) (claimed now : List Bool) (rows : List Row) (low : ℕ) (rest : List ℕ) (row : Row)
     (later : List ℕ) (so : ClaimsSoFar layout pages front list claimed rows low rest) → row_bytes ≤ length rest → IsFirstRow rest row.number row.first later
     → ClaimsTune layout pages (front ++ so.so_far.texts) low now row
     → ClaimsSoFar layout pages front list now (rows ++ row ∷ []) row.number later
@@ -266,7 +274,8 @@ rows_turn list rows items low rest row number later so same lt le is pushed =
     subst (λ r. RowsSoFar list r number later) (sym pushed) (subst (λ n. RowsSoFar list (rows ++ row ∷ []) n later) same
     (rows_more list rows low rest row later so (omega (arith, same, lt)) (omega (arith, same, le)) is))
 
-pub claims_turn : {layout : Layout} → (old pages : List (List ℕ)) (front : List Part) (list : List ℕ) (claimed now : List Bool) (rows items : List Row) (low : ℕ) (rest : List ℕ)
+pub claims_turn : {layout : Layout}
+    → (old pages : List (List ℕ)) (front : List Part) (list : List ℕ) (claimed now : List Bool) (rows items : List Row) (low : ℕ) (rest : List ℕ)
     (row : Row) (number first : ℕ) (later : List ℕ) → old ≡ pages → ClaimsSoFar layout pages front list claimed rows low rest
     → row.number ≡ number → row.first ≡ first → written_row row ++ later ≡ rest → IsFirstRow rest number first later
     → ((front : List Part) → HasClaimed old claimed front → ClaimsTune layout old front low now row) → items ≡ rows ++ row ∷ []
@@ -281,7 +290,8 @@ claims_turn {layout} old pages front list claimed now rows items low rest row nu
     (claims_more pages front list claimed now rows low rest row later so (omega (arith, row_long row later rest is)) turned its))
 
 -- where the tunes of the whole list stand, the next one of the rest does
-pub turn_there : {layout : Layout} → (old pages : List (List ℕ)) (front : List Part) (list : List ℕ) (claimed : List Bool) (rows : List Row) (low : ℕ) (rest : List ℕ)
+pub turn_there : {layout : Layout}
+    → (old pages : List (List ℕ)) (front : List Part) (list : List ℕ) (claimed : List Bool) (rows : List Row) (low : ℕ) (rest : List ℕ)
     (number first : ℕ) (later : List ℕ) → old ≡ pages → (so : ClaimsSoFar layout pages front list claimed rows low rest)
     → ((revision : ℕ) → written_row (record { number = number; revision = revision; first = first }) ++ later ≡ rest) → IsFirstRow rest number first later
     → AreTunesThere layout pages front 0 list

@@ -3,4 +3,3 @@ pub mod Claiming
 pub mod ClaimedRows
 pub mod Laying
 pub mod Rows
-pub mod Takes

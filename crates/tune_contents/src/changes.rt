@@ -1,22 +1,23 @@
 // A change of an archive, laid on its pages.
-ghost use Rattle.std.specs.Prelude.{◌≡◌, ◌<◌, false, IfOk, IfErr, OnOk};
+ghost use Rattle.std.specs.Prelude.{◌≡◌, ◌+◌, ◌<◌, false, IfOk, IfErr, OnOk};
 ghost use Rattle.tune_pages.specs.Faults.{free_pages};
 ghost use Rattle.tune_pages.specs.FreePages.{TakesAtMost};
 ghost use Rattle.tune_pages.specs.Kept.{HonestAt};
 ghost use Rattle.tune_pages.specs.Reading.{LooksAt};
 ghost use Rattle.tune_pages.specs.Work.{stand, Fits};
 ghost use Rattle.tune_pages.specs.declared.fault.Fault.TheVariants.{OutOfMemory, FileFull};
+ghost use Rattle.tune_sets.specs.Sets.{AreSetLists};
 ghost use Rattle.tune_sets.specs.declared.faults.SetFault.TheVariants as set_fault;
 ghost use Rattle.tune_store.specs.Plans.{changed, changed_sets, CanChange};
 ghost use Rattle.tune_store.specs.State.{State, IsState};
 ghost use Rattle.tune_contents.specs.Answers.{AnswersLay};
 ghost use Rattle.tune_contents.specs.Claimed.{AreRows};
 ghost use Rattle.tune_contents.specs.Holds.{labels_in, HoldsContents, HoldsSomeState, LaysState};
-ghost use Rattle.tune_contents.specs.Most.{most_chain_pages};
+ghost use Rattle.tune_contents.specs.Most.{most_chain_pages, most_list_pages, most_sets_pages};
 ghost use Rattle.tune_contents.specs.Inside.Changes.{RowsAccept, SetsAccept, LaysChange, KeepsRows};
 ghost use Rattle.tune_contents.specs.Inside.Changes.{changes_tunes, changes_sets};
 ghost use Rattle.tune_contents.specs.Inside.Laying.{HoldsSomeTunes};
-ghost use Rattle.tune_contents.specs.Inside.Takes.{change_pages};
+ghost use Rattle.tune_contents.specs.Takes.{change_pages};
 
 use crate::contents::Contents;
 use crate::laying::{add_tunes, lay_contents, put_tune, take_tune};
@@ -147,8 +148,10 @@ fn sets_after(sets: &SetLists, change: &Change) -> Result<SetLists, Fault>
 /// - `rows`, of every disk: rows by rising number, within the limits, stay so.
 /// - `looks`: no page of the disk changes.
 /// - `fits`: the work may be changed further, or finished.
-/// - `full`: where the state after the change is within the limits, the file is full only where
-///   fewer pages are free than the chains of a state have at most.
+/// - `takes`: within the limits it takes no more free pages than the chains have of the tunes that
+///   the change puts, and those of the lists at most; the file is full only where fewer are free.
+/// - `full`: where the state after the change is within the limits, that is only where fewer pages
+///   are free than the chains of a state have at most.
 ///
 /// # Errors
 ///
@@ -174,6 +177,11 @@ pub fn lay<D: Disk>(
     ensures fits { OnOk result (Fits pages.new work.new) }
     ensures looks { LooksAt D.honest D.failures D.state result pages.old pages.new }
     ensures answer { AnswersLay result pages.new.closed }
+    ensures takes { HonestAt D.honest pages.new.disk
+        → AreRows contents.now.layout contents.now.rows.items
+        → AreSetLists (changed_sets change contents.now.sets) → TakesAtMost
+        (change_pages change + (most_list_pages contents.now.layout + most_sets_pages)) result
+        (stand pages.old work.old) (stand pages.new work.new) }
     ensures full { HonestAt D.honest pages.new.disk
         → AreRows contents.now.layout contents.now.rows.items
         → (state : State) → HoldsContents (stand pages.old work.old) contents.now state

@@ -14,7 +14,8 @@ ghost use Rattle.tune_format.specs.Written.{written_row, written_rows};
 ghost use Rattle.tune_format.specs.declared.rows.Row.{Row};
 ghost use Rattle.tune_pages.specs.Claim.{IsChainFault, LooksOpening};
 ghost use Rattle.tune_pages.specs.Opened.{only_root};
-ghost use Rattle.tune_contents.specs.Inside.Claiming.{AreBlocks, HasClaimed, ClaimsPart, IsPartThere};
+ghost use Rattle.tune_contents.specs.Inside.Claiming.{AreBlocks, HasClaimed, ClaimsPart};
+ghost use Rattle.tune_contents.specs.Inside.Claiming.{IsPartThere};
 ghost use Rattle.tune_contents.specs.Inside.Claiming.{IsTuneChain, ClaimsTune, IsTuneThere};
 ghost use Rattle.tune_contents.specs.Inside.Claiming.{TunesClaimed, AreTunesThere};
 ghost use Rattle.tune_contents.specs.Inside.Claiming.{ClaimsLists, IsStateThere};
@@ -96,10 +97,7 @@ pub fn claim<D: Disk>(alloc: Global, opening: &mut Opening<D>) -> Result<Content
 }
 
 // Claims the list of tunes and the set lists.
-fn claim_lists<D: Disk>(
-    opening: &mut Opening<D>,
-    layout: Layout,
-) -> Result<Lists, ClaimFault>
+fn claim_lists<D: Disk>(opening: &mut Opening<D>, layout: Layout) -> Result<Lists, ClaimFault>
     requires first { layout ≡ One }
     requires root { opening.old.claimed ≡ only_root (length opening.old.pages) }
     requires sized { D.honest opening.old.disk → AreBlocks opening.old.pages }
@@ -241,7 +239,8 @@ fn claim_tune<D: Disk>(
 
 // The revision of the tune of a chain, whose text has to be that of one tune.
 fn revision_of(alloc: Global, layout: Layout, bytes: &[u8]) -> Result<u16, ClaimFault>
-    ensures ok { IfOk result (λ revision. (text : List ℕ) × IsTuneChain layout bytes.now revision text) }
+    ensures ok { IfOk result (λ revision.
+        (text : List ℕ) × IsTuneChain layout bytes.now revision text) }
     ensures damaged { IfErr result (λ fault. IsChainFault fault
         ((revision : ℕ) × (text : List ℕ) × IsTuneChain layout bytes.now revision text)) }
     ensures err { IfErr result (λ fault. fault ≢ ClaimFault.Device) }

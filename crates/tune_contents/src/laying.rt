@@ -19,7 +19,7 @@ ghost use Rattle.tune_contents.specs.Inside.Laying.{SwapsChain, LaysRoot, LaysLi
 ghost use Rattle.tune_contents.specs.Inside.Laying.{HoldsSomeArchive, LaysContents};
 ghost use Rattle.tune_contents.specs.Inside.Laying.{HoldsSomeTunes, LaysTunes};
 ghost use Rattle.tune_contents.specs.Inside.Rows.{numbers_in};
-ghost use Rattle.tune_contents.specs.Inside.Takes.{tune_pages, text_pages, list_pages, sets_pages};
+ghost use Rattle.tune_contents.specs.Takes.{tune_pages, text_pages, list_pages, sets_pages};
 
 use abc_fields::TuneText;
 use std::alloc::Global;

@@ -170,7 +170,8 @@ filed_parts pages tunes sets filed =
     let known = free_once (root_and_trails parts) none filed.parts.apart in
     reads_parts pages parts filed.parts.chains (once_free (trails parts) none known.0.1 known.1.1)
 
-pub tunes_filed : {layout : Layout} → (pages : List (List ℕ)) (tunes : List Tune) (sets : List TuneSet) → Filed pages tunes sets → IsTunes layout tunes → length pages < 2 ^ 32
+pub tunes_filed : {layout : Layout} → (pages : List (List ℕ)) (tunes : List Tune) (sets : List TuneSet) → Filed pages tunes sets → IsTunes layout tunes
+    → length pages < 2 ^ 32
     → tunes_in pages ≡ tunes
 tunes_filed pages tunes sets filed are few =
     let reads = filed_parts pages tunes sets filed in

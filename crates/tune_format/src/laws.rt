@@ -135,8 +135,8 @@ pub fn law_of_files()
     ensures pages { (file : List ℕ) (pages : List (List ℕ)) → StandsFor pages file
         → pages_in file ≡ pages }
     ensures tunes { (layout : Layout) (pages : List (List ℕ)) (tunes : List Tune)
-        (sets : List TuneSet) → Filed pages tunes sets → IsTunes layout tunes → length pages ≤ most_pages_of_archive
-        → tunes_in pages ≡ tunes }
+        (sets : List TuneSet) → Filed pages tunes sets → IsTunes layout tunes
+        → length pages ≤ most_pages_of_archive → tunes_in pages ≡ tunes }
     ensures sets { (pages : List (List ℕ)) (tunes : List Tune) (sets : List TuneSet)
         → Filed pages tunes sets → AreSetLists sets → sets_in pages ≡ sets }
     ensures state { (pages : List (List ℕ)) (state : State) → IsStateOf pages state

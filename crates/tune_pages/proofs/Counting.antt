@@ -18,7 +18,8 @@ worth b = cond (not b) 1 0
 pub full_none : (m : List Bool) → IsFull m → free_pages m ≡ 0
 full_none m all = let le = sum_by-le worth 0 m (λ k d lt. subst (λ (b : Bool). worth b ≤ 0) (sym (all k d lt)) (omega arith)) in omega (arith, le)
 
-taken_less : (m : List Bool) (p : ℕ) → IsFree m p → free_pages (set m p true) + 1 ≡ free_pages m
+-- a page that is taken is one free page less
+pub taken_less : (m : List Bool) (p : ℕ) → IsFree m p → free_pages (set m p true) + 1 ≡ free_pages m
 taken_less m p free =
     let one : worth (get_or m p true) ≡ 1 = ap worth free in
     let both = sum_by-set worth m p true true (free_within m p free) in

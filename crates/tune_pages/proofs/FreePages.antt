@@ -1,14 +1,17 @@
--- How many pages are free again when pages are freed, and how many pages a chain has.
-use Rattle.std.proofs.Common.{◌≡◌, ◌≢◌, ℕ, ◌+◌, ◌*◌, ◌<◌, ◌≤◌, List, [], ◌∷◌, length, get_or, set, drop, Bool, false, All}
-use Rattle.std.proofs.Common.{ap, arith, length-append, length-take, length-drop}
+-- How many pages are free when pages are freed or taken, and how many pages a chain has.
+use Rattle.std.proofs.Common.{◌≡◌, ◌≢◌, ℕ, ◌+◌, ◌*◌, ◌<◌, ◌≤◌, List, [], ◌∷◌, length, get_or, set, drop, Bool, true, false, All}
+use Rattle.std.proofs.Common.{Result, Ok, Err, IfOk, ap, arith, length-append, length-take, length-drop}
 use Rattle.std.proofs.lemmas.List.Sums.{sum_by-set}
 use Rattle.tune_journal.specs.Layout.{block_bytes}
 use Rattle.tune_journal.specs.Pages.{page_at}
 use Rattle.tune_pages.specs.Chain.{next_of, size_of, piece_of, IsLink, Leads, bytes_along, IsChain}
-use Rattle.tune_pages.specs.Faults.{free_pages, pages_for}
+use Rattle.tune_pages.specs.Faults.{AnswersWork, free_pages, pages_for}
+use Rattle.tune_pages.specs.FreePages.{TakesAtMost}
 use Rattle.tune_pages.specs.Layout.{piece_room}
-use Rattle.tune_pages.specs.Stand.{IsUsed, AllUsed, marked}
-use Rattle.tune_pages.proofs.Counting.{worth}
+use Rattle.tune_pages.specs.Stand.{Stand, IsUsed, IsFull, IsLeastFree, AllUsed, marked, taken, PutsChain}
+use Rattle.tune_pages.specs.declared.fault.Fault.{Fault}
+use Rattle.tune_pages.specs.declared.fault.Fault.TheVariants.{FileFull, OutOfMemory, Device, Closed}
+use Rattle.tune_pages.proofs.Counting.{worth, full_none, taken_less, marked_less}
 use Rattle.tune_pages.proofs.Finishing.{used_within}
 use Rattle.tune_pages.proofs.Wants.{as_many}
 
@@ -58,3 +61,33 @@ chain_count pages first trail bytes sized chain =
     let both = along_count pages first trail sized chain.leads in
     let size : length (bytes_along pages trail) ≡ length bytes = ap (λ (b : List ℕ). length b) chain.holds in
     as_many (length trail) (length bytes) (omega (arith, both.1, size)) (omega (arith, both.0, size))
+
+-- WHAT CALLS TAKE
+pub allocated_takes : (r : Result ℕ Fault) (closed : Bool) (old new : Stand) → IfOk r (λ p. IsLeastFree old.used p × (new ≡ taken p old))
+    → AnswersWork r closed (IsFull old.used) → TakesAtMost 1 r old new
+allocated_takes (Ok p) closed old new is answer =
+    let less = taken_less old.used p is.0.free in
+    let now : free_pages new.used ≡ free_pages (set old.used p true) = ap (λ (s : Stand). free_pages s.used) is.1 in
+    omega (arith, less, now)
+allocated_takes (Err FileFull) closed old new is answer = λ _. (let none = full_none old.used answer.0 in omega (arith, none))
+allocated_takes (Err OutOfMemory) closed old new is answer = λ e. cc
+allocated_takes (Err Device) closed old new is answer = λ e. cc
+allocated_takes (Err Closed) closed old new is answer = λ e. cc
+
+pub put_takes : (r : Result ℕ Fault) (closed : Bool) (old new : Stand) (bytes : List ℕ)
+    → IfOk r (λ first. (trail : List ℕ) × PutsChain old new first trail bytes)
+    → AnswersWork r closed (free_pages old.used < pages_for (length bytes)) → TakesAtMost (pages_for (length bytes)) r old new
+put_takes (Ok first) closed old new bytes is answer =
+    let put = is.1 in
+    let less = marked_less is.0 old.used put.free in
+    let now : free_pages new.used ≡ free_pages (marked true is.0 old.used) = ap (λ (m : List Bool). free_pages m) put.used in
+    omega (arith, less, now, put.count)
+put_takes (Err FileFull) closed old new bytes is answer = λ _. answer.0
+put_takes (Err OutOfMemory) closed old new bytes is answer = λ e. cc
+put_takes (Err Device) closed old new bytes is answer = λ e. cc
+put_takes (Err Closed) closed old new bytes is answer = λ e. cc
+
+pub takes_next : {T U : Type 0} (x : T) (result : Result U Fault) (n m : ℕ) (one two three : Stand) → TakesAtMost n (Ok x) one two
+    → TakesAtMost m result two three → TakesAtMost (n + m) result one three
+takes_next x (Ok y) n m one two three first next = omega (arith, first, next)
+takes_next x (Err fault) n m one two three first next = λ is. (let few = next is in omega (arith, first, few))

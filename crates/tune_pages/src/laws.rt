@@ -1,14 +1,15 @@
-// What calls with a work leave alone.
-ghost use Rattle.std.specs.Prelude.{◌≡◌, ◌≢◌, ◌+◌, ◌<◌, ◌≤◌, ◌++◌, [], ◌∷◌, ℕ, List, Bool, true, false};
-ghost use Rattle.std.specs.Prelude.{All, length, slice_index_or, Result, Ok, Err};
+// What calls with a work leave alone, what they take, and what reads come to.
+ghost use Rattle.std.specs.Prelude.{◌≡◌, ◌≢◌, ◌+◌, ◌<◌, ◌≤◌, ◌++◌, [], ◌∷◌, ℕ, List, All, length};
+ghost use Rattle.std.specs.Prelude.{Bool, true, false, slice_index_or, Result, Ok, Err, IfOk};
 ghost use Rattle.tune_journal.specs.Layout.{block_bytes};
 ghost use Rattle.tune_pages.specs.Chain.{IsChain};
-ghost use Rattle.tune_pages.specs.Faults.{free_pages, pages_for};
+ghost use Rattle.tune_pages.specs.Faults.{AnswersWork, free_pages, pages_for};
+ghost use Rattle.tune_pages.specs.FreePages.{TakesAtMost};
 ghost use Rattle.tune_pages.specs.Frame.{Apart, AllApart, Allocates, Frees, Puts, TradesPages};
 ghost use Rattle.tune_pages.specs.Kept.{Kept, HonestAt};
 ghost use Rattle.tune_pages.specs.Reading.{LooksAt, SameStand};
-ghost use Rattle.tune_pages.specs.Stand.{Stand, IsUsed, IsFree, IsFull, AllUsed, AllFree, marked};
-ghost use Rattle.tune_pages.specs.Stand.{PutsChain, HasChain};
+ghost use Rattle.tune_pages.specs.Stand.{Stand, IsUsed, IsFree, IsFull, IsLeastFree};
+ghost use Rattle.tune_pages.specs.Stand.{AllUsed, AllFree, marked, PutsChain, HasChain};
 ghost use Rattle.tune_pages.specs.Stand.{taken, with_page, without_page, without_pages};
 ghost use Rattle.tune_pages.specs.Work.{stand, Fits, FitsOn, stand_on};
 ghost use Rattle.tune_pages.specs.declared.fault.Fault.{Fault};
@@ -129,7 +130,9 @@ pub fn law_of_works()
 /// - `taken`: free pages that are taken are so many less.
 /// - `full`: where all are in use, none is free.
 /// - `count`: a chain has as many pages as its bytes want.
-pub fn law_of_free_pages()
+/// - `allocated`, `put`: how many `allocate` and `put_chain` take at most, by what they ensure,
+/// - `next`: and how many two calls take, one after another.
+pub fn law_of_free_pages<T, U>()
     ensures freed { (trail : List ℕ) (used : List Bool) → AllUsed trail used
         → free_pages (marked false trail used) ≡ free_pages used + length trail }
     ensures taken { (trail : List ℕ) (used : List Bool) → AllFree trail used
@@ -138,6 +141,16 @@ pub fn law_of_free_pages()
     ensures count { (pages : List (List ℕ)) (first : ℕ) (trail bytes : List ℕ)
         → All (λ page. length page ≡ block_bytes) pages → IsChain pages first trail bytes
         → length trail ≡ pages_for (length bytes) }
+    ensures allocated { (result : Result ℕ Fault) (closed : Bool) (old new : Stand)
+        → IfOk result (λ page. IsLeastFree old.used page × (new ≡ taken page old))
+        → AnswersWork result closed (IsFull old.used) → TakesAtMost 1 result old new }
+    ensures put { (result : Result ℕ Fault) (closed : Bool) (old new : Stand) (bytes : List ℕ)
+        → IfOk result (λ first. (trail : List ℕ) × PutsChain old new first trail bytes)
+        → AnswersWork result closed (free_pages old.used < pages_for (length bytes))
+        → TakesAtMost (pages_for (length bytes)) result old new }
+    ensures next { (value : T) (result : Result U Fault) (most more : ℕ) (one two three : Stand)
+        → TakesAtMost most (Ok value) one two → TakesAtMost more result two three
+        → TakesAtMost (most + more) result one three }
 {}
 
 /// The laws of looks: what calls that only look come to, one after another. They speak of `Pages`

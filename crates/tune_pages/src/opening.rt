@@ -130,14 +130,14 @@ impl<D: Disk> Opening<D> {
         self.claim_chain_within(first, most)
     }
 
-    /// Claims the pages of the chain that begins at `first`, of which there may be up to `most`, and
-    /// gives its bytes. Past these no page is read, so that the bytes of a chain that is too long
-    /// take no more memory than those of `most` pages.
+    /// Claims the pages of the chain that begins at `first`, of which there may be up to `most`,
+    /// and gives its bytes. Past these no page is read, so that the bytes of a chain that is too
+    /// long take no more memory than those of `most` pages.
     ///
     /// # Errors
     ///
-    /// `Damaged` where no chain of at most `most` pages begins there whose pages are all still to be
-    /// claimed; `OutOfMemory`; `Device` where the disk failed.
+    /// `Damaged` where no chain of at most `most` pages begins there whose pages are all still to
+    /// be claimed; `OutOfMemory`; `Device` where the disk failed.
     pub fn claim_chain_within(&mut self, first: u32, most: usize) -> Result<Vec<u8>, ClaimFault>
         ensures chain { IfOk result (λ bytes. D.honest self.new.disk → (trail : List ℕ)
             × Claimable self.old.pages self.old.claimed first trail bytes.items

@@ -147,8 +147,8 @@ impl<D: Disk> Pages<D> {
     }
 
     /// Closes the pages, where the disk showed what cannot be, as a page that has not the form of
-    /// what is kept there. An honest disk shows no such page. The answer is `Device`, for a caller to
-    /// hand on.
+    /// what is kept there: an honest disk shows no such page. Gives the fault `Device`, for the
+    /// caller to answer.
     pub fn close(&mut self) -> Fault
         requires { HonestAt D.honest self.old.disk → ⊥ }
         ensures fault { result ≡ Device }

@@ -17,7 +17,8 @@ use Rattle.tune_archive.specs.Shelf.{state_on}
 abbrev pub stand_of : {D : Type 0} → Kept D → Stand
 stand_of kept = record { pages = kept.pages; used = kept.used }
 
--- The pages hold the state of the disk, which is of layout 1 and within its limits; a stop now leaves them alone.
+-- The pages hold the state of the disk, which is of layout 1 and within its limits; a stop now
+-- leaves them alone.
 pub record HoldsState {D : Type 0} (state : D → DiskState) (kept : Kept D) (contents : Contents)
     : Type 0 where
   pub holds : HoldsContents (stand_of kept) contents (state_on state kept.disk)

@@ -50,15 +50,16 @@ pub record IsPartThere (pages : List (List ℕ)) (front : List Part) (first most
 
 -- ONE TUNE
 -- these bytes are a revision and the text of one tune, within the limits
-pub record IsTuneChain (layout : Layout) (bytes : List ℕ) (revision : ℕ) (text : List ℕ) : Type 0 where
+pub record IsTuneChain (layout : Layout) (bytes : List ℕ) (revision : ℕ) (text : List ℕ)
+    : Type 0 where
   pub written : written_text revision text ≡ bytes
   pub revised : 0 < revision
   pub few : revision ≤ greatest_revision
   pub good : IsTextWithin (longest_text layout) text
 
 -- Behind parts that were claimed, the tune of a row was, under a number above this one.
-pub record ClaimsTune (layout : Layout) (pages : List (List ℕ)) (front : List Part) (low : ℕ) (now : List Bool)
-    (row : Row) : Type 0 where
+pub record ClaimsTune (layout : Layout) (pages : List (List ℕ)) (front : List Part) (low : ℕ)
+    (now : List Bool) (row : Row) : Type 0 where
   pub bytes : List ℕ
   pub claims : ClaimsPart pages front now row.first bytes
   pub text : List ℕ
@@ -67,8 +68,8 @@ pub record ClaimsTune (layout : Layout) (pages : List (List ℕ)) (front : List 
   pub below : row.number ≤ greatest_number
 
 -- Behind these parts some tune of this number stands there, and more parts behind it.
-pub record IsTuneThere (layout : Layout) (pages : List (List ℕ)) (front : List Part) (low number first : ℕ)
-    : Type 0 where
+pub record IsTuneThere (layout : Layout) (pages : List (List ℕ)) (front : List Part)
+    (low number first : ℕ) : Type 0 where
   pub there : IsPartThere pages front first (most_tune_pages layout)
   pub revision : ℕ
   pub text : List ℕ
@@ -79,8 +80,8 @@ pub record IsTuneThere (layout : Layout) (pages : List (List ℕ)) (front : List
 -- THE TUNES OF A LIST
 -- Behind these parts stand those of tunes, under rising numbers above this one, each within the
 -- limits, and this is the list of them.
-pub record TunesStand (layout : Layout) (pages : List (List ℕ)) (front : List Part) (low : ℕ) (list : List ℕ)
-    (tunes : List Tune) (texts : List Part) : Type 0 where
+pub record TunesStand (layout : Layout) (pages : List (List ℕ)) (front : List Part) (low : ℕ)
+    (list : List ℕ) (tunes : List Tune) (texts : List Part) : Type 0 where
   pub few_pages : length pages ≤ most_pages_of_archive
   pub sized : AreBlocks pages
   pub are : AreParts pages (front ++ texts)
@@ -97,8 +98,8 @@ AreTunesThere layout pages front low list =
     (tunes : List Tune) × (texts : List Part) × TunesStand layout pages front low list tunes texts
 
 -- Behind parts that were claimed, the tunes of these rows were, by rising numbers up to this one.
-pub record TunesClaimed (layout : Layout) (pages : List (List ℕ)) (front : List Part) (claimed : List Bool)
-    (rows : List Row) (low : ℕ) : Type 0 where
+pub record TunesClaimed (layout : Layout) (pages : List (List ℕ)) (front : List Part)
+    (claimed : List Bool) (rows : List Row) (low : ℕ) : Type 0 where
   pub tunes : List Tune
   pub texts : List Part
   pub has : HasClaimed pages claimed (front ++ texts)

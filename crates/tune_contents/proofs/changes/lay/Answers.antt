@@ -1,5 +1,4 @@
-use Rattle.std.proofs.Common.{◌∙◌, ◌≤◌, List, length, refl, subst, sym, arith}
-use Rattle.tune_store.specs.Limits.{most_tunes}
+use Rattle.std.proofs.Common.{◌∙◌, List, refl, subst, sym, arith}
 use Rattle.std.proofs.lemmas.Result.{err_from_is_err_and}
 use Rattle.tune_sets.specs.Sets.{AreSetLists}
 use Rattle.tune_contents.proofs.ChangePages.{change_count, sets_after}
@@ -52,6 +51,11 @@ returns-clause-rows g c =
     let same = c.in_ok-rows.ensures.rows ∙ c.deref.ensures.value in
     (subst (λ (rows : List Row). KeepsRows c.args.change rows left) same c.in_ok-lay_tunes.ensures.rows) old.layout old.sets c.requires.possible
 
+pub returns-in_err-lay_tunes-clause-takes : goal.returns-in_err-lay_tunes-clause-takes
+returns-in_err-lay_tunes-clause-takes g c =
+    let p = err_from_is_err_and c.from_residual-in_err-lay_tunes.result c.from_residual-in_err-lay_tunes.ensures.1 in
+    λ h rows sets. (let takes = c.in_err-lay_tunes.ensures.takes h in rw (p.1, p.2) (λ e. (let lt = takes e in omega (arith, lt))))
+
 pub returns-in_err-lay_tunes-clause-full : goal.returns-in_err-lay_tunes-clause-full
 returns-in_err-lay_tunes-clause-full g c =
     let p = err_from_is_err_and c.from_residual-in_err-lay_tunes.result c.from_residual-in_err-lay_tunes.ensures.1 in
@@ -76,3 +80,30 @@ returns-in_err-nexts-clause-full g c =
     let tunes = c.in_ok-lay_tunes.ensures.takes (c.in_err-nexts.ensures.looks.was_honest h) in
     let takes = rw c.deref-2.ensures.value at c.in_err-nexts.ensures.takes h in
     rw (p.1, p.2) (λ e. (let lt = takes e in omega (arith, lt, tunes, list, sets, most))))
+
+pub returns-in_err-nexts-clause-takes : goal.returns-in_err-nexts-clause-takes
+returns-in_err-nexts-clause-takes g c =
+    let p = err_from_is_err_and c.from_residual-in_err-nexts.result c.from_residual-in_err-nexts.ensures.1 in
+    let old = c.args.contents.now in
+    let left = c.lay_tunes.new.rows.items in
+    let same = c.in_ok-rows.ensures.rows ∙ c.deref.ensures.value in
+    λ h rows sets.
+    (let kept = (subst (λ (r : List Row). KeepsRows c.args.change r left) same c.in_ok-lay_tunes.ensures.rows) old.layout old.sets c.requires.possible rows in
+    let list = list_count old.layout left kept.few in
+    let names = sets_count c.in_ok-sets.sets (subst AreSetLists (sym c.in_ok-sets.ensures.sets) sets) in
+    let tunes = c.in_ok-lay_tunes.ensures.takes (c.in_err-nexts.ensures.looks.was_honest h) in
+    let takes = rw c.deref-2.ensures.value at c.in_err-nexts.ensures.takes h in
+    rw (p.1, p.2) (λ e. (let lt = takes e in omega (arith, lt, tunes, list, names))))
+
+pub returns-clause-takes : goal.returns-clause-takes
+returns-clause-takes g c =
+    let old = c.args.contents.now in
+    let left = c.lay_tunes.new.rows.items in
+    let same = c.in_ok-rows.ensures.rows ∙ c.deref.ensures.value in
+    λ h rows sets.
+    (let kept = (subst (λ (r : List Row). KeepsRows c.args.change r left) same c.in_ok-lay_tunes.ensures.rows) old.layout old.sets c.requires.possible rows in
+    let list = list_count old.layout left kept.few in
+    let names = sets_count c.in_ok-sets.sets (subst AreSetLists (sym c.in_ok-sets.ensures.sets) sets) in
+    let tunes = c.in_ok-lay_tunes.ensures.takes (c.in_ok-nexts.ensures.looks.was_honest h) in
+    let takes = rw c.deref-2.ensures.value at c.in_ok-nexts.ensures.takes h in
+    omega (arith, takes, tunes, list, names))

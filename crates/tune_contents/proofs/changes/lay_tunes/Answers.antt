@@ -1,6 +1,6 @@
 use Rattle.tune_pages.specs.Work.{stand}
 use Rattle.tune_pages.specs.FreePages.{TakesAtMost}
-use Rattle.tune_contents.specs.Inside.Takes.{change_pages}
+use Rattle.tune_contents.specs.Takes.{change_pages}
 use Rattle.std.proofs.Common.{◌≡◌, ◌++◌, OnOk, slice_set, subst, sym, vec_len}
 use Rattle.std.specs.List.{remove, range_with_len}
 use Rattle.tune_store.specs.declared.plans.Change.{Change}

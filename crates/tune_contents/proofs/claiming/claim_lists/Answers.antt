@@ -19,7 +19,8 @@ returns-in_err-list-clause-damaged g c =
     ∙ ap most_list_pages c.requires.first in
     rw p.1 (λ h. subst (λ (f : ClaimFault). IsChainFault f (IsStateThere c.args.opening.now.pages)) (sym p.2)
     (list_fault c.in_err-list.field-0.0 _ _ _ _ _ _ (read.looks.same_pages (call.looks.was_honest h)) (read.claimed ∙ c.requires.root)
-    (read.image (call.looks.was_honest h)) c.in-Some.ensures.some (c.requires.sized (read.looks.was_honest (call.looks.was_honest h))) (rw most at call.damaged h)))
+    (read.image (call.looks.was_honest h)) c.in-Some.ensures.some (c.requires.sized (read.looks.was_honest (call.looks.was_honest h)))
+    (rw most at call.damaged h)))
 
 pub returns-in_err-sets-clause-damaged : goal.returns-in_err-sets-clause-damaged
 returns-in_err-sets-clause-damaged g c =

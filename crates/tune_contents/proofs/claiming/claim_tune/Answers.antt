@@ -15,14 +15,16 @@ returns-in_err-bytes-clause-damaged g c =
     let p = err_from_is_err_and c.from_residual.result c.from_residual.ensures.1 in
     let most : c.pages_for-most.result ≡ most_tune_pages c.args.layout =
     c.pages_for-most.ensures ∙ ap (λ (n : ℕ). pages_for (n + revision_bytes)) c.longest_text.ensures.longest in
-    rw p.1 (λ h front has. subst (λ (f : ClaimFault). IsChainFault f (IsTuneThere c.args.layout c.args.opening.now.pages front c.args.low c.args.number c.args.first))
+    rw p.1 (λ h front has. subst (λ (f : ClaimFault). IsChainFault f
+    (IsTuneThere c.args.layout c.args.opening.now.pages front c.args.low c.args.number c.args.first))
     (sym p.2)
     (fault_as c.in_err-bytes.field-0.0 _ _ (λ is. is.there) (rw most at c.in_err-bytes.ensures.damaged h front has)))
 
 pub returns-in_err-revision-clause-damaged : goal.returns-in_err-revision-clause-damaged
 returns-in_err-revision-clause-damaged g c =
     let p = err_from_is_err_and c.from_residual-in_err-revision.result c.from_residual-in_err-revision.ensures.1 in
-    rw p.1 (λ h front has. subst (λ (f : ClaimFault). IsChainFault f (IsTuneThere c.args.layout c.args.opening.now.pages front c.args.low c.args.number c.args.first))
+    rw p.1 (λ h front has. subst (λ (f : ClaimFault). IsChainFault f
+    (IsTuneThere c.args.layout c.args.opening.now.pages front c.args.low c.args.number c.args.first))
     (sym p.2)
     (fault_as c.in_err-revision.field-0.0 _ _
     (λ is. subst (λ l. (revision : ℕ) × (text : List ℕ) × IsTuneChain c.args.layout l revision text) (sym c.deref.ensures.value)

@@ -9,7 +9,8 @@ use Rattle.tune_contents.proofs.StepLemmas.{rows_all, none_left, some_left, rows
 use Rattle.tune_contents.proofs.claiming.claim_tunes.Goals as goal
 
 pub returns-then-list-most-clause-damaged : goal.returns-then-list-most-clause-damaged
-returns-then-list-most-clause-damaged g c = λ h front has there. list_long _ front 0 _ (omega (arith, c.if-list-most.true, c.most_tunes-most.ensures.most)) there
+returns-then-list-most-clause-damaged g c = λ h front has there. list_long _ front 0 _
+    (omega (arith, c.if-list-most.true, c.most_tunes-most.ensures.most)) there
 
 pub loop-number-init : goal.loop-number-init
 loop-number-init g c = record {

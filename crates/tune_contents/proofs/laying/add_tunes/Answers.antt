@@ -1,7 +1,7 @@
 use Rattle.std.proofs.Common.{◌≡◌, [], ◌∷◌, ◌++◌, length, append_assoc, append-nil, ap, sym, ◌∙◌, arith, rules}
 use Rattle.tune_contents.proofs.TakesLemmas.{text_pages_more, text_pages_next}
 use Rattle.std.proofs.lemmas.Result.{err_from_is_err_and}
-use Rattle.tune_contents.specs.Inside.Takes.{text_pages}
+use Rattle.tune_contents.specs.Takes.{text_pages}
 use Rattle.std.specs.Vec.Iter.{into_iter_items}
 use Rattle.std.proofs.lemmas.List.{length_push}
 use Rattle.tune_pages.specs.Work.{stand}

@@ -1,5 +1,5 @@
 use Rattle.tune_pages.specs.Faults.{free_pages}
-use Rattle.tune_contents.specs.Inside.Takes.{text_pages}
+use Rattle.tune_contents.specs.Takes.{text_pages}
 use Rattle.std.proofs.Common.{◌≡◌, ◌≤◌, ◌+◌, ◌++◌, length}
 use Rattle.std.specs.List.{range_with_len}
 use Rattle.std.specs.Vec.Iter.{into_iter_items}

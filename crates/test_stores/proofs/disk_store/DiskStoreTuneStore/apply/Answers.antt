@@ -1,4 +1,7 @@
+use Rattle.std.proofs.Common.{◌≡◌, false, rules}
+use Rattle.tune_store.specs.Answers.{changes_nothing}
 use Rattle.tune_archive.proofs.Called.{answers_closed}
+use Rattle.test_stores.proofs.KeptLemmas.{changes}
 use Rattle.test_stores.proofs.MarkLemmas.{passes_marks, fails_after}
 use Rattle.test_stores.proofs.disk_store.DiskStoreTuneStore.apply.Goals as goal
 
@@ -22,3 +25,13 @@ returns-in-Err-clause-stops g c =
     let archive = c.in_ok-reply.ensures.stops in
     let mark = c.in-Err.ensures in
     passes_marks _ _ _ _ _ _ mark.was_honest mark.marks (λ honest. archive.reaches tt) archive.stays_sound
+
+pub returns-in-Ok-clause-unchanged : goal.returns-in-Ok-clause-unchanged
+returns-in-Ok-clause-unchanged g c = λ same honest.
+    let other : changes_nothing c.args.command.now ≡ false = search rules in
+    absurd (changes c.args.self.now.archive c.apply.new.self c.args.command.now _ c.in_ok-reply.ensures.answer other same)
+
+pub returns-in-Err-clause-unchanged : goal.returns-in-Err-clause-unchanged
+returns-in-Err-clause-unchanged g c = λ same honest.
+    let other : changes_nothing c.args.command.now ≡ false = search rules in
+    absurd (changes c.args.self.now.archive c.apply.new.self c.args.command.now _ c.in_ok-reply.ensures.answer other same)

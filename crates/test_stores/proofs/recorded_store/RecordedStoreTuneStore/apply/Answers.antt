@@ -1,6 +1,7 @@
-use Rattle.std.proofs.Common.{ℕ, List, [], ◌∷◌, ◌++◌, Ok, ap, sym, ◌∙◌}
+use Rattle.std.proofs.Common.{◌≡◌, false, rules, ℕ, List, [], ◌∷◌, ◌++◌, Ok, ap, sym, ◌∙◌}
 use Rattle.std.proofs.lemmas.Result.{err_from_is_err_and}
-use Rattle.tune_store.specs.Answers.{passed, file_full, no_memory}
+use Rattle.tune_store.specs.Answers.{changes_nothing, passed, file_full, no_memory}
+use Rattle.test_stores.proofs.KeptLemmas.{changes}
 use Rattle.test_stores.proofs.RecordLemmas.{pushes}
 use Rattle.test_stores.proofs.recorded_store.RecordedStoreTuneStore.apply.Goals as goal
 
@@ -26,3 +27,8 @@ returns-clause-stops c =
       keeps = λ honest. goes.keeps;
       leaves = λ sound honest since file early left. goes.leaves since file left;
     }
+
+pub returns-clause-unchanged : goal.returns-clause-unchanged
+returns-clause-unchanged c = λ same honest.
+    let other : changes_nothing c.args.command.now ≡ false = search rules in
+    absurd (changes c.args.self.now.archive c.apply.new.self c.args.command.now _ c.in_ok-reply.ensures.answer other same)

@@ -26,7 +26,8 @@ pub over-requires : goal.over-requires
 over-requires g c =
     let call = c.in_ok-pages.ensures in
     made_shelf g.D.Disk.honest g.D.Disk.state g.met.D.Disk.seen_may_stay c.in_ok-pages.pages c.write_root-root.result.bytes c.nothing.result
-    call.pages call.used call.limit.1 c.write_root-root.ensures.root call.rest c.nothing.ensures.layout c.nothing.ensures.rows c.nothing.ensures.sets c.nothing.ensures.firsts
+    call.pages call.used call.limit.1 c.write_root-root.ensures.root call.rest c.nothing.ensures.layout c.nothing.ensures.rows c.nothing.ensures.sets
+    c.nothing.ensures.firsts
 
 pub returns-clause-honest : goal.returns-clause-honest
 returns-clause-honest g c = λ h.

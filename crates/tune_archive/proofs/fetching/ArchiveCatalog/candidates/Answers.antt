@@ -1,7 +1,6 @@
-use Rattle.std.proofs.Common.{◌≡◌, ◌+◌, ◌<◌, ◌≤◌, ◌∙◌, sym, ap, length, arith}
+use Rattle.std.proofs.Common.{◌≡◌, ◌<◌, sym, ap, length, arith}
 use Rattle.std.proofs.lemmas.List.{length-map}
 use Rattle.tune_contents.specs.Holds.{label_in, labels_in}
-use Rattle.tune_store.specs.Labels.{labels_of}
 use Rattle.tune_store.proofs.PlanLemmas.{labels_long}
 use Rattle.tune_store.proofs.CandidateLemmas.{range_rises, range_has}
 use Rattle.tune_archive.specs.Inside.Fetched.{none_fetched}

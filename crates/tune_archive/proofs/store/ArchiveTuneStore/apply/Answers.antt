@@ -72,7 +72,8 @@ unmade g c =
     c.args.command.now c.in-Some.change plan.reply c.in_err-made.field-0.0 is_open
     (no_question _ _ c.in-Some.change c.in_ok-change.ensures.asks c.in-Some.is)
     (alters g.D.Disk.honest g.D.Disk.failures g.D.Disk.state c.args.self.now c.decide-decided.new.catalog c.args.command.now _ c.in-Some.change was
-    c.holds.ensures is_open c.in_ok-change.ensures.fetched c.in_ok-change.ensures.changes c.in-Some.is) c.in_ok-change.ensures.fetched steps c.in_err-made.ensures
+    c.holds.ensures is_open c.in_ok-change.ensures.fetched c.in_ok-change.ensures.changes c.in-Some.is) c.in_ok-change.ensures.fetched steps
+    c.in_err-made.ensures
 
 pub returns-in_err-made-clause-answer : goal.returns-in_err-made-clause-answer
 returns-in_err-made-clause-answer g c =
