@@ -1,5 +1,6 @@
 -- How a change of an archive is made on its pages.
-use Rattle.std.specs.Prelude.{◌≡◌, ◌⊎◌, ◌≤◌, ℕ, Bool, true, false, length, Option, Result, MatchResult}
+use Rattle.std.specs.Prelude.{◌≡◌, ◌⊎◌, ◌≤◌, ℕ, Bool, true, false, length}
+use Rattle.std.specs.Prelude.{Option, Result, MatchResult}
 use Rattle.tune_disk.specs.Disk.{DiskState}
 use Rattle.tune_disk.specs.Stops.{LeavesOnly, SinceThen}
 use Rattle.tune_journal.specs.Image.{StandsFor, StandsForEither}
