@@ -36,16 +36,6 @@ put_takes (Err OutOfMemory) old new bytes closed put answer = λ e. cc
 put_takes (Err Device) old new bytes closed put answer = λ e. cc
 put_takes (Err Closed) old new bytes closed put answer = λ e. cc
 
--- two calls, one after the other
-pub takes_after : {T : Type 0} (n m : ℕ) (r : Result T Fault) (old mid new : Stand) → free_pages old.used ≤ free_pages mid.used + n
-    → TakesAtMost m r mid new → TakesAtMost (n + m) r old new
-takes_after n m (Ok x) old mid new le takes = omega (arith, le, takes)
-takes_after n m (Err fault) old mid new le takes = λ e. (let lt = takes e in omega (arith, le, lt))
-
-pub takes_more : {T : Type 0} (n m : ℕ) (r : Result T Fault) (old new : Stand) → n ≤ m → TakesAtMost n r old new → TakesAtMost m r old new
-takes_more n m (Ok x) old new le takes = omega (arith, le, takes)
-takes_more n m (Err fault) old new le takes = λ e. (let lt = takes e in omega (arith, le, lt))
-
 -- behind a call that took none
 pub takes_behind : {T : Type 0} (m : ℕ) (r : Result T Fault) (old mid new : Stand) → free_pages old.used ≤ free_pages mid.used
     → TakesAtMost m r mid new → TakesAtMost m r old new
