@@ -1,0 +1,5 @@
+use Rattle.index_keys.specs.Inside.CutLaw.{cut_within}
+use Rattle.index_keys.proofs.laws.law_of_cuts.Goals as goal
+
+pub returns : goal.returns
+returns c = λ width front rest. cut_within width front rest

@@ -1,0 +1,2 @@
+pub mod KeyBytes
+pub mod CutLaw

@@ -1,0 +1,4 @@
+pub mod Entries
+pub mod Cuts
+pub mod Keys
+pub mod Inside

@@ -1,0 +1,144 @@
+-- The bytes of a leaf, read and written.
+use Rattle.std.proofs.Common.{◌≡◌, ℕ, zero, suc, ◌+◌, ◌-◌, ◌/◌, ◌*◌, ◌^◌, ◌<◌, ◌≤◌, List, [], ◌∷◌, ◌++◌, length, take, drop, refl, sym, ap, ◌∙◌, arith, append_assoc, length-append, length-drop}
+use Rattle.std.proofs.Math.Nat.{add-mul, div-mul-le_self, mul-le-mul_right}
+use Rattle.std.proofs.lemmas.List.{append-nil, take_all}
+use Rattle.byteorder.specs.Endian.{big_number, big_bytes}
+use Rattle.byteorder.specs.Numbers.{big_number-reads_back, length-bytes_high_first}
+use Rattle.index_keys.specs.Entries.{Entry, FitsLeaf, AllFit}
+use Rattle.tune_index.specs.Leaves.{capacity, value_in, value_bytes, count_in, count_bytes, entry_in, entries_in, leaf_in, entry_bytes, entries_bytes, IsLeaf}
+
+-- what the opaque words are
+pub value_in_is : (bytes : List ℕ) → value_in bytes ≡ big_number 4 bytes
+unfolding value_in
+value_in_is bytes = refl
+
+pub value_bytes_is : (value : ℕ) → value_bytes value ≡ big_bytes 4 value
+unfolding value_bytes
+value_bytes_is value = refl
+
+pub count_in_is : (bytes : List ℕ) → count_in bytes ≡ big_number 2 bytes
+unfolding count_in
+count_in_is bytes = refl
+
+pub count_bytes_is : (count : ℕ) → count_bytes count ≡ big_bytes 2 count
+unfolding count_bytes
+count_bytes_is count = refl
+
+pub capacity_is : (width : ℕ) → capacity width ≡ 4094 / (width + 4)
+unfolding capacity
+capacity_is width = refl
+
+pub leaf_in_is : (width : ℕ) (image : List ℕ) → leaf_in width image ≡ entries_in width (count_in image) (drop 2 image)
+unfolding leaf_in
+leaf_in_is width image = refl
+
+-- a number and a count, written and read
+pub length-value_bytes : (value : ℕ) → length (value_bytes value) ≡ 4
+unfolding value_bytes
+length-value_bytes value = length-bytes_high_first 4 value
+
+pub length-count_bytes : (count : ℕ) → length (count_bytes count) ≡ 2
+unfolding count_bytes
+length-count_bytes count = length-bytes_high_first 2 count
+
+value_back : (value : ℕ) (rest : List ℕ) → value < 2 ^ 32 → value_in (value_bytes value ++ rest) ≡ value
+unfolding value_in value_bytes
+value_back value rest h = big_number-reads_back 4 value rest h
+
+count_back : (count : ℕ) (rest : List ℕ) → count < 256 ^ 2 → count_in (count_bytes count ++ rest) ≡ count
+unfolding count_in count_bytes
+count_back count rest h = big_number-reads_back 2 count rest h
+
+-- what stands after the first of two lists
+drop_front : (n : ℕ) (xs ys : List ℕ) → length xs ≡ n → drop n (xs ++ ys) ≡ ys
+drop_front zero [] ys e = refl
+drop_front zero (x ∷ xs) ys e = absurd (omega arith)
+drop_front (suc n) [] ys e = absurd (omega arith)
+drop_front (suc n) (x ∷ xs) ys e = drop_front n xs ys (omega arith)
+
+-- the bytes of an entry
+pub length-entry_bytes : (width : ℕ) (e : Entry) → length (entry_bytes width e) ≡ width + 4
+length-entry_bytes width e =
+    let a = length-append (big_bytes width e.0) (value_bytes e.1) in
+    let b = length-bytes_high_first width e.0 in
+    let d = length-value_bytes e.1 in
+    omega (arith, a, b, d)
+
+-- the entry that was written is the one that is read
+entry_back : (width : ℕ) (e : Entry) (rest : List ℕ) → FitsLeaf width e → entry_in width (entry_bytes width e ++ rest) ≡ e
+entry_back width e rest fits =
+    let s : entry_bytes width e ++ rest ≡ big_bytes width e.0 ++ (value_bytes e.1 ++ rest) = append_assoc (big_bytes width e.0) (value_bytes e.1) rest in
+    let k : big_number width (big_bytes width e.0 ++ (value_bytes e.1 ++ rest)) ≡ e.0 = big_number-reads_back width e.0 (value_bytes e.1 ++ rest) fits.key in
+    let d : drop width (big_bytes width e.0 ++ (value_bytes e.1 ++ rest)) ≡ value_bytes e.1 ++ rest = drop_front width (big_bytes width e.0) (value_bytes e.1 ++ rest) (length-bytes_high_first width e.0) in
+    let v : value_in (value_bytes e.1 ++ rest) ≡ e.1 = value_back e.1 rest fits.value in
+    ap (entry_in width) s ∙ rw (k, d, v) refl
+
+-- the entries that were written are those that are read
+pub entries_back : (width : ℕ) (es : List Entry) (rest : List ℕ) → AllFit width es → entries_in width (length es) (entries_bytes width es ++ rest) ≡ es
+entries_back width [] rest fit = refl
+entries_back width (e ∷ es) rest fit =
+    let s : entries_bytes width (e ∷ es) ++ rest ≡ entry_bytes width e ++ (entries_bytes width es ++ rest) = append_assoc (entry_bytes width e) (entries_bytes width es) rest in
+    let first = entry_back width e (entries_bytes width es ++ rest) fit.0 in
+    let d : drop (width + 4) (entry_bytes width e ++ (entries_bytes width es ++ rest)) ≡ entries_bytes width es ++ rest = drop_front (width + 4) (entry_bytes width e) (entries_bytes width es ++ rest) (length-entry_bytes width e) in
+    let more = entries_back width es rest fit.1 in
+    ap (entries_in width (suc (length es))) s ∙ rw (first, d, more) refl
+
+-- a leaf that was written is the one that is read
+pub leaf_back : (width : ℕ) (es : List Entry) (image rest : List ℕ) → AllFit width es → length es < 256 ^ 2
+    → image ≡ (count_bytes (length es) ++ entries_bytes width es) ++ rest → leaf_in width image ≡ es
+unfolding leaf_in
+leaf_back width es image rest fit small e =
+    let s : image ≡ count_bytes (length es) ++ (entries_bytes width es ++ rest) = e ∙ append_assoc (count_bytes (length es)) (entries_bytes width es) rest in
+    let n : count_in image ≡ length es = ap count_in s ∙ count_back (length es) (entries_bytes width es ++ rest) small in
+    let d : drop 2 image ≡ entries_bytes width es ++ rest = ap (drop 2) s ∙ drop_front 2 (count_bytes (length es)) (entries_bytes width es ++ rest) (length-count_bytes (length es)) in
+    rw (n, d) (entries_back width es rest fit)
+
+-- and has the form of a leaf
+pub is_leaf_written : (width : ℕ) (es : List Entry) (image rest : List ℕ) → 1 ≤ length es → length es ≤ capacity width → length es < 256 ^ 2
+    → image ≡ (count_bytes (length es) ++ entries_bytes width es) ++ rest → IsLeaf width image
+is_leaf_written width es image rest some within small e =
+    let s : image ≡ count_bytes (length es) ++ (entries_bytes width es ++ rest) = e ∙ append_assoc (count_bytes (length es)) (entries_bytes width es) rest in
+    let n : count_in image ≡ length es = ap count_in s ∙ count_back (length es) (entries_bytes width es ++ rest) small in
+    record { some = omega arith; within = omega arith }
+
+-- the bytes of entries, one entry after the other
+pub entries_bytes-push : (width : ℕ) (es : List Entry) (e : Entry) → entries_bytes width (es ++ e ∷ []) ≡ entries_bytes width es ++ entry_bytes width e
+entries_bytes-push width [] e = append-nil (entry_bytes width e)
+entries_bytes-push width (x ∷ xs) e = ap (λ (r : List ℕ). entry_bytes width x ++ r) (entries_bytes-push width xs e) ∙ sym (append_assoc (entry_bytes width x) (entries_bytes width xs) (entry_bytes width e))
+
+pub AllFit-push : (width : ℕ) (es : List Entry) (e : Entry) → AllFit width es → FitsLeaf width e → AllFit width (es ++ e ∷ [])
+AllFit-push width [] e h k = (k, tt)
+AllFit-push width (x ∷ xs) e h k = (h.0, AllFit-push width xs e h.1 k)
+
+pub length-entries_bytes : (width : ℕ) (es : List Entry) → length (entries_bytes width es) ≡ length es * (width + 4)
+length-entries_bytes width [] = omega arith
+length-entries_bytes width (e ∷ es) =
+    let a = length-append (entry_bytes width e) (entries_bytes width es) in
+    let b = length-entry_bytes width e in
+    let d = length-entries_bytes width es in
+    let m : (length es + 1) * (width + 4) ≡ length es * (width + 4) + 1 * (width + 4) = add-mul (length es) 1 (width + 4) in
+    omega (arith, a, b, d, m)
+
+-- entries that go into a page
+pub room_for : (width n : ℕ) → n ≤ capacity width → n * (width + 4) ≤ 4094
+unfolding capacity
+room_for width n h =
+    let a : n * (width + 4) ≤ 4094 / (width + 4) * (width + 4) = mul-le-mul_right (width + 4) h in
+    let b = div-mul-le_self 4094 (width + 4) in
+    omega arith
+
+-- one entry fewer
+pub room_more : (width n m k : ℕ) → n ≡ suc m → n * (width + 4) ≤ k → (width + 4 ≤ k) × (m * (width + 4) ≤ k - (width + 4))
+room_more width n m k e h =
+    let s : n * (width + 4) ≡ (m + 1) * (width + 4) = ap (λ (x : ℕ). x * (width + 4)) (omega arith) in
+    let a : (m + 1) * (width + 4) ≡ m * (width + 4) + 1 * (width + 4) = add-mul m 1 (width + 4) in
+    (omega arith, omega arith)
+
+-- what `&s[n..]` is
+pub to_end : (n : ℕ) (xs : List ℕ) → take (length xs - n) (drop n xs) ≡ drop n xs
+to_end n xs = take_all (length xs - n) (drop n xs) (omega (arith, length-drop n xs))
+
+-- as many entries as were read
+pub length-entries_in : (width n : ℕ) (bytes : List ℕ) → length (entries_in width n bytes) ≡ n
+length-entries_in width zero bytes = refl
+length-entries_in width (suc n) bytes = let e = length-entries_in width n (drop (width + 4) bytes) in omega arith

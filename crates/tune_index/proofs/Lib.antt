@@ -1,0 +1,16 @@
+pub mod Codec
+pub mod Lists
+pub mod Edits
+pub mod Ranges
+pub mod Puts
+pub mod Splits
+pub mod LeafLists
+pub mod Runs
+pub mod Ends
+pub mod Answering
+pub mod Fulls
+pub mod Storing
+pub mod Loading
+pub mod EachPage
+pub mod Found
+pub mod Balances

@@ -1,0 +1,100 @@
+use Rattle.std.proofs.Common.{◌≡◌, ℕ, ◌+◌, ◌-◌, ◌<◌, ◌++◌, List, length, take, drop, rules, arith, sym, ap, ◌∙◌, subst}
+use Rattle.std.proofs.Math.Seq.{take-add}
+use Rattle.std.proofs.lemmas.List.{take-append-drop}
+use Rattle.tune_pages.specs.Work.{stand}
+use Rattle.tune_pages.proofs.Frames.{trades_none, trades_then}
+use Rattle.tune_pages.proofs.Looking.{looked_more}
+use Rattle.index_keys.specs.Entries.{Entry, IsRising, inserted_all}
+use Rattle.tune_index.specs.Indexes.{entries_of}
+use Rattle.tune_index.proofs.Answering.{change_edit, edit_more}
+use Rattle.tune_index.proofs.Balances.{inserted_all_some}
+use Rattle.tune_index.proofs.Fulls.{list_then}
+use Rattle.tune_index.proofs.Lists.{rises_back}
+use Rattle.tune_index.proofs.Runs.{inserted_all-append}
+use Rattle.tune_index.proofs.index.Index.insert_all.Goals as goal
+
+pub returns-then-is_empty-clause-trades : goal.returns-then-is_empty-clause-trades
+returns-then-is_empty-clause-trades g c = λ h. trades_none c.args.self.now.pages (stand c.args.pages.now c.args.work.now)
+
+pub returns-in-Err-clause-answer : goal.returns-in-Err-clause-answer
+returns-in-Err-clause-answer g c =
+    let entries = entries_of g.row.W (stand c.args.pages.now c.args.work.now) c.args.self.now.pages in
+    let some : 0 < length c.args.run.now = search rules in
+    change_edit c.in-Err.fault c.requires.open (λ full honest. (let more = inserted_all_some c.args.run.now entries some in omega (arith, full.0, full.1, more)))
+    c.in-Err.ensures.answer
+
+-- what is left of a run rises
+rest_rises : (at : ℕ) (run : List Entry) → IsRising run → IsRising (drop at run)
+rest_rises at run up = rises_back 0 (take at run) (drop at run) (subst (λ (x : List Entry). IsRising x) (sym (take-append-drop at run)) up)
+
+pub insert_from-requires : goal.insert_from-requires
+insert_from-requires g c =
+    let i = c.loop-at.invariant in (
+      search rules,
+      (
+        search rules,
+        (
+          i.looked.still,
+          (
+            i.fits,
+            (
+              i.pages,
+              (
+                i.index,
+                (
+                  i.some,
+                  (
+                    rest_rises c.loop-at.at c.args.run.now c.requires.rising,
+                    c.loop-at-test.true,
+                  ),
+                ),
+              ),
+            ),
+          ),
+        ),
+      ),
+    )
+
+pub loop-at-preserved : goal.loop-at-preserved
+loop-at-preserved g c =
+    let i = c.loop-at.invariant in
+    let e = c.in-Ok-insert_from.ensures in
+    let at = c.loop-at.at in
+    let end = c.in-Ok-insert_from.end in
+    let run : List Entry = c.args.run.now in
+    let s0 = stand c.args.pages.now c.args.work.now in
+    let s1 = stand c.loop-at.pages c.loop-at.work in
+    let s2 = stand c.insert_from.new.pages c.insert_from.new.work in
+    record {
+      within = e.within;
+      some = e.some;
+      looked = looked_more g.D.Disk.honest g.D.Disk.failures g.D.Disk.state end c.args.pages.now c.loop-at.pages c.insert_from.new.pages i.looked e.looks;
+      fits = e.fits;
+      list = list_then c.args.self.now c.loop-at.self c.insert_from.new.index i.list e.list;
+      pages = e.pages;
+      balance = i.balance ∙ e.balance;
+      trades = λ h. trades_then c.args.self.now.pages c.loop-at.self.pages c.insert_from.new.index.pages s0 s1 s2 (i.trades (e.looks.was_honest h)) (e.trades h);
+      index = λ h. (e.entries h).0;
+      entries = λ h.
+          let old = i.entries (e.looks.was_honest h) in
+          let first = entries_of g.row.W s0 c.args.self.now.pages in
+          let part = take (end - at) (drop at run) in
+          let sum : at + (end - at) ≡ end = omega (arith, e.later) in
+          let t : take end run ≡ take at run ++ part = ap (λ (k : ℕ). take k run) (sym sum) ∙ take-add at (end - at) run in
+          (e.entries h).1 ∙ ap (inserted_all part) old ∙ sym (inserted_all-append (take at run) part first) ∙ ap (λ (x : List Entry). inserted_all x first) (sym t);
+    }
+
+pub returns-in-Err-insert_from-clause-answer : goal.returns-in-Err-insert_from-clause-answer
+returns-in-Err-insert_from-clause-answer g c =
+    let i = c.loop-at.invariant in
+    let e = c.in-Err-insert_from.ensures in
+    let at = c.loop-at.at in
+    let run : List Entry = c.args.run.now in
+    let first = entries_of g.row.W (stand c.args.pages.now c.args.work.now) c.args.self.now.pages in
+    edit_more c.in-Err-insert_from.fault c.insert_from.new.pages.closed
+    (λ full honest.
+    let back = e.looks.was_honest honest in
+    let few = full honest in
+    let now = ap (λ (x : List Entry). length (inserted_all (drop at run) x)) (i.entries back) in
+    let whole = ap length (sym (inserted_all-append (take at run) (drop at run) first) ∙ ap (λ (x : List Entry). inserted_all x first) (take-append-drop at run)) in
+    omega (arith, few, now, whole, i.balance)) e.answer

@@ -1,0 +1,73 @@
+use Rattle.std.proofs.Common.{◌≡◌, ◌≤◌, ◌*◌, ◌∙◌, ℕ, List, true, false, length, sym, ap, subst, arith, rules}
+use Rattle.tune_pages.specs.Faults.{free_pages, pages_for}
+use Rattle.tune_pages.specs.Stand.{Stand, HasChain, marked, without_pages}
+use Rattle.tune_pages.specs.Work.{stand}
+use Rattle.tune_index.specs.Listed.{StoresList, listed_bytes}
+use Rattle.tune_pages.proofs.Counting.{marked_less}
+use Rattle.tune_pages.proofs.FreePages.{freed_more}
+use Rattle.tune_index.proofs.Answering.{full_work, work_edit}
+use Rattle.tune_index.proofs.Storing.{length-listed, stores, stores_none}
+use Rattle.tune_index.proofs.index.Index.store.Goals as goal
+
+pub returns-then-listed-clause-stores : goal.returns-then-listed-clause-stores
+returns-then-listed-clause-stores g c = λ h.
+    let s = stand c.args.pages.now c.args.work.now in
+    let was = c.args.self.now in
+    let has = c.requires.list h in
+    let on : was.listed ≡ true = search rules in
+    let same : c.list_of-first.result.0 ≡ was.first = c.list_of-first.ensures.0 in
+    subst (λ (n : ℕ). StoresList s s was.first n was.pages) (sym same)
+    (stores_none s was.first was.pages has.0 has.1 has.2 (has.3 on) (λ t u a b x y. c.law_of_chains.ensures.once s.pages was.first t u a b x.chain y.chain))
+
+pub returns-in-Err-put_chain-clause-answer : goal.returns-in-Err-put_chain-clause-answer
+returns-in-Err-put_chain-clause-answer g c =
+    let still : c.free_chain.new.self.closed ≡ false = search rules in
+    work_edit c.in-Err-put_chain.fault c.free_chain.new.self.closed still (λ _. tt) c.in-Err-put_chain.ensures.answer
+
+-- as many pages are free then, and those of the old list besides
+freed_list : (s mid : Stand) (first at : ℕ) (trail all : List ℕ) → at ≡ first → HasChain s first trail all
+    → ((t a : List ℕ) → HasChain s at t a → mid ≡ without_pages t s) → free_pages s.used ≤ free_pages mid.used
+freed_list s mid first at trail all same has freed =
+    let is = freed trail all (subst (λ (n : ℕ). HasChain s n trail all) (sym same) has) in
+    let free : free_pages mid.used ≡ free_pages (marked false trail s.used) = ap (λ (m : Stand). free_pages m.used) is in
+    let more = freed_more trail s.used has.used in
+    omega (arith, free, more)
+
+pub returns-in-Err-put_chain-clause-takes : goal.returns-in-Err-put_chain-clause-takes
+returns-in-Err-put_chain-clause-takes g c = λ h is.
+    let s = stand c.args.pages.now c.args.work.now in
+    let mid = stand c.free_chain.new.self c.free_chain.new.work in
+    let was = c.args.self.now in
+    let has = c.requires.list (c.in-Ok-free_chain.ensures.looks.was_honest h) in
+    let least = freed_list s mid was.first c.list_of-first.result.0 has.0 has.1 c.list_of-first.ensures.0 has.2 (c.in-Ok-free_chain.ensures.stand h) in
+    let bytes : c.deref.result.now ≡ listed_bytes was.pages = c.deref.ensures.value ∙ c.in-Ok.ensures in
+    let size : pages_for (length c.deref.result.now) ≡ pages_for (4 * length was.pages) = ap (λ (x : List ℕ). pages_for (length x)) bytes ∙ ap pages_for (length-listed was.pages) in
+    let full = full_work c.in-Err-put_chain.fault c.free_chain.new.self.closed is c.in-Err-put_chain.ensures.answer in
+    omega (arith, least, size, full)
+
+pub returns-clause-takes : goal.returns-clause-takes
+returns-clause-takes g c = λ h.
+    let s = stand c.args.pages.now c.args.work.now in
+    let mid = stand c.free_chain.new.self c.free_chain.new.work in
+    let new = stand c.free_chain.new.self c.put_chain.new.work in
+    let was = c.args.self.now in
+    let has = c.requires.list (c.in-Ok-free_chain.ensures.looks.was_honest h) in
+    let least = freed_list s mid was.first c.list_of-first.result.0 has.0 has.1 c.list_of-first.ensures.0 has.2 (c.in-Ok-free_chain.ensures.stand h) in
+    let bytes : c.deref.result.now ≡ listed_bytes was.pages = c.deref.ensures.value ∙ c.in-Ok.ensures in
+    let size : pages_for (length c.deref.result.now) ≡ pages_for (4 * length was.pages) = ap (λ (x : List ℕ). pages_for (length x)) bytes ∙ ap pages_for (length-listed was.pages) in
+    let chain = c.in-Ok-put_chain.ensures.chain in
+    let less = marked_less chain.0 mid.used chain.1.free in
+    let used : free_pages new.used ≡ free_pages (marked true chain.0 mid.used) = ap free_pages chain.1.used in
+    omega (arith, least, size, less, used, chain.1.count)
+
+pub returns-clause-stores : goal.returns-clause-stores
+returns-clause-stores g c = λ h.
+    let s = stand c.args.pages.now c.args.work.now in
+    let mid = stand c.free_chain.new.self c.free_chain.new.work in
+    let new = stand c.free_chain.new.self c.put_chain.new.work in
+    let was = c.args.self.now in
+    let same : c.list_of-first.result.0 ≡ was.first = c.list_of-first.ensures.0 in
+    let bytes : c.deref.result.now ≡ listed_bytes was.pages = c.deref.ensures.value ∙ c.in-Ok.ensures in
+    subst (λ (n : ℕ). StoresList s new n c.in-Ok-put_chain.next was.pages) same
+    (stores s mid new c.list_of-first.result.0 c.in-Ok-put_chain.next was.pages c.deref.result.now bytes (c.in-Ok-free_chain.ensures.stand h)
+    c.in-Ok-put_chain.ensures.chain)

@@ -1,0 +1,4 @@
+pub mod Places
+pub mod LeafLists
+pub mod EachPage
+pub mod Loading

@@ -1,0 +1,309 @@
+// Leaves written, put in place of others, added and taken out.
+ghost use Rattle.std.specs.Prelude.{◌≡◌, false, true, ℕ, List, ◌≤◌, ◌<◌, ◌+◌, ◌++◌, length, OnOk};
+ghost use Rattle.std.specs.Prelude.{slice_index, slice_set, take, drop};
+ghost use Rattle.std.specs.List.{insert, remove};
+ghost use Rattle.tune_pages.specs.Faults.{free_pages};
+ghost use Rattle.tune_pages.specs.Frame.{InUse, Puts, TradesPages, image_at};
+ghost use Rattle.tune_pages.specs.Work.{stand, Fits};
+ghost use Rattle.index_keys.specs.Entries.{Entry};
+ghost use Rattle.tune_index.specs.Faults.{AnswersChange};
+ghost use Rattle.tune_index.specs.Indexes.{HasPages, KeepsBalance, KeepsList};
+ghost use Rattle.tune_index.specs.Inside.LeafLists.{HasLeaves, joined};
+ghost use Rattle.tune_index.specs.Leaves.{IsLeaf, capacity, leaf_in, slice_entry};
+
+use crate::index::{Index, leaf_count, leaf_page};
+use crate::leaf::{capacity_of, write_leaf};
+use index_keys::IndexKey;
+use std::alloc::{AllocError, Global};
+use tune_disk::Disk;
+use tune_pages::{Fault, Pages, Work, law_of_frames, law_of_works};
+
+// The leaf goes into a page.
+fn write_page_leaf<D: Disk, const W: usize>(
+    alloc: Global,
+    pages: &Pages<D>,
+    work: &mut Work,
+    page: u32,
+    leaf: &[(IndexKey<W>, u32)],
+) -> Result<(), Fault>
+    requires width { W ≤ 4090 }
+    requires open { pages.now.closed ≡ false }
+    requires fits { Fits pages.now work.old }
+    requires in_use { InUse (stand pages.now work.old) page }
+    requires some { 1 ≤ length leaf.now }
+    requires within { length leaf.now ≤ capacity W }
+    ensures fits { OnOk result (Fits pages.now work.new) }
+    ensures leaf { OnOk result
+        (leaf_in W (image_at (stand pages.now work.new) page) ≡ leaf.now) }
+    ensures form { OnOk result (IsLeaf W (image_at (stand pages.now work.new) page)) }
+    ensures used { OnOk result
+        ((stand pages.now work.new).used ≡ (stand pages.now work.old).used) }
+    ensures puts { OnOk result (Puts (stand pages.now work.old) (stand pages.now work.new) page
+        (image_at (stand pages.now work.new) page)) }
+    ensures answer { AnswersChange result ⊥ }
+{
+    law_of_works();
+    law_of_frames();
+    match write_leaf(alloc, leaf) {
+        Ok(image) => pages.put_page(work, page, &image)?,
+        Err(_) => return Err(Fault::OutOfMemory),
+    }
+    Ok(())
+}
+
+// The leaf goes into the page of the one at the place, and its first entry into memory.
+fn replace_leaf<D: Disk, const W: usize>(
+    alloc: Global,
+    pages: &Pages<D>,
+    work: &mut Work,
+    index: &mut Index<W>,
+    place: usize,
+    leaf: &[(IndexKey<W>, u32)],
+) -> Result<(), Fault>
+    requires open { pages.now.closed ≡ false }
+    requires fits { Fits pages.now work.old }
+    requires place { place < length index.old.pages }
+    requires in_use { InUse (stand pages.now work.old) (slice_index index.old.pages place) }
+    requires some { 1 ≤ length leaf.now }
+    requires within { length leaf.now ≤ capacity W }
+    ensures fits { OnOk result (Fits pages.now work.new) }
+    ensures pages { OnOk result (index.new.pages ≡ index.old.pages) }
+    ensures heads { OnOk result
+        (index.new.heads ≡ slice_set index.old.heads place (slice_entry leaf.now 0)) }
+    ensures list { OnOk result ((index.new.first ≡ index.old.first)
+        × (index.new.listed ≡ index.old.listed)) }
+    ensures leaf { OnOk result (leaf_in W
+        (image_at (stand pages.now work.new) (slice_index index.old.pages place)) ≡ leaf.now) }
+    ensures form { OnOk result (IsLeaf W
+        (image_at (stand pages.now work.new) (slice_index index.old.pages place))) }
+    ensures used { OnOk result
+        ((stand pages.now work.new).used ≡ (stand pages.now work.old).used) }
+    ensures puts { let page = slice_index index.old.pages place in
+        OnOk result (Puts (stand pages.now work.old) (stand pages.now work.new) page
+        (image_at (stand pages.now work.new) page)) }
+    ensures answer { AnswersChange result ⊥ }
+{
+    let page = index.pages[place];
+    let first = &leaf[0];
+    let head = (first.0.copy(), first.1);
+    write_page_leaf(alloc, pages, work, page, leaf)?;
+    index.heads[place] = head;
+    Ok(())
+}
+
+// A page comes into the list of leaves, with the entry that begins it.
+fn list_leaf<const W: usize>(
+    index: &mut Index<W>,
+    place: usize,
+    page: u32,
+    head: (IndexKey<W>, u32),
+) -> Result<(), AllocError>
+    requires { place ≤ length index.old.pages }
+    ensures pages { OnOk result (index.new.pages ≡ insert index.old.pages place page) }
+    ensures heads { OnOk result (index.new.heads ≡ insert index.old.heads place head.entry) }
+    ensures list { OnOk result (KeepsList index.old index.new) }
+{
+    index.pages.reserve(1)?;
+    index.heads.reserve(1)?;
+    index.pages.insert(place, page).unwrap();
+    index.heads.insert(place, head).unwrap();
+    index.listed = false;
+    Ok(())
+}
+
+// A page goes out of the list of leaves.
+fn unlist_leaf<const W: usize>(index: &mut Index<W>, place: usize)
+    requires { place < length index.old.pages }
+    ensures pages { index.new.pages ≡ remove index.old.pages place }
+    ensures heads { index.new.heads ≡ remove index.old.heads place }
+    ensures list { KeepsList index.old index.new }
+{
+    let _page = index.pages.remove(place);
+    let _head = index.heads.remove(place);
+    index.listed = false;
+}
+
+// The leaf goes in place of the one at the place.
+pub(crate) fn set_leaf<D: Disk, const W: usize>(
+    alloc: Global,
+    pages: &Pages<D>,
+    work: &mut Work,
+    index: &mut Index<W>,
+    place: usize,
+    leaf: &[(IndexKey<W>, u32)],
+) -> Result<(), Fault>
+    requires open { pages.now.closed ≡ false }
+    requires fits { Fits pages.now work.old }
+    requires place { place < length index.old.pages }
+    requires in_use { InUse (stand pages.now work.old) (slice_index index.old.pages place) }
+    requires some { 1 ≤ length leaf.now }
+    requires within { length leaf.now ≤ capacity W }
+    ensures fits { OnOk result (Fits pages.now work.new) }
+    ensures same { OnOk result (index.new.pages ≡ index.old.pages) }
+    ensures list { OnOk result (KeepsList index.old index.new) }
+    ensures pages { OnOk result (HasPages (stand pages.now work.old) index.old.pages
+        → HasPages (stand pages.now work.new) index.new.pages) }
+    ensures trades { OnOk result (HasPages (stand pages.now work.old) index.old.pages
+        → TradesPages index.old.pages index.new.pages
+        (stand pages.now work.old) (stand pages.now work.new)) }
+    ensures leaves { OnOk result (HasPages (stand pages.now work.old) index.old.pages
+        → (leaves : List (List Entry))
+        → HasLeaves W (stand pages.now work.old) index.old leaves
+        → HasLeaves W (stand pages.now work.new) index.new (slice_set leaves place leaf.now)) }
+    ensures balance { OnOk result (KeepsBalance (stand pages.now work.old)
+        (stand pages.now work.new) index.old.pages index.new.pages) }
+    ensures answer { AnswersChange result ⊥ }
+{
+    replace_leaf(alloc, pages, work, index, place, leaf)?;
+    Ok(())
+}
+
+// The leaf goes into a page of its own, which comes to the place.
+pub(crate) fn add_leaf<D: Disk, const W: usize>(
+    alloc: Global,
+    pages: &Pages<D>,
+    work: &mut Work,
+    index: &mut Index<W>,
+    place: usize,
+    leaf: &[(IndexKey<W>, u32)],
+) -> Result<(), Fault>
+    requires open { pages.now.closed ≡ false }
+    requires fits { Fits pages.now work.old }
+    requires place { place ≤ length index.old.pages }
+    requires some { 1 ≤ length leaf.now }
+    requires within { length leaf.now ≤ capacity W }
+    ensures fits { OnOk result (Fits pages.now work.new) }
+    ensures list { OnOk result (KeepsList index.old index.new) }
+    ensures pages { OnOk result (HasPages (stand pages.now work.old) index.old.pages
+        → HasPages (stand pages.now work.new) index.new.pages) }
+    ensures count { OnOk result (length index.new.pages ≡ length index.old.pages + 1) }
+    ensures trades { OnOk result (HasPages (stand pages.now work.old) index.old.pages
+        → TradesPages index.old.pages index.new.pages
+        (stand pages.now work.old) (stand pages.now work.new)) }
+    ensures leaves { OnOk result (HasPages (stand pages.now work.old) index.old.pages
+        → (leaves : List (List Entry))
+        → HasLeaves W (stand pages.now work.old) index.old leaves
+        → HasLeaves W (stand pages.now work.new) index.new (insert leaves place leaf.now)) }
+    ensures before { OnOk result ((other : ℕ) → other < place
+        → slice_index index.new.pages other ≡ slice_index index.old.pages other) }
+    ensures kept { OnOk result ((page : ℕ) → InUse (stand pages.now work.old) page
+        → InUse (stand pages.now work.new) page) }
+    ensures balance { OnOk result (KeepsBalance (stand pages.now work.old)
+        (stand pages.now work.new) index.old.pages index.new.pages) }
+    ensures answer { AnswersChange result (free_pages (stand pages.now work.old).used ≡ 0) }
+{
+    law_of_frames();
+    let _count = leaf_count(index);
+    let first = &leaf[0];
+    let head = (first.0.copy(), first.1);
+    let page = match pages.allocate(work) {
+        Ok(page) => page,
+        Err(fault) => return Err(fault),
+    };
+    match write_page_leaf(alloc, pages, work, page, leaf) {
+        Ok(()) => {}
+        Err(fault) => return Err(fault),
+    }
+    match list_leaf(index, place, page, head) {
+        Ok(()) => Ok(()),
+        Err(_) => Err(Fault::OutOfMemory),
+    }
+}
+
+// The leaf at the place is taken out, and its page is free.
+pub(crate) fn drop_leaf<D: Disk, const W: usize>(
+    pages: &Pages<D>,
+    work: &mut Work,
+    index: &mut Index<W>,
+    place: usize,
+) -> Result<(), Fault>
+    requires open { pages.now.closed ≡ false }
+    requires fits { Fits pages.now work.old }
+    requires place { place < length index.old.pages }
+    requires in_use { InUse (stand pages.now work.old) (slice_index index.old.pages place) }
+    ensures fits { OnOk result (Fits pages.now work.new) }
+    ensures list { OnOk result (KeepsList index.old index.new) }
+    ensures pages { OnOk result (HasPages (stand pages.now work.old) index.old.pages
+        → HasPages (stand pages.now work.new) index.new.pages) }
+    ensures trades { OnOk result (HasPages (stand pages.now work.old) index.old.pages
+        → TradesPages index.old.pages index.new.pages
+        (stand pages.now work.old) (stand pages.now work.new)) }
+    ensures leaves { OnOk result (HasPages (stand pages.now work.old) index.old.pages
+        → (leaves : List (List Entry))
+        → HasLeaves W (stand pages.now work.old) index.old leaves
+        → HasLeaves W (stand pages.now work.new) index.new (remove leaves place)) }
+    ensures balance { OnOk result (KeepsBalance (stand pages.now work.old)
+        (stand pages.now work.new) index.old.pages index.new.pages) }
+    ensures answer { AnswersChange result ⊥ }
+{
+    law_of_frames();
+    let page = leaf_page(index, place);
+    match pages.free(work, page) {
+        Ok(()) => {}
+        Err(fault) => return Err(fault),
+    }
+    unlist_leaf(index, place);
+    Ok(())
+}
+
+// How many entries go into each leaf where so many are spread over leaves: about the same number
+// into each.
+fn share_of(count: usize, most: usize) -> usize
+    requires { 1 ≤ most }
+    ensures some { 1 ≤ result }
+    ensures within { result ≤ most }
+{
+    let leaves = count.div_ceil(most).max(1);
+    count.div_ceil(leaves).min(most).max(1)
+}
+
+// The entries go in place of those of the leaf at the place, into that leaf and as many new ones
+// behind it as they need.
+pub(crate) fn spread<D: Disk, const W: usize>(
+    alloc: Global,
+    pages: &Pages<D>,
+    work: &mut Work,
+    index: &mut Index<W>,
+    place: usize,
+    entries: &[(IndexKey<W>, u32)],
+) -> Result<(), Fault>
+    requires open { pages.now.closed ≡ false }
+    requires fits { Fits pages.now work.old }
+    requires place { place < length index.old.pages }
+    requires in_use { InUse (stand pages.now work.old) (slice_index index.old.pages place) }
+    requires some { 1 ≤ length entries.now }
+    ensures fits { OnOk result (Fits pages.now work.new) }
+    ensures list { OnOk result (KeepsList index.old index.new) }
+    ensures some { OnOk result (0 < length index.new.pages) }
+    ensures pages { OnOk result (HasPages (stand pages.now work.old) index.old.pages
+        → HasPages (stand pages.now work.new) index.new.pages) }
+    ensures trades { OnOk result (HasPages (stand pages.now work.old) index.old.pages
+        → TradesPages index.old.pages index.new.pages
+        (stand pages.now work.old) (stand pages.now work.new)) }
+    ensures leaves { OnOk result (HasPages (stand pages.now work.old) index.old.pages
+        → (leaves : List (List Entry))
+        → HasLeaves W (stand pages.now work.old) index.old leaves → (more : List (List Entry))
+        × HasLeaves W (stand pages.now work.new) index.new more
+        × (joined more
+        ≡ joined (take place leaves) ++ (entries.now ++ joined (drop (place + 1) leaves)))) }
+    ensures balance { OnOk result (KeepsBalance (stand pages.now work.old)
+        (stand pages.now work.new) index.old.pages index.new.pages) }
+    ensures answer { AnswersChange result (free_pages (stand pages.now work.old).used + 1 < length entries.now) }
+{
+    let _count = leaf_count(index);
+    let next = place + 1;
+    let share = share_of(entries.len(), capacity_of(W));
+    let mut rest = entries.len();
+    while rest > share {
+        let from = rest - share;
+        match add_leaf(alloc, pages, work, index, next, &entries[from..rest]) {
+            Ok(()) => {}
+            Err(fault) => return Err(fault),
+        }
+        rest = from;
+    }
+    match set_leaf(alloc, pages, work, index, place, &entries[..rest]) {
+        Ok(()) => Ok(()),
+        Err(fault) => Err(fault),
+    }
+}

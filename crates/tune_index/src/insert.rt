@@ -1,0 +1,455 @@
+// Entries put into an index and taken out of it.
+ghost use Rattle.std.specs.Prelude.{◌≡◌, false, ℕ, List, [], ◌-◌, ◌≤◌, ◌<◌, ◌+◌, ◌++◌, length};
+ghost use Rattle.std.specs.Prelude.{IfOk, OnOk, slice_index, slice_index_or, take, drop};
+ghost use Rattle.tune_pages.specs.Faults.{free_pages};
+ghost use Rattle.tune_pages.specs.Frame.{InUse, TradesPages};
+ghost use Rattle.tune_pages.specs.Kept.{HonestAt};
+ghost use Rattle.tune_pages.specs.Reading.{LooksAt};
+ghost use Rattle.tune_pages.specs.Work.{stand, Fits};
+ghost use Rattle.index_keys.specs.Entries.{AllFit, Entry, FitsLeaf, IsRising, inserted};
+ghost use Rattle.index_keys.specs.Entries.{inserted_all, rank, removed};
+ghost use Rattle.tune_index.specs.Faults.{AnswersChange, AnswersEdit};
+ghost use Rattle.tune_index.specs.Indexes.{AllLeaves, HasPages, IsIndex, KeepsBalance, KeepsList};
+ghost use Rattle.tune_index.specs.Indexes.{entries_of};
+ghost use Rattle.tune_index.specs.Inside.LeafLists.{HasLeaves, joined};
+ghost use Rattle.tune_index.specs.Inside.Places.{AllBelow, BelongsTo};
+ghost use Rattle.tune_index.specs.Leaves.{capacity, slice_entry};
+
+use crate::edit::{add_leaf, drop_leaf, set_leaf, spread};
+use crate::index::{Index, leaf_count, leaf_for, leaf_page};
+use crate::leaf::{Leaf, capacity_of};
+use crate::reading::read_page_leaf;
+use crate::search::{insert_in, place_of, remove_in};
+use index_keys::IndexKey;
+use std::alloc::{AllocError, Global};
+use tune_disk::Disk;
+use tune_pages::{Fault, Pages, Work, law_of_frames, law_of_looks};
+
+// The entries go into a leaf, each in its place.
+fn insert_each<const W: usize>(
+    leaf: &mut Leaf<W>,
+    part: &[(IndexKey<W>, u32)],
+) -> Result<(), AllocError>
+    requires { 1 ≤ length part.now }
+    ensures ok { IsRising leaf.old.items
+        → OnOk result (leaf.new.items ≡ inserted_all part.now leaf.old.items) }
+    ensures some { OnOk result (1 ≤ length leaf.new.items) }
+    ensures within { OnOk result
+        (length leaf.new.items ≤ length leaf.old.items + length part.now) }
+    ensures fit { OnOk result (AllFit W part.now) }
+{
+    for entry in part {
+        let _bytes = entry.0.bytes();
+        insert_in(leaf, entry.0.copy(), entry.1)?;
+    }
+    Ok(())
+}
+
+// The entries of a part of a run go into the leaf where they belong.
+fn insert_part<D: Disk, const W: usize>(
+    alloc: Global,
+    pages: &mut Pages<D>,
+    work: &mut Work,
+    index: &mut Index<W>,
+    place: usize,
+    part: &[(IndexKey<W>, u32)],
+) -> Result<(), Fault>
+    requires open { pages.old.closed ≡ false }
+    requires fits { Fits pages.old work.old }
+    requires pages { HonestAt D.honest pages.old.disk
+        → HasPages (stand pages.old work.old) index.old.pages }
+    requires form { HonestAt D.honest pages.old.disk
+        → AllLeaves W (stand pages.old work.old) index.old.pages }
+    requires place { place < length index.old.pages }
+    requires some { 1 ≤ length part.now }
+    ensures fits { OnOk result (Fits pages.new work.new) }
+    ensures list { OnOk result (KeepsList index.old index.new) }
+    ensures some { OnOk result (0 < length index.new.pages) }
+    ensures pages { OnOk result (HonestAt D.honest pages.new.disk
+        → HasPages (stand pages.new work.new) index.new.pages) }
+    ensures trades { OnOk result (HonestAt D.honest pages.new.disk
+        → TradesPages index.old.pages index.new.pages
+        (stand pages.old work.old) (stand pages.new work.new)) }
+    ensures fit { OnOk result (AllFit W part.now) }
+    ensures leaves { OnOk result (HonestAt D.honest pages.new.disk → (leaves : List (List Entry))
+        → HasLeaves W (stand pages.old work.old) index.old leaves
+        → IsRising (slice_index_or leaves place []) → (more : List (List Entry))
+        × HasLeaves W (stand pages.new work.new) index.new more
+        × (joined more ≡ joined (take place leaves)
+        ++ (inserted_all part.now (slice_index_or leaves place [])
+        ++ joined (drop (place + 1) leaves)))) }
+    ensures balance { OnOk result (KeepsBalance (stand pages.old work.old)
+        (stand pages.new work.new) index.old.pages index.new.pages) }
+    ensures looks { LooksAt D.honest D.failures D.state result pages.old pages.new }
+    ensures answer { AnswersEdit result pages.new.closed (HonestAt D.honest pages.new.disk
+        → (leaves : List (List Entry)) → HasLeaves W (stand pages.old work.old) index.old leaves
+        → IsRising (slice_index_or leaves place [])
+        → free_pages (stand pages.old work.old).used + 1
+        < length (inserted_all part.now (slice_index_or leaves place []))) }
+{
+    let _count = leaf_count(index);
+    let page = leaf_page(index, place);
+    let mut leaf = match read_page_leaf(alloc, pages, work, page) {
+        Ok(leaf) => leaf,
+        Err(fault) => return Err(fault),
+    };
+    if let Err(_) = insert_each(&mut leaf, part) {
+        return Err(Fault::OutOfMemory);
+    }
+    match spread(alloc, pages, work, index, place, &leaf) {
+        Ok(()) => Ok(()),
+        Err(fault) => Err(fault),
+    }
+}
+
+// How many entries of a run stand before another one; one at least.
+fn count_below<const W: usize>(run: &[(IndexKey<W>, u32)], key: &IndexKey<W>, value: u32) -> usize
+    requires { 0 < length run.now }
+    ensures some { 1 ≤ result }
+    ensures within { result ≤ length run.now }
+    ensures below { IsRising run.now
+        → rank (slice_entry run.now 0) < rank (key.now, value)
+        → AllBelow (rank (key.now, value)) (take result run.now) }
+{
+    let count = place_of(run, key, value);
+    if count == 0 { 1 } else { count }
+}
+
+// Where the entries of a run end that belong into the leaf, which the one at `at` does.
+fn part_end<const W: usize>(
+    index: &Index<W>,
+    place: usize,
+    run: &[(IndexKey<W>, u32)],
+    at: usize,
+) -> usize
+    requires place { place < length index.now.pages }
+    requires at { at < length run.now }
+    ensures later { at < result }
+    ensures within { result ≤ length run.now }
+    ensures below { IsRising (drop at run.now) → place + 1 < length index.now.heads
+        → rank (slice_entry run.now at) < rank (slice_entry index.now.heads (place + 1))
+        → AllBelow (rank (slice_entry index.now.heads (place + 1)))
+        (take (result - at) (drop at run.now)) }
+{
+    let leaves = leaf_count(index);
+    if place + 1 < leaves {
+        let next = &index.heads[place + 1];
+        at + count_below(&run[at..], &next.0, next.1)
+    } else {
+        run.len()
+    }
+}
+
+// The entries from `at` on that belong into one leaf go into it; the answer is where they end.
+fn insert_from<D: Disk, const W: usize>(
+    alloc: Global,
+    pages: &mut Pages<D>,
+    work: &mut Work,
+    index: &mut Index<W>,
+    run: &[(IndexKey<W>, u32)],
+    at: usize,
+) -> Result<usize, Fault>
+    requires open { pages.old.closed ≡ false }
+    requires fits { Fits pages.old work.old }
+    requires pages { HonestAt D.honest pages.old.disk
+        → HasPages (stand pages.old work.old) index.old.pages }
+    requires index { HonestAt D.honest pages.old.disk
+        → IsIndex W (stand pages.old work.old) index.old }
+    requires some { 0 < length index.old.pages }
+    requires rising { IsRising (drop at run.now) }
+    requires at { at < length run.now }
+    ensures fits { OnOk result (Fits pages.new work.new) }
+    ensures list { OnOk result (KeepsList index.old index.new) }
+    ensures pages { OnOk result (HonestAt D.honest pages.new.disk
+        → HasPages (stand pages.new work.new) index.new.pages) }
+    ensures trades { OnOk result (HonestAt D.honest pages.new.disk
+        → TradesPages index.old.pages index.new.pages
+        (stand pages.old work.old) (stand pages.new work.new)) }
+    ensures some { OnOk result (0 < length index.new.pages) }
+    ensures later { IfOk result (λ end. at < end) }
+    ensures within { IfOk result (λ end. end ≤ length run.now) }
+    ensures entries { IfOk result (λ end. HonestAt D.honest pages.new.disk
+        → IsIndex W (stand pages.new work.new) index.new
+        × (entries_of W (stand pages.new work.new) index.new.pages
+        ≡ inserted_all (take (end - at) (drop at run.now))
+        (entries_of W (stand pages.old work.old) index.old.pages))) }
+    ensures balance { OnOk result (KeepsBalance (stand pages.old work.old)
+        (stand pages.new work.new) index.old.pages index.new.pages) }
+    ensures looks { LooksAt D.honest D.failures D.state result pages.old pages.new }
+    ensures answer { AnswersEdit result pages.new.closed (HonestAt D.honest pages.new.disk
+        → free_pages (stand pages.old work.old).used + length index.old.pages
+        < length (inserted_all (drop at run.now)
+        (entries_of W (stand pages.old work.old) index.old.pages))) }
+{
+    let entry = &run[at];
+    let place = leaf_for(index, &entry.0, entry.1);
+    let end = part_end(index, place, run, at);
+    match insert_part(alloc, pages, work, index, place, &run[at..end]) {
+        Ok(()) => Ok(end),
+        Err(fault) => Err(fault),
+    }
+}
+
+// How great a key and its value are at most.
+fn check_entry<const W: usize>(entry: &(IndexKey<W>, u32))
+    ensures { FitsLeaf W entry.now }
+{
+    let _key = entry.0.bytes();
+    let _value = entry.1;
+}
+
+// The first entry of a run makes the first leaf, where there is none; the answer is how many
+// entries went in.
+fn insert_first<D: Disk, const W: usize>(
+    alloc: Global,
+    pages: &Pages<D>,
+    work: &mut Work,
+    index: &mut Index<W>,
+    run: &[(IndexKey<W>, u32)],
+) -> Result<usize, Fault>
+    requires open { pages.now.closed ≡ false }
+    requires fits { Fits pages.now work.old }
+    requires some { 1 ≤ length run.now }
+    ensures fits { OnOk result (Fits pages.now work.new) }
+    ensures list { OnOk result (KeepsList index.old index.new) }
+    ensures pages { OnOk result (HasPages (stand pages.now work.old) index.old.pages
+        → HasPages (stand pages.now work.new) index.new.pages) }
+    ensures trades { OnOk result (HasPages (stand pages.now work.old) index.old.pages
+        → TradesPages index.old.pages index.new.pages
+        (stand pages.now work.old) (stand pages.now work.new)) }
+    ensures balance { OnOk result (KeepsBalance (stand pages.now work.old)
+        (stand pages.now work.new) index.old.pages index.new.pages) }
+    ensures some { OnOk result (0 < length index.new.pages) }
+    ensures within { IfOk result (λ at. at ≤ length run.now) }
+    ensures entries { IfOk result (λ at. IsIndex W (stand pages.now work.old) index.old
+        → IsIndex W (stand pages.now work.new) index.new
+        × (entries_of W (stand pages.now work.new) index.new.pages
+        ≡ inserted_all (take at run.now)
+        (entries_of W (stand pages.now work.old) index.old.pages))) }
+    ensures answer { AnswersChange result
+        ((length index.old.pages ≡ 0) × (free_pages (stand pages.now work.old).used ≡ 0)) }
+{
+    let leaves = leaf_count(index);
+    if leaves > 0 {
+        return Ok(0);
+    }
+    let _room = capacity_of(W);
+    check_entry(&run[0]);
+    match add_leaf(alloc, pages, work, index, 0, &run[..1]) {
+        Ok(()) => Ok(1),
+        Err(fault) => Err(fault),
+    }
+}
+
+impl<const W: usize> Index<W> {
+    /// Puts in entries that rise by key and then value, each of which may be there. Every leaf that
+    /// gets some of them is read and written once.
+    ///
+    /// # Errors
+    ///
+    /// `FileFull` only where fewer pages are free than the new leaves want, which are no more than
+    /// the entries that there would be; `OutOfMemory`; `Device` where the disk failed: the pages are
+    /// then closed. The index and the work are then to be dropped.
+    pub fn insert_all<D: Disk>(
+        &mut self,
+        alloc: Global,
+        pages: &mut Pages<D>,
+        work: &mut Work,
+        run: &[(IndexKey<W>, u32)],
+    ) -> Result<(), Fault>
+        requires open { pages.old.closed ≡ false }
+        requires fits { Fits pages.old work.old }
+        requires pages { HonestAt D.honest pages.old.disk
+            → HasPages (stand pages.old work.old) self.old.pages }
+        requires index { HonestAt D.honest pages.old.disk
+            → IsIndex W (stand pages.old work.old) self.old }
+        requires rising { IsRising run.now }
+        ensures fits { OnOk result (Fits pages.new work.new) }
+        ensures list { OnOk result (KeepsList self.old self.new) }
+        ensures pages { OnOk result (HonestAt D.honest pages.new.disk
+            → HasPages (stand pages.new work.new) self.new.pages) }
+        ensures trades { OnOk result (HonestAt D.honest pages.new.disk
+            → TradesPages self.old.pages self.new.pages
+            (stand pages.old work.old) (stand pages.new work.new)) }
+        ensures entries { OnOk result (HonestAt D.honest pages.new.disk
+            → IsIndex W (stand pages.new work.new) self.new
+            × (entries_of W (stand pages.new work.new) self.new.pages ≡ inserted_all run.now
+            (entries_of W (stand pages.old work.old) self.old.pages))) }
+        ensures balance { OnOk result (KeepsBalance (stand pages.old work.old)
+            (stand pages.new work.new) self.old.pages self.new.pages) }
+        ensures looks { LooksAt D.honest D.failures D.state result pages.old pages.new }
+        ensures answer { AnswersEdit result pages.new.closed (HonestAt D.honest pages.new.disk
+            → free_pages (stand pages.old work.old).used + length self.old.pages
+            < length (inserted_all run.now
+            (entries_of W (stand pages.old work.old) self.old.pages))) }
+    {
+        if run.is_empty() {
+            return Ok(());
+        }
+        let mut at = match insert_first(alloc, pages, work, self, run) {
+            Ok(at) => at,
+            Err(fault) => return Err(fault),
+        };
+        while at < run.len() {
+            match insert_from(alloc, pages, work, self, run, at) {
+                Ok(end) => at = end,
+                Err(fault) => return Err(fault),
+            }
+        }
+        Ok(())
+    }
+
+    /// Puts in an entry, unless it is there.
+    ///
+    /// # Errors
+    ///
+    /// As of `insert_all`.
+    pub fn insert<D: Disk>(
+        &mut self,
+        alloc: Global,
+        pages: &mut Pages<D>,
+        work: &mut Work,
+        key: IndexKey<W>,
+        value: u32,
+    ) -> Result<(), Fault>
+        requires open { pages.old.closed ≡ false }
+        requires fits { Fits pages.old work.old }
+        requires pages { HonestAt D.honest pages.old.disk
+            → HasPages (stand pages.old work.old) self.old.pages }
+        requires index { HonestAt D.honest pages.old.disk
+            → IsIndex W (stand pages.old work.old) self.old }
+        ensures fits { OnOk result (Fits pages.new work.new) }
+        ensures list { OnOk result (KeepsList self.old self.new) }
+        ensures pages { OnOk result (HonestAt D.honest pages.new.disk
+            → HasPages (stand pages.new work.new) self.new.pages) }
+        ensures trades { OnOk result (HonestAt D.honest pages.new.disk
+            → TradesPages self.old.pages self.new.pages
+            (stand pages.old work.old) (stand pages.new work.new)) }
+        ensures entries { OnOk result (HonestAt D.honest pages.new.disk
+            → IsIndex W (stand pages.new work.new) self.new
+            × (entries_of W (stand pages.new work.new) self.new.pages
+            ≡ inserted (key.entry, value)
+            (entries_of W (stand pages.old work.old) self.old.pages))) }
+        ensures balance { OnOk result (KeepsBalance (stand pages.old work.old)
+            (stand pages.new work.new) self.old.pages self.new.pages) }
+        ensures looks { LooksAt D.honest D.failures D.state result pages.old pages.new }
+        ensures answer { AnswersEdit result pages.new.closed (HonestAt D.honest pages.new.disk
+            → free_pages (stand pages.old work.old).used + length self.old.pages
+            < length (inserted (key.entry, value)
+            (entries_of W (stand pages.old work.old) self.old.pages))) }
+    {
+        let mut run = Vec::new(alloc);
+        match run.push((key, value)) {
+            Ok(()) => {}
+            Err(_) => return Err(Fault::OutOfMemory),
+        }
+        match self.insert_all(alloc, pages, work, &run) {
+            Ok(()) => Ok(()),
+            Err(fault) => Err(fault),
+        }
+    }
+
+    /// Takes out an entry, if it is there. A leaf that loses its last entry goes, and its page is
+    /// free.
+    ///
+    /// # Errors
+    ///
+    /// `OutOfMemory`; `Device` where the disk failed: the pages are then closed. The index and the
+    /// work are then to be dropped.
+    pub fn remove<D: Disk>(
+        &mut self,
+        alloc: Global,
+        pages: &mut Pages<D>,
+        work: &mut Work,
+        key: &IndexKey<W>,
+        value: u32,
+    ) -> Result<(), Fault>
+        requires open { pages.old.closed ≡ false }
+        requires fits { Fits pages.old work.old }
+        requires pages { HonestAt D.honest pages.old.disk
+            → HasPages (stand pages.old work.old) self.old.pages }
+        requires index { HonestAt D.honest pages.old.disk
+            → IsIndex W (stand pages.old work.old) self.old }
+        ensures fits { OnOk result (Fits pages.new work.new) }
+        ensures list { OnOk result (KeepsList self.old self.new) }
+        ensures pages { OnOk result (HonestAt D.honest pages.new.disk
+            → HasPages (stand pages.new work.new) self.new.pages) }
+        ensures trades { OnOk result (HonestAt D.honest pages.new.disk
+            → TradesPages self.old.pages self.new.pages
+            (stand pages.old work.old) (stand pages.new work.new)) }
+        ensures entries { OnOk result (HonestAt D.honest pages.new.disk
+            → IsIndex W (stand pages.new work.new) self.new
+            × (entries_of W (stand pages.new work.new) self.new.pages
+            ≡ removed (key.now, value)
+            (entries_of W (stand pages.old work.old) self.old.pages))) }
+        ensures balance { OnOk result (KeepsBalance (stand pages.old work.old)
+            (stand pages.new work.new) self.old.pages self.new.pages) }
+        ensures looks { LooksAt D.honest D.failures D.state result pages.old pages.new }
+        ensures answer { AnswersEdit result pages.new.closed ⊥ }
+    {
+        let leaves = leaf_count(self);
+        if leaves == 0 {
+            return Ok(());
+        }
+        let place = leaf_for(self, key, value);
+        match remove_at(alloc, pages, work, self, place, key, value) {
+            Ok(()) => Ok(()),
+            Err(fault) => Err(fault),
+        }
+    }
+}
+
+// The entry goes out of the leaf at the place.
+fn remove_at<D: Disk, const W: usize>(
+    alloc: Global,
+    pages: &mut Pages<D>,
+    work: &mut Work,
+    index: &mut Index<W>,
+    place: usize,
+    key: &IndexKey<W>,
+    value: u32,
+) -> Result<(), Fault>
+    requires open { pages.old.closed ≡ false }
+    requires fits { Fits pages.old work.old }
+    requires pages { HonestAt D.honest pages.old.disk
+        → HasPages (stand pages.old work.old) index.old.pages }
+    requires form { HonestAt D.honest pages.old.disk
+        → AllLeaves W (stand pages.old work.old) index.old.pages }
+    requires place { place < length index.old.pages }
+    ensures fits { OnOk result (Fits pages.new work.new) }
+    ensures list { OnOk result (KeepsList index.old index.new) }
+    ensures pages { OnOk result (HonestAt D.honest pages.new.disk
+        → HasPages (stand pages.new work.new) index.new.pages) }
+    ensures trades { OnOk result (HonestAt D.honest pages.new.disk
+        → TradesPages index.old.pages index.new.pages
+        (stand pages.old work.old) (stand pages.new work.new)) }
+    ensures leaves { OnOk result (HonestAt D.honest pages.new.disk → (leaves : List (List Entry))
+        → HasLeaves W (stand pages.old work.old) index.old leaves
+        → IsRising (slice_index_or leaves place []) → (more : List (List Entry))
+        × HasLeaves W (stand pages.new work.new) index.new more
+        × (joined more ≡ joined (take place leaves)
+        ++ (removed (key.now, value) (slice_index_or leaves place [])
+        ++ joined (drop (place + 1) leaves)))) }
+    ensures balance { OnOk result (KeepsBalance (stand pages.old work.old)
+        (stand pages.new work.new) index.old.pages index.new.pages) }
+    ensures looks { LooksAt D.honest D.failures D.state result pages.old pages.new }
+    ensures answer { AnswersEdit result pages.new.closed ⊥ }
+{
+    let _count = leaf_count(index);
+    let page = leaf_page(index, place);
+    let mut leaf = match read_page_leaf(alloc, pages, work, page) {
+        Ok(leaf) => leaf,
+        Err(fault) => return Err(fault),
+    };
+    remove_in(&mut leaf, key, value);
+    if leaf.is_empty() {
+        match drop_leaf(pages, work, index, place) {
+            Ok(()) => return Ok(()),
+            Err(fault) => return Err(fault),
+        }
+    }
+    match set_leaf(alloc, pages, work, index, place, &leaf) {
+        Ok(()) => Ok(()),
+        Err(fault) => Err(fault),
+    }
+}

@@ -1,0 +1,168 @@
+// Leaves as bytes of a page.
+ghost use Rattle.std.specs.Prelude.{◌≡◌, ◌↔◌, ℕ, ◌+◌, ◌*◌, ◌≤◌, ◌++◌, List, length};
+ghost use Rattle.std.specs.Prelude.{IfOk, IfSome, IsSome, OnOk};
+ghost use Rattle.index_keys.specs.Entries.{AllFit, FitsLeaf};
+ghost use Rattle.tune_index.specs.Leaves.{capacity, value_in, value_bytes, count_in, count_bytes};
+ghost use Rattle.tune_index.specs.Leaves.{entry_in, entries_in, entry_bytes, leaf_in, IsLeaf};
+
+use byteorder::{BigEndian, ByteOrder};
+use index_keys::IndexKey;
+use std::alloc::{AllocError, Global};
+use tune_journal::PageImage;
+
+// The entries of a leaf, in memory.
+pub(crate) type Leaf<const W: usize> = Vec<(IndexKey<W>, u32)>;
+
+#[tactic(auto, unfolding(crate::specs::Leaves::value_in))]
+pub(crate) fn read_value(bytes: &[u8]) -> u32
+    requires { 4 ≤ length bytes.now }
+    ensures { result ≡ value_in bytes.now }
+{
+    BigEndian::read_u32(bytes)
+}
+
+#[tactic(auto, unfolding(crate::specs::Leaves::count_in))]
+fn read_count(bytes: &[u8]) -> usize
+    requires { 2 ≤ length bytes.now }
+    ensures { result ≡ count_in bytes.now }
+{
+    BigEndian::read_u16(bytes) as usize
+}
+
+#[tactic(auto, unfolding(crate::specs::Leaves::value_bytes))]
+pub(crate) fn push_value(bytes: &mut Vec<u8>, value: u32) -> Result<(), AllocError>
+    ensures { OnOk result (bytes.new.items ≡ bytes.old.items ++ value_bytes value) }
+{
+    let mut number = [0; 4];
+    BigEndian::write_u32(&mut number, value);
+    bytes.extend_from_slice(&number)
+}
+
+#[tactic(auto, unfolding(crate::specs::Leaves::count_bytes))]
+fn push_count(bytes: &mut Vec<u8>, count: u16) -> Result<(), AllocError>
+    ensures { OnOk result (bytes.new.items ≡ bytes.old.items ++ count_bytes count) }
+{
+    let mut number = [0; 2];
+    BigEndian::write_u16(&mut number, count);
+    bytes.extend_from_slice(&number)
+}
+
+// How many entries a leaf has at most.
+#[tactic(auto, unfolding(crate::specs::Leaves::capacity))]
+pub(crate) fn capacity_of(width: usize) -> usize
+    requires { width ≤ 4090 }
+    ensures exact { result ≡ capacity width }
+    ensures some { 1 ≤ result }
+    ensures within { result ≤ 1023 }
+{
+    4094 / (width + 4)
+}
+
+// The entry that the bytes begin with.
+fn entry_at<const W: usize>(bytes: &[u8]) -> (IndexKey<W>, u32)
+    requires width { W ≤ 4090 }
+    requires room { W + 4 ≤ length bytes.now }
+    ensures entry { result ≡ entry_in W bytes.now }
+    ensures fits { FitsLeaf W result }
+{
+    let mut key = [0; W];
+    key.copy_from_slice(&bytes[..W]);
+    (IndexKey::new(key), read_value(&bytes[W..]))
+}
+
+// The bytes of a page.
+fn page_bytes(image: &PageImage) -> &[u8]
+    ensures bytes { result.now ≡ image.now.bytes }
+    ensures length { length result.now ≡ 4096 }
+{
+    &image.bytes
+}
+
+// The entries of a page, where it has the form of a leaf.
+pub(crate) fn read_leaf<const W: usize>(
+    alloc: Global,
+    image: &PageImage,
+) -> Result<Option<Leaf<W>>, AllocError>
+    requires { W ≤ 4090 }
+    ensures form { IfOk result (λ leaf. IsSome leaf ↔ IsLeaf W image.now.bytes) }
+    ensures entries { IfOk result (λ leaf. IfSome leaf (λ entries.
+        entries.items ≡ leaf_in W image.now.bytes)) }
+    ensures fit { IfOk result (λ leaf. IfSome leaf (λ entries. AllFit W entries.items)) }
+    ensures some { IfOk result (λ leaf. IfSome leaf (λ entries. 1 ≤ length entries.items)) }
+    ensures within { IfOk result (λ leaf. IfSome leaf (λ entries.
+        length entries.items ≤ capacity W)) }
+{
+    let bytes = page_bytes(image);
+    let count = read_count(bytes);
+    if count == 0 {
+        return Ok(None);
+    }
+    if count > capacity_of(W) {
+        return Ok(None);
+    }
+    Ok(Some(read_entries(alloc, &bytes[2..], count)?))
+}
+
+// The first entries in the bytes.
+fn read_entries<const W: usize>(
+    alloc: Global,
+    bytes: &[u8],
+    count: usize,
+) -> Result<Leaf<W>, AllocError>
+    requires width { W ≤ 4090 }
+    requires room { count * (W + 4) ≤ length bytes.now }
+    ensures entries { IfOk result (λ leaf. leaf.items ≡ entries_in W count bytes.now) }
+    ensures fit { IfOk result (λ leaf. AllFit W leaf.items) }
+{
+    let mut entries = Vec::with_capacity(alloc, count)?;
+    let mut rest = bytes;
+    for done in 0..count {
+        entries.push(entry_at(rest))?;
+        rest = &rest[W + 4..];
+    }
+    Ok(entries)
+}
+
+// A page that begins with the bytes.
+fn fill_page(bytes: &[u8]) -> PageImage
+    requires { length bytes.now ≤ 4096 }
+    ensures { (rest : List ℕ) × (result.bytes ≡ bytes.now ++ rest) }
+{
+    let mut image = [0; 4096];
+    image[..bytes.len()].copy_from_slice(bytes);
+    PageImage { bytes: image }
+}
+
+// The bytes of an entry go to the end of the list.
+fn push_entry<const W: usize>(
+    bytes: &mut Vec<u8>,
+    entry: &(IndexKey<W>, u32),
+) -> Result<(), AllocError>
+    ensures bytes { OnOk result (bytes.new.items ≡ bytes.old.items ++ entry_bytes W entry.now) }
+    ensures fits { FitsLeaf W entry.now }
+{
+    let key = entry.0.bytes();
+    let value = entry.1;
+    bytes.extend_from_slice(key)?;
+    push_value(bytes, value)
+}
+
+// The page of a leaf.
+pub(crate) fn write_leaf<const W: usize>(
+    alloc: Global,
+    entries: &[(IndexKey<W>, u32)],
+) -> Result<PageImage, AllocError>
+    requires width { W ≤ 4090 }
+    requires some { 1 ≤ length entries.now }
+    requires within { length entries.now ≤ capacity W }
+    ensures form { IfOk result (λ image. IsLeaf W image.bytes) }
+    ensures entries { IfOk result (λ image. leaf_in W image.bytes ≡ entries.now) }
+{
+    let _most = capacity_of(W);
+    let mut bytes = Vec::with_capacity(alloc, 4096)?;
+    push_count(&mut bytes, entries.len() as u16)?;
+    for entry in entries {
+        push_entry(&mut bytes, entry)?;
+    }
+    Ok(fill_page(&bytes))
+}

@@ -1,0 +1,18 @@
+//! Ordered lists of entries, kept in pages: an entry is a key of some bytes with a value.
+//!
+//! An index keeps its entries in leaves, one page each, and lists the leaves on a chain. What
+//! takes pages or reads them is answered by the faults of the pages; what takes memory alone says
+//! so by an `AllocError`.
+#![tactic(auto)]
+
+mod edit;
+mod index;
+mod insert;
+mod leaf;
+mod load;
+mod reading;
+mod search;
+mod store;
+
+pub use index::Index;
+pub use index_keys::{IndexKey, Keyed};

@@ -1,0 +1,187 @@
+// An index that is opened: its leaves are claimed, and read.
+ghost use Rattle.std.specs.Prelude.{◌≡◌, ◌↔◌, ◌+◌, ◌*◌, ◌≤◌, ◌++◌, [], ◌∷◌, true, false, length};
+ghost use Rattle.std.specs.Prelude.{drop, slice_set, ℕ, IfOk, IfErr, IfSome, None, OnOk, IsTrue};
+ghost use Rattle.tune_journal.specs.Pages.{page_at};
+ghost use Rattle.tune_pages.specs.Claim.{IsChainFault, LooksOpening};
+ghost use Rattle.tune_pages.specs.Stand.{IsFree};
+ghost use Rattle.index_keys.specs.Entries.{IsRising};
+ghost use Rattle.tune_index.specs.Inside.Loading.{LoadsLeaf};
+ghost use Rattle.tune_index.specs.Leaves.{slice_entry, leaf_in, value_in, IsLeaf};
+ghost use Rattle.tune_index.specs.Listed.{IsStored, LoadsIndex, listed_bytes, numbers_in};
+
+use crate::index::Index;
+use crate::leaf::{Leaf, read_leaf, read_value};
+use index_keys::IndexKey;
+use std::alloc::{AllocError, Global};
+use tune_disk::Disk;
+use tune_pages::{ClaimFault, Opening, pages_for};
+
+// How many numbers are listed in the bytes, where these are such a list.
+fn count_numbers(bytes: &[u8]) -> Option<usize>
+    ensures size { IfSome result (λ count. length bytes.now ≡ count * 4) }
+    ensures listed { IfSome result (λ count.
+        listed_bytes (numbers_in count bytes.now) ≡ bytes.now) }
+    ensures none { result ≡ None → (count : ℕ) → length bytes.now ≡ count * 4 → ⊥ }
+{
+    if bytes.len() % 4 == 0 {
+        Some(bytes.len() / 4)
+    } else {
+        None
+    }
+}
+
+// The number at a place of a list, from 0 on.
+fn number_at(bytes: &[u8], place: usize) -> u32
+    requires { 4 * (place + 1) ≤ length bytes.now }
+    ensures { result ≡ value_in (drop (4 * place) bytes.now) }
+{
+    read_value(&bytes[4 * place..])
+}
+
+// Whether an entry may come behind these.
+fn follows<const W: usize>(entries: &[(IndexKey<W>, u32)], entry: &(IndexKey<W>, u32)) -> bool
+    ensures { IsRising entries.now
+        → (IsTrue result ↔ IsRising (entries.now ++ entry.now ∷ [])) }
+{
+    let count = entries.len();
+    if count == 0 {
+        return true;
+    }
+    let last = &entries[count - 1];
+    last.0.is_before(last.1, &entry.0, entry.1)
+}
+
+// The entries of a leaf come behind the others, where all rise; otherwise false.
+fn join_leaf<const W: usize>(
+    entries: &mut Leaf<W>,
+    leaf: &[(IndexKey<W>, u32)],
+) -> Result<bool, AllocError>
+    requires { IsRising entries.old.items }
+    ensures yes { IfOk result (λ joined. joined ≡ true
+        → (entries.new.items ≡ entries.old.items ++ leaf.now) × IsRising entries.new.items) }
+    ensures no { IfOk result (λ joined. joined ≡ false
+        → IsRising (entries.old.items ++ leaf.now) → ⊥) }
+{
+    for entry in leaf {
+        if !follows(entries, entry) {
+            return Ok(false);
+        }
+        entries.push((entry.0.copy(), entry.1))?;
+    }
+    Ok(true)
+}
+
+// A page comes to the end of the list of leaves, with the entry that begins it.
+fn push_leaf<const W: usize>(
+    index: &mut Index<W>,
+    page: u32,
+    head: (IndexKey<W>, u32),
+) -> Result<(), AllocError>
+    ensures pages { OnOk result (index.new.pages ≡ index.old.pages ++ page ∷ []) }
+    ensures heads { OnOk result (index.new.heads ≡ index.old.heads ++ head.entry ∷ []) }
+    ensures list { OnOk result ((index.new.first ≡ index.old.first)
+        × (index.new.listed ≡ index.old.listed)) }
+{
+    index.pages.reserve(1)?;
+    index.heads.push(head)?;
+    index.pages.push(page).unwrap();
+    Ok(())
+}
+
+// The entry that begins a leaf.
+fn head_of<const W: usize>(leaf: &[(IndexKey<W>, u32)]) -> (IndexKey<W>, u32)
+    requires { 1 ≤ length leaf.now }
+    ensures { result ≡ slice_entry leaf.now 0 }
+{
+    let head = &leaf[0];
+    (head.0.copy(), head.1)
+}
+
+// Claims the page of the next leaf, and adds its entries to those before it.
+fn load_leaf<D: Disk, const W: usize>(
+    alloc: Global,
+    opening: &mut Opening<D>,
+    page: u32,
+    most: usize,
+    index: &mut Index<W>,
+    entries: &mut Leaf<W>,
+) -> Result<(), ClaimFault>
+    requires width { W ≤ 4090 }
+    requires rising { IsRising entries.old.items }
+    ensures free { OnOk result (IsFree opening.old.claimed page
+        × (opening.new.claimed ≡ slice_set opening.old.claimed page true)) }
+    ensures leaf { OnOk result (D.honest opening.new.disk → LoadsLeaf W opening.old.pages page
+        index.old index.new entries.old.items entries.new.items) }
+    ensures rising { OnOk result (IsRising entries.new.items) }
+    ensures few { OnOk result (length entries.new.items ≤ most) }
+    ensures damaged { IfErr result (λ fault. D.honest opening.new.disk → IsChainFault fault
+        (IsFree opening.old.claimed page × IsLeaf W (page_at opening.old.pages page)
+        × IsRising (entries.old.items ++ leaf_in W (page_at opening.old.pages page))
+        × (length (entries.old.items ++ leaf_in W (page_at opening.old.pages page)) ≤ most))) }
+    ensures looks { LooksOpening D.honest D.failures D.state result opening.old opening.new }
+{
+    let image = opening.claim_page(page)?;
+    let leaf = match read_leaf(alloc, &image) {
+        Ok(Some(leaf)) => leaf,
+        Ok(None) => return Err(ClaimFault::Damaged),
+        Err(_) => return Err(ClaimFault::OutOfMemory),
+    };
+    match join_leaf(entries, &leaf) {
+        Ok(true) => {}
+        Ok(false) => return Err(ClaimFault::Damaged),
+        Err(_) => return Err(ClaimFault::OutOfMemory),
+    }
+    if entries.len() > most {
+        return Err(ClaimFault::Damaged);
+    }
+    match push_leaf(index, page, head_of(&leaf)) {
+        Ok(()) => Ok(()),
+        Err(_) => Err(ClaimFault::OutOfMemory),
+    }
+}
+
+impl<const W: usize> Index<W> {
+    /// Claims the pages of the index whose leaves are listed on the chain that begins at `first`,
+    /// and gives it with its entries, in order. Of an index of more than `most` entries it claims
+    /// no more pages than one of so many may have.
+    ///
+    /// # Errors
+    ///
+    /// `Damaged` exactly where no index of at most `most` entries is stored there on pages that
+    /// are all still to be claimed; `OutOfMemory`; `Device` where the disk failed.
+    pub fn load<D: Disk>(
+        alloc: Global,
+        opening: &mut Opening<D>,
+        first: u32,
+        most: u32,
+    ) -> Result<(Index<W>, Vec<(IndexKey<W>, u32)>), ClaimFault>
+        requires { W ≤ 4090 }
+        ensures loads { IfOk result (λ loaded. D.honest opening.new.disk → LoadsIndex W most
+            opening.old.pages opening.old.claimed opening.new.claimed first loaded.0
+            loaded.1.items) }
+        ensures damaged { IfErr result (λ fault. D.honest opening.new.disk → IsChainFault fault
+            (IsStored W most opening.old.pages opening.old.claimed first)) }
+        ensures looks { LooksOpening D.honest D.failures D.state result opening.old opening.new }
+    {
+        let _count = opening.count();
+        let most = most as usize;
+        let bytes = match opening.claim_chain_within(first, pages_for(most * 4)) {
+            Ok(bytes) => bytes,
+            Err(fault) => return Err(fault),
+        };
+        let count = match count_numbers(&bytes) {
+            Some(count) => count,
+            None => return Err(ClaimFault::Damaged),
+        };
+        let mut index = Index::at(alloc, first);
+        let mut entries = Vec::new(alloc);
+        for place in 0..count {
+            let page = number_at(&bytes, place);
+            match load_leaf(alloc, opening, page, most, &mut index, &mut entries) {
+                Ok(()) => {}
+                Err(fault) => return Err(fault),
+            }
+        }
+        Ok((index, entries))
+    }
+}
