@@ -1,5 +1,8 @@
 -- A key cut from bytes, as the number that its bytes spell.
-use Rattle.std.proofs.Common.{◌≡◌, ℕ, zero, suc, ◌+◌, ◌*◌, ◌^◌, ◌%◌, ◌<◌, ◌≤◌, List, [], ◌∷◌, ◌++◌, length, take, drop, get_or, replicate, refl, ap, ◌∙◌, arith}
+use Rattle.std.proofs.Common.{◌≡◌, ℕ, zero, suc, ◌+◌, ◌*◌, ◌^◌, ◌%◌, ◌<◌, ◌≤◌, List, [], ◌∷◌, ◌++◌, length, take, drop, get_or, replicate, refl, sym, ap, ◌∙◌, map, arith}
+use Rattle.std.proofs.lemmas.List.{length-map, length-take-le, take-map, take_at, drop_at}
+use Rattle.std.proofs.lemmas.Bool.Decides.{nat_tests}
+use Rattle.std.specs.Char.{to_ascii_lowercase}
 use Rattle.byteorder.specs.Endian.{big_from}
 use Rattle.byteorder.specs.Numbers.{big_from-cons}
 use Rattle.index_keys.specs.Cuts.{cut_number}
@@ -21,3 +24,25 @@ cut_is (suc n) fill (suc k) (x ∷ xs) small a b c =
     number_cons n x (take k xs ++ drop k (replicate n fill))
     ∙ ap (λ (z : ℕ). x * 256 ^ n + z) (cut_is n fill k xs (λ i. small (suc i)) (omega arith) (omega arith) (λ l. let d = c (omega arith) in omega arith))
     ∙ ap (λ (z : ℕ). z * 256 ^ n + cut_number n fill xs) same
+
+-- a small letter is a byte, as the letter is
+small_letter : (byte : ℕ) → byte < 256 → to_ascii_lowercase byte < 256
+small_letter byte h = grind (arith, nat_tests)
+
+small_letters : (bytes : List ℕ) → ((i : ℕ) → get_or bytes i 0 < 256) → (i : ℕ) → get_or (map to_ascii_lowercase bytes) i 0 < 256
+small_letters [] small i = omega arith
+small_letters (x ∷ xs) small zero = small_letter x (small 0)
+small_letters (x ∷ xs) small (suc i) = small_letters xs (λ k. small (suc k)) i
+
+-- the front that was copied, with its capital letters made small
+pub cut_small_is : (n fill count : ℕ) (bytes front letters : List ℕ) → ((i : ℕ) → get_or bytes i 0 < 256) → count ≤ n → count ≤ length bytes → (count < n → length bytes ≤ count)
+    → front ≡ take count bytes → letters ≡ map to_ascii_lowercase (take count (front ++ drop count (replicate n fill)))
+    → big_from 0 n (letters ++ drop count (front ++ drop count (replicate n fill))) ≡ cut_number n fill (map to_ascii_lowercase bytes)
+cut_small_is n fill count bytes front letters small a b c f l =
+    let rest = drop count (replicate n fill) in
+    let own : length front ≡ count = ap length f ∙ length-take-le count bytes b in
+    let made : letters ≡ take count (map to_ascii_lowercase bytes) =
+    l ∙ ap (map to_ascii_lowercase) (take_at front rest count own ∙ f) ∙ sym (take-map to_ascii_lowercase count bytes) in
+    let long : length (map to_ascii_lowercase bytes) ≡ length bytes = length-map bytes to_ascii_lowercase in
+    ap (λ (x : List ℕ). big_from 0 n (letters ++ x)) (drop_at front rest count own) ∙ ap (λ (x : List ℕ). big_from 0 n (x ++ rest)) made
+    ∙ cut_is n fill count (map to_ascii_lowercase bytes) (small_letters bytes small) a (omega (arith, long)) (λ h. let d = c h in omega (arith, long))

@@ -1,2 +1,3 @@
 pub mod KeyBytes
 pub mod CutBytes
+pub mod RisingKeys

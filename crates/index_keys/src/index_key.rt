@@ -57,6 +57,18 @@ impl<const W: usize> IndexKey<W> {
         IndexKey::new(key)
     }
 
+    /// A key of the first of these bytes, its capital letters (A to Z) made small, filled up with
+    /// one byte.
+    pub fn cut_small(bytes: &[u8], fill: u8) -> Self
+        ensures { result ≡ cut_number W fill (map to_ascii_lowercase bytes.now) }
+    {
+        let mut key = [fill; W];
+        let count = bytes.len().min(W);
+        key[..count].copy_from_slice(&bytes[..count]);
+        key[..count].make_ascii_lowercase();
+        IndexKey::new(key)
+    }
+
     /// The same key again.
     pub fn copy(&self) -> Self
         ensures { result ≡ self.now }

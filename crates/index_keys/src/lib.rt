@@ -8,7 +8,9 @@
 mod index_key;
 mod keyed;
 mod laws;
+mod rising;
 
 pub use index_key::IndexKey;
 pub use keyed::Keyed;
 pub use laws::law_of_cuts;
+pub use rising::add_key;
