@@ -1,3 +1,3 @@
 pub mod KeyBytes
 pub mod CutBytes
-pub mod RisingKeys
+pub mod KeyPlaces

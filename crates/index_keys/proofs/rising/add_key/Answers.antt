@@ -1,5 +1,5 @@
 use Rattle.std.proofs.Common.{rules}
-use Rattle.index_keys.proofs.RisingKeys.{Searched, adds, keeps}
+use Rattle.index_keys.proofs.KeyPlaces.{Searched, adds, keeps}
 use Rattle.index_keys.proofs.rising.add_key.Goals as goal
 
 pub returns-in_ok-insert-clause-added : goal.returns-in_ok-insert-clause-added
