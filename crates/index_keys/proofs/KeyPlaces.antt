@@ -1,8 +1,8 @@
 -- Keys that rise: a key put in, and what a search says of its place.
 use Rattle.std.proofs.Common.{◌≡◌, ℕ, zero, suc, ◌+◌, ◌<◌, ◌≤◌, List, [], ◌∷◌, length, get_or, refl, sym, ap, subst, ◌∙◌, arith, Bool, true, false, IsTrue}
-use Rattle.std.proofs.lemmas.Bool.Decides.{nat_tests}
 use Rattle.std.specs.List.{insert, HoldsAt}
 use Rattle.index_keys.specs.Keys.{KeysRise, with_key}
+use Rattle.index_keys.specs.Inside.KeyOrder.{with_front, with_later, with_there}
 use Rattle.index_keys.specs.Inside.KeyPlaces.{IsKeyPlace}
 
 -- an element further on
@@ -16,16 +16,6 @@ rises_pair low [] i j d r l m = absurd (omega arith)
 rises_pair low (k ∷ keys) i zero d r l m = absurd (omega arith)
 rises_pair low (k ∷ keys) zero (suc j) d r l m = let a = rises_at (k + 1) keys j d r.1 (omega arith) in omega (arith, a)
 rises_pair low (k ∷ keys) (suc i) (suc j) d r l m = rises_pair (k + 1) keys i j d r.1 (omega arith) (omega arith)
-
--- the three cases of `with_key`
-with_front : (key other : ℕ) (keys : List ℕ) → key < other → with_key key (other ∷ keys) ≡ key ∷ other ∷ keys
-with_front key other keys h = grind (arith, nat_tests)
-
-with_later : (key other : ℕ) (keys : List ℕ) → other < key → with_key key (other ∷ keys) ≡ other ∷ with_key key keys
-with_later key other keys h = grind (arith, nat_tests)
-
-with_there : (key other : ℕ) (keys : List ℕ) → other ≡ key → with_key key (other ∷ keys) ≡ other ∷ keys
-with_there key other keys h = grind (arith, nat_tests)
 
 place_tail : (key x : ℕ) (xs : List ℕ) (i : ℕ) → IsKeyPlace key (x ∷ xs) (suc i) → IsKeyPlace key xs i
 place_tail key x xs i p = record {

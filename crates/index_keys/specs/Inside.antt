@@ -1,3 +1,4 @@
 pub mod KeyBytes
 pub mod CutLaw
 pub mod KeyPlaces
+pub mod KeyOrder
