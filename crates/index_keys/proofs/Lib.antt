@@ -3,3 +3,6 @@ pub mod CutBytes
 pub mod Members
 pub mod Rising
 pub mod RisingKeys
+pub mod Entering
+pub mod Holding
+pub mod ByNumber
