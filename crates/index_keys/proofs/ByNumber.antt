@@ -7,7 +7,7 @@ use Rattle.index_keys.specs.Entries.{Entry, rank, RisesFrom, IsRising}
 use Rattle.index_keys.specs.Holdings.{HaveOwnNumbers, HoldsEntries, HoldsByNumber, keys_at}
 use Rattle.index_keys.specs.Keys.{KeysRise}
 use Rattle.index_keys.proofs.Members.{contains_first, contains_later, contains_cases, contains_none, contains_map, contains_kept, contains_source, kept_front, dropped_front, true_or_false, each_of, for_each}
-use Rattle.index_keys.proofs.RisingKeys.{same_rising}
+use Rattle.index_keys.proofs.KeyLists.{same_rising}
 
 -- THE KEYS OF A NUMBER
 at_keys : (number key : ℕ) (es : List Entry) → Contains {X = Entry} es (key, number) → Contains (keys_at number es) key
@@ -53,7 +53,8 @@ keys_at_rise number low key (e ∷ es) rises a = elim (true_or_false (e.1 == num
     next own r = let e : suc own ≡ own + 1 = omega arith in subst (λ n. KeysRise n (keys_at number es)) e r
 
 -- the tune of a number
-tune_of : {Text : Type 0} (tunes : List (ℕ × Text)) (number : ℕ) → Contains (map (λ (tune : ℕ × Text). tune.0) tunes) number → (tune : ℕ × Text) × Contains tunes tune × (tune.0 ≡ number)
+tune_of : {Text : Type 0} (tunes : List (ℕ × Text)) (number : ℕ) → Contains (map (λ (tune : ℕ × Text). tune.0) tunes) number
+    → (tune : ℕ × Text) × Contains tunes tune × (tune.0 ≡ number)
 tune_of [] number c = absurd (contains_none number c)
 tune_of {Text} (t ∷ ts) number c = elim (contains_cases t.0 (map (λ (tune : ℕ × Text). tune.0) ts) number c) [
   | inl e ↦ (t, contains_first t ts, e)
@@ -61,7 +62,8 @@ tune_of {Text} (t ∷ ts) number c = elim (contains_cases t.0 (map (λ (tune : �
 ]
 
 -- BOTH WAYS
-pub held_by_number : {Text : Type 0} (keys_of : Text → List ℕ) (tunes : List (ℕ × Text)) (es : List Entry) → HoldsByNumber keys_of tunes es → HoldsEntries keys_of tunes es
+pub held_by_number : {Text : Type 0} (keys_of : Text → List ℕ) (tunes : List (ℕ × Text)) (es : List Entry)
+    → HoldsByNumber keys_of tunes es → HoldsEntries keys_of tunes es
 held_by_number {Text} keys_of tunes es holds = record {
   held = λ tune key c k.
       let same = each_of (λ (tune : ℕ × Text). keys_at tune.0 es ≡ keys_of tune.1) tunes tune holds.each c in

@@ -18,7 +18,8 @@ holds_none {Text} keys_of = record {
 }
 
 -- the values of entries are numbers of tunes
-small_values : {Text : Type 0} (keys_of : Text → List ℕ) (tunes : List (ℕ × Text)) (es : List Entry) → AreSmall tunes → HoldsEntries keys_of tunes es → SmallValues es
+small_values : {Text : Type 0} (keys_of : Text → List ℕ) (tunes : List (ℕ × Text)) (es : List Entry)
+    → AreSmall tunes → HoldsEntries keys_of tunes es → SmallValues es
 small_values {Text} keys_of tunes es s h x at = let o = h.only x at in subst (λ (n : ℕ). n < 2 ^ 32) o.2 (s o.0 o.1)
 
 -- tunes come in
@@ -40,8 +41,9 @@ the_one : {Text : Type 0} (gone tune : ℕ × Text) → Contains (gone ∷ []) t
 the_one {Text} gone tune at = elim (contains_cases gone [] tune at) [ inl same ↦ same | inr none ↦ absurd (contains_none tune none) ]
 
 -- a tune goes out
-pub holds_less : {Text : Type 0} (keys_of : Text → List ℕ) (gone : ℕ × Text) (tunes others : List (ℕ × Text)) (es run : List Entry) → gone.0 < 2 ^ 32 → AreSmall tunes → IsRising es
-    → IsWithout gone tunes others → HoldsEntries keys_of tunes es → HoldsEntries keys_of (gone ∷ []) run → HoldsEntries keys_of others (removed_all run es)
+pub holds_less : {Text : Type 0} (keys_of : Text → List ℕ) (gone : ℕ × Text) (tunes others : List (ℕ × Text)) (es run : List Entry)
+    → gone.0 < 2 ^ 32 → AreSmall tunes → IsRising es → IsWithout gone tunes others
+    → HoldsEntries keys_of tunes es → HoldsEntries keys_of (gone ∷ []) run → HoldsEntries keys_of others (removed_all run es)
 holds_less {Text} keys_of gone tunes others es run g s up w h r = record {
   held = λ t k at has.
       let old = h.held t k (w.among t at) has in
@@ -71,11 +73,13 @@ holds_same {Text} keys_of tunes others es same h = record {
 }
 
 -- an entry in the range gives its value
-value_within : (low high key value : ℕ) (es : List Entry) → Contains {X = Entry} es (key, value) → low ≤ key → key ≤ high → Contains (values_within low high es) value
+value_within : (low high key value : ℕ) (es : List Entry) → Contains {X = Entry} es (key, value) → low ≤ key → key ≤ high
+    → Contains (values_within low high es) value
 value_within low high key value es h a b =
     let e : Entry = (key, value) in
     contains_kept (λ (x : Entry). nat_le low x.0 && nat_le x.0 high) (λ (x : Entry). x.1) es e h (grind (arith, nat_tests))
 
-pub holds_within : {Text : Type 0} (keys_of : Text → List ℕ) (tunes : List (ℕ × Text)) (es : List Entry) (low high : ℕ) → HoldsEntries keys_of tunes es
-    → (tune : ℕ × Text) → Contains tunes tune → HasKeyWithin (keys_of tune.1) low high → Contains (values_within low high es) tune.0
+pub holds_within : {Text : Type 0} (keys_of : Text → List ℕ) (tunes : List (ℕ × Text)) (es : List Entry) (low high : ℕ)
+    → HoldsEntries keys_of tunes es → (tune : ℕ × Text) → Contains tunes tune
+    → HasKeyWithin (keys_of tune.1) low high → Contains (values_within low high es) tune.0
 holds_within {Text} keys_of tunes es low high h tune at w = value_within low high w.key tune.0 es (h.held tune w.key at w.among) w.from w.to

@@ -2,7 +2,7 @@ pub mod KeyBytes
 pub mod CutBytes
 pub mod Members
 pub mod Rising
-pub mod RisingKeys
+pub mod KeyLists
 pub mod Entering
 pub mod Holding
 pub mod ByNumber

@@ -47,8 +47,8 @@ pub fn law_of_entries()
 /// - `same`: the order of the tunes does not matter, nor how often one is listed.
 /// - `candidates`: a tune with a key in a range has its number among the values in that range.
 /// - `by_number`: entries that are seen to be those of the tunes, one tune after another, are.
-/// - `each`: and they are seen to be, where they rise, no two tunes have one number, and the keys of
-///   each tune rise.
+/// - `each`: and they are seen to be, where they rise, no two tunes have one number, and the keys
+///   of each tune rise.
 pub fn law_of_holdings<Text>()
     ensures none { (keys_of : Text → List ℕ) → HoldsEntries keys_of [] [] }
     ensures more { (keys_of : Text → List ℕ) (tunes more : List (ℕ × Text))

@@ -1,4 +1,4 @@
-use Rattle.index_keys.proofs.RisingKeys.{keys_rise, keys_held}
+use Rattle.index_keys.proofs.KeyLists.{keys_rise, keys_held}
 use Rattle.index_keys.proofs.laws.law_of_keys.Goals as goal
 
 pub returns-clause-rise : goal.returns-clause-rise

@@ -97,16 +97,29 @@ rises_over low (m ∷ ms) n r h = elim (contains_cases m ms n h) [
 ]
 
 -- two lists that rise and have the same members are the same
-pub same_rising : (low : ℕ) (xs ys : List ℕ) → KeysRise low xs → KeysRise low ys → ((n : ℕ) → Contains xs n → Contains ys n) → ((n : ℕ) → Contains ys n → Contains xs n) → xs ≡ ys
+pub same_rising : (low : ℕ) (xs ys : List ℕ) → KeysRise low xs → KeysRise low ys
+    → ((n : ℕ) → Contains xs n → Contains ys n) → ((n : ℕ) → Contains ys n → Contains xs n) → xs ≡ ys
 same_rising low [] [] r s f b = refl
 same_rising low [] (y ∷ ys) r s f b = absurd (contains_none y (b y (contains_first y ys)))
 same_rising low (x ∷ xs) [] r s f b = absurd (contains_none x (f x (contains_first x xs)))
 same_rising low (x ∷ xs) (y ∷ ys) r s f b =
-    let over : y ≤ x = elim (contains_cases y ys x (f x (contains_first x xs))) [ inl e ↦ omega arith | inr k ↦ let o = rises_over (y + 1) ys x s.1 k in omega arith ] in
-    let under : x ≤ y = elim (contains_cases x xs y (b y (contains_first y ys))) [ inl e ↦ omega arith | inr k ↦ let o = rises_over (x + 1) xs y r.1 k in omega arith ] in
+    let over : y ≤ x = elim (contains_cases y ys x (f x (contains_first x xs))) [
+      | inl e ↦ omega arith
+      | inr k ↦ let o = rises_over (y + 1) ys x s.1 k in omega arith
+    ] in
+    let under : x ≤ y = elim (contains_cases x xs y (b y (contains_first y ys))) [
+      | inl e ↦ omega arith
+      | inr k ↦ let o = rises_over (x + 1) xs y r.1 k in omega arith
+    ] in
     let e : x ≡ y = omega arith in
     let s2 : KeysRise (x + 1) ys = rw e s.1 in
-    let on : (n : ℕ) → Contains xs n → Contains ys n = λ n h. elim (contains_cases y ys n (f n (contains_later x xs n h))) [ inl k ↦ absurd (let o = rises_over (x + 1) xs n r.1 h in omega arith) | inr k ↦ k ] in
-    let off : (n : ℕ) → Contains ys n → Contains xs n = λ n h. elim (contains_cases x xs n (b n (contains_later y ys n h))) [ inl k ↦ absurd (let o = rises_over (y + 1) ys n s.1 h in omega arith) | inr k ↦ k ] in
+    let on : (n : ℕ) → Contains xs n → Contains ys n = λ n h. elim (contains_cases y ys n (f n (contains_later x xs n h))) [
+      | inl k ↦ absurd (let o = rises_over (x + 1) xs n r.1 h in omega arith)
+      | inr k ↦ k
+    ] in
+    let off : (n : ℕ) → Contains ys n → Contains xs n = λ n h. elim (contains_cases x xs n (b n (contains_later y ys n h))) [
+      | inl k ↦ absurd (let o = rises_over (y + 1) ys n s.1 h in omega arith)
+      | inr k ↦ k
+    ] in
     let rest : xs ≡ ys = same_rising (x + 1) xs ys r.1 s2 on off in
     cc
