@@ -1,3 +1,8 @@
 pub mod KeyBytes
 pub mod CutBytes
 pub mod KeyPlaces
+pub mod Rising
+pub mod KeyLists
+pub mod Entering
+pub mod Holding
+pub mod ByNumber

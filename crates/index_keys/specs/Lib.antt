@@ -1,4 +1,5 @@
 pub mod Entries
 pub mod Cuts
 pub mod Keys
+pub mod Holdings
 pub mod Inside

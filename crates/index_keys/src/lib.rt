@@ -12,5 +12,5 @@ mod rising;
 
 pub use index_key::IndexKey;
 pub use keyed::Keyed;
-pub use laws::law_of_cuts;
+pub use laws::{law_of_cuts, law_of_entries, law_of_holdings, law_of_keys};
 pub use rising::add_key;

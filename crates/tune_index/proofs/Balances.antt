@@ -10,7 +10,7 @@ use Rattle.tune_index.specs.Inside.LeafLists.{joined, leaves_of}
 use Rattle.tune_index.specs.Inside.Places.{AllBelow}
 use Rattle.tune_index.specs.Leaves.{slice_entry}
 use Rattle.tune_index.proofs.LeafLists.{leaves_of_index, length-leaves}
-use Rattle.tune_index.proofs.Lists.{inserted_front, inserted_later, inserted_there}
+use Rattle.index_keys.proofs.Rising.{inserted_front, inserted_later, inserted_there}
 use Rattle.tune_index.proofs.Runs.{AllBegun, are_begun, inserted_all-append, run_middle}
 
 -- ENTRIES THAT GO IN TAKE NONE OUT

@@ -10,7 +10,7 @@ use Rattle.std.proofs.lemmas.Bool.{cases_lt}
 use Rattle.index_keys.specs.Entries.{Entry, rank, inserted, inserted_all}
 use Rattle.tune_index.specs.Indexes.{IsIndex, KeepsList, Shape, entries_of}
 use Rattle.tune_index.specs.Inside.EachPage.{HasEachPage}
-use Rattle.tune_index.proofs.Lists.{inserted_front, inserted_later, inserted_there}
+use Rattle.index_keys.proofs.Rising.{inserted_front, inserted_later, inserted_there}
 use Rattle.tune_index.proofs.Puts.{leaves_within}
 
 -- WHAT A CALL DID TO ONE PAGE

@@ -12,5 +12,4 @@ pub mod Fulls
 pub mod Storing
 pub mod Loading
 pub mod EachPage
-pub mod Found
 pub mod Balances

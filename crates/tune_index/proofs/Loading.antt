@@ -19,7 +19,7 @@ use Rattle.tune_index.specs.Indexes.{AllLeaves, Shape, entries_of, heads_of}
 use Rattle.tune_index.specs.Inside.Loading.{LoadsLeaf}
 use Rattle.tune_index.specs.Leaves.{slice_entry, leaf_in, value_bytes, value_in, IsLeaf}
 use Rattle.tune_index.specs.Listed.{StoredIndex, IsStored, listed_bytes, numbers_in, shown}
-use Rattle.tune_index.proofs.Lists.{rises_front}
+use Rattle.index_keys.proofs.Rising.{rises_front}
 use Rattle.tune_index.proofs.Puts.{leaves_within}
 use Rattle.tune_index.proofs.Storing.{length-listed}
 use Rattle.tune_index.proofs.Ranges.{entries_of-push}

@@ -1,13 +1,14 @@
 -- One leaf is replaced: what the pages of an index stand for then.
 use Rattle.std.proofs.Common.{◌≡◌, ◌≢◌, ℕ, zero, suc, ◌+◌, ◌<◌, ◌≤◌, List, [], ◌∷◌, ◌++◌, length, take, drop, set, slice_index, refl, sym, ap, ◌∙◌, arith, append_assoc, length-append, inl, inr, subst}
-use Rattle.std.proofs.lemmas.Bool.{cases_eq, cases_lt}
+use Rattle.std.proofs.lemmas.Bool.{cases_eq}
 use Rattle.tune_pages.specs.Stand.{Stand}
 use Rattle.tune_pages.specs.Frame.{mark_at, image_at, InUse, Puts, OthersKept}
 use Rattle.index_keys.specs.Entries.{Entry, rank, RisesFrom, IsRising, inserted, FitsLeaf, AllFit}
 use Rattle.tune_index.specs.Indexes.{entries_of, heads_of, AllLeaves, IsIndex, Shape}
 use Rattle.tune_index.specs.Inside.EachPage.{HasEachPage}
 use Rattle.tune_index.specs.Leaves.{slice_entry, leaf_in, IsLeaf}
-use Rattle.tune_index.proofs.Lists.{inserted_front, inserted_later, inserted_there, inserted-after, inserted-before, rises_back, rises_front, inserted-rises, BeginsAfter}
+use Rattle.index_keys.proofs.Rising.{rises_back, rises_front, inserted-rises, inserted-fit}
+use Rattle.tune_index.proofs.Lists.{inserted-after, inserted-before, BeginsAfter}
 use Rattle.tune_index.proofs.Ranges.{Begun, leaf_begun}
 
 -- pages that are not the one that changed stand for what they stood for
@@ -130,17 +131,6 @@ begins_at width r all (q ∷ qs) zero f l h = begins width r all qs f.1 (λ n. h
 begins_at width r all (q ∷ qs) (suc i) f l h =
     let e : suc i + 1 ≡ suc (i + 1) = omega arith in
     begins_at width r all qs i f.1 (omega arith) (λ n. subst (λ (k : ℕ). r < rank (slice_entry (heads_of width all (q ∷ qs)) k)) e (h (omega arith)))
-
--- an entry that fits goes among entries that fit
-pub inserted-fit : (width : ℕ) (es : List Entry) (e : Entry) → AllFit width es → FitsLeaf width e → AllFit width (inserted e es)
-inserted-fit width [] e f k = (k, tt)
-inserted-fit width (x ∷ xs) e f k = elim (cases_lt (rank e) (rank x)) [
-  | inl front ↦ rw (inserted_front e x xs front) (k, f)
-  | inr rest ↦ elim (cases_lt (rank x) (rank e)) [
-    | inl later ↦ rw (inserted_later e x xs later) (f.0, inserted-fit width xs e f.1 k)
-    | inr there ↦ rw (inserted_there e x xs (omega arith)) f
-  ]
-]
 
 -- an entry was put into the leaf where it belongs
 pub insert_index : (width : ℕ) (old new : Stand) (was is : Shape) (i : ℕ) (e : Entry) (bytes : List ℕ) → HasEachPage old was.pages → IsIndex width old was → i < length was.pages

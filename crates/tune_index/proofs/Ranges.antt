@@ -10,7 +10,7 @@ use Rattle.tune_index.specs.Indexes.{entries_of, heads_of, AllLeaves}
 use Rattle.tune_index.specs.Inside.EachPage.{HasEachPage}
 use Rattle.tune_index.specs.Inside.Places.{IsSkipped}
 use Rattle.tune_index.specs.Leaves.{slice_entry, IsLeaf, leaf_in, entries_in, entry_in, count_in}
-use Rattle.tune_index.proofs.Lists.{rises_front, rises_back, rises_middle}
+use Rattle.index_keys.proofs.Rising.{rises_front, rises_back, rises_middle}
 
 -- the first entry in the range, and out of it
 pub within_first : (low high : ℕ) (e : Entry) (es : List Entry) → low ≤ e.0 → e.0 ≤ high → values_within low high (e ∷ es) ≡ e.1 ∷ values_within low high es

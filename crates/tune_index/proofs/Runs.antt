@@ -3,7 +3,7 @@ use Rattle.std.proofs.Common.{◌≡◌, ℕ, zero, suc, ◌+◌, ◌<◌, ◌�
 use Rattle.std.specs.Prelude.{slice_index_or}
 use Rattle.std.specs.List.{insert, remove}
 use Rattle.std.proofs.lemmas.List.{get_or-drop}
-use Rattle.std.proofs.lemmas.Bool.{cases_lt, cases_eq}
+use Rattle.std.proofs.lemmas.Bool.{cases_lt}
 use Rattle.tune_pages.specs.Stand.{Stand}
 use Rattle.tune_pages.specs.Frame.{image_at}
 use Rattle.index_keys.specs.Entries.{Entry, rank, RisesFrom, IsRising, inserted, removed, AllFit, FitsLeaf, inserted_all}
@@ -11,9 +11,9 @@ use Rattle.tune_index.specs.Indexes.{AllLeaves, IsIndex, Shape, entries_of}
 use Rattle.tune_index.specs.Inside.LeafLists.{HasLeaves, joined, firsts, leaves_of}
 use Rattle.tune_index.specs.Inside.Places.{IsPlace, AllBelow}
 use Rattle.tune_index.specs.Leaves.{slice_entry, leaf_in}
-use Rattle.tune_index.proofs.Lists.{inserted_later, inserted-before, inserted-rises, removed_there, removed_later, removed-before, removed-rises, rises_front, rises_back, rises_lower, BeginsAfter}
+use Rattle.index_keys.proofs.Rising.{inserted_later, inserted_all_rises, inserted_all_fit, removed_later, removed-rises, rises_front, rises_back, rises_lower, removed_fit}
+use Rattle.tune_index.proofs.Lists.{inserted-before, removed-before, BeginsAfter}
 use Rattle.tune_index.proofs.Ranges.{Begun, leaf_begun}
-use Rattle.tune_index.proofs.Puts.{inserted-fit}
 use Rattle.tune_index.proofs.LeafLists.{leaves_of_index, leaves_entries, index_of_leaves, length-leaves}
 
 -- an entry past the first of two lists goes into the second
@@ -37,15 +37,6 @@ inserted_middle low before leaf after (e ∷ run) b r a =
     let here : AllBelow (rank e) before = below_more low (rank e) before r.0 b in
     let one : inserted e (before ++ (leaf ++ after)) ≡ before ++ (inserted e leaf ++ after) = inserted_past before (leaf ++ after) e here ∙ ap (λ (x : List Entry). before ++ x) (inserted-before leaf after e a.0) in
     ap (inserted_all run) one ∙ inserted_middle (rank e + 1) before (inserted e leaf) after run (below_more (rank e) (rank e + 1) before (omega arith) here) r.1 a.1
-
--- a run put into a list that rises
-pub inserted_all_rises : (run es : List Entry) → IsRising es → IsRising (inserted_all run es)
-inserted_all_rises [] es up = up
-inserted_all_rises (e ∷ run) es up = inserted_all_rises run (inserted e es) (inserted-rises 0 es e up (omega arith))
-
-pub inserted_all_fit : (width : ℕ) (run es : List Entry) → AllFit width run → AllFit width es → AllFit width (inserted_all run es)
-inserted_all_fit width [] es f h = h
-inserted_all_fit width (e ∷ run) es f h = inserted_all_fit width run (inserted e es) f.1 (inserted-fit width es e h f.0)
 
 pub inserted_all-append : (xs ys es : List Entry) → inserted_all (xs ++ ys) es ≡ inserted_all ys (inserted_all xs es)
 inserted_all-append [] ys es = refl
@@ -227,13 +218,6 @@ leaf_at width all (p ∷ ps) (suc i) l = leaf_at width all ps i (omega arith)
 removed_past : (xs ys : List Entry) (e : Entry) → AllBelow (rank e) xs → removed e (xs ++ ys) ≡ xs ++ removed e ys
 removed_past [] ys e b = refl
 removed_past (x ∷ xs) ys e b = let h = b.0 in removed_later e x (xs ++ ys) (omega arith) ∙ ap (λ (z : List Entry). x ∷ z) (removed_past xs ys e b.1)
-
-removed_fit : (width : ℕ) (es : List Entry) (e : Entry) → AllFit width es → AllFit width (removed e es)
-removed_fit width [] e f = tt
-removed_fit width (x ∷ xs) e f = elim (cases_eq (rank x) (rank e)) [
-  | inl there ↦ rw (removed_there e x xs there) f.1
-  | inr later ↦ rw (removed_later e x xs later) (f.0, removed_fit width xs e f.1)
-]
 
 begins_after : (r : ℕ) (zs : List Entry) → BeginsAfter r zs → IsRising zs → RisesFrom (r + 1) zs
 begins_after r [] b up = tt

@@ -7,7 +7,7 @@ use Rattle.index_keys.specs.Entries.{Entry, rank, RisesFrom}
 use Rattle.tune_index.specs.Indexes.{entries_of, heads_of, AllLeaves}
 use Rattle.tune_index.specs.Inside.EachPage.{HasEachPage}
 use Rattle.tune_index.specs.Leaves.{slice_entry, leaf_in}
-use Rattle.tune_index.proofs.Lists.{rises_back}
+use Rattle.index_keys.proofs.Rising.{rises_back}
 use Rattle.tune_index.proofs.Ranges.{leaf_begun}
 use Rattle.tune_index.proofs.Puts.{kept_entries, other_page}
 

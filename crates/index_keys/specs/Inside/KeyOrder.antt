@@ -4,6 +4,7 @@ use Rattle.std.proofs.lemmas.Bool.{cases_lt}
 use Rattle.std.proofs.lemmas.Bool.Decides.{nat_tests}
 use Rattle.std.specs.List.{Contains}
 use Rattle.index_keys.specs.Keys.{KeysRise, with_key, rising_keys}
+use Rattle.index_keys.specs.Inside.Members.{contains_first, contains_later}
 
 -- the three cases of `with_key`
 pub with_front : (key other : ℕ) (keys : List ℕ) → key < other → with_key key (other ∷ keys) ≡ key ∷ other ∷ keys
@@ -29,13 +30,6 @@ with_rises low key (other ∷ keys) l r = elim (cases_lt key other) [
 pub keys_rise : (keys : List ℕ) → KeysRise 0 (rising_keys keys)
 keys_rise [] = tt
 keys_rise (key ∷ keys) = with_rises 0 key (rising_keys keys) (omega arith) (keys_rise keys)
-
--- the first of a list, and one further on
-pub contains_first : {X : Type 0} (x : X) (xs : List X) → Contains (x ∷ xs) x
-contains_first x xs = (0, omega arith, refl)
-
-pub contains_later : {X : Type 0} (y : X) (xs : List X) (x : X) → Contains xs x → Contains (y ∷ xs) x
-contains_later y xs x h = (suc h.0, (let l = h.1 in omega arith), h.2)
 
 -- the key that is put in, and those before it
 pub with_new : (key : ℕ) (keys : List ℕ) → Contains (with_key key keys) key

@@ -1,7 +1,7 @@
 use Rattle.std.proofs.Common.{◌≡◌, ◌+◌, ◌≤◌, rules, arith, inl, inr, refl}
 use Rattle.index_keys.specs.Entries.{rank}
 use Rattle.tune_index.specs.Leaves.{slice_entry}
-use Rattle.tune_index.proofs.Lists.{rises_pair}
+use Rattle.index_keys.proofs.Rising.{rises_pair}
 use Rattle.tune_index.proofs.index.leaf_before.Goals as goal
 
 pub returns-then-is_at-clause-belongs : goal.returns-then-is_at-clause-belongs

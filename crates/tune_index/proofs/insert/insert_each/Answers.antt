@@ -2,7 +2,8 @@ use Rattle.std.proofs.Common.{◌≡◌, ℕ, ◌+◌, List, ◌∷◌, [], ◌+
 use Rattle.std.proofs.lemmas.List.{take_more}
 use Rattle.index_keys.specs.Entries.{Entry, IsRising, inserted, AllFit, inserted_all}
 use Rattle.tune_index.proofs.Codec.{AllFit-push}
-use Rattle.tune_index.proofs.Runs.{inserted_all-append, inserted_all_rises}
+use Rattle.index_keys.proofs.Rising.{inserted_all_rises}
+use Rattle.tune_index.proofs.Runs.{inserted_all-append}
 use Rattle.tune_index.proofs.insert.insert_each.Goals as goal
 
 pub loop-entry-preserved : goal.loop-entry-preserved

@@ -9,7 +9,7 @@ use Rattle.tune_index.specs.Inside.Places.{AllBelow}
 use Rattle.tune_index.specs.Leaves.{slice_entry}
 use Rattle.tune_index.proofs.Answering.{edit_more}
 use Rattle.tune_index.proofs.Balances.{front_least, part_full}
-use Rattle.tune_index.proofs.Lists.{rises_front}
+use Rattle.index_keys.proofs.Rising.{rises_front}
 use Rattle.tune_index.proofs.Splits.{heads_rise}
 use Rattle.tune_index.proofs.Puts.{length-heads_of}
 use Rattle.tune_index.proofs.LeafLists.{leaves_of_index}

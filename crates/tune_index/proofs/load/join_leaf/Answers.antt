@@ -1,7 +1,7 @@
 use Rattle.std.proofs.Common.{◌≡◌, ◌+◌, List, [], ◌∷◌, ◌++◌, append_assoc, take, drop, rules, sym, ◌∙◌, ap, subst, IsTrue}
 use Rattle.std.proofs.lemmas.List.{take_more, take-append-drop}
 use Rattle.index_keys.specs.Entries.{Entry, IsRising}
-use Rattle.tune_index.proofs.Lists.{rises_front}
+use Rattle.index_keys.proofs.Rising.{rises_front}
 use Rattle.tune_index.proofs.load.join_leaf.Goals as goal
 
 pub returns-then-not-follows-clause-no : goal.returns-then-not-follows-clause-no

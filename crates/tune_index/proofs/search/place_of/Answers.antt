@@ -2,7 +2,7 @@ use Rattle.std.proofs.Common.{◌≡◌, ℕ, ◌+◌, ◌-◌, ◌/◌, ◌<◌
 use Rattle.std.proofs.lemmas.Bool.{cases_lt, cases_eq}
 use Rattle.std.proofs.lemmas.List.{get_or_default}
 use Rattle.index_keys.specs.Entries.{Entry, rank, IsRising}
-use Rattle.tune_index.proofs.Lists.{rises_pair}
+use Rattle.index_keys.proofs.Rising.{rises_pair}
 use Rattle.tune_index.proofs.search.place_of.Goals as goal
 
 -- an element whatever default it is read with

@@ -9,7 +9,7 @@ use Rattle.tune_index.specs.Indexes.{entries_of}
 use Rattle.tune_index.proofs.Answering.{change_edit, edit_more}
 use Rattle.tune_index.proofs.Balances.{inserted_all_some}
 use Rattle.tune_index.proofs.Fulls.{list_then}
-use Rattle.tune_index.proofs.Lists.{rises_back}
+use Rattle.index_keys.proofs.Rising.{rises_back}
 use Rattle.tune_index.proofs.Runs.{inserted_all-append}
 use Rattle.tune_index.proofs.index.Index.insert_all.Goals as goal
 
