@@ -27,7 +27,7 @@ inserted_least e (x ∷ xs) = elim (cases_lt (rank e) (rank x)) [
   ]
 ]
 
-pub inserted_all_least : (run es : List Entry) → length es ≤ length (inserted_all run es)
+inserted_all_least : (run es : List Entry) → length es ≤ length (inserted_all run es)
 inserted_all_least [] es = omega arith
 inserted_all_least (e ∷ run) es =
     let one = (inserted_least e es).0 in

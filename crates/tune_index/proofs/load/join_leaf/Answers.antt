@@ -12,7 +12,8 @@ returns-then-not-follows-clause-no g c = λ _ up.
     let now : List Entry = c.loop-entry.entries.items in
     let e : Entry = c.entry-item.result in
     let back = drop (i + 1) leaf in
-    let t : take (i + 1) leaf ≡ take i leaf ++ e ∷ [] = take_more leaf i e c.loop-entry-test.true ∙ ap (λ (x : Entry). take i leaf ++ x ∷ []) (sym c.entry-item.is) in
+    let t : take (i + 1) leaf ≡ take i leaf ++ e ∷ [] = take_more leaf i e c.loop-entry-test.true
+    ∙ ap (λ (x : Entry). take i leaf ++ x ∷ []) (sym c.entry-item.is) in
     let front : before ++ take (i + 1) leaf ≡ now ++ e ∷ [] = ap (λ (x : List Entry). before ++ x) t ∙ sym (append_assoc before (take i leaf) (e ∷ []))
     ∙ ap (λ (x : List Entry). x ++ e ∷ []) (sym c.loop-entry.invariant.so_far) in
     let whole : before ++ leaf ≡ (now ++ e ∷ []) ++ back = ap (λ (x : List Entry). before ++ x) (sym (take-append-drop (i + 1) leaf))
