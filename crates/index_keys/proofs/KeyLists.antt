@@ -1,8 +1,7 @@
 -- Keys in rising order: what is among them, and that one list alone has them.
-use Rattle.std.proofs.Common.{◌≡◌, ◌⊎◌, ℕ, ◌+◌, ◌<◌, ◌≤◌, List, [], ◌∷◌, arith, inl, inr, refl, subst}
+use Rattle.std.proofs.Common.{◌≡◌, ◌⊎◌, ℕ, ◌+◌, ◌≤◌, List, [], ◌∷◌, arith, inl, inr, refl, subst}
 use Rattle.std.specs.List.{Contains}
 use Rattle.std.proofs.lemmas.Bool.{cases_lt}
-use Rattle.std.proofs.lemmas.Bool.Decides.{nat_tests}
 use Rattle.index_keys.specs.Holdings.{SameMembers}
 use Rattle.index_keys.specs.Keys.{KeysRise, with_key, rising_keys}
 use Rattle.index_keys.specs.Inside.KeyOrder.{with_front, with_later, with_there, with_new, with_old}

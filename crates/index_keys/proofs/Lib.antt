@@ -1,7 +1,7 @@
 pub mod KeyBytes
 pub mod CutBytes
 pub mod KeyPlaces
-pub mod Rising
+pub mod RisingEntries
 pub mod KeyLists
 pub mod Entering
 pub mod Holding

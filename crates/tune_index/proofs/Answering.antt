@@ -1,6 +1,6 @@
 -- How faults of a call come to be those of the call above it.
 use Rattle.std.proofs.Common.{◌≡◌, ◌∙◌, sym, subst, Bool, true, false}
-use Rattle.tune_pages.specs.Faults.{IsWorkFault, IsReadFault}
+use Rattle.tune_pages.specs.Faults.{IsWorkFault}
 use Rattle.tune_pages.specs.declared.fault.Fault.{Fault}
 use Rattle.tune_pages.specs.declared.fault.Fault.TheVariants.{FileFull, OutOfMemory, Device, Closed}
 use Rattle.tune_index.specs.Faults.{IsChangeFault, IsEditFault}
@@ -26,13 +26,6 @@ change_edit FileFull shut more is = (more is, shut)
 change_edit OutOfMemory shut more is = shut
 change_edit Device shut more is = absurd is
 change_edit Closed shut more is = absurd is
-
--- of a call of the pages that reads
-pub read_edit : (f : Fault) (R : Type 0) (a b : Bool) → a ≡ false → IsReadFault f a b → IsEditFault f b R
-read_edit FileFull R a b shut is = absurd is
-read_edit OutOfMemory R a b shut is = is.1
-read_edit Device R a b shut is = is.1
-read_edit Closed R a b shut is = absurd (not_both_ways a shut is.0)
 
 pub edit_more : (f : Fault) (b : Bool) {P R : Type 0} → (P → R) → IsEditFault f b P → IsEditFault f b R
 edit_more FileFull b more is = (more is.0, is.1)

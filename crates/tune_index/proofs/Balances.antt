@@ -5,12 +5,12 @@ use Rattle.std.proofs.lemmas.List.{length-append, take-append-drop}
 use Rattle.std.specs.Prelude.{slice_index_or}
 use Rattle.tune_pages.specs.Stand.{Stand}
 use Rattle.index_keys.specs.Entries.{Entry, RisesFrom, inserted, inserted_all, rank}
+use Rattle.index_keys.proofs.RisingEntries.{inserted_front, inserted_later, inserted_there}
 use Rattle.tune_index.specs.Indexes.{IsIndex, Shape, entries_of}
 use Rattle.tune_index.specs.Inside.LeafLists.{joined, leaves_of}
 use Rattle.tune_index.specs.Inside.Places.{AllBelow}
 use Rattle.tune_index.specs.Leaves.{slice_entry}
 use Rattle.tune_index.proofs.LeafLists.{leaves_of_index, length-leaves}
-use Rattle.index_keys.proofs.Rising.{inserted_front, inserted_later, inserted_there}
 use Rattle.tune_index.proofs.Runs.{AllBegun, are_begun, inserted_all-append, run_middle}
 
 -- ENTRIES THAT GO IN TAKE NONE OUT
@@ -27,7 +27,7 @@ inserted_least e (x ∷ xs) = elim (cases_lt (rank e) (rank x)) [
   ]
 ]
 
-pub inserted_all_least : (run es : List Entry) → length es ≤ length (inserted_all run es)
+inserted_all_least : (run es : List Entry) → length es ≤ length (inserted_all run es)
 inserted_all_least [] es = omega arith
 inserted_all_least (e ∷ run) es =
     let one = (inserted_least e es).0 in

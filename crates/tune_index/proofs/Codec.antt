@@ -1,5 +1,6 @@
 -- The bytes of a leaf, read and written.
-use Rattle.std.proofs.Common.{◌≡◌, ℕ, zero, suc, ◌+◌, ◌-◌, ◌/◌, ◌*◌, ◌^◌, ◌<◌, ◌≤◌, List, [], ◌∷◌, ◌++◌, length, take, drop, refl, sym, ap, ◌∙◌, arith, append_assoc, length-append, length-drop}
+use Rattle.std.proofs.Common.{◌≡◌, ℕ, zero, suc, ◌+◌, ◌-◌, ◌/◌, ◌*◌, ◌^◌, ◌<◌, ◌≤◌, List, [], ◌∷◌, ◌++◌, length, take, drop, refl, sym, ap, ◌∙◌, arith}
+use Rattle.std.proofs.Common.{append_assoc, length-append, length-drop}
 use Rattle.std.proofs.Math.Nat.{add-mul, div-mul-le_self, mul-le-mul_right}
 use Rattle.std.proofs.lemmas.List.{append-nil, take_all}
 use Rattle.byteorder.specs.Endian.{big_number, big_bytes}
@@ -7,33 +8,12 @@ use Rattle.byteorder.specs.Numbers.{big_number-reads_back, length-bytes_high_fir
 use Rattle.index_keys.specs.Entries.{Entry, FitsLeaf, AllFit}
 use Rattle.tune_index.specs.Leaves.{capacity, value_in, value_bytes, count_in, count_bytes, entry_in, entries_in, leaf_in, entry_bytes, entries_bytes, IsLeaf}
 
--- what the opaque words are
-pub value_in_is : (bytes : List ℕ) → value_in bytes ≡ big_number 4 bytes
-unfolding value_in
-value_in_is bytes = refl
-
-pub value_bytes_is : (value : ℕ) → value_bytes value ≡ big_bytes 4 value
-unfolding value_bytes
-value_bytes_is value = refl
-
-pub count_in_is : (bytes : List ℕ) → count_in bytes ≡ big_number 2 bytes
-unfolding count_in
-count_in_is bytes = refl
-
-pub count_bytes_is : (count : ℕ) → count_bytes count ≡ big_bytes 2 count
-unfolding count_bytes
-count_bytes_is count = refl
-
-pub capacity_is : (width : ℕ) → capacity width ≡ 4094 / (width + 4)
-unfolding capacity
-capacity_is width = refl
-
 pub leaf_in_is : (width : ℕ) (image : List ℕ) → leaf_in width image ≡ entries_in width (count_in image) (drop 2 image)
 unfolding leaf_in
 leaf_in_is width image = refl
 
 -- a number and a count, written and read
-pub length-value_bytes : (value : ℕ) → length (value_bytes value) ≡ 4
+length-value_bytes : (value : ℕ) → length (value_bytes value) ≡ 4
 unfolding value_bytes
 length-value_bytes value = length-bytes_high_first 4 value
 
@@ -57,7 +37,7 @@ drop_front (suc n) [] ys e = absurd (omega arith)
 drop_front (suc n) (x ∷ xs) ys e = drop_front n xs ys (omega arith)
 
 -- the bytes of an entry
-pub length-entry_bytes : (width : ℕ) (e : Entry) → length (entry_bytes width e) ≡ width + 4
+length-entry_bytes : (width : ℕ) (e : Entry) → length (entry_bytes width e) ≡ width + 4
 length-entry_bytes width e =
     let a = length-append (big_bytes width e.0) (value_bytes e.1) in
     let b = length-bytes_high_first width e.0 in
@@ -69,17 +49,20 @@ entry_back : (width : ℕ) (e : Entry) (rest : List ℕ) → FitsLeaf width e �
 entry_back width e rest fits =
     let s : entry_bytes width e ++ rest ≡ big_bytes width e.0 ++ (value_bytes e.1 ++ rest) = append_assoc (big_bytes width e.0) (value_bytes e.1) rest in
     let k : big_number width (big_bytes width e.0 ++ (value_bytes e.1 ++ rest)) ≡ e.0 = big_number-reads_back width e.0 (value_bytes e.1 ++ rest) fits.key in
-    let d : drop width (big_bytes width e.0 ++ (value_bytes e.1 ++ rest)) ≡ value_bytes e.1 ++ rest = drop_front width (big_bytes width e.0) (value_bytes e.1 ++ rest) (length-bytes_high_first width e.0) in
+    let d : drop width (big_bytes width e.0 ++ (value_bytes e.1 ++ rest)) ≡ value_bytes e.1 ++ rest =
+    drop_front width (big_bytes width e.0) (value_bytes e.1 ++ rest) (length-bytes_high_first width e.0) in
     let v : value_in (value_bytes e.1 ++ rest) ≡ e.1 = value_back e.1 rest fits.value in
     ap (entry_in width) s ∙ rw (k, d, v) refl
 
 -- the entries that were written are those that are read
-pub entries_back : (width : ℕ) (es : List Entry) (rest : List ℕ) → AllFit width es → entries_in width (length es) (entries_bytes width es ++ rest) ≡ es
+entries_back : (width : ℕ) (es : List Entry) (rest : List ℕ) → AllFit width es → entries_in width (length es) (entries_bytes width es ++ rest) ≡ es
 entries_back width [] rest fit = refl
 entries_back width (e ∷ es) rest fit =
-    let s : entries_bytes width (e ∷ es) ++ rest ≡ entry_bytes width e ++ (entries_bytes width es ++ rest) = append_assoc (entry_bytes width e) (entries_bytes width es) rest in
+    let s : entries_bytes width (e ∷ es) ++ rest ≡ entry_bytes width e ++ (entries_bytes width es ++ rest) =
+    append_assoc (entry_bytes width e) (entries_bytes width es) rest in
     let first = entry_back width e (entries_bytes width es ++ rest) fit.0 in
-    let d : drop (width + 4) (entry_bytes width e ++ (entries_bytes width es ++ rest)) ≡ entries_bytes width es ++ rest = drop_front (width + 4) (entry_bytes width e) (entries_bytes width es ++ rest) (length-entry_bytes width e) in
+    let d : drop (width + 4) (entry_bytes width e ++ (entries_bytes width es ++ rest)) ≡ entries_bytes width es ++ rest =
+    drop_front (width + 4) (entry_bytes width e) (entries_bytes width es ++ rest) (length-entry_bytes width e) in
     let more = entries_back width es rest fit.1 in
     ap (entries_in width (suc (length es))) s ∙ rw (first, d, more) refl
 
@@ -90,7 +73,8 @@ unfolding leaf_in
 leaf_back width es image rest fit small e =
     let s : image ≡ count_bytes (length es) ++ (entries_bytes width es ++ rest) = e ∙ append_assoc (count_bytes (length es)) (entries_bytes width es) rest in
     let n : count_in image ≡ length es = ap count_in s ∙ count_back (length es) (entries_bytes width es ++ rest) small in
-    let d : drop 2 image ≡ entries_bytes width es ++ rest = ap (drop 2) s ∙ drop_front 2 (count_bytes (length es)) (entries_bytes width es ++ rest) (length-count_bytes (length es)) in
+    let d : drop 2 image ≡ entries_bytes width es ++ rest = ap (drop 2) s
+    ∙ drop_front 2 (count_bytes (length es)) (entries_bytes width es ++ rest) (length-count_bytes (length es)) in
     rw (n, d) (entries_back width es rest fit)
 
 -- and has the form of a leaf
@@ -104,7 +88,8 @@ is_leaf_written width es image rest some within small e =
 -- the bytes of entries, one entry after the other
 pub entries_bytes-push : (width : ℕ) (es : List Entry) (e : Entry) → entries_bytes width (es ++ e ∷ []) ≡ entries_bytes width es ++ entry_bytes width e
 entries_bytes-push width [] e = append-nil (entry_bytes width e)
-entries_bytes-push width (x ∷ xs) e = ap (λ (r : List ℕ). entry_bytes width x ++ r) (entries_bytes-push width xs e) ∙ sym (append_assoc (entry_bytes width x) (entries_bytes width xs) (entry_bytes width e))
+entries_bytes-push width (x ∷ xs) e = ap (λ (r : List ℕ). entry_bytes width x ++ r) (entries_bytes-push width xs e)
+    ∙ sym (append_assoc (entry_bytes width x) (entries_bytes width xs) (entry_bytes width e))
 
 pub AllFit-push : (width : ℕ) (es : List Entry) (e : Entry) → AllFit width es → FitsLeaf width e → AllFit width (es ++ e ∷ [])
 AllFit-push width [] e h k = (k, tt)

@@ -25,7 +25,8 @@ there es s t i e b h up is d =
 inside : (es s t : List Entry) (i : ℕ) (e : Entry) (b : Bool) → Searched es s t i e b → b ≡ true → i < length es
 inside es s t i e b h is = subst (λ (x : List Entry). i < length x) h.second (h.here is)
 
-past : (es s t : List Entry) (i : ℕ) (e : Entry) (b : Bool) → Searched es s t i e b → IsRising es → b ≡ false → i < length es → (d : Entry) → rank e < rank (get_or es i d)
+past : (es s t : List Entry) (i : ℕ) (e : Entry) (b : Bool) → Searched es s t i e b → IsRising es → b ≡ false → i < length es → (d : Entry)
+    → rank e < rank (get_or es i d)
 past es s t i e b h up is l d =
     let p : IsPlace (rank e) t i = subst (λ (x : List Entry). IsPlace (rank e) x i) (sym h.second) (found es s t i e b h up) in
     let m : i < length t = subst (λ (x : List Entry). i < length x) (sym h.second) l in

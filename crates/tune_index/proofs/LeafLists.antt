@@ -1,5 +1,6 @@
 -- An index as the list of its leaves: a leaf replaced, added, taken out.
-use Rattle.std.proofs.Common.{◌≡◌, ◌≢◌, ℕ, zero, suc, ◌+◌, ◌-◌, ◌<◌, ◌≤◌, List, [], ◌∷◌, ◌++◌, length, take, drop, set, slice_index, refl, sym, ap, ◌∙◌, arith, append_assoc, inl, inr, subst}
+use Rattle.std.proofs.Common.{◌≡◌, ◌≢◌, ℕ, zero, suc, ◌+◌, ◌-◌, ◌<◌, ◌≤◌, List, [], ◌∷◌, ◌++◌, length, take, drop, set, slice_index, refl, sym, ap, ◌∙◌, arith}
+use Rattle.std.proofs.Common.{append_assoc, inl, inr, subst}
 use Rattle.std.specs.List.{Contains, insert, remove}
 use Rattle.std.proofs.lemmas.Bool.{cases_eq}
 use Rattle.tune_pages.specs.Stand.{Stand}
@@ -15,7 +16,7 @@ use Rattle.std.proofs.lemmas.List.{take-append-drop, drop-drop}
 use Rattle.tune_index.proofs.Puts.{put_form, put_in_use}
 
 -- THE TWO VIEWS OF AN INDEX
-pub entries_joined : (width : ℕ) (all : Stand) (pages : List ℕ) → entries_of width all pages ≡ joined (leaves_of width all pages)
+entries_joined : (width : ℕ) (all : Stand) (pages : List ℕ) → entries_of width all pages ≡ joined (leaves_of width all pages)
 entries_joined width all [] = refl
 entries_joined width all (p ∷ ps) = ap (λ (x : List Entry). leaf_in width (image_at all p) ++ x) (entries_joined width all ps)
 
@@ -26,10 +27,12 @@ heads_firsts width all (p ∷ ps) = ap (λ (x : List Entry). slice_entry (leaf_i
 pub leaves_of_index : (width : ℕ) (all : Stand) (shape : Shape) → IsIndex width all shape → HasLeaves width all shape (leaves_of width all shape.pages)
 leaves_of_index width all shape ix = record { are = refl; heads = ix.heads ∙ heads_firsts width all shape.pages; form = ix.form }
 
-pub leaves_entries : (width : ℕ) (all : Stand) (shape : Shape) (leaves : List (List Entry)) → HasLeaves width all shape leaves → entries_of width all shape.pages ≡ joined leaves
+pub leaves_entries : (width : ℕ) (all : Stand) (shape : Shape) (leaves : List (List Entry)) → HasLeaves width all shape leaves
+    → entries_of width all shape.pages ≡ joined leaves
 leaves_entries width all shape leaves h = entries_joined width all shape.pages ∙ ap joined h.are
 
-pub index_of_leaves : (width : ℕ) (all : Stand) (shape : Shape) (leaves : List (List Entry)) → HasLeaves width all shape leaves → IsRising (joined leaves) → AllFit width (joined leaves) → IsIndex width all shape
+pub index_of_leaves : (width : ℕ) (all : Stand) (shape : Shape) (leaves : List (List Entry)) → HasLeaves width all shape leaves → IsRising (joined leaves)
+    → AllFit width (joined leaves) → IsIndex width all shape
 index_of_leaves width all shape leaves h up fit = record {
   form = h.form;
   heads = h.heads ∙ ap firsts (sym h.are) ∙ sym (heads_firsts width all shape.pages);
@@ -38,22 +41,22 @@ index_of_leaves width all shape leaves h up fit = record {
 }
 
 -- PAGES THAT ARE APART
-pub apart_from : (page : ℕ) (ps : List ℕ) → ((k : ℕ) → k < length ps → slice_index ps k ≢ page) → Apart page ps
+apart_from : (page : ℕ) (ps : List ℕ) → ((k : ℕ) → k < length ps → slice_index ps k ≢ page) → Apart page ps
 apart_from page [] d = tt
 apart_from page (p ∷ ps) d = (d 0 (omega arith), apart_from page ps (λ k l. d (suc k) (omega arith)))
 
-pub apart_to : (page : ℕ) (ps : List ℕ) → Apart page ps → (k : ℕ) → k < length ps → slice_index ps k ≢ page
+apart_to : (page : ℕ) (ps : List ℕ) → Apart page ps → (k : ℕ) → k < length ps → slice_index ps k ≢ page
 apart_to page [] a k l = absurd (omega arith)
 apart_to page (p ∷ ps) a zero l = a.0
 apart_to page (p ∷ ps) a (suc k) l = apart_to page ps a.1 k (omega arith)
 
-pub apart_insert : (page : ℕ) (ps : List ℕ) (i q : ℕ) → Apart page ps → q ≢ page → Apart page (insert ps i q)
+apart_insert : (page : ℕ) (ps : List ℕ) (i q : ℕ) → Apart page ps → q ≢ page → Apart page (insert ps i q)
 apart_insert page [] zero q a d = (d, tt)
 apart_insert page [] (suc i) q a d = (d, tt)
 apart_insert page (p ∷ ps) zero q a d = (d, a)
 apart_insert page (p ∷ ps) (suc i) q a d = (a.0, apart_insert page ps i q a.1 d)
 
-pub apart_remove : (page : ℕ) (ps : List ℕ) (i : ℕ) → Apart page ps → Apart page (remove ps i)
+apart_remove : (page : ℕ) (ps : List ℕ) (i : ℕ) → Apart page ps → Apart page (remove ps i)
 apart_remove page [] zero a = tt
 apart_remove page [] (suc i) a = tt
 apart_remove page (p ∷ ps) zero a = a.1
@@ -103,7 +106,8 @@ kept_pages old new page [] o a h = tt
 kept_pages old new page (p ∷ ps) o a h = (kept_in_use old new page p o a.0 h.0, h.1, kept_pages old new page ps o a.1 h.2)
 
 -- ONE LEAF MORE, ONE LESS, ANOTHER ONE: leaves, firsts and forms
-leaves-insert : (width : ℕ) (all : Stand) (ps : List ℕ) (i q : ℕ) → leaves_of width all (insert ps i q) ≡ insert (leaves_of width all ps) i (leaf_in width (image_at all q))
+leaves-insert : (width : ℕ) (all : Stand) (ps : List ℕ) (i q : ℕ)
+    → leaves_of width all (insert ps i q) ≡ insert (leaves_of width all ps) i (leaf_in width (image_at all q))
 leaves-insert width all [] zero q = refl
 leaves-insert width all [] (suc i) q = refl
 leaves-insert width all (p ∷ ps) zero q = refl
@@ -156,11 +160,14 @@ put_leaves width old new bytes (q ∷ qs) (suc i) h l p =
     rw (s, r) refl
 
 -- A LEAF IS REPLACED
-pub leaves_set : (width : ℕ) (old new : Stand) (was is : Shape) (leaves : List (List Entry)) (i : ℕ) (leaf : List Entry) (bytes : List ℕ) → HasEachPage old was.pages → i < length was.pages
-    → Puts old new (slice_index was.pages i) bytes → IsLeaf width bytes → leaf_in width bytes ≡ leaf → is.pages ≡ was.pages → is.heads ≡ set was.heads i (slice_entry leaf 0)
+pub leaves_set : (width : ℕ) (old new : Stand) (was is : Shape) (leaves : List (List Entry)) (i : ℕ) (leaf : List Entry) (bytes : List ℕ)
+    → HasEachPage old was.pages → i < length was.pages
+    → Puts old new (slice_index was.pages i) bytes → IsLeaf width bytes → leaf_in width bytes ≡ leaf → is.pages ≡ was.pages
+    → is.heads ≡ set was.heads i (slice_entry leaf 0)
     → HasLeaves width old was leaves → HasLeaves width new is (set leaves i leaf)
 leaves_set width old new was is leaves i leaf bytes has l p form at pages heads h = record {
-  are = ap (leaves_of width new) pages ∙ put_leaves width old new bytes was.pages i has l p ∙ ap (λ (x : List Entry). set (leaves_of width old was.pages) i x) at ∙ ap (λ (x : List (List Entry)). set x i leaf) h.are;
+  are = ap (leaves_of width new) pages ∙ put_leaves width old new bytes was.pages i has l p
+      ∙ ap (λ (x : List Entry). set (leaves_of width old was.pages) i x) at ∙ ap (λ (x : List (List Entry)). set x i leaf) h.are;
   heads = heads ∙ ap (λ (x : List Entry). set x i (slice_entry leaf 0)) h.heads ∙ sym (firsts-set leaves i leaf);
   form = subst (λ (x : List ℕ). AllLeaves width new x) (sym pages) (put_form width old new bytes was.pages i has l p form h.form);
 }
@@ -175,12 +182,15 @@ set_trades old new ps i bytes l p = record {
   kept = λ page u a. (p.others page (λ e. not_both page ps (subst (λ (x : ℕ). Contains ps x) (sym e) (in_list ps i l)) a), a);
   taken = λ page u. elim (apart_or page ps) [
     | inl c ↦ inl c
-    | inr a ↦ inr (kept_back old new (slice_index ps i) page p.others (λ e. not_both page ps (subst (λ (x : ℕ). Contains ps x) (sym e) (in_list ps i l)) a) u, a)
+    | inr a ↦ inr (
+      kept_back old new (slice_index ps i) page p.others (λ e. not_both page ps (subst (λ (x : ℕ). Contains ps x) (sym e) (in_list ps i l)) a) u,
+      a,
+    )
   ];
 }
 
 -- A LEAF IS ADDED
-pub fresh_apart : (old new : Stand) (page : ℕ) (ps : List ℕ) → Allocates old new page → HasEachPage old ps → Apart page ps
+fresh_apart : (old new : Stand) (page : ℕ) (ps : List ℕ) → Allocates old new page → HasEachPage old ps → Apart page ps
 fresh_apart old new page [] a h = tt
 fresh_apart old new page (q ∷ qs) a h = ((λ e. a.free (ap (λ (x : ℕ). mark_at old x) (sym e) ∙ h.0.flag)), fresh_apart old new page qs a h.2)
 
@@ -190,22 +200,27 @@ kept_by_add old mid new page bytes q al p u =
     let other : q ≢ page = λ e. al.free (ap (λ (x : ℕ). mark_at old x) (sym e) ∙ u.flag) in
     put_in_use mid new page bytes q p (kept_in_use old mid page q al.others other u)
 
-pub leaves_added : (width : ℕ) (old mid new : Stand) (was is : Shape) (leaves : List (List Entry)) (i page : ℕ) (leaf : List Entry) (bytes : List ℕ) → HasEachPage old was.pages
-    → Allocates old mid page → Puts mid new page bytes → IsLeaf width bytes → leaf_in width bytes ≡ leaf → is.pages ≡ insert was.pages i page → is.heads ≡ insert was.heads i (slice_entry leaf 0)
+pub leaves_added : (width : ℕ) (old mid new : Stand) (was is : Shape) (leaves : List (List Entry)) (i page : ℕ) (leaf : List Entry) (bytes : List ℕ)
+    → HasEachPage old was.pages
+    → Allocates old mid page → Puts mid new page bytes → IsLeaf width bytes → leaf_in width bytes ≡ leaf → is.pages ≡ insert was.pages i page
+    → is.heads ≡ insert was.heads i (slice_entry leaf 0)
     → HasLeaves width old was leaves → HasLeaves width new is (insert leaves i leaf)
 leaves_added width old mid new was is leaves i page leaf bytes has al p form at pages heads h =
     let apart = fresh_apart old mid page was.pages al has in
-    let same : leaves_of width new was.pages ≡ leaves = kept_leaves width mid new page was.pages p.others apart ∙ kept_leaves width old mid page was.pages al.others apart ∙ h.are in
+    let same : leaves_of width new was.pages ≡ leaves = kept_leaves width mid new page was.pages p.others apart
+    ∙ kept_leaves width old mid page was.pages al.others apart ∙ h.are in
     let mine : leaf_in width (image_at new page) ≡ leaf = ap (leaf_in width) p.image ∙ at in
     let fs = kept_form width mid new page was.pages p.others apart (kept_form width old mid page was.pages al.others apart h.form) in
     let k : IsLeaf width (image_at new page) = subst (λ (x : List ℕ). IsLeaf width x) (sym p.image) form in
     record {
-      are = ap (leaves_of width new) pages ∙ leaves-insert width new was.pages i page ∙ ap (λ (x : List Entry). insert (leaves_of width new was.pages) i x) mine ∙ ap (λ (x : List (List Entry)). insert x i leaf) same;
+      are = ap (leaves_of width new) pages ∙ leaves-insert width new was.pages i page
+          ∙ ap (λ (x : List Entry). insert (leaves_of width new was.pages) i x) mine ∙ ap (λ (x : List (List Entry)). insert x i leaf) same;
       heads = heads ∙ ap (λ (x : List Entry). insert x i (slice_entry leaf 0)) h.heads ∙ sym (firsts-insert leaves i leaf);
       form = subst (λ (x : List ℕ). AllLeaves width new x) (sym pages) (form-insert width new was.pages i page fs k);
     }
 
-pub add_pages : (old mid new : Stand) (ps is : List ℕ) (i page : ℕ) (bytes : List ℕ) → HasEachPage old ps → Allocates old mid page → Puts mid new page bytes → is ≡ insert ps i page → HasEachPage new is
+pub add_pages : (old mid new : Stand) (ps is : List ℕ) (i page : ℕ) (bytes : List ℕ) → HasEachPage old ps → Allocates old mid page → Puts mid new page bytes
+    → is ≡ insert ps i page → HasEachPage new is
 add_pages old mid new ps is i page bytes has al p e =
     let apart = fresh_apart old mid page ps al has in
     let h1 = kept_pages mid new page ps p.others apart (kept_pages old mid page ps al.others apart has) in
@@ -226,14 +241,18 @@ contains_insert (p ∷ ps) (suc i) q page c = elim (contains_cases p ps page c) 
   | inr l ↦ contains_later p (insert ps i q) page (contains_insert ps i q page l)
 ]
 
-pub add_trades : (old mid new : Stand) (ps is : List ℕ) (i page : ℕ) (bytes : List ℕ) → HasEachPage old ps → Allocates old mid page → Puts mid new page bytes → is ≡ insert ps i page → TradesPages ps is old new
+pub add_trades : (old mid new : Stand) (ps is : List ℕ) (i page : ℕ) (bytes : List ℕ) → HasEachPage old ps → Allocates old mid page → Puts mid new page bytes
+    → is ≡ insert ps i page → TradesPages ps is old new
 add_trades old mid new ps is i page bytes has al p e = record {
   kept = λ q u a.
       let d : q ≢ page = λ s. al.free (ap (λ (x : ℕ). mark_at old x) (sym s) ∙ u.flag) in
-      let one = al.others q d in let two = p.others q d in
-      (record { image = two.image ∙ one.image; used = two.used ∙ one.used }, subst (λ (x : List ℕ). Apart q x) (sym e) (apart_insert q ps i page a (λ s. d (sym s))));
+      let one = al.others q d in let two = p.others q d in (
+        record { image = two.image ∙ one.image; used = two.used ∙ one.used },
+        subst (λ (x : List ℕ). Apart q x) (sym e) (apart_insert q ps i page a (λ s. d (sym s))),
+      );
   taken = λ q u. elim (cases_eq q page) [
-    | inl here ↦ inl (subst (λ (x : List ℕ). Contains x q) (sym e) (subst (λ (x : ℕ). Contains (insert ps i page) x) (sym here) (contains_insert_here ps i page)))
+    | inl here ↦ inl (subst (λ (x : List ℕ). Contains x q) (sym e)
+        (subst (λ (x : ℕ). Contains (insert ps i page) x) (sym here) (contains_insert_here ps i page)))
     | inr d ↦ elim (apart_or q ps) [
       | inl c ↦ inl (subst (λ (x : List ℕ). Contains x q) (sym e) (contains_insert ps i page q c))
       | inr a ↦ inr (kept_back old mid page q al.others d (kept_back mid new page q p.others d u), a)
@@ -242,21 +261,24 @@ add_trades old mid new ps is i page bytes has al p e = record {
 }
 
 -- A LEAF IS TAKEN OUT
-removed_leaves : (width : ℕ) (old new : Stand) (page : ℕ) (ps : List ℕ) → OthersKept old new page → Apart page ps → leaves_of width new ps ≡ leaves_of width old ps
-removed_leaves width old new page ps o a = kept_leaves width old new page ps o a
-
 pub leaves_dropped : (width : ℕ) (old new : Stand) (was is : Shape) (leaves : List (List Entry)) (i : ℕ) → HasEachPage old was.pages → i < length was.pages
-    → Frees old new (slice_index was.pages i) → is.pages ≡ remove was.pages i → is.heads ≡ remove was.heads i → HasLeaves width old was leaves → HasLeaves width new is (remove leaves i)
+    → Frees old new (slice_index was.pages i) → is.pages ≡ remove was.pages i → is.heads ≡ remove was.heads i → HasLeaves width old was leaves
+    → HasLeaves width new is (remove leaves i)
 leaves_dropped width old new was is leaves i has l f pages heads h =
     let apart = apart_removed old was.pages i has l in
     record {
-      are = ap (leaves_of width new) pages ∙ kept_leaves width old new (slice_index was.pages i) (remove was.pages i) f.others apart ∙ leaves-remove width old was.pages i ∙ ap (λ (x : List (List Entry)). remove x i) h.are;
+      are = ap (leaves_of width new) pages ∙ kept_leaves width old new (slice_index was.pages i) (remove was.pages i) f.others apart
+          ∙ leaves-remove width old was.pages i ∙ ap (λ (x : List (List Entry)). remove x i) h.are;
       heads = heads ∙ ap (λ (x : List Entry). remove x i) h.heads ∙ sym (firsts-remove leaves i);
-      form = subst (λ (x : List ℕ). AllLeaves width new x) (sym pages) (kept_form width old new (slice_index was.pages i) (remove was.pages i) f.others apart (form-remove width old was.pages i h.form));
+      form = subst (λ (x : List ℕ). AllLeaves width new x) (sym pages)
+          (kept_form width old new (slice_index was.pages i) (remove was.pages i) f.others apart (form-remove width old was.pages i h.form));
     }
 
-pub drop_pages : (old new : Stand) (ps is : List ℕ) (i : ℕ) → HasEachPage old ps → i < length ps → Frees old new (slice_index ps i) → is ≡ remove ps i → HasEachPage new is
-drop_pages old new ps is i has l f e = subst (λ (x : List ℕ). HasEachPage new x) (sym e) (kept_pages old new (slice_index ps i) (remove ps i) f.others (apart_removed old ps i has l) (has_remove old ps i has))
+pub drop_pages : (old new : Stand) (ps is : List ℕ) (i : ℕ) → HasEachPage old ps → i < length ps → Frees old new (slice_index ps i) → is ≡ remove ps i
+    → HasEachPage new is
+drop_pages old new ps is i has l f e =
+    subst (λ (x : List ℕ). HasEachPage new x) (sym e)
+    (kept_pages old new (slice_index ps i) (remove ps i) f.others (apart_removed old ps i has l) (has_remove old ps i has))
 
 contains_remove : (ps : List ℕ) (i page : ℕ) → i < length ps → Contains ps page → slice_index ps i ≢ page → Contains (remove ps i) page
 contains_remove [] i page l c d = absurd (omega arith)
@@ -285,28 +307,33 @@ take_insert_next [] i y l = absurd (omega arith)
 take_insert_next (x ∷ xs) zero y l = refl
 take_insert_next {X} (x ∷ xs) (suc i) y l = ap (λ (z : List X). x ∷ z) (take_insert_next xs i y (omega arith))
 
-pub take_insert : {X : Type 0} (xs : List X) (i : ℕ) (y : X) → i < length xs → take i (insert xs (i + 1) y) ≡ take i xs
+take_insert : {X : Type 0} (xs : List X) (i : ℕ) (y : X) → i < length xs → take i (insert xs (i + 1) y) ≡ take i xs
 take_insert xs i y l = let e : suc i ≡ i + 1 = omega arith in subst (λ (k : ℕ). take i (insert xs k y) ≡ take i xs) e (take_insert_next xs i y l)
 
-pub drop_insert : {X : Type 0} (xs : List X) (i : ℕ) (y : X) → i ≤ length xs → drop i (insert xs i y) ≡ y ∷ drop i xs
+drop_insert : {X : Type 0} (xs : List X) (i : ℕ) (y : X) → i ≤ length xs → drop i (insert xs i y) ≡ y ∷ drop i xs
 drop_insert [] zero y l = refl
 drop_insert [] (suc i) y l = absurd (omega arith)
 drop_insert (x ∷ xs) zero y l = refl
 drop_insert (x ∷ xs) (suc i) y l = drop_insert xs i y (omega arith)
 
-joined_set_next : (leaves : List (List Entry)) (i : ℕ) (leaf : List Entry) → i < length leaves → joined (set leaves i leaf) ≡ joined (take i leaves) ++ (leaf ++ joined (drop (suc i) leaves))
+joined_set_next : (leaves : List (List Entry)) (i : ℕ) (leaf : List Entry) → i < length leaves
+    → joined (set leaves i leaf) ≡ joined (take i leaves) ++ (leaf ++ joined (drop (suc i) leaves))
 joined_set_next [] i leaf l = absurd (omega arith)
 joined_set_next (r ∷ leaves) zero leaf l = refl
-joined_set_next (r ∷ leaves) (suc i) leaf l = ap (λ (x : List Entry). r ++ x) (joined_set_next leaves i leaf (omega arith)) ∙ sym (append_assoc r (joined (take i leaves)) (leaf ++ joined (drop (suc i) leaves)))
+joined_set_next (r ∷ leaves) (suc i) leaf l = ap (λ (x : List Entry). r ++ x) (joined_set_next leaves i leaf (omega arith))
+    ∙ sym (append_assoc r (joined (take i leaves)) (leaf ++ joined (drop (suc i) leaves)))
 
-pub joined_set : (leaves : List (List Entry)) (i : ℕ) (leaf : List Entry) → i < length leaves → joined (set leaves i leaf) ≡ joined (take i leaves) ++ (leaf ++ joined (drop (i + 1) leaves))
-joined_set leaves i leaf l = let e : suc i ≡ i + 1 = omega arith in subst (λ (k : ℕ). joined (set leaves i leaf) ≡ joined (take i leaves) ++ (leaf ++ joined (drop k leaves))) e (joined_set_next leaves i leaf l)
+pub joined_set : (leaves : List (List Entry)) (i : ℕ) (leaf : List Entry) → i < length leaves
+    → joined (set leaves i leaf) ≡ joined (take i leaves) ++ (leaf ++ joined (drop (i + 1) leaves))
+joined_set leaves i leaf l = let e : suc i ≡ i + 1 = omega arith in
+    subst (λ (k : ℕ). joined (set leaves i leaf) ≡ joined (take i leaves) ++ (leaf ++ joined (drop k leaves))) e (joined_set_next leaves i leaf l)
 
-pub length-leaves_of : (width : ℕ) (all : Stand) (pages : List ℕ) → length (leaves_of width all pages) ≡ length pages
+length-leaves_of : (width : ℕ) (all : Stand) (pages : List ℕ) → length (leaves_of width all pages) ≡ length pages
 length-leaves_of width all [] = refl
 length-leaves_of width all (p ∷ ps) = let r = length-leaves_of width all ps in omega arith
 
-pub length-leaves : (width : ℕ) (all : Stand) (shape : Shape) (leaves : List (List Entry)) → HasLeaves width all shape leaves → length leaves ≡ length shape.pages
+pub length-leaves : (width : ℕ) (all : Stand) (shape : Shape) (leaves : List (List Entry)) → HasLeaves width all shape leaves
+    → length leaves ≡ length shape.pages
 length-leaves width all shape leaves h = ap length (sym h.are) ∙ length-leaves_of width all shape.pages
 
 -- what was spread so far: the leaves before the place stay, and those behind it hold the last entries
@@ -314,21 +341,28 @@ pub record Spread (place rest : ℕ) (entries : List Entry) (leaves more : List 
   pub before : take place more ≡ take place leaves
   pub behind : joined (drop (place + 1) more) ≡ drop rest entries ++ joined (drop (place + 1) leaves)
 
-pub spread_more : (place from rest : ℕ) (entries leaf : List Entry) (leaves more : List (List Entry)) → Spread place rest entries leaves more → from ≤ rest → place + 1 ≤ length more
+pub spread_more : (place from rest : ℕ) (entries leaf : List Entry) (leaves more : List (List Entry)) → Spread place rest entries leaves more → from ≤ rest
+    → place + 1 ≤ length more
     → leaf ≡ take (rest - from) (drop from entries) → Spread place from entries leaves (insert more (place + 1) leaf)
 spread_more place from rest entries leaf leaves more s l n is = record {
   before = take_insert more place leaf (omega arith) ∙ s.before;
   behind =
-      let parts : drop from entries ≡ take (rest - from) (drop from entries) ++ drop (rest - from) (drop from entries) = sym (take-append-drop (rest - from) (drop from entries)) in
-      let d : drop (rest - from) (drop from entries) ≡ drop rest entries = drop-drop (rest - from) from entries ∙ ap (λ (k : ℕ). drop k entries) (omega arith) in
-      ap joined (drop_insert more (place + 1) leaf n) ∙ ap (λ (x : List Entry). leaf ++ x) s.behind ∙ sym (append_assoc leaf (drop rest entries) (joined (drop (place + 1) leaves)))
-      ∙ ap (λ (x : List Entry). x ++ joined (drop (place + 1) leaves)) (ap (λ (x : List Entry). x ++ drop rest entries) is ∙ ap (λ (x : List Entry). take (rest - from) (drop from entries) ++ x) (sym d) ∙ sym parts);
+      let parts : drop from entries ≡ take (rest - from) (drop from entries) ++ drop (rest - from) (drop from entries) =
+      sym (take-append-drop (rest - from) (drop from entries)) in
+      let d : drop (rest - from) (drop from entries) ≡ drop rest entries = drop-drop (rest - from) from entries
+      ∙ ap (λ (k : ℕ). drop k entries) (omega arith) in
+      ap joined (drop_insert more (place + 1) leaf n) ∙ ap (λ (x : List Entry). leaf ++ x) s.behind
+      ∙ sym (append_assoc leaf (drop rest entries) (joined (drop (place + 1) leaves)))
+      ∙ ap (λ (x : List Entry). x ++ joined (drop (place + 1) leaves)) (ap (λ (x : List Entry). x ++ drop rest entries) is
+      ∙ ap (λ (x : List Entry). take (rest - from) (drop from entries) ++ x) (sym d) ∙ sym parts);
 }
 
-pub spread_done : (place rest : ℕ) (entries leaf : List Entry) (leaves more : List (List Entry)) → Spread place rest entries leaves more → place < length more → leaf ≡ take rest entries
+pub spread_done : (place rest : ℕ) (entries leaf : List Entry) (leaves more : List (List Entry)) → Spread place rest entries leaves more → place < length more
+    → leaf ≡ take rest entries
     → joined (set more place leaf) ≡ joined (take place leaves) ++ (entries ++ joined (drop (place + 1) leaves))
 spread_done place rest entries leaf leaves more s n is =
     joined_set more place leaf n ∙ ap (λ (x : List (List Entry)). joined x ++ (leaf ++ joined (drop (place + 1) more))) s.before
     ∙ ap (λ (x : List Entry). joined (take place leaves) ++ (leaf ++ x)) s.behind
     ∙ ap (λ (x : List Entry). joined (take place leaves) ++ x) (sym (append_assoc leaf (drop rest entries) (joined (drop (place + 1) leaves)))
-    ∙ ap (λ (x : List Entry). (x ++ drop rest entries) ++ joined (drop (place + 1) leaves)) is ∙ ap (λ (x : List Entry). x ++ joined (drop (place + 1) leaves)) (take-append-drop rest entries))
+    ∙ ap (λ (x : List Entry). (x ++ drop rest entries) ++ joined (drop (place + 1) leaves)) is
+    ∙ ap (λ (x : List Entry). x ++ joined (drop (place + 1) leaves)) (take-append-drop rest entries))

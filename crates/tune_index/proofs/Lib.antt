@@ -8,8 +8,10 @@ pub mod LeafLists
 pub mod Runs
 pub mod Ends
 pub mod Answering
-pub mod Fulls
+pub mod Changes
 pub mod Storing
 pub mod Loading
 pub mod EachPage
 pub mod Balances
+pub mod Beside
+pub mod Shares

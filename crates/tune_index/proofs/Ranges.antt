@@ -1,58 +1,57 @@
 -- The values of the entries in a range of keys.
-use Rattle.std.proofs.Common.{◌≡◌, ℕ, zero, suc, ◌+◌, ◌<◌, ◌≤◌, List, [], ◌∷◌, ◌++◌, length, take, drop, get_or, slice_index, refl, sym, ap, ◌∙◌, arith, append_assoc, inl, inr, subst}
+use Rattle.std.proofs.Common.{◌≡◌, ℕ, zero, suc, ◌+◌, ◌<◌, ◌≤◌, List, [], ◌∷◌, ◌++◌, length, take, drop, get_or, slice_index, refl, sym, ap, ◌∙◌, arith}
+use Rattle.std.proofs.Common.{append_assoc, inl, inr, subst}
 use Rattle.std.proofs.lemmas.Bool.{cases_lt}
 use Rattle.std.proofs.lemmas.Bool.Decides.{nat_tests}
 use Rattle.std.proofs.lemmas.List.{take_more, append-nil, get_or_default}
 use Rattle.tune_pages.specs.Stand.{Stand}
 use Rattle.tune_pages.specs.Frame.{image_at, InUse}
 use Rattle.index_keys.specs.Entries.{Entry, rank, RisesFrom, values_within, AllFit}
+use Rattle.index_keys.proofs.RisingEntries.{rises_back, rises_front, rises_middle}
 use Rattle.tune_index.specs.Indexes.{entries_of, heads_of, AllLeaves}
 use Rattle.tune_index.specs.Inside.EachPage.{HasEachPage}
 use Rattle.tune_index.specs.Inside.Places.{IsSkipped}
 use Rattle.tune_index.specs.Leaves.{slice_entry, IsLeaf, leaf_in, entries_in, entry_in, count_in}
-use Rattle.index_keys.proofs.Rising.{rises_front, rises_back, rises_middle}
 
 -- the first entry in the range, and out of it
-pub within_first : (low high : ℕ) (e : Entry) (es : List Entry) → low ≤ e.0 → e.0 ≤ high → values_within low high (e ∷ es) ≡ e.1 ∷ values_within low high es
+within_first : (low high : ℕ) (e : Entry) (es : List Entry) → low ≤ e.0 → e.0 ≤ high → values_within low high (e ∷ es) ≡ e.1 ∷ values_within low high es
 within_first low high e es a b = grind (arith, nat_tests)
 
-pub below_first : (low high : ℕ) (e : Entry) (es : List Entry) → e.0 < low → values_within low high (e ∷ es) ≡ values_within low high es
+below_first : (low high : ℕ) (e : Entry) (es : List Entry) → e.0 < low → values_within low high (e ∷ es) ≡ values_within low high es
 below_first low high e es a = grind (arith, nat_tests)
 
-pub above_first : (low high : ℕ) (e : Entry) (es : List Entry) → high < e.0 → values_within low high (e ∷ es) ≡ values_within low high es
+above_first : (low high : ℕ) (e : Entry) (es : List Entry) → high < e.0 → values_within low high (e ∷ es) ≡ values_within low high es
 above_first low high e es a = grind (arith, nat_tests)
 
 -- of two lists
-pub values_within-append : (low high : ℕ) (xs ys : List Entry) → values_within low high (xs ++ ys) ≡ values_within low high xs ++ values_within low high ys
+values_within-append : (low high : ℕ) (xs ys : List Entry) → values_within low high (xs ++ ys) ≡ values_within low high xs ++ values_within low high ys
 values_within-append low high [] ys = refl
 values_within-append low high (x ∷ xs) ys = elim (cases_lt x.0 low) [
-  | inl below ↦ below_first low high x (xs ++ ys) below ∙ values_within-append low high xs ys ∙ sym (ap (λ (z : List ℕ). z ++ values_within low high ys) (below_first low high x xs below))
+  | inl below ↦ below_first low high x (xs ++ ys) below ∙ values_within-append low high xs ys
+      ∙ sym (ap (λ (z : List ℕ). z ++ values_within low high ys) (below_first low high x xs below))
   | inr over ↦ elim (cases_lt high x.0) [
-    | inl above ↦ above_first low high x (xs ++ ys) above ∙ values_within-append low high xs ys ∙ sym (ap (λ (z : List ℕ). z ++ values_within low high ys) (above_first low high x xs above))
+    | inl above ↦ above_first low high x (xs ++ ys) above ∙ values_within-append low high xs ys
+        ∙ sym (ap (λ (z : List ℕ). z ++ values_within low high ys) (above_first low high x xs above))
     | inr within ↦ within_first low high x (xs ++ ys) over within ∙ ap (λ (z : List ℕ). x.1 ∷ z) (values_within-append low high xs ys)
         ∙ sym (ap (λ (z : List ℕ). z ++ values_within low high ys) (within_first low high x xs over within))
   ]
 ]
 
 -- what stands before an entry that is not past the range's begin has no entry of the range
-pub none_below : (low high place : ℕ) (xs : List Entry) (y : Entry) (ys : List Entry) → RisesFrom place (xs ++ y ∷ ys) → rank y ≤ rank (low, 0) → values_within low high xs ≡ []
+none_below : (low high place : ℕ) (xs : List Entry) (y : Entry) (ys : List Entry) → RisesFrom place (xs ++ y ∷ ys) → rank y ≤ rank (low, 0)
+    → values_within low high xs ≡ []
 none_below low high place [] y ys r l = refl
 none_below low high place (x ∷ xs) y ys r l =
     let m = rises_middle (rank x + 1) xs y ys r.1 in
     below_first low high x xs (omega (arith, m, l)) ∙ none_below low high (rank x + 1) xs y ys r.1 l
 
 -- what rises from past the range's end has none
-pub none_above : (width low high place : ℕ) (xs : List Entry) → AllFit width xs → RisesFrom place xs → rank (high + 1, 0) ≤ place → values_within low high xs ≡ []
+none_above : (width low high place : ℕ) (xs : List Entry) → AllFit width xs → RisesFrom place xs → rank (high + 1, 0) ≤ place
+    → values_within low high xs ≡ []
 none_above width low high place [] f r l = refl
 none_above width low high place (x ∷ xs) f r l =
     let h = r.0 in let v = f.0.value in
     above_first low high x xs (omega (arith, h, v, l)) ∙ none_above width low high (rank x + 1) xs f.1 r.1 (omega (arith, h, l))
-
--- one entry more of a leaf, in the range and out of it
-pub one_more : (low high i : ℕ) (es : List Entry) (e : Entry) → i < length es → e ≡ get_or es i e → values_within low high (take (i + 1) es) ≡ values_within low high (take i es) ++ values_within low high (e ∷ [])
-one_more low high i es e l is =
-    let t : take (i + 1) es ≡ take i es ++ e ∷ [] = take_more es i e l ∙ ap (λ (x : Entry). take i es ++ x ∷ []) (sym is) in
-    ap (values_within low high) t ∙ values_within-append low high (take i es) (e ∷ [])
 
 -- a leaf has an entry
 pub record Begun (es : List Entry) : Type 0 where
@@ -69,31 +68,35 @@ unfolding leaf_in
 leaf_begun width image h = begun width (count_in image) (drop 2 image) h.some
 
 -- the front of a list whose entries fit, and the rest
-pub fit_front : (width : ℕ) (xs ys : List Entry) → AllFit width (xs ++ ys) → AllFit width xs
+fit_front : (width : ℕ) (xs ys : List Entry) → AllFit width (xs ++ ys) → AllFit width xs
 fit_front width [] ys h = tt
 fit_front width (x ∷ xs) ys h = (h.0, fit_front width xs ys h.1)
 
-pub fit_back : (width : ℕ) (xs ys : List Entry) → AllFit width (xs ++ ys) → AllFit width ys
+fit_back : (width : ℕ) (xs ys : List Entry) → AllFit width (xs ++ ys) → AllFit width ys
 fit_back width [] ys h = h
 fit_back width (x ∷ xs) ys h = fit_back width xs ys h.1
 
 -- a leaf that is skipped has no entry of the range: by what begins it, and by what begins the next one
-past_high : (width low high place : ℕ) (leaf : List Entry) (b : Begun leaf) → AllFit width leaf → RisesFrom place leaf → rank (high, 0) < rank (b.head.0, 0) → values_within low high leaf ≡ []
+past_high : (width low high place : ℕ) (leaf : List Entry) (b : Begun leaf) → AllFit width leaf → RisesFrom place leaf → rank (high, 0) < rank (b.head.0, 0)
+    → values_within low high leaf ≡ []
 past_high width low high place leaf b fit up l =
     let f : AllFit width (b.head ∷ b.rest) = rw b.is at fit in
     let r : RisesFrom place (b.head ∷ b.rest) = rw b.is at up in
     ap (values_within low high) b.is ∙ none_above width low high (rank b.head) (b.head ∷ b.rest) f (omega arith, r.1) (omega (arith, l))
 
-before_low : (low high place : ℕ) (leaf next rest : List Entry) (b : Begun next) → RisesFrom place (leaf ++ (next ++ rest)) → rank b.head ≤ rank (low, 0) → values_within low high leaf ≡ []
+before_low : (low high place : ℕ) (leaf next rest : List Entry) (b : Begun next) → RisesFrom place (leaf ++ (next ++ rest)) → rank b.head ≤ rank (low, 0)
+    → values_within low high leaf ≡ []
 before_low low high place leaf next rest b up l =
     let r : RisesFrom place (leaf ++ (b.head ∷ (b.rest ++ rest))) = rw b.is at up in
     none_below low high place leaf b.head (b.rest ++ rest) r l
 
 skip_tail : (low high : ℕ) (head : Entry) (heads : List Entry) (i : ℕ) → IsSkipped low high (head ∷ heads) (suc i) → IsSkipped low high heads i
 skip_tail low high head heads i (inl past) = inl past
-skip_tail low high head heads i (inr (n, h)) = let e : suc i + 1 ≡ suc (i + 1) = omega arith in inr (omega (arith, n), subst (λ (k : ℕ). rank (slice_entry (head ∷ heads) k) ≤ rank (low, 0)) e h)
+skip_tail low high head heads i (inr (n, h)) = let e : suc i + 1 ≡ suc (i + 1) = omega arith in
+    inr (omega (arith, n), subst (λ (k : ℕ). rank (slice_entry (head ∷ heads) k) ≤ rank (low, 0)) e h)
 
-pub skipped : (width low high place i : ℕ) (all : Stand) (pages : List ℕ) → AllLeaves width all pages → RisesFrom place (entries_of width all pages) → AllFit width (entries_of width all pages)
+pub skipped : (width low high place i : ℕ) (all : Stand) (pages : List ℕ) → AllLeaves width all pages → RisesFrom place (entries_of width all pages)
+    → AllFit width (entries_of width all pages)
     → i < length pages → IsSkipped low high (heads_of width all pages) i → values_within low high (leaf_in width (image_at all (slice_index pages i))) ≡ []
 skipped width low high place i all [] form up fit l skip = absurd (omega arith)
 skipped width low high place zero all (page ∷ pages) form up fit l (inl past) =
@@ -116,16 +119,20 @@ skipped width low high place (suc i) all (page ∷ pages) form up fit l skip =
     (skip_tail low high (slice_entry (leaf_in width (image_at all page)) 0) (heads_of width all pages) i skip)
 
 -- the pages taken so far, and one more
-pub entries_of-push : (width : ℕ) (all : Stand) (pages : List ℕ) (page : ℕ) → entries_of width all (pages ++ page ∷ []) ≡ entries_of width all pages ++ leaf_in width (image_at all page)
+pub entries_of-push : (width : ℕ) (all : Stand) (pages : List ℕ) (page : ℕ)
+    → entries_of width all (pages ++ page ∷ []) ≡ entries_of width all pages ++ leaf_in width (image_at all page)
 entries_of-push width all [] page = append-nil (leaf_in width (image_at all page))
 entries_of-push width all (p ∷ ps) page =
-    ap (λ (x : List Entry). leaf_in width (image_at all p) ++ x) (entries_of-push width all ps page) ∙ sym (append_assoc (leaf_in width (image_at all p)) (entries_of width all ps) (leaf_in width (image_at all page)))
+    ap (λ (x : List Entry). leaf_in width (image_at all p) ++ x) (entries_of-push width all ps page)
+    ∙ sym (append_assoc (leaf_in width (image_at all p)) (entries_of width all ps) (leaf_in width (image_at all page)))
 
 pub values_more : (width low high i : ℕ) (all : Stand) (pages : List ℕ) → i < length pages
-    → values_within low high (entries_of width all (take (i + 1) pages)) ≡ values_within low high (entries_of width all (take i pages)) ++ values_within low high (leaf_in width (image_at all (slice_index pages i)))
+    → values_within low high (entries_of width all (take (i + 1) pages)) ≡ values_within low high (entries_of width all (take i pages))
+    ++ values_within low high (leaf_in width (image_at all (slice_index pages i)))
 values_more width low high i all pages l =
     let t : take (i + 1) pages ≡ take i pages ++ slice_index pages i ∷ [] = take_more pages i 0 l in
-    ap (λ (x : List ℕ). values_within low high (entries_of width all x)) t ∙ ap (values_within low high) (entries_of-push width all (take i pages) (slice_index pages i))
+    ap (λ (x : List ℕ). values_within low high (entries_of width all x)) t
+    ∙ ap (values_within low high) (entries_of-push width all (take i pages) (slice_index pages i))
     ∙ values_within-append low high (entries_of width all (take i pages)) (leaf_in width (image_at all (slice_index pages i)))
 
 -- a page of the index is in use

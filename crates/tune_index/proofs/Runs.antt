@@ -1,5 +1,6 @@
 -- Entries of a run that belong into one leaf.
-use Rattle.std.proofs.Common.{◌≡◌, ℕ, zero, suc, ◌+◌, ◌<◌, ◌≤◌, ◌⊎◌, List, [], ◌∷◌, ◌++◌, length, take, drop, get_or, slice_index, refl, sym, ap, ◌∙◌, arith, append_assoc, inl, inr, subst}
+use Rattle.std.proofs.Common.{◌≡◌, ℕ, zero, suc, ◌+◌, ◌<◌, ◌≤◌, ◌⊎◌, List, [], ◌∷◌, ◌++◌, length, take, drop, get_or, slice_index, refl, sym, ap, ◌∙◌, arith}
+use Rattle.std.proofs.Common.{append_assoc, inl, inr, subst}
 use Rattle.std.specs.Prelude.{slice_index_or}
 use Rattle.std.specs.List.{insert, remove}
 use Rattle.std.proofs.lemmas.List.{get_or-drop}
@@ -7,12 +8,13 @@ use Rattle.std.proofs.lemmas.Bool.{cases_lt}
 use Rattle.tune_pages.specs.Stand.{Stand}
 use Rattle.tune_pages.specs.Frame.{image_at}
 use Rattle.index_keys.specs.Entries.{Entry, rank, RisesFrom, IsRising, inserted, removed, AllFit, FitsLeaf, inserted_all}
+use Rattle.index_keys.proofs.RisingEntries.{inserted_all_fit, inserted_all_rises, inserted_later, removed-rises, removed_fit, removed_later, rises_back, rises_front, rises_lower}
 use Rattle.tune_index.specs.Indexes.{AllLeaves, IsIndex, Shape, entries_of}
 use Rattle.tune_index.specs.Inside.LeafLists.{HasLeaves, joined, firsts, leaves_of}
 use Rattle.tune_index.specs.Inside.Places.{IsPlace, AllBelow}
 use Rattle.tune_index.specs.Leaves.{slice_entry, leaf_in}
-use Rattle.index_keys.proofs.Rising.{inserted_later, inserted_all_rises, inserted_all_fit, removed_later, removed-rises, rises_front, rises_back, rises_lower, removed_fit}
-use Rattle.tune_index.proofs.Lists.{inserted-before, removed-before, BeginsAfter}
+use Rattle.tune_index.proofs.Lists.{inserted-before, removed-before}
+use Rattle.tune_index.proofs.Lists.{BeginsAfter}
 use Rattle.tune_index.proofs.Ranges.{Begun, leaf_begun}
 use Rattle.tune_index.proofs.LeafLists.{leaves_of_index, leaves_entries, index_of_leaves, length-leaves}
 
@@ -26,17 +28,19 @@ inserted_past [] ys e b = refl
 inserted_past (x ∷ xs) ys e b = inserted_later e x (xs ++ ys) b.0 ∙ ap (λ (z : List Entry). x ∷ z) (inserted_past xs ys e b.1)
 
 -- a run that goes between what stands before and what stands after
-abbrev pub AllBefore : List Entry → List Entry → Type 0
+abbrev AllBefore : List Entry → List Entry → Type 0
 AllBefore [] after = Unit {0}
 AllBefore (e ∷ es) after = BeginsAfter (rank e) after × AllBefore es after
 
-pub inserted_middle : (low : ℕ) (before leaf after run : List Entry) → AllBelow low before → RisesFrom low run → AllBefore run after
+inserted_middle : (low : ℕ) (before leaf after run : List Entry) → AllBelow low before → RisesFrom low run → AllBefore run after
     → inserted_all run (before ++ (leaf ++ after)) ≡ before ++ (inserted_all run leaf ++ after)
 inserted_middle low before leaf after [] b r a = refl
 inserted_middle low before leaf after (e ∷ run) b r a =
     let here : AllBelow (rank e) before = below_more low (rank e) before r.0 b in
-    let one : inserted e (before ++ (leaf ++ after)) ≡ before ++ (inserted e leaf ++ after) = inserted_past before (leaf ++ after) e here ∙ ap (λ (x : List Entry). before ++ x) (inserted-before leaf after e a.0) in
-    ap (inserted_all run) one ∙ inserted_middle (rank e + 1) before (inserted e leaf) after run (below_more (rank e) (rank e + 1) before (omega arith) here) r.1 a.1
+    let one : inserted e (before ++ (leaf ++ after)) ≡ before ++ (inserted e leaf ++ after) = inserted_past before (leaf ++ after) e here
+    ∙ ap (λ (x : List Entry). before ++ x) (inserted-before leaf after e a.0) in
+    ap (inserted_all run) one
+    ∙ inserted_middle (rank e + 1) before (inserted e leaf) after run (below_more (rank e) (rank e + 1) before (omega arith) here) r.1 a.1
 
 pub inserted_all-append : (xs ys es : List Entry) → inserted_all (xs ++ ys) es ≡ inserted_all ys (inserted_all xs es)
 inserted_all-append [] ys es = refl
@@ -90,16 +94,18 @@ pub are_begun : (width : ℕ) (all : Stand) (shape : Shape) (leaves : List (List
 are_begun width all shape leaves h = subst (λ (x : List (List Entry)). AllBegun x) h.are (leaves_begun width all shape.pages h.form)
 
 -- leaves before a place, at it and after it
-pub joined_at : (leaves : List (List Entry)) (i : ℕ) → i < length leaves → joined leaves ≡ joined (take i leaves) ++ (slice_index_or leaves i [] ++ joined (drop (suc i) leaves))
+joined_at : (leaves : List (List Entry)) (i : ℕ) → i < length leaves
+    → joined leaves ≡ joined (take i leaves) ++ (slice_index_or leaves i [] ++ joined (drop (suc i) leaves))
 joined_at [] i l = absurd (omega arith)
 joined_at (r ∷ leaves) zero l = refl
-joined_at (r ∷ leaves) (suc i) l = ap (λ (x : List Entry). r ++ x) (joined_at leaves i (omega arith)) ∙ sym (append_assoc r (joined (take i leaves)) (slice_index_or leaves i [] ++ joined (drop (suc i) leaves)))
+joined_at (r ∷ leaves) (suc i) l = ap (λ (x : List Entry). r ++ x) (joined_at leaves i (omega arith))
+    ∙ sym (append_assoc r (joined (take i leaves)) (slice_index_or leaves i [] ++ joined (drop (suc i) leaves)))
 
 first_of_joined : (leaves : List (List Entry)) → AllBegun leaves → slice_entry (firsts leaves) 0 ≡ slice_entry (joined leaves) 0
 first_of_joined [] b = refl
 first_of_joined (r ∷ leaves) b = ap (λ (x : List Entry). slice_entry x 0) b.0.is ∙ sym (ap (λ (x : List Entry). slice_entry (x ++ joined leaves) 0) b.0.is)
 
-pub firsts-drop : (leaves : List (List Entry)) (i : ℕ) → firsts (drop i leaves) ≡ drop i (firsts leaves)
+firsts-drop : (leaves : List (List Entry)) (i : ℕ) → firsts (drop i leaves) ≡ drop i (firsts leaves)
 firsts-drop [] zero = refl
 firsts-drop [] (suc i) = refl
 firsts-drop (r ∷ leaves) zero = refl
@@ -110,10 +116,6 @@ begun-drop [] zero b = tt
 begun-drop [] (suc i) b = tt
 begun-drop (r ∷ leaves) zero b = b
 begun-drop (r ∷ leaves) (suc i) b = begun-drop leaves i b.1
-
-length-firsts : (leaves : List (List Entry)) → length (firsts leaves) ≡ length leaves
-length-firsts [] = refl
-length-firsts (r ∷ leaves) = let e = length-firsts leaves in omega arith
 
 begun_at : (leaves : List (List Entry)) (i : ℕ) → i < length leaves → AllBegun leaves → Begun (slice_index_or leaves i [])
 begun_at [] i l b = absurd (omega arith)
@@ -131,12 +133,8 @@ drop_none [] (suc i) l = refl
 drop_none (x ∷ xs) zero l = absurd (omega arith)
 drop_none (x ∷ xs) (suc i) l = drop_none xs i (omega arith)
 
--- what stands before the leaf is below the run, and what stands after it is above
-pub record Fitted (low : ℕ) (run before after : List Entry) : Type 0 where
-  pub below : AllBelow low before
-  pub above : AllBefore run after
-
-below_leaf : (low : ℕ) (leaves : List (List Entry)) (i : ℕ) → i < length leaves → AllBegun leaves → IsRising (joined leaves) → (i ≡ 0) ⊎ (rank (slice_entry (firsts leaves) i) ≤ low) → AllBelow low (joined (take i leaves))
+below_leaf : (low : ℕ) (leaves : List (List Entry)) (i : ℕ) → i < length leaves → AllBegun leaves → IsRising (joined leaves)
+    → (i ≡ 0) ⊎ (rank (slice_entry (firsts leaves) i) ≤ low) → AllBelow low (joined (take i leaves))
 below_leaf low leaves i l b up (inl e) = subst (λ (k : ℕ). AllBelow low (joined (take k leaves))) (sym e) tt
 below_leaf low leaves i l b up (inr h) =
     let leaf = slice_index_or leaves i [] in
@@ -156,14 +154,16 @@ above_leaf leaves i run b h = elim (cases_lt (i + 1) (length leaves)) [
       let first : slice_entry (joined (drop (i + 1) leaves)) 0 ≡ slice_entry (firsts leaves) (i + 1) =
       sym (first_of_joined (drop (i + 1) leaves) (begun-drop leaves (i + 1) b)) ∙ ap (λ (x : List Entry). slice_entry x 0) (firsts-drop leaves (i + 1))
       ∙ get_or-drop (i + 1) (firsts leaves) 0 (0, 0) ∙ ap (λ (k : ℕ). slice_entry (firsts leaves) k) (omega arith) in
-      all_before (rank (slice_entry (firsts leaves) (i + 1))) run (joined (drop (i + 1) leaves)) (h more) (λ _. let e : rank (slice_entry (joined (drop (i + 1) leaves)) 0) ≡ rank (slice_entry (firsts leaves) (i + 1)) = ap rank first in omega arith)
+      all_before (rank (slice_entry (firsts leaves) (i + 1))) run (joined (drop (i + 1) leaves)) (h more)
+      (λ _. let e : rank (slice_entry (joined (drop (i + 1) leaves)) 0) ≡ rank (slice_entry (firsts leaves) (i + 1)) = ap rank first in omega arith)
   | inr none ↦ subst (λ (x : List (List Entry)). AllBefore run (joined x)) (sym (drop_none leaves (i + 1) none)) (none_before run)
 ]
 
 -- THE ENTRIES OF AN INDEX after a run went into the leaf where it belongs
 pub run_middle : (width : ℕ) (old : Stand) (was : Shape) (i low : ℕ) (run : List Entry) → IsIndex width old was → i < length was.pages
     → RisesFrom low run → (i ≡ 0) ⊎ (rank (slice_entry was.heads i) ≤ low) → (i + 1 < length was.pages → AllBelow (rank (slice_entry was.heads (i + 1))) run)
-    → joined (take i (leaves_of width old was.pages)) ++ (inserted_all run (slice_index_or (leaves_of width old was.pages) i []) ++ joined (drop (i + 1) (leaves_of width old was.pages)))
+    → joined (take i (leaves_of width old was.pages))
+    ++ (inserted_all run (slice_index_or (leaves_of width old was.pages) i []) ++ joined (drop (i + 1) (leaves_of width old was.pages)))
     ≡ inserted_all run (entries_of width old was.pages)
 run_middle width old was i low run ix l r from to =
     let leaves = leaves_of width old was.pages in
@@ -174,7 +174,8 @@ run_middle width old was i low run ix l r from to =
     let up : IsRising (joined leaves) = subst (λ (x : List Entry). IsRising x) entries ix.rising in
     let heads : was.heads ≡ firsts leaves = are.heads in
     let from2 : (i ≡ 0) ⊎ (rank (slice_entry (firsts leaves) i) ≤ low) = subst (λ (x : List Entry). (i ≡ 0) ⊎ (rank (slice_entry x i) ≤ low)) heads from in
-    let to2 : i + 1 < length leaves → AllBelow (rank (slice_entry (firsts leaves) (i + 1))) run = λ m. subst (λ (x : List Entry). AllBelow (rank (slice_entry x (i + 1))) run) heads (to (omega (arith, m, n))) in
+    let to2 : i + 1 < length leaves → AllBelow (rank (slice_entry (firsts leaves) (i + 1))) run =
+    λ m. subst (λ (x : List Entry). AllBelow (rank (slice_entry x (i + 1))) run) heads (to (omega (arith, m, n))) in
     let li : i < length leaves = omega (arith, l, n) in
     let below = below_leaf low leaves i li b up from2 in
     let above = above_leaf leaves i run b to2 in
@@ -184,14 +185,19 @@ run_middle width old was i low run ix l r from to =
     sym (inserted_middle low (joined (take i leaves)) (slice_index_or leaves i []) (joined (drop (i + 1) leaves)) run below r above)
     ∙ ap (inserted_all run) (sym whole) ∙ ap (inserted_all run) (sym entries)
 
-pub run_inserted : (width : ℕ) (old new : Stand) (was is : Shape) (i low : ℕ) (run : List Entry) (more : List (List Entry)) → IsIndex width old was → i < length was.pages
-    → RisesFrom low run → AllFit width run → (i ≡ 0) ⊎ (rank (slice_entry was.heads i) ≤ low) → (i + 1 < length was.pages → AllBelow (rank (slice_entry was.heads (i + 1))) run)
-    → HasLeaves width new is more → joined more ≡ joined (take i (leaves_of width old was.pages)) ++ (inserted_all run (slice_index_or (leaves_of width old was.pages) i []) ++ joined (drop (i + 1) (leaves_of width old was.pages)))
+pub run_inserted : (width : ℕ) (old new : Stand) (was is : Shape) (i low : ℕ) (run : List Entry) (more : List (List Entry)) → IsIndex width old was
+    → i < length was.pages
+    → RisesFrom low run → AllFit width run → (i ≡ 0) ⊎ (rank (slice_entry was.heads i) ≤ low)
+    → (i + 1 < length was.pages → AllBelow (rank (slice_entry was.heads (i + 1))) run)
+    → HasLeaves width new is more
+    → joined more ≡ joined (take i (leaves_of width old was.pages))
+    ++ (inserted_all run (slice_index_or (leaves_of width old was.pages) i []) ++ joined (drop (i + 1) (leaves_of width old was.pages)))
     → IsIndex width new is × (entries_of width new is.pages ≡ inserted_all run (entries_of width old was.pages))
 run_inserted width old new was is i low run more ix l r fit from to h e =
     let put : joined more ≡ inserted_all run (entries_of width old was.pages) = e ∙ run_middle width old was i low run ix l r from to in
     let up2 : IsRising (joined more) = subst (λ (x : List Entry). IsRising x) (sym put) (inserted_all_rises run (entries_of width old was.pages) ix.rising) in
-    let fit2 : AllFit width (joined more) = subst (λ (x : List Entry). AllFit width x) (sym put) (inserted_all_fit width run (entries_of width old was.pages) fit ix.fit) in
+    let fit2 : AllFit width (joined more) =
+    subst (λ (x : List Entry). AllFit width x) (sym put) (inserted_all_fit width run (entries_of width old was.pages) fit ix.fit) in
     (index_of_leaves width new is more h up2 fit2, leaves_entries width new is more h ∙ put)
 
 -- a list that rises, from its first entry on
@@ -200,16 +206,21 @@ rises_from_first low [] h r = tt
 rises_from_first low (e ∷ es) h r = (h (omega arith), r.1)
 
 -- a leaf of an index rises
-leaf_rises_from : (low width : ℕ) (all : Stand) (pages : List ℕ) (i : ℕ) → i < length pages → RisesFrom low (entries_of width all pages) → RisesFrom 0 (slice_index_or (leaves_of width all pages) i [])
+leaf_rises_from : (low width : ℕ) (all : Stand) (pages : List ℕ) (i : ℕ) → i < length pages → RisesFrom low (entries_of width all pages)
+    → RisesFrom 0 (slice_index_or (leaves_of width all pages) i [])
 leaf_rises_from low width all [] i l r = absurd (omega arith)
-leaf_rises_from low width all (p ∷ ps) zero l r = rises_lower 0 low (leaf_in width (image_at all p)) (omega arith) (rises_front low (leaf_in width (image_at all p)) (entries_of width all ps) r)
-leaf_rises_from low width all (p ∷ ps) (suc i) l r = leaf_rises_from low width all ps i (omega arith) (rises_back low (leaf_in width (image_at all p)) (entries_of width all ps) r)
+leaf_rises_from low width all (p ∷ ps) zero l r =
+    rises_lower 0 low (leaf_in width (image_at all p)) (omega arith) (rises_front low (leaf_in width (image_at all p)) (entries_of width all ps) r)
+leaf_rises_from low width all (p ∷ ps) (suc i) l r =
+    leaf_rises_from low width all ps i (omega arith) (rises_back low (leaf_in width (image_at all p)) (entries_of width all ps) r)
 
-pub leaf_rises : (width : ℕ) (all : Stand) (pages : List ℕ) (i : ℕ) → i < length pages → IsRising (entries_of width all pages) → IsRising (slice_index_or (leaves_of width all pages) i [])
+pub leaf_rises : (width : ℕ) (all : Stand) (pages : List ℕ) (i : ℕ) → i < length pages → IsRising (entries_of width all pages)
+    → IsRising (slice_index_or (leaves_of width all pages) i [])
 leaf_rises width all pages i l up = leaf_rises_from 0 width all pages i l up
 
 -- the leaf at a place
-pub leaf_at : (width : ℕ) (all : Stand) (pages : List ℕ) (i : ℕ) → i < length pages → slice_index_or (leaves_of width all pages) i [] ≡ leaf_in width (image_at all (slice_index pages i))
+pub leaf_at : (width : ℕ) (all : Stand) (pages : List ℕ) (i : ℕ) → i < length pages
+    → slice_index_or (leaves_of width all pages) i [] ≡ leaf_in width (image_at all (slice_index pages i))
 leaf_at width all [] i l = absurd (omega arith)
 leaf_at width all (p ∷ ps) zero l = refl
 leaf_at width all (p ∷ ps) (suc i) l = leaf_at width all ps i (omega arith)
@@ -223,17 +234,21 @@ begins_after : (r : ℕ) (zs : List Entry) → BeginsAfter r zs → IsRising zs 
 begins_after r [] b up = tt
 begins_after r (z ∷ zs) b up = (omega arith, up.1)
 
-pub removed_middle : (before leaf after : List Entry) (e : Entry) → AllBelow (rank e) before → IsRising after → BeginsAfter (rank e) after → removed e (before ++ (leaf ++ after)) ≡ before ++ (removed e leaf ++ after)
+removed_middle : (before leaf after : List Entry) (e : Entry) → AllBelow (rank e) before → IsRising after → BeginsAfter (rank e) after
+    → removed e (before ++ (leaf ++ after)) ≡ before ++ (removed e leaf ++ after)
 removed_middle before leaf after e b up a =
-    removed_past before (leaf ++ after) e b ∙ ap (λ (x : List Entry). before ++ x) (removed-before (rank e + 1) leaf after e (begins_after (rank e) after a up) (omega arith))
+    removed_past before (leaf ++ after) e b
+    ∙ ap (λ (x : List Entry). before ++ x) (removed-before (rank e + 1) leaf after e (begins_after (rank e) after a up) (omega arith))
 
-pub joined-append : (xs ys : List (List Entry)) → joined (xs ++ ys) ≡ joined xs ++ joined ys
+joined-append : (xs ys : List (List Entry)) → joined (xs ++ ys) ≡ joined xs ++ joined ys
 joined-append [] ys = refl
 joined-append (x ∷ xs) ys = ap (λ (z : List Entry). x ++ z) (joined-append xs ys) ∙ sym (append_assoc x (joined xs) (joined ys))
 
 pub entry_removed : (width : ℕ) (old new : Stand) (was is : Shape) (i : ℕ) (e : Entry) (more : List (List Entry)) → IsIndex width old was → i < length was.pages
     → (i ≡ 0) ⊎ (rank (slice_entry was.heads i) ≤ rank e) → (i + 1 < length was.pages → rank e < rank (slice_entry was.heads (i + 1)))
-    → HasLeaves width new is more → joined more ≡ joined (take i (leaves_of width old was.pages)) ++ (removed e (slice_index_or (leaves_of width old was.pages) i []) ++ joined (drop (i + 1) (leaves_of width old was.pages)))
+    → HasLeaves width new is more
+    → joined more ≡ joined (take i (leaves_of width old was.pages))
+    ++ (removed e (slice_index_or (leaves_of width old was.pages) i []) ++ joined (drop (i + 1) (leaves_of width old was.pages)))
     → IsIndex width new is × (entries_of width new is.pages ≡ removed e (entries_of width old was.pages))
 entry_removed width old new was is i e more ix l from to h eq =
     let leaves = leaves_of width old was.pages in
@@ -244,8 +259,10 @@ entry_removed width old new was is i e more ix l from to h eq =
     let up : IsRising (joined leaves) = subst (λ (x : List Entry). IsRising x) entries ix.rising in
     let all_fit : AllFit width (joined leaves) = subst (λ (x : List Entry). AllFit width x) entries ix.fit in
     let heads : was.heads ≡ firsts leaves = are.heads in
-    let from2 : (i ≡ 0) ⊎ (rank (slice_entry (firsts leaves) i) ≤ rank e) = subst (λ (x : List Entry). (i ≡ 0) ⊎ (rank (slice_entry x i) ≤ rank e)) heads from in
-    let to2 : i + 1 < length leaves → AllBelow (rank (slice_entry (firsts leaves) (i + 1))) (e ∷ []) = λ m. (subst (λ (x : List Entry). rank e < rank (slice_entry x (i + 1))) heads (to (omega (arith, m, n))), tt) in
+    let from2 : (i ≡ 0) ⊎ (rank (slice_entry (firsts leaves) i) ≤ rank e) =
+    subst (λ (x : List Entry). (i ≡ 0) ⊎ (rank (slice_entry x i) ≤ rank e)) heads from in
+    let to2 : i + 1 < length leaves → AllBelow (rank (slice_entry (firsts leaves) (i + 1))) (e ∷ []) =
+    λ m. (subst (λ (x : List Entry). rank e < rank (slice_entry x (i + 1))) heads (to (omega (arith, m, n))), tt) in
     let li : i < length leaves = omega (arith, l, n) in
     let below = below_leaf (rank e) leaves i li b up from2 in
     let above : AllBefore (e ∷ []) (joined (drop (i + 1) leaves)) = above_leaf leaves i (e ∷ []) b to2 in
@@ -253,8 +270,12 @@ entry_removed width old new was is i e more ix l from to h eq =
     let whole : joined leaves ≡ joined (take i leaves) ++ (slice_index_or leaves i [] ++ joined (drop (i + 1) leaves)) =
     subst (λ (k : ℕ). joined leaves ≡ joined (take i leaves) ++ (slice_index_or leaves i [] ++ joined (drop k leaves))) s (joined_at leaves i li) in
     let after_up : IsRising (joined (drop (i + 1) leaves)) =
-    rises_back 0 (slice_index_or leaves i []) (joined (drop (i + 1) leaves)) (rises_back 0 (joined (take i leaves)) (slice_index_or leaves i [] ++ joined (drop (i + 1) leaves)) (subst (λ (x : List Entry). IsRising x) whole up)) in
-    let put : joined more ≡ removed e (joined leaves) = eq ∙ sym (removed_middle (joined (take i leaves)) (slice_index_or leaves i []) (joined (drop (i + 1) leaves)) e below after_up above.0) ∙ ap (removed e) (sym whole) in
+    rises_back 0 (slice_index_or leaves i []) (joined (drop (i + 1) leaves))
+    (rises_back 0 (joined (take i leaves)) (slice_index_or leaves i [] ++ joined (drop (i + 1) leaves)) (subst (λ (x : List Entry). IsRising x) whole up))
+    in
+    let put : joined more ≡ removed e (joined leaves) = eq
+    ∙ sym (removed_middle (joined (take i leaves)) (slice_index_or leaves i []) (joined (drop (i + 1) leaves)) e below after_up above.0)
+    ∙ ap (removed e) (sym whole) in
     let up2 : IsRising (joined more) = subst (λ (x : List Entry). IsRising x) (sym put) (removed-rises 0 (joined leaves) e up) in
     let fit2 : AllFit width (joined more) = subst (λ (x : List Entry). AllFit width x) (sym put) (removed_fit width (joined leaves) e all_fit) in
     (index_of_leaves width new is more h up2 fit2, leaves_entries width new is more h ∙ put ∙ ap (removed e) (sym entries))
@@ -264,8 +285,10 @@ pub none_at_all : {X : Type 0} (xs : List X) → length xs ≤ 0 → xs ≡ []
 none_at_all [] l = refl
 none_at_all (x ∷ xs) l = absurd (omega arith)
 
-pub first_leaf : (width : ℕ) (old new : Stand) (was is : Shape) (run : List Entry) (e : Entry) → 1 ≤ length run → e ≡ get_or run 0 e → FitsLeaf width e → length was.pages ≤ 0
-    → HasLeaves width new is (insert (leaves_of width old was.pages) 0 (take 1 run)) → IsIndex width new is × (entries_of width new is.pages ≡ inserted_all (take 1 run) (entries_of width old was.pages))
+pub first_leaf : (width : ℕ) (old new : Stand) (was is : Shape) (run : List Entry) (e : Entry) → 1 ≤ length run → e ≡ get_or run 0 e → FitsLeaf width e
+    → length was.pages ≤ 0
+    → HasLeaves width new is (insert (leaves_of width old was.pages) 0 (take 1 run))
+    → IsIndex width new is × (entries_of width new is.pages ≡ inserted_all (take 1 run) (entries_of width old was.pages))
 first_leaf width old new was is [] e l k f n h = absurd (omega arith)
 first_leaf width old new was is (x ∷ run) e l k f n h =
     let none : was.pages ≡ [] = none_at_all was.pages n in
@@ -276,7 +299,9 @@ first_leaf width old new was is (x ∷ run) e l k f n h =
     )
 
 -- A LEAF THAT LOST AN ENTRY
-pub drop_done : (leaves : List (List Entry)) (i : ℕ) (gone : List Entry) → gone ≡ [] → joined (remove leaves i) ≡ joined (take i leaves) ++ (gone ++ joined (drop (i + 1) leaves))
+pub drop_done : (leaves : List (List Entry)) (i : ℕ) (gone : List Entry) → gone ≡ []
+    → joined (remove leaves i) ≡ joined (take i leaves) ++ (gone ++ joined (drop (i + 1) leaves))
 drop_done leaves i gone e =
     let s : suc i ≡ i + 1 = omega arith in
-    joined-append (take i leaves) (drop (suc i) leaves) ∙ ap (λ (k : ℕ). joined (take i leaves) ++ joined (drop k leaves)) s ∙ ap (λ (x : List Entry). joined (take i leaves) ++ (x ++ joined (drop (i + 1) leaves))) (sym e)
+    joined-append (take i leaves) (drop (suc i) leaves) ∙ ap (λ (k : ℕ). joined (take i leaves) ++ joined (drop k leaves)) s
+    ∙ ap (λ (x : List Entry). joined (take i leaves) ++ (x ++ joined (drop (i + 1) leaves))) (sym e)

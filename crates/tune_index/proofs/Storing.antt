@@ -10,11 +10,13 @@ use Rattle.tune_index.specs.Listed.{StoresList, listed_bytes}
 
 pub listed-push : (numbers : List ℕ) (number : ℕ) → listed_bytes (numbers ++ number ∷ []) ≡ listed_bytes numbers ++ value_bytes number
 listed-push [] number = append-nil (value_bytes number)
-listed-push (n ∷ numbers) number = ap (λ (x : List ℕ). value_bytes n ++ x) (listed-push numbers number) ∙ sym (append_assoc (value_bytes n) (listed_bytes numbers) (value_bytes number))
+listed-push (n ∷ numbers) number = ap (λ (x : List ℕ). value_bytes n ++ x) (listed-push numbers number)
+    ∙ sym (append_assoc (value_bytes n) (listed_bytes numbers) (value_bytes number))
 
 -- a chain freed, and the list put on another one
 pub stores : (s mid new : Stand) (first next : ℕ) (pages bytes : List ℕ) → bytes ≡ listed_bytes pages
-    → ((trail all : List ℕ) → HasChain s first trail all → mid ≡ without_pages trail s) → (along : List ℕ) × PutsChain mid new next along bytes → StoresList s new first next pages
+    → ((trail all : List ℕ) → HasChain s first trail all → mid ≡ without_pages trail s) → (along : List ℕ) × PutsChain mid new next along bytes
+    → StoresList s new first next pages
 stores s mid new first next pages bytes is freed puts = λ trail all has.
     (let gone : TradesPages trail [] s mid = subst (λ (m : Stand). TradesPages trail [] s m) (sym (freed trail all has)) (free_chain_trades s trail) in
     let came = put_chain_trades mid new next puts.0 bytes puts.1 in

@@ -1,6 +1,6 @@
 // Leaves written, put in place of others, added and taken out.
-ghost use Rattle.std.specs.Prelude.{◌≡◌, false, true, ℕ, List, ◌≤◌, ◌<◌, ◌+◌, ◌++◌, length, OnOk};
-ghost use Rattle.std.specs.Prelude.{slice_index, slice_set, take, drop};
+ghost use Rattle.std.specs.Prelude.{◌≡◌, false, true, ℕ, List, ◌≤◌, ◌<◌, ◌+◌, ◌*◌, ◌++◌, length};
+ghost use Rattle.std.specs.Prelude.{slice_index, slice_set, take, drop, OnOk};
 ghost use Rattle.std.specs.List.{insert, remove};
 ghost use Rattle.tune_pages.specs.Faults.{free_pages};
 ghost use Rattle.tune_pages.specs.Frame.{InUse, Puts, TradesPages, image_at};
@@ -246,15 +246,19 @@ pub(crate) fn drop_leaf<D: Disk, const W: usize>(
     Ok(())
 }
 
-// How many entries go into each leaf where so many are spread over leaves: about the same number
-// into each.
+// How many entries go into each leaf where so many are spread over leaves: the fewest that want
+// no more leaves than `most` in each do.
 fn share_of(count: usize, most: usize) -> usize
-    requires { 1 ≤ most }
+    requires count { 1 ≤ count }
+    requires most { 1 ≤ most }
     ensures some { 1 ≤ result }
     ensures within { result ≤ most }
+    ensures enough { (leaves : ℕ) → count ≤ leaves * most → count ≤ leaves * result }
+    ensures even { (share : ℕ) → ((leaves : ℕ) → count ≤ leaves * most → count ≤ leaves * share)
+        → result ≤ share }
 {
-    let leaves = count.div_ceil(most).max(1);
-    count.div_ceil(leaves).min(most).max(1)
+    let leaves = count.div_ceil(most);
+    count.div_ceil(leaves)
 }
 
 // The entries go in place of those of the leaf at the place, into that leaf and as many new ones
@@ -288,7 +292,8 @@ pub(crate) fn spread<D: Disk, const W: usize>(
         ≡ joined (take place leaves) ++ (entries.now ++ joined (drop (place + 1) leaves)))) }
     ensures balance { OnOk result (KeepsBalance (stand pages.now work.old)
         (stand pages.now work.new) index.old.pages index.new.pages) }
-    ensures answer { AnswersChange result (free_pages (stand pages.now work.old).used + 1 < length entries.now) }
+    ensures answer { AnswersChange result
+        (free_pages (stand pages.now work.old).used + 1 < length entries.now) }
 {
     let _count = leaf_count(index);
     let next = place + 1;

@@ -248,8 +248,8 @@ impl<const W: usize> Index<W> {
     /// # Errors
     ///
     /// `FileFull` only where fewer pages are free than the new leaves want, which are no more than
-    /// the entries that there would be; `OutOfMemory`; `Device` where the disk failed: the pages are
-    /// then closed. The index and the work are then to be dropped.
+    /// the entries that there would be; `OutOfMemory`; `Device` where the disk failed: the pages
+    /// are then closed. The index and the work are then to be dropped.
     pub fn insert_all<D: Disk>(
         &mut self,
         alloc: Global,

@@ -8,6 +8,7 @@
 mod edit;
 mod index;
 mod insert;
+mod laws;
 mod leaf;
 mod load;
 mod reading;
@@ -16,3 +17,4 @@ mod store;
 
 pub use index::Index;
 pub use index_keys::{IndexKey, Keyed};
+pub use laws::law_of_indexes;

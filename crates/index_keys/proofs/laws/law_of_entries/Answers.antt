@@ -1,4 +1,4 @@
-use Rattle.index_keys.proofs.Rising.{inserted_all_rises, removed_all_rises, inserted_all_fit, removed_all_fit}
+use Rattle.index_keys.proofs.RisingEntries.{inserted_all_rises, removed_all_rises, inserted_all_fit, removed_all_fit}
 use Rattle.index_keys.proofs.laws.law_of_entries.Goals as goal
 
 pub returns-clause-rise_more : goal.returns-clause-rise_more

@@ -12,7 +12,7 @@ use Rattle.index_keys.specs.Entries.{Entry}
 use Rattle.tune_index.specs.Leaves.{slice_entry}
 use Rattle.tune_index.proofs.Answering.{work_change}
 use Rattle.tune_index.proofs.EachPage.{each_of, all_of}
-use Rattle.tune_index.proofs.Fulls.{allocates_by}
+use Rattle.tune_index.proofs.Changes.{allocates_by}
 use Rattle.tune_index.proofs.LeafLists.{leaves_added, add_pages, add_trades, kept_by_add}
 use Rattle.tune_index.proofs.edit.add_leaf.Goals as goal
 
@@ -57,7 +57,8 @@ returns-in-Ok-list_leaf-clause-leaves g c = λ has leaves h.
     let heads : c.list_leaf.new.index.heads ≡ insert c.args.index.now.heads c.args.place (slice_entry c.args.leaf.now 0) =
     c.in-Ok-list_leaf.ensures.heads ∙ ap (λ (x : ℕ). insert c.args.index.now.heads c.args.place (x, c.index-leaf-0.result.1)) k
     ∙ ap (λ (x : Entry). insert c.args.index.now.heads c.args.place x) f in
-    leaves_added g.row.W old mid new c.args.index.now c.list_leaf.new.index leaves c.args.place page c.args.leaf.now (image_at new page) (each_of old c.args.index.now.pages has) al
+    leaves_added g.row.W old mid new c.args.index.now c.list_leaf.new.index leaves c.args.place page c.args.leaf.now (image_at new page)
+    (each_of old c.args.index.now.pages has) al
     put.puts put.form put.leaf c.in-Ok-list_leaf.ensures.pages heads h
 
 pub returns-in-Ok-list_leaf-clause-before : goal.returns-in-Ok-list_leaf-clause-before
@@ -89,4 +90,5 @@ returns-in-Ok-list_leaf-clause-balance g c =
     omega (arith, less, same, more, count)
 
 pub returns-in-Err-clause-answer : goal.returns-in-Err-clause-answer
-returns-in-Err-clause-answer g c = work_change c.in-Err.fault c.requires.open (λ full. full_none (stand c.args.pages.now c.args.work.now).used full) c.in-Err.ensures.answer
+returns-in-Err-clause-answer g c =
+    work_change c.in-Err.fault c.requires.open (λ full. full_none (stand c.args.pages.now c.args.work.now).used full) c.in-Err.ensures.answer

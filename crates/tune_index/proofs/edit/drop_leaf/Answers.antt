@@ -6,7 +6,7 @@ use Rattle.tune_pages.proofs.FreePages.{freed_more}
 use Rattle.tune_pages.specs.Frame.{Frees}
 use Rattle.tune_pages.specs.Stand.{IsUsed, Stand}
 use Rattle.tune_pages.specs.Work.{stand}
-use Rattle.tune_index.proofs.Fulls.{frees_by}
+use Rattle.tune_index.proofs.Changes.{frees_by}
 use Rattle.tune_index.proofs.EachPage.{each_of, all_of}
 use Rattle.tune_index.proofs.LeafLists.{leaves_dropped, drop_pages, drop_trades}
 use Rattle.tune_index.proofs.edit.drop_leaf.Goals as goal
@@ -48,7 +48,8 @@ returns-clause-leaves g c = λ has leaves h.
     let new = stand c.args.pages.now c.free.new.work in
     let f : Frees old new (slice_index c.args.index.now.pages c.args.place) =
     subst (λ (x : ℕ). Frees old new x) c.leaf_page-page.ensures.page (frees_by old new c.leaf_page-page.result c.in-Ok.ensures.stand) in
-    leaves_dropped g.row.W old new c.args.index.now c.unlist_leaf.new.index leaves c.args.place (each_of old c.args.index.now.pages has) c.requires.place f c.unlist_leaf.ensures.pages
+    leaves_dropped g.row.W old new c.args.index.now c.unlist_leaf.new.index leaves c.args.place (each_of old c.args.index.now.pages has) c.requires.place f
+    c.unlist_leaf.ensures.pages
     c.unlist_leaf.ensures.heads h
 
 pub returns-clause-balance : goal.returns-clause-balance
@@ -57,7 +58,8 @@ returns-clause-balance g c =
     let page = c.leaf_page-page.result in
     let used : IsUsed old.used page = subst (λ (x : ℕ). IsUsed old.used x) (sym c.leaf_page-page.ensures.page) c.requires.in_use.flag in
     let more = freed_more (page ∷ []) old.used (used, tt) in
-    let same : free_pages (stand c.args.pages.now c.free.new.work).used ≡ free_pages (set old.used page false) = ap (λ (s : Stand). free_pages s.used) c.in-Ok.ensures.stand in
+    let same : free_pages (stand c.args.pages.now c.free.new.work).used ≡ free_pages (set old.used page false) =
+    ap (λ (s : Stand). free_pages s.used) c.in-Ok.ensures.stand in
     let gone : length c.unlist_leaf.new.index.pages ≡ length (remove c.args.index.now.pages c.args.place) = ap length c.unlist_leaf.ensures.pages in
     let count = length-remove c.args.index.now.pages c.args.place c.requires.place in
     omega (arith, more, same, gone, count)

@@ -7,7 +7,7 @@ use Rattle.tune_pages.proofs.Frames.{trades_none, trades_then}
 use Rattle.index_keys.specs.Entries.{Entry}
 use Rattle.tune_index.specs.Inside.LeafLists.{joined}
 use Rattle.tune_index.proofs.Answering.{change_more}
-use Rattle.tune_index.proofs.Fulls.{list_none, list_then}
+use Rattle.tune_index.proofs.Changes.{list_none, list_then}
 use Rattle.tune_index.proofs.LeafLists.{spread_more, spread_done, length-leaves}
 use Rattle.tune_index.proofs.edit.spread.Goals as goal
 
@@ -63,7 +63,8 @@ loop-rest-preserved g c =
     }
 
 pub returns-in-Ok-set_leaf-clause-list : goal.returns-in-Ok-set_leaf-clause-list
-returns-in-Ok-set_leaf-clause-list g c = list_then c.args.index.now c.loop-rest.index c.set_leaf.new.index c.loop-rest.invariant.list c.in-Ok-set_leaf.ensures.list
+returns-in-Ok-set_leaf-clause-list g c =
+    list_then c.args.index.now c.loop-rest.index c.set_leaf.new.index c.loop-rest.invariant.list c.in-Ok-set_leaf.ensures.list
 
 pub returns-in-Ok-set_leaf-clause-pages : goal.returns-in-Ok-set_leaf-clause-pages
 returns-in-Ok-set_leaf-clause-pages g c = λ has. c.in-Ok-set_leaf.ensures.pages (c.loop-rest.invariant.pages has)

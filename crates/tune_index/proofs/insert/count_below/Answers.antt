@@ -13,4 +13,5 @@ pub returns-then-count-eq0-clause-below : goal.returns-then-count-eq0-clause-bel
 returns-then-count-eq0-clause-below g c = λ up h. one_below (rank (c.args.key.now, c.args.value)) c.args.run.now c.requires h
 
 pub returns-else-count-eq0-clause-below : goal.returns-else-count-eq0-clause-below
-returns-else-count-eq0-clause-below g c = λ up h. below_place (rank (c.args.key.now, c.args.value)) c.args.run.now c.place_of-count.result (c.place_of-count.ensures.place up)
+returns-else-count-eq0-clause-below g c =
+    λ up h. below_place (rank (c.args.key.now, c.args.value)) c.args.run.now c.place_of-count.result (c.place_of-count.ensures.place up)

@@ -26,8 +26,10 @@ returns-in-Ok-clause-entries g c = λ ix.
     let s0 = stand c.args.pages.now c.args.work.now in
     let none : length c.args.index.now.pages ≤ 0 = omega (arith, c.leaf_count-leaves.ensures.count, c.if-leaves-gt0.false) in
     let fits : FitsLeaf g.row.W c.index-run-0.result = c.check_entry.ensures in
-    first_leaf g.row.W s0 (stand c.args.pages.now c.add_leaf.new.work) c.args.index.now c.add_leaf.new.index c.args.run.now c.index-run-0.result c.requires.some c.index-run-0.is fits none
-    (c.in-Ok.ensures.leaves (none_has s0 c.args.index.now.pages none) (leaves_of g.row.W s0 c.args.index.now.pages) (leaves_of_index g.row.W s0 c.args.index.now ix))
+    first_leaf g.row.W s0 (stand c.args.pages.now c.add_leaf.new.work) c.args.index.now c.add_leaf.new.index c.args.run.now c.index-run-0.result
+    c.requires.some c.index-run-0.is fits none
+    (c.in-Ok.ensures.leaves (none_has s0 c.args.index.now.pages none) (leaves_of g.row.W s0 c.args.index.now.pages)
+    (leaves_of_index g.row.W s0 c.args.index.now ix))
 
 pub returns-in-Err-clause-answer : goal.returns-in-Err-clause-answer
 returns-in-Err-clause-answer g c =

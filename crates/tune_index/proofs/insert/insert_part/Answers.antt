@@ -74,7 +74,8 @@ returns-in-Ok-spread-clause-leaves g c = λ honest leaves h up.
     let made : c.deref.result.now ≡ inserted_all c.args.part.now (slice_index_or leaves c.args.place []) =
     c.deref.ensures.value ∙ c.in_default.ensures.ok (subst (λ (x : List Entry). IsRising x) (sym read) up) ∙ ap (inserted_all c.args.part.now) read in
     let has = subst (λ (x : Stand). HasPages x pages) (sym (call.stand.same honest)) (c.requires.pages (call.looks.was_honest honest)) in
-    let h1 : HasLeaves g.row.W s1 c.args.index.now leaves = subst (λ (x : Stand). HasLeaves g.row.W x c.args.index.now leaves) (sym (call.stand.same honest)) h in
+    let h1 : HasLeaves g.row.W s1 c.args.index.now leaves =
+    subst (λ (x : Stand). HasLeaves g.row.W x c.args.index.now leaves) (sym (call.stand.same honest)) h in
     let d = c.in-Ok-spread.ensures.leaves has leaves h1 in
     (d.0, d.1, d.2 ∙ ap (λ (x : List Entry). joined (take c.args.place leaves) ++ (x ++ joined (drop (c.args.place + 1) leaves))) made)
 

@@ -68,10 +68,14 @@ returns-in-Ok-drop_leaf-clause-leaves g c = λ honest leaves h up.
     ∙ sym (leaf_at g.row.W s0 c.args.index.now.pages c.args.place c.requires.place) ∙ ap (λ (x : List (List Entry)). slice_index_or x c.args.place []) h.are in
     let made : c.remove_in.new.entries.items ≡ removed e (slice_index_or leaves c.args.place []) =
     c.remove_in.ensures.ok (subst (λ (x : List Entry). IsRising x) (sym read) up) ∙ ap (removed e) read in
-    let h1 : HasLeaves g.row.W s1 c.args.index.now leaves = subst (λ (x : Stand). HasLeaves g.row.W x c.args.index.now leaves) (sym (c.in-Ok.ensures.stand.same honest)) h in
+    let h1 : HasLeaves g.row.W s1 c.args.index.now leaves =
+    subst (λ (x : Stand). HasLeaves g.row.W x c.args.index.now leaves) (sym (c.in-Ok.ensures.stand.same honest)) h in
     let zero_left : length c.remove_in.new.entries.items ≡ 0 = search rules in
-    let none : removed e (slice_index_or leaves c.args.place []) ≡ [] = sym made ∙ none_at_all c.remove_in.new.entries.items (omega (arith, zero_left)) in
-    (remove leaves c.args.place, c.in-Ok-drop_leaf.ensures.leaves has leaves h1, drop_done leaves c.args.place (removed e (slice_index_or leaves c.args.place [])) none)
+    let none : removed e (slice_index_or leaves c.args.place []) ≡ [] = sym made ∙ none_at_all c.remove_in.new.entries.items (omega (arith, zero_left)) in (
+      remove leaves c.args.place,
+      c.in-Ok-drop_leaf.ensures.leaves has leaves h1,
+      drop_done leaves c.args.place (removed e (slice_index_or leaves c.args.place [])) none,
+    )
 
 pub returns-in-Ok-set_leaf-clause-leaves : goal.returns-in-Ok-set_leaf-clause-leaves
 returns-in-Ok-set_leaf-clause-leaves g c = λ honest leaves h up.
@@ -85,7 +89,8 @@ returns-in-Ok-set_leaf-clause-leaves g c = λ honest leaves h up.
     ∙ sym (leaf_at g.row.W s0 c.args.index.now.pages c.args.place c.requires.place) ∙ ap (λ (x : List (List Entry)). slice_index_or x c.args.place []) h.are in
     let made : c.remove_in.new.entries.items ≡ removed e (slice_index_or leaves c.args.place []) =
     c.remove_in.ensures.ok (subst (λ (x : List Entry). IsRising x) (sym read) up) ∙ ap (removed e) read in
-    let h1 : HasLeaves g.row.W s1 c.args.index.now leaves = subst (λ (x : Stand). HasLeaves g.row.W x c.args.index.now leaves) (sym (c.in-Ok.ensures.stand.same honest)) h in
+    let h1 : HasLeaves g.row.W s1 c.args.index.now leaves =
+    subst (λ (x : Stand). HasLeaves g.row.W x c.args.index.now leaves) (sym (c.in-Ok.ensures.stand.same honest)) h in
     let leaf : c.deref.result.now ≡ removed e (slice_index_or leaves c.args.place []) = c.deref.ensures.value ∙ made in
     let n = length-leaves g.row.W s0 c.args.index.now leaves h in (
       slice_set leaves c.args.place c.deref.result.now,

@@ -1,7 +1,7 @@
 use Rattle.std.proofs.Common.{◌≡◌, ◌+◌, List, [], ◌∷◌, ◌++◌, append_assoc, take, drop, rules, sym, ◌∙◌, ap, subst, IsTrue}
 use Rattle.std.proofs.lemmas.List.{take_more, take-append-drop}
 use Rattle.index_keys.specs.Entries.{Entry, IsRising}
-use Rattle.index_keys.proofs.Rising.{rises_front}
+use Rattle.index_keys.proofs.RisingEntries.{rises_front}
 use Rattle.tune_index.proofs.load.join_leaf.Goals as goal
 
 pub returns-then-not-follows-clause-no : goal.returns-then-not-follows-clause-no
@@ -12,7 +12,8 @@ returns-then-not-follows-clause-no g c = λ _ up.
     let now : List Entry = c.loop-entry.entries.items in
     let e : Entry = c.entry-item.result in
     let back = drop (i + 1) leaf in
-    let t : take (i + 1) leaf ≡ take i leaf ++ e ∷ [] = take_more leaf i e c.loop-entry-test.true ∙ ap (λ (x : Entry). take i leaf ++ x ∷ []) (sym c.entry-item.is) in
+    let t : take (i + 1) leaf ≡ take i leaf ++ e ∷ [] = take_more leaf i e c.loop-entry-test.true
+    ∙ ap (λ (x : Entry). take i leaf ++ x ∷ []) (sym c.entry-item.is) in
     let front : before ++ take (i + 1) leaf ≡ now ++ e ∷ [] = ap (λ (x : List Entry). before ++ x) t ∙ sym (append_assoc before (take i leaf) (e ∷ []))
     ∙ ap (λ (x : List Entry). x ++ e ∷ []) (sym c.loop-entry.invariant.so_far) in
     let whole : before ++ leaf ≡ (now ++ e ∷ []) ++ back = ap (λ (x : List Entry). before ++ x) (sym (take-append-drop (i + 1) leaf))

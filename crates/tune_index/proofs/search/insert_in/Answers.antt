@@ -8,7 +8,8 @@ use Rattle.tune_index.proofs.search.insert_in.Goals as goal
 
 pub returns-in_ok-insert-clause-ok : goal.returns-in_ok-insert-clause-ok
 returns-in_ok-insert-clause-ok g c = λ up.
-    let h : Searched c.args.entries.now.items c.deref-2.result.now c.deref-3.result.now c.place_of-place.result (c.args.key, c.args.value) c.is_at.result = record {
+    let h : Searched c.args.entries.now.items c.deref-2.result.now c.deref-3.result.now c.place_of-place.result (c.args.key, c.args.value) c.is_at.result =
+    record {
       first = c.deref-2.ensures.value;
       second = c.deref-3.ensures.value;
       place = c.place_of-place.ensures.place;
@@ -20,7 +21,8 @@ returns-in_ok-insert-clause-ok g c = λ up.
 
 pub returns-else-not-is_at-clause-ok : goal.returns-else-not-is_at-clause-ok
 returns-else-not-is_at-clause-ok g c = λ up.
-    let h : Searched c.args.entries.now.items c.deref-2.result.now c.deref-3.result.now c.place_of-place.result (c.args.key, c.args.value) c.is_at.result = record {
+    let h : Searched c.args.entries.now.items c.deref-2.result.now c.deref-3.result.now c.place_of-place.result (c.args.key, c.args.value) c.is_at.result =
+    record {
       first = c.deref-2.ensures.value;
       second = c.deref-3.ensures.value;
       place = c.place_of-place.ensures.place;

@@ -43,7 +43,8 @@ loop-place-preserved g c =
     let s0 = stand c.args.pages.now c.args.work.now in
     let n : c.loop-place.place < length pages = search rules in
     record {
-      looked = looked_more g.D.Disk.honest g.D.Disk.failures g.D.Disk.state c.in-Ok.field-0 c.args.pages.now c.loop-place.pages c.add_leaf_values.new.pages i.looked call.looks;
+      looked = looked_more g.D.Disk.honest g.D.Disk.failures g.D.Disk.state c.in-Ok.field-0 c.args.pages.now c.loop-place.pages c.add_leaf_values.new.pages
+          i.looked call.looks;
       fits = call.fits;
       so_far = λ h.
           let now = call.looks.was_honest h in

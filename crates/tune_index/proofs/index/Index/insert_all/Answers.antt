@@ -5,11 +5,11 @@ use Rattle.tune_pages.specs.Work.{stand}
 use Rattle.tune_pages.proofs.Frames.{trades_none, trades_then}
 use Rattle.tune_pages.proofs.Looking.{looked_more}
 use Rattle.index_keys.specs.Entries.{Entry, IsRising, inserted_all}
+use Rattle.index_keys.proofs.RisingEntries.{rises_back}
 use Rattle.tune_index.specs.Indexes.{entries_of}
 use Rattle.tune_index.proofs.Answering.{change_edit, edit_more}
 use Rattle.tune_index.proofs.Balances.{inserted_all_some}
-use Rattle.tune_index.proofs.Fulls.{list_then}
-use Rattle.index_keys.proofs.Rising.{rises_back}
+use Rattle.tune_index.proofs.Changes.{list_then}
 use Rattle.tune_index.proofs.Runs.{inserted_all-append}
 use Rattle.tune_index.proofs.index.Index.insert_all.Goals as goal
 
@@ -20,7 +20,8 @@ pub returns-in-Err-clause-answer : goal.returns-in-Err-clause-answer
 returns-in-Err-clause-answer g c =
     let entries = entries_of g.row.W (stand c.args.pages.now c.args.work.now) c.args.self.now.pages in
     let some : 0 < length c.args.run.now = search rules in
-    change_edit c.in-Err.fault c.requires.open (λ full honest. (let more = inserted_all_some c.args.run.now entries some in omega (arith, full.0, full.1, more)))
+    change_edit c.in-Err.fault c.requires.open
+    (λ full honest. (let more = inserted_all_some c.args.run.now entries some in omega (arith, full.0, full.1, more)))
     c.in-Err.ensures.answer
 
 -- what is left of a run rises
@@ -73,7 +74,8 @@ loop-at-preserved g c =
       list = list_then c.args.self.now c.loop-at.self c.insert_from.new.index i.list e.list;
       pages = e.pages;
       balance = i.balance ∙ e.balance;
-      trades = λ h. trades_then c.args.self.now.pages c.loop-at.self.pages c.insert_from.new.index.pages s0 s1 s2 (i.trades (e.looks.was_honest h)) (e.trades h);
+      trades = λ h. trades_then c.args.self.now.pages c.loop-at.self.pages c.insert_from.new.index.pages s0 s1 s2 (i.trades (e.looks.was_honest h))
+          (e.trades h);
       index = λ h. (e.entries h).0;
       entries = λ h.
           let old = i.entries (e.looks.was_honest h) in
@@ -81,7 +83,8 @@ loop-at-preserved g c =
           let part = take (end - at) (drop at run) in
           let sum : at + (end - at) ≡ end = omega (arith, e.later) in
           let t : take end run ≡ take at run ++ part = ap (λ (k : ℕ). take k run) (sym sum) ∙ take-add at (end - at) run in
-          (e.entries h).1 ∙ ap (inserted_all part) old ∙ sym (inserted_all-append (take at run) part first) ∙ ap (λ (x : List Entry). inserted_all x first) (sym t);
+          (e.entries h).1 ∙ ap (inserted_all part) old ∙ sym (inserted_all-append (take at run) part first)
+          ∙ ap (λ (x : List Entry). inserted_all x first) (sym t);
     }
 
 pub returns-in-Err-insert_from-clause-answer : goal.returns-in-Err-insert_from-clause-answer
@@ -96,5 +99,6 @@ returns-in-Err-insert_from-clause-answer g c =
     let back = e.looks.was_honest honest in
     let few = full honest in
     let now = ap (λ (x : List Entry). length (inserted_all (drop at run) x)) (i.entries back) in
-    let whole = ap length (sym (inserted_all-append (take at run) (drop at run) first) ∙ ap (λ (x : List Entry). inserted_all x first) (take-append-drop at run)) in
+    let whole = ap length (sym (inserted_all-append (take at run) (drop at run) first)
+    ∙ ap (λ (x : List Entry). inserted_all x first) (take-append-drop at run)) in
     omega (arith, few, now, whole, i.balance)) e.answer

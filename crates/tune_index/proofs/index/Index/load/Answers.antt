@@ -22,7 +22,8 @@ returns-in-Err-clause-damaged g c = λ h.
     let now = c.args.opening.now in
     let sized = c.count-count.ensures.sized (c.in-Err.ensures.looks.was_honest h) in
     let most : c.pages_for.result ≡ pages_for (c.args.most * 4) = c.pages_for.ensures in
-    fault_as c.in-Err.fault (IsClaimableWithin c.pages_for.result now.pages now.claimed c.args.first) (IsStored g.row.W c.args.most now.pages now.claimed c.args.first)
+    fault_as c.in-Err.fault (IsClaimableWithin c.pages_for.result now.pages now.claimed c.args.first)
+    (IsStored g.row.W c.args.most now.pages now.claimed c.args.first)
     (λ s. subst (λ (n : ℕ). IsClaimableWithin n now.pages now.claimed c.args.first) (sym most)
     (stored_within g.row.W c.args.most now.pages now.claimed c.args.first sized s)) (c.in-Err.ensures.damaged h)
 
@@ -56,12 +57,15 @@ returns-in-Err-load_leaf-clause-damaged g c = λ h.
     inv.after back ∙ ap (λ (m : List Bool). marked true index.pages m) chain.2 in
     let here = ap length c.deref.ensures.value in
     let room : c.loop-place.place * 4 + 4 ≤ length bytes = omega (arith, here, c.in-Some.ensures.size, c.loop-place-test.true) in
-    let at : page ≡ value_in (drop (4 * c.loop-place.place) bytes) = c.number_at-page.ensures ∙ ap (λ (x : List ℕ). value_in (drop (4 * c.loop-place.place) x)) c.deref-in-loop-place.ensures.value in
+    let at : page ≡ value_in (drop (4 * c.loop-place.place) bytes) = c.number_at-page.ensures
+    ∙ ap (λ (x : List ℕ). value_in (drop (4 * c.loop-place.place) x)) c.deref-in-loop-place.ensures.value in
     let P = λ (ps : List (List ℕ)). IsFree c.loop-place.opening.claimed page × IsLeaf W (page_at ps page) × IsRising (es ++ leaf_in W (page_at ps page))
     × (length (es ++ leaf_in W (page_at ps page)) ≤ c.args.most) in
     let small = few_marks c.count-count.result (length c.args.opening.now.claimed) (search rules) c.count-count.ensures.marks in
     fault_as c.in-Err-load_leaf.fault (P c.loop-place.opening.pages) (IsStored W c.args.most pages c.args.opening.now.claimed c.args.first)
-    (λ s. subst P (sym now) (stored_next W c.args.most pages c.args.opening.now.claimed c.loop-place.opening.claimed c.args.first c.loop-place.place page chain.0 bytes index es small
+    (λ s. subst P (sym now)
+    (stored_next W c.args.most pages c.args.opening.now.claimed c.loop-place.opening.claimed c.args.first c.loop-place.place page chain.0 bytes index es
+    small
     chain.1 so after room at s)) (call.damaged h)
 
 pub loop-place-preserved : goal.loop-place-preserved
@@ -77,7 +81,8 @@ loop-place-preserved g c =
     let old : List Entry = c.loop-place.entries.items in
     let new : List Entry = c.load_leaf.new.entries.items in
     let start = c.claim_chain_within.new.self in
-    let at : page ≡ value_in (drop (4 * place) bytes) = c.number_at-page.ensures ∙ ap (λ (x : List ℕ). value_in (drop (4 * place) x)) c.deref-in-loop-place.ensures.value in
+    let at : page ≡ value_in (drop (4 * place) bytes) = c.number_at-page.ensures
+    ∙ ap (λ (x : List ℕ). value_in (drop (4 * place) x)) c.deref-in-loop-place.ensures.value in
     let next : suc place ≡ place + 1 = omega arith in
     record {
       honest = λ h. inv.honest (call.looks.was_honest h);
@@ -120,7 +125,8 @@ returns-clause-loads g c = λ h.
     let numbers : listed_bytes (numbers_in place bytes) ≡ bytes = subst (λ (k : ℕ). listed_bytes (numbers_in k bytes) ≡ bytes) (sym all)
     (subst (λ (x : List ℕ). listed_bytes (numbers_in c.in-Some.count x) ≡ x) here c.in-Some.ensures.listed) in
     let listed : listed_bytes index.pages ≡ bytes = ap listed_bytes so.leaves ∙ numbers in
-    let few : length (entries_of W (shown c.args.opening.now.pages) index.pages) ≤ c.args.most = subst (λ (x : List Entry). length x ≤ c.args.most) so.entries inv.few in
+    let few : length (entries_of W (shown c.args.opening.now.pages) index.pages) ≤ c.args.most =
+    subst (λ (x : List Entry). length x ≤ c.args.most) so.entries inv.few in
     record {
       trail = chain.0;
       stored = record {

@@ -41,7 +41,8 @@ returns-in-Err-put_chain-clause-takes g c = λ h is.
     let has = c.requires.list (c.in-Ok-free_chain.ensures.looks.was_honest h) in
     let least = freed_list s mid was.first c.list_of-first.result.0 has.0 has.1 c.list_of-first.ensures.0 has.2 (c.in-Ok-free_chain.ensures.stand h) in
     let bytes : c.deref.result.now ≡ listed_bytes was.pages = c.deref.ensures.value ∙ c.in-Ok.ensures in
-    let size : pages_for (length c.deref.result.now) ≡ pages_for (4 * length was.pages) = ap (λ (x : List ℕ). pages_for (length x)) bytes ∙ ap pages_for (length-listed was.pages) in
+    let size : pages_for (length c.deref.result.now) ≡ pages_for (4 * length was.pages) = ap (λ (x : List ℕ). pages_for (length x)) bytes
+    ∙ ap pages_for (length-listed was.pages) in
     let full = full_work c.in-Err-put_chain.fault c.free_chain.new.self.closed is c.in-Err-put_chain.ensures.answer in
     omega (arith, least, size, full)
 
@@ -54,7 +55,8 @@ returns-clause-takes g c = λ h.
     let has = c.requires.list (c.in-Ok-free_chain.ensures.looks.was_honest h) in
     let least = freed_list s mid was.first c.list_of-first.result.0 has.0 has.1 c.list_of-first.ensures.0 has.2 (c.in-Ok-free_chain.ensures.stand h) in
     let bytes : c.deref.result.now ≡ listed_bytes was.pages = c.deref.ensures.value ∙ c.in-Ok.ensures in
-    let size : pages_for (length c.deref.result.now) ≡ pages_for (4 * length was.pages) = ap (λ (x : List ℕ). pages_for (length x)) bytes ∙ ap pages_for (length-listed was.pages) in
+    let size : pages_for (length c.deref.result.now) ≡ pages_for (4 * length was.pages) = ap (λ (x : List ℕ). pages_for (length x)) bytes
+    ∙ ap pages_for (length-listed was.pages) in
     let chain = c.in-Ok-put_chain.ensures.chain in
     let less = marked_less chain.0 mid.used chain.1.free in
     let used : free_pages new.used ≡ free_pages (marked true chain.0 mid.used) = ap free_pages chain.1.used in
