@@ -10,9 +10,11 @@ mod articles;
 mod lists;
 mod matching;
 mod rows;
+mod search_keys;
 mod shown;
 
 pub use lists::{TitleList, titles_of};
 pub use matching::{TitlePrefix, prefix_matches, rhythm_matches, title_matches_tune};
 pub use rows::{TitleRow, sort_rows};
+pub use search_keys::{RhythmKeys, TitleKeys};
 pub use shown::{index_title, sort_title};

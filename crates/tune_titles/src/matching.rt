@@ -4,11 +4,13 @@ ghost use Rattle.std.specs.List.{list_any};
 ghost use Rattle.std.specs.Option.{option_map_or};
 ghost use Rattle.abc_fields.specs.Bytes.{begins_with};
 ghost use Rattle.abc_fields.specs.Fields.{titles_of, rhythm_of};
+ghost use Rattle.index_keys.specs.Cuts.{cut_number};
 ghost use Rattle.tune_titles.specs.Articles.{small_letters};
 ghost use Rattle.tune_titles.specs.Titles.{sorting_title, title_matches, same_rhythm};
 
 use crate::articles::rest_of;
 use abc_fields::{TuneText, fields, trim_blanks};
+use index_keys::IndexKey;
 use std::marker::Model;
 
 /// A query for titles, made ready once: it finds the titles whose sorting titles begin with its
@@ -35,6 +37,13 @@ impl<'a> TitlePrefix<'a> {
         TitlePrefix {
             rest: rest_of(trim_blanks(query)),
         }
+    }
+
+    // Its first 32 bytes, filled up with one byte.
+    pub(crate) fn key(&self, fill: u8) -> IndexKey<32>
+        ensures { result ≡ cut_number 32 fill self.now }
+    {
+        IndexKey::cut_small(self.rest, fill)
     }
 
     /// Whether the sorting title of this title begins with that of the query.

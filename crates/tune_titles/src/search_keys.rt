@@ -1,0 +1,142 @@
+// The keys by which titles and rhythms are found in an index.
+ghost use Rattle.std.specs.Prelude.{◌≡◌, IfOk};
+ghost use Rattle.index_keys.specs.Cuts.{cut_number};
+ghost use Rattle.tune_titles.specs.Articles.{small_letters};
+ghost use Rattle.tune_titles.specs.SearchKeys.{rhythm_keys, title_keys};
+ghost use Rattle.tune_titles.specs.Titles.{sorting_title};
+
+use crate::articles::rest_of;
+use crate::matching::{TitlePrefix, rhythm_matches};
+use abc_fields::{TuneText, fields, trim_blanks};
+use index_keys::{IndexKey, Keyed, add_key};
+use std::alloc::{AllocError, Global};
+use std::marker::PhantomData;
+
+/// The titles of a tune, each by the first 32 bytes of its sorting title (this archive's profile).
+/// It has no values.
+pub struct TitleKeys<'a> {
+    query: PhantomData<&'a ()>,
+}
+
+/// The rhythm of a tune, by its first 32 bytes in small letters (this archive's profile). It has no
+/// values.
+pub struct RhythmKeys<'a> {
+    query: PhantomData<&'a ()>,
+}
+
+impl<'a> Keyed<32> for TitleKeys<'a> {
+    ghost use Rattle.index_keys.specs.Cuts.{cut_number};
+    ghost use Rattle.tune_titles.specs.SearchKeys.{title_keys};
+    ghost use Rattle.tune_titles.specs.Titles.{finds_title};
+    ghost use Rattle.tune_titles.specs.Inside.KindLaws.{titles_found, titles_rise};
+
+    type Text = TuneText;
+
+    type Query = TitlePrefix<'a>;
+
+    ghost keys_of = { title_keys };
+
+    ghost low_of = { λ query. cut_number 32 0 query };
+
+    ghost high_of = { λ query. cut_number 32 255 query };
+
+    ghost matches = { λ query text. finds_title query text };
+
+    ghost rise = { λ text. titles_rise text };
+
+    ghost law = { λ query text is. titles_found query text is };
+
+    fn keys(alloc: Global, text: &TuneText) -> Result<Vec<IndexKey<32>>, AllocError>
+        ensures { IfOk result (λ keys. keys.items ≡ title_keys text.now) }
+    {
+        title_keys_of(alloc, text)
+    }
+
+    fn range(query: &TitlePrefix<'a>) -> (IndexKey<32>, IndexKey<32>)
+        ensures low { result.0 ≡ cut_number 32 0 query.now }
+        ensures high { result.1 ≡ cut_number 32 255 query.now }
+    {
+        (query.key(0), query.key(255))
+    }
+
+    fn test(query: &TitlePrefix<'a>, text: &TuneText) -> bool {
+        query.matches_tune(text)
+    }
+}
+
+impl<'a> Keyed<32> for RhythmKeys<'a> {
+    ghost use Rattle.index_keys.specs.Cuts.{cut_number};
+    ghost use Rattle.tune_titles.specs.Articles.{small_letters};
+    ghost use Rattle.tune_titles.specs.SearchKeys.{rhythm_keys};
+    ghost use Rattle.tune_titles.specs.Titles.{finds_rhythm};
+    ghost use Rattle.tune_titles.specs.Inside.KindLaws.{rhythm_found, rhythm_rises};
+
+    type Text = TuneText;
+
+    type Query = &'a [u8];
+
+    ghost keys_of = { rhythm_keys };
+
+    ghost low_of = { λ query. cut_number 32 0 (small_letters query.now) };
+
+    ghost high_of = { λ query. cut_number 32 255 (small_letters query.now) };
+
+    ghost matches = { λ query text. finds_rhythm query.now text };
+
+    ghost rise = { λ text. rhythm_rises text };
+
+    ghost law = { λ query text is. rhythm_found query.now text is };
+
+    fn keys(alloc: Global, text: &TuneText) -> Result<Vec<IndexKey<32>>, AllocError>
+        ensures { IfOk result (λ keys. keys.items ≡ rhythm_keys text.now) }
+    {
+        rhythm_keys_of(alloc, text)
+    }
+
+    fn range(query: &&'a [u8]) -> (IndexKey<32>, IndexKey<32>)
+        ensures low { result.0 ≡ cut_number 32 0 (small_letters query.now.now) }
+        ensures high { result.1 ≡ cut_number 32 255 (small_letters query.now.now) }
+    {
+        (
+            IndexKey::cut_small(query, 0),
+            IndexKey::cut_small(query, 255),
+        )
+    }
+
+    fn test(query: &&'a [u8], text: &TuneText) -> bool {
+        rhythm_matches(query, text)
+    }
+}
+
+// The key of a title.
+fn title_key(title: &[u8]) -> IndexKey<32>
+    ensures { result ≡ cut_number 32 0 (sorting_title title.now) }
+{
+    IndexKey::cut_small(rest_of(trim_blanks(title)), 0)
+}
+
+// The keys of the titles of a tune.
+fn title_keys_of(alloc: Global, text: &TuneText) -> Result<Vec<IndexKey<32>>, AllocError>
+    ensures { IfOk result (λ keys. keys.items ≡ title_keys text.now) }
+{
+    let fields = fields(text);
+    let titles = fields.titles.as_slice();
+    let mut keys = Vec::new(alloc);
+    let mut left = titles.len();
+    while left > 0 {
+        left -= 1;
+        add_key(&mut keys, title_key(titles[left]))?;
+    }
+    Ok(keys)
+}
+
+// The key of the rhythm of a tune, where it has one.
+fn rhythm_keys_of(alloc: Global, text: &TuneText) -> Result<Vec<IndexKey<32>>, AllocError>
+    ensures { IfOk result (λ keys. keys.items ≡ rhythm_keys text.now) }
+{
+    let mut keys = Vec::new(alloc);
+    if let Some(rhythm) = fields(text).rhythm {
+        keys.push(IndexKey::cut_small(rhythm, 0))?;
+    }
+    Ok(keys)
+}
