@@ -1,8 +1,11 @@
 -- By what a title is sorted, how an index shows it, and which titles and rhythms a query finds (own
 -- profile).
-use Rattle.std.specs.Prelude.{◌≡◌, ◌↔◌, ℕ, List, ◌++◌, codes, Bool, Option, None, Some}
+use Rattle.std.specs.Prelude.{◌≡◌, ◌↔◌, ℕ, List, ◌++◌, codes, Bool, false, Option, None, Some}
+use Rattle.std.specs.List.{list_any}
+use Rattle.std.specs.Option.{option_map_or}
 use Rattle.std.specs.Str.{bytes_eq}
 use Rattle.abc_fields.specs.Bytes.{begins_with}
+use Rattle.abc_fields.specs.Fields.{titles_of, rhythm_of}
 use Rattle.abc_fields.specs.Words.{trimmed}
 use Rattle.tune_titles.specs.Articles.{Parts, leading, trailing, small_letters, title_rest}
 use Rattle.tune_titles.specs.Articles.{HasLeading, HasTrailing}
@@ -27,6 +30,16 @@ title_matches query title = begins_with (sorting_title title) (sorting_title que
 -- whether the query is the rhythm, but for capitals
 abbrev pub same_rhythm : List ℕ → List ℕ → Bool
 same_rhythm query rhythm = bytes_eq (small_letters query) (small_letters rhythm)
+
+-- WHICH TUNES A QUERY FINDS
+-- a tune of whose titles one has a sorting title that begins with this one
+abbrev pub finds_title : List ℕ → List ℕ → Bool
+finds_title prefix text =
+    list_any (λ title. begins_with (sorting_title title) prefix) (titles_of text)
+
+-- a tune of this rhythm, but for capitals
+abbrev pub finds_rhythm : List ℕ → List ℕ → Bool
+finds_rhythm rhythm text = option_map_or (same_rhythm rhythm) (rhythm_of text) false
 
 -- THE SAME IN A READER'S WORDS
 -- where a title has which article
