@@ -1,3 +1,4 @@
 pub mod StepRows
 pub mod Growing
 pub mod IncipitLaws
+pub mod Examples

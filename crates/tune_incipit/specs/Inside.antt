@@ -1,2 +1,4 @@
 pub mod NextSteps
 pub mod StepRows
+pub mod SameScales
+pub mod KeyLaws

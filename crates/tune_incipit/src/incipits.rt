@@ -8,6 +8,7 @@ ghost use Rattle.tune_incipit.specs.Limits.{fewest_notes, most_notes};
 ghost use Rattle.abc_fields.specs.Limits.{longest_book};
 ghost use Rattle.abc_notes.specs.Pitches.{SoundedNote};
 
+use crate::some_steps::SomeSteps;
 use crate::step_lists::Steps;
 use abc_fields::TuneText;
 use abc_keys::key_of;
@@ -77,21 +78,21 @@ pub struct BadQuery;
 /// The incipit of a query of notes, by its first `notes` notes that count. The query is read as one
 /// music line in C, up to its comment, whatever it begins with (this archive's profile); it has at
 /// most 4,000,000 bytes.
-pub fn query_steps(query: &[u8], notes: usize) -> Result<Steps, BadQuery>
+pub fn query_steps(query: &[u8], notes: usize) -> Result<SomeSteps, BadQuery>
     requires short { length query.now ≤ longest_book }
     requires few { fewest_notes ≤ notes }
     requires many { notes ≤ most_notes }
-    ensures steps { IfOk result (λ steps. steps ≡ incipit_of notes (query_notes query.now)) }
+    ensures steps { IfOk result (λ front. front.steps
+        ≡ incipit_of notes (query_notes query.now)) }
     ensures ok { IsOk result
         ↔ (fewest_notes ≤ count_by (λ note. note.counts) (query_notes query.now)) }
     ensures bad { IsErr result
         ↔ (count_by (λ note. note.counts) (query_notes query.now) < fewest_notes) }
 {
-    let steps = first_steps(query_notes(query), notes);
-    if steps.is_empty() {
-        return Err(BadQuery);
+    match SomeSteps::new(first_steps(query_notes(query), notes)) {
+        Some(front) => Ok(front),
+        None => Err(BadQuery),
     }
-    Ok(steps)
 }
 
 // The notes of a query.

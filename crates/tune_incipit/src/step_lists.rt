@@ -1,5 +1,6 @@
 // Lists of steps.
 ghost use Rattle.std.specs.Prelude.{◌≡◌, ◌+◌, ◌<◌, ◌≤◌, ◌↔◌, ◌++◌, ◌∷◌, [], length, IsTrue};
+ghost use Rattle.tune_incipit.specs.Limits.{most_notes};
 ghost use Rattle.tune_incipit.specs.Inside.StepRows.{most_steps};
 
 use std::marker::Model;
@@ -48,7 +49,8 @@ impl Steps {
 
     /// The steps, in order.
     pub fn as_slice(&self) -> &[i32]
-        ensures { result.now ≡ self.now }
+        ensures steps { result.now ≡ self.now }
+        ensures few { length self.now < most_notes }
     {
         &self.items[..self.len()]
     }

@@ -1,39 +1,27 @@
 -- Which tunes a query finds, and which queries ask for nothing (own profile).
-use Rattle.std.specs.Prelude.{◌≡◌, ◌↔◌, ℕ, ℤ, List, ◌++◌, Bool, true, false, not}
+use Rattle.std.specs.Prelude.{◌≡◌, ◌↔◌, ℕ, List, ◌++◌, Bool, true, false, not}
 use Rattle.std.specs.Prelude.{Option, Some, None, count_by, nat_lt}
-use Rattle.std.specs.List.{list_any, starts_with, Contains}
+use Rattle.std.specs.List.{list_any, Contains}
 use Rattle.std.specs.Option.{option_map_or}
-use Rattle.std.specs.Ordering.{int_eq}
-use Rattle.abc_fields.specs.Bytes.{is_all_blank, begins_with}
+use Rattle.abc_fields.specs.Bytes.{is_all_blank}
 use Rattle.abc_fields.specs.Fields.{titles_of, rhythm_of, key_text_of, has_bytes}
 use Rattle.abc_keys.specs.declared.scales.Scale.{Scale}
-use Rattle.abc_keys.specs.Keys.{key_of_text, scale_of}
-use Rattle.abc_keys.specs.ScaleTable.{same_scale}
-use Rattle.tune_incipit.specs.Incipits.{incipit_of, tune_notes, query_notes}
+use Rattle.tune_incipit.specs.Incipits.{incipit_of, tune_notes, query_notes, begins_steps}
+use Rattle.tune_incipit.specs.Incipits.{finds_steps}
 use Rattle.tune_incipit.specs.Limits.{fewest_notes}
+use Rattle.tune_incipit.specs.Scales.{scale_of_text, is_scale, finds_scale}
 use Rattle.tune_titles.specs.Articles.{small_letters}
 use Rattle.tune_titles.specs.Titles.{sorting_title, title_matches, same_rhythm}
+use Rattle.tune_titles.specs.Titles.{finds_title, finds_rhythm}
 use Rattle.tune_queries.specs.declared.queries.Query.{Query}
 use Rattle.tune_queries.specs.declared.queries.Query.TheVariants as query
 use Rattle.tune_queries.specs.declared.sought.Sought.{Sought}
 use Rattle.tune_queries.specs.declared.sought.Sought.TheVariants as sought
 
 -- WHAT A QUERY ASKS FOR
--- the scale that a key text says, where it says one
-abbrev pub scale_of_text : List ℕ → Option Scale
-scale_of_text text = scale_of (key_of_text text)
-
 -- the notes of a query that count
 abbrev pub counting_notes : List ℕ → ℕ
 counting_notes query = count_by (λ note. note.counts) (query_notes query)
-
--- whether a list of steps begins with another
-abbrev pub begins_steps : List ℤ → List ℤ → Bool
-begins_steps steps front = starts_with int_eq steps front
-
--- whether a scale is one that may be missing
-abbrev pub is_scale : Scale → Option Scale → Bool
-is_scale scale found = option_map_or (same_scale scale) found false
 
 -- whether there is none
 abbrev pub is_missing : Option Scale → Bool
@@ -63,13 +51,10 @@ matches notes (query.Notes text) tune = begins_steps
 
 -- the same of a query made ready, which holds a sorting title, a rhythm, a scale, or steps
 abbrev pub finds : ℕ → Sought → List ℕ → Bool
-finds notes (sought.Title prefix) tune =
-    list_any (λ title. begins_with (sorting_title title) prefix) (titles_of tune)
-finds notes (sought.Rhythm rhythm) tune =
-    option_map_or (same_rhythm rhythm.now) (rhythm_of tune) false
-finds notes (sought.Key scale) tune = is_scale scale (scale_of_text (key_text_of tune))
-finds notes (sought.Notes steps) tune =
-    begins_steps (incipit_of notes (tune_notes tune)) steps
+finds notes (sought.Title prefix) tune = finds_title prefix tune
+finds notes (sought.Rhythm rhythm) tune = finds_rhythm rhythm.now tune
+finds notes (sought.Key scale) tune = finds_scale scale tune
+finds notes (sought.Notes front) tune = finds_steps notes front.steps tune
 
 -- THE SAME IN A READER'S WORDS
 -- a text or a list of steps that begins with another

@@ -6,7 +6,6 @@
 #![tactic(auto)]
 
 mod queries;
-mod scales;
 mod sought;
 
 pub use queries::{LONGEST_QUERY, Query, QueryText};

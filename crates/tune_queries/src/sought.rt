@@ -1,19 +1,20 @@
 // Queries made ready, and the tunes that they find.
 ghost use Rattle.std.specs.Prelude.{◌≡◌, ◌≤◌, ◌↔◌, ℕ, List, true, not, nat_lt, Some, IsErr, IfOk};
 ghost use Rattle.abc_fields.specs.Bytes.{is_all_blank};
-ghost use Rattle.abc_fields.specs.Fields.{has_bytes, key_text_of};
-ghost use Rattle.tune_incipit.specs.Incipits.{incipit_of, tune_notes, query_notes};
+ghost use Rattle.abc_fields.specs.Fields.{has_bytes};
+ghost use Rattle.tune_incipit.specs.Incipits.{incipit_of, query_notes};
 ghost use Rattle.tune_incipit.specs.Limits.{fewest_notes, most_notes};
 ghost use Rattle.tune_titles.specs.Titles.{sorting_title};
-ghost use Rattle.tune_queries.specs.Queries.{matches, is_bad, finds, scale_of_text, counting_notes};
-ghost use Rattle.tune_queries.specs.Queries.{is_scale, is_missing, begins_steps, LawOfQuery};
+ghost use Rattle.tune_incipit.specs.Scales.{scale_of_text};
+ghost use Rattle.tune_queries.specs.Queries.{matches, is_bad, finds, counting_notes};
+ghost use Rattle.tune_queries.specs.Queries.{is_missing, LawOfQuery};
 
 use crate::queries::{Query, QueryText};
-use crate::scales::is_same_scale;
-use abc_fields::{TuneText, fields, is_blank};
+use abc_fields::{TuneText, is_blank};
 use abc_keys::{Scale, key_of};
+use index_keys::Keyed;
 use thiserror::Error;
-use tune_incipit::{Steps, begins, query_steps, steps};
+use tune_incipit::{ScaleKeys, SomeSteps, finds_steps, query_steps};
 use tune_titles::{TitlePrefix, rhythm_matches};
 
 /// Why a query is refused: it asks for nothing. That is a title of spaces and tabs alone, a rhythm
@@ -33,7 +34,7 @@ pub enum Sought<'a> {
     /// The scale.
     Key(Scale),
     /// The steps between the notes of the query.
-    Notes(Steps),
+    Notes(SomeSteps),
 }
 
 impl Sought<'_> {
@@ -47,8 +48,8 @@ impl Sought<'_> {
         match self {
             Sought::Title(prefix) => prefix.matches_tune(text),
             Sought::Rhythm(query) => rhythm_matches(query, text),
-            Sought::Key(scale) => is_in_scale(scale, text),
-            Sought::Notes(front) => begins_with_steps(front, notes, text),
+            Sought::Key(scale) => ScaleKeys::test(scale, text),
+            Sought::Notes(front) => finds_steps(notes, front, text),
         }
     }
 }
@@ -116,33 +117,14 @@ fn scale_of(text: &[u8]) -> Result<Scale, BadQuery>
 }
 
 // The steps of a query, unless too few of its notes count.
-fn steps_of(text: &QueryText, notes: usize) -> Result<Steps, BadQuery>
+fn steps_of(text: &QueryText, notes: usize) -> Result<SomeSteps, BadQuery>
     requires few { fewest_notes ≤ notes }
     requires many { notes ≤ most_notes }
-    ensures ok { IfOk result (λ steps. steps ≡ incipit_of notes (query_notes text.now)) }
+    ensures ok { IfOk result (λ front. front.steps ≡ incipit_of notes (query_notes text.now)) }
     ensures bad { IsErr result ↔ nat_lt (counting_notes text.now) fewest_notes ≡ true }
 {
     match query_steps(text.bytes(), notes) {
-        Ok(steps) => Ok(steps),
+        Ok(front) => Ok(front),
         Err(_) => Err(BadQuery),
     }
-}
-
-// Whether the key of the tune is in this scale.
-fn is_in_scale(scale: &Scale, text: &TuneText) -> bool
-    ensures { result ≡ is_scale scale.now (scale_of_text (key_text_of text.now)) }
-{
-    match key_of(fields(text).key).scale() {
-        Some(own) => is_same_scale(scale, &own),
-        None => false,
-    }
-}
-
-// Whether the incipit of the tune begins with these steps.
-fn begins_with_steps(front: &Steps, notes: usize, text: &TuneText) -> bool
-    requires few { fewest_notes ≤ notes }
-    requires many { notes ≤ most_notes }
-    ensures { result ≡ begins_steps (incipit_of notes (tune_notes text.now)) front.now }
-{
-    begins(front, &steps(text, notes))
 }

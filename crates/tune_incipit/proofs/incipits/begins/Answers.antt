@@ -8,5 +8,5 @@ returns c =
     let front = c.args.front.now in
     let whole = c.args.whole.now in
     let value = c.starts_with.ensures.value in
-    let is = starts_is Decides-int_eq whole front c.starts_with.result (rw (← c.as_slice.ensures, ← c.as_slice-2.ensures) value) in
+    let is = starts_is Decides-int_eq whole front c.starts_with.result (rw (← c.as_slice.ensures.steps, ← c.as_slice-2.ensures.steps) value) in
     (λ yes. (drop (length front) whole, sym (is.0 yes)), λ begun. is.1 begun.0 (sym begun.1))

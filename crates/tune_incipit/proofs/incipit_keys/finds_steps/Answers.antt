@@ -4,11 +4,11 @@ use Rattle.std.specs.List.{starts_with}
 use Rattle.std.specs.Ordering.{int_eq}
 use Rattle.std.proofs.lemmas.Bool.Decides.{Decides-int_eq}
 use Rattle.std.proofs.lemmas.Slice.Eq.{starts_is}
-use Rattle.tune_queries.proofs.sought.begins_with_steps.Goals as goal
+use Rattle.tune_incipit.proofs.incipit_keys.finds_steps.Goals as goal
 
 pub returns : goal.returns
 returns c =
-    let front = c.args.front.now in
+    let front = c.args.front.now.steps in
     let whole = c.steps.result in
     let is = starts_is Decides-int_eq whole front (starts_with int_eq whole front) refl in
     let same : c.begins.result ≡ starts_with int_eq whole front =

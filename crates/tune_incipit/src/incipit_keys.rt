@@ -1,0 +1,134 @@
+// Incipits as keys. But for the last lines all of it is for any width and any number of notes.
+ghost use Rattle.std.specs.Prelude.{◌≡◌, ◌+◌, ◌*◌, ◌<◌, ◌≤◌, ◌++◌, length, take, IfOk};
+ghost use Rattle.index_keys.specs.Cuts.{cut_number};
+ghost use Rattle.tune_incipit.specs.Incipits.{incipit_of, tune_notes, finds_steps};
+ghost use Rattle.tune_incipit.specs.Limits.{fewest_notes, most_notes};
+ghost use Rattle.tune_incipit.specs.SearchKeys.{step_bytes, bytes_of_steps, incipit_keys_of};
+ghost use Rattle.tune_incipit.specs.SearchKeys.{incipit_keys};
+
+use crate::incipits::{begins, steps};
+use crate::some_steps::SomeSteps;
+use crate::step_lists::{MOST_STEPS, Steps};
+use abc_fields::TuneText;
+use index_keys::{IndexKey, Keyed};
+use std::alloc::{AllocError, Global};
+
+/// Tunes by the steps between their first eight notes that count: each step and 2^31 in four bytes,
+/// the highest first, and zeros (this archive's profile). A tune without a step has no key.
+pub enum EightNoteKeys {}
+
+impl Keyed<32> for EightNoteKeys {
+    ghost use Rattle.std.specs.Prelude.{ℕ};
+    ghost use Rattle.index_keys.specs.Cuts.{cut_number};
+    ghost use Rattle.tune_incipit.specs.Incipits.{incipit_of, tune_notes, finds_steps};
+    ghost use Rattle.tune_incipit.specs.SearchKeys.{bytes_of_steps, incipit_keys};
+    ghost use Rattle.tune_incipit.specs.Inside.KeyLaws.{incipit_rises, incipit_found};
+
+    type Text = TuneText;
+
+    type Query = SomeSteps;
+
+    ghost keys_of = { incipit_keys 8 };
+
+    ghost low_of = { λ query. cut_number 32 0 (bytes_of_steps query.steps) };
+
+    ghost high_of = { λ query. cut_number 32 255 (bytes_of_steps query.steps) };
+
+    ghost matches = { λ query text. finds_steps 8 query.steps text };
+
+    fn keys(alloc: Global, text: &TuneText) -> Result<Vec<IndexKey<32>>, AllocError>
+        ensures { IfOk result (λ keys. keys.items ≡ incipit_keys 8 text.now) }
+    {
+        keys_of_notes(alloc, 8, text)
+    }
+
+    fn range(query: &SomeSteps) -> (IndexKey<32>, IndexKey<32>)
+        ensures low { result.0 ≡ cut_number 32 0 (bytes_of_steps query.now.steps) }
+        ensures high { result.1 ≡ cut_number 32 255 (bytes_of_steps query.now.steps) }
+    {
+        range_of_steps(query)
+    }
+
+    fn test(query: &SomeSteps, text: &TuneText) -> bool {
+        finds_steps(8, query, text)
+    }
+
+    ghost rise = { λ text. incipit_rises 32 (incipit_of 8 (tune_notes text)) };
+
+    ghost law = { λ query text is.
+        incipit_found 32 (incipit_of 8 (tune_notes text)) query.steps query.some is };
+}
+
+/// Whether the incipit of the tune, by its first `notes` notes that count, begins with these steps.
+pub fn finds_steps(notes: usize, front: &SomeSteps, text: &TuneText) -> bool
+    requires few { fewest_notes ≤ notes }
+    requires many { notes ≤ most_notes }
+    ensures { result ≡ finds_steps notes front.now.steps text.now }
+{
+    begins(&front.steps, &steps(text, notes))
+}
+
+// The keys of a tune by its first `notes` notes that count: one, but of no step there is none.
+fn keys_of_notes<const W: usize>(
+    alloc: Global,
+    notes: usize,
+    text: &TuneText,
+) -> Result<Vec<IndexKey<W>>, AllocError>
+    requires few { fewest_notes ≤ notes }
+    requires many { notes ≤ most_notes }
+    ensures { IfOk result (λ keys. keys.items
+        ≡ incipit_keys_of W (incipit_of notes (tune_notes text.now))) }
+{
+    let own = steps(text, notes);
+    let mut keys = Vec::new(alloc);
+    if !own.is_empty() {
+        keys.push(key_of_steps(&own, 0))?;
+    }
+    Ok(keys)
+}
+
+// The first and the last key of the incipits that begin with these steps.
+fn range_of_steps<const W: usize>(front: &SomeSteps) -> (IndexKey<W>, IndexKey<W>)
+    ensures low { result.0 ≡ cut_number W 0 (bytes_of_steps front.now.steps) }
+    ensures high { result.1 ≡ cut_number W 255 (bytes_of_steps front.now.steps) }
+{
+    let low = key_of_steps(&front.steps, 0);
+    let high = key_of_steps(&front.steps, 255);
+    (low, high)
+}
+
+// The bytes of one step.
+const STEP_BYTES: usize = 4;
+
+// How many bytes the most steps have.
+const MOST_BYTES: usize = STEP_BYTES * MOST_STEPS;
+
+// The key cut from the bytes of these steps and filled up with one byte.
+fn key_of_steps<const W: usize>(steps: &Steps, fill: u8) -> IndexKey<W>
+    ensures { result ≡ cut_number W fill (bytes_of_steps steps.now) }
+{
+    let mut bytes = [0; MOST_BYTES];
+    let all = steps.as_slice();
+    for (place, step) in all.iter().enumerate() {
+        put_step(&mut bytes, place, *step);
+    }
+    IndexKey::cut(&bytes[..STEP_BYTES * all.len()], fill)
+}
+
+// Puts the bytes of a step behind those of the steps before it.
+fn put_step(bytes: &mut [u8], place: usize, step: i32)
+    requires { 4 * place + 4 ≤ length bytes.old }
+    ensures put { take (4 * place + 4) bytes.new ≡ take (4 * place) bytes.old ++ step_bytes step }
+    ensures length { length bytes.new ≡ length bytes.old }
+{
+    let from = STEP_BYTES * place;
+    bytes[from..from + STEP_BYTES].copy_from_slice(&step_bytes(step));
+}
+
+// A step and 2^31, the highest byte first.
+fn step_bytes(step: i32) -> [u8; STEP_BYTES]
+    ensures { result ≡ step_bytes step }
+{
+    let raised = i64::from(step) + 2_147_483_648;
+    (raised as u32).to_be_bytes()
+}

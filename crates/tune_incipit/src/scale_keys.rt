@@ -1,0 +1,113 @@
+// Scales as keys.
+ghost use Rattle.std.specs.Prelude.{◌≡◌, ◌∷◌, [], IfOk};
+ghost use Rattle.tune_incipit.specs.SearchKeys.{scale_code, scale_key, scale_keys};
+ghost use Rattle.tune_incipit.specs.SearchKeys.{tonic_code, sign_code, mode_code};
+
+use crate::scales::is_in_scale;
+use abc_fields::{TuneText, fields};
+use abc_keys::{Letter, Mode, Scale, Sign, key_of};
+use index_keys::{IndexKey, Keyed};
+use std::alloc::{AllocError, Global};
+
+/// Tunes by their scales: the key has the tonic's letter; `b`, a space or `#`; and the digit of the
+/// mode, from `0` for major to `6` for Locrian (this archive's profile). A tune without a scale has
+/// no key.
+pub enum ScaleKeys {}
+
+impl Keyed<32> for ScaleKeys {
+    ghost use Rattle.tune_incipit.specs.Scales.{finds_scale};
+    ghost use Rattle.tune_incipit.specs.SearchKeys.{scale_key, scale_keys};
+    ghost use Rattle.tune_incipit.specs.Inside.KeyLaws.{scales_rise, scale_found};
+
+    type Text = TuneText;
+
+    type Query = Scale;
+
+    ghost keys_of = { scale_keys };
+
+    ghost low_of = { scale_key };
+
+    ghost high_of = { scale_key };
+
+    ghost matches = { finds_scale };
+
+    fn keys(alloc: Global, text: &TuneText) -> Result<Vec<IndexKey<32>>, AllocError>
+        ensures { IfOk result (λ keys. keys.items ≡ scale_keys text.now) }
+    {
+        let mut keys = Vec::new(alloc);
+        if let Some(scale) = key_of(fields(text).key).scale() {
+            keys.push(scale_key(&scale))?;
+        }
+        Ok(keys)
+    }
+
+    fn range(query: &Scale) -> (IndexKey<32>, IndexKey<32>)
+        ensures low { result.0 ≡ scale_key query.now }
+        ensures high { result.1 ≡ scale_key query.now }
+    {
+        (scale_key(query), scale_key(query))
+    }
+
+    fn test(query: &Scale, text: &TuneText) -> bool {
+        is_in_scale(query, text)
+    }
+
+    ghost rise = { λ text. scales_rise text };
+
+    ghost law = { λ query text is. scale_found query text is };
+}
+
+// The key of a scale.
+fn scale_key(scale: &Scale) -> IndexKey<32>
+    ensures { result ≡ scale_key scale.now }
+{
+    IndexKey::cut(&scale_code(scale), 0)
+}
+
+fn scale_code(scale: &Scale) -> [u8; 3]
+    ensures { result ≡ scale_code scale.now }
+{
+    [
+        tonic_code(scale.tonic),
+        sign_code(scale.sign),
+        mode_code(scale.mode),
+    ]
+}
+
+fn tonic_code(tonic: Letter) -> u8
+    ensures { result ∷ [] ≡ tonic_code tonic }
+{
+    match tonic {
+        Letter::C => b'C',
+        Letter::D => b'D',
+        Letter::E => b'E',
+        Letter::F => b'F',
+        Letter::G => b'G',
+        Letter::A => b'A',
+        Letter::B => b'B',
+    }
+}
+
+fn sign_code(sign: Sign) -> u8
+    ensures { result ∷ [] ≡ sign_code sign }
+{
+    match sign {
+        Sign::Flat => b'b',
+        Sign::Natural => b' ',
+        Sign::Sharp => b'#',
+    }
+}
+
+fn mode_code(mode: Mode) -> u8
+    ensures { result ∷ [] ≡ mode_code mode }
+{
+    match mode {
+        Mode::Major => b'0',
+        Mode::Dorian => b'1',
+        Mode::Phrygian => b'2',
+        Mode::Lydian => b'3',
+        Mode::Mixolydian => b'4',
+        Mode::Minor => b'5',
+        Mode::Locrian => b'6',
+    }
+}
