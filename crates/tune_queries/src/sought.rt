@@ -15,7 +15,7 @@ use abc_keys::{Scale, key_of};
 use index_keys::Keyed;
 use thiserror::Error;
 use tune_incipit::{ScaleKeys, SomeSteps, finds_steps, query_steps};
-use tune_titles::{TitlePrefix, rhythm_matches};
+use tune_titles::{RhythmKeys, TitleKeys, TitlePrefix};
 
 /// Why a query is refused: it asks for nothing. That is a title of spaces and tabs alone, a rhythm
 /// without a byte, a key text that says no scale of the table, or notes of which fewer than two
@@ -46,8 +46,8 @@ impl Sought<'_> {
         ensures { result ≡ finds notes self.now text.now }
     {
         match self {
-            Sought::Title(prefix) => prefix.matches_tune(text),
-            Sought::Rhythm(query) => rhythm_matches(query, text),
+            Sought::Title(prefix) => TitleKeys::test(prefix, text),
+            Sought::Rhythm(query) => RhythmKeys::test(query, text),
             Sought::Key(scale) => ScaleKeys::test(scale, text),
             Sought::Notes(front) => finds_steps(notes, front, text),
         }

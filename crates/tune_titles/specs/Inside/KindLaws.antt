@@ -10,7 +10,8 @@ use Rattle.abc_fields.specs.Fields.{titles_of, rhythm_of}
 use Rattle.index_keys.specs.Cuts.{cut_number, LiesWithin}
 use Rattle.index_keys.specs.Keys.{HasKeyWithin, KeysRise}
 use Rattle.index_keys.specs.Inside.CutLaw.{cut_within}
-use Rattle.index_keys.specs.Inside.KeyOrder.{contains_first, contains_later, keys_rise, rising_has}
+use Rattle.index_keys.specs.Inside.KeyOrder.{keys_rise, rising_has}
+use Rattle.index_keys.specs.Inside.Members.{contains_first, contains_later}
 use Rattle.tune_titles.specs.Articles.{small_letters}
 use Rattle.tune_titles.specs.SearchKeys.{title_keys, rhythm_keys, rhythm_keys_of}
 use Rattle.tune_titles.specs.Titles.{sorting_title, same_rhythm, finds_title, finds_rhythm}
