@@ -56,7 +56,10 @@ fn steps_of_query(count: &[u8], query: &[u8]) -> io::Result<Option<Steps>> {
     if query.len() > 4_000_000 {
         return Err(unreadable());
     }
-    Ok(query_steps(query, notes).ok())
+    match query_steps(query, notes) {
+        Ok(front) => Ok(Some(front.steps)),
+        Err(_) => Ok(None),
+    }
 }
 
 fn steps_of_front(alloc: Global, text: &[u8]) -> io::Result<Steps> {

@@ -20,6 +20,7 @@ mod notes;
 mod order;
 mod queries;
 mod titles;
+mod tune_keys;
 mod tunes;
 
 use cases::{Case, shown};
@@ -29,9 +30,18 @@ use std::io::Write;
 use std::process::ExitCode;
 use std::{fs, io};
 
-const FILES: [&str; 10] = [
-    "fields", "keys", "letters", "items", "notes", "tunes", "incipits", "titles", "order",
+const FILES: [&str; 11] = [
+    "fields",
+    "keys",
+    "letters",
+    "items",
+    "notes",
+    "tunes",
+    "incipits",
+    "titles",
+    "order",
     "queries",
+    "tune_keys",
 ];
 
 /// How many cases there were, and how many of them came out as written.
@@ -103,6 +113,7 @@ fn answer(alloc: Global, file: &str, case: &Case, out: &mut Vec<u8>) -> io::Resu
         "titles" => titles::answer(alloc, case, out),
         "order" => order::answer(alloc, case, out),
         "queries" => queries::answer(alloc, case, out),
+        "tune_keys" => tune_keys::answer(alloc, case, out),
         _ => Err(cases::unreadable()),
     }
 }

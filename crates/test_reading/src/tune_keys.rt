@@ -1,0 +1,80 @@
+// The keys at which tunes stand in an index, and the ranges in which queries look for them, in
+// hexadecimal (this archive's profile).
+//
+// - `scale`, a tune: the key of its scale.
+// - `incipit`, a tune: the key of its first eight notes that count.
+// - `scale-range`, a key text: the first and the last key of its scale.
+// - `incipit-range`, a query: the first and the last key of the incipits that begin with it.
+use crate::cases::{Case, tunes_of, unreadable};
+use abc_fields::TuneText;
+use abc_keys::key_of;
+use index_keys::{IndexKey, Keyed};
+use std::alloc::Global;
+use std::io;
+use std::io::Write;
+use tune_incipit::{EightNoteKeys, ScaleKeys, query_steps};
+
+pub(crate) fn answer(alloc: Global, case: &Case, out: &mut Vec<u8>) -> io::Result<()> {
+    match case.call {
+        "scale" => write_keys::<ScaleKeys>(alloc, case.text(0), out),
+        "incipit" => write_keys::<EightNoteKeys>(alloc, case.text(0), out),
+        "scale-range" => match key_of(case.text(0)).scale() {
+            Some(scale) => write_range(&ScaleKeys::range(&scale), out),
+            None => Err(unreadable()),
+        },
+        "incipit-range" => write_incipit_range(case.text(0), out),
+        _ => Err(unreadable()),
+    }
+}
+
+fn write_incipit_range(query: &[u8], out: &mut Vec<u8>) -> io::Result<()> {
+    if query.len() > 4_000_000 {
+        return Err(unreadable());
+    }
+    match query_steps(query, 8) {
+        Ok(front) => write_range(&EightNoteKeys::range(&front), out),
+        Err(_) => out.write_all(b"refused"),
+    }
+}
+
+// The keys of a tune, a line for each.
+fn write_keys<K: Keyed<32, Text = TuneText>>(
+    alloc: Global,
+    book: &[u8],
+    out: &mut Vec<u8>,
+) -> io::Result<()> {
+    match tunes_of(alloc, book).as_slice() {
+        [tune] => {
+            let keys = K::keys(alloc, tune)?;
+            if keys.as_slice().is_empty() {
+                out.write_all(b"no key")?;
+            }
+            write_all_keys(keys.as_slice(), out)
+        }
+        _ => Err(unreadable()),
+    }
+}
+
+fn write_all_keys(keys: &[IndexKey<32>], out: &mut Vec<u8>) -> io::Result<()> {
+    for key in keys {
+        if !out.is_empty() {
+            out.write_all(b"\n")?;
+        }
+        write_key(key, out)?;
+    }
+    Ok(())
+}
+
+fn write_range(range: &(IndexKey<32>, IndexKey<32>), out: &mut Vec<u8>) -> io::Result<()> {
+    let (low, high) = range;
+    write_key(low, out)?;
+    out.write_all(b" ")?;
+    write_key(high, out)
+}
+
+fn write_key(key: &IndexKey<32>, out: &mut Vec<u8>) -> io::Result<()> {
+    for byte in key.bytes() {
+        write!(out, "{byte:02x}")?;
+    }
+    Ok(())
+}
