@@ -16,3 +16,4 @@ pub mod Found
 pub mod Balances
 pub mod Beside
 pub mod Shares
+pub mod Within
