@@ -1,10 +1,8 @@
 -- An index that a call changed: its list of leaves, and what calls of the pages say of one page.
-use Rattle.std.proofs.Common.{◌≡◌, ℕ, ◌+◌, ◌<◌, ◌≤◌, List, [], ◌∷◌, Bool, length, refl, sym, ◌∙◌, ap, subst, arith}
+use Rattle.std.proofs.Common.{◌≡◌, ℕ, ◌<◌, ◌≤◌, length, refl, sym, ◌∙◌, subst}
 use Rattle.tune_pages.specs.Stand.{Stand, IsLeastFree, taken, without_page}
 use Rattle.tune_pages.specs.Frame.{Allocates, Frees}
 use Rattle.tune_pages.proofs.Frames.{taken_allocates, without_frees}
-use Rattle.std.proofs.Common.{inl, inr}
-use Rattle.std.proofs.lemmas.Bool.{cases_lt}
 use Rattle.tune_index.specs.Indexes.{KeepsList, Shape}
 
 -- WHAT A CALL DID TO ONE PAGE

@@ -1,6 +1,6 @@
 -- One leaf is replaced: what the pages of an index stand for then.
-use Rattle.std.proofs.Common.{◌≡◌, ◌≢◌, ℕ, zero, suc, ◌<◌, ◌≤◌, List, [], ◌∷◌, ◌++◌, length, slice_index, refl, sym, ap, ◌∙◌, arith}
-use Rattle.std.proofs.Common.{length-append, inl, inr, subst}
+use Rattle.std.proofs.Common.{◌≡◌, ◌≢◌, ℕ, zero, suc, ◌<◌, ◌≤◌, List, [], ◌∷◌, length, slice_index, refl, sym, ap, ◌∙◌, arith}
+use Rattle.std.proofs.Common.{length-append, inl, inr}
 use Rattle.std.proofs.lemmas.Bool.{cases_eq, cases_lt}
 use Rattle.tune_pages.specs.Stand.{Stand}
 use Rattle.tune_pages.specs.Frame.{mark_at, image_at, InUse, Puts, OthersKept}

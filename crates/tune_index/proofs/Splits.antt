@@ -1,7 +1,6 @@
 -- A leaf is split: a page more in the list.
-use Rattle.std.proofs.Common.{◌≡◌, ◌≢◌, ℕ, zero, suc, ◌+◌, ◌<◌, List, [], ◌∷◌, ◌++◌, length, take, drop, slice_index, refl, sym, ap, ◌∙◌, arith, append_assoc}
+use Rattle.std.proofs.Common.{◌≡◌, ℕ, ◌+◌, List, [], ◌∷◌, ◌++◌, refl, sym, ap, ◌∙◌, append_assoc}
 use Rattle.std.proofs.Common.{subst}
-use Rattle.std.specs.List.{insert}
 use Rattle.tune_pages.specs.Stand.{Stand}
 use Rattle.tune_pages.specs.Frame.{image_at}
 use Rattle.index_keys.specs.Entries.{Entry, rank, RisesFrom}

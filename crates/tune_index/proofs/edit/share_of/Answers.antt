@@ -1,4 +1,3 @@
-use Rattle.std.proofs.Common.{ℕ, ◌*◌, ◌≤◌}
 use Rattle.tune_index.proofs.Shares.{covers, covers_more, covers_some, turned}
 use Rattle.tune_index.proofs.edit.share_of.Goals as goal
 

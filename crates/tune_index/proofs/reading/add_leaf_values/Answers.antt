@@ -1,5 +1,4 @@
-use Rattle.std.proofs.Common.{◌≡◌, ℕ, List, slice_index, rules, sym, ap, ◌∙◌, subst}
-use Rattle.std.proofs.lemmas.List.{append-nil}
+use Rattle.std.proofs.Common.{◌≡◌, ℕ, slice_index, rules, sym, ap, subst}
 use Rattle.tune_pages.specs.Frame.{InUse, image_at}
 use Rattle.tune_pages.specs.Work.{stand}
 use Rattle.tune_index.specs.Indexes.{Shape}

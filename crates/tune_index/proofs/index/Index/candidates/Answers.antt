@@ -47,7 +47,8 @@ loop-place-init g c = record {
       let from = subst (λ (x : List Entry). (c.leaf_for-start.result ≡ 0) ⊎ (rank (slice_entry x c.leaf_for-start.result) ≤ rank (c.args.low.now, 0))) is.heads
       (c.leaf_for-start.ensures.belongs heads).from in
       let empty : c.new-values.result.items ≡ [] = search rules in
-      empty ∙ sym (none_before g.row.W c.args.low.now c.args.high.now 0 c.leaf_for-start.result s c.args.self.now.pages is.form is.rising c.leaf_for-start.ensures.place from);
+      empty ∙ sym (none_before g.row.W c.args.low.now c.args.high.now 0 c.leaf_for-start.result s c.args.self.now.pages is.form is.rising
+      c.leaf_for-start.ensures.place from);
 }
 
 pub loop-place-preserved : goal.loop-place-preserved
