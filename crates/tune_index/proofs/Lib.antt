@@ -15,3 +15,4 @@ pub mod EachPage
 pub mod Balances
 pub mod Beside
 pub mod Shares
+pub mod Within

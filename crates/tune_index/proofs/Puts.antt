@@ -1,14 +1,12 @@
 -- One leaf is replaced: what the pages of an index stand for then.
-use Rattle.std.proofs.Common.{◌≡◌, ◌≢◌, ℕ, zero, suc, ◌<◌, ◌≤◌, List, [], ◌∷◌, ◌++◌, length, slice_index, refl, sym, ap, ◌∙◌, arith}
-use Rattle.std.proofs.Common.{length-append, inl, inr, subst}
+use Rattle.std.proofs.Common.{◌≡◌, ◌≢◌, ℕ, zero, suc, ◌<◌, ◌≤◌, List, [], ◌∷◌, length, slice_index, refl, sym, ap, ◌∙◌, arith}
+use Rattle.std.proofs.Common.{length-append, inl, inr}
 use Rattle.std.proofs.lemmas.Bool.{cases_eq}
 use Rattle.tune_pages.specs.Stand.{Stand}
 use Rattle.tune_pages.specs.Frame.{mark_at, image_at, InUse, Puts, OthersKept}
-use Rattle.index_keys.specs.Entries.{Entry, rank}
 use Rattle.tune_index.specs.Indexes.{entries_of, heads_of, AllLeaves}
 use Rattle.tune_index.specs.Inside.EachPage.{HasEachPage}
-use Rattle.tune_index.specs.Leaves.{slice_entry, leaf_in, IsLeaf}
-use Rattle.tune_index.proofs.Lists.{BeginsAfter}
+use Rattle.tune_index.specs.Leaves.{leaf_in, IsLeaf}
 use Rattle.tune_index.proofs.Ranges.{leaf_begun}
 
 -- another page of the list is not the one at the place
@@ -53,18 +51,6 @@ form_at width all (q ∷ qs) (suc i) f l = form_at width all qs i f.1 (omega ari
 pub length-heads_of : (width : ℕ) (all : Stand) (pages : List ℕ) → length (heads_of width all pages) ≡ length pages
 length-heads_of width all [] = refl
 length-heads_of width all (q ∷ qs) = let e = length-heads_of width all qs in omega arith
-
--- what follows a place begins after an entry
-begins : (width r : ℕ) (all : Stand) (pages : List ℕ) → AllLeaves width all pages → (0 < length pages → r < rank (slice_entry (heads_of width all pages) 0))
-    → BeginsAfter r (entries_of width all pages)
-begins width r all [] f h = tt
-begins width r all (q ∷ qs) f h =
-    let b = leaf_begun width (image_at all q) f.0 in
-    let k : slice_entry (leaf_in width (image_at all q)) 0 ≡ b.head = ap (λ (x : List Entry). slice_entry x 0) b.is in
-    let m : r < rank b.head = rw k at (h (omega arith)) in
-    let s : leaf_in width (image_at all q) ++ entries_of width all qs ≡ b.head ∷ (b.rest ++ entries_of width all qs) =
-    ap (λ (x : List Entry). x ++ entries_of width all qs) b.is in
-    subst (λ (x : List Entry). BeginsAfter r x) (sym s) m
 
 -- no more leaves than entries
 pub leaves_within : (width : ℕ) (all : Stand) (pages : List ℕ) → AllLeaves width all pages → length pages ≤ length (entries_of width all pages)

@@ -1,17 +1,16 @@
 -- The values of the entries in a range of keys.
 use Rattle.std.proofs.Common.{◌≡◌, ℕ, zero, suc, ◌+◌, ◌<◌, ◌≤◌, List, [], ◌∷◌, ◌++◌, length, take, drop, get_or, slice_index, refl, sym, ap, ◌∙◌, arith}
-use Rattle.std.proofs.Common.{append_assoc, inl, inr, subst}
+use Rattle.std.proofs.Common.{append_assoc, inl, inr}
 use Rattle.std.proofs.lemmas.Bool.{cases_lt}
 use Rattle.std.proofs.lemmas.Bool.Decides.{nat_tests}
 use Rattle.std.proofs.lemmas.List.{take_more, append-nil, get_or_default}
 use Rattle.tune_pages.specs.Stand.{Stand}
 use Rattle.tune_pages.specs.Frame.{image_at, InUse}
 use Rattle.index_keys.specs.Entries.{Entry, rank, RisesFrom, values_within, AllFit}
-use Rattle.index_keys.proofs.RisingEntries.{rises_back, rises_front, rises_middle}
-use Rattle.tune_index.specs.Indexes.{entries_of, heads_of, AllLeaves}
+use Rattle.index_keys.proofs.RisingEntries.{rises_middle}
+use Rattle.tune_index.specs.Indexes.{entries_of}
 use Rattle.tune_index.specs.Inside.EachPage.{HasEachPage}
-use Rattle.tune_index.specs.Inside.Places.{IsSkipped}
-use Rattle.tune_index.specs.Leaves.{slice_entry, IsLeaf, leaf_in, entries_in, entry_in, count_in}
+use Rattle.tune_index.specs.Leaves.{IsLeaf, leaf_in, entries_in, entry_in, count_in}
 
 -- the first entry in the range, and out of it
 within_first : (low high : ℕ) (e : Entry) (es : List Entry) → low ≤ e.0 → e.0 ≤ high → values_within low high (e ∷ es) ≡ e.1 ∷ values_within low high es
@@ -24,7 +23,7 @@ above_first : (low high : ℕ) (e : Entry) (es : List Entry) → high < e.0 → 
 above_first low high e es a = grind (arith, nat_tests)
 
 -- of two lists
-values_within-append : (low high : ℕ) (xs ys : List Entry) → values_within low high (xs ++ ys) ≡ values_within low high xs ++ values_within low high ys
+pub values_within-append : (low high : ℕ) (xs ys : List Entry) → values_within low high (xs ++ ys) ≡ values_within low high xs ++ values_within low high ys
 values_within-append low high [] ys = refl
 values_within-append low high (x ∷ xs) ys = elim (cases_lt x.0 low) [
   | inl below ↦ below_first low high x (xs ++ ys) below ∙ values_within-append low high xs ys
@@ -38,7 +37,7 @@ values_within-append low high (x ∷ xs) ys = elim (cases_lt x.0 low) [
 ]
 
 -- what stands before an entry that is not past the range's begin has no entry of the range
-none_below : (low high place : ℕ) (xs : List Entry) (y : Entry) (ys : List Entry) → RisesFrom place (xs ++ y ∷ ys) → rank y ≤ rank (low, 0)
+pub none_below : (low high place : ℕ) (xs : List Entry) (y : Entry) (ys : List Entry) → RisesFrom place (xs ++ y ∷ ys) → rank y ≤ rank (low, 0)
     → values_within low high xs ≡ []
 none_below low high place [] y ys r l = refl
 none_below low high place (x ∷ xs) y ys r l =
@@ -46,7 +45,7 @@ none_below low high place (x ∷ xs) y ys r l =
     below_first low high x xs (omega (arith, m, l)) ∙ none_below low high (rank x + 1) xs y ys r.1 l
 
 -- what rises from past the range's end has none
-none_above : (width low high place : ℕ) (xs : List Entry) → AllFit width xs → RisesFrom place xs → rank (high + 1, 0) ≤ place
+pub none_above : (width low high place : ℕ) (xs : List Entry) → AllFit width xs → RisesFrom place xs → rank (high + 1, 0) ≤ place
     → values_within low high xs ≡ []
 none_above width low high place [] f r l = refl
 none_above width low high place (x ∷ xs) f r l =
@@ -72,51 +71,9 @@ fit_front : (width : ℕ) (xs ys : List Entry) → AllFit width (xs ++ ys) → A
 fit_front width [] ys h = tt
 fit_front width (x ∷ xs) ys h = (h.0, fit_front width xs ys h.1)
 
-fit_back : (width : ℕ) (xs ys : List Entry) → AllFit width (xs ++ ys) → AllFit width ys
+pub fit_back : (width : ℕ) (xs ys : List Entry) → AllFit width (xs ++ ys) → AllFit width ys
 fit_back width [] ys h = h
 fit_back width (x ∷ xs) ys h = fit_back width xs ys h.1
-
--- a leaf that is skipped has no entry of the range: by what begins it, and by what begins the next one
-past_high : (width low high place : ℕ) (leaf : List Entry) (b : Begun leaf) → AllFit width leaf → RisesFrom place leaf → rank (high, 0) < rank (b.head.0, 0)
-    → values_within low high leaf ≡ []
-past_high width low high place leaf b fit up l =
-    let f : AllFit width (b.head ∷ b.rest) = rw b.is at fit in
-    let r : RisesFrom place (b.head ∷ b.rest) = rw b.is at up in
-    ap (values_within low high) b.is ∙ none_above width low high (rank b.head) (b.head ∷ b.rest) f (omega arith, r.1) (omega (arith, l))
-
-before_low : (low high place : ℕ) (leaf next rest : List Entry) (b : Begun next) → RisesFrom place (leaf ++ (next ++ rest)) → rank b.head ≤ rank (low, 0)
-    → values_within low high leaf ≡ []
-before_low low high place leaf next rest b up l =
-    let r : RisesFrom place (leaf ++ (b.head ∷ (b.rest ++ rest))) = rw b.is at up in
-    none_below low high place leaf b.head (b.rest ++ rest) r l
-
-skip_tail : (low high : ℕ) (head : Entry) (heads : List Entry) (i : ℕ) → IsSkipped low high (head ∷ heads) (suc i) → IsSkipped low high heads i
-skip_tail low high head heads i (inl past) = inl past
-skip_tail low high head heads i (inr (n, h)) = let e : suc i + 1 ≡ suc (i + 1) = omega arith in
-    inr (omega (arith, n), subst (λ (k : ℕ). rank (slice_entry (head ∷ heads) k) ≤ rank (low, 0)) e h)
-
-pub skipped : (width low high place i : ℕ) (all : Stand) (pages : List ℕ) → AllLeaves width all pages → RisesFrom place (entries_of width all pages)
-    → AllFit width (entries_of width all pages)
-    → i < length pages → IsSkipped low high (heads_of width all pages) i → values_within low high (leaf_in width (image_at all (slice_index pages i))) ≡ []
-skipped width low high place i all [] form up fit l skip = absurd (omega arith)
-skipped width low high place zero all (page ∷ pages) form up fit l (inl past) =
-    let leaf = leaf_in width (image_at all page) in
-    let b = leaf_begun width (image_at all page) form.0 in
-    let h : slice_entry leaf 0 ≡ b.head = ap (λ (x : List Entry). slice_entry x 0) b.is in
-    let k : rank (high, 0) < rank (b.head.0, 0) = rw h at past in
-    past_high width low high place leaf b (fit_front width leaf (entries_of width all pages) fit) (rises_front place leaf (entries_of width all pages) up) k
-skipped width low high place zero all (page ∷ []) form up fit l (inr (n, h)) = absurd (omega (arith, n))
-skipped width low high place zero all (page ∷ next ∷ pages) form up fit l (inr (n, h)) =
-    let leaf = leaf_in width (image_at all page) in
-    let more = leaf_in width (image_at all next) in
-    let b = leaf_begun width (image_at all next) form.1.0 in
-    let e : slice_entry more 0 ≡ b.head = ap (λ (x : List Entry). slice_entry x 0) b.is in
-    let k : rank b.head ≤ rank (low, 0) = rw e at h in
-    before_low low high place leaf more (entries_of width all pages) b up k
-skipped width low high place (suc i) all (page ∷ pages) form up fit l skip =
-    skipped width low high place i all pages form.1 (rises_back place (leaf_in width (image_at all page)) (entries_of width all pages) up)
-    (fit_back width (leaf_in width (image_at all page)) (entries_of width all pages) fit) (omega arith)
-    (skip_tail low high (slice_entry (leaf_in width (image_at all page)) 0) (heads_of width all pages) i skip)
 
 -- the pages taken so far, and one more
 pub entries_of-push : (width : ℕ) (all : Stand) (pages : List ℕ) (page : ℕ)

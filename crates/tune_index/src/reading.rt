@@ -1,17 +1,16 @@
 // What is looked for in an index, and leaves as they are read.
-ghost use Rattle.std.specs.Prelude.{◌≡◌, ◌≤◌, ◌<◌, ◌+◌, ◌++◌, length, IfOk, OnOk, false};
+ghost use Rattle.std.specs.Prelude.{◌≡◌, ◌↔◌, ◌≤◌, ◌<◌, ◌++◌, length, IfOk, IsTrue, OnOk, false};
 ghost use Rattle.std.specs.Prelude.{slice_index};
 ghost use Rattle.tune_pages.specs.Faults.{AnswersRead};
 ghost use Rattle.tune_pages.specs.Frame.{InUse, image_at};
 ghost use Rattle.tune_pages.specs.Kept.{HonestAt};
 ghost use Rattle.tune_pages.specs.Reading.{LooksAt, SameStand};
 ghost use Rattle.tune_pages.specs.Work.{stand, Fits};
-ghost use Rattle.index_keys.specs.Entries.{AllFit, values_within};
+ghost use Rattle.index_keys.specs.Entries.{AllFit, rank, values_within};
 ghost use Rattle.tune_index.specs.Indexes.{HasPages, IsIndex, entries_of};
-ghost use Rattle.tune_index.specs.Inside.Places.{IsSkipped};
-ghost use Rattle.tune_index.specs.Leaves.{IsLeaf, capacity, leaf_in};
+ghost use Rattle.tune_index.specs.Leaves.{IsLeaf, capacity, leaf_in, slice_entry};
 
-use crate::index::Index;
+use crate::index::{Index, leaf_count, leaf_for};
 use crate::leaf::{Leaf, read_leaf};
 use index_keys::IndexKey;
 use std::alloc::{AllocError, Global};
@@ -58,28 +57,6 @@ pub(crate) fn read_page_leaf<D: Disk, const W: usize>(
     }
 }
 
-// Whether a leaf may hold an entry of the range, by the entries that begin it and the next one.
-fn may_hold<const W: usize>(
-    heads: &[(IndexKey<W>, u32)],
-    place: usize,
-    low: &IndexKey<W>,
-    high: &IndexKey<W>,
-) -> bool
-    requires { place < length heads.now }
-    ensures { result ≡ false → IsSkipped low.now high.now heads.now place }
-{
-    let head = &heads[place];
-    if high.is_before(0, &head.0, 0) {
-        return false;
-    }
-    if place + 1 < heads.len() {
-        let next = &heads[place + 1];
-        low.is_before(0, &next.0, next.1)
-    } else {
-        true
-    }
-}
-
 // The values of the entries of a leaf that are in the range go to the end of the list.
 fn add_values<const W: usize>(
     leaf: &[(IndexKey<W>, u32)],
@@ -100,8 +77,18 @@ fn add_values<const W: usize>(
     Ok(())
 }
 
-// The values of the entries of one leaf that are in the range go to the end of the list. A leaf
-// that has none is not read, where the entries that begin it and the next one tell.
+// Whether a leaf begins above the range.
+fn begins_above<const W: usize>(index: &Index<W>, place: usize, high: &IndexKey<W>) -> bool
+    requires { place < length index.now.pages }
+    ensures { IsTrue result
+        ↔ (rank (high.now, 0) < rank ((slice_entry index.now.heads place).0, 0)) }
+{
+    let _leaves = leaf_count(index);
+    let head = &index.heads[place];
+    high.is_before(0, &head.0, 0)
+}
+
+// The values of the entries of one leaf that are in the range go to the end of the list.
 fn add_leaf_values<D: Disk, const W: usize>(
     alloc: Global,
     pages: &mut Pages<D>,
@@ -129,9 +116,6 @@ fn add_leaf_values<D: Disk, const W: usize>(
     ensures answer { AnswersRead result pages.old.closed pages.new.closed }
 {
     let page = index.pages[place];
-    if !may_hold(&index.heads, place, low, high) {
-        return Ok(());
-    }
     let leaf = match read_page_leaf(alloc, pages, work, page) {
         Ok(leaf) => leaf,
         Err(fault) => return Err(fault),
@@ -143,7 +127,8 @@ fn add_leaf_values<D: Disk, const W: usize>(
 }
 
 impl<const W: usize> Index<W> {
-    /// The values of the entries whose keys are from `low` to `high`, both included, in order.
+    /// The values of the entries whose keys are from `low` to `high`, both included, in order. Only
+    /// the leaves that may have some of them are read.
     ///
     /// # Errors
     ///
@@ -172,7 +157,15 @@ impl<const W: usize> Index<W> {
         ensures answer { AnswersRead result pages.old.closed pages.new.closed }
     {
         let mut values = Vec::new(alloc);
-        for place in 0..self.pages.len() {
+        let leaves = leaf_count(self);
+        if leaves == 0 {
+            return Ok(values);
+        }
+        let start = leaf_for(self, low, 0);
+        for place in start..leaves {
+            if begins_above(self, place, high) {
+                return Ok(values);
+            }
             match add_leaf_values(alloc, pages, work, self, place, low, high, &mut values) {
                 Ok(()) => {}
                 Err(fault) => return Err(fault),

@@ -21,10 +21,3 @@ AllBelow r (e ∷ es) = (rank e < r) × AllBelow r es
 pub record BelongsTo (e : Entry) (heads : List Entry) (place : ℕ) : Type 0 where
   pub from : (place ≡ 0) ⊎ (rank (slice_entry heads place) ≤ rank e)
   pub to : place + 1 < length heads → rank e < rank (slice_entry heads (place + 1))
-
--- The leaf at the place has no entry of the range: it begins above it, or the next one begins no
--- later than the range.
-abbrev pub IsSkipped : ℕ → ℕ → List Entry → ℕ → Type 0
-IsSkipped low high heads place =
-    (rank (high, 0) < rank ((slice_entry heads place).0, 0))
-    ⊎ ((place + 1 < length heads) × (rank (slice_entry heads (place + 1)) ≤ rank (low, 0)))

@@ -1,12 +1,14 @@
-use Rattle.std.proofs.Common.{◌≡◌, ℕ, ◌<◌, ◌++◌, List, length, slice_index, rules, sym, ap, ◌∙◌, subst}
+use Rattle.std.proofs.Common.{◌≡◌, ◌⊎◌, ℕ, ◌<◌, ◌≤◌, ◌++◌, List, [], drop, length, slice_index, rules, sym, ap, ◌∙◌, subst}
 use Rattle.tune_pages.specs.Frame.{image_at}
 use Rattle.tune_pages.specs.Stand.{Stand}
 use Rattle.tune_pages.specs.Work.{stand}
-use Rattle.tune_pages.proofs.Looking.{looked_more, stand_kept}
-use Rattle.index_keys.specs.Entries.{values_within}
-use Rattle.tune_index.specs.Indexes.{HasPages, IsIndex}
-use Rattle.tune_index.specs.Leaves.{leaf_in}
+use Rattle.tune_pages.proofs.Looking.{looked_more, looked_none, stand_kept}
+use Rattle.index_keys.specs.Entries.{Entry, IsRising, rank, values_within}
+use Rattle.tune_index.specs.Indexes.{HasPages, IsIndex, entries_of}
+use Rattle.tune_index.specs.Leaves.{leaf_in, slice_entry}
 use Rattle.tune_index.proofs.Ranges.{values_more}
+use Rattle.tune_index.proofs.Splits.{heads_rise}
+use Rattle.tune_index.proofs.Within.{none_before, none_behind, values_until}
 use Rattle.tune_index.proofs.index.Index.candidates.Goals as goal
 
 pub add_leaf_values-requires : goal.add_leaf_values-requires
@@ -31,6 +33,23 @@ add_leaf_values-requires g c =
         ),
       ),
     )
+
+-- the leaves before the first one have no entry of the range
+pub loop-place-init : goal.loop-place-init
+loop-place-init g c = record {
+  looked = looked_none g.D.Disk.honest g.D.Disk.failures g.D.Disk.state c.args.pages.now c.requires.open;
+  fits = c.requires.fits;
+  so_far = λ h.
+      let s = stand c.args.pages.now c.args.work.now in
+      let is = c.requires.index h in
+      let heads : IsRising c.args.self.now.heads = subst (λ (x : List Entry). IsRising x) (sym is.heads)
+      (heads_rise g.row.W 0 s c.args.self.now.pages is.form is.rising) in
+      let from = subst (λ (x : List Entry). (c.leaf_for-start.result ≡ 0) ⊎ (rank (slice_entry x c.leaf_for-start.result) ≤ rank (c.args.low.now, 0))) is.heads
+      (c.leaf_for-start.ensures.belongs heads).from in
+      let empty : c.new-values.result.items ≡ [] = search rules in
+      empty ∙ sym (none_before g.row.W c.args.low.now c.args.high.now 0 c.leaf_for-start.result s c.args.self.now.pages is.form is.rising
+      c.leaf_for-start.ensures.place from);
+}
 
 pub loop-place-preserved : goal.loop-place-preserved
 loop-place-preserved g c =
@@ -57,3 +76,21 @@ loop-place-preserved g c =
 
 pub returns-clause-stand : goal.returns-clause-stand
 returns-clause-stand g c = stand_kept g.D.Disk.honest c.args.pages.now c.loop-place.pages c.args.work.now c.loop-place.invariant.looked.same
+
+pub returns-then-begins_above-clause-stand : goal.returns-then-begins_above-clause-stand
+returns-then-begins_above-clause-stand g c = stand_kept g.D.Disk.honest c.args.pages.now c.loop-place.pages c.args.work.now c.loop-place.invariant.looked.same
+
+pub returns-then-begins_above-clause-values : goal.returns-then-begins_above-clause-values
+returns-then-begins_above-clause-values g c = λ h.
+    let i = c.loop-place.invariant in
+    let W = g.row.W in
+    let low = c.args.low.now in
+    let high = c.args.high.now in
+    let place = c.loop-place.place in
+    let pages = c.args.self.now.pages in
+    let s = stand c.args.pages.now c.args.work.now in
+    let is = c.requires.index (i.looked.was_honest h) in
+    let n : place < length pages = search rules in
+    let past = subst (λ (x : List Entry). rank (high, 0) < rank ((slice_entry x place).0, 0)) is.heads (c.begins_above.ensures.0 c.if-begins_above.true) in
+    let none : values_within low high (entries_of W s (drop place pages)) ≡ [] = none_behind W low high 0 place s pages is.form is.rising is.fit n past in
+    i.so_far h ∙ sym (values_until W low high place s pages none)
