@@ -1,4 +1,6 @@
 // A disk that says nothing of itself, and keeps a list of its calls where it is asked to.
+ghost use Rattle.std.specs.Prelude.{◌≡◌};
+
 use std::alloc::Global;
 use tune_disk::{DeviceFault, Disk};
 
