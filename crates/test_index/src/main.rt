@@ -28,7 +28,8 @@
 //! has the calls go to it.
 //!
 //! `close` hands the disk back. The form of keys and entries is in `entries.rt`. The program prints
-//! a line for each case, and how many came out as written; where one did not, it ends with status 1.
+//! a line for each case, and how many came out as written; where one did not, it ends with status
+//! 1.
 #![tactic(auto)]
 
 mod calls;
