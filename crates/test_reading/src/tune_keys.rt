@@ -1,8 +1,11 @@
 // The keys at which tunes stand in an index, and the ranges in which queries look for them, in
 // hexadecimal (this archive's profile).
 //
+// - `title`, a tune: the keys of its titles.
+// - `rhythm`, a tune: the key of its rhythm.
 // - `scale`, a tune: the key of its scale.
 // - `incipit`, a tune: the key of its first eight notes that count.
+// - `title-range`, `rhythm-range`, a query: the first and the last key of what it finds.
 // - `scale-range`, a key text: the first and the last key of its scale.
 // - `incipit-range`, a query: the first and the last key of the incipits that begin with it.
 use crate::cases::{Case, tunes_of, unreadable};
@@ -13,11 +16,16 @@ use std::alloc::Global;
 use std::io;
 use std::io::Write;
 use tune_incipit::{EightNoteKeys, ScaleKeys, query_steps};
+use tune_titles::{RhythmKeys, TitleKeys, TitlePrefix};
 
 pub(crate) fn answer(alloc: Global, case: &Case, out: &mut Vec<u8>) -> io::Result<()> {
     match case.call {
+        "title" => write_keys::<TitleKeys>(alloc, case.text(0), out),
+        "rhythm" => write_keys::<RhythmKeys>(alloc, case.text(0), out),
         "scale" => write_keys::<ScaleKeys>(alloc, case.text(0), out),
         "incipit" => write_keys::<EightNoteKeys>(alloc, case.text(0), out),
+        "title-range" => write_range(&TitleKeys::range(&TitlePrefix::of(case.text(0))), out),
+        "rhythm-range" => write_range(&RhythmKeys::range(&case.text(0)), out),
         "scale-range" => match key_of(case.text(0)).scale() {
             Some(scale) => write_range(&ScaleKeys::range(&scale), out),
             None => Err(unreadable()),

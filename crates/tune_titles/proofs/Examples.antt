@@ -1,6 +1,8 @@
 -- Titles from outside, with what they are sorted by and shown as, computed by the definitions.
 use Rattle.std.proofs.Common.{◌≡◌, true, false, refl}
-use Rattle.std.specs.Prelude.{codes}
+use Rattle.std.specs.Prelude.{codes, [], ◌∷◌}
+use Rattle.index_keys.specs.Cuts.{cut_number}
+use Rattle.tune_titles.specs.SearchKeys.{title_keys, rhythm_keys}
 use Rattle.tune_titles.specs.Titles.{sorting_title, index_title, title_matches}
 
 -- an article alone is no article
@@ -45,3 +47,17 @@ same_end = refl
 
 other_article : title_matches (codes "the kesh") (codes "Kesh Jig, The") ≡ true
 other_article = refl
+
+-- the keys of two titles rise, and two titles that agree in 32 bytes have one key
+two_titles : title_keys (codes "T:The Kesh Jig\nT:Kesh, The\nK:G\n") ≡ cut_number 32 0 (codes "kesh") ∷ cut_number 32 0 (codes "kesh jig") ∷ []
+two_titles = refl
+
+one_key : title_keys (codes "T:Humours of Ballyconnell and the East\nT:Humours of Ballyconnell and the West\nK:G\n")
+    ≡ cut_number 32 0 (codes "humours of ballyconnell and the ") ∷ []
+one_key = refl
+
+rhythm_key : rhythm_keys (codes "R:Slip Jig\nK:G\n") ≡ cut_number 32 0 (codes "slip jig") ∷ []
+rhythm_key = refl
+
+no_rhythm : rhythm_keys (codes "K:G\n") ≡ []
+no_rhythm = refl
