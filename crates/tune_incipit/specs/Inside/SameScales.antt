@@ -14,7 +14,8 @@ use Rattle.abc_keys.specs.ScaleTable.{letter_number, sign_number, mode_number, s
 
 letter_at : ℕ → Letter
 letter_at n =
-    cond (eqb n 0) letter.C (cond (eqb n 1) letter.D (cond (eqb n 2) letter.E (cond (eqb n 3) letter.F
+    cond (eqb n 0) letter.C (cond (eqb n 1) letter.D (cond (eqb n 2) letter.E
+    (cond (eqb n 3) letter.F
     (cond (eqb n 4) letter.G (cond (eqb n 5) letter.A letter.B)))))
 
 letter_back : (a : Letter) → letter_at (letter_number a) ≡ a
@@ -54,10 +55,14 @@ mode_back Locrian = refl
 pub same_is : (a b : Scale) → same_scale a b ≡ true → a ≡ b
 same_is a b is =
     let parts = and_parts _ (eqb (mode_number a.mode) (mode_number b.mode)) is in
-    let first = and_parts (eqb (letter_number a.tonic) (letter_number b.tonic)) (eqb (sign_number a.sign) (sign_number b.sign)) parts.0 in
-    let tonic : a.tonic ≡ b.tonic = sym (letter_back a.tonic) ∙ ap letter_at (eqb-true _ _ first.0) ∙ letter_back b.tonic in
-    let sign : a.sign ≡ b.sign = sym (sign_back a.sign) ∙ ap sign_at (eqb-true _ _ first.1) ∙ sign_back b.sign in
-    let mode : a.mode ≡ b.mode = sym (mode_back a.mode) ∙ ap mode_at (eqb-true _ _ parts.1) ∙ mode_back b.mode in
+    let first = and_parts (eqb (letter_number a.tonic) (letter_number b.tonic))
+    (eqb (sign_number a.sign) (sign_number b.sign)) parts.0 in
+    let tonic : a.tonic ≡ b.tonic =
+    sym (letter_back a.tonic) ∙ ap letter_at (eqb-true _ _ first.0) ∙ letter_back b.tonic in
+    let sign : a.sign ≡ b.sign =
+    sym (sign_back a.sign) ∙ ap sign_at (eqb-true _ _ first.1) ∙ sign_back b.sign in
+    let mode : a.mode ≡ b.mode =
+    sym (mode_back a.mode) ∙ ap mode_at (eqb-true _ _ parts.1) ∙ mode_back b.mode in
     (λ i. record { tonic = tonic i; sign = sign i; mode = mode i })
 
 pub same_self : (a : Scale) → same_scale a a ≡ true
