@@ -62,11 +62,11 @@ impl<const W: usize> IndexKey<W> {
     pub fn cut_small(bytes: &[u8], fill: u8) -> Self
         ensures { result ≡ cut_number W fill (map to_ascii_lowercase bytes.now) }
     {
-        let mut key = [fill; W];
+        let mut small = [fill; W];
         let count = bytes.len().min(W);
-        key[..count].copy_from_slice(&bytes[..count]);
-        key[..count].make_ascii_lowercase();
-        IndexKey::new(key)
+        small[..count].copy_from_slice(&bytes[..count]);
+        small[..count].make_ascii_lowercase();
+        IndexKey::new(small)
     }
 
     /// The same key again.

@@ -1,0 +1,102 @@
+//! The program `test_index`: makes the calls that the files of `data/` write down, on an index in
+//! pages of a disk in memory, and compares what each answers with what is written beside it.
+//!
+//! A file has cases, between which an empty line stands; lines that begin with `#` are passed over.
+//! The first line of a case is `case NAME width WIDTH`, of keys of 4, 32 or 48 bytes; the others
+//! are calls, one a line, made in turn from a file without a byte and an index without an entry on.
+//! Behind a call stands ` = ANSWER`; a call without it answers `done`. A first line that ends in
+//! ` for FIRST to LAST` makes the case once for each of these numbers, which stands for each `@`.
+//!
+//! The calls of a disk, and what they take:
+//!
+//! - `failing CALL`: from then on the disk fails at this one call, counted from 0.
+//! - `lying CALL BYTE`: from this call on each read gives this byte alone, in two digits.
+//! - `make LIMIT`: pages, of which there may be so many. `open`: an opening.
+//!
+//! Those of an opening are `claim-page PAGE`, `load FIRST MOST ENTRIES`, which answers whether the
+//! index that is loaded has these entries, and `done LIMIT`, which gives the pages. `begin` begins
+//! a work on pages, and drops the one that was begun before.
+//!
+//! Those of a work are `allocate`, `put-leaf PAGE COUNT ENTRIES`, a leaf that somebody forged,
+//! `put-chain DIGITS`, `read-bytes PAGE FROM TO`, `in-use COUNT` (which of the first pages are in
+//! use: `+`, or else `-`), and `finish`.
+//!
+//! Those of the index are `insert ENTRIES` and `remove ENTRIES`, one after the other, `insert-all
+//! ENTRIES`, `candidates LOW HIGH`, which shows the values, and `store`. Where one is refused the
+//! work is dropped, and the index is one without an entry. `new` makes it so too. There is another
+//! index in hand: `copy` makes it a copy anew, `copy-from` in the memory that it has, and `swap`
+//! has the calls go to it.
+//!
+//! `close` hands the disk back. The form of keys and entries is in `entries.rt`. The program prints
+//! a line for each case, and how many came out as written; where one did not, it ends with status
+//! 1.
+#![tactic(auto)]
+
+mod calls;
+mod cases;
+mod disks;
+mod entries;
+mod held;
+mod indexes;
+mod openings;
+mod works;
+
+use cases::{Case, Outcome};
+use std::fs::Files;
+use std::process::ExitCode;
+use std::{fs, io};
+
+/// The files of cases.
+const FILES: [&str; 5] = ["entries", "lists", "damaged", "full", "faults"];
+
+/// How many cases there were, and how many of them came out as written.
+#[derive(Clone, Copy)]
+struct Count {
+    all: u32,
+    as_written: u32,
+}
+
+fn main(rt: HostRuntime) -> io::Result<ExitCode> {
+    let mut count = Count {
+        all: 0,
+        as_written: 0,
+    };
+    for name in FILES {
+        println!(&rt; "{name}")?;
+        let text = fs::read_to_string(&rt, name)?;
+        run_file(&rt, &text, &mut count)?;
+    }
+    let Count { all, as_written } = count;
+    println!(&rt; "{as_written} of {all} cases as written")?;
+    if all == as_written {
+        Ok(ExitCode::SUCCESS)
+    } else {
+        Ok(ExitCode::FAILURE)
+    }
+}
+
+// Runs the cases of a file.
+fn run_file<R: Print + AllocGlobal>(rt: &R, text: &str, count: &mut Count) -> io::Result<()> {
+    for block in text.split("\n\n") {
+        if let Some(case) = Case::read(block) {
+            count.all = count.all.saturating_add(1);
+            if is_as_written(rt, &case)? {
+                count.as_written = count.as_written.saturating_add(1);
+            }
+        }
+    }
+    Ok(())
+}
+
+// Runs a case, and prints what came of it.
+fn is_as_written<R: Print + AllocGlobal>(rt: &R, case: &Case) -> io::Result<bool> {
+    let name = case.name;
+    match case.run(rt.alloc())? {
+        Outcome::AsWritten => println!(rt; "{name}: as written")?,
+        Outcome::Differs { at, line, answer } => {
+            println!(rt; "{name}: at {at}, `{line}` answers {answer}")?;
+            return Ok(false);
+        }
+    }
+    Ok(true)
+}
