@@ -1,5 +1,6 @@
 -- A key cut from bytes, as the number that its bytes spell.
-use Rattle.std.proofs.Common.{◌≡◌, ℕ, zero, suc, ◌+◌, ◌*◌, ◌^◌, ◌%◌, ◌<◌, ◌≤◌, List, [], ◌∷◌, ◌++◌, length, take, drop, get_or, replicate, refl, sym, ap, ◌∙◌, map, arith}
+use Rattle.std.proofs.Common.{◌≡◌, ℕ, zero, suc, ◌+◌, ◌*◌, ◌^◌, ◌%◌, ◌<◌, ◌≤◌, List, [], ◌∷◌, ◌++◌, length, take, drop, get_or, replicate, refl, sym, ap, ◌∙◌}
+use Rattle.std.proofs.Common.{map, arith}
 use Rattle.std.proofs.lemmas.List.{length-map, length-take-le, take-map, take_at, drop_at}
 use Rattle.std.proofs.lemmas.Bool.Decides.{nat_tests}
 use Rattle.std.specs.Char.{to_ascii_lowercase}
@@ -35,7 +36,8 @@ small_letters (x ∷ xs) small zero = small_letter x (small 0)
 small_letters (x ∷ xs) small (suc i) = small_letters xs (λ k. small (suc k)) i
 
 -- the front that was copied, with its capital letters made small
-pub cut_small_is : (n fill count : ℕ) (bytes front letters : List ℕ) → ((i : ℕ) → get_or bytes i 0 < 256) → count ≤ n → count ≤ length bytes → (count < n → length bytes ≤ count)
+pub cut_small_is : (n fill count : ℕ) (bytes front letters : List ℕ) → ((i : ℕ) → get_or bytes i 0 < 256) → count ≤ n → count ≤ length bytes
+    → (count < n → length bytes ≤ count)
     → front ≡ take count bytes → letters ≡ map to_ascii_lowercase (take count (front ++ drop count (replicate n fill)))
     → big_from 0 n (letters ++ drop count (front ++ drop count (replicate n fill))) ≡ cut_number n fill (map to_ascii_lowercase bytes)
 cut_small_is n fill count bytes front letters small a b c f l =

@@ -25,19 +25,22 @@ place_tail key x xs i p = record {
 }
 
 -- a key that is not there goes in at its place
-with-at : (keys : List ℕ) (i : ℕ) (key : ℕ) → IsKeyPlace key keys i → (i < length keys → (d : ℕ) → key < get_or keys i d) → with_key key keys ≡ insert keys i key
+with-at : (keys : List ℕ) (i : ℕ) (key : ℕ) → IsKeyPlace key keys i → (i < length keys → (d : ℕ) → key < get_or keys i d)
+    → with_key key keys ≡ insert keys i key
 with-at [] zero key p o = refl
 with-at [] (suc i) key p o = let h = p.in_range in absurd (omega arith)
 with-at (x ∷ xs) zero key p o = with_front key x xs (o (omega arith) 0)
 with-at (x ∷ xs) (suc i) key p o =
-    with_later key x xs (p.smaller_before 0 0 (omega arith)) ∙ ap (λ (r : List ℕ). x ∷ r) (with-at xs i key (place_tail key x xs i p) (λ h d. o (omega arith) d))
+    with_later key x xs (p.smaller_before 0 0 (omega arith))
+        ∙ ap (λ (r : List ℕ). x ∷ r) (with-at xs i key (place_tail key x xs i p) (λ h d. o (omega arith) d))
 
 -- a key that is there stays
 with-same : (keys : List ℕ) (i : ℕ) (key : ℕ) → IsKeyPlace key keys i → i < length keys → ((d : ℕ) → get_or keys i d ≡ key) → with_key key keys ≡ keys
 with-same [] i key p l o = absurd (omega arith)
 with-same (x ∷ xs) zero key p l o = with_there key x xs (o 0)
 with-same (x ∷ xs) (suc i) key p l o =
-    with_later key x xs (p.smaller_before 0 0 (omega arith)) ∙ ap (λ (r : List ℕ). x ∷ r) (with-same xs i key (place_tail key x xs i p) (omega arith) (λ d. o d))
+    with_later key x xs (p.smaller_before 0 0 (omega arith))
+        ∙ ap (λ (r : List ℕ). x ∷ r) (with-same xs i key (place_tail key x xs i p) (omega arith) (λ d. o d))
 
 -- what is known of a list `keys`, lent to the search as `s` and to the test as `t`, of the place `i` and of the test's answer `b`
 pub record Searched (keys s t : List ℕ) (i : ℕ) (key : ℕ) (b : Bool) : Type 0 where
@@ -49,10 +52,16 @@ pub record Searched (keys s t : List ℕ) (i : ℕ) (key : ℕ) (b : Bool) : Typ
   pub other : b ≡ false → i < length t → IsKeyPlace key t i → HoldsAt (λ x. key < x) t i
 
 found : (keys s t : List ℕ) (i : ℕ) (key : ℕ) (b : Bool) → Searched keys s t i key b → KeysRise 0 keys → IsKeyPlace key t i
-found keys s t i key b h up = subst (λ (x : List ℕ). IsKeyPlace key x i) (h.first ∙ sym h.second) (h.place (subst (λ (x : List ℕ). KeysRise 0 x) (sym h.first) up))
+found keys s t i key b h up =
+    subst (λ (x : List ℕ). IsKeyPlace key x i) (h.first ∙ sym h.second) (h.place (subst (λ (x : List ℕ). KeysRise 0 x) (sym h.first) up))
 
-pub adds : (keys s t more : List ℕ) (i : ℕ) (key : ℕ) (b : Bool) → Searched keys s t i key b → b ≡ false → more ≡ insert keys i key → KeysRise 0 keys → more ≡ with_key key keys
-adds keys s t more i key b h is e up = e ∙ subst (λ (x : List ℕ). insert x i key ≡ with_key key x) h.second (sym (with-at t i key (found keys s t i key b h up) (λ l d. h.other is l (found keys s t i key b h up) d)))
+pub adds : (keys s t more : List ℕ) (i : ℕ) (key : ℕ) (b : Bool) → Searched keys s t i key b → b ≡ false → more ≡ insert keys i key → KeysRise 0 keys
+    → more ≡ with_key key keys
+adds keys s t more i key b h is e up = e
+    ∙ subst (λ (x : List ℕ). insert x i key ≡ with_key key x) h.second
+    (sym (with-at t i key (found keys s t i key b h up) (λ l d. h.other is l (found keys s t i key b h up) d)))
 
 pub keeps : (keys s t : List ℕ) (i : ℕ) (key : ℕ) (b : Bool) → Searched keys s t i key b → b ≡ true → KeysRise 0 keys → keys ≡ with_key key keys
-keeps keys s t i key b h is up = subst (λ (x : List ℕ). x ≡ with_key key x) h.second (sym (with-same t i key (found keys s t i key b h up) (h.here is) (λ d. h.equal (found keys s t i key b h up) is d)))
+keeps keys s t i key b h is up =
+    subst (λ (x : List ℕ). x ≡ with_key key x) h.second
+    (sym (with-same t i key (found keys s t i key b h up) (h.here is) (λ d. h.equal (found keys s t i key b h up) is d)))

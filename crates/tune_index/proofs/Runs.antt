@@ -8,7 +8,8 @@ use Rattle.std.proofs.lemmas.Bool.{cases_lt}
 use Rattle.tune_pages.specs.Stand.{Stand}
 use Rattle.tune_pages.specs.Frame.{image_at}
 use Rattle.index_keys.specs.Entries.{Entry, rank, RisesFrom, IsRising, inserted, removed, AllFit, FitsLeaf, inserted_all}
-use Rattle.index_keys.proofs.RisingEntries.{inserted_all_fit, inserted_all_rises, inserted_later, removed-rises, removed_fit, removed_later, rises_back, rises_front, rises_lower}
+use Rattle.index_keys.proofs.RisingEntries.{inserted_all_fit, inserted_all_rises, inserted_later, removed-rises, removed_fit, removed_later, rises_back}
+use Rattle.index_keys.proofs.RisingEntries.{rises_front, rises_lower}
 use Rattle.tune_index.specs.Indexes.{AllLeaves, IsIndex, Shape, entries_of}
 use Rattle.tune_index.specs.Inside.LeafLists.{HasLeaves, joined, firsts, leaves_of}
 use Rattle.tune_index.specs.Inside.Places.{IsPlace, AllBelow}

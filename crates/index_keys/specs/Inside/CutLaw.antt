@@ -7,12 +7,15 @@ use Rattle.index_keys.specs.Cuts.{cut_number, LiesWithin}
 least : (n : ℕ) (xs : List ℕ) → cut_number n 0 [] ≤ cut_number n 0 xs
 least zero xs = omega arith
 least (suc n) [] = omega arith
-least (suc n) (x ∷ xs) = let r = least n xs in let z : 0 * 256 ^ n ≤ x % 256 * 256 ^ n = mul-le-mul_right (256 ^ n) (omega arith) in omega (arith, r, z)
+least (suc n) (x ∷ xs) = let r = least n xs in let z : 0 * 256 ^ n ≤ x % 256 * 256 ^ n =
+    mul-le-mul_right (256 ^ n) (omega arith) in omega (arith, r, z)
 
 greatest : (n : ℕ) (xs : List ℕ) → cut_number n 0 xs ≤ cut_number n 255 []
 greatest zero xs = omega arith
-greatest (suc n) [] = let r = greatest n [] in let z : 0 * 256 ^ n ≤ 255 * 256 ^ n = mul-le-mul_right (256 ^ n) (omega arith) in omega (arith, r, z)
-greatest (suc n) (x ∷ xs) = let r = greatest n xs in let h : x % 256 ≤ 255 = omega arith in let z : x % 256 * 256 ^ n ≤ 255 * 256 ^ n = mul-le-mul_right (256 ^ n) h in omega (arith, r, z)
+greatest (suc n) [] = let r = greatest n [] in let z : 0 * 256 ^ n ≤ 255 * 256 ^ n =
+    mul-le-mul_right (256 ^ n) (omega arith) in omega (arith, r, z)
+greatest (suc n) (x ∷ xs) = let r = greatest n xs in let h : x % 256 ≤ 255 = omega arith in
+    let z : x % 256 * 256 ^ n ≤ 255 * 256 ^ n = mul-le-mul_right (256 ^ n) h in omega (arith, r, z)
 
 pub cut_within : (n : ℕ) (front rest : List ℕ) → LiesWithin n front (front ++ rest)
 cut_within zero front rest = record { from = omega arith; to = omega arith }

@@ -1,5 +1,7 @@
 -- The laws of titles and rhythms as keys: they rise, and what a query finds has a key in its range.
-use Rattle.std.proofs.Common.{◌≡◌, inl, inr, ℕ, ◌≤◌, List, [], ◌∷◌, Bool, true, false, eqb, map, Some, None, Option, refl, sym, ap, subst, ◌∙◌, length, drop, append-nil, arith}
+use Rattle.std.proofs.Common.{◌≡◌, inl, inr, ℕ, ◌≤◌, List, [], ◌∷◌, Bool, true, false, eqb, map}
+use Rattle.std.proofs.Common.{Some, None, Option, refl, sym, ap, subst, ◌∙◌, length, drop}
+use Rattle.std.proofs.Common.{append-nil, arith}
 use Rattle.std.specs.List.{list_any, starts_with, Contains}
 use Rattle.std.specs.Option.{option_map_or}
 use Rattle.std.proofs.lemmas.Bool.{cases_Bool, true≢false}
@@ -17,11 +19,13 @@ use Rattle.tune_titles.specs.SearchKeys.{title_keys, rhythm_keys, rhythm_keys_of
 use Rattle.tune_titles.specs.Titles.{sorting_title, same_rhythm, finds_title, finds_rhythm}
 
 -- one that passes, where some does
-some_passes : {X : Type 0} (test : X → Bool) (xs : List X) → list_any test xs ≡ true → (x : X) × Contains xs x × (test x ≡ true)
+some_passes : {X : Type 0} (test : X → Bool) (xs : List X) → list_any test xs ≡ true
+    → (x : X) × Contains xs x × (test x ≡ true)
 some_passes test [] is = absurd (true≢false (sym is))
 some_passes test (x ∷ xs) is = elim (cases_Bool (test x)) [
   | inl passes ↦ (x, contains_first x xs, passes)
-  | inr other ↦ let rest = some_passes test xs (rw other at is) in (rest.0, contains_later x xs rest.0 rest.1, rest.2)
+  | inr other ↦ let rest = some_passes test xs (rw other at is) in
+      (rest.0, contains_later x xs rest.0 rest.1, rest.2)
 ]
 
 -- what begins with a front is in its range
@@ -34,13 +38,15 @@ in_range whole front is =
 pub titles_rise : (text : List ℕ) → KeysRise 0 (title_keys text)
 titles_rise text = keys_rise (map (λ title. cut_number 32 0 (sorting_title title)) (titles_of text))
 
-pub titles_found : (query text : List ℕ) → finds_title query text ≡ true → HasKeyWithin (title_keys text) (cut_number 32 0 query) (cut_number 32 255 query)
+pub titles_found : (query text : List ℕ) → finds_title query text ≡ true
+    → HasKeyWithin (title_keys text) (cut_number 32 0 query) (cut_number 32 255 query)
 titles_found query text is =
     let some = some_passes (λ title. begins_with (sorting_title title) query) (titles_of text) is in
     let range = in_range (sorting_title some.0) query some.2 in
     record {
       key = cut_number 32 0 (sorting_title some.0);
-      among = rising_has (λ title. cut_number 32 0 (sorting_title title)) (titles_of text) some.0 some.1;
+      among = rising_has (λ title. cut_number 32 0 (sorting_title title))
+          (titles_of text) some.0 some.1;
       from = range.from;
       to = range.to;
     }
@@ -53,8 +59,10 @@ one_rises (Some rhythm) = (omega arith, tt)
 pub rhythm_rises : (text : List ℕ) → KeysRise 0 (rhythm_keys text)
 rhythm_rises text = one_rises (rhythm_of text)
 
-found_in : (query : List ℕ) (rhythm : Option (List ℕ)) → option_map_or (same_rhythm query) rhythm false ≡ true
-    → HasKeyWithin (rhythm_keys_of rhythm) (cut_number 32 0 (small_letters query)) (cut_number 32 255 (small_letters query))
+found_in : (query : List ℕ) (rhythm : Option (List ℕ))
+    → option_map_or (same_rhythm query) rhythm false ≡ true
+    → HasKeyWithin (rhythm_keys_of rhythm) (cut_number 32 0 (small_letters query))
+        (cut_number 32 255 (small_letters query))
 found_in query None is = absurd (true≢false (sym is))
 found_in query (Some own) is =
     let same = (bytes_eq-Decides (small_letters query) (small_letters own)).0 is in
@@ -63,9 +71,11 @@ found_in query (Some own) is =
       key = cut_number 32 0 (small_letters own);
       among = contains_first (cut_number 32 0 (small_letters own)) [];
       from = let e = ap (cut_number 32 0) same in omega (arith, e);
-      to = subst (λ l. cut_number 32 0 l ≤ cut_number 32 255 (small_letters query)) (append-nil (small_letters query) ∙ same) range.to;
+      to = subst (λ l. cut_number 32 0 l ≤ cut_number 32 255 (small_letters query))
+          (append-nil (small_letters query) ∙ same) range.to;
     }
 
 pub rhythm_found : (query text : List ℕ) → finds_rhythm query text ≡ true
-    → HasKeyWithin (rhythm_keys text) (cut_number 32 0 (small_letters query)) (cut_number 32 255 (small_letters query))
+    → HasKeyWithin (rhythm_keys text) (cut_number 32 0 (small_letters query))
+        (cut_number 32 255 (small_letters query))
 rhythm_found query text is = found_in query (rhythm_of text) is

@@ -18,7 +18,8 @@ lower keys m key e up l is h k d b =
       | inr other ↦ let p = rises_pair 0 keys k m d up (omega arith) l in omega (arith, p, at)
     ]
 
-upper : (keys : List ℕ) (m key e : ℕ) → KeysRise 0 keys → m < length keys → e ≡ get_or keys m e → key ≤ e → (k d : ℕ) → m ≤ k → k < length keys → key ≤ get_or keys k d
+upper : (keys : List ℕ) (m key e : ℕ) → KeysRise 0 keys → m < length keys → e ≡ get_or keys m e → key ≤ e → (k d : ℕ) → m ≤ k → k < length keys
+    → key ≤ get_or keys k d
 upper keys m key e up l is h k d b n =
     let at : get_or keys m d ≡ e = same keys m m e d l is refl in
     elim (cases_eq k m) [
