@@ -148,19 +148,21 @@ fn filled<D: Disk>(alloc: Global, disk: Noted<D>, run: &Run) -> Option<(Noted<D>
     let Ok(mut pages) = Pages::make(alloc, disk, &PageImage::blank(), LIMIT) else {
         return None;
     };
-    let Ok(mut work) = pages.begin() else {
-        return None;
-    };
-    let Ok(mut index) = insert_run(alloc, &mut pages, &mut work, run) else {
-        return None;
-    };
-    let Ok(first) = index.store(alloc, &mut pages, &mut work) else {
-        return None;
-    };
-    let Ok(()) = pages.finish(work) else {
-        return None;
-    };
-    Some((pages.into_disk(), first))
+    match store_run(alloc, &mut pages, run) {
+        Ok(first) => Some((pages.into_disk(), first)),
+        Err(_) => None,
+    }
+}
+
+// Puts an index of the entries into the pages; where the list of its leaves begins.
+fn store_run<D: Disk>(alloc: Global, pages: &mut Pages<Noted<D>>, run: &Run) -> Result<u32, Fault>
+    requires { pages.old.closed ≡ false }
+{
+    let mut work = pages.begin()?;
+    let mut index = insert_run(alloc, pages, &mut work, run)?;
+    let first = index.store(alloc, pages, &mut work)?;
+    pages.finish(work)?;
+    Ok(first)
 }
 
 // Opens the pages and loads the index.
