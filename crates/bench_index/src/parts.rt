@@ -1,5 +1,6 @@
 // The parts of a run.
 ghost use Rattle.std.specs.Prelude.{◌≡◌, false, OnOk, IfSome};
+ghost use Rattle.tune_pages.specs.Work.{Fits};
 
 use crate::disks::{DiskCall, Noted};
 use crate::entries::{Run, key, next_number};
@@ -11,7 +12,7 @@ use std::time::Instant;
 use tune_disk::{Disk, MemoryDisk};
 use tune_index::Index;
 use tune_journal::PageImage;
-use tune_pages::{Fault, Pages};
+use tune_pages::{Fault, Pages, Work};
 
 /// How many pages there may be.
 const LIMIT: u32 = 1_000_000;
@@ -99,13 +100,31 @@ fn build<R: Print + Clock + AllocGlobal>(
     let Ok(mut work) = pages.begin() else {
         return Ok(None);
     };
-    let mut index = Index::new(alloc);
     let start = Instant::now(rt)?;
-    let Ok(()) = index.insert_all(alloc, &mut pages, &mut work, run.entries()) else {
+    let Ok(_) = insert_run(alloc, &mut pages, &mut work, &run) else {
         return Ok(None);
     };
     tell(rt, "build", size.few, shown, &start)?;
     Ok(Some(()))
+}
+
+// Puts entries into an index that has none.
+fn insert_run<D: Disk>(
+    alloc: Global,
+    pages: &mut Pages<Noted<D>>,
+    work: &mut Work,
+    run: &Run,
+) -> Result<Index<32>, Fault>
+    requires open { pages.old.closed ≡ false }
+    requires fits { Fits pages.old work.old }
+    ensures open { OnOk result (pages.new.closed ≡ false) }
+    ensures fits { OnOk result (Fits pages.new work.new) }
+{
+    let mut index = Index::new(alloc);
+    match index.insert_all(alloc, pages, work, run.entries()) {
+        Ok(()) => Ok(index),
+        Err(fault) => Err(fault),
+    }
 }
 
 // Makes pages, and puts the greater index into them.
@@ -129,20 +148,21 @@ fn filled<D: Disk>(alloc: Global, disk: Noted<D>, run: &Run) -> Option<(Noted<D>
     let Ok(mut pages) = Pages::make(alloc, disk, &PageImage::blank(), LIMIT) else {
         return None;
     };
-    let Ok(mut work) = pages.begin() else {
-        return None;
-    };
-    let mut index = Index::new(alloc);
-    let Ok(()) = index.insert_all(alloc, &mut pages, &mut work, run.entries()) else {
-        return None;
-    };
-    let Ok(first) = index.store(alloc, &mut pages, &mut work) else {
-        return None;
-    };
-    let Ok(()) = pages.finish(work) else {
-        return None;
-    };
-    Some((pages.into_disk(), first))
+    match store_run(alloc, &mut pages, run) {
+        Ok(first) => Some((pages.into_disk(), first)),
+        Err(_) => None,
+    }
+}
+
+// Puts an index of the entries into the pages; where the list of its leaves begins.
+fn store_run<D: Disk>(alloc: Global, pages: &mut Pages<Noted<D>>, run: &Run) -> Result<u32, Fault>
+    requires { pages.old.closed ≡ false }
+{
+    let mut work = pages.begin()?;
+    let mut index = insert_run(alloc, pages, &mut work, run)?;
+    let first = index.store(alloc, pages, &mut work)?;
+    pages.finish(work)?;
+    Ok(first)
 }
 
 // Opens the pages and loads the index.
@@ -338,8 +358,7 @@ fn some_indexes(alloc: Global, run: &Run) -> Result<Option<Vec<Index<32>>>, Allo
     let Ok(mut work) = pages.begin() else {
         return Ok(None);
     };
-    let mut index = Index::new(alloc);
-    let Ok(()) = index.insert_all(alloc, &mut pages, &mut work, run.entries()) else {
+    let Ok(index) = insert_run(alloc, &mut pages, &mut work, run) else {
         return Ok(None);
     };
     let mut indexes = Vec::new(alloc);
