@@ -93,5 +93,5 @@ are_bytes n x = record { size = length-bytes_high_first n x; small = small_bytes
 pub bytes_back : (n : ℕ) (xs : List ℕ) → AreBytes n xs → big_bytes n (big_from 0 n xs) ≡ xs
 bytes_back n xs h =
     let e : big_from 0 n (bytes_high_first n (big_from 0 n xs) ++ []) ≡ big_from 0 n xs =
-        big_number-reads_back n (big_from 0 n xs) [] (big_from-lt 0 n xs h.small) in
+    big_number-reads_back n (big_from 0 n xs) [] (big_from-lt 0 n xs h.small) in
     same_bytes n (bytes_high_first n (big_from 0 n xs)) xs (are_bytes n (big_from 0 n xs)) h (rw append-nil at e)

@@ -32,7 +32,7 @@ with-at [] (suc i) key p o = let h = p.in_range in absurd (omega arith)
 with-at (x ∷ xs) zero key p o = with_front key x xs (o (omega arith) 0)
 with-at (x ∷ xs) (suc i) key p o =
     with_later key x xs (p.smaller_before 0 0 (omega arith))
-        ∙ ap (λ (r : List ℕ). x ∷ r) (with-at xs i key (place_tail key x xs i p) (λ h d. o (omega arith) d))
+    ∙ ap (λ (r : List ℕ). x ∷ r) (with-at xs i key (place_tail key x xs i p) (λ h d. o (omega arith) d))
 
 -- a key that is there stays
 with-same : (keys : List ℕ) (i : ℕ) (key : ℕ) → IsKeyPlace key keys i → i < length keys → ((d : ℕ) → get_or keys i d ≡ key) → with_key key keys ≡ keys
@@ -40,7 +40,7 @@ with-same [] i key p l o = absurd (omega arith)
 with-same (x ∷ xs) zero key p l o = with_there key x xs (o 0)
 with-same (x ∷ xs) (suc i) key p l o =
     with_later key x xs (p.smaller_before 0 0 (omega arith))
-        ∙ ap (λ (r : List ℕ). x ∷ r) (with-same xs i key (place_tail key x xs i p) (omega arith) (λ d. o d))
+    ∙ ap (λ (r : List ℕ). x ∷ r) (with-same xs i key (place_tail key x xs i p) (omega arith) (λ d. o d))
 
 -- what is known of a list `keys`, lent to the search as `s` and to the test as `t`, of the place `i` and of the test's answer `b`
 pub record Searched (keys s t : List ℕ) (i : ℕ) (key : ℕ) (b : Bool) : Type 0 where

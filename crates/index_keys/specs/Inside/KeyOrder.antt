@@ -48,7 +48,7 @@ with_new key (other ∷ keys) = elim (cases_lt key other) [
     | inr there ↦
         let same : other ≡ key = omega arith in
         rw (with_there key other keys same)
-            (subst (λ (n : ℕ). Contains (other ∷ keys) n) same (contains_first other keys))
+        (subst (λ (n : ℕ). Contains (other ∷ keys) n) same (contains_first other keys))
   ]
 ]
 

@@ -36,8 +36,11 @@ pub contains_either : {X : Type 0} (xs ys : List X) (x : X) → Contains (xs ++ 
 contains_either [] ys x h = inr h
 contains_either {X} (z ∷ zs) ys x h = elim (contains_cases z (zs ++ ys) x h) [
   | inl e ↦ inl (subst (λ (y : X). Contains (z ∷ zs) y) e (contains_first z zs))
-  | inr l ↦ elim (contains_either zs ys x l) [ inl a ↦ inl (contains_later z zs x a) | inr b ↦
-      inr b ]
+  | inr l ↦ elim (contains_either zs ys x l) [
+    | inl a ↦ inl (contains_later z zs x a)
+    | inr b ↦
+        inr b
+  ]
 ]
 
 -- what holds of each element
@@ -85,7 +88,7 @@ contains_kept {X} {Y} p f (y ∷ ys) x h is = elim (contains_cases y ys x h) [
   | inl here ↦
       let t : p y ≡ true = ap p here ∙ is in
       let e : map f (filter p (y ∷ ys)) ≡ f x ∷ map f (filter p ys) = kept_front p f y ys t
-          ∙ ap (λ (z : X). f z ∷ map f (filter p ys)) here in
+      ∙ ap (λ (z : X). f z ∷ map f (filter p ys)) here in
       subst (λ (l : List Y). Contains l (f x)) (sym e) (contains_first (f x) (map f (filter p ys)))
   | inr later ↦
       let r = contains_kept p f ys x later is in
@@ -106,8 +109,13 @@ pub record Source {X Y : Type 0} (p : X → Bool) (f : X → Y) (xs : List X) (y
 source_later : {X Y : Type 0} (p : X → Bool) (f : X → Y) (x : X) (xs : List X) (y : Y)
     → Source p f xs y → Source p f (x ∷ xs) y
 source_later p f x xs y s =
-    record { of = s.of; among = contains_later x xs s.of s.among; passes = s.passes; gives =
-    s.gives }
+    record {
+      of = s.of;
+      among = contains_later x xs s.of s.among;
+      passes = s.passes;
+      gives =
+          s.gives;
+    }
 
 pub contains_source : {X Y : Type 0} (p : X → Bool) (f : X → Y) (xs : List X) (y : Y)
     → Contains (map f (filter p xs)) y → Source p f xs y
@@ -115,9 +123,9 @@ contains_source p f [] y h = absurd (contains_none y h)
 contains_source {X} {Y} p f (x ∷ xs) y h = elim (true_or_false (p x)) [
   | inl t ↦ elim (contains_cases (f x) (map f (filter p xs)) y
       (subst (λ (l : List Y). Contains l y) (kept_front p f x xs t) h)) [
-    | inl here ↦ record { of = x; among = contains_first x xs; passes = t; gives = here }
-    | inr later ↦ source_later p f x xs y (contains_source p f xs y later)
-  ]
+        | inl here ↦ record { of = x; among = contains_first x xs; passes = t; gives = here }
+        | inr later ↦ source_later p f x xs y (contains_source p f xs y later)
+      ]
   | inr t ↦ source_later p f x xs y
       (contains_source p f xs y (subst (λ (l : List Y). Contains l y) (dropped_front p f x xs t) h))
 ]

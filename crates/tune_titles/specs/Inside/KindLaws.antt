@@ -62,7 +62,7 @@ rhythm_rises text = one_rises (rhythm_of text)
 found_in : (query : List ℕ) (rhythm : Option (List ℕ))
     → option_map_or (same_rhythm query) rhythm false ≡ true
     → HasKeyWithin (rhythm_keys_of rhythm) (cut_number 32 0 (small_letters query))
-        (cut_number 32 255 (small_letters query))
+    (cut_number 32 255 (small_letters query))
 found_in query None is = absurd (true≢false (sym is))
 found_in query (Some own) is =
     let same = (bytes_eq-Decides (small_letters query) (small_letters own)).0 is in
@@ -77,5 +77,5 @@ found_in query (Some own) is =
 
 pub rhythm_found : (query text : List ℕ) → finds_rhythm query text ≡ true
     → HasKeyWithin (rhythm_keys text) (cut_number 32 0 (small_letters query))
-        (cut_number 32 255 (small_letters query))
+    (cut_number 32 255 (small_letters query))
 rhythm_found query text is = found_in query (rhythm_of text) is

@@ -15,7 +15,7 @@ one_more : (titles : List (Bor (List ℕ))) (from : ℕ) (none : Bor (List ℕ))
 one_more titles from none some within =
     let next : from - 1 + 1 ≡ from = omega arith in
     ap (λ (rest : List (Bor (List ℕ))). rising_keys (map (λ title. cut_number 32 0 (sorting_title title.now)) rest))
-        (drop_more titles (from - 1) none (omega arith))
+    (drop_more titles (from - 1) none (omega arith))
     ∙ ap (λ (n : ℕ). with_key (cut_number 32 0 (sorting_title (get_or titles (from - 1) none).now)) (keys_from titles n)) next
 
 mapped : (titles : List (Bor (List ℕ))) → map (λ title. cut_number 32 0 (sorting_title title.now)) titles
@@ -32,7 +32,7 @@ loop-left-preserved c =
       keys = c.in_ok-add_key.ensures.added (rw inv.keys (keys_rise (map (λ title. cut_number 32 0 (sorting_title title.now)) (drop c.loop-left.left titles))))
           ∙ ap (λ (key : ℕ). with_key key c.loop-left.keys.items) c.title_key.ensures
           ∙ ap (λ (keys : List ℕ). with_key (cut_number 32 0 (sorting_title (get_or titles (c.loop-left.left - 1) (record { ref_ptr = (0, 0); now = [] })).now))
-              keys) inv.keys
+          keys) inv.keys
           ∙ sym (one_more titles c.loop-left.left (record { ref_ptr = (0, 0); now = [] }) (omega (arith, c.loop-left-test.true)) inv.within);
     }
 
@@ -42,4 +42,4 @@ returns c =
     c.loop-left.invariant.keys ∙ ap (keys_from c.as_slice-titles.result.now) none
     ∙ ap rising_keys (mapped c.as_slice-titles.result.now)
     ∙ ap (λ (titles : List (List ℕ)). rising_keys (map (λ title. cut_number 32 0 (sorting_title title)) titles)) (c.as_slice-titles.ensures
-        ∙ c.fields-fields.ensures.titles)
+    ∙ c.fields-fields.ensures.titles)

@@ -8,4 +8,4 @@ returns g c =
     let m = c.min-count.ensures in
     c.new.ensures.value ∙ ap (λ (x : List ℕ). big_from 0 g.row.W (x ++ drop c.min-count.result (replicate g.row.W c.args.fill))) c.copy_from_slice.ensures.after
     ∙ cut_is g.row.W c.args.fill c.min-count.result c.args.bytes.now (λ i. omega (arith, c.type_inv.bytes i)) (omega (arith, m)) (omega (arith, m))
-        (λ l. omega (arith, m, l))
+    (λ l. omega (arith, m, l))
