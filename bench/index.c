@@ -3,7 +3,9 @@
 // are made again in the same order (`fstat` in place of `statx`), with zeros for what is written.
 // A short write or an interrupted call ends it, and it does not look at what it reads. In place of
 // a run of FEW entries that goes into an index it sorts so many and writes them once, to a file of
-// their own; in place of copies of five indexes it moves so many bytes as these have.
+// their own; in place of copies of five indexes it moves so many bytes as these have. The calls of
+// `load` are made once more, as the part `keep`, which compares what it read and keeps it, since a
+// program that loads an index does both.
 #include <fcntl.h>
 #include <stdint.h>
 #include <stdio.h>
@@ -13,7 +15,7 @@
 #include <time.h>
 #include <unistd.h>
 
-enum { KEY = 32, ENTRY = 36, LEAF = 113, INDEXES = 5, LONGEST = 1 << 16 };
+enum { KEY = 32, ENTRY = 36, LEAF = 113, PAGE = 4096, INDEXES = 5, LONGEST = 1 << 16 };
 
 struct call {
     char kind;
@@ -109,6 +111,29 @@ static void copy(uint32_t few, uint32_t rounds) {
     tell("copy", rounds);
 }
 
+// Makes the calls of a load again: each page that is read is taken for a leaf, whose entries are
+// compared, each with the one before it, and kept in new memory.
+static void keep(const struct call *calls, size_t count, long came_to) {
+    size_t kept = 0, rising = 0;
+    begin();
+    unsigned char *entries = taken((count + 1) * LEAF * ENTRY);
+    memset(entries, 0, ENTRY);
+    for (size_t i = 0; i < count; i++) {
+        make(&calls[i]);
+        if (calls[i].kind != 'r' || calls[i].size < PAGE) continue;
+        for (size_t place = 0; place < LEAF; place++) {
+            const unsigned char *entry = buffer + 2 + place * ENTRY;
+            unsigned char *last = entries + kept * ENTRY;
+            rising += memcmp(last, entry, ENTRY) < 0;
+            memcpy(last + ENTRY, entry, ENTRY);
+            kept++;
+        }
+    }
+    tell("keep", came_to);
+    if (rising > kept) failed();
+    free(entries);
+}
+
 // Makes the calls of each part.
 static void replay(const char *path) {
     FILE *lines = fopen(path, "r");
@@ -126,6 +151,7 @@ static void replay(const char *path) {
                 begin();
                 for (size_t i = 0; i < count; i++) make(&calls[i]);
                 tell(part, came_to);
+                if (strcmp(part, "load") == 0) keep(calls, count, came_to);
             }
             count = 0;
             if (more && fscanf(lines, "%15s %ld", part, &came_to) != 2) failed();

@@ -4,8 +4,9 @@
 # into an index at once (from C: sorted, and written once), 160,000 put into new pages and loaded,
 # 1,000 looks for 100 values among them, 1,000 entries put in, each in a work of its own, and 1,000
 # copies of five indexes of 20,000 entries over others (from C: moves of their bytes), on a new file
-# in the folder, 5 runs of each by turns. Prints the milliseconds of each part, the least and the
-# middle of each, and how the program's compare with C's; and the same parts in memory.
+# in the folder, 5 runs of each by turns. C reads for `load`; for `keep`, with which the same load
+# is compared, it compares and keeps what it reads too. Prints the milliseconds of each part, the
+# least and the middle of each, and how the program's compare with C's; and the same in memory.
 set -u
 root=$(CDPATH='' cd -- "$(dirname -- "$0")/.." && pwd) || exit 1
 folder=${1:-$root/bench/work}
@@ -63,9 +64,10 @@ sort -k2,2 -k1,1 -k4,4n "$work/index_times" | awk '
     function middle(name) { return spent[name, int((n[name] + 1) / 2)] }
     END {
         form = "%-6s %s: index %9.2f ms, C %9.2f ms, ratio %.3f; in memory %9.2f ms\n"
-        split("build fill load find add copy", order)
-        for (i = 1; i <= 6; i++) {
-            a = "ours " order[i]; b = "c " order[i]; m = "memory " order[i]
+        split("build fill load keep find add copy", order)
+        for (i = 1; i <= 7; i++) {
+            a = order[i] == "keep" ? "load" : order[i]
+            b = "c " order[i]; m = "memory " a; a = "ours " a
             printf form, order[i], "least ", least(a), least(b), least(a) / least(b), least(m)
             printf form, order[i], "middle", middle(a), middle(b), middle(a) / middle(b), middle(m)
         }

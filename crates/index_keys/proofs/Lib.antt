@@ -1,4 +1,4 @@
-pub mod KeyBytes
+pub mod ByteOrder
 pub mod CutBytes
 pub mod KeyPlaces
 pub mod RisingEntries

@@ -1,4 +1,5 @@
 pub mod KeyBytes
+pub mod KeyNumbers
 pub mod CutLaw
 pub mod KeyPlaces
 pub mod Members

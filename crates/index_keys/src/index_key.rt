@@ -1,30 +1,38 @@
 // Keys of some bytes.
-ghost use Rattle.std.specs.Prelude.{◌≡◌, ◌↔◌, ◌<◌, ◌^◌, length, map, OnOk, IsTrue};
+ghost use Rattle.std.specs.Prelude.{◌≡◌, ◌↔◌, ◌+◌, ◌<◌, ◌≤◌, ◌^◌, length, map, drop, OnOk, IsTrue};
 ghost use Rattle.std.specs.Char.{to_ascii_lowercase};
+ghost use Rattle.std.specs.Cmp.Lexicographic.{slice_cmp};
+ghost use Rattle.std.specs.Ordering.{nat_cmp};
 ghost use Rattle.byteorder.specs.Endian.{big_number, big_bytes};
 ghost use Rattle.index_keys.specs.Cuts.{cut_number};
 ghost use Rattle.index_keys.specs.Entries.{rank};
 
+use byteorder::{BigEndian, ByteOrder};
 use std::cmp::Ordering;
 use std::marker::Model;
 
 /// A key of `W` bytes. Clauses see it as the number that its bytes spell, the highest first, so
 /// the order of keys is that of numbers.
-#[derive(Drop)]
+#[derive(Clone, Copy)]
 pub struct IndexKey<const W: usize> {
     bytes: [u8; W],
 }
 
 impl<const W: usize> Model for IndexKey<W> {
     ghost use Rattle.std.specs.Prelude.{ℕ};
-    ghost use Rattle.byteorder.specs.Endian.{big_number};
+    ghost use Rattle.byteorder.specs.Endian.{big_bytes, big_number};
     ghost use Rattle.index_keys.specs.Inside.KeyBytes.{AreBytes};
+    ghost use Rattle.index_keys.specs.Inside.KeyNumbers.{bytes_back};
 
     ghost Value = { ℕ };
 
     ghost view = { λ key. big_number W key.bytes };
 
     ghost invariant = { λ key. AreBytes W key.bytes };
+
+    ghost inverse = { λ number. record { bytes = big_bytes W number } };
+
+    ghost inverse_ok = { λ key is i. record { bytes = bytes_back W key.bytes is i } };
 }
 
 impl<const W: usize> IndexKey<W> {
@@ -80,10 +88,35 @@ impl<const W: usize> IndexKey<W> {
     pub fn is_before(&self, value: u32, other: &Self, other_value: u32) -> bool
         ensures { IsTrue result ↔ (rank (self.now, value) < rank (other.now, other_value)) }
     {
-        match self.bytes.cmp(&other.bytes) {
+        match byte_order(&self.bytes, &other.bytes) {
             Ordering::Less => true,
             Ordering::Equal => value < other_value,
             Ordering::Greater => false,
         }
     }
+}
+
+// The number that eight of the bytes spell.
+fn number_at(bytes: &[u8], at: usize) -> u64
+    requires { at + 8 ≤ length bytes.now }
+    ensures { result ≡ big_number 8 (drop at bytes.now) }
+{
+    BigEndian::read_u64(&bytes[at..])
+}
+
+// Which of two texts of one length comes first, eight bytes at a time.
+fn byte_order(one: &[u8], other: &[u8]) -> Ordering
+    requires { length one.now ≡ length other.now }
+    ensures { result ≡ slice_cmp nat_cmp one.now other.now }
+{
+    let mut at = 0;
+    while one.len() - at >= 8 {
+        let first = number_at(one, at);
+        let second = number_at(other, at);
+        if first != second {
+            return first.cmp(&second);
+        }
+        at += 8;
+    }
+    one[at..].cmp(&other[at..])
 }

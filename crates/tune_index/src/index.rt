@@ -94,20 +94,10 @@ impl<const W: usize> Index<W> {
         self.pages.clear();
         self.heads.clear();
         self.pages.extend_from_slice(&other.pages).unwrap();
-        copy_entries(&mut self.heads, &other.heads);
+        self.heads.extend_from_slice(&other.heads).unwrap();
         self.first = other.first;
         self.listed = other.listed;
         Ok(())
-    }
-}
-
-// The entries go to the end of a list that has room for them.
-fn copy_entries<const W: usize>(copy: &mut Leaf<W>, entries: &[(IndexKey<W>, u32)])
-    requires { vec_len copy.old + length entries.now ≤ vec_capacity copy.old }
-    ensures { copy.new.items ≡ copy.old.items ++ entries.now }
-{
-    for entry in entries {
-        copy.push((entry.0.copy(), entry.1)).unwrap();
     }
 }
 

@@ -10,7 +10,7 @@ ghost use Rattle.tune_index.specs.Leaves.{slice_entry, leaf_in, value_in, IsLeaf
 ghost use Rattle.tune_index.specs.Listed.{IsStored, LoadsIndex, listed_bytes, numbers_in};
 
 use crate::index::Index;
-use crate::leaf::{Leaf, read_leaf, read_value};
+use crate::leaf::{Leaf, capacity_of, read_leaf, read_value};
 use index_keys::IndexKey;
 use std::alloc::{AllocError, Global};
 use tune_disk::Disk;
@@ -86,6 +86,13 @@ fn push_leaf<const W: usize>(
     index.heads.push(head)?;
     index.pages.push(page).unwrap();
     Ok(())
+}
+
+// How many entries so many leaves have at most, for which memory is made ready.
+fn most_entries(leaves: usize, width: usize) -> usize
+    requires { width ≤ 4090 }
+{
+    leaves.saturating_mul(capacity_of(width))
 }
 
 // The entry that begins a leaf.
@@ -174,7 +181,10 @@ impl<const W: usize> Index<W> {
             None => return Err(ClaimFault::Damaged),
         };
         let mut index = Index::at(alloc, first);
-        let mut entries = Vec::new(alloc);
+        let mut entries = match Vec::with_capacity(alloc, most_entries(count, W).min(most)) {
+            Ok(entries) => entries,
+            Err(_) => return Err(ClaimFault::OutOfMemory),
+        };
         for place in 0..count {
             let page = number_at(&bytes, place);
             match load_leaf(alloc, opening, page, most, &mut index, &mut entries) {

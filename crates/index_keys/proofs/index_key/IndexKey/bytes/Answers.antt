@@ -1,6 +1,6 @@
 use Rattle.std.proofs.Common.{sym}
 use Rattle.byteorder.specs.Numbers.{big_from-lt}
-use Rattle.index_keys.proofs.KeyBytes.{bytes_back}
+use Rattle.index_keys.specs.Inside.KeyNumbers.{bytes_back}
 use Rattle.index_keys.proofs.index_key.IndexKey.bytes.Goals as goal
 
 pub returns-clause-bytes : goal.returns-clause-bytes
