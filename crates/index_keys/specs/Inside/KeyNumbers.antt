@@ -59,9 +59,9 @@ bytes_rank (suc n) (x ∷ xs) (y ∷ ys) h k =
     let hy = tail_bytes n y ys k in
     rw (number_cons n x xs, number_cons n y ys)
     (digits (256 ^ n) x y (big_from 0 n xs) (big_from 0 n ys) (nat_cmp x y)
-        (slice_cmp nat_cmp xs ys)
+    (slice_cmp nat_cmp xs ys)
     (big_from-lt 0 n xs hx.small) (big_from-lt 0 n ys hy.small) (ranks x y)
-        (bytes_rank n xs ys hx hy))
+    (bytes_rank n xs ys hx hy))
 
 -- a digit and the rest can be told from their number
 digit_same : (p x y r s : ℕ) → r < p → s < p → x * p + r ≡ y * p + s → x ≡ y
@@ -85,7 +85,7 @@ same_bytes (suc n) (x ∷ xs) (y ∷ ys) h k e =
     let lx = big_from-lt 0 n xs hx.small in
     let ly = big_from-lt 0 n ys hy.small in
     let f : x * 256 ^ n + big_from 0 n xs ≡ y * 256 ^ n + big_from 0 n ys = sym
-        (number_cons n x xs) ∙ e ∙ number_cons n y ys in
+    (number_cons n x xs) ∙ e ∙ number_cons n y ys in
     let first : x ≡ y = digit_same (256 ^ n) x y (big_from 0 n xs) (big_from 0 n ys) lx ly f in
     let scaled : x * 256 ^ n ≡ y * 256 ^ n = ap (λ (z : ℕ). z * 256 ^ n) first in
     let rest : xs ≡ ys = same_bytes n xs ys hx hy (omega arith) in
@@ -108,4 +108,4 @@ bytes_back n xs h =
     let e : big_from 0 n (bytes_high_first n (big_from 0 n xs) ++ []) ≡ big_from 0 n xs =
     big_number-reads_back n (big_from 0 n xs) [] (big_from-lt 0 n xs h.small) in
     same_bytes n (bytes_high_first n (big_from 0 n xs)) xs (are_bytes n (big_from 0 n xs)) h
-        (rw append-nil at e)
+    (rw append-nil at e)
