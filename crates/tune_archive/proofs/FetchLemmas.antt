@@ -12,6 +12,7 @@ use Rattle.tune_pages.specs.Reading.{LooksAt, SameKept}
 use Rattle.tune_pages.specs.Stand.{Stand, HasChain}
 use Rattle.tune_pages.specs.declared.fault.Fault.{Fault}
 use Rattle.tune_pages.specs.declared.fault.Fault.TheVariants.{FileFull, OutOfMemory, Device, Closed}
+use Rattle.tune_parts.specs.Parts.{Part}
 use Rattle.tune_store.specs.Labels.{labels_of, LabelsRise}
 use Rattle.tune_store.specs.State.{State, IsState, IsTune, IsTunes}
 use Rattle.tune_store.specs.declared.catalog.Label.{Label}
@@ -20,11 +21,10 @@ use Rattle.tune_store.specs.declared.layout.Layout.TheVariants.{One}
 use Rattle.tune_store.specs.declared.tune.Tune.{Tune}
 use Rattle.tune_format.specs.Filed.{row_of, rows_of, HoldTunes, HoldsTuneAt}
 use Rattle.tune_format.specs.Layout.{most_pages_of_archive}
-use Rattle.tune_format.specs.Parts.{Part}
 use Rattle.tune_format.specs.States.{state_in}
 use Rattle.tune_format.specs.declared.rows.Row.{Row}
 use Rattle.tune_format.proofs.ChangeLemmas.{row_at_place, has_text}
-use Rattle.tune_format.proofs.TextLemmas.{text_at, rows_count}
+use Rattle.tune_format.proofs.TextLemmas.{tune_without, later_held, text_at, rows_count}
 use Rattle.tune_contents.specs.Claimed.{RowsRise}
 use Rattle.tune_contents.specs.Holds.{label_in, labels_in, HoldsContents}
 use Rattle.tune_contents.specs.declared.contents.Contents.{Contents}
@@ -57,9 +57,9 @@ place_inside rows place l = omega (arith, labels_count rows)
 -- the rows of tunes have the labels of these
 labels_there : (tunes : List Tune) (texts : List Part) → HoldTunes texts tunes → labels_in (rows_of tunes texts) ≡ labels_of tunes
 labels_there [] texts holds = refl
-labels_there (tune ∷ tunes) [] holds = absurd (let size = ap (λ l. length l) holds in omega arith)
+labels_there (tune ∷ tunes) [] holds = absurd (tune_without tune tunes holds)
 labels_there (tune ∷ tunes) (part ∷ texts) holds =
-    let later : HoldTunes texts tunes = cc in ap (λ l. label_in (row_of tune part) ∷ l) (labels_there tunes texts later)
+    ap (λ l. label_in (row_of tune part) ∷ l) (labels_there tunes texts (later_held part texts tune tunes holds))
 
 pub labels_held : (s : Stand) (contents : Contents) (state : State) → HoldsContents s contents state → labels_in contents.rows.items ≡ labels_of state.tunes
 labels_held s contents state holds = ap labels_in holds.listed ∙ labels_there state.tunes holds.filed.texts holds.filed.are_tunes

@@ -21,14 +21,15 @@ use Rattle.tune_pages.specs.Kept.{Kept, HonestAt, state_at}
 use Rattle.tune_pages.specs.Opened.{only_root, IsUnopenedFor, LeavesSame}
 use Rattle.tune_pages.specs.Stand.{Stand}
 use Rattle.tune_pages.proofs.Chains.{length-marked}
+use Rattle.tune_parts.specs.Parts.{Part, AreParts, chain_part}
+use Rattle.tune_parts.proofs.PartLemmas.{open_parts, held_parts}
 use Rattle.tune_store.specs.State.{State, IsState, empty_state}
 use Rattle.tune_store.specs.declared.layout.Layout.TheVariants.{One}
 use Rattle.tune_format.specs.Layout.{most_pages_of_archive}
-use Rattle.tune_format.specs.Parts.{Part, AreParts}
 use Rattle.tune_format.specs.States.{IsStateOf, StandsForState}
 use Rattle.tune_format.specs.Written.{IsRoot}
-use Rattle.tune_format.proofs.PartLemmas.{open_parts, held_parts}
 use Rattle.tune_format.proofs.StateLemmas.{file_read, empty_within, empty_state_of}
+use Rattle.tune_format.proofs.TextLemmas.{none_held}
 use Rattle.tune_contents.specs.Claimed.{AreRows, IsClaimed}
 use Rattle.tune_contents.specs.Holds.{HoldsContents}
 use Rattle.tune_contents.specs.declared.contents.Contents.{Contents}
@@ -59,11 +60,11 @@ claims_hold pages claimed limit contents few is =
 
 -- no bytes are no chain
 abbrev no_part : Part
-no_part = record { first = 0; trail = []; bytes = [] }
+no_part = chain_part 0 [] []
 
 none_filed : (image : List ℕ) → IsRoot image 0 0 → AreParts (image ∷ []) (no_part ∷ no_part ∷ [])
 none_filed image root = record {
-  chains = (record { leads = refl; holds = refl }, (record { leads = refl; holds = refl }, tt));
+  stand = (record { leads = refl; holds = refl }, (record { leads = refl; holds = refl }, tt));
   apart = (refl, tt);
 }
 
@@ -79,10 +80,12 @@ root_holds image limit contents root some known rows sets firsts = record {
     set_lists = no_part;
     texts = [];
     parts = none_filed image root;
+    list_is_chain = refl;
+    sets_are_chain = refl;
     root = root;
     listed = refl;
     are_sets = refl;
-    are_tunes = refl;
+    are_tunes = none_held;
   };
   holds = held_parts (record { pages = image ∷ []; used = only_root limit }) limit (no_part ∷ no_part ∷ []) (none_filed image root) some refl;
   listed = rows;

@@ -1,24 +1,27 @@
 -- The list of tunes, the set lists and the root, laid anew.
 use Rattle.std.proofs.Common.{ℕ, Bool, List, [], ◌∷◌, refl, subst, Result, Ok, Err, IfOk}
 use Rattle.tune_pages.specs.Stand.{Stand, HasSomeChain, HasChain}
+use Rattle.tune_pages.specs.declared.fault.Fault.{Fault}
+use Rattle.tune_parts.specs.Parts.{chain_part}
+use Rattle.tune_parts.proofs.PartLemmas.{has_part}
 use Rattle.tune_sets.specs.SetBytes.{written_sets}
 use Rattle.tune_sets.specs.declared.set_lists.TuneSet.{TuneSet}
 use Rattle.tune_store.specs.declared.tune.Tune.{Tune}
 use Rattle.tune_format.specs.Written.{written_rows}
 use Rattle.tune_format.specs.declared.rows.Row.{Row}
 use Rattle.tune_format.proofs.ChangeLemmas.{swap_part}
-use Rattle.tune_format.proofs.PartLemmas.{has_part}
-use Rattle.tune_pages.specs.declared.fault.Fault.{Fault}
 use Rattle.tune_contents.specs.Inside.Laying.{SwapsChain, LaysRoot, HoldsTunes, HoldsArchive, LaysList, LaysSets, HoldsSomeArchive, LaysContents}
 
 module _ (s : Stand) (list_first sets_first : ℕ) (listed : List Row) (sets : List TuneSet) (tunes : List Tune) (rows : List Row)
     (a : HoldsArchive s list_first sets_first listed sets tunes rows) where
   has_list : HasChain s list_first a.list.trail a.list.bytes
-  has_list = subst (λ (n : ℕ). HasChain s n a.list.trail a.list.bytes) a.is_list (has_part s a.list [] (a.set_lists ∷ a.holds.texts) a.holds.holds)
+  has_list = subst (λ (n : ℕ). HasChain s n a.list.trail a.list.bytes) a.is_list
+      (has_part s a.list [] (a.set_lists ∷ a.holds.texts) a.list_is_chain a.holds.holds)
 
   has_sets : HasChain s sets_first a.set_lists.trail a.set_lists.bytes
   has_sets =
-      subst (λ (n : ℕ). HasChain s n a.set_lists.trail a.set_lists.bytes) a.is_sets (has_part s a.set_lists (a.list ∷ []) a.holds.texts a.holds.holds)
+      subst (λ (n : ℕ). HasChain s n a.set_lists.trail a.set_lists.bytes) a.is_sets
+      (has_part s a.set_lists (a.list ∷ []) a.holds.texts a.sets_are_chain a.holds.holds)
 
   pub some_list : HasSomeChain s list_first
   some_list = (a.list.trail, a.list.bytes, has_list)
@@ -33,6 +36,8 @@ module _ (s : Stand) (list_first sets_first : ℕ) (listed : List Row) (sets : L
     list = a.list;
     set_lists = a.set_lists;
     holds = holds;
+    list_is_chain = a.list_is_chain;
+    sets_are_chain = a.sets_are_chain;
     is_list = a.is_list;
     is_sets = a.is_sets;
     list_bytes = a.list_bytes;
@@ -45,7 +50,7 @@ module _ (s : Stand) (list_first sets_first : ℕ) (listed : List Row) (sets : L
   with_list new next other swap =
       let put = swap a.list.trail a.list.bytes has_list in
       record {
-        list = record { first = next; trail = put.0; bytes = written_rows other };
+        list = chain_part next put.0 (written_rows other);
         set_lists = a.set_lists;
         holds = record {
           texts = a.holds.texts;
@@ -53,6 +58,8 @@ module _ (s : Stand) (list_first sets_first : ℕ) (listed : List Row) (sets : L
           are_tunes = a.holds.are_tunes;
           listed = a.holds.listed;
         };
+        list_is_chain = refl;
+        sets_are_chain = a.sets_are_chain;
         is_list = refl;
         is_sets = a.is_sets;
         list_bytes = refl;
@@ -66,13 +73,15 @@ module _ (s : Stand) (list_first sets_first : ℕ) (listed : List Row) (sets : L
       let put = swap a.set_lists.trail a.set_lists.bytes has_sets in
       record {
         list = a.list;
-        set_lists = record { first = next; trail = put.0; bytes = written_sets other };
+        set_lists = chain_part next put.0 (written_sets other);
         holds = record {
           texts = a.holds.texts;
           holds = swap_part s new a.set_lists next put.0 (written_sets other) (a.list ∷ []) a.holds.texts a.holds.holds put.1;
           are_tunes = a.holds.are_tunes;
           listed = a.holds.listed;
         };
+        list_is_chain = a.list_is_chain;
+        sets_are_chain = refl;
         is_list = a.is_list;
         is_sets = refl;
         list_bytes = a.list_bytes;
@@ -90,6 +99,8 @@ module _ (s : Stand) (list_first sets_first : ℕ) (listed : List Row) (sets : L
       are_tunes = a.holds.are_tunes;
       listed = a.holds.listed;
     };
+    list_is_chain = a.list_is_chain;
+    sets_are_chain = a.sets_are_chain;
     is_list = a.is_list;
     is_sets = a.is_sets;
     list_bytes = a.list_bytes;

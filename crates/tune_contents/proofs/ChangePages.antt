@@ -3,6 +3,7 @@ use Rattle.std.proofs.Common.{◌≡◌, ℕ, zero, suc, ◌+◌, ◌*◌, ◌<�
 use Rattle.std.specs.List.{AllByRecursion}
 use Rattle.std.proofs.lemmas.List.{length-set}
 use Rattle.tune_pages.specs.Stand.{Stand}
+use Rattle.tune_parts.proofs.Lists.{all_right}
 use Rattle.tune_sets.specs.Sets.{AreSetLists}
 use Rattle.tune_store.specs.Limits.{most_tunes}
 use Rattle.tune_store.specs.Plans.{changed, changed_sets, CanChange}
@@ -15,7 +16,6 @@ use Rattle.tune_store.specs.declared.plans.Change.TheVariants.{Add, Put, Take, M
 use Rattle.tune_store.specs.declared.plans.Change.TheVariants.{AddPlace, CutPlace, DropSet}
 use Rattle.tune_store.proofs.StateLemmas.{length-numbered}
 use Rattle.tune_format.specs.declared.rows.Row.{Row}
-use Rattle.tune_format.proofs.Once.{all_right}
 use Rattle.tune_format.proofs.TextLemmas.{rows_count}
 use Rattle.tune_contents.specs.Holds.{labels_in, HoldsContents}
 use Rattle.tune_contents.specs.Most.{most_tune_pages}

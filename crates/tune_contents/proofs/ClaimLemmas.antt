@@ -1,13 +1,15 @@
 -- Parts and tunes that are claimed.
-use Rattle.tune_store.specs.declared.layout.Layout.{Layout}
 use Rattle.std.proofs.Common.{◌≡◌, ℕ, List, [], ◌∷◌, ◌++◌, Bool, true, Result, Ok, Err, IfOk, IfErr, refl, sym, ◌∙◌, ap, subst}
 use Rattle.std.proofs.lemmas.List.{append-nil}
+use Rattle.tune_pages.specs.Chain.{IsChain}
 use Rattle.tune_pages.specs.Claim.{Claimable, IsClaimableWithin}
 use Rattle.tune_pages.specs.Stand.{marked}
 use Rattle.tune_pages.proofs.Chains.{chain_once}
-use Rattle.tune_format.specs.Parts.{Part, IsPart, AreParts}
-use Rattle.tune_format.proofs.Once.{all_right}
-use Rattle.tune_format.proofs.PartLemmas.{claim_part, can_claim}
+use Rattle.tune_parts.specs.Parts.{Part, IsPart, AreParts, chain_part}
+use Rattle.tune_parts.specs.Parts.PartKind.{chain}
+use Rattle.tune_parts.proofs.Lists.{all_right}
+use Rattle.tune_parts.proofs.PartLemmas.{claim_part, can_claim, its_chain}
+use Rattle.tune_store.specs.declared.layout.Layout.{Layout}
 use Rattle.tune_contents.specs.Inside.Claiming.{HasClaimed, ClaimsPart, IsPartThere, IsTuneChain, IsTuneThere}
 
 pub ok_as : {T E : Type 0} (r : Result T E) (P Q : T → Type 0) → ((x : T) → P x → Q x) → IfOk r P → IfOk r Q
@@ -25,36 +27,38 @@ claimed_as pages claimed one other same has = subst (HasClaimed pages claimed) s
 
 -- a part among those that stand there
 pub its_part : (pages : List (List ℕ)) (front : List Part) (part : Part) (more : List Part) → AreParts pages (front ++ part ∷ more) → IsPart pages part
-its_part pages front part more are = (all_right (IsPart pages) front (part ∷ more) are.chains).0
+its_part pages front part more are = (all_right (IsPart pages) front (part ∷ more) are.stand).0
 
--- parts that begin at the same page
-pub same_part : (pages : List (List ℕ)) (one other : Part) → IsPart pages one → IsPart pages other → one.first ≡ other.first → one ≡ other
-same_part pages one other is also first =
+-- chains that begin at the same page
+pub same_part : (pages : List (List ℕ)) (one other : Part) → one.kind ≡ chain → other.kind ≡ chain → IsPart pages one → IsPart pages other
+    → one.first ≡ other.first → one ≡ other
+same_part pages one other kind alike is also first =
     let once = chain_once pages other.first one.trail other.trail one.bytes other.bytes
-    (subst (λ (f : ℕ). IsPart pages (record { first = f; trail = one.trail; bytes = one.bytes })) first is) also in
-    (λ i. record { first = first i; trail = once.0 i; bytes = once.1 i })
+    (subst (λ (f : ℕ). IsChain pages f one.trail one.bytes) first (its_chain pages one kind is)) (its_chain pages other alike also) in
+    (λ i. record { kind = (kind ∙ sym alike) i; first = first i; trail = once.0 i; bytes = once.1 i })
 
 pub claims_part : (pages : List (List ℕ)) (claimed now : List Bool) (first : ℕ) (bytes : List ℕ) (front : List Part)
     → (trail : List ℕ) × Claimable pages claimed first trail bytes × (now ≡ marked true trail claimed)
     → HasClaimed pages claimed front → ClaimsPart pages front now first bytes
 claims_part pages claimed now first bytes front got has =
-    let part : Part = record { first = first; trail = got.0; bytes = bytes } in
+    let part : Part = chain_part first got.0 bytes in
     let whole = claimed_as pages claimed front (front ++ []) (sym (append-nil front)) has in
     let more = claim_part pages claimed first got.0 bytes front [] whole.are whole.marks got.1 in
     record {
       part = part;
       has = record { are = more.0; marks = got.2 ∙ more.1 };
+      is_chain = refl;
       is_first = refl;
       holds = refl;
-      only = λ other is same. same_part pages other part is got.1.chain same;
+      only = λ other kind is same. same_part pages other part kind refl is got.1.chain same;
     }
 
--- where a part stands that begins there, its chain can be claimed
+-- where a chain stands that begins there, it can be claimed
 pub part_claimable : (pages : List (List ℕ)) (claimed : List Bool) (first most : ℕ) (front : List Part) → HasClaimed pages claimed front
     → IsPartThere pages front first most → IsClaimableWithin most pages claimed first
 part_claimable pages claimed first most front has there =
     subst (IsClaimableWithin most pages claimed) there.is_first
-    (there.part.trail, there.part.bytes, can_claim pages claimed there.part front there.more there.are has.marks, there.few)
+    (there.part.trail, there.part.bytes, can_claim pages claimed there.part front there.more there.is_chain there.are has.marks, there.few)
 
 -- ONE TUNE
 -- of the part that was claimed, each tune there is the one of its bytes
@@ -63,7 +67,7 @@ pub tune_claimed : {layout : Layout} → (pages : List (List ℕ)) (front : List
     → (revision : ℕ) × (text : List ℕ) × IsTuneChain layout bytes revision text
 tune_claimed pages front now low number first bytes claims is =
     let part = is.there.part in
-    let same : part ≡ claims.part = claims.only part (its_part pages front part is.there.more is.there.are) is.there.is_first in
+    let same : part ≡ claims.part = claims.only part is.there.is_chain (its_part pages front part is.there.more is.there.are) is.there.is_first in
     (is.revision, is.text, subst (λ l. IsTuneChain _ l is.revision is.text) (ap (λ p. p.bytes) same ∙ claims.holds) is.tune)
 
 pub claims_on : (now pages : List (List ℕ)) (front : List Part) (claimed : List Bool) (first : ℕ) (bytes : List ℕ) → now ≡ pages

@@ -3,6 +3,7 @@ use Rattle.std.proofs.Common.{◌≡◌, ℕ, false, List, [], ◌∷◌, Option
 use Rattle.std.proofs.lemmas.List.{length-map}
 use Rattle.tune_journal.specs.Pages.{page_at}
 use Rattle.tune_pages.specs.Stand.{Stand}
+use Rattle.tune_parts.proofs.PartLemmas.{are_parts}
 use Rattle.tune_sets.specs.SetBytes.{written_sets}
 use Rattle.tune_sets.specs.declared.set_lists.TuneSet.{TuneSet}
 use Rattle.tune_sets.proofs.PlaceLemmas.{unheld_renumbered}
@@ -15,7 +16,6 @@ use Rattle.tune_store.specs.declared.plans.Change.TheVariants.{Add, Put, Take, M
 use Rattle.tune_store.specs.declared.plans.Change.TheVariants.{AddPlace, CutPlace, DropSet}
 use Rattle.tune_format.specs.Written.{IsRoot, written_rows}
 use Rattle.tune_format.specs.declared.rows.Row.{Row}
-use Rattle.tune_format.proofs.PartLemmas.{are_parts}
 use Rattle.tune_contents.specs.Holds.{label_in, labels_in, HoldsContents, HoldsSomeState, LaysState}
 use Rattle.tune_contents.specs.Inside.Changes.{RowsAccept, SetsAccept, changes_tunes, changes_sets, LaysChange}
 use Rattle.tune_contents.specs.Inside.Laying.{HoldsSomeTunes, HoldsArchive, HoldsSomeArchive, LaysContents}
@@ -67,6 +67,8 @@ archive_of s c state h = record {
   list = h.filed.list;
   set_lists = h.filed.set_lists;
   holds = record { texts = h.filed.texts; holds = h.holds; are_tunes = h.filed.are_tunes; listed = h.listed };
+  list_is_chain = h.filed.list_is_chain;
+  sets_are_chain = h.filed.sets_are_chain;
   is_list = sym h.list;
   is_sets = sym h.set_lists;
   list_bytes = h.filed.listed ∙ ap (λ (r : List Row). written_rows r) (sym h.listed);
@@ -83,6 +85,8 @@ contents_of s c layout tunes sets known same a root = record {
     set_lists = a.set_lists;
     texts = a.holds.texts;
     parts = are_parts s (a.list ∷ a.set_lists ∷ a.holds.texts) a.holds.holds;
+    list_is_chain = a.list_is_chain;
+    sets_are_chain = a.sets_are_chain;
     root = subst (λ (n : ℕ). IsRoot (page_at s.pages 0) n a.set_lists.first) (sym a.is_list)
         (subst (λ (n : ℕ). IsRoot (page_at s.pages 0) c.list_first n) (sym a.is_sets) root);
     listed = a.list_bytes ∙ ap (λ (r : List Row). written_rows r) a.holds.listed;

@@ -6,16 +6,16 @@ use Rattle.tune_journal.specs.Pages.{page_at}
 use Rattle.tune_pages.proofs.Putting.{placed_here}
 use Rattle.tune_pages.specs.Stand.{Stand, with_page, PutsChain, HasChain, HasSomeChain, without_pages}
 use Rattle.tune_pages.specs.declared.fault.Fault.{Fault}
+use Rattle.tune_parts.specs.Parts.{Part, HoldsParts, chain_part}
+use Rattle.tune_parts.proofs.PartLemmas.{root_parts}
 use Rattle.tune_store.specs.declared.tune.Tune.{Tune}
 use Rattle.tune_store.specs.TuneSteps.{numbered}
 use Rattle.tune_store.proofs.StateLemmas.{numbered_next}
 use Rattle.tune_format.specs.Filed.{row_of, rows_of, HoldsTuneAt}
-use Rattle.tune_format.specs.Parts.{Part, HoldsParts}
 use Rattle.tune_format.specs.Written.{written_tune, IsRoot}
 use Rattle.tune_format.specs.declared.rows.Row.{Row}
-use Rattle.tune_format.proofs.PartLemmas.{root_parts}
 use Rattle.tune_format.proofs.ChangeLemmas.{has_text, row_at_place, add_text, put_text, cut_text}
-use Rattle.tune_format.proofs.TextLemmas.{text_at, texts_join, texts_put, texts_cut, rows_join, rows_count, rows_put, rows_cut}
+use Rattle.tune_format.proofs.TextLemmas.{one_held, text_at, texts_join, texts_put, texts_cut, rows_join, rows_count, rows_put, rows_cut}
 use Rattle.tune_contents.specs.Inside.Laying.{SwapsChain, LaysRoot, HoldsTunes, HoldsSomeTunes, LaysTunes}
 
 -- a chain freed, and then another one put
@@ -53,11 +53,11 @@ pub puts_tune : (s new : Stand) (rows : List Row) (place first next : ℕ) (tune
 puts_tune s new rows place first next tune l is swap = λ ahead tunes holds.
     (let at = there s ahead tunes rows place first l is holds in
     let put = swap at.part.trail at.part.bytes (chain_there s ahead tunes rows place first l is holds) in
-    let part : Part = record { first = next; trail = put.0; bytes = written_tune tune } in
+    let part : Part = chain_part next put.0 (written_tune tune) in
     record {
       texts = slice_set holds.texts place part;
       holds = put_text s new ahead holds.texts tunes place next put.0 (written_tune tune) holds.holds at put.1;
-      are_tunes = texts_put holds.texts tunes place part tune holds.are_tunes refl;
+      are_tunes = texts_put holds.texts tunes place part tune holds.are_tunes refl refl;
       listed = ap (λ (r : List Row). slice_set r place (row_of tune part)) holds.listed ∙ sym (rows_put holds.texts tunes place part tune);
     })
 
@@ -78,11 +78,11 @@ takes_tune s new rows place first l is freed = λ ahead tunes holds.
 pub adds_tune : (s new : Stand) (rows : List Row) (next : ℕ) (tune : Tune) (along : List ℕ) → PutsChain s new next along (written_tune tune)
     → LaysTunes s new rows (rows ++ record { number = tune.number; revision = tune.revision; first = next } ∷ []) (λ tunes. tunes ++ tune ∷ [])
 adds_tune s new rows next tune along put = λ ahead tunes holds.
-    (let part : Part = record { first = next; trail = along; bytes = written_tune tune } in
+    (let part : Part = chain_part next along (written_tune tune) in
     record {
       texts = holds.texts ++ part ∷ [];
       holds = add_text s new ahead holds.texts next along (written_tune tune) holds.holds put;
-      are_tunes = texts_join holds.texts (part ∷ []) tunes (tune ∷ []) holds.are_tunes refl;
+      are_tunes = texts_join holds.texts (part ∷ []) tunes (tune ∷ []) holds.are_tunes (one_held part tune refl refl);
       listed = ap (λ (r : List Row). r ++ row_of tune part ∷ []) holds.listed ∙ sym (rows_join holds.texts (part ∷ []) tunes (tune ∷ []) holds.are_tunes);
     })
 

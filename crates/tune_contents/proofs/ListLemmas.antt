@@ -8,6 +8,10 @@ use Rattle.tune_pages.specs.Claim.{IsChainFault}
 use Rattle.tune_pages.specs.Opened.{only_root}
 use Rattle.tune_pages.specs.declared.fault.ClaimFault.{ClaimFault}
 use Rattle.tune_pages.specs.declared.fault.ClaimFault.TheVariants.{Damaged, OutOfMemory, Device}
+use Rattle.tune_parts.specs.Parts.{Part, AreParts}
+use Rattle.tune_parts.proofs.Lists.{all_map}
+use Rattle.tune_parts.proofs.Once.{none_free}
+use Rattle.tune_parts.proofs.PartLemmas.{no_parts}
 use Rattle.tune_sets.specs.Sets.{AreSetLists}
 use Rattle.tune_sets.specs.SetBytes.{written_sets}
 use Rattle.tune_sets.specs.declared.set_lists.TuneSet.{TuneSet}
@@ -17,13 +21,10 @@ use Rattle.tune_store.specs.Limits.{greatest_number, most_tunes}
 use Rattle.tune_store.specs.State.{IsTunes, greatest, tune_at, AreHeld}
 use Rattle.tune_store.specs.declared.tune.Tune.{Tune}
 use Rattle.tune_format.specs.Filed.{HoldTunes, rows_of}
-use Rattle.tune_format.specs.Parts.{Part, AreParts}
 use Rattle.tune_format.specs.Written.{IsRoot, number_at, written_rows}
 use Rattle.tune_format.specs.declared.rows.Row.{Row}
 use Rattle.tune_format.proofs.Bytes.{number_front}
-use Rattle.tune_format.proofs.Once.{all_map, none_free}
-use Rattle.tune_format.proofs.PartLemmas.{no_parts}
-use Rattle.tune_format.proofs.TextLemmas.{rows_count}
+use Rattle.tune_format.proofs.TextLemmas.{tune_without, later_held, rows_count}
 use Rattle.tune_contents.specs.Inside.Claiming.{AreBlocks, HasClaimed, ClaimsPart, IsPartThere, AreTunesThere, TunesClaimed, ClaimsLists, IsStateThere}
 use Rattle.tune_contents.specs.Claimed.{IsClaimed}
 use Rattle.tune_contents.specs.Inside.ClaimedRows.{HasNumber, NumberRows, NameRows}
@@ -53,8 +54,9 @@ list_there pages lf sf root sized there =
       part = filed.list;
       more = filed.set_lists ∷ filed.texts;
       are = filed.parts;
+      is_chain = filed.list_is_chain;
       is_first = sym filed.root.list ∙ root.list;
-      few = list_few pages sized filed.list filed.parts.chains.0 One (rows_of tunes filed.texts) filed.listed
+      few = list_few pages sized filed.list filed.list_is_chain filed.parts.stand.0 One (rows_of tunes filed.texts) filed.listed
           (omega (arith, count, most));
     }
 
@@ -78,13 +80,14 @@ sets_there : (pages : List (List ℕ)) (then : List Bool) (lf sf : ℕ) (list : 
     → (first : ClaimsPart pages [] then lf list) → AreBlocks pages → IsStateThere pages → IsPartThere pages (first.part ∷ []) sf most_sets_pages
 sets_there pages then lf sf list root first sized there =
     let filed = there.1.filed in
-    let same : filed.list ≡ first.part = first.only filed.list filed.parts.chains.0 (sym filed.root.list ∙ root.list) in
+    let same : filed.list ≡ first.part = first.only filed.list filed.list_is_chain filed.parts.stand.0 (sym filed.root.list ∙ root.list) in
     record {
       part = filed.set_lists;
       more = filed.texts;
       are = subst (λ p. AreParts pages (p ∷ filed.set_lists ∷ filed.texts)) same filed.parts;
+      is_chain = filed.sets_are_chain;
       is_first = sym filed.root.sets ∙ root.sets;
-      few = sets_few pages sized filed.set_lists filed.parts.chains.1.0 One there.0.sets filed.are_sets there.1.within.sets;
+      few = sets_few pages sized filed.set_lists filed.sets_are_chain filed.parts.stand.1.0 One there.0.sets filed.are_sets there.1.within.sets;
     }
 
 pub sets_fault : (f : ClaimFault) (mid now pages : List (List ℕ)) (claimed then : List Bool) (image : List ℕ) (lf sf : ℕ) (list : List ℕ) → mid ≡ pages
@@ -114,13 +117,15 @@ lists_claimed mid now pages claimed then last image lf sf list sets on also mark
       sets_part = second.part;
       has = second.has;
       root = there;
+      list_is_chain = first.is_chain;
+      sets_are_chain = second.is_chain;
       list_is = first.is_first;
       sets_are = second.is_first;
       list_holds = first.holds;
       sets_hold = sym second.holds;
       only = λ tunes held filed. (
-        first.only filed.list filed.parts.chains.0 (sym filed.root.list ∙ there.list),
-        second.only filed.set_lists filed.parts.chains.1.0 (sym filed.root.sets ∙ there.sets),
+        first.only filed.list filed.list_is_chain filed.parts.stand.0 (sym filed.root.list ∙ there.list),
+        second.only filed.set_lists filed.sets_are_chain filed.parts.stand.1.0 (sym filed.root.sets ∙ there.sets),
       );
     }
 
@@ -178,7 +183,7 @@ tune_has : (number : ℕ) (tunes : List Tune) (texts : List Part) (rows : List R
     → AllByRecursion (λ row. row.number ≤ greatest_number) rows → written_rows rows ≡ written_rows (rows_of tunes texts) → IsSome (tune_at number tunes)
     → HasNumber rows number
 tune_has number [] texts rows hold top small is some = absurd (false≢true some)
-tune_has number (tune ∷ tunes) [] rows hold top small is some = absurd (let size = ap (λ l. length l) hold in omega arith)
+tune_has number (tune ∷ tunes) [] rows hold top small is some = absurd (tune_without tune tunes hold)
 tune_has number (tune ∷ tunes) (part ∷ texts) [] hold top small is some = absurd (let size = ap (λ l. length l) is in omega arith)
 tune_has number (tune ∷ tunes) (part ∷ texts) (row ∷ rows) hold top small is some = elim (cases_Bool (eqb tune.number number)) [
   | inl same ↦
@@ -186,9 +191,8 @@ tune_has number (tune ∷ tunes) (part ∷ texts) (row ∷ rows) hold top small 
       let other = number_front tune.number (drop 4 (written_rows (rows_of (tune ∷ tunes) (part ∷ texts)))) (omega (arith, top)) in
       inl (sym one ∙ ap (number_at 0) is ∙ other ∙ eqb-true tune.number number same)
   | inr differs ↦
-      let later : HoldTunes texts tunes = cc in
       let found = rw differs at some in
-      inr (tune_has number tunes texts rows later (omega (arith, top)) small.1 (ap (drop 8) is) found)
+      inr (tune_has number tunes texts rows (later_held part texts tune tunes hold) (omega (arith, top)) small.1 (ap (drop 8) is) found)
 ]
 
 has_tune : (number : ℕ) (tunes : List Tune) (texts : List Part) → HasNumber (rows_of tunes texts) number → IsSome (tune_at number tunes)
@@ -246,6 +250,8 @@ state_claimed layout first now pages claimed last lf sf list bytes rows sets on 
         set_lists = l.sets_part;
         texts = t.texts;
         parts = t.has.are;
+        list_is_chain = l.list_is_chain;
+        sets_are_chain = l.sets_are_chain;
         root = record { is_version = l.root.is_version; list = l.root.list ∙ sym l.list_is; sets = l.root.sets ∙ sym l.sets_are };
         listed = l.list_holds ∙ listed ∙ ap written_rows t.rows_are;
         are_sets = sym l.sets_hold ∙ sym written;

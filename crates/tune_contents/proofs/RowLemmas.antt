@@ -7,6 +7,7 @@ use Rattle.std.specs.declared.cmp.Ordering.TheVariants.{Less, Greater}
 use Rattle.std.proofs.lemmas.Bool.{cases_lt}
 use Rattle.std.proofs.Math.Seq.{get_or-append_seam}
 use Rattle.tune_pages.specs.Stand.{Stand}
+use Rattle.tune_parts.specs.Parts.{Part}
 use Rattle.tune_store.specs.State.{RisesFrom}
 use Rattle.tune_store.specs.TuneSteps.{moved, moved_if}
 use Rattle.tune_store.specs.Inside.Lists.{IsPlaceAfter}
@@ -14,10 +15,9 @@ use Rattle.tune_store.specs.declared.tune.Tune.{Tune}
 use Rattle.tune_store.proofs.PlaceLemmas.{tune_at-none}
 use Rattle.tune_store.proofs.InsertLemmas.{rises-taken, moves_by}
 use Rattle.tune_format.specs.Filed.{row_of, rows_of, HoldTunes, HoldsTuneAt}
-use Rattle.tune_format.specs.Parts.{Part}
 use Rattle.tune_format.specs.declared.rows.Row.{Row}
 use Rattle.tune_format.proofs.ChangeLemmas.{row_at_place, move_text}
-use Rattle.tune_format.proofs.TextLemmas.{text_at, texts_cut, texts_inserted, rows_count, rows_cut, rows_inserted}
+use Rattle.tune_format.proofs.TextLemmas.{tune_without, later_held, text_at, texts_cut, texts_inserted, rows_count, rows_cut, rows_inserted}
 use Rattle.tune_contents.specs.Inside.Laying.{HoldsTunes}
 use Rattle.tune_contents.specs.Inside.Rows.{IsRowAfter, MovesTunes}
 use Rattle.tune_contents.specs.Claimed.{RowsRise}
@@ -76,16 +76,16 @@ no_row number rows place less greater n d l e = elim (cases_lt n place) [
 number_there : (tunes : List Tune) (texts : List Part) (n : ℕ) (d : Tune) (e : Row) → HoldTunes texts tunes → n < length tunes
     → (get_or tunes n d).number ≡ (get_or (rows_of tunes texts) n e).number
 number_there [] texts n d e holds l = absurd (omega arith)
-number_there (tune ∷ tunes) [] n d e holds l = absurd (let size = ap (λ l. length l) holds in omega arith)
+number_there (tune ∷ tunes) [] n d e holds l = absurd (tune_without tune tunes holds)
 number_there (tune ∷ tunes) (part ∷ texts) zero d e holds l = refl
 number_there (tune ∷ tunes) (part ∷ texts) (suc n) d e holds l =
-    let later : HoldTunes texts tunes = cc in number_there tunes texts n d e later (omega (arith, l))
+    number_there tunes texts n d e (later_held part texts tune tunes holds) (omega (arith, l))
 
 -- and rise with them
 pub rows_rise : (low : ℕ) (tunes : List Tune) (texts : List Part) → HoldTunes texts tunes → RisesFrom low tunes → RowsRise low (rows_of tunes texts)
 rows_rise low [] texts holds rises = tt
 rows_rise low (tune ∷ tunes) [] holds rises = tt
-rows_rise low (tune ∷ tunes) (part ∷ texts) holds rises = (let later : HoldTunes texts tunes = cc in (rises.0, rows_rise tune.number tunes texts later rises.1))
+rows_rise low (tune ∷ tunes) (part ∷ texts) holds rises = (rises.0, rows_rise tune.number tunes texts (later_held part texts tune tunes holds) rises.1)
 
 abbrev some_row : Row
 some_row = record { number = 0; revision = 0; first = 0 }
@@ -186,7 +186,7 @@ module _ (rows : List Row) (number to place at : ℕ) (row : Row) (l : place < l
   put_there = record {
     texts = insert (remove texts place) at there.part;
     holds = move_text s ahead texts tunes place at holds.holds there;
-    are_tunes = texts_inserted (remove texts place) (remove tunes place) at there.part new fewer there.holds;
+    are_tunes = texts_inserted (remove texts place) (remove tunes place) at there.part new fewer there.is_chain there.holds;
     listed = left_is;
   }
 

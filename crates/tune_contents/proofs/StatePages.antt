@@ -10,6 +10,9 @@ use Rattle.tune_pages.specs.Stand.{Stand}
 use Rattle.tune_pages.proofs.Counting.{worth, marked_less}
 use Rattle.tune_pages.proofs.FreePages.{AreSized, chain_count}
 use Rattle.std.proofs.lemmas.Bool.Decides.{nat_tests}
+use Rattle.tune_parts.specs.Parts.{Part, IsPart, trails, root_and_trails, HoldsParts}
+use Rattle.tune_parts.specs.Parts.PartKind.{chain}
+use Rattle.tune_parts.proofs.PartLemmas.{its_chain}
 use Rattle.tune_sets.specs.Names.{is_good_name}
 use Rattle.tune_format.proofs.TextLemmas.{rows_count}
 use Rattle.tune_sets.specs.SetBytes.{written_sets, written_set, written_numbers}
@@ -20,9 +23,8 @@ use Rattle.tune_store.specs.Limits.{longest_text, most_tunes}
 use Rattle.tune_store.specs.State.{State, IsTune, IsState}
 use Rattle.tune_store.specs.declared.layout.Layout.{Layout}
 use Rattle.tune_store.specs.declared.tune.Tune.{Tune}
-use Rattle.tune_format.specs.Filed.{rows_of}
+use Rattle.tune_format.specs.Filed.{AreChains, rows_of}
 use Rattle.tune_format.specs.Layout.{revision_bytes, row_bytes}
-use Rattle.tune_format.specs.Parts.{Part, IsPart, trails, root_and_trails, HoldsParts}
 use Rattle.tune_format.specs.Written.{written_tune, written_rows}
 use Rattle.tune_format.specs.declared.rows.Row.{Row}
 use Rattle.tune_contents.specs.Holds.{HoldsContents}
@@ -45,22 +47,22 @@ none_from (suc n) a = none_from n (a + 1) ∙ omega arith
 none_used : (n : ℕ) → free_pages (replicate n false) ≡ n
 none_used n = none_from n 0 ∙ omega arith
 
-trails_count : (pages : List (List ℕ)) (parts : List Part) → AreSized pages → AllByRecursion (IsPart pages) parts
+trails_count : (pages : List (List ℕ)) (parts : List Part) → AreSized pages → AreChains parts → AllByRecursion (IsPart pages) parts
     → length (trails parts) ≡ chain_pages (bytes_of parts)
-trails_count pages [] sized are = refl
-trails_count pages (part ∷ parts) sized are =
-    let here = chain_count pages part.first part.trail part.bytes sized are.0 in
-    let more = trails_count pages parts sized are.1 in
+trails_count pages [] sized kinds are = refl
+trails_count pages (part ∷ parts) sized kinds are =
+    let here = chain_count pages part.first part.trail part.bytes sized (its_chain pages part kinds.0 are.0) in
+    let more = trails_count pages parts sized kinds.1 are.1 in
     omega (arith, here, more, length-append part.trail (trails parts))
 
--- What parts use, and the root, and what is free are all pages up to the limit.
-parts_count : (s : Stand) (parts : List Part) → AreSized s.pages → HoldsParts s parts
+-- What chains use, and the root, and what is free are all pages up to the limit.
+parts_count : (s : Stand) (parts : List Part) → AreSized s.pages → AreChains parts → HoldsParts s parts
     → free_pages s.used + (chain_pages (bytes_of parts) + 1) ≡ length s.used
-parts_count s parts sized holds =
+parts_count s parts sized kinds holds =
     let less = marked_less (root_and_trails parts) (replicate (length s.used) false) holds.apart in
     let same : free_pages s.used ≡ _ = ap free_pages holds.used in
     let none = none_used (length s.used) in
-    let count = trails_count s.pages parts sized holds.chains in
+    let count = trails_count s.pages parts sized kinds holds.stand in
     omega (arith, less, same, none, count)
 
 -- TUNES
@@ -122,9 +124,10 @@ list_count layout rows few = pages_mono (length (written_rows rows)) (row_bytes 
 
 -- CHAINS
 -- none that holds a part of a state has more pages
-module _ (pages : List (List ℕ)) (sized : AreSized pages) (part : Part) (is : IsPart pages part) (layout : Layout) where
+module _ (pages : List (List ℕ)) (sized : AreSized pages) (part : Part) (kind : part.kind ≡ chain) (is : IsPart pages part) (layout : Layout) where
   trail_count : (bytes : List ℕ) → part.bytes ≡ bytes → length part.trail ≡ pages_for (length bytes)
-  trail_count bytes holds = chain_count pages part.first part.trail part.bytes sized is ∙ ap (λ (l : List ℕ). pages_for (length l)) holds
+  trail_count bytes holds = chain_count pages part.first part.trail part.bytes sized (its_chain pages part kind is)
+      ∙ ap (λ (l : List ℕ). pages_for (length l)) holds
 
   pub tune_few : (tune : Tune) → part.bytes ≡ written_tune tune → length tune.text ≤ longest_text layout → length part.trail ≤ most_tune_pages layout
   tune_few tune holds fits =
@@ -144,7 +147,8 @@ pub state_count : (s : Stand) (contents : Contents) (state : State) → HoldsCon
     → length s.used ≤ free_pages s.used + most_used state.layout
 state_count s contents state holds within sized =
     let filed = holds.filed in
-    let all = parts_count s (filed.list ∷ filed.set_lists ∷ filed.texts) sized holds.holds in
+    let all = parts_count s (filed.list ∷ filed.set_lists ∷ filed.texts) sized
+    (filed.list_is_chain, (filed.sets_are_chain, filed.are_tunes.are_chains)) holds.holds in
     let rows = rows_of state.tunes filed.texts in
     let count = rows_count state.tunes filed.texts filed.are_tunes in
     let list = list_count state.layout rows (omega (arith, count, within.tunes.count)) in
@@ -152,5 +156,5 @@ state_count s contents state holds within sized =
     let sets = sets_count state.sets within.sets in
     let are_sets : pages_for (length filed.set_lists.bytes) ≡ sets_pages state.sets = ap (λ (l : List ℕ). pages_for (length l)) filed.are_sets in
     let tunes = times_count _ (length state.tunes) _ _ (tunes_count state.layout state.tunes within.tunes.each) within.tunes.count in
-    let are_tunes : chain_pages (bytes_of filed.texts) ≡ chain_pages (map written_tune state.tunes) = ap chain_pages filed.are_tunes in
+    let are_tunes : chain_pages (bytes_of filed.texts) ≡ chain_pages (map written_tune state.tunes) = ap chain_pages filed.are_tunes.hold in
     omega (arith, all, list, listed, sets, are_sets, tunes, are_tunes, within.tunes.count)

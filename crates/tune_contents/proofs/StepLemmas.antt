@@ -5,31 +5,33 @@ use Rattle.std.specs.List.{AllByRecursion}
 use Rattle.std.proofs.lemmas.Bool.{eqb-true}
 use Rattle.std.proofs.lemmas.List.{append-nil, append_assoc, length-append}
 use Rattle.tune_pages.specs.Chain.{Leads}
+use Rattle.tune_parts.specs.Parts.{Part, IsPart, AreParts}
+use Rattle.tune_parts.specs.Parts.PartKind.{chain}
+use Rattle.tune_parts.proofs.Lists.{all_join, all_map}
+use Rattle.tune_parts.proofs.PartLemmas.{its_chain}
 use Rattle.tune_store.specs.declared.layout.Layout.{Layout}
 use Rattle.tune_store.specs.Limits.{most_tunes, greatest_number}
 use Rattle.tune_store.specs.State.{IsTune, RisesFrom, greatest}
 use Rattle.tune_store.specs.declared.tune.Tune.{Tune}
-use Rattle.tune_format.specs.Filed.{HoldTunes, rows_of, row_of}
+use Rattle.tune_format.specs.Filed.{rows_of, row_of}
 use Rattle.tune_format.specs.Layout.{most_pages_of_archive, row_bytes}
-use Rattle.tune_format.specs.Parts.{Part, IsPart, AreParts}
 use Rattle.tune_format.specs.Written.{written_row, written_rows}
 use Rattle.tune_format.specs.declared.rows.Row.{Row}
 use Rattle.tune_format.proofs.Bytes.{rows-append, length-rows}
-use Rattle.tune_format.proofs.Once.{all_join, all_map}
-use Rattle.tune_format.proofs.TextLemmas.{texts_join, rows_join}
+use Rattle.tune_format.proofs.TextLemmas.{none_held, one_held, first_held, later_held, texts_join, rows_join}
 use Rattle.tune_contents.specs.Inside.Claiming.{HasClaimed, ClaimsPart, ClaimsTune, IsTuneThere, TunesStand, AreTunesThere, ClaimsSoFar}
 use Rattle.tune_contents.specs.Inside.ClaimedRows.{RowsSoFar}
 use Rattle.tune_contents.specs.Claimed.{AreRows, RowsRise}
 use Rattle.tune_contents.proofs.ClaimLemmas.{claimed_as, its_part}
 use Rattle.tune_contents.proofs.StatePages.{tune_few}
 
--- the first page of a part has a number of 32 bits
+-- the first page of a chain has a number of 32 bits
 leads_small : (pages : List (List ℕ)) (first : ℕ) (trail : List ℕ) → Leads pages first trail 0 → length pages ≤ most_pages_of_archive → first < 4294967296
 leads_small pages first [] leads few = omega (arith, leads)
 leads_small pages first (p ∷ trail) leads few = omega (arith, leads.0, leads.2, few)
 
-part_small : (pages : List (List ℕ)) (part : Part) → IsPart pages part → length pages ≤ most_pages_of_archive → part.first < 4294967296
-part_small pages part is few = leads_small pages part.first part.trail is.leads few
+part_small : (pages : List (List ℕ)) (part : Part) → part.kind ≡ chain → IsPart pages part → length pages ≤ most_pages_of_archive → part.first < 4294967296
+part_small pages part kind is few = leads_small pages part.first part.trail (its_chain pages part kind is).leads few
 
 -- A list that goes on has a first tune, with a part of its own, and others.
 record FirstTune (layout : Layout) (pages : List (List ℕ)) (front : List Part) (low : ℕ) (list : List ℕ) (tunes : List Tune) (texts : List Part) : Type 0 where
@@ -65,7 +67,7 @@ head_row : {layout : Layout}
     → (tune.number ≡ number) × (part.first ≡ first) × (rest ≡ written_rows (rows_of tail more))
 head_row pages front low list tune part tail more number first rest only stand =
     only (row_of tune part) (rows_of tail more) (let top = stand.numbers in omega (arith, top))
-    (part_small pages part (its_part pages front part more stand.are) stand.few_pages) stand.listed
+    (part_small pages part stand.hold.are_chains.0 (its_part pages front part more stand.are) stand.few_pages) stand.listed
 
 -- where the tunes of a list stand, the first of them does
 tune_there_of : {layout : Layout}
@@ -75,18 +77,19 @@ tune_there_of : {layout : Layout}
 tune_there_of pages front low list tune part tail more number first rest only stand =
     let head = head_row pages front low list tune part tail more number first rest only stand in
     let its : IsTune _ tune = stand.each.0 in
-    let held = stand.hold in
+    let written = first_held part more tune tail stand.hold in
     record {
       there = record {
         part = part;
         more = more;
         are = stand.are;
+        is_chain = stand.hold.are_chains.0;
         is_first = head.1;
-        few = tune_few pages stand.sized part (its_part pages front part more stand.are) _ tune (cc) its.fits;
+        few = tune_few pages stand.sized part stand.hold.are_chains.0 (its_part pages front part more stand.are) _ tune written its.fits;
       };
       revision = tune.revision;
       text = tune.text;
-      tune = record { written = cc; revised = its.revised; few = its.revision; good = record { tune_text = its.text; fits = its.fits } };
+      tune = record { written = sym written; revised = its.revised; few = its.revision; good = record { tune_text = its.text; fits = its.fits } };
       above = (let above = stand.rises.0 in omega (arith, above, head.0));
       below = (let top = stand.numbers in omega (arith, top, head.0));
     }
@@ -109,9 +112,8 @@ tunes_behind_of : {layout : Layout}
     → AreTunesThere layout pages (front ++ claims.part ∷ []) number rest
 tunes_behind_of pages front low list tune part tail more now bytes number first rest claims only stand =
     let head = head_row pages front low list tune part tail more number first rest only stand in
-    let same : part ≡ claims.part = claims.only part (its_part pages front part more stand.are) head.1 in
-    let held = stand.hold in
-    let later : HoldTunes more tail = cc in
+    let same : part ≡ claims.part = claims.only part stand.hold.are_chains.0 (its_part pages front part more stand.are) head.1 in
+    let later = later_held part more tune tail stand.hold in
     let listing : front ++ part ∷ more ≡ (front ++ claims.part ∷ []) ++ more =
     ap (λ p. front ++ p ∷ more) same ∙ sym (append_assoc front (claims.part ∷ []) more) in (
       tail,
@@ -216,7 +218,7 @@ pub claims_start : {layout : Layout} → (pages : List (List ℕ)) (front : List
 claims_start {layout} pages front list claimed rows none has =
     let whole = claimed_as pages claimed front (front ++ []) (sym (append-nil front)) has in
     record {
-      so_far = record { tunes = []; texts = []; has = whole; hold = refl; rows_are = none; rises = tt; top = refl; each = tt };
+      so_far = record { tunes = []; texts = []; has = whole; hold = none_held; rows_are = none; rises = tt; top = refl; each = tt };
       goes_on = λ there. subst (λ l. AreTunesThere layout pages l 0 list) (sym (append-nil front)) there;
     }
 
@@ -241,7 +243,7 @@ claims_more {layout} pages front list claimed now rows low rest row later so som
     let listing : (front ++ s.texts) ++ part ∷ [] ≡ front ++ (s.texts ++ part ∷ []) = append_assoc front s.texts (part ∷ []) in
     let holds : part.bytes ≡ claims.bytes = claims.claims.holds in
     let written = claims.tune.written in
-    let its : HoldTunes (part ∷ []) (tune ∷ []) = (λ i. (holds ∙ sym written) i ∷ []) in
+    let its = one_held part tune claims.claims.is_chain (holds ∙ sym written) in
     let its_row : row_of tune part ≡ row = (λ i. record { number = row.number; revision = row.revision; first = claims.claims.is_first i }) in
     record {
       so_far = record {

@@ -3,6 +3,7 @@ use Rattle.std.specs.Prelude.{◌≡◌, ℕ, ◌<◌, ◌≤◌, List, [], ◌�
 use Rattle.std.specs.Prelude.{replicate, ⊤}
 use Rattle.std.specs.List.{AllByRecursion}
 use Rattle.tune_pages.specs.Stand.{marked}
+use Rattle.tune_parts.specs.Parts.{root_and_trails}
 use Rattle.tune_sets.specs.declared.set_lists.TuneSet.{TuneSet}
 use Rattle.tune_store.specs.Limits.{most_tunes, greatest_number}
 use Rattle.tune_store.specs.State.{IsState}
@@ -10,7 +11,6 @@ use Rattle.tune_store.specs.declared.layout.Layout.{Layout}
 use Rattle.tune_store.specs.declared.layout.Layout.TheVariants.{One}
 use Rattle.tune_store.specs.declared.tune.Tune.{Tune}
 use Rattle.tune_format.specs.Filed.{Filed, rows_of}
-use Rattle.tune_format.specs.Parts.{root_and_trails}
 use Rattle.tune_format.specs.declared.rows.Row.{Row}
 
 -- numbers rise strictly, and are above this one

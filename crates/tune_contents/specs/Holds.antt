@@ -1,12 +1,12 @@
 -- What an archive holds on its pages.
 use Rattle.std.specs.Prelude.{◌≡◌, List, ◌∷◌, map}
 use Rattle.tune_pages.specs.Stand.{Stand}
+use Rattle.tune_parts.specs.Parts.{HoldsParts}
 use Rattle.tune_store.specs.State.{State, RisesFrom}
 use Rattle.tune_store.specs.declared.catalog.Label.{Label}
 use Rattle.tune_store.specs.declared.plans.Change.{Change}
 use Rattle.tune_store.specs.Plans.{changed}
 use Rattle.tune_format.specs.Filed.{Filed, rows_of}
-use Rattle.tune_format.specs.Parts.{HoldsParts}
 use Rattle.tune_format.specs.declared.rows.Row.{Row}
 use Rattle.tune_contents.specs.declared.contents.Contents.{Contents}
 

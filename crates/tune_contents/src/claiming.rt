@@ -1,6 +1,7 @@
 // Claims what an archive has on its pages, and so finds whether a state stands there.
 ghost use Rattle.std.specs.Prelude.{◌≡◌, ℕ, ◌*◌, ◌<◌, ◌≤◌, List, [], ◌∷◌, ◌++◌, length, drop};
 ghost use Rattle.std.specs.Prelude.{IfOk, IfErr, IfSome, IfNone, IsTrue, ◌↔◌, ◌≢◌};
+ghost use Rattle.tune_parts.specs.Parts.{Part};
 ghost use Rattle.tune_sets.specs.Sets.{AreSetLists};
 ghost use Rattle.tune_sets.specs.SetBytes.{written_sets};
 ghost use Rattle.tune_sets.specs.declared.set_lists.TuneSet.{TuneSet};
@@ -8,7 +9,6 @@ ghost use Rattle.tune_store.specs.Limits.{greatest_number};
 ghost use Rattle.tune_store.specs.State.{State};
 ghost use Rattle.tune_store.specs.declared.layout.Layout.TheVariants.{One};
 ghost use Rattle.tune_format.specs.Layout.{row_bytes};
-ghost use Rattle.tune_format.specs.Parts.{Part};
 ghost use Rattle.tune_format.specs.States.{IsStateOf};
 ghost use Rattle.tune_format.specs.Written.{written_row, written_rows};
 ghost use Rattle.tune_format.specs.declared.rows.Row.{Row};

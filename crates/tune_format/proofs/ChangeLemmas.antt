@@ -7,16 +7,12 @@ use Rattle.std.proofs.lemmas.List.{drop-drop, take-append-drop}
 use Rattle.tune_pages.specs.Stand.{Stand, PutsChain, HasChain, without_pages}
 use Rattle.tune_store.specs.declared.tune.Tune.{Tune}
 use Rattle.tune_format.specs.Filed.{row_of, rows_of, HoldsTuneAt}
-use Rattle.tune_format.specs.Parts.{Part, HoldsParts}
-use Rattle.tune_format.proofs.PartLemmas.{put_parts, free_parts, has_part, move_part}
+use Rattle.tune_parts.specs.Parts.{Part, HoldsParts, chain_part}
+use Rattle.tune_parts.proofs.PartLemmas.{put_parts, free_parts, has_part, move_part}
 use Rattle.tune_format.proofs.TextLemmas.{length-texts, rows_count, rows_join}
 
--- the part of a chain
-abbrev part_of : ℕ → List ℕ → List ℕ → Part
-part_of first trail bytes = record { first = first; trail = trail; bytes = bytes }
-
 pub swap_part : (s new : Stand) (part : Part) (first : ℕ) (trail bytes : List ℕ) (before after : List Part) → HoldsParts s (before ++ part ∷ after)
-    → PutsChain (without_pages part.trail s) new first trail bytes → HoldsParts new (before ++ part_of first trail bytes ∷ after)
+    → PutsChain (without_pages part.trail s) new first trail bytes → HoldsParts new (before ++ chain_part first trail bytes ∷ after)
 swap_part s new part first trail bytes before after holds put =
     put_parts (without_pages part.trail s) new first trail bytes before after put (free_parts s part before after holds)
 
@@ -53,7 +49,7 @@ held_here s ahead texts tunes place holds at = subst (HoldsParts s) (here ahead 
 
 pub has_text : (s : Stand) (ahead texts : List Part) (tunes : List Tune) (place : ℕ) → HoldsParts s (ahead ++ texts) → (at : HoldsTuneAt texts tunes place)
     → HasChain s at.part.first at.part.trail at.part.bytes
-has_text s ahead texts tunes place holds at = has_part s at.part (ahead ++ at.before) at.after (held_here s ahead texts tunes place holds at)
+has_text s ahead texts tunes place holds at = has_part s at.part (ahead ++ at.before) at.after at.is_chain (held_here s ahead texts tunes place holds at)
 
 pub row_at_place : (texts : List Part) (tunes : List Tune) (place : ℕ) (at : HoldsTuneAt texts tunes place)
     → (rows_of tunes texts ≡ rows_of at.front at.before ++ row_of at.tune at.part ∷ rows_of at.back at.after) × (length (rows_of at.front at.before) ≡ place)
@@ -63,16 +59,16 @@ row_at_place texts tunes place at = (
 )
 
 pub add_text : (s new : Stand) (ahead texts : List Part) (first : ℕ) (trail bytes : List ℕ) → HoldsParts s (ahead ++ texts) → PutsChain s new first trail bytes
-    → HoldsParts new (ahead ++ (texts ++ part_of first trail bytes ∷ []))
+    → HoldsParts new (ahead ++ (texts ++ chain_part first trail bytes ∷ []))
 add_text s new ahead texts first trail bytes holds put =
-    subst (HoldsParts new) (append_assoc ahead texts (part_of first trail bytes ∷ []))
+    subst (HoldsParts new) (append_assoc ahead texts (chain_part first trail bytes ∷ []))
     (put_parts s new first trail bytes (ahead ++ texts) [] put (subst (HoldsParts s) (sym (append-nil (ahead ++ texts))) holds))
 
 pub put_text : (s new : Stand) (ahead texts : List Part) (tunes : List Tune) (place first : ℕ) (trail bytes : List ℕ) → HoldsParts s (ahead ++ texts)
     → (at : HoldsTuneAt texts tunes place) → PutsChain (without_pages at.part.trail s) new first trail bytes
-    → HoldsParts new (ahead ++ set texts place (part_of first trail bytes))
+    → HoldsParts new (ahead ++ set texts place (chain_part first trail bytes))
 put_text s new ahead texts tunes place first trail bytes holds at put =
-    subst (HoldsParts new) (put_here ahead texts tunes place at (part_of first trail bytes))
+    subst (HoldsParts new) (put_here ahead texts tunes place at (chain_part first trail bytes))
     (swap_part s new at.part first trail bytes (ahead ++ at.before) at.after (held_here s ahead texts tunes place holds at) put)
 
 pub cut_text : (s : Stand) (ahead texts : List Part) (tunes : List Tune) (place : ℕ) → HoldsParts s (ahead ++ texts) → (at : HoldsTuneAt texts tunes place)

@@ -2,7 +2,7 @@
 use Rattle.std.proofs.Common.{◌≡◌, [], ◌∷◌, take, refl}
 use Rattle.tune_store.specs.declared.tune.Tune.{Tune}
 use Rattle.tune_format.specs.Filed.{rows_of}
-use Rattle.tune_format.specs.Parts.{Part, AreApart}
+use Rattle.tune_parts.specs.Parts.{Part, chain_part}
 use Rattle.tune_format.specs.Reading.{tune_of, sets_written}
 use Rattle.tune_format.specs.Written.{IsRoot, root_bytes, written_rows, written_tune}
 
@@ -25,7 +25,7 @@ tune_read : tune_of 999999 (39 ∷ 15 ∷ 88 ∷ []) ≡ last
 tune_read = refl
 
 abbrev part : Part
-part = record { first = 70000; trail = 70000 ∷ []; bytes = 39 ∷ 15 ∷ 88 ∷ [] }
+part = chain_part 70000 (70000 ∷ []) (39 ∷ 15 ∷ 88 ∷ [])
 
 row_written : written_rows (rows_of (last ∷ []) (part ∷ [])) ≡ 0 ∷ 15 ∷ 66 ∷ 63 ∷ 0 ∷ 1 ∷ 17 ∷ 112 ∷ []
 row_written = refl
@@ -34,7 +34,3 @@ row_written = refl
 sets_read : sets_written (1 ∷ 97 ∷ 0 ∷ 2 ∷ 0 ∷ 0 ∷ 0 ∷ 1 ∷ 0 ∷ 0 ∷ 1 ∷ 2 ∷ 1 ∷ 98 ∷ 0 ∷ 0 ∷ [])
     ≡ record { name = 97 ∷ []; numbers = 1 ∷ 258 ∷ [] } ∷ record { name = 98 ∷ []; numbers = [] } ∷ []
 sets_read = refl
-
--- two chains on five pages
-apart : AreApart 5 (record { first = 4; trail = 4 ∷ 2 ∷ []; bytes = [] } ∷ record { first = 1; trail = 1 ∷ []; bytes = [] } ∷ [])
-apart = (refl, (refl, (refl, (refl, tt))))

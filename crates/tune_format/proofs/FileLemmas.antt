@@ -15,22 +15,24 @@ use Rattle.tune_pages.specs.Chain.{Leads, bytes_along, next_of, piece_of}
 use Rattle.tune_pages.specs.Stand.{IsFree, AllFree, marked}
 use Rattle.tune_pages.proofs.Chains.{length-marked}
 use Rattle.tune_pages.proofs.Marks.{used_few}
+use Rattle.tune_parts.specs.Parts.{Part, IsPart, trails, root_and_trails}
+use Rattle.tune_parts.specs.Parts.PartKind.{chain}
+use Rattle.tune_parts.proofs.Lists.{all_right}
+use Rattle.tune_parts.proofs.Once.{free_once, once_free, once_cut}
+use Rattle.tune_parts.proofs.PartLemmas.{free_front, each_used, its_chain}
 use Rattle.tune_sets.specs.SetBytes.{written_numbers, written_set, written_sets}
 use Rattle.tune_sets.specs.Sets.{IsTuneSet, AreSetLists}
 use Rattle.tune_sets.specs.declared.set_lists.TuneSet.{TuneSet}
 use Rattle.tune_sets.proofs.ByteLemmas.{set_parts, length-written_numbers}
 use Rattle.tune_store.specs.State.{IsTune, IsTunes, greatest}
 use Rattle.tune_store.specs.declared.tune.Tune.{Tune}
-use Rattle.tune_format.specs.Filed.{rows_of, HoldTunes, Filed}
-use Rattle.tune_format.specs.Parts.{Part, IsPart, trails, root_and_trails}
+use Rattle.tune_format.specs.Filed.{AreChains, rows_of, HoldTunes, Filed}
 use Rattle.tune_format.specs.Reading.{bytes_from, chain_at, tune_of, tunes_of, tunes_listed}
 use Rattle.tune_format.specs.Reading.{numbers_of, places_of, sets_of, sets_written, tunes_in, sets_in, pages_in}
 use Rattle.tune_format.specs.Written.{written_rows, written_tune}
 use Rattle.tune_format.specs.declared.rows.Row.{Row}
 use Rattle.tune_format.proofs.Bytes.{number_front, row_read, length-rows}
-use Rattle.tune_format.proofs.Once.{all_right, free_once, once_free, once_cut}
-use Rattle.tune_format.proofs.PartLemmas.{free_front, each_used}
-use Rattle.tune_format.proofs.TextLemmas.{rows_count}
+use Rattle.tune_format.proofs.TextLemmas.{tune_without, first_held, later_held, rows_count}
 
 -- CHAINS
 -- pages that come once are at most as many as there are
@@ -65,21 +67,23 @@ first_there : (pages : List (List ℕ)) (first : ℕ) (trail : List ℕ) → Lea
 first_there pages first [] leads = omega (arith, leads)
 first_there pages first (p ∷ trail) leads = omega (arith, leads.0, leads.2)
 
-reads_part : (pages : List (List ℕ)) (part : Part) → IsPart pages part → AllFree part.trail (replicate (length pages) false) → ReadsPart pages part
-reads_part pages part chain free = (
-  bytes_from_is (length pages) pages part.first part.trail (few_free (length pages) part.trail free) chain.leads ∙ chain.holds,
-  first_there pages part.first part.trail chain.leads,
-)
+reads_part : (pages : List (List ℕ)) (part : Part) → part.kind ≡ chain → IsPart pages part → AllFree part.trail (replicate (length pages) false)
+    → ReadsPart pages part
+reads_part pages part kind stands free =
+    let is = its_chain pages part kind stands in (
+      bytes_from_is (length pages) pages part.first part.trail (few_free (length pages) part.trail free) is.leads ∙ is.holds,
+      first_there pages part.first part.trail is.leads,
+    )
 
-reads_parts : (pages : List (List ℕ)) (parts : List Part) → AllByRecursion (IsPart pages) parts → AllFree (trails parts) (replicate (length pages) false)
-    → AllByRecursion (ReadsPart pages) parts
-reads_parts pages [] chains free = tt
-reads_parts pages (part ∷ parts) chains free =
+reads_parts : (pages : List (List ℕ)) (parts : List Part) → AreChains parts → AllByRecursion (IsPart pages) parts
+    → AllFree (trails parts) (replicate (length pages) false) → AllByRecursion (ReadsPart pages) parts
+reads_parts pages [] kinds stand free = tt
+reads_parts pages (part ∷ parts) kinds stand free =
     let none = replicate (length pages) false in
     let known = free_once (part.trail ++ trails parts) none free in
     let rest = once_cut [] part.trail (trails parts) known.0 in (
-      reads_part pages part chains.0 (free_front part.trail (trails parts) none free),
-      reads_parts pages parts chains.1 (once_free (trails parts) none rest.0 (all_right (IsFree none) part.trail (trails parts) known.1)),
+      reads_part pages part kinds.0 stand.0 (free_front part.trail (trails parts) none free),
+      reads_parts pages parts kinds.1 stand.1 (once_free (trails parts) none rest.0 (all_right (IsFree none) part.trail (trails parts) known.1)),
     )
 
 -- TUNES
@@ -94,11 +98,11 @@ HasRoom tune = (tune.number < 2 ^ 32) × (tune.revision < 2 ^ 16)
 tunes_read : (pages : List (List ℕ)) (tunes : List Tune) (texts : List Part) → length pages < 2 ^ 32 → AllByRecursion HasRoom tunes → HoldTunes texts tunes
     → AllByRecursion (ReadsPart pages) texts → tunes_of (length tunes) pages (written_rows (rows_of tunes texts)) ≡ tunes
 tunes_read pages [] texts few rooms holds reads = refl
-tunes_read pages (tune ∷ tunes) [] few rooms holds reads = absurd (let size = ap (λ l. length l) holds in omega arith)
+tunes_read pages (tune ∷ tunes) [] few rooms holds reads = absurd (tune_without tune tunes holds)
 tunes_read pages (tune ∷ tunes) (part ∷ texts) few rooms holds reads =
     let row : Row = record { number = tune.number; revision = tune.revision; first = part.first } in
-    let its : part.bytes ≡ written_tune tune = cc in
-    let later : HoldTunes texts tunes = cc in
+    let its = first_held part texts tune tunes holds in
+    let later = later_held part texts tune tunes holds in
     let read = row_read row (rows_of tunes texts) rooms.0.0 (omega (arith, few, reads.0.1)) in
     let first = ap (chain_at pages) (sym read.1) ∙ reads.0.0 ∙ its in
     (λ i. tune_of (sym read.0 i) (first i) ∷ tunes_of (length tunes) pages (written_rows (rows_of tunes texts)))
@@ -168,7 +172,8 @@ filed_parts pages tunes sets filed =
     let parts = filed.list ∷ filed.set_lists ∷ filed.texts in
     let none = replicate (length pages) false in
     let known = free_once (root_and_trails parts) none filed.parts.apart in
-    reads_parts pages parts filed.parts.chains (once_free (trails parts) none known.0.1 known.1.1)
+    reads_parts pages parts (filed.list_is_chain, (filed.sets_are_chain, filed.are_tunes.are_chains)) filed.parts.stand
+    (once_free (trails parts) none known.0.1 known.1.1)
 
 pub tunes_filed : {layout : Layout} → (pages : List (List ℕ)) (tunes : List Tune) (sets : List TuneSet) → Filed pages tunes sets → IsTunes layout tunes
     → length pages < 2 ^ 32

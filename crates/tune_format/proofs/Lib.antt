@@ -2,7 +2,5 @@ pub mod Bytes
 pub mod ChangeLemmas
 mod Examples
 pub mod FileLemmas
-pub mod Once
-pub mod PartLemmas
 pub mod StateLemmas
 pub mod TextLemmas

@@ -3,10 +3,11 @@ use Rattle.std.proofs.Common.{◌≡◌, ◌⊎◌, inl, inr, ℕ, List, [], ◌
 use Rattle.tune_journal.specs.Image.{StandsForEither}
 use Rattle.tune_store.specs.State.{State, IsState, empty_state}
 use Rattle.tune_format.specs.Filed.{Filed}
-use Rattle.tune_format.specs.Parts.{Part}
+use Rattle.tune_parts.specs.Parts.{Part, chain_part}
 use Rattle.tune_format.specs.States.{IsStateOf, StandsForState, state_of_pages, state_in}
 use Rattle.tune_format.specs.Written.{IsRoot}
 use Rattle.tune_format.proofs.FileLemmas.{pages_read, tunes_filed, sets_filed}
+use Rattle.tune_format.proofs.TextLemmas.{none_held}
 
 pub state_read : (pages : List (List ℕ)) (state : State) → IsStateOf pages state → state_of_pages pages ≡ state
 state_read pages state is =
@@ -28,7 +29,7 @@ either_state before after old new file is also (inr stands) = inr (record { page
 
 -- no bytes are no chain
 no_part : Part
-no_part = record { first = 0; trail = []; bytes = [] }
+no_part = chain_part 0 [] []
 
 pub empty_filed : (image : List ℕ) → IsRoot image 0 0 → Filed (image ∷ []) [] []
 unfolding no_part
@@ -37,13 +38,15 @@ empty_filed image root = record {
   set_lists = no_part;
   texts = [];
   parts = record {
-    chains = (record { leads = refl; holds = refl }, (record { leads = refl; holds = refl }, tt));
+    stand = (record { leads = refl; holds = refl }, (record { leads = refl; holds = refl }, tt));
     apart = (refl, tt);
   };
+  list_is_chain = refl;
+  sets_are_chain = refl;
   root = root;
   listed = refl;
   are_sets = refl;
-  are_tunes = refl;
+  are_tunes = none_held;
 }
 
 pub empty_within : IsState empty_state

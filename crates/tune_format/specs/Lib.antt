@@ -1,6 +1,5 @@
 pub mod Filed
 pub mod Layout
-pub mod Parts
 pub mod Reading
 pub mod States
 pub mod Written

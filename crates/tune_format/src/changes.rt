@@ -2,9 +2,9 @@
 ghost use Rattle.std.specs.Prelude.{◌≡◌, ℕ, List, [], ◌∷◌, ◌++◌, length, slice_set};
 ghost use Rattle.std.specs.List.{remove, insert};
 ghost use Rattle.tune_pages.specs.Stand.{Stand, PutsChain, HasChain, without_pages};
+ghost use Rattle.tune_parts.specs.Parts.{Part, HoldsParts, chain_part};
 ghost use Rattle.tune_store.specs.declared.tune.Tune.{Tune};
 ghost use Rattle.tune_format.specs.Filed.{row_of, rows_of, HoldsTuneAt};
-ghost use Rattle.tune_format.specs.Parts.{Part, HoldsParts};
 
 /// The laws of changes, of parts among which those of the tunes stand behind any others. A chain is
 /// freed before another one is put.
@@ -20,8 +20,7 @@ pub fn law_of_changes()
     ensures swapped { (s new : Stand) (part : Part) (first : ℕ) (trail bytes : List ℕ)
         (before after : List Part) → HoldsParts s (before ++ part ∷ after)
         → PutsChain (without_pages part.trail s) new first trail bytes
-        → HoldsParts new
-        (before ++ record { first = first; trail = trail; bytes = bytes } ∷ after) }
+        → HoldsParts new (before ++ chain_part first trail bytes ∷ after) }
     ensures has { (s : Stand) (ahead texts : List Part) (tunes : List Tune) (place : ℕ)
         → HoldsParts s (ahead ++ texts) → (at : HoldsTuneAt texts tunes place)
         → HasChain s at.part.first at.part.trail at.part.bytes }
@@ -32,14 +31,12 @@ pub fn law_of_changes()
         × (length (rows_of at.front at.before) ≡ place) }
     ensures added { (s new : Stand) (ahead texts : List Part) (first : ℕ) (trail bytes : List ℕ)
         → HoldsParts s (ahead ++ texts) → PutsChain s new first trail bytes
-        → HoldsParts new
-        (ahead ++ (texts ++ record { first = first; trail = trail; bytes = bytes } ∷ [])) }
+        → HoldsParts new (ahead ++ (texts ++ chain_part first trail bytes ∷ [])) }
     ensures put { (s new : Stand) (ahead texts : List Part) (tunes : List Tune) (place first : ℕ)
         (trail bytes : List ℕ) → HoldsParts s (ahead ++ texts)
         → (at : HoldsTuneAt texts tunes place)
         → PutsChain (without_pages at.part.trail s) new first trail bytes
-        → HoldsParts new (ahead
-        ++ slice_set texts place (record { first = first; trail = trail; bytes = bytes })) }
+        → HoldsParts new (ahead ++ slice_set texts place (chain_part first trail bytes)) }
     ensures cut { (s : Stand) (ahead texts : List Part) (tunes : List Tune) (place : ℕ)
         → HoldsParts s (ahead ++ texts) → (at : HoldsTuneAt texts tunes place)
         → HoldsParts (without_pages at.part.trail s) (ahead ++ remove texts place) }

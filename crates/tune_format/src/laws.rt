@@ -1,12 +1,12 @@
-// What holds of the parts of an archive, whatever is done with its pages.
-ghost use Rattle.std.specs.Prelude.{◌≡◌, ◌⊎◌, ℕ, ◌-◌, ◌<◌, ◌≤◌, Bool, true, false, List};
-ghost use Rattle.std.specs.Prelude.{[], ◌∷◌, ◌++◌, length, replicate, slice_set};
+// What holds of the parts of an archive, and of what is read off its pages.
+ghost use Rattle.std.specs.Prelude.{◌≡◌, ◌⊎◌, ℕ, ◌<◌, ◌≤◌, List, [], ◌∷◌, ◌++◌, length};
+ghost use Rattle.std.specs.Prelude.{slice_set};
 ghost use Rattle.std.specs.List.{remove, insert};
 ghost use Rattle.tune_journal.specs.Image.{StandsFor, StandsForEither};
 ghost use Rattle.tune_journal.specs.Pages.{page_at};
-ghost use Rattle.tune_pages.specs.Claim.{Claimable};
-ghost use Rattle.tune_pages.specs.Stand.{Stand, PutsChain, HasChain, marked, with_page};
-ghost use Rattle.tune_pages.specs.Stand.{without_pages};
+ghost use Rattle.tune_pages.specs.Stand.{Stand};
+ghost use Rattle.tune_parts.specs.Parts.{Part, HoldsParts};
+ghost use Rattle.tune_parts.specs.Parts.PartKind.{chain};
 ghost use Rattle.tune_sets.specs.SetBytes.{written_sets};
 ghost use Rattle.tune_sets.specs.Sets.{AreSetLists};
 ghost use Rattle.tune_sets.specs.declared.set_lists.TuneSet.{TuneSet};
@@ -16,75 +16,19 @@ ghost use Rattle.tune_store.specs.declared.tune.Tune.{Tune};
 ghost use Rattle.tune_format.specs.Filed.{row_of, rows_of, HoldTunes, HoldsTuneAt, Filed};
 ghost use Rattle.tune_format.specs.Layout.{most_pages_of_archive};
 ghost use Rattle.tune_format.specs.Reading.{tunes_in, sets_in, pages_in};
-ghost use Rattle.tune_format.specs.Parts.{Part, root_and_trails, AreParts, HoldsParts};
 ghost use Rattle.tune_format.specs.States.{IsStateOf, StandsForState, state_of_pages};
 ghost use Rattle.tune_format.specs.States.{state_in};
 ghost use Rattle.tune_format.specs.Written.{IsRoot, written_rows, written_tune};
-
-/// The laws of parts. They speak of parts by the list of them: any part may stand anywhere in it.
-///
-/// - `put`: a chain that `put_chain` put is a part more, and the others stay.
-/// - `freed`: a part whose chain `free_chain` freed goes, and the others stay.
-/// - `root`: where `put_page` put a root, it stands there, and all parts stay.
-/// - `moved`: the order in which parts are named does not matter.
-/// - `has`: each part is a chain in use.
-/// - `parts`: parts that are held stand on the pages; `held`: parts that stand there are held where
-///   they are what is in use.
-/// - `unclaimed`, `claimed`: how parts are claimed, one after another, from none on.
-/// - `claimable`: of parts that stand there, each can be claimed when those before it were.
-/// - `opened`: what is in use once all is claimed.
-pub fn law_of_parts()
-    ensures put { (old new : Stand) (first : ℕ) (trail bytes : List ℕ) (before after : List Part)
-        → PutsChain old new first trail bytes → HoldsParts old (before ++ after)
-        → HoldsParts new
-        (before ++ record { first = first; trail = trail; bytes = bytes } ∷ after) }
-    ensures freed { (s : Stand) (part : Part) (before after : List Part)
-        → HoldsParts s (before ++ part ∷ after)
-        → HoldsParts (without_pages part.trail s) (before ++ after) }
-    ensures root { (s : Stand) (image : List ℕ) (parts : List Part) → HoldsParts s parts
-        → HoldsParts (with_page 0 image s) parts
-        × (page_at (with_page 0 image s).pages 0 ≡ image) }
-    ensures moved { (s : Stand) (part : Part) (before after front back : List Part)
-        → before ++ after ≡ front ++ back → HoldsParts s (before ++ part ∷ after)
-        → HoldsParts s (front ++ part ∷ back) }
-    ensures has { (s : Stand) (part : Part) (before after : List Part)
-        → HoldsParts s (before ++ part ∷ after)
-        → HasChain s part.first part.trail part.bytes }
-    ensures parts { (s : Stand) (parts : List Part) → HoldsParts s parts
-        → AreParts s.pages parts }
-    ensures held { (s : Stand) (limit : ℕ) (parts : List Part) → AreParts s.pages parts
-        → length s.pages ≤ limit
-        → s.used ≡ marked true (root_and_trails parts) (replicate limit false)
-        → HoldsParts s parts }
-    ensures unclaimed { (pages : List (List ℕ)) → 0 < length pages → AreParts pages [] }
-    ensures claimed { (pages : List (List ℕ)) (claimed : List Bool) (first : ℕ)
-        (trail bytes : List ℕ) (before after : List Part) → AreParts pages (before ++ after)
-        → claimed ≡ marked true (root_and_trails (before ++ after))
-        (replicate (length pages) false)
-        → Claimable pages claimed first trail bytes
-        → let more = before ++ record { first = first; trail = trail; bytes = bytes } ∷ after in
-        AreParts pages more × (marked true trail claimed
-        ≡ marked true (root_and_trails more) (replicate (length pages) false)) }
-    ensures claimable { (pages : List (List ℕ)) (claimed : List Bool) (part : Part)
-        (before after : List Part) → AreParts pages (before ++ part ∷ after)
-        → claimed ≡ marked true (root_and_trails before) (replicate (length pages) false)
-        → Claimable pages claimed part.first part.trail part.bytes }
-    ensures opened { (pages : List (List ℕ)) (claimed used : List Bool) (limit : ℕ)
-        (parts : List Part) → AreParts pages parts → length pages ≤ limit
-        → claimed ≡ marked true (root_and_trails parts) (replicate (length pages) false)
-        → used ≡ claimed ++ replicate (limit - length pages) false
-        → used ≡ marked true (root_and_trails parts) (replicate limit false) }
-{}
 
 /// The laws of texts: of the parts that hold tunes, and of the rows of both.
 ///
 /// - `count`: there is a part for each tune.
 /// - `at`: at each place stands the part of the tune there.
 /// - `joined`, `rows`: parts that hold tunes, and others behind them that hold others.
-/// - `put`, `rows_put`: a part with another tune in the place of one.
+/// - `put`, `rows_put`: a chain with another tune in the place of one.
 /// - `cut`, `rows_cut`: the parts and the tunes without those at a place.
-/// - `inserted`, `rows_inserted`: a part and its tune more, at a place.
-/// - `filed`: parts that are held, and named by the root and in the list, hold tunes and sets.
+/// - `inserted`, `rows_inserted`: a chain and its tune more, at a place.
+/// - `filed`: chains that are held, and named by the root and in the list, hold tunes and sets.
 pub fn law_of_texts()
     ensures count { (texts : List Part) (tunes : List Tune) → HoldTunes texts tunes
         → length texts ≡ length tunes }
@@ -97,7 +41,7 @@ pub fn law_of_texts()
         → HoldTunes before front
         → rows_of (front ++ back) (before ++ after) ≡ rows_of front before ++ rows_of back after }
     ensures put { (texts : List Part) (tunes : List Tune) (place : ℕ) (part : Part) (tune : Tune)
-        → HoldTunes texts tunes → part.bytes ≡ written_tune tune
+        → HoldTunes texts tunes → part.kind ≡ chain → part.bytes ≡ written_tune tune
         → HoldTunes (slice_set texts place part) (slice_set tunes place tune) }
     ensures rows_put { (texts : List Part) (tunes : List Tune) (place : ℕ) (part : Part)
         (tune : Tune) → rows_of (slice_set tunes place tune) (slice_set texts place part)
@@ -108,7 +52,8 @@ pub fn law_of_texts()
         → HoldTunes texts tunes
         → rows_of (remove tunes place) (remove texts place) ≡ remove (rows_of tunes texts) place }
     ensures inserted { (texts : List Part) (tunes : List Tune) (place : ℕ) (part : Part)
-        (tune : Tune) → HoldTunes texts tunes → part.bytes ≡ written_tune tune
+        (tune : Tune) → HoldTunes texts tunes → part.kind ≡ chain
+        → part.bytes ≡ written_tune tune
         → HoldTunes (insert texts place part) (insert tunes place tune) }
     ensures rows_inserted { (texts : List Part) (tunes : List Tune) (place : ℕ) (part : Part)
         (tune : Tune) → HoldTunes texts tunes
@@ -116,8 +61,8 @@ pub fn law_of_texts()
         ≡ insert (rows_of tunes texts) place (row_of tune part) }
     ensures filed { (s : Stand) (list set_lists : Part) (texts : List Part) (tunes : List Tune)
         (sets : List TuneSet) → HoldsParts s (list ∷ set_lists ∷ texts)
-        → IsRoot (page_at s.pages 0) list.first set_lists.first
-        → list.bytes ≡ written_rows (rows_of tunes texts)
+        → IsRoot (page_at s.pages 0) list.first set_lists.first → list.kind ≡ chain
+        → set_lists.kind ≡ chain → list.bytes ≡ written_rows (rows_of tunes texts)
         → set_lists.bytes ≡ written_sets sets → HoldTunes texts tunes
         → Filed s.pages tunes sets }
 {}

@@ -9,7 +9,7 @@ mod rows;
 mod texts;
 
 pub use changes::law_of_changes;
-pub use laws::{law_of_files, law_of_parts, law_of_texts};
+pub use laws::{law_of_files, law_of_texts};
 pub use root::{read_root, write_root};
 pub use rows::{Row, row_at, write_rows};
 pub use texts::{read_text, write_text};

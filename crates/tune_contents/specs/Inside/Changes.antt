@@ -2,6 +2,7 @@
 use Rattle.std.specs.Prelude.{◌+◌, ◌^◌, ◌<◌, List, length, vec_len, Bool, true, false, ⊤}
 use Rattle.std.specs.Prelude.{IsOk, is_some}
 use Rattle.tune_pages.specs.Stand.{Stand}
+use Rattle.tune_parts.specs.Parts.{Part}
 use Rattle.tune_sets.specs.Calls.{create_set, add_number, cut_place, drop_set}
 use Rattle.tune_sets.specs.Sets.{holder}
 use Rattle.tune_sets.specs.declared.set_lists.TuneSet.{TuneSet}
@@ -12,7 +13,6 @@ use Rattle.tune_store.specs.declared.layout.Layout.{Layout}
 use Rattle.tune_store.specs.declared.plans.Change.{Change}
 use Rattle.tune_store.specs.declared.plans.Change.TheVariants.{Add, Put, Take, Move, NewSet}
 use Rattle.tune_store.specs.declared.plans.Change.TheVariants.{AddPlace, CutPlace, DropSet}
-use Rattle.tune_format.specs.Parts.{Part}
 use Rattle.tune_format.specs.declared.rows.Row.{Row}
 use Rattle.tune_contents.specs.Claimed.{AreRows}
 use Rattle.tune_contents.specs.Holds.{labels_in}

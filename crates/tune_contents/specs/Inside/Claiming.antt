@@ -6,6 +6,8 @@ use Rattle.abc_fields.specs.Tunes.{IsTextWithin}
 use Rattle.tune_journal.specs.Layout.{block_bytes}
 use Rattle.tune_journal.specs.Pages.{page_at}
 use Rattle.tune_pages.specs.Stand.{marked}
+use Rattle.tune_parts.specs.Parts.{Part, IsPart, AreParts, root_and_trails}
+use Rattle.tune_parts.specs.Parts.PartKind.{chain}
 use Rattle.tune_sets.specs.declared.set_lists.TuneSet.{TuneSet}
 use Rattle.tune_store.specs.Limits.{longest_text, most_tunes, greatest_number, greatest_revision}
 use Rattle.tune_store.specs.State.{State, IsTune, RisesFrom, greatest}
@@ -13,7 +15,6 @@ use Rattle.tune_store.specs.declared.layout.Layout.{Layout}
 use Rattle.tune_store.specs.declared.tune.Tune.{Tune}
 use Rattle.tune_format.specs.Filed.{Filed, HoldTunes, rows_of}
 use Rattle.tune_format.specs.Layout.{most_pages_of_archive}
-use Rattle.tune_format.specs.Parts.{Part, IsPart, AreParts, root_and_trails}
 use Rattle.tune_format.specs.States.{IsStateOf}
 use Rattle.tune_format.specs.Written.{IsRoot, written_rows, written_text}
 use Rattle.tune_format.specs.declared.rows.Row.{Row}
@@ -30,21 +31,24 @@ pub record HasClaimed (pages : List (List ℕ)) (claimed : List Bool) (parts : L
   pub marks : claimed ≡ marked true (root_and_trails parts) (replicate (length pages) false)
 
 -- ONE PART
--- Behind parts that were claimed, one that begins at this page was, with these bytes.
+-- Behind parts that were claimed, a chain that begins at this page was, with these bytes.
 pub record ClaimsPart (pages : List (List ℕ)) (front : List Part) (now : List Bool) (first : ℕ)
     (bytes : List ℕ) : Type 0 where
   pub part : Part
   pub has : HasClaimed pages now (front ++ part ∷ [])
+  pub is_chain : part.kind ≡ chain
   pub is_first : part.first ≡ first
   pub holds : part.bytes ≡ bytes
-  pub only : (other : Part) → IsPart pages other → other.first ≡ first → other ≡ part
+  pub only : (other : Part) → other.kind ≡ chain → IsPart pages other → other.first ≡ first
+      → other ≡ part
 
--- Behind these parts some part stands there that begins at this page, of at most so many pages, and
--- more parts behind it.
+-- Behind these parts some chain stands there that begins at this page, of at most so many pages,
+-- and more parts behind it.
 pub record IsPartThere (pages : List (List ℕ)) (front : List Part) (first most : ℕ) : Type 0 where
   pub part : Part
   pub more : List Part
   pub are : AreParts pages (front ++ part ∷ more)
+  pub is_chain : part.kind ≡ chain
   pub is_first : part.first ≡ first
   pub few : length part.trail ≤ most
 
@@ -118,14 +122,16 @@ pub record ClaimsSoFar (layout : Layout) (pages : List (List ℕ)) (front : List
       → AreTunesThere layout pages (front ++ so_far.texts) low rest
 
 -- THE LISTS
--- The root names two parts, the list of tunes and the set lists, and these were claimed, with these
--- bytes. Whatever is filed on the pages has its lists there.
+-- The root names two chains, the list of tunes and the set lists, and these were claimed, with
+-- these bytes. Whatever is filed on the pages has its lists there.
 pub record ClaimsLists (pages : List (List ℕ)) (now : List Bool) (list_first sets_first : ℕ)
     (list set_lists : List ℕ) : Type 0 where
   pub list_part : Part
   pub sets_part : Part
   pub has : HasClaimed pages now (list_part ∷ sets_part ∷ [])
   pub root : IsRoot (page_at pages 0) list_first sets_first
+  pub list_is_chain : list_part.kind ≡ chain
+  pub sets_are_chain : sets_part.kind ≡ chain
   pub list_is : list_part.first ≡ list_first
   pub sets_are : sets_part.first ≡ sets_first
   pub list_holds : list_part.bytes ≡ list

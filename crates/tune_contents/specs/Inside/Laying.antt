@@ -2,11 +2,12 @@
 use Rattle.std.specs.Prelude.{◌≡◌, ℕ, Bool, false, List, [], ◌∷◌, ◌++◌}
 use Rattle.tune_journal.specs.Pages.{page_at}
 use Rattle.tune_pages.specs.Stand.{Stand, PutsChain, HasChain, without_pages}
+use Rattle.tune_parts.specs.Parts.{Part, HoldsParts}
+use Rattle.tune_parts.specs.Parts.PartKind.{chain}
 use Rattle.tune_sets.specs.SetBytes.{written_sets}
 use Rattle.tune_sets.specs.declared.set_lists.TuneSet.{TuneSet}
 use Rattle.tune_store.specs.declared.tune.Tune.{Tune}
 use Rattle.tune_format.specs.Filed.{HoldTunes, rows_of}
-use Rattle.tune_format.specs.Parts.{Part, HoldsParts}
 use Rattle.tune_format.specs.Written.{IsRoot, written_rows}
 use Rattle.tune_format.specs.declared.rows.Row.{Row}
 
@@ -48,6 +49,8 @@ pub record HoldsArchive (s : Stand) (list_first sets_first : ℕ) (listed : List
   pub list : Part
   pub set_lists : Part
   pub holds : HoldsTunes s (list ∷ set_lists ∷ []) tunes rows
+  pub list_is_chain : list.kind ≡ chain
+  pub sets_are_chain : set_lists.kind ≡ chain
   pub is_list : list.first ≡ list_first
   pub is_sets : set_lists.first ≡ sets_first
   pub list_bytes : list.bytes ≡ written_rows listed

@@ -5,7 +5,7 @@ use Rattle.tune_store.specs.State.{RisesFrom}
 use Rattle.tune_store.specs.TuneSteps.{moved}
 use Rattle.tune_store.specs.declared.tune.Tune.{Tune}
 use Rattle.tune_pages.specs.Stand.{Stand}
-use Rattle.tune_format.specs.Parts.{Part}
+use Rattle.tune_parts.specs.Parts.{Part}
 use Rattle.tune_format.specs.declared.rows.Row.{Row}
 use Rattle.tune_contents.specs.Inside.Laying.{HoldsTunes}
 

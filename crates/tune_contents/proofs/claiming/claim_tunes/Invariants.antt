@@ -1,5 +1,5 @@
 use Rattle.std.proofs.Common.{◌≡◌, List, length}
-use Rattle.tune_format.specs.Parts.{Part}
+use Rattle.tune_parts.specs.Parts.{Part}
 use Rattle.tune_contents.specs.Inside.Claiming.{HasClaimed, ClaimsSoFar}
 use Rattle.tune_contents.specs.Inside.ClaimedRows.{RowsSoFar}
 use Rattle.tune_contents.proofs.claiming.claim_tunes.Given as goal

@@ -1,4 +1,4 @@
-use Rattle.tune_format.proofs.PartLemmas.{are_parts}
+use Rattle.tune_parts.proofs.PartLemmas.{are_parts}
 use Rattle.tune_format.proofs.TextLemmas.{length-texts, text_at, texts_join, rows_join, texts_put, rows_put, texts_cut, rows_cut, texts_inserted, rows_inserted}
 use Rattle.tune_format.proofs.laws.law_of_texts.Goals as goal
 
@@ -14,11 +14,13 @@ returns c = record {
   rows_cut = rows_cut;
   inserted = texts_inserted;
   rows_inserted = rows_inserted;
-  filed = λ s list set_lists texts tunes sets holds root listed are_sets are_tunes. record {
+  filed = λ s list set_lists texts tunes sets holds root is_chain also_chain listed are_sets are_tunes. record {
     list = list;
     set_lists = set_lists;
     texts = texts;
     parts = are_parts s _ holds;
+    list_is_chain = is_chain;
+    sets_are_chain = also_chain;
     root = root;
     listed = listed;
     are_sets = are_sets;

@@ -1,6 +1,6 @@
-use Rattle.tune_format.proofs.PartLemmas.{put_parts, free_parts, root_parts, move_part, has_part, are_parts, held_parts}
-use Rattle.tune_format.proofs.PartLemmas.{no_parts, claim_part, can_claim, open_parts}
-use Rattle.tune_format.proofs.laws.law_of_parts.Goals as goal
+use Rattle.tune_parts.proofs.PartLemmas.{put_parts, free_parts, root_parts, move_part, has_part, are_parts, held_parts}
+use Rattle.tune_parts.proofs.PartLemmas.{no_parts, claim_part, can_claim, open_parts}
+use Rattle.tune_parts.proofs.laws.law_of_parts.Goals as goal
 
 pub returns : goal.returns
 returns c = record {

@@ -1,49 +1,25 @@
--- Parts of an archive, and what changes of pages leave of them.
-use Rattle.std.proofs.Common.{◌≡◌, ◌≢◌, ℕ, ◌-◌, ◌<◌, ◌≤◌, List, [], ◌∷◌, ◌++◌, length, set, replicate}
-use Rattle.std.proofs.Common.{Bool, true, false, All, refl, sym, ◌∙◌, ap, subst, arith}
+-- Parts, and what changes of pages leave of them.
+use Rattle.std.proofs.Common.{◌≡◌, ℕ, ◌-◌, ◌<◌, ◌≤◌, List, [], ◌∷◌, ◌++◌, length, set, replicate}
+use Rattle.std.proofs.Common.{Bool, true, false, refl, sym, ◌∙◌, ap, subst, arith}
 use Rattle.std.specs.List.{AllByRecursion}
-use Rattle.std.proofs.lemmas.Grind.{flat_map-append}
 use Rattle.std.proofs.lemmas.List.{get_or-set_same, length-replicate, length-set, set-set, set-get_or, set-append_left, replicate-append-replicate}
-use Rattle.std.proofs.lemmas.List.Elements.{All-nil, All-cons}
 use Rattle.tune_journal.specs.Pages.{page_at}
-use Rattle.tune_pages.specs.Chain.{Leads, next_of}
+use Rattle.tune_pages.specs.Chain.{IsChain}
 use Rattle.tune_pages.specs.Claim.{Claimable}
 use Rattle.tune_pages.specs.Frame.{AllApart}
-use Rattle.tune_pages.specs.Stand.{Stand, IsFree, AllFree, AllUsed, marked, placed, with_page, without_pages, KeepsOthers, PutsChain, HasChain}
-use Rattle.tune_pages.proofs.Chains.{SameAlong, chain_kept, length-marked}
-use Rattle.tune_pages.proofs.Marks.{apart_all, free_in}
+use Rattle.tune_pages.specs.Stand.{Stand, IsFree, AllFree, AllUsed, marked, placed, with_page, without_pages, PutsChain, HasChain}
+use Rattle.tune_pages.proofs.Chains.{length-marked}
+use Rattle.tune_pages.proofs.Marks.{apart_all, apart_of, free_in}
 use Rattle.tune_pages.proofs.Overlay.{marked_apart}
 use Rattle.tune_pages.proofs.Putting.{length-placed, placed_here, placed_other, used_stays}
-use Rattle.tune_format.specs.Parts.{Part, IsPart, trails, root_and_trails, AreApart, AreParts, HoldsParts}
-use Rattle.tune_format.proofs.Once.{all_left, all_right, all_join, all_map, Once, EachFree, apart_turned, all_apart_left, all_apart_right, once_put, once_cut}
-use Rattle.tune_format.proofs.Once.{free_once, once_free, free_none, none_free, free_past, past_free, marked_put, unmarked}
+use Rattle.tune_parts.specs.Parts.{PartKind, Part, IsPart, IsPartOf, chain_part, trails, root_and_trails, AreApart, AreParts, HoldsParts}
+use Rattle.tune_parts.specs.Parts.PartKind.{chain}
+use Rattle.tune_parts.proofs.Lists.{all_left, all_right, all_join, all_map, each_of}
+use Rattle.tune_parts.proofs.Once.{Once, EachFree, apart_turned, once_put, once_cut}
+use Rattle.tune_parts.proofs.Once.{free_once, once_free, free_none, none_free, free_past, past_free, marked_put, unmarked}
+use Rattle.tune_parts.proofs.Staying.{pages_join, pages_with, IsThere, parts_there, parts_stay}
 
--- THE PAGES OF PARTS
-pub trails_join : (before after : List Part) → trails (before ++ after) ≡ trails before ++ trails after
-trails_join before after = flat_map-append (λ part. part.trail) before after
-
-pub pages_join : (before after : List Part) → root_and_trails (before ++ after) ≡ root_and_trails before ++ trails after
-pages_join before after = ap (λ l. 0 ∷ l) (trails_join before after)
-
-pub pages_with : (before after : List Part) (part : Part) → root_and_trails (before ++ part ∷ after) ≡ root_and_trails before ++ (part.trail ++ trails after)
-pages_with before after part = pages_join before (part ∷ after)
-
--- the pages of a chain are there, and none of them is the root
-leads_inside : (pages : List (List ℕ)) (first : ℕ) (trail : List ℕ) → Leads pages first trail 0 → AllByRecursion (λ p. p < length pages) trail
-leads_inside pages first [] leads = tt
-leads_inside pages first (p ∷ trail) leads = (leads.2, leads_inside pages (next_of (page_at pages p)) trail leads.4)
-
-leads_some : (pages : List (List ℕ)) (first : ℕ) (trail : List ℕ) → Leads pages first trail 0 → All (λ p. p ≢ 0) trail
-leads_some pages first [] leads = All-nil (λ p. p ≢ 0)
-leads_some pages first (p ∷ trail) leads = All-cons (λ q. q ≢ 0) p trail (λ is. absurd (omega (arith, is, leads.1)))
-    (leads_some pages (next_of (page_at pages p)) trail leads.4)
-
-trails_inside : (pages : List (List ℕ)) (parts : List Part) → AllByRecursion (IsPart pages) parts → AllByRecursion (λ p. p < length pages) (trails parts)
-trails_inside pages [] chains = tt
-trails_inside pages (part ∷ parts) chains =
-    all_join (λ p. p < length pages) part.trail (trails parts) (leads_inside pages part.first part.trail chains.0.leads) (trails_inside pages parts chains.1)
-
--- of so many pages
+-- OF SO MANY PAGES
 each_none : (n : ℕ) (ps : List ℕ) → AllByRecursion (λ p. p < n) ps → EachFree (replicate n false) ps
 each_none n ps inside = all_map (λ p. p < n) (IsFree (replicate n false)) (λ p lt. free_none n p lt) ps inside
 
@@ -53,9 +29,10 @@ none_each n ps each = all_map (IsFree (replicate n false)) (λ p. p < n) (λ p f
 -- Parts that are apart among some pages are apart among those of which they are.
 apart_among : (n : ℕ) (pages : List (List ℕ)) (parts : List Part) → 0 < length pages → AllByRecursion (IsPart pages) parts → AreApart n parts
     → AreApart (length pages) parts
-apart_among n pages parts some chains apart =
+apart_among n pages parts some stand apart =
     once_free (root_and_trails parts) (replicate (length pages) false) (free_once (root_and_trails parts) (replicate n false) apart).0
-    (each_none (length pages) (root_and_trails parts) (some, trails_inside pages parts chains))
+    (each_none (length pages) (root_and_trails parts)
+    (some, all_map (IsThere pages) (λ p. p < length pages) (λ p is. is.low) (trails parts) (parts_there pages parts stand)))
 
 -- and among more
 apart_more : (n m : ℕ) (parts : List Part) → n ≤ m → AreApart n parts → AreApart m parts
@@ -125,47 +102,25 @@ marks_with n before after part =
     ap (λ l. marked true l none) (pages_with before after part) ∙ marked_put true (root_and_trails before) part.trail (trails after) none
     ∙ ap (λ l. marked true part.trail (marked true l none)) (sym (pages_join before after))
 
--- CHAINS THAT STAY
-same_past : (old new : List (List ℕ)) (trail t : List ℕ) → KeepsOthers trail old new → AllApart t trail → SameAlong t old new
-same_past old new trail [] keeps apart = All-nil (λ p. page_at new p ≡ page_at old p)
-same_past old new trail (p ∷ t) keeps apart = All-cons (λ q. page_at new q ≡ page_at old q) p t (keeps.same p (apart_all p trail apart.0))
-    (same_past old new trail t keeps apart.1)
-
-parts_stay : (old new : List (List ℕ)) (trail : List ℕ) (parts : List Part) → KeepsOthers trail old new → AllApart (trails parts) trail
-    → AllByRecursion (IsPart old) parts → AllByRecursion (IsPart new) parts
-parts_stay old new trail [] keeps apart chains = tt
-parts_stay old new trail (part ∷ parts) keeps apart chains = (
-  chain_kept old new part.first part.trail part.bytes keeps.longer
-      (same_past old new trail part.trail keeps (all_apart_left part.trail (trails parts) trail apart)) chains.0,
-  parts_stay old new trail parts keeps (all_apart_right part.trail (trails parts) trail apart) chains.1,
-)
-
-same_root : (pages : List (List ℕ)) (image t : List ℕ) → All (λ p. p ≢ 0) t → SameAlong t pages (placed 0 image pages)
-same_root pages image t some = λ k d lt. placed_other 0 image pages _ (omega arith) (some k d lt)
-
-parts_past_root : (pages : List (List ℕ)) (image : List ℕ) (parts : List Part) → AllByRecursion (IsPart pages) parts
-    → AllByRecursion (IsPart (placed 0 image pages)) parts
-parts_past_root pages image [] chains = tt
-parts_past_root pages image (part ∷ parts) chains = (
-  chain_kept pages (placed 0 image pages) part.first part.trail part.bytes (omega (arith, length-placed 0 image pages))
-      (same_root pages image part.trail (leads_some pages part.first part.trail chains.0.leads)) chains.0,
-  parts_past_root pages image parts chains.1,
-)
-
 -- CHANGES
 -- a chain is put: it is a part more, wherever it is named
 pub put_parts : (old new : Stand) (first : ℕ) (trail bytes : List ℕ) (before after : List Part) → PutsChain old new first trail bytes
-    → HoldsParts old (before ++ after) → HoldsParts new (before ++ record { first = first; trail = trail; bytes = bytes } ∷ after)
+    → HoldsParts old (before ++ after) → HoldsParts new (before ++ chain_part first trail bytes ∷ after)
 put_parts old new first trail bytes before after put holds =
-    let part : Part = record { first = first; trail = trail; bytes = bytes } in
+    let part : Part = chain_part first trail bytes in
     let n = length old.used in
     let size : length new.used ≡ n = ap (λ l. length l) put.used ∙ length-marked true trail old.used in
     let beside = beside_parts n before after trail (subst (AllFree trail) holds.used put.free) in
     let turned = apart_turned trail (root_and_trails (before ++ after)) beside.apart in
-    let stay = parts_stay old.pages new.pages trail (before ++ after) put.others turned.1 holds.chains in
+    let stay = parts_stay old.pages new.pages (before ++ after) (λ page c.
+    let there = each_of (IsThere old.pages) (trails (before ++ after)) page (parts_there old.pages (before ++ after) holds.stand) c in
+    record {
+      image = put.others.same page (apart_all page trail (apart_of (trails (before ++ after)) trail page turned.1 c));
+      there = omega (arith, there.low, put.others.longer);
+    }) holds.stand in
     record {
       root = omega (arith, holds.root, put.others.longer);
-      chains = all_join (IsPart new.pages) before (part ∷ after) (all_left (IsPart new.pages) before after stay)
+      stand = all_join (IsPart new.pages) before (part ∷ after) (all_left (IsPart new.pages) before after stay)
           (put.chain, all_right (IsPart new.pages) before after stay);
       apart = subst (λ k. AreApart k (before ++ part ∷ after)) (sym size) (apart_with n before after part holds.apart beside);
       used = put.used ∙ ap (marked true trail) holds.used ∙ sym (marks_with n before after part)
@@ -183,8 +138,8 @@ free_parts s part before after holds =
     let free = free_once part.trail left (beside_free n before after part.trail parts.1) in
     record {
       root = holds.root;
-      chains = all_join (IsPart s.pages) before after (all_left (IsPart s.pages) before (part ∷ after) holds.chains)
-          (all_right (IsPart s.pages) before (part ∷ after) holds.chains).1;
+      stand = all_join (IsPart s.pages) before after (all_left (IsPart s.pages) before (part ∷ after) holds.stand)
+          (all_right (IsPart s.pages) before (part ∷ after) holds.stand).1;
       apart = subst (λ k. AreApart k (before ++ after)) (sym size) parts.0;
       used = ap (marked false part.trail) (holds.used ∙ marks_with n before after part) ∙ unmarked part.trail left free.0 free.1
           ∙ ap (λ k. marked true (root_and_trails (before ++ after)) (replicate k false)) (sym size);
@@ -196,7 +151,12 @@ pub root_parts : (s : Stand) (image : List ℕ) (parts : List Part) → HoldsPar
 root_parts s image parts holds = (
   record {
     root = omega (arith, length-placed 0 image s.pages);
-    chains = parts_past_root s.pages image parts holds.chains;
+    stand = parts_stay s.pages (placed 0 image s.pages) parts (λ page c.
+        let there = each_of (IsThere s.pages) (trails parts) page (parts_there s.pages parts holds.stand) c in
+        record {
+          image = placed_other 0 image s.pages page (omega arith) there.not_root;
+          there = omega (arith, there.low, length-placed 0 image s.pages);
+        }) holds.stand;
     apart = holds.apart;
     used = holds.used;
   },
@@ -205,7 +165,7 @@ root_parts s image parts holds = (
 
 -- WHAT HOLDS OF PARTS
 pub are_parts : (s : Stand) (parts : List Part) → HoldsParts s parts → AreParts s.pages parts
-are_parts s parts holds = record { chains = holds.chains; apart = apart_among (length s.used) s.pages parts holds.root holds.chains holds.apart }
+are_parts s parts holds = record { stand = holds.stand; apart = apart_among (length s.used) s.pages parts holds.root holds.stand holds.apart }
 
 some_root : (n : ℕ) (parts : List Part) → AreApart n parts → 0 < n
 some_root n parts apart = none_free n 0 apart.0
@@ -217,12 +177,12 @@ held_parts s limit parts are few used =
     let size : length s.used ≡ limit = ap (λ l. length l) used ∙ length-marked true (root_and_trails parts) none ∙ length-replicate limit false in
     record {
       root = some_root (length s.pages) parts are.apart;
-      chains = are.chains;
+      stand = are.stand;
       apart = apart_more (length s.pages) (length s.used) parts (omega (arith, few, size)) are.apart;
       used = used ∙ ap (λ k. marked true (root_and_trails parts) (replicate k false)) (sym size);
     }
 
--- each part is a chain in use
+-- the pages of each part are in use
 pub each_used : (trail : List ℕ) (m : List Bool) → Once trail → EachFree m trail → AllUsed trail (marked true trail m)
 each_used [] m once each = tt
 each_used (p ∷ trail) m once each =
@@ -234,13 +194,18 @@ each_used (p ∷ trail) m once each =
       subst (AllUsed trail) (sym back) (each_used trail m once.1 each.1),
     )
 
-pub has_part : (s : Stand) (part : Part) (before after : List Part) → HoldsParts s (before ++ part ∷ after) → HasChain s part.first part.trail part.bytes
-has_part s part before after holds =
+-- a part that is a chain is one
+pub its_chain : (pages : List (List ℕ)) (part : Part) → part.kind ≡ chain → IsPart pages part → IsChain pages part.first part.trail part.bytes
+its_chain pages part kind is = subst (λ (k : PartKind). IsPartOf k pages part.first part.trail part.bytes) kind is
+
+pub has_part : (s : Stand) (part : Part) (before after : List Part) → part.kind ≡ chain → HoldsParts s (before ++ part ∷ after)
+    → HasChain s part.first part.trail part.bytes
+has_part s part before after kind holds =
     let n = length s.used in
     let left = marked true (root_and_trails (before ++ after)) (replicate n false) in
     let free = free_once part.trail left (beside_free n before after part.trail (apart_without n before after part holds.apart).1) in
     record {
-      chain = (all_right (IsPart s.pages) before (part ∷ after) holds.chains).0;
+      chain = its_chain s.pages part kind (all_right (IsPart s.pages) before (part ∷ after) holds.stand).0;
       used = subst (AllUsed part.trail) (sym (holds.used ∙ marks_with n before after part)) (each_used part.trail left free.0 free.1);
     }
 
@@ -250,9 +215,9 @@ pub move_part : (s : Stand) (part : Part) (before after front back : List Part) 
 move_part s part before after front back same holds =
     let n = length s.used in
     let parts = apart_without n before after part holds.apart in
-    let left = all_join (IsPart s.pages) before after (all_left (IsPart s.pages) before (part ∷ after) holds.chains)
-    (all_right (IsPart s.pages) before (part ∷ after) holds.chains).1 in
-    let chains = subst (AllByRecursion (IsPart s.pages)) same left in
+    let left = all_join (IsPart s.pages) before after (all_left (IsPart s.pages) before (part ∷ after) holds.stand)
+    (all_right (IsPart s.pages) before (part ∷ after) holds.stand).1 in
+    let stand = subst (AllByRecursion (IsPart s.pages)) same left in
     let beside : Beside n front back part.trail = record {
       apart = subst (λ l. AllApart part.trail (root_and_trails l)) same parts.1.apart;
       once = parts.1.once;
@@ -260,8 +225,8 @@ move_part s part before after front back same holds =
     } in
     record {
       root = holds.root;
-      chains = all_join (IsPart s.pages) front (part ∷ back) (all_left (IsPart s.pages) front back chains)
-          ((all_right (IsPart s.pages) before (part ∷ after) holds.chains).0, all_right (IsPart s.pages) front back chains);
+      stand = all_join (IsPart s.pages) front (part ∷ back) (all_left (IsPart s.pages) front back stand)
+          ((all_right (IsPart s.pages) before (part ∷ after) holds.stand).0, all_right (IsPart s.pages) front back stand);
       apart = apart_with n front back part (subst (AreApart n) same parts.0) beside;
       used = holds.used ∙ marks_with n before after part ∙ ap (λ l. marked true part.trail (marked true (root_and_trails l) (replicate n false))) same
           ∙ sym (marks_with n front back part);
@@ -269,27 +234,27 @@ move_part s part before after front back same holds =
 
 -- CLAIMS
 pub no_parts : (pages : List (List ℕ)) → 0 < length pages → AreParts pages []
-no_parts pages some = record { chains = tt; apart = (free_none (length pages) 0 some, tt) }
+no_parts pages some = record { stand = tt; apart = (free_none (length pages) 0 some, tt) }
 
 pub claim_part : (pages : List (List ℕ)) (claimed : List Bool) (first : ℕ) (trail bytes : List ℕ) (before after : List Part)
     → AreParts pages (before ++ after) → claimed ≡ marked true (root_and_trails (before ++ after)) (replicate (length pages) false)
     → Claimable pages claimed first trail bytes
-    → AreParts pages (before ++ record { first = first; trail = trail; bytes = bytes } ∷ after)
-    × (marked true trail claimed ≡ marked true (root_and_trails (before ++ record { first = first; trail = trail; bytes = bytes } ∷ after))
+    → AreParts pages (before ++ chain_part first trail bytes ∷ after)
+    × (marked true trail claimed ≡ marked true (root_and_trails (before ++ chain_part first trail bytes ∷ after))
     (replicate (length pages) false))
 claim_part pages claimed first trail bytes before after are is can =
-    let part : Part = record { first = first; trail = trail; bytes = bytes } in
+    let part : Part = chain_part first trail bytes in
     let n = length pages in
     let beside = beside_parts n before after trail (subst (AllFree trail) is can.free) in (
       record {
-        chains = all_join (IsPart pages) before (part ∷ after) (all_left (IsPart pages) before after are.chains)
-            (can.chain, all_right (IsPart pages) before after are.chains);
+        stand = all_join (IsPart pages) before (part ∷ after) (all_left (IsPart pages) before after are.stand)
+            (can.chain, all_right (IsPart pages) before after are.stand);
         apart = apart_with n before after part are.apart beside;
       },
       ap (marked true trail) is ∙ sym (marks_with n before after part),
     )
 
--- a part that stands there can be claimed, where some of the others were
+-- a chain that stands there can be claimed, where some of the others were
 pub free_front : (t ys : List ℕ) (m : List Bool) → AllFree (t ++ ys) m → AllFree t m
 free_front [] ys m free = tt
 free_front (p ∷ t) ys m free = (free.0, free_front t ys (set m p true) free.1)
@@ -298,12 +263,13 @@ free_behind : (xs ys : List ℕ) (m : List Bool) → AllFree (xs ++ ys) m → Al
 free_behind [] ys m free = free
 free_behind (x ∷ xs) ys m free = free_behind xs ys (set m x true) free.1
 
-pub can_claim : (pages : List (List ℕ)) (claimed : List Bool) (part : Part) (before after : List Part) → AreParts pages (before ++ part ∷ after)
+pub can_claim : (pages : List (List ℕ)) (claimed : List Bool) (part : Part) (before after : List Part) → part.kind ≡ chain
+    → AreParts pages (before ++ part ∷ after)
     → claimed ≡ marked true (root_and_trails before) (replicate (length pages) false) → Claimable pages claimed part.first part.trail part.bytes
-can_claim pages claimed part before after are is =
+can_claim pages claimed part before after kind are is =
     let none = replicate (length pages) false in
     record {
-      chain = (all_right (IsPart pages) before (part ∷ after) are.chains).0;
+      chain = its_chain pages part kind (all_right (IsPart pages) before (part ∷ after) are.stand).0;
       free = subst (AllFree part.trail) (sym is) (free_front part.trail (trails after) (marked true (root_and_trails before) none)
           (free_behind (root_and_trails before) (part.trail ++ trails after) none
           (subst (λ l. AllFree l none) (pages_with before after part) are.apart)));

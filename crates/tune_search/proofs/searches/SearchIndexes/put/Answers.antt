@@ -1,0 +1,11 @@
+use Rattle.tune_pages.specs.Work.{stand}
+use Rattle.tune_search.proofs.Texts.{some_texts_four, texts_more}
+use Rattle.tune_search.proofs.searches.SearchIndexes.put.Goals as goal
+
+pub put_runs-requires-clause-holds : goal.put_runs-requires-clause-holds
+put_runs-requires-clause-holds g c = λ h. some_texts_four (stand c.args.pages.now c.args.work.now) c.args.self.now (c.requires.holds h)
+
+pub returns-in-Ok-clause-holds : goal.returns-in-Ok-clause-holds
+returns-in-Ok-clause-holds g c = λ honest before after parts tunes more small also are h.
+    texts_more (stand c.args.pages.now c.args.work.now) (stand c.put_runs.new.pages c.put_runs.new.work) c.args.self.now c.put_runs.new.indexes c.args.runs.now
+    (c.in-Ok.ensures.lays honest) before after parts tunes more small also are h

@@ -1,0 +1,3 @@
+pub mod Four
+pub mod EntryLinks
+pub mod TextEntries

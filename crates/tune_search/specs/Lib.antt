@@ -1,0 +1,5 @@
+pub mod IndexParts
+pub mod Searches
+pub mod Claims
+pub mod Inside
+pub mod Empty

@@ -1,0 +1,89 @@
+-- The four search indexes of an archive: by titles, rhythms, scales and incipits (own profile).
+use Rattle.std.specs.Prelude.{ℕ, ◌+◌, ◌∷◌, ◌++◌, [], List}
+use Rattle.index_keys.specs.Entries.{AllFit, Entry, IsRising}
+use Rattle.index_keys.specs.Holdings.{HoldsEntries}
+use Rattle.tune_incipit.specs.SearchKeys.{incipit_keys, scale_keys}
+use Rattle.tune_index.specs.Indexes.{Shape}
+use Rattle.tune_pages.specs.Stand.{Stand}
+use Rattle.tune_parts.specs.Parts.{HoldsParts, Part}
+use Rattle.tune_search.specs.IndexParts.{IndexParts, KeepsIndex, parts_of_index}
+use Rattle.tune_titles.specs.SearchKeys.{rhythm_keys, title_keys}
+
+-- how many bytes a key has, and by how many notes an incipit is found
+abbrev pub key_bytes : ℕ
+key_bytes = 32
+
+abbrev pub notes_of_incipit : ℕ
+notes_of_incipit = 8
+
+-- the keys of a text in the index of incipits
+abbrev pub incipit_keys_of_text : List ℕ → List ℕ
+incipit_keys_of_text text = incipit_keys notes_of_incipit text
+
+-- TUNES
+-- texts with their numbers: these from one on
+abbrev pub numbered : ℕ → List (List ℕ) → List (ℕ × List ℕ)
+numbered first [] = []
+numbered first (text ∷ texts) = (first, text) ∷ numbered (first + 1) texts
+
+-- WHAT MEMORY HAS
+-- the four indexes, as contracts see them
+pub record SearchShape : Type 0 where
+  pub titles : Shape
+  pub rhythms : Shape
+  pub scales : Shape
+  pub incipits : Shape
+
+-- four runs of entries
+pub record SearchRuns : Type 0 where
+  pub titles : List Entry
+  pub rhythms : List Entry
+  pub scales : List Entry
+  pub incipits : List Entry
+
+-- A run that goes into an index or out of it: the entries of the tunes, in order.
+pub record IsRunOf (keys_of : List ℕ → List ℕ) (tunes : List (ℕ × List ℕ)) (run : List Entry)
+    : Type 0 where
+  pub rising : IsRising run
+  pub exact : HoldsEntries keys_of tunes run
+  pub fit : AllFit key_bytes run
+
+-- the runs of the tunes for each index
+pub record AreRunsOf (tunes : List (ℕ × List ℕ)) (runs : SearchRuns) : Type 0 where
+  pub titles : IsRunOf title_keys tunes runs.titles
+  pub rhythms : IsRunOf rhythm_keys tunes runs.rhythms
+  pub scales : IsRunOf scale_keys tunes runs.scales
+  pub incipits : IsRunOf incipit_keys_of_text tunes runs.incipits
+
+-- WHAT STANDS ON PAGES
+-- the parts of the four indexes
+pub record SearchParts : Type 0 where
+  pub titles : IndexParts
+  pub rhythms : IndexParts
+  pub scales : IndexParts
+  pub incipits : IndexParts
+
+abbrev pub parts_of_search : SearchParts → List Part
+parts_of_search parts = parts_of_index parts.titles ++ (parts_of_index parts.rhythms
+    ++ (parts_of_index parts.scales ++ parts_of_index parts.incipits))
+
+-- an index holds exactly the entries of the tunes
+pub record HoldsKeys (keys_of : List ℕ → List ℕ) (tunes : List (ℕ × List ℕ)) (shape : Shape)
+    (parts : IndexParts) : Type 0 where
+  pub entries : List Entry
+  pub keeps : KeepsIndex key_bytes shape parts entries
+  pub exact : HoldsEntries keys_of tunes entries
+
+-- The four indexes hold exactly the entries of the tunes, among any other parts.
+pub record HoldsTexts (s : Stand) (shape : SearchShape) (before after : List Part)
+    (parts : SearchParts) (tunes : List (ℕ × List ℕ)) : Type 0 where
+  pub holds : HoldsParts s (before ++ (parts_of_search parts ++ after))
+  pub titles : HoldsKeys title_keys tunes shape.titles parts.titles
+  pub rhythms : HoldsKeys rhythm_keys tunes shape.rhythms parts.rhythms
+  pub scales : HoldsKeys scale_keys tunes shape.scales parts.scales
+  pub incipits : HoldsKeys incipit_keys_of_text tunes shape.incipits parts.incipits
+
+-- some tunes stand so
+abbrev pub HoldsSomeTexts : Stand → SearchShape → Type 0
+HoldsSomeTexts s shape = (before : List Part) × (after : List Part) × (parts : SearchParts)
+    × (tunes : List (ℕ × List ℕ)) × HoldsTexts s shape before after parts tunes

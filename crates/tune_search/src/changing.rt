@@ -1,0 +1,168 @@
+// Texts put into the search indexes and taken out of them.
+ghost use Rattle.std.specs.Prelude.{◌≡◌, ◌^◌, ◌<◌, ◌++◌, ◌∷◌, [], ℕ, false, List, OnOk};
+ghost use Rattle.tune_pages.specs.Kept.{HonestAt};
+ghost use Rattle.tune_pages.specs.Reading.{LooksAt};
+ghost use Rattle.tune_pages.specs.Work.{stand, Fits};
+ghost use Rattle.index_keys.specs.Entries.{IsRising};
+ghost use Rattle.index_keys.specs.Holdings.{AreSmall, IsWithout};
+ghost use Rattle.tune_index.specs.Faults.{AnswersEdit};
+ghost use Rattle.tune_parts.specs.Parts.{Part};
+ghost use Rattle.tune_search.specs.Inside.Four.{HoldsSomeFour, LaysFour, put_in, taken_out};
+ghost use Rattle.tune_search.specs.Searches.{AreRunsOf, HoldsSomeTexts, HoldsTexts, SearchParts};
+
+use crate::laying::{put_run, store_list, take_run};
+use crate::runs::Runs;
+use crate::searches::SearchIndexes;
+use std::alloc::Global;
+use tune_disk::Disk;
+use tune_pages::{Fault, Pages, Work};
+
+// Puts a run into each of the four.
+fn put_runs<D: Disk>(
+    alloc: Global,
+    pages: &mut Pages<D>,
+    work: &mut Work,
+    indexes: &mut SearchIndexes,
+    runs: &Runs,
+) -> Result<(), Fault>
+    requires open { pages.old.closed ≡ false }
+    requires fits { Fits pages.old work.old }
+    requires holds { HonestAt D.honest pages.old.disk
+        → HoldsSomeFour (stand pages.old work.old) indexes.old }
+    requires titles { IsRising runs.now.titles }
+    requires rhythms { IsRising runs.now.rhythms }
+    requires scales { IsRising runs.now.scales }
+    requires incipits { IsRising runs.now.incipits }
+    ensures fits { OnOk result (Fits pages.new work.new) }
+    ensures lays { OnOk result (HonestAt D.honest pages.new.disk → LaysFour
+        (stand pages.old work.old) (stand pages.new work.new) indexes.old indexes.new
+        (λ entries. put_in runs.now entries)) }
+    ensures looks { LooksAt D.honest D.failures D.state result pages.old pages.new }
+    ensures answer { AnswersEdit result pages.new.closed (Unit {0}) }
+{
+    match put_run(alloc, pages, work, &mut indexes.titles, &runs.titles) {
+        Ok(()) => {}
+        Err(fault) => return Err(fault),
+    }
+    match put_run(alloc, pages, work, &mut indexes.rhythms, &runs.rhythms) {
+        Ok(()) => {}
+        Err(fault) => return Err(fault),
+    }
+    match put_run(alloc, pages, work, &mut indexes.scales, &runs.scales) {
+        Ok(()) => {}
+        Err(fault) => return Err(fault),
+    }
+    match put_run(alloc, pages, work, &mut indexes.incipits, &runs.incipits) {
+        Ok(()) => {}
+        Err(fault) => return Err(fault),
+    }
+    Ok(())
+}
+
+// Takes a run out of each of the four.
+fn take_runs<D: Disk>(
+    alloc: Global,
+    pages: &mut Pages<D>,
+    work: &mut Work,
+    indexes: &mut SearchIndexes,
+    runs: &Runs,
+) -> Result<(), Fault>
+    requires open { pages.old.closed ≡ false }
+    requires fits { Fits pages.old work.old }
+    requires holds { HonestAt D.honest pages.old.disk
+        → HoldsSomeFour (stand pages.old work.old) indexes.old }
+    ensures fits { OnOk result (Fits pages.new work.new) }
+    ensures lays { OnOk result (HonestAt D.honest pages.new.disk → LaysFour
+        (stand pages.old work.old) (stand pages.new work.new) indexes.old indexes.new
+        (λ entries. taken_out runs.now entries)) }
+    ensures looks { LooksAt D.honest D.failures D.state result pages.old pages.new }
+    ensures answer { AnswersEdit result pages.new.closed ⊥ }
+{
+    match take_run(alloc, pages, work, &mut indexes.titles, &runs.titles) {
+        Ok(()) => {}
+        Err(fault) => return Err(fault),
+    }
+    match take_run(alloc, pages, work, &mut indexes.rhythms, &runs.rhythms) {
+        Ok(()) => {}
+        Err(fault) => return Err(fault),
+    }
+    match take_run(alloc, pages, work, &mut indexes.scales, &runs.scales) {
+        Ok(()) => {}
+        Err(fault) => return Err(fault),
+    }
+    match take_run(alloc, pages, work, &mut indexes.incipits, &runs.incipits) {
+        Ok(()) => {}
+        Err(fault) => return Err(fault),
+    }
+    Ok(())
+}
+
+impl SearchIndexes {
+    /// Puts in the texts whose entries the runs are.
+    ///
+    /// # Errors
+    ///
+    /// `FileFull`; `OutOfMemory`; `Device` where the disk failed: the pages are then closed. The
+    /// indexes and the work are then to be dropped.
+    pub fn put<D: Disk>(
+        &mut self,
+        alloc: Global,
+        pages: &mut Pages<D>,
+        work: &mut Work,
+        runs: &Runs,
+    ) -> Result<(), Fault>
+        requires open { pages.old.closed ≡ false }
+        requires fits { Fits pages.old work.old }
+        requires holds { HonestAt D.honest pages.old.disk
+            → HoldsSomeTexts (stand pages.old work.old) self.old }
+        requires runs { (more : List (ℕ × List ℕ)) × AreRunsOf more runs.now }
+        ensures fits { OnOk result (Fits pages.new work.new) }
+        ensures holds { OnOk result (HonestAt D.honest pages.new.disk
+            → (before after : List Part) (parts : SearchParts) (tunes more : List (ℕ × List ℕ))
+            → AreSmall tunes → AreSmall more → AreRunsOf more runs.now
+            → HoldsTexts (stand pages.old work.old) self.old before after parts tunes
+            → (next : SearchParts) × HoldsTexts (stand pages.new work.new) self.new
+            before after next (tunes ++ more)) }
+        ensures looks { LooksAt D.honest D.failures D.state result pages.old pages.new }
+        ensures answer { AnswersEdit result pages.new.closed (Unit {0}) }
+    {
+        match put_runs(alloc, pages, work, self, runs) {
+            Ok(()) => Ok(()),
+            Err(fault) => Err(fault),
+        }
+    }
+
+    /// Takes out the text whose entries the runs are.
+    ///
+    /// # Errors
+    ///
+    /// `OutOfMemory`; `Device` where the disk failed: the pages are then closed. The indexes and
+    /// the work are then to be dropped. It never wants a page.
+    pub fn take<D: Disk>(
+        &mut self,
+        alloc: Global,
+        pages: &mut Pages<D>,
+        work: &mut Work,
+        runs: &Runs,
+    ) -> Result<(), Fault>
+        requires open { pages.old.closed ≡ false }
+        requires fits { Fits pages.old work.old }
+        requires holds { HonestAt D.honest pages.old.disk
+            → HoldsSomeTexts (stand pages.old work.old) self.old }
+        ensures fits { OnOk result (Fits pages.new work.new) }
+        ensures holds { OnOk result (HonestAt D.honest pages.new.disk
+            → (before after : List Part) (parts : SearchParts) (gone : ℕ × List ℕ)
+            (tunes others : List (ℕ × List ℕ)) → gone.0 < 2 ^ 32 → AreSmall tunes
+            → IsWithout gone tunes others → AreRunsOf (gone ∷ []) runs.now
+            → HoldsTexts (stand pages.old work.old) self.old before after parts tunes
+            → (next : SearchParts) × HoldsTexts (stand pages.new work.new) self.new
+            before after next others) }
+        ensures looks { LooksAt D.honest D.failures D.state result pages.old pages.new }
+        ensures answer { AnswersEdit result pages.new.closed ⊥ }
+    {
+        match take_runs(alloc, pages, work, self, runs) {
+            Ok(()) => Ok(()),
+            Err(fault) => Err(fault),
+        }
+    }
+}

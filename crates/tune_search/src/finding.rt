@@ -1,0 +1,98 @@
+// Queries looked for in the search indexes.
+ghost use Rattle.std.specs.Prelude.{◌≡◌, ℕ, List, Contains, IfOk, OnOk, false, true};
+ghost use Rattle.index_keys.specs.Entries.{Entry};
+ghost use Rattle.index_keys.specs.Holdings.{HoldsEntries};
+ghost use Rattle.tune_pages.specs.Faults.{AnswersRead};
+ghost use Rattle.tune_pages.specs.Kept.{HonestAt};
+ghost use Rattle.tune_pages.specs.Reading.{LooksAt, SameStand};
+ghost use Rattle.tune_pages.specs.Work.{stand, Fits};
+ghost use Rattle.tune_parts.specs.Parts.{Part};
+ghost use Rattle.tune_queries.specs.Queries.{finds};
+ghost use Rattle.tune_search.specs.IndexParts.{HoldsIndexAmong, HoldsSomeIndex, IndexParts};
+ghost use Rattle.tune_search.specs.Searches.{HoldsSomeTexts, HoldsTexts, SearchParts};
+ghost use Rattle.tune_search.specs.Searches.{key_bytes, notes_of_incipit};
+
+use crate::searches::SearchIndexes;
+use std::alloc::Global;
+use tune_disk::Disk;
+use tune_incipit::{EightNoteKeys, ScaleKeys};
+use tune_index::{Index, Keyed};
+use tune_pages::{Fault, Pages, Work};
+use tune_queries::Sought;
+use tune_titles::{RhythmKeys, TitleKeys};
+
+// The numbers that stand at the keys of the query's range: that of each tune that the query finds
+// is among them.
+fn values_for<D: Disk, K: Keyed<32>>(
+    alloc: Global,
+    pages: &mut Pages<D>,
+    work: &Work,
+    index: &Index<32>,
+    query: &K::Query,
+) -> Result<Vec<u32>, Fault>
+    requires open { pages.old.closed ≡ false }
+    requires fits { Fits pages.old work.now }
+    requires holds { HonestAt D.honest pages.old.disk
+        → HoldsSomeIndex key_bytes (stand pages.old work.now) index.now }
+    ensures finds { IfOk result (λ values. HonestAt D.honest pages.new.disk
+        → (before after : List Part) (parts : IndexParts) (entries : List Entry)
+        → HoldsIndexAmong key_bytes (stand pages.old work.now) index.now before after parts
+        entries → (tunes : List (ℕ × K.Text)) → HoldsEntries K.keys_of tunes entries
+        → (tune : ℕ × K.Text) → Contains tunes tune → K.matches query.now tune.1 ≡ true
+        → Contains values.items tune.0) }
+    ensures fits { OnOk result (Fits pages.new work.now) }
+    ensures stand { OnOk result (SameStand (HonestAt D.honest pages.new.disk)
+        (stand pages.old work.now) (stand pages.new work.now)) }
+    ensures looks { LooksAt D.honest D.failures D.state result pages.old pages.new }
+    ensures answer { AnswersRead result pages.old.closed pages.new.closed }
+{
+    let (low, high) = K::range(query);
+    index.candidates(alloc, pages, work, &low, &high)
+}
+
+impl SearchIndexes {
+    /// The numbers of tunes at which a query is to be tried, in no order: that of each tune that
+    /// the query finds is among them, some more than once. Only the leaves of one index that may
+    /// have some of them are read.
+    ///
+    /// # Errors
+    ///
+    /// `OutOfMemory`; `Device` where the disk failed: the pages are then closed.
+    pub fn candidates<D: Disk>(
+        &self,
+        alloc: Global,
+        pages: &mut Pages<D>,
+        work: &Work,
+        sought: &Sought<'_>,
+    ) -> Result<Vec<u32>, Fault>
+        requires open { pages.old.closed ≡ false }
+        requires fits { Fits pages.old work.now }
+        requires holds { HonestAt D.honest pages.old.disk
+            → HoldsSomeTexts (stand pages.old work.now) self.now }
+        ensures finds { IfOk result (λ values. HonestAt D.honest pages.new.disk
+            → (before after : List Part) (parts : SearchParts) (tunes : List (ℕ × List ℕ))
+            → HoldsTexts (stand pages.old work.now) self.now before after parts tunes
+            → (tune : ℕ × List ℕ) → Contains tunes tune
+            → finds notes_of_incipit sought.now tune.1 ≡ true → Contains values.items tune.0) }
+        ensures fits { OnOk result (Fits pages.new work.now) }
+        ensures stand { OnOk result (SameStand (HonestAt D.honest pages.new.disk)
+            (stand pages.old work.now) (stand pages.new work.now)) }
+        ensures looks { LooksAt D.honest D.failures D.state result pages.old pages.new }
+        ensures answer { AnswersRead result pages.old.closed pages.new.closed }
+    {
+        match sought {
+            Sought::Title(prefix) => {
+                values_for::<D, TitleKeys<'_>>(alloc, pages, work, &self.titles, prefix)
+            }
+            Sought::Rhythm(query) => {
+                values_for::<D, RhythmKeys<'_>>(alloc, pages, work, &self.rhythms, query)
+            }
+            Sought::Key(scale) => {
+                values_for::<D, ScaleKeys>(alloc, pages, work, &self.scales, scale)
+            }
+            Sought::Notes(front) => {
+                values_for::<D, EightNoteKeys>(alloc, pages, work, &self.incipits, front)
+            }
+        }
+    }
+}

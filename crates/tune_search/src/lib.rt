@@ -1,0 +1,16 @@
+//! The search indexes of an archive as one value: by titles, rhythms, scales and incipits.
+//!
+//! What goes in and out is texts with their numbers; which entries stand for them is said inside.
+#![tactic(auto)]
+
+mod changing;
+mod claims;
+mod finding;
+mod laying;
+mod runs;
+mod searches;
+
+pub use claims::{SearchClaims, law_of_claims};
+pub use laying::{put_run, store_list, take_run};
+pub use runs::Runs;
+pub use searches::SearchIndexes;

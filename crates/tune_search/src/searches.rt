@@ -1,0 +1,77 @@
+// The four search indexes as one value.
+ghost use Rattle.std.specs.Prelude.{◌≡◌, IfOk, OnOk};
+ghost use Rattle.tune_search.specs.Empty.{no_indexes};
+
+use std::alloc::{AllocError, Global};
+use std::marker::Model;
+use tune_index::Index;
+
+/// The search indexes of an archive: for each tune its number at the keys of its titles, of its
+/// rhythm, of its scale and of its incipit (this archive's profile).
+#[derive(Drop)]
+pub struct SearchIndexes {
+    pub(crate) titles: Index<32>,
+    pub(crate) rhythms: Index<32>,
+    pub(crate) scales: Index<32>,
+    pub(crate) incipits: Index<32>,
+}
+
+impl Model for SearchIndexes {
+    ghost use Rattle.tune_search.specs.Searches.{SearchShape};
+
+    ghost Value = { SearchShape };
+
+    ghost view = { λ indexes. record {
+      titles = indexes.titles;
+      rhythms = indexes.rhythms;
+      scales = indexes.scales;
+      incipits = indexes.incipits;
+    } };
+}
+
+impl SearchIndexes {
+    /// Indexes without an entry. They take no memory.
+    pub fn new(alloc: Global) -> SearchIndexes
+        ensures { result ≡ no_indexes }
+    {
+        SearchIndexes {
+            titles: Index::new(alloc),
+            rhythms: Index::new(alloc),
+            scales: Index::new(alloc),
+            incipits: Index::new(alloc),
+        }
+    }
+
+    /// The same indexes again: a command changes copies, and a work that is dropped leaves the
+    /// indexes that they were made of.
+    ///
+    /// # Errors
+    ///
+    /// There is no memory.
+    pub fn copy(&self, alloc: Global) -> Result<SearchIndexes, AllocError>
+        ensures { IfOk result (λ copy. copy ≡ self.now) }
+    {
+        Ok(SearchIndexes {
+            titles: self.titles.copy(alloc)?,
+            rhythms: self.rhythms.copy(alloc)?,
+            scales: self.scales.copy(alloc)?,
+            incipits: self.incipits.copy(alloc)?,
+        })
+    }
+
+    /// Becomes the same indexes as the others, in the memory that it has, and more where that is
+    /// not enough.
+    ///
+    /// # Errors
+    ///
+    /// There is no memory: what it is then is not said, and it is to be dropped.
+    pub fn copy_from(&mut self, other: &SearchIndexes) -> Result<(), AllocError>
+        ensures same { OnOk result (self.new ≡ other.now) }
+    {
+        self.titles.copy_from(&other.titles)?;
+        self.rhythms.copy_from(&other.rhythms)?;
+        self.scales.copy_from(&other.scales)?;
+        self.incipits.copy_from(&other.incipits)?;
+        Ok(())
+    }
+}
