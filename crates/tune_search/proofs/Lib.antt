@@ -6,3 +6,4 @@ pub mod TextRuns
 pub mod AmongLemmas
 pub mod ClaimLinks
 pub mod ClaimKeys
+pub mod LoadLemmas

@@ -3,3 +3,4 @@ pub mod Searches
 pub mod Claims
 pub mod Inside
 pub mod Empty
+pub mod Loaded

@@ -1,0 +1,72 @@
+// The search indexes as an opening claims them.
+ghost use Rattle.std.specs.Prelude.{IfErr, IfOk};
+ghost use Rattle.tune_pages.specs.Claim.{IsChainFault, LooksOpening};
+ghost use Rattle.tune_search.specs.Loaded.{AreStored, LoadsSearch, runs_in};
+
+use crate::searches::SearchIndexes;
+use std::alloc::Global;
+use tune_disk::Disk;
+use tune_index::{Index, IndexKey};
+use tune_pages::{ClaimFault, Opening};
+
+/// Where the chains begin that list the leaves of the four indexes; 0 where an index has none.
+#[derive(Clone, Copy, Debug)]
+pub struct SearchFirsts {
+    pub titles: u32,
+    pub rhythms: u32,
+    pub scales: u32,
+    pub incipits: u32,
+}
+
+/// The entries of the four indexes, each list in order: keys with the numbers of tunes.
+#[derive(Drop)]
+pub struct SearchEntries {
+    pub titles: Vec<(IndexKey<32>, u32)>,
+    pub rhythms: Vec<(IndexKey<32>, u32)>,
+    pub scales: Vec<(IndexKey<32>, u32)>,
+    pub incipits: Vec<(IndexKey<32>, u32)>,
+}
+
+impl SearchIndexes {
+    /// Claims the pages of the four indexes, one index after another, and gives these with their
+    /// entries. Of an index of more than `most` entries it claims no more pages than one of so many
+    /// may have.
+    ///
+    /// # Errors
+    ///
+    /// `Damaged` exactly where one of the indexes, with at most `most` entries, is not stored on
+    /// pages that are still to be claimed once those of the indexes before it are; `OutOfMemory`;
+    /// `Device` where the disk failed.
+    pub fn load<D: Disk>(
+        alloc: Global,
+        opening: &mut Opening<D>,
+        firsts: SearchFirsts,
+        most: u32,
+    ) -> Result<(SearchIndexes, SearchEntries), ClaimFault>
+        ensures loads { IfOk result (λ loaded. D.honest opening.new.disk → LoadsSearch most
+            opening.old.pages opening.old.claimed opening.new.claimed firsts loaded.0
+            (runs_in loaded.1)) }
+        ensures damaged { IfErr result (λ fault. D.honest opening.new.disk → IsChainFault fault
+            (AreStored most opening.old.pages opening.old.claimed firsts)) }
+        ensures looks { LooksOpening D.honest D.failures D.state result opening.old opening.new }
+    {
+        let _count = opening.count();
+        let (titles, title_entries) = Index::load(alloc, opening, firsts.titles, most)?;
+        let (rhythms, rhythm_entries) = Index::load(alloc, opening, firsts.rhythms, most)?;
+        let (scales, scale_entries) = Index::load(alloc, opening, firsts.scales, most)?;
+        let (incipits, incipit_entries) = Index::load(alloc, opening, firsts.incipits, most)?;
+        let indexes = SearchIndexes {
+            titles,
+            rhythms,
+            scales,
+            incipits,
+        };
+        let entries = SearchEntries {
+            titles: title_entries,
+            rhythms: rhythm_entries,
+            scales: scale_entries,
+            incipits: incipit_entries,
+        };
+        Ok((indexes, entries))
+    }
+}
