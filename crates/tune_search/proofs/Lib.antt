@@ -7,3 +7,6 @@ pub mod AmongLemmas
 pub mod ClaimLinks
 pub mod ClaimKeys
 pub mod LoadLemmas
+pub mod ClaimedParts
+pub mod LoadedIndex
+pub mod LoadedFour

@@ -14,13 +14,13 @@ use Rattle.tune_search.specs.Searches.{key_bytes}
 use Rattle.tune_search.specs.declared.loading.SearchFirsts.{SearchFirsts}
 
 -- what is stored there is one index, with one list and its leaves
-stored_once : (most : ℕ) (pages : List (List ℕ)) (claimed : List Bool) (first : ℕ) (trail leaves t others : List ℕ) → length claimed < 256 ^ 4
-    → StoredIndex key_bytes most pages claimed first trail leaves → StoredIndex key_bytes most pages claimed first t others
+pub stored_once : (width most : ℕ) (pages : List (List ℕ)) (claimed : List Bool) (first : ℕ) (trail leaves t others : List ℕ) → length claimed < 256 ^ 4
+    → StoredIndex width most pages claimed first trail leaves → StoredIndex width most pages claimed first t others
     → (trail ≡ t) × (leaves ≡ others)
-stored_once most pages claimed first trail leaves t others few one other =
+stored_once width most pages claimed first trail leaves t others few one other =
     let bytes = listed_bytes leaves in
-    let this = stored_bytes key_bytes most pages claimed first trail bytes trail leaves few one.list one in
-    let that = stored_bytes key_bytes most pages claimed first trail bytes t others few one.list other in
+    let this = stored_bytes width most pages claimed first trail bytes trail leaves few one.list one in
+    let that = stored_bytes width most pages claimed first trail bytes t others few one.list other in
     (that.0, this.2 ∙ ap (λ (n : ℕ). numbers_in n bytes) (omega (arith, this.1, that.1)) ∙ sym that.2)
 
 -- what is loaded is what is stored there
@@ -28,12 +28,12 @@ stored_then : (most : ℕ) (pages : List (List ℕ)) (claimed after : List Bool)
     → length claimed < 256 ^ 4 → LoadsIndex key_bytes most pages claimed after first shape entries
     → IsStoredThen most pages claimed first Then → Then after
 stored_then most pages claimed after first shape entries Then few loads (trail, leaves, stored, then) =
-    let same = stored_once most pages claimed first loads.trail shape.pages trail leaves few loads.stored stored in
+    let same = stored_once key_bytes most pages claimed first loads.trail shape.pages trail leaves few loads.stored stored in
     subst Then (sym (loads.marks ∙ ap (λ (t : List ℕ). marked true shape.pages (marked true t claimed)) same.0
     ∙ ap (λ (ps : List ℕ). marked true ps (marked true trail claimed)) same.1)) then
 
 -- there are as many marks as before
-still_few : (most : ℕ) (pages : List (List ℕ)) (claimed after : List Bool) (first : ℕ) (shape : Shape) (entries : List Entry)
+pub still_few : (most : ℕ) (pages : List (List ℕ)) (claimed after : List Bool) (first : ℕ) (shape : Shape) (entries : List Entry)
     → LoadsIndex key_bytes most pages claimed after first shape entries → length claimed < 256 ^ 4 → length after < 256 ^ 4
 still_few most pages claimed after first shape entries loads few =
     let marks = marked true loads.trail claimed in

@@ -7,12 +7,14 @@ mod changing;
 mod claims;
 mod finding;
 mod laying;
+mod load_laws;
 mod loading;
 mod runs;
 mod searches;
 
 pub use claims::{SearchClaims, law_of_claims};
 pub use laying::{put_run, store_list, take_run};
+pub use load_laws::law_of_loads;
 pub use loading::{SearchEntries, SearchFirsts};
 pub use runs::Runs;
 pub use searches::SearchIndexes;
