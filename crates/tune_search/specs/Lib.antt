@@ -4,3 +4,4 @@ pub mod Claims
 pub mod Inside
 pub mod Empty
 pub mod Loaded
+pub mod SearchPages
