@@ -1,4 +1,4 @@
-use Rattle.std.proofs.Common.{◌≡◌, ◌+◌, ◌*◌, ◌<◌, ◌≤◌, length, sym, subst}
+use Rattle.std.proofs.Common.{◌≡◌, ◌+◌, ◌*◌, ◌<◌, ◌≤◌, length, rules, sym, subst}
 use Rattle.tune_pages.specs.Faults.{free_pages, pages_for}
 use Rattle.tune_pages.specs.Work.{stand}
 use Rattle.tune_pages.specs.declared.fault.Fault.TheVariants.{FileFull}
@@ -9,8 +9,8 @@ use Rattle.tune_search.proofs.Four.{four_laid, incipits_next, rhythms_next, same
 use Rattle.tune_search.proofs.Takes.{four_take, no_incipits_take, no_rhythms_take, no_scales_take, no_titles_take}
 use Rattle.tune_search.proofs.storing.store_lists.Goals as goal
 
-pub store_list-requires-2-clause-index : goal.store_list-requires-2-clause-index
-store_list-requires-2-clause-index g c = λ h1.
+pub store_list-requires-2 : goal.store_list-requires-2
+store_list-requires-2 g c =
     let s0 = stand c.args.pages.now c.args.work.now in
     let was : SearchShape = record {
       titles = c.indexes.inside.titles;
@@ -21,11 +21,21 @@ store_list-requires-2-clause-index g c = λ h1.
     let s1 = stand c.store_list.new.pages c.store_list.new.work in
     let e1 = c.in-Ok.ensures in
     let is1 = c.store_list.new.index in
-    rhythms_next was is1 is1 is1 same_entries same_entries same_entries s0 s1 (e1.lays h1)
-    (subst (λ (shape : SearchShape). HoldsSomeFour s0 shape) (sym c.indexes.view_is) (c.requires.holds (e1.looks.was_honest h1)))
+    (
+      search rules,
+      (
+        e1.answer,
+        (
+          e1.fits,
+          (λ h1.
+          rhythms_next was is1 is1 is1 same_entries same_entries same_entries s0 s1 (e1.lays h1)
+    (subst (λ (shape : SearchShape). HoldsSomeFour s0 shape) (sym c.indexes.view_is) (c.requires.holds (e1.looks.was_honest h1)))),
+        ),
+      ),
+    )
 
-pub store_list-requires-3-clause-index : goal.store_list-requires-3-clause-index
-store_list-requires-3-clause-index g c = λ h2.
+pub store_list-requires-3 : goal.store_list-requires-3
+store_list-requires-3 g c =
     let s0 = stand c.args.pages.now c.args.work.now in
     let was : SearchShape = record {
       titles = c.indexes.inside.titles;
@@ -39,12 +49,22 @@ store_list-requires-3-clause-index g c = λ h2.
     let s2 = stand c.store_list-2.new.pages c.store_list-2.new.work in
     let e2 = c.in-Ok-store_list.ensures in
     let is2 = c.store_list-2.new.index in
+    (
+      search rules,
+      (
+        e2.answer,
+        (
+          e2.fits,
+          (λ h2.
     let h1 = e2.looks.was_honest h2 in
-    scales_next was is1 is2 is2 same_entries same_entries same_entries s0 s1 s2 (e1.lays h1) (e2.lays h2)
-    (subst (λ (shape : SearchShape). HoldsSomeFour s0 shape) (sym c.indexes.view_is) (c.requires.holds (e1.looks.was_honest h1)))
+          scales_next was is1 is2 is2 same_entries same_entries same_entries s0 s1 s2 (e1.lays h1) (e2.lays h2)
+    (subst (λ (shape : SearchShape). HoldsSomeFour s0 shape) (sym c.indexes.view_is) (c.requires.holds (e1.looks.was_honest h1)))),
+        ),
+      ),
+    )
 
-pub store_list-requires-4-clause-index : goal.store_list-requires-4-clause-index
-store_list-requires-4-clause-index g c = λ h3.
+pub store_list-requires-4 : goal.store_list-requires-4
+store_list-requires-4 g c =
     let s0 = stand c.args.pages.now c.args.work.now in
     let was : SearchShape = record {
       titles = c.indexes.inside.titles;
@@ -61,10 +81,20 @@ store_list-requires-4-clause-index g c = λ h3.
     let s3 = stand c.store_list-3.new.pages c.store_list-3.new.work in
     let e3 = c.in-Ok-store_list-2.ensures in
     let is3 = c.store_list-3.new.index in
+    (
+      search rules,
+      (
+        e3.answer,
+        (
+          e3.fits,
+          (λ h3.
     let h2 = e3.looks.was_honest h3 in
     let h1 = e2.looks.was_honest h2 in
-    incipits_next was is1 is2 is3 same_entries same_entries same_entries s0 s1 s2 s3 (e1.lays h1) (e2.lays h2) (e3.lays h3)
-    (subst (λ (shape : SearchShape). HoldsSomeFour s0 shape) (sym c.indexes.view_is) (c.requires.holds (e1.looks.was_honest h1)))
+          incipits_next was is1 is2 is3 same_entries same_entries same_entries s0 s1 s2 s3 (e1.lays h1) (e2.lays h2) (e3.lays h3)
+    (subst (λ (shape : SearchShape). HoldsSomeFour s0 shape) (sym c.indexes.view_is) (c.requires.holds (e1.looks.was_honest h1)))),
+        ),
+      ),
+    )
 
 pub returns-clause-lays : goal.returns-clause-lays
 returns-clause-lays g c = λ h4.
