@@ -88,17 +88,17 @@ pub few_more : (s : Stand) (shape : SearchShape) (runs : SearchRuns) (before aft
 few_more s shape runs before after parts tunes more small also are h =
     let all = tunes ++ more in
     let titles = few_by_title all (inserted_all runs.titles h.titles.entries)
-        (rising_more title_keys tunes more shape.titles parts.titles runs.titles small also are.titles h.titles)
-        (exact_more title_keys tunes more shape.titles parts.titles runs.titles small also are.titles h.titles) in
+    (rising_more title_keys tunes more shape.titles parts.titles runs.titles small also are.titles h.titles)
+    (exact_more title_keys tunes more shape.titles parts.titles runs.titles small also are.titles h.titles) in
     let rhythms = few_by_rhythm all (inserted_all runs.rhythms h.rhythms.entries)
-        (rising_more rhythm_keys tunes more shape.rhythms parts.rhythms runs.rhythms small also are.rhythms h.rhythms)
-        (exact_more rhythm_keys tunes more shape.rhythms parts.rhythms runs.rhythms small also are.rhythms h.rhythms) in
+    (rising_more rhythm_keys tunes more shape.rhythms parts.rhythms runs.rhythms small also are.rhythms h.rhythms)
+    (exact_more rhythm_keys tunes more shape.rhythms parts.rhythms runs.rhythms small also are.rhythms h.rhythms) in
     let scales = few_by_scale all (inserted_all runs.scales h.scales.entries)
-        (rising_more scale_keys tunes more shape.scales parts.scales runs.scales small also are.scales h.scales)
-        (exact_more scale_keys tunes more shape.scales parts.scales runs.scales small also are.scales h.scales) in
+    (rising_more scale_keys tunes more shape.scales parts.scales runs.scales small also are.scales h.scales)
+    (exact_more scale_keys tunes more shape.scales parts.scales runs.scales small also are.scales h.scales) in
     let incipits = few_by_incipit all (inserted_all runs.incipits h.incipits.entries)
-        (rising_more incipit_keys_of_text tunes more shape.incipits parts.incipits runs.incipits small also are.incipits h.incipits)
-        (exact_more incipit_keys_of_text tunes more shape.incipits parts.incipits runs.incipits small also are.incipits h.incipits) in
+    (rising_more incipit_keys_of_text tunes more shape.incipits parts.incipits runs.incipits small also are.incipits h.incipits)
+    (exact_more incipit_keys_of_text tunes more shape.incipits parts.incipits runs.incipits small also are.incipits h.incipits) in
     omega arith
 
 -- so many pages are free

@@ -1,5 +1,5 @@
 -- How many entries tunes have, and how many leaves an index of them.
-use Rattle.std.proofs.Common.{◌≡◌, ℕ, suc, ◌+◌, ◌*◌, ◌≤◌, List, [], ◌∷◌, ◌++◌, length, map, take, Option, None, Some, arith, inl, inr}
+use Rattle.std.proofs.Common.{◌≡◌, ℕ, suc, ◌+◌, ◌*◌, ◌≤◌, List, [], ◌∷◌, length, map, take, Option, None, Some, arith, inl, inr}
 use Rattle.std.proofs.Common.{refl, sym, ◌∙◌, subst, length-append}
 use Rattle.std.specs.List.{Contains}
 use Rattle.std.specs.Prelude.{ℤ}
@@ -75,7 +75,7 @@ rising_few low [] all up among = omega arith
 rising_few low (e ∷ es) all up among =
     let less = without all e (among e (contains_first e es)) in
     let rest = rising_few (rank e + 1) es less.rest up.1
-        (λ y at. less.others y (among y (contains_later e es y at)) (higher e y (rises_each (rank e + 1) es y up.1 at))) in
+    (λ y at. less.others y (among y (contains_later e es y at)) (higher e y (rises_each (rank e + 1) es y up.1 at))) in
     let long = less.long in
     omega arith
 
@@ -97,9 +97,9 @@ pub few_entries : (keys_of : List ℕ → List ℕ) (most : ℕ) → ((text : Li
     → IsRising es → HoldsEntries keys_of tunes es → length es ≤ most * length tunes
 few_entries keys_of most few tunes es up holds =
     let among = rising_few 0 es (entries_of_tunes keys_of tunes) up
-        (λ e at.
-        let tune = holds.only e at in
-        subst (λ (number : ℕ). Contains {X = Entry} (entries_of_tunes keys_of tunes) (e.0, number)) tune.2 (held_in keys_of tunes tune.0 e.0 tune.1 tune.3)) in
+    (λ e at.
+    let tune = holds.only e at in
+    subst (λ (number : ℕ). Contains {X = Entry} (entries_of_tunes keys_of tunes) (e.0, number)) tune.2 (held_in keys_of tunes tune.0 e.0 tune.1 tune.3)) in
     let all = all_few keys_of most few tunes in
     omega arith
 
@@ -157,7 +157,7 @@ pub few_by_incipit : (tunes : List (ℕ × List ℕ)) (es : List Entry) → IsRi
     → length es ≤ length tunes
 few_by_incipit tunes es up holds =
     let few = few_entries incipit_keys_of_text 1
-        (λ text. one_incipit (4 * notes_of_incipit) (incipit_of notes_of_incipit (tune_notes text))) tunes es up holds in omega arith
+    (λ text. one_incipit (4 * notes_of_incipit) (incipit_of notes_of_incipit (tune_notes text))) tunes es up holds in omega arith
 
 -- LEAVES
 pub few_among : (width : ℕ) (s : Stand) (shape : Shape) (before after : List Part) (parts : IndexParts) (entries : List Entry)

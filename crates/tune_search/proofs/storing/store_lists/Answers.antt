@@ -20,16 +20,15 @@ store_list-requires-2 g c =
     } in
     let s1 = stand c.store_list.new.pages c.store_list.new.work in
     let e1 = c.in-Ok.ensures in
-    let is1 = c.store_list.new.index in
-    (
+    let is1 = c.store_list.new.index in (
       search rules,
       (
         e1.answer,
         (
           e1.fits,
           (λ h1.
-          rhythms_next was is1 is1 is1 same_entries same_entries same_entries s0 s1 (e1.lays h1)
-    (subst (λ (shape : SearchShape). HoldsSomeFour s0 shape) (sym c.indexes.view_is) (c.requires.holds (e1.looks.was_honest h1)))),
+              rhythms_next was is1 is1 is1 same_entries same_entries same_entries s0 s1 (e1.lays h1)
+              (subst (λ (shape : SearchShape). HoldsSomeFour s0 shape) (sym c.indexes.view_is) (c.requires.holds (e1.looks.was_honest h1)))),
         ),
       ),
     )
@@ -48,17 +47,16 @@ store_list-requires-3 g c =
     let is1 = c.store_list.new.index in
     let s2 = stand c.store_list-2.new.pages c.store_list-2.new.work in
     let e2 = c.in-Ok-store_list.ensures in
-    let is2 = c.store_list-2.new.index in
-    (
+    let is2 = c.store_list-2.new.index in (
       search rules,
       (
         e2.answer,
         (
           e2.fits,
           (λ h2.
-    let h1 = e2.looks.was_honest h2 in
-          scales_next was is1 is2 is2 same_entries same_entries same_entries s0 s1 s2 (e1.lays h1) (e2.lays h2)
-    (subst (λ (shape : SearchShape). HoldsSomeFour s0 shape) (sym c.indexes.view_is) (c.requires.holds (e1.looks.was_honest h1)))),
+              let h1 = e2.looks.was_honest h2 in
+              scales_next was is1 is2 is2 same_entries same_entries same_entries s0 s1 s2 (e1.lays h1) (e2.lays h2)
+              (subst (λ (shape : SearchShape). HoldsSomeFour s0 shape) (sym c.indexes.view_is) (c.requires.holds (e1.looks.was_honest h1)))),
         ),
       ),
     )
@@ -80,18 +78,17 @@ store_list-requires-4 g c =
     let is2 = c.store_list-2.new.index in
     let s3 = stand c.store_list-3.new.pages c.store_list-3.new.work in
     let e3 = c.in-Ok-store_list-2.ensures in
-    let is3 = c.store_list-3.new.index in
-    (
+    let is3 = c.store_list-3.new.index in (
       search rules,
       (
         e3.answer,
         (
           e3.fits,
           (λ h3.
-    let h2 = e3.looks.was_honest h3 in
-    let h1 = e2.looks.was_honest h2 in
-          incipits_next was is1 is2 is3 same_entries same_entries same_entries s0 s1 s2 s3 (e1.lays h1) (e2.lays h2) (e3.lays h3)
-    (subst (λ (shape : SearchShape). HoldsSomeFour s0 shape) (sym c.indexes.view_is) (c.requires.holds (e1.looks.was_honest h1)))),
+              let h2 = e3.looks.was_honest h3 in
+              let h1 = e2.looks.was_honest h2 in
+              incipits_next was is1 is2 is3 same_entries same_entries same_entries s0 s1 s2 s3 (e1.lays h1) (e2.lays h2) (e3.lays h3)
+              (subst (λ (shape : SearchShape). HoldsSomeFour s0 shape) (sym c.indexes.view_is) (c.requires.holds (e1.looks.was_honest h1)))),
         ),
       ),
     )
