@@ -25,7 +25,7 @@ module _ (before a b c d after : List Part) where
 -- EACH INDEX AMONG ALL OTHERS
 module _ (s : Stand) (shape : SearchShape) (before after : List Part) (parts : SearchParts) (entries : SearchRuns)
     (h : HoldsFour s shape before after parts entries) where
-  titles_among : HoldsIndexAmong key_bytes s shape.titles before
+  pub titles_among : HoldsIndexAmong key_bytes s shape.titles before
       ((parts_of_index parts.rhythms ++ (parts_of_index parts.scales ++ parts_of_index parts.incipits)) ++ after) parts.titles entries.titles
   titles_among = record {
     holds = subst (λ (l : List Part). HoldsParts s l)
@@ -34,7 +34,7 @@ module _ (s : Stand) (shape : SearchShape) (before after : List Part) (parts : S
     keeps = h.keeps.titles;
   }
 
-  rhythms_among : HoldsIndexAmong key_bytes s shape.rhythms (before ++ parts_of_index parts.titles)
+  pub rhythms_among : HoldsIndexAmong key_bytes s shape.rhythms (before ++ parts_of_index parts.titles)
       ((parts_of_index parts.scales ++ parts_of_index parts.incipits) ++ after) parts.rhythms entries.rhythms
   rhythms_among = record {
     holds = subst (λ (l : List Part). HoldsParts s l) (second_of before (parts_of_index parts.titles) (parts_of_index parts.rhythms)
@@ -42,7 +42,7 @@ module _ (s : Stand) (shape : SearchShape) (before after : List Part) (parts : S
     keeps = h.keeps.rhythms;
   }
 
-  scales_among : HoldsIndexAmong key_bytes s shape.scales ((before ++ parts_of_index parts.titles) ++ parts_of_index parts.rhythms)
+  pub scales_among : HoldsIndexAmong key_bytes s shape.scales ((before ++ parts_of_index parts.titles) ++ parts_of_index parts.rhythms)
       (parts_of_index parts.incipits ++ after) parts.scales entries.scales
   scales_among = record {
     holds = subst (λ (l : List Part). HoldsParts s l)
@@ -51,7 +51,7 @@ module _ (s : Stand) (shape : SearchShape) (before after : List Part) (parts : S
     keeps = h.keeps.scales;
   }
 
-  incipits_among : HoldsIndexAmong key_bytes s shape.incipits
+  pub incipits_among : HoldsIndexAmong key_bytes s shape.incipits
       (((before ++ parts_of_index parts.titles) ++ parts_of_index parts.rhythms) ++ parts_of_index parts.scales) after parts.incipits entries.incipits
   incipits_among = record {
     holds = subst (λ (l : List Part). HoldsParts s l) (fourth_of before (parts_of_index parts.titles) (parts_of_index parts.rhythms)

@@ -4,6 +4,9 @@ pub mod Four
 pub mod Texts
 pub mod TextRuns
 pub mod AmongLemmas
+pub mod FewEntries
+pub mod Balances
+pub mod Takes
 pub mod ClaimLinks
 pub mod ClaimKeys
 pub mod LoadLemmas

@@ -68,7 +68,7 @@ at_each number (key ∷ keys) e at = elim (contains_cases (key, number) (entries
   | inr later ↦ let r = at_each number keys e later in (r.0, contains_later key keys e.0 r.1)
 ]
 
-held_in : (keys_of : List ℕ → List ℕ) (tunes : List (ℕ × List ℕ)) (tune : ℕ × List ℕ) (key : ℕ) → Contains tunes tune
+pub held_in : (keys_of : List ℕ → List ℕ) (tunes : List (ℕ × List ℕ)) (tune : ℕ × List ℕ) (key : ℕ) → Contains tunes tune
     → Contains (keys_of tune.1) key → Contains {X = Entry} (entries_of_tunes keys_of tunes) (key, tune.0)
 held_in keys_of [] tune key at has = absurd (contains_none tune at)
 held_in keys_of (one ∷ tunes) tune key at has =

@@ -87,3 +87,19 @@ texts_less old new was is runs lays before after parts gone tunes others low sma
             are.incipits h.incipits done.1.keeps.incipits;
       },
     )
+
+-- TEXTS THAT STAY
+pub texts_same : (old new : Stand) (was is : SearchShape) → LaysFour old new was is (λ entries. entries)
+    → (before after : List Part) (parts : SearchParts) (tunes : List (ℕ × List ℕ)) → HoldsTexts old was before after parts tunes
+    → (next : SearchParts) × HoldsTexts new is before after next tunes
+texts_same old new was is lays before after parts tunes h =
+    let done = lays before after parts (entries_of_texts old was before after parts tunes h) (texts_four old was before after parts tunes h) in (
+      done.0,
+      record {
+        holds = done.1.holds;
+        titles = record { entries = h.titles.entries; keeps = done.1.keeps.titles; exact = h.titles.exact };
+        rhythms = record { entries = h.rhythms.entries; keeps = done.1.keeps.rhythms; exact = h.rhythms.exact };
+        scales = record { entries = h.scales.entries; keeps = done.1.keeps.scales; exact = h.scales.exact };
+        incipits = record { entries = h.incipits.entries; keeps = done.1.keeps.incipits; exact = h.incipits.exact };
+      },
+    )

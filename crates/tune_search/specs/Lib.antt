@@ -5,3 +5,4 @@ pub mod Inside
 pub mod Empty
 pub mod Loaded
 pub mod Claiming
+pub mod SearchPages

@@ -1,5 +1,7 @@
 // Texts put into the search indexes and taken out of them.
-ghost use Rattle.std.specs.Prelude.{◌≡◌, ◌^◌, ◌<◌, ◌++◌, ◌∷◌, [], ℕ, false, List, OnOk};
+ghost use Rattle.std.specs.Prelude.{◌≡◌, ◌^◌, ◌+◌, ◌*◌, ◌<◌, ◌++◌, ◌∷◌, [], ℕ, false, length, List};
+ghost use Rattle.std.specs.Prelude.{OnOk};
+ghost use Rattle.tune_pages.specs.Faults.{free_pages};
 ghost use Rattle.tune_pages.specs.Kept.{HonestAt};
 ghost use Rattle.tune_pages.specs.Reading.{LooksAt};
 ghost use Rattle.tune_pages.specs.Work.{stand, Fits};
@@ -7,10 +9,13 @@ ghost use Rattle.index_keys.specs.Entries.{IsRising};
 ghost use Rattle.index_keys.specs.Holdings.{AreSmall, IsWithout};
 ghost use Rattle.tune_index.specs.Faults.{AnswersEdit};
 ghost use Rattle.tune_parts.specs.Parts.{Part};
-ghost use Rattle.tune_search.specs.Inside.Four.{HoldsSomeFour, LaysFour, put_in, taken_out};
+ghost use Rattle.tune_search.specs.Inside.Four.{HoldsFour, HoldsSomeFour, LaysFour, entry_count};
+ghost use Rattle.tune_search.specs.Inside.Four.{put_in, taken_out};
+ghost use Rattle.tune_search.specs.SearchPages.{leaves_of, most_entries};
 ghost use Rattle.tune_search.specs.Searches.{AreRunsOf, HoldsSomeTexts, HoldsTexts, SearchParts};
+ghost use Rattle.tune_search.specs.Searches.{SearchRuns};
 
-use crate::laying::{put_run, store_list, take_run};
+use crate::laying::{put_run, take_run};
 use crate::runs::Runs;
 use crate::searches::SearchIndexes;
 use std::alloc::Global;
@@ -37,8 +42,15 @@ fn put_runs<D: Disk>(
     ensures lays { OnOk result (HonestAt D.honest pages.new.disk → LaysFour
         (stand pages.old work.old) (stand pages.new work.new) indexes.old indexes.new
         (λ entries. put_in runs.now entries)) }
+    ensures balance { OnOk result (free_pages (stand pages.old work.old).used
+        + leaves_of indexes.old ≡ free_pages (stand pages.new work.new).used
+        + leaves_of indexes.new) }
     ensures looks { LooksAt D.honest D.failures D.state result pages.old pages.new }
-    ensures answer { AnswersEdit result pages.new.closed (Unit {0}) }
+    ensures answer { AnswersEdit result pages.new.closed (HonestAt D.honest pages.new.disk
+        → (before after : List Part) (parts : SearchParts) (entries : SearchRuns)
+        → HoldsFour (stand pages.old work.old) indexes.old before after parts entries
+        → free_pages (stand pages.old work.old).used
+        < entry_count (put_in runs.now entries)) }
 {
     match put_run(alloc, pages, work, &mut indexes.titles, &runs.titles) {
         Ok(()) => {}
@@ -75,6 +87,9 @@ fn take_runs<D: Disk>(
     ensures lays { OnOk result (HonestAt D.honest pages.new.disk → LaysFour
         (stand pages.old work.old) (stand pages.new work.new) indexes.old indexes.new
         (λ entries. taken_out runs.now entries)) }
+    ensures balance { OnOk result (free_pages (stand pages.old work.old).used
+        + leaves_of indexes.old ≡ free_pages (stand pages.new work.new).used
+        + leaves_of indexes.new) }
     ensures looks { LooksAt D.honest D.failures D.state result pages.old pages.new }
     ensures answer { AnswersEdit result pages.new.closed ⊥ }
 {
@@ -102,8 +117,9 @@ impl SearchIndexes {
     ///
     /// # Errors
     ///
-    /// `FileFull`; `OutOfMemory`; `Device` where the disk failed: the pages are then closed. The
-    /// indexes and the work are then to be dropped.
+    /// `FileFull` only where fewer pages are free than the entries that so many texts may have;
+    /// `OutOfMemory`; `Device` where the disk failed: the pages are then closed. The indexes and
+    /// the work are then to be dropped.
     pub fn put<D: Disk>(
         &mut self,
         alloc: Global,
@@ -123,8 +139,16 @@ impl SearchIndexes {
             → HoldsTexts (stand pages.old work.old) self.old before after parts tunes
             → (next : SearchParts) × HoldsTexts (stand pages.new work.new) self.new
             before after next (tunes ++ more)) }
+        ensures balance { OnOk result (free_pages (stand pages.old work.old).used
+            + leaves_of self.old ≡ free_pages (stand pages.new work.new).used
+            + leaves_of self.new) }
         ensures looks { LooksAt D.honest D.failures D.state result pages.old pages.new }
-        ensures answer { AnswersEdit result pages.new.closed (Unit {0}) }
+        ensures answer { AnswersEdit result pages.new.closed (HonestAt D.honest pages.new.disk
+            → (before after : List Part) (parts : SearchParts) (tunes more : List (ℕ × List ℕ))
+            → AreSmall tunes → AreSmall more → AreRunsOf more runs.now
+            → HoldsTexts (stand pages.old work.old) self.old before after parts tunes
+            → free_pages (stand pages.old work.old).used
+            < most_entries * length (tunes ++ more)) }
     {
         match put_runs(alloc, pages, work, self, runs) {
             Ok(()) => Ok(()),
@@ -157,6 +181,9 @@ impl SearchIndexes {
             → HoldsTexts (stand pages.old work.old) self.old before after parts tunes
             → (next : SearchParts) × HoldsTexts (stand pages.new work.new) self.new
             before after next others) }
+        ensures balance { OnOk result (free_pages (stand pages.old work.old).used
+            + leaves_of self.old ≡ free_pages (stand pages.new work.new).used
+            + leaves_of self.new) }
         ensures looks { LooksAt D.honest D.failures D.state result pages.old pages.new }
         ensures answer { AnswersEdit result pages.new.closed ⊥ }
     {

@@ -6,13 +6,16 @@
 mod changing;
 mod claims;
 mod finding;
+mod laws;
 mod laying;
 mod load_laws;
 mod loading;
 mod runs;
 mod searches;
+mod storing;
 
 pub use claims::{SearchClaims, law_of_claims};
+pub use laws::law_of_search_pages;
 pub use laying::{put_run, store_list, take_run};
 pub use load_laws::law_of_loads;
 pub use loading::{SearchEntries, SearchFirsts};

@@ -10,7 +10,7 @@ use tune_index::{Index, IndexKey};
 use tune_pages::{ClaimFault, Opening};
 
 /// Where the chains begin that list the leaves of the four indexes; 0 where an index has none.
-#[derive(Clone, Copy, Debug)]
+#[derive(Clone, Copy, Debug, PartialEq, Eq)]
 pub struct SearchFirsts {
     pub titles: u32,
     pub rhythms: u32,

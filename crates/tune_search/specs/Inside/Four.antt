@@ -1,5 +1,5 @@
 -- The four search indexes among other parts, whatever their entries are of.
-use Rattle.std.specs.Prelude.{◌++◌, List}
+use Rattle.std.specs.Prelude.{ℕ, ◌+◌, ◌++◌, length, List}
 use Rattle.index_keys.specs.Entries.{inserted_all, removed_all}
 use Rattle.tune_pages.specs.Stand.{Stand}
 use Rattle.tune_parts.specs.Parts.{HoldsParts, Part}
@@ -32,6 +32,11 @@ abbrev pub LaysFour : Stand → Stand → SearchShape → SearchShape → (Searc
 LaysFour old new was is change = (before after : List Part) (parts : SearchParts)
     (entries : SearchRuns) → HoldsFour old was before after parts entries
     → (next : SearchParts) × HoldsFour new is before after next (change entries)
+
+-- how many entries there are
+abbrev pub entry_count : SearchRuns → ℕ
+entry_count entries = length entries.titles + length entries.rhythms + length entries.scales
+    + length entries.incipits
 
 -- the entries with these runs put in, or taken out
 abbrev pub put_in : SearchRuns → SearchRuns → SearchRuns

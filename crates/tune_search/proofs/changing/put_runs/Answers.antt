@@ -1,8 +1,12 @@
-use Rattle.std.proofs.Common.{◌≡◌, List, rules, sym, subst, ◌∙◌}
+use Rattle.std.proofs.Common.{◌≡◌, ◌+◌, List, rules, sym, ap, subst, ◌∙◌}
+use Rattle.tune_pages.specs.Faults.{free_pages}
 use Rattle.tune_pages.specs.Work.{stand}
 use Rattle.index_keys.specs.Entries.{Entry, inserted_all}
+use Rattle.tune_index.proofs.Answering.{edit_more}
 use Rattle.tune_search.specs.Inside.Four.{HoldsSomeFour, LaysFour, put_in}
+use Rattle.tune_search.specs.SearchPages.{leaves_of}
 use Rattle.tune_search.specs.Searches.{SearchRuns, SearchShape}
+use Rattle.tune_search.proofs.Balances.{AreFullFor, four_balance, incipits_full, rhythms_full, scales_full, titles_full}
 use Rattle.tune_search.proofs.Four.{four_laid, incipits_next, rhythms_next, scales_next}
 use Rattle.tune_search.proofs.changing.put_runs.Goals as goal
 
@@ -153,3 +157,144 @@ returns-clause-lays g c = λ h4.
     subst (λ (shape : SearchShape). LaysFour s0 s4 shape is (λ entries. put_in c.args.runs.now entries)) c.indexes.view_is
     (subst (λ (r : SearchRuns). LaysFour s0 s4 was is (λ entries. put_in r entries)) runs
     (four_laid was is1 is2 is3 is4 f1 f2 f3 f4 s0 s1 s2 s3 s4 (e1.lays h1) (e2.lays h2) (e3.lays h3) (e4.lays h4)))
+
+pub returns-clause-balance : goal.returns-clause-balance
+returns-clause-balance g c =
+    let s0 = stand c.args.pages.now c.args.work.now in
+    let s1 = stand c.put_run.new.pages c.put_run.new.work in
+    let s2 = stand c.put_run-2.new.pages c.put_run-2.new.work in
+    let s3 = stand c.put_run-3.new.pages c.put_run-3.new.work in
+    let s4 = stand c.put_run-4.new.pages c.put_run-4.new.work in
+    let was : SearchShape = record {
+      titles = c.indexes.inside.titles;
+      rhythms = c.indexes.inside.rhythms;
+      scales = c.indexes.inside.scales;
+      incipits = c.indexes.inside.incipits;
+    } in
+    let is : SearchShape = record {
+      titles = c.put_run.new.index;
+      rhythms = c.put_run-2.new.index;
+      scales = c.put_run-3.new.index;
+      incipits = c.put_run-4.new.index;
+    } in
+    subst (λ (shape : SearchShape). free_pages s0.used + leaves_of shape ≡ free_pages s4.used + leaves_of is) c.indexes.view_is
+    (four_balance s0 s1 s2 s3 s4 was is c.in-Ok.ensures.balance c.in-Ok-put_run.ensures.balance c.in-Ok-put_run-2.ensures.balance
+    c.in-Ok-put_run-3.ensures.balance)
+
+pub returns-in-Err-clause-answer : goal.returns-in-Err-clause-answer
+returns-in-Err-clause-answer g c =
+    let s0 = stand c.args.pages.now c.args.work.now in
+    let was : SearchShape = record {
+      titles = c.indexes.inside.titles;
+      rhythms = c.indexes.inside.rhythms;
+      scales = c.indexes.inside.scales;
+      incipits = c.indexes.inside.incipits;
+    } in
+    let all = c.args.runs.now in
+    let r1 : c.deref.result.now ≡ all.titles = c.deref.ensures.value ∙ ap (λ (r : SearchRuns). r.titles) c.runs.view_is in
+    let made : SearchRuns = record { titles = c.deref.result.now; rhythms = all.rhythms; scales = all.scales; incipits = all.incipits } in
+    let runs : made ≡ all = (λ i. record { titles = r1 i; rhythms = all.rhythms; scales = all.scales; incipits = all.incipits }) in
+    edit_more c.in-Err.fault c.put_run.new.pages.closed
+    (λ full h1.
+    subst (λ (shape : SearchShape). AreFullFor s0 shape (λ entries. put_in all entries)) c.indexes.view_is
+    (subst (λ (r : SearchRuns). AreFullFor s0 was (λ entries. put_in r entries)) runs
+    (titles_full was was.titles was.titles was.titles
+    (inserted_all made.titles) (inserted_all made.rhythms) (inserted_all made.scales) (inserted_all made.incipits)
+    s0 (full h1))))
+    c.in-Err.ensures.answer
+
+pub returns-in-Err-put_run-clause-answer : goal.returns-in-Err-put_run-clause-answer
+returns-in-Err-put_run-clause-answer g c =
+    let s0 = stand c.args.pages.now c.args.work.now in
+    let was : SearchShape = record {
+      titles = c.indexes.inside.titles;
+      rhythms = c.indexes.inside.rhythms;
+      scales = c.indexes.inside.scales;
+      incipits = c.indexes.inside.incipits;
+    } in
+    let all = c.args.runs.now in
+    let s1 = stand c.put_run.new.pages c.put_run.new.work in
+    let e1 = c.in-Ok.ensures in
+    let is1 = c.put_run.new.index in
+    let r1 : c.deref.result.now ≡ all.titles = c.deref.ensures.value ∙ ap (λ (r : SearchRuns). r.titles) c.runs.view_is in
+    let r2 : c.deref-2.result.now ≡ all.rhythms = c.deref-2.ensures.value ∙ ap (λ (r : SearchRuns). r.rhythms) c.runs.view_is in
+    let made : SearchRuns = record { titles = c.deref.result.now; rhythms = c.deref-2.result.now; scales = all.scales; incipits = all.incipits } in
+    let runs : made ≡ all = (λ i. record { titles = r1 i; rhythms = r2 i; scales = all.scales; incipits = all.incipits }) in
+    edit_more c.in-Err-put_run.fault c.put_run-2.new.pages.closed
+    (λ full h2.
+    let h1 = c.in-Err-put_run.ensures.looks.was_honest h2 in
+    subst (λ (shape : SearchShape). AreFullFor s0 shape (λ entries. put_in all entries)) c.indexes.view_is
+    (subst (λ (r : SearchRuns). AreFullFor s0 was (λ entries. put_in r entries)) runs
+    (rhythms_full was is1 is1 is1
+    (inserted_all made.titles) (inserted_all made.rhythms) (inserted_all made.scales) (inserted_all made.incipits)
+    s0 s1 (e1.lays h1) e1.balance (full h2))))
+    c.in-Err-put_run.ensures.answer
+
+pub returns-in-Err-put_run-2-clause-answer : goal.returns-in-Err-put_run-2-clause-answer
+returns-in-Err-put_run-2-clause-answer g c =
+    let s0 = stand c.args.pages.now c.args.work.now in
+    let was : SearchShape = record {
+      titles = c.indexes.inside.titles;
+      rhythms = c.indexes.inside.rhythms;
+      scales = c.indexes.inside.scales;
+      incipits = c.indexes.inside.incipits;
+    } in
+    let all = c.args.runs.now in
+    let s1 = stand c.put_run.new.pages c.put_run.new.work in
+    let e1 = c.in-Ok.ensures in
+    let is1 = c.put_run.new.index in
+    let s2 = stand c.put_run-2.new.pages c.put_run-2.new.work in
+    let e2 = c.in-Ok-put_run.ensures in
+    let is2 = c.put_run-2.new.index in
+    let r1 : c.deref.result.now ≡ all.titles = c.deref.ensures.value ∙ ap (λ (r : SearchRuns). r.titles) c.runs.view_is in
+    let r2 : c.deref-2.result.now ≡ all.rhythms = c.deref-2.ensures.value ∙ ap (λ (r : SearchRuns). r.rhythms) c.runs.view_is in
+    let r3 : c.deref-3.result.now ≡ all.scales = c.deref-3.ensures.value ∙ ap (λ (r : SearchRuns). r.scales) c.runs.view_is in
+    let made : SearchRuns = record { titles = c.deref.result.now; rhythms = c.deref-2.result.now; scales = c.deref-3.result.now; incipits = all.incipits } in
+    let runs : made ≡ all = (λ i. record { titles = r1 i; rhythms = r2 i; scales = r3 i; incipits = all.incipits }) in
+    edit_more c.in-Err-put_run-2.fault c.put_run-3.new.pages.closed
+    (λ full h3.
+    let h2 = c.in-Err-put_run-2.ensures.looks.was_honest h3 in
+    let h1 = e2.looks.was_honest h2 in
+    subst (λ (shape : SearchShape). AreFullFor s0 shape (λ entries. put_in all entries)) c.indexes.view_is
+    (subst (λ (r : SearchRuns). AreFullFor s0 was (λ entries. put_in r entries)) runs
+    (scales_full was is1 is2 is2
+    (inserted_all made.titles) (inserted_all made.rhythms) (inserted_all made.scales) (inserted_all made.incipits)
+    s0 s1 s2 (e1.lays h1) (e2.lays h2) e1.balance e2.balance (full h3))))
+    c.in-Err-put_run-2.ensures.answer
+
+pub returns-in-Err-put_run-3-clause-answer : goal.returns-in-Err-put_run-3-clause-answer
+returns-in-Err-put_run-3-clause-answer g c =
+    let s0 = stand c.args.pages.now c.args.work.now in
+    let was : SearchShape = record {
+      titles = c.indexes.inside.titles;
+      rhythms = c.indexes.inside.rhythms;
+      scales = c.indexes.inside.scales;
+      incipits = c.indexes.inside.incipits;
+    } in
+    let all = c.args.runs.now in
+    let s1 = stand c.put_run.new.pages c.put_run.new.work in
+    let e1 = c.in-Ok.ensures in
+    let is1 = c.put_run.new.index in
+    let s2 = stand c.put_run-2.new.pages c.put_run-2.new.work in
+    let e2 = c.in-Ok-put_run.ensures in
+    let is2 = c.put_run-2.new.index in
+    let s3 = stand c.put_run-3.new.pages c.put_run-3.new.work in
+    let e3 = c.in-Ok-put_run-2.ensures in
+    let is3 = c.put_run-3.new.index in
+    let r1 : c.deref.result.now ≡ all.titles = c.deref.ensures.value ∙ ap (λ (r : SearchRuns). r.titles) c.runs.view_is in
+    let r2 : c.deref-2.result.now ≡ all.rhythms = c.deref-2.ensures.value ∙ ap (λ (r : SearchRuns). r.rhythms) c.runs.view_is in
+    let r3 : c.deref-3.result.now ≡ all.scales = c.deref-3.ensures.value ∙ ap (λ (r : SearchRuns). r.scales) c.runs.view_is in
+    let r4 : c.deref-4.result.now ≡ all.incipits = c.deref-4.ensures.value ∙ ap (λ (r : SearchRuns). r.incipits) c.runs.view_is in
+    let made : SearchRuns = record { titles = c.deref.result.now; rhythms = c.deref-2.result.now; scales = c.deref-3.result.now; incipits = c.deref-4.result.now } in
+    let runs : made ≡ all = (λ i. record { titles = r1 i; rhythms = r2 i; scales = r3 i; incipits = r4 i }) in
+    edit_more c.in-Err-put_run-3.fault c.put_run-4.new.pages.closed
+    (λ full h4.
+    let h3 = c.in-Err-put_run-3.ensures.looks.was_honest h4 in
+    let h2 = e3.looks.was_honest h3 in
+    let h1 = e2.looks.was_honest h2 in
+    subst (λ (shape : SearchShape). AreFullFor s0 shape (λ entries. put_in all entries)) c.indexes.view_is
+    (subst (λ (r : SearchRuns). AreFullFor s0 was (λ entries. put_in r entries)) runs
+    (incipits_full was is1 is2 is3
+    (inserted_all made.titles) (inserted_all made.rhythms) (inserted_all made.scales) (inserted_all made.incipits)
+    s0 s1 s2 s3 (e1.lays h1) (e2.lays h2) (e3.lays h3) e1.balance e2.balance e3.balance (full h4))))
+    c.in-Err-put_run-3.ensures.answer

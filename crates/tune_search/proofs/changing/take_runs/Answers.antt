@@ -1,8 +1,11 @@
-use Rattle.std.proofs.Common.{◌≡◌, List, rules, sym, subst, ◌∙◌}
+use Rattle.std.proofs.Common.{◌≡◌, ◌+◌, List, rules, sym, subst, ◌∙◌}
+use Rattle.tune_pages.specs.Faults.{free_pages}
 use Rattle.tune_pages.specs.Work.{stand}
 use Rattle.index_keys.specs.Entries.{Entry, removed_all}
 use Rattle.tune_search.specs.Inside.Four.{HoldsSomeFour, LaysFour, taken_out}
+use Rattle.tune_search.specs.SearchPages.{leaves_of}
 use Rattle.tune_search.specs.Searches.{SearchRuns, SearchShape}
+use Rattle.tune_search.proofs.Balances.{four_balance}
 use Rattle.tune_search.proofs.Four.{four_laid, incipits_next, rhythms_next, scales_next}
 use Rattle.tune_search.proofs.changing.take_runs.Goals as goal
 
@@ -144,3 +147,26 @@ returns-clause-lays g c = λ h4.
     subst (λ (shape : SearchShape). LaysFour s0 s4 shape is (λ entries. taken_out c.args.runs.now entries)) c.indexes.view_is
     (subst (λ (r : SearchRuns). LaysFour s0 s4 was is (λ entries. taken_out r entries)) runs
     (four_laid was is1 is2 is3 is4 f1 f2 f3 f4 s0 s1 s2 s3 s4 (e1.lays h1) (e2.lays h2) (e3.lays h3) (e4.lays h4)))
+
+pub returns-clause-balance : goal.returns-clause-balance
+returns-clause-balance g c =
+    let s0 = stand c.args.pages.now c.args.work.now in
+    let s1 = stand c.take_run.new.pages c.take_run.new.work in
+    let s2 = stand c.take_run-2.new.pages c.take_run-2.new.work in
+    let s3 = stand c.take_run-3.new.pages c.take_run-3.new.work in
+    let s4 = stand c.take_run-4.new.pages c.take_run-4.new.work in
+    let was : SearchShape = record {
+      titles = c.indexes.inside.titles;
+      rhythms = c.indexes.inside.rhythms;
+      scales = c.indexes.inside.scales;
+      incipits = c.indexes.inside.incipits;
+    } in
+    let is : SearchShape = record {
+      titles = c.take_run.new.index;
+      rhythms = c.take_run-2.new.index;
+      scales = c.take_run-3.new.index;
+      incipits = c.take_run-4.new.index;
+    } in
+    subst (λ (shape : SearchShape). free_pages s0.used + leaves_of shape ≡ free_pages s4.used + leaves_of is) c.indexes.view_is
+    (four_balance s0 s1 s2 s3 s4 was is c.in-Ok.ensures.balance c.in-Ok-take_run.ensures.balance c.in-Ok-take_run-2.ensures.balance
+    c.in-Ok-take_run-3.ensures.balance)

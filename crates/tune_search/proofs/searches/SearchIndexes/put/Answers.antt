@@ -1,4 +1,6 @@
 use Rattle.tune_pages.specs.Work.{stand}
+use Rattle.tune_index.proofs.Answering.{edit_more}
+use Rattle.tune_search.proofs.Balances.{full_for_texts}
 use Rattle.tune_search.proofs.Texts.{some_texts_four, texts_more}
 use Rattle.tune_search.proofs.searches.SearchIndexes.put.Goals as goal
 
@@ -9,3 +11,9 @@ pub returns-in-Ok-clause-holds : goal.returns-in-Ok-clause-holds
 returns-in-Ok-clause-holds g c = λ honest before after parts tunes more small also are h.
     texts_more (stand c.args.pages.now c.args.work.now) (stand c.put_runs.new.pages c.put_runs.new.work) c.args.self.now c.put_runs.new.indexes c.args.runs.now
     (c.in-Ok.ensures.lays honest) before after parts tunes more small also are h
+
+pub returns-in-Err-clause-answer : goal.returns-in-Err-clause-answer
+returns-in-Err-clause-answer g c = edit_more c.in-Err.fault c.put_runs.new.pages.closed
+    (λ full honest before after parts tunes more small also are h.
+    full_for_texts (stand c.args.pages.now c.args.work.now) c.args.self.now c.args.runs.now (full honest) before after parts tunes more small also are h)
+    c.in-Err.ensures.answer

@@ -1,0 +1,230 @@
+use Rattle.std.proofs.Common.{◌≡◌, ◌+◌, ◌*◌, ◌<◌, ◌≤◌, length, rules, sym, subst}
+use Rattle.tune_pages.specs.Faults.{free_pages, pages_for}
+use Rattle.tune_pages.specs.Work.{stand}
+use Rattle.tune_pages.specs.declared.fault.Fault.TheVariants.{FileFull}
+use Rattle.tune_search.specs.Inside.Four.{HoldsSomeFour, LaysFour}
+use Rattle.tune_search.specs.SearchPages.{lists_of}
+use Rattle.tune_search.specs.Searches.{SearchShape}
+use Rattle.tune_search.proofs.Four.{four_laid, incipits_next, rhythms_next, same_entries, scales_next}
+use Rattle.tune_search.proofs.Takes.{four_take, no_incipits_take, no_rhythms_take, no_scales_take, no_titles_take}
+use Rattle.tune_search.proofs.storing.store_lists.Goals as goal
+
+pub store_list-requires-2 : goal.store_list-requires-2
+store_list-requires-2 g c =
+    let s0 = stand c.args.pages.now c.args.work.now in
+    let was : SearchShape = record {
+      titles = c.indexes.inside.titles;
+      rhythms = c.indexes.inside.rhythms;
+      scales = c.indexes.inside.scales;
+      incipits = c.indexes.inside.incipits;
+    } in
+    let s1 = stand c.store_list.new.pages c.store_list.new.work in
+    let e1 = c.in-Ok.ensures in
+    let is1 = c.store_list.new.index in (
+      search rules,
+      (
+        e1.answer,
+        (
+          e1.fits,
+          (λ h1.
+              rhythms_next was is1 is1 is1 same_entries same_entries same_entries s0 s1 (e1.lays h1)
+              (subst (λ (shape : SearchShape). HoldsSomeFour s0 shape) (sym c.indexes.view_is) (c.requires.holds (e1.looks.was_honest h1)))),
+        ),
+      ),
+    )
+
+pub store_list-requires-3 : goal.store_list-requires-3
+store_list-requires-3 g c =
+    let s0 = stand c.args.pages.now c.args.work.now in
+    let was : SearchShape = record {
+      titles = c.indexes.inside.titles;
+      rhythms = c.indexes.inside.rhythms;
+      scales = c.indexes.inside.scales;
+      incipits = c.indexes.inside.incipits;
+    } in
+    let s1 = stand c.store_list.new.pages c.store_list.new.work in
+    let e1 = c.in-Ok.ensures in
+    let is1 = c.store_list.new.index in
+    let s2 = stand c.store_list-2.new.pages c.store_list-2.new.work in
+    let e2 = c.in-Ok-store_list.ensures in
+    let is2 = c.store_list-2.new.index in (
+      search rules,
+      (
+        e2.answer,
+        (
+          e2.fits,
+          (λ h2.
+              let h1 = e2.looks.was_honest h2 in
+              scales_next was is1 is2 is2 same_entries same_entries same_entries s0 s1 s2 (e1.lays h1) (e2.lays h2)
+              (subst (λ (shape : SearchShape). HoldsSomeFour s0 shape) (sym c.indexes.view_is) (c.requires.holds (e1.looks.was_honest h1)))),
+        ),
+      ),
+    )
+
+pub store_list-requires-4 : goal.store_list-requires-4
+store_list-requires-4 g c =
+    let s0 = stand c.args.pages.now c.args.work.now in
+    let was : SearchShape = record {
+      titles = c.indexes.inside.titles;
+      rhythms = c.indexes.inside.rhythms;
+      scales = c.indexes.inside.scales;
+      incipits = c.indexes.inside.incipits;
+    } in
+    let s1 = stand c.store_list.new.pages c.store_list.new.work in
+    let e1 = c.in-Ok.ensures in
+    let is1 = c.store_list.new.index in
+    let s2 = stand c.store_list-2.new.pages c.store_list-2.new.work in
+    let e2 = c.in-Ok-store_list.ensures in
+    let is2 = c.store_list-2.new.index in
+    let s3 = stand c.store_list-3.new.pages c.store_list-3.new.work in
+    let e3 = c.in-Ok-store_list-2.ensures in
+    let is3 = c.store_list-3.new.index in (
+      search rules,
+      (
+        e3.answer,
+        (
+          e3.fits,
+          (λ h3.
+              let h2 = e3.looks.was_honest h3 in
+              let h1 = e2.looks.was_honest h2 in
+              incipits_next was is1 is2 is3 same_entries same_entries same_entries s0 s1 s2 s3 (e1.lays h1) (e2.lays h2) (e3.lays h3)
+              (subst (λ (shape : SearchShape). HoldsSomeFour s0 shape) (sym c.indexes.view_is) (c.requires.holds (e1.looks.was_honest h1)))),
+        ),
+      ),
+    )
+
+pub returns-clause-lays : goal.returns-clause-lays
+returns-clause-lays g c = λ h4.
+    let s0 = stand c.args.pages.now c.args.work.now in
+    let was : SearchShape = record {
+      titles = c.indexes.inside.titles;
+      rhythms = c.indexes.inside.rhythms;
+      scales = c.indexes.inside.scales;
+      incipits = c.indexes.inside.incipits;
+    } in
+    let s1 = stand c.store_list.new.pages c.store_list.new.work in
+    let e1 = c.in-Ok.ensures in
+    let is1 = c.store_list.new.index in
+    let s2 = stand c.store_list-2.new.pages c.store_list-2.new.work in
+    let e2 = c.in-Ok-store_list.ensures in
+    let is2 = c.store_list-2.new.index in
+    let s3 = stand c.store_list-3.new.pages c.store_list-3.new.work in
+    let e3 = c.in-Ok-store_list-2.ensures in
+    let is3 = c.store_list-3.new.index in
+    let s4 = stand c.store_list-4.new.pages c.store_list-4.new.work in
+    let e4 = c.in-Ok-store_list-3.ensures in
+    let is4 = c.store_list-4.new.index in
+    let h3 = e4.looks.was_honest h4 in
+    let h2 = e3.looks.was_honest h3 in
+    let h1 = e2.looks.was_honest h2 in
+    let is : SearchShape = record { titles = is1; rhythms = is2; scales = is3; incipits = is4 } in
+    subst (λ (shape : SearchShape). LaysFour s0 s4 shape is (λ entries. entries)) c.indexes.view_is
+    (four_laid was is1 is2 is3 is4 same_entries same_entries same_entries same_entries s0 s1 s2 s3 s4 (e1.lays h1) (e2.lays h2) (e3.lays h3) (e4.lays h4))
+
+pub returns-clause-takes : goal.returns-clause-takes
+returns-clause-takes g c = λ h4.
+    let s0 = stand c.args.pages.now c.args.work.now in
+    let was : SearchShape = record {
+      titles = c.indexes.inside.titles;
+      rhythms = c.indexes.inside.rhythms;
+      scales = c.indexes.inside.scales;
+      incipits = c.indexes.inside.incipits;
+    } in
+    let s1 = stand c.store_list.new.pages c.store_list.new.work in
+    let e1 = c.in-Ok.ensures in
+    let is1 = c.store_list.new.index in
+    let s2 = stand c.store_list-2.new.pages c.store_list-2.new.work in
+    let e2 = c.in-Ok-store_list.ensures in
+    let is2 = c.store_list-2.new.index in
+    let s3 = stand c.store_list-3.new.pages c.store_list-3.new.work in
+    let e3 = c.in-Ok-store_list-2.ensures in
+    let is3 = c.store_list-3.new.index in
+    let s4 = stand c.store_list-4.new.pages c.store_list-4.new.work in
+    let e4 = c.in-Ok-store_list-3.ensures in
+    let is4 = c.store_list-4.new.index in
+    let h3 = e4.looks.was_honest h4 in
+    let h2 = e3.looks.was_honest h3 in
+    let h1 = e2.looks.was_honest h2 in
+    subst (λ (shape : SearchShape). free_pages s0.used ≤ free_pages s4.used + lists_of shape) c.indexes.view_is
+    (four_take (free_pages s0.used) (free_pages s1.used) (free_pages s2.used) (free_pages s3.used) (free_pages s4.used) (pages_for (4 * length was.titles.pages)) (pages_for (4 * length was.rhythms.pages)) (pages_for (4 * length was.scales.pages)) (pages_for (4 * length was.incipits.pages))
+    (e1.takes h1) (e2.takes h2) (e3.takes h3) (e4.takes h4))
+
+pub returns-in-Err-clause-takes : goal.returns-in-Err-clause-takes
+returns-in-Err-clause-takes g c = λ h1.
+    let s0 = stand c.args.pages.now c.args.work.now in
+    let was : SearchShape = record {
+      titles = c.indexes.inside.titles;
+      rhythms = c.indexes.inside.rhythms;
+      scales = c.indexes.inside.scales;
+      incipits = c.indexes.inside.incipits;
+    } in
+    let fault = c.in-Err.fault in
+    subst (λ (shape : SearchShape). fault ≡ FileFull → free_pages s0.used < lists_of shape) c.indexes.view_is
+    (no_titles_take fault (free_pages s0.used) (pages_for (4 * length was.titles.pages)) (pages_for (4 * length was.rhythms.pages)) (pages_for (4 * length was.scales.pages)) (pages_for (4 * length was.incipits.pages))
+    (c.in-Err.ensures.takes h1))
+
+pub returns-in-Err-store_list-clause-takes : goal.returns-in-Err-store_list-clause-takes
+returns-in-Err-store_list-clause-takes g c = λ h2.
+    let s0 = stand c.args.pages.now c.args.work.now in
+    let was : SearchShape = record {
+      titles = c.indexes.inside.titles;
+      rhythms = c.indexes.inside.rhythms;
+      scales = c.indexes.inside.scales;
+      incipits = c.indexes.inside.incipits;
+    } in
+    let s1 = stand c.store_list.new.pages c.store_list.new.work in
+    let e1 = c.in-Ok.ensures in
+    let is1 = c.store_list.new.index in
+    let h1 = c.in-Err-store_list.ensures.looks.was_honest h2 in
+    let fault = c.in-Err-store_list.fault in
+    subst (λ (shape : SearchShape). fault ≡ FileFull → free_pages s0.used < lists_of shape) c.indexes.view_is
+    (no_rhythms_take fault (free_pages s0.used) (free_pages s1.used) (pages_for (4 * length was.titles.pages)) (pages_for (4 * length was.rhythms.pages)) (pages_for (4 * length was.scales.pages)) (pages_for (4 * length was.incipits.pages))
+    (e1.takes h1) (c.in-Err-store_list.ensures.takes h2))
+
+pub returns-in-Err-store_list-2-clause-takes : goal.returns-in-Err-store_list-2-clause-takes
+returns-in-Err-store_list-2-clause-takes g c = λ h3.
+    let s0 = stand c.args.pages.now c.args.work.now in
+    let was : SearchShape = record {
+      titles = c.indexes.inside.titles;
+      rhythms = c.indexes.inside.rhythms;
+      scales = c.indexes.inside.scales;
+      incipits = c.indexes.inside.incipits;
+    } in
+    let s1 = stand c.store_list.new.pages c.store_list.new.work in
+    let e1 = c.in-Ok.ensures in
+    let is1 = c.store_list.new.index in
+    let s2 = stand c.store_list-2.new.pages c.store_list-2.new.work in
+    let e2 = c.in-Ok-store_list.ensures in
+    let is2 = c.store_list-2.new.index in
+    let h2 = c.in-Err-store_list-2.ensures.looks.was_honest h3 in
+    let h1 = e2.looks.was_honest h2 in
+    let fault = c.in-Err-store_list-2.fault in
+    subst (λ (shape : SearchShape). fault ≡ FileFull → free_pages s0.used < lists_of shape) c.indexes.view_is
+    (no_scales_take fault (free_pages s0.used) (free_pages s1.used) (free_pages s2.used) (pages_for (4 * length was.titles.pages)) (pages_for (4 * length was.rhythms.pages)) (pages_for (4 * length was.scales.pages)) (pages_for (4 * length was.incipits.pages))
+    (e1.takes h1) (e2.takes h2) (c.in-Err-store_list-2.ensures.takes h3))
+
+pub returns-in-Err-store_list-3-clause-takes : goal.returns-in-Err-store_list-3-clause-takes
+returns-in-Err-store_list-3-clause-takes g c = λ h4.
+    let s0 = stand c.args.pages.now c.args.work.now in
+    let was : SearchShape = record {
+      titles = c.indexes.inside.titles;
+      rhythms = c.indexes.inside.rhythms;
+      scales = c.indexes.inside.scales;
+      incipits = c.indexes.inside.incipits;
+    } in
+    let s1 = stand c.store_list.new.pages c.store_list.new.work in
+    let e1 = c.in-Ok.ensures in
+    let is1 = c.store_list.new.index in
+    let s2 = stand c.store_list-2.new.pages c.store_list-2.new.work in
+    let e2 = c.in-Ok-store_list.ensures in
+    let is2 = c.store_list-2.new.index in
+    let s3 = stand c.store_list-3.new.pages c.store_list-3.new.work in
+    let e3 = c.in-Ok-store_list-2.ensures in
+    let is3 = c.store_list-3.new.index in
+    let h3 = c.in-Err-store_list-3.ensures.looks.was_honest h4 in
+    let h2 = e3.looks.was_honest h3 in
+    let h1 = e2.looks.was_honest h2 in
+    let fault = c.in-Err-store_list-3.fault in
+    subst (λ (shape : SearchShape). fault ≡ FileFull → free_pages s0.used < lists_of shape) c.indexes.view_is
+    (no_incipits_take fault (free_pages s0.used) (free_pages s1.used) (free_pages s2.used) (free_pages s3.used) (pages_for (4 * length was.titles.pages)) (pages_for (4 * length was.rhythms.pages)) (pages_for (4 * length was.scales.pages)) (pages_for (4 * length was.incipits.pages))
+    (e1.takes h1) (e2.takes h2) (e3.takes h3) (c.in-Err-store_list-3.ensures.takes h4))
