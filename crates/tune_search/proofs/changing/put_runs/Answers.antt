@@ -285,7 +285,12 @@ returns-in-Err-put_run-3-clause-answer g c =
     let r2 : c.deref-2.result.now ≡ all.rhythms = c.deref-2.ensures.value ∙ ap (λ (r : SearchRuns). r.rhythms) c.runs.view_is in
     let r3 : c.deref-3.result.now ≡ all.scales = c.deref-3.ensures.value ∙ ap (λ (r : SearchRuns). r.scales) c.runs.view_is in
     let r4 : c.deref-4.result.now ≡ all.incipits = c.deref-4.ensures.value ∙ ap (λ (r : SearchRuns). r.incipits) c.runs.view_is in
-    let made : SearchRuns = record { titles = c.deref.result.now; rhythms = c.deref-2.result.now; scales = c.deref-3.result.now; incipits = c.deref-4.result.now } in
+    let made : SearchRuns = record {
+      titles = c.deref.result.now;
+      rhythms = c.deref-2.result.now;
+      scales = c.deref-3.result.now;
+      incipits = c.deref-4.result.now;
+    } in
     let runs : made ≡ all = (λ i. record { titles = r1 i; rhythms = r2 i; scales = r3 i; incipits = r4 i }) in
     edit_more c.in-Err-put_run-3.fault c.put_run-4.new.pages.closed
     (λ full h4.

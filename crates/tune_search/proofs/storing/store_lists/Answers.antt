@@ -1,5 +1,5 @@
-use Rattle.std.proofs.Common.{◌≡◌, ◌+◌, ◌*◌, ◌<◌, ◌≤◌, length, rules, sym, subst}
-use Rattle.tune_pages.specs.Faults.{free_pages, pages_for}
+use Rattle.std.proofs.Common.{◌≡◌, ◌+◌, ◌<◌, ◌≤◌, rules, sym, subst}
+use Rattle.tune_pages.specs.Faults.{free_pages}
 use Rattle.tune_pages.specs.Work.{stand}
 use Rattle.tune_pages.specs.declared.fault.Fault.TheVariants.{FileFull}
 use Rattle.tune_search.specs.Inside.Four.{HoldsSomeFour, LaysFour}
@@ -132,21 +132,17 @@ returns-clause-takes g c = λ h4.
     } in
     let s1 = stand c.store_list.new.pages c.store_list.new.work in
     let e1 = c.in-Ok.ensures in
-    let is1 = c.store_list.new.index in
     let s2 = stand c.store_list-2.new.pages c.store_list-2.new.work in
     let e2 = c.in-Ok-store_list.ensures in
-    let is2 = c.store_list-2.new.index in
     let s3 = stand c.store_list-3.new.pages c.store_list-3.new.work in
     let e3 = c.in-Ok-store_list-2.ensures in
-    let is3 = c.store_list-3.new.index in
     let s4 = stand c.store_list-4.new.pages c.store_list-4.new.work in
     let e4 = c.in-Ok-store_list-3.ensures in
-    let is4 = c.store_list-4.new.index in
     let h3 = e4.looks.was_honest h4 in
     let h2 = e3.looks.was_honest h3 in
     let h1 = e2.looks.was_honest h2 in
     subst (λ (shape : SearchShape). free_pages s0.used ≤ free_pages s4.used + lists_of shape) c.indexes.view_is
-    (four_take (free_pages s0.used) (free_pages s1.used) (free_pages s2.used) (free_pages s3.used) (free_pages s4.used) (pages_for (4 * length was.titles.pages)) (pages_for (4 * length was.rhythms.pages)) (pages_for (4 * length was.scales.pages)) (pages_for (4 * length was.incipits.pages))
+    (four_take s0 s1 s2 s3 s4 was
     (e1.takes h1) (e2.takes h2) (e3.takes h3) (e4.takes h4))
 
 pub returns-in-Err-clause-takes : goal.returns-in-Err-clause-takes
@@ -160,8 +156,7 @@ returns-in-Err-clause-takes g c = λ h1.
     } in
     let fault = c.in-Err.fault in
     subst (λ (shape : SearchShape). fault ≡ FileFull → free_pages s0.used < lists_of shape) c.indexes.view_is
-    (no_titles_take fault (free_pages s0.used) (pages_for (4 * length was.titles.pages)) (pages_for (4 * length was.rhythms.pages)) (pages_for (4 * length was.scales.pages)) (pages_for (4 * length was.incipits.pages))
-    (c.in-Err.ensures.takes h1))
+    (no_titles_take fault s0 was (c.in-Err.ensures.takes h1))
 
 pub returns-in-Err-store_list-clause-takes : goal.returns-in-Err-store_list-clause-takes
 returns-in-Err-store_list-clause-takes g c = λ h2.
@@ -174,12 +169,10 @@ returns-in-Err-store_list-clause-takes g c = λ h2.
     } in
     let s1 = stand c.store_list.new.pages c.store_list.new.work in
     let e1 = c.in-Ok.ensures in
-    let is1 = c.store_list.new.index in
     let h1 = c.in-Err-store_list.ensures.looks.was_honest h2 in
     let fault = c.in-Err-store_list.fault in
     subst (λ (shape : SearchShape). fault ≡ FileFull → free_pages s0.used < lists_of shape) c.indexes.view_is
-    (no_rhythms_take fault (free_pages s0.used) (free_pages s1.used) (pages_for (4 * length was.titles.pages)) (pages_for (4 * length was.rhythms.pages)) (pages_for (4 * length was.scales.pages)) (pages_for (4 * length was.incipits.pages))
-    (e1.takes h1) (c.in-Err-store_list.ensures.takes h2))
+    (no_rhythms_take fault s0 was s1 (e1.takes h1) (c.in-Err-store_list.ensures.takes h2))
 
 pub returns-in-Err-store_list-2-clause-takes : goal.returns-in-Err-store_list-2-clause-takes
 returns-in-Err-store_list-2-clause-takes g c = λ h3.
@@ -192,16 +185,13 @@ returns-in-Err-store_list-2-clause-takes g c = λ h3.
     } in
     let s1 = stand c.store_list.new.pages c.store_list.new.work in
     let e1 = c.in-Ok.ensures in
-    let is1 = c.store_list.new.index in
     let s2 = stand c.store_list-2.new.pages c.store_list-2.new.work in
     let e2 = c.in-Ok-store_list.ensures in
-    let is2 = c.store_list-2.new.index in
     let h2 = c.in-Err-store_list-2.ensures.looks.was_honest h3 in
     let h1 = e2.looks.was_honest h2 in
     let fault = c.in-Err-store_list-2.fault in
     subst (λ (shape : SearchShape). fault ≡ FileFull → free_pages s0.used < lists_of shape) c.indexes.view_is
-    (no_scales_take fault (free_pages s0.used) (free_pages s1.used) (free_pages s2.used) (pages_for (4 * length was.titles.pages)) (pages_for (4 * length was.rhythms.pages)) (pages_for (4 * length was.scales.pages)) (pages_for (4 * length was.incipits.pages))
-    (e1.takes h1) (e2.takes h2) (c.in-Err-store_list-2.ensures.takes h3))
+    (no_scales_take fault s0 was s1 s2 (e1.takes h1) (e2.takes h2) (c.in-Err-store_list-2.ensures.takes h3))
 
 pub returns-in-Err-store_list-3-clause-takes : goal.returns-in-Err-store_list-3-clause-takes
 returns-in-Err-store_list-3-clause-takes g c = λ h4.
@@ -214,17 +204,13 @@ returns-in-Err-store_list-3-clause-takes g c = λ h4.
     } in
     let s1 = stand c.store_list.new.pages c.store_list.new.work in
     let e1 = c.in-Ok.ensures in
-    let is1 = c.store_list.new.index in
     let s2 = stand c.store_list-2.new.pages c.store_list-2.new.work in
     let e2 = c.in-Ok-store_list.ensures in
-    let is2 = c.store_list-2.new.index in
     let s3 = stand c.store_list-3.new.pages c.store_list-3.new.work in
     let e3 = c.in-Ok-store_list-2.ensures in
-    let is3 = c.store_list-3.new.index in
     let h3 = c.in-Err-store_list-3.ensures.looks.was_honest h4 in
     let h2 = e3.looks.was_honest h3 in
     let h1 = e2.looks.was_honest h2 in
     let fault = c.in-Err-store_list-3.fault in
     subst (λ (shape : SearchShape). fault ≡ FileFull → free_pages s0.used < lists_of shape) c.indexes.view_is
-    (no_incipits_take fault (free_pages s0.used) (free_pages s1.used) (free_pages s2.used) (free_pages s3.used) (pages_for (4 * length was.titles.pages)) (pages_for (4 * length was.rhythms.pages)) (pages_for (4 * length was.scales.pages)) (pages_for (4 * length was.incipits.pages))
-    (e1.takes h1) (e2.takes h2) (e3.takes h3) (c.in-Err-store_list-3.ensures.takes h4))
+    (no_incipits_take fault s0 was s1 s2 s3 (e1.takes h1) (e2.takes h2) (e3.takes h3) (c.in-Err-store_list-3.ensures.takes h4))
