@@ -2,13 +2,15 @@
 # Usage: bench/archive.sh [FOLDER [RUNS [TUNES [EXECUTABLE]]]]
 # Times the program on an archive in a file, in the folder, against the same calls of the disk from
 # C: one import of 20,000 tunes to a new file; over a file of these an opening, an export to a pipe,
-# and 1,000 shows; and over a file of 19,500, since 20,000 is the most, 500 imports of one tune
-# each. 5 runs of each by turns, the file's bytes in the system's cache. A time of the program is
-# that of its whole run, with its start and the opening; of C it is that of the calls alone. Prints
-# milliseconds, the least and the middle of each, and how the program's compare with C's; the same
-# part in memory, by `list`, less the import before it; what is wanted; and the calls of each part.
-# Without strace no calls are known, and C has none to make. Of fewer tunes all counts are in
-# proportion, and nothing is wanted.
+# all titles, 1,000 shows, 1,000 finds by a title and 1,000 by notes, each of one tune, 1,000 shows
+# of one and the same tune, 1,000 finds by one and the same opening, and 500 replaces, renumbers and
+# deletes; and over a file of 19,500, since 20,000 is the most, 500 imports of one tune each. 5 runs
+# of each by turns, the file's bytes in the system's cache. A time of the program is that of its
+# whole run, with its start and the opening; of C that of the calls alone. Prints milliseconds, the
+# least and the middle of each, and how the program's compare with C's; the same part in memory, by
+# `list`, less the import before it; what is wanted; and the calls of each part. Without strace no
+# calls are known, and C has none to make. Of fewer tunes all counts are in proportion, and nothing
+# is wanted.
 set -u
 root=$(CDPATH='' cd -- "$(dirname -- "$0")/.." && pwd) || exit 1
 folder=${1:-$root/bench/work}
@@ -18,7 +20,8 @@ program=${4:-$root/crates/tunes/out/tunes}
 singles=$((tunes / 40))
 shows=$((tunes / 20))
 work=$root/bench/work
-parts='import imports check export shows'
+asked='export shows titles notes all-titles show-one find-one'
+parts="import imports replaces renumbers deletes check $asked"
 if [ ! -x "$program" ]; then
     echo "no program at $program: build it by ./tunes list < /dev/null" >&2
     exit 1
@@ -38,13 +41,21 @@ fail() {
 }
 
 # Prints the commands of a part; those of `most` are one import of all tunes but 500. The tunes are
-# those of bench/questions.sh.
+# those of bench/questions.sh, but that each begins with notes of its own.
 make() {
     awk -v what="$1" -v tunes="$tunes" -v singles="$singles" -v shows="$shows" '
+        # The digits of a number by eight, the last first, as notes.
+        function opening(n,    i, s) {
+            for (i = 0; i < 5; i++) {
+                s = s substr("DEGABdeg", n % 8 + 1, 1)
+                n = int(n / 8)
+            }
+            return s
+        }
         function body(n,    s) {
             s = sprintf("T:The Tune %05d\nT:Name %05d\nR:%s\nM:4/4\nL:1/8\nK:%s\n", n, 20001 - n,
                 n % 10 ? "reel" : "jig", n % 20 ? "G" : "Edor")
-            return s (n % 40 ? "GABc" : "GdGd") " dedB|c2ec B2dB|\nGABc dedB|c2ec B2dB|\n"
+            return s opening(n) " dedB|c2ec B2dB|\nGABc dedB|c2ec B2dB|\n"
         }
         function import(first, last,    n, size) {
             for (n = first; n <= last; n++) size += length("X:1\n" body(n) "\n")
@@ -55,7 +66,27 @@ make() {
             if (what == "import") import(1, tunes)
             if (what == "most") import(1, tunes - singles)
             if (what == "imports") for (n = tunes - singles + 1; n <= tunes; n++) import(n, n)
+            if (what == "replaces") for (i = 1; i <= singles; i++) {
+                n = i * 7919 % tunes + 1
+                text = "X:1\n" body((n + 4321) % tunes + 1)
+                printf "replace %d 1 %d\n%s", n, length(text), text
+            }
+            if (what == "renumbers") for (i = 1; i <= singles; i++) {
+                n = i * 7919 % tunes + 1
+                print "renumber " n, n + 30000
+            }
+            if (what == "deletes") for (i = 1; i <= singles; i++)
+                print "delete " i * 7919 % tunes + 1
+            if (what == "titles") for (i = 1; i <= shows; i++)
+                printf "find title Name %05d\n", i * 7919 % tunes + 1
+            if (what == "notes") for (i = 1; i <= shows; i++)
+                print "find notes " opening(i * 7919 % tunes + 1) "ded"
             if (what == "export") print "export"
+            if (what == "all-titles") print "titles"
+            one = int((tunes + 1) / 2)
+            if (what == "show-one") for (i = 0; i < shows; i++) print "show " one
+            if (what == "find-one") for (i = 0; i < shows; i++)
+                print "find notes " opening(one) "ded"
             if (what == "shows") for (i = 0; i < shows; i++) print "show " i * 7919 % tunes + 1
         }'
 }
@@ -67,6 +98,7 @@ put_file() {
     case $1 in
     import) before=$new ;;
     imports) before=$most ;;
+    replaces | renumbers | deletes) before=$full ;;
     *)
         file=$full
         return
@@ -127,7 +159,7 @@ calls_of() {
         $1 == "pwrite64" && $4 == $NF { print "write", $4, $5; writes++; written += $4; next }
         { print "a call that is not known here: " $0 > "/dev/stderr"; bad = 1; exit }
         END {
-            printf "%-8s %8d %11d %8d %11d %6d %8d %8d\n", part, reads, read, writes, written,
+            printf "%-10s %8d %11d %8d %11d %6d %8d %8d\n", part, reads, read, writes, written,
                 syncs, lines, replies >> counts
             exit bad
         }'
@@ -202,7 +234,7 @@ for ((run = 0; run < runs; run++)); do
             from_c "$part"
         fi
     done
-    for part in import most imports export shows; do
+    for part in import most imports replaces renumbers deletes $asked; do
         put_script "$part"
         timed memory "$part" in_memory
     done
@@ -238,19 +270,20 @@ sort -k2,2 -k1,1 -k3,3n "$work/archive_times" | awk -v parts="$parts" -v tunes="
         there = chosen("c " part, way)
         memory = in_memory(part, way)
         ratio = there == "" ? "" : time / there
-        printf "%-8s %10s %10s %8s %10s  %s\n", part, shown(time), shown(there), shown(ratio),
+        printf "%-10s %10s %10s %8s %10s  %s\n", part, shown(time), shown(there), shown(ratio),
             shown(memory), judged(part, time, ratio)
     }
     function table(way,    i, count, names) {
-        printf "%-8s %10s %10s %8s %10s  %s\n", way, "tunes ms", "C ms", "ratio", "memory ms",
+        printf "%-10s %10s %10s %8s %10s  %s\n", way, "tunes ms", "C ms", "ratio", "memory ms",
             "wanted at most"
         count = split(parts, names)
         for (i = 1; i <= count; i++) row(names[i], way)
     }
     BEGIN {
-        ratios["import"] = ratios["imports"] = 1.3
-        ratios["check"] = 1.5
-        times["check"] = 60
+        ratios["import"] = ratios["imports"] = 1.2
+        ratios["replaces"] = ratios["renumbers"] = ratios["deletes"] = 1.2
+        ratios["check"] = 1.8
+        ratios["titles"] = ratios["notes"] = 2
         times["export"] = 100
         times["shows"] = 80
     }
@@ -264,6 +297,6 @@ if [ ! -s "$work/archive_calls_import" ]; then
     echo 'no strace here: no calls are counted, and none are made from C'
     exit 0
 fi
-printf '%-8s %8s %11s %8s %11s %6s %8s %8s\n' \
+printf '%-10s %8s %11s %8s %11s %6s %8s %8s\n' \
     calls reads bytes writes bytes syncs script replies
 cat "$work/archive_counts"

@@ -1,4 +1,4 @@
-"""Writes archives into files, of layout 1 with indexes by docs/LAYOUT-1.md and not by the code.
+"""Writes archives into files, of layout 1 by docs/FILE-FORMAT.md and not by the code.
 
 No text is read here: who gives a tune says which keys it has.
 """

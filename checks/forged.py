@@ -1,44 +1,73 @@
 #!/usr/bin/env python3
 """Usage: checks/forged.py
 
-Runs `tunes check` on files that ask much of an opening: forged ones, and archives of very many
-pages. Each has to be answered within 65,536 kilobytes of memory, and one that is damaged has to
-stay as it was. The program is ./tunes, or the one that the variable TUNES names. It prints a line
-for each case, with the kilobytes that were taken, and ends with status 1 where a case failed.
+Writes files by docs/FILE-FORMAT.md and not by the code, whole ones and damaged ones, among them
+archives of very many pages and forged chains, and has each read by two: by examples/read_archive.py
+and by `tunes check`. Where the form of a file is damaged both have to say so, and no byte of it may
+be written; what is whole both have to read, and to the same book. Where the keys of an index alone
+are other than those of the tunes, the program has to see it. It may take 65,536 kilobytes of memory
+for each. The program is ./tunes, or the one that the variable TUNES names. A line is printed for
+each case, and the status is 1 where a case failed.
 
-The files go by docs/FILE-FORMAT.md. The largest have 250 MB, one at a time; those that are longer
-have holes, and take no room.
+The largest files have 250 MB, one at a time; those that are longer have holes, and take no room.
 """
 import os
+import re
 import signal
 import struct
 import subprocess
 import sys
 import tempfile
 
+sys.dont_write_bytecode = True
+from archives import (COUNT, DESCRIPTOR, ENTRY_BYTES, GATE, INDEXES, KEY_BYTES, LEAF_ENTRIES,
+                      LEAF_HEAD, LINK_BYTES, OPEN, PAGE_BYTES, PAGES, SEARCHES, Archive, Tune,
+                      Writer, first_of, four_bytes, key, keys_of, leaf_of, number_at, page_at,
+                      place_of, put, set_bytes)
+
 ROOT = os.path.dirname(os.path.dirname(os.path.abspath(__file__)))
+READER = os.path.join(ROOT, 'examples', 'read_archive.py')
+FORMAT_PAGE = os.path.join(ROOT, 'docs', 'FILE-FORMAT.md')
 PROGRAM = os.path.abspath(os.environ.get('TUNES') or os.path.join(ROOT, 'tunes'))
 MOST_KILOBYTES = 65536
+DAMAGED = 3, b'refused 41 Damaged\n'
+# Files up to this size are written out as books too.
+SMALL_FILE = 1000000
 
-GATE, DESCRIPTOR, COUNT, PAGES = 4096, 8192, 12288, 16384
-OPEN = b'\xA7'
-PAGE_BYTES = 4096
-LINK_HEAD, ROOM = 6, 4090
-# Where the root names the first page of the list of tunes, and of the set lists.
-LIST, SETS = PAGES + 4, PAGES + 8
+# Two tunes with their keys, and their set list.
+ONE = Tune(b'T:One\nR:jig\nK:C\nCDE|\n', (b'one',), b'jig', b'C 0', (2, 2))
+TWO = Tune(b'T:Two\nT:Zwei\nR:reel\nK:G\nGAB|\n', (b'two', b'zwei'), b'reel', b'G 0', (2, 2))
+FRIDAY = set_bytes(b'friday', 2)
+# One whose key by its title is that by its rhythm; one with keys of 32 bytes; and one without any.
+JIG = Tune(b'T:Jig\nR:jig\nK:none\nC|\n', (b'jig',), b'jig')
+LONG_WORD = b'abcdefghijklmnopqrstuvwxyz-012345'
+LONG = Tune(b'T:The %b6\nT:%b7 %%8\nR:%b\nK:Bbm\n' % ((LONG_WORD,) * 3),
+            (LONG_WORD,), LONG_WORD, b'Bb5')
+BARE = Tune(b'T:\nK:\n')
+# One with the most bytes that it may have: 3, 1,999 times 8, and 5.
+MOST_TEXT = b'K:\n' + b'w:words\n' * 1999 + b'w:on\n'
+# Above the keys of all of these.
+LAST_KEY = key(b'\xff')
 
-BOOK = b'X:1\nT:One\nK:C\nCDE|\n\nX:2\nT:Two\nK:G\nGAB|\n'
-SCRIPT = b'import %d\n%bset-new friday\nset-add friday 2\n' % (len(BOOK), BOOK)
-REPLIES = 'ok import 1 2\nok set-new friday\nok set-add friday 1\n'
-WHOLE = 0, 'layout 1 tunes 2 sets 1\n'
-DAMAGED = 3, 'refused 41 Damaged\n'
-
-# The bytes of a chain that is a tune at revision 1, and its further lines.
-TUNE = b'\x00\x01T:Long\nK:C\n'
+# The front of a long tune, and its further lines.
+TUNE = b'T:Long\nK:C\n'
 LINE = b'GABc dedB\n'
-FULL = LINE * (ROOM // len(LINE))
+STEPS = 2, 2, 1, 2, 2, -2, -3
+THREE_PAGES = Tune(TUNE + LINE * 1225, (b'long',), b'', b'C 0', STEPS)
+EIGHT_TITLES = Tune(b''.join(b'T:%d\n' % n for n in range(8)) + b'R:jig\nK:C\n' + LINE,
+                    tuple(b'%d' % n for n in range(8)), b'jig', b'C 0', STEPS)
 # Nothing but their number is wrong with the bytes of this tune.
-LONG_CHAIN = [(TUNE + FULL)[:ROOM]] + [FULL] * 59999
+FULL = LINE * (LINK_BYTES // len(LINE))
+LONG_CHAIN = [(b'\x00\x01' + TUNE + FULL)[:LINK_BYTES]] + [FULL] * 59999
+
+
+def read_apart(path):
+    """The status of the reader that goes by the page alone, its book where the file is small, and
+    why it ended so."""
+    small = os.path.getsize(path) <= SMALL_FILE
+    reader = subprocess.run([sys.executable, READER, 'book', path], stderr=subprocess.PIPE,
+                            stdout=subprocess.PIPE if small else subprocess.DEVNULL, check=False)
+    return reader.returncode, reader.stdout or b'', reader.stderr.decode()
 
 
 def run(words, script=b''):
@@ -50,7 +79,7 @@ def run(words, script=b''):
     process = subprocess.Popen(words, stdin=subprocess.PIPE, stdout=subprocess.PIPE)
     process.stdin.write(script)
     process.stdin.close()
-    output = process.stdout.read().decode()
+    output = process.stdout.read()
     process.stdout.close()
     _, status, usage = os.wait4(process.pid, 0)
     process.returncode = os.waitstatus_to_exitcode(status)
@@ -59,46 +88,76 @@ def run(words, script=b''):
 
 # FILES
 
-def place_of(page):
-    return PAGES + PAGE_BYTES * page
-
-
-def put(file, offset, *numbers):
-    file.seek(offset)
-    file.write(struct.pack(f'>{len(numbers)}I', *numbers))
-
-
 def put_count(file, count):
     """Gives the file so many pages; those behind what was written are a hole."""
     put(file, COUNT, count)
     file.truncate(place_of(count))
 
 
-def pieces_of(chain):
-    return [chain[place:place + ROOM] for place in range(0, len(chain), ROOM)]
+def put_short(file, offset, value):
+    file.seek(offset)
+    file.write(struct.pack('>H', value))
 
 
-def put_chain(file, first, pieces):
-    """Writes a chain on the pages from this one on, and gives the number of the page behind it."""
-    end = first + len(pieces)
-    file.seek(place_of(first))
-    for behind, piece in enumerate(pieces, first + 1):
-        head = struct.pack('>IH', behind if behind < end else 0, len(piece))
-        file.write(head + piece.ljust(ROOM, b'\x00'))
-    return end
+def put_bytes(file, data):
+    file.truncate(0)
+    file.seek(0)
+    file.write(data)
 
 
-def put_most_tunes(file):
-    """An archive of 20,000 tunes, the most that there may be, on three pages each."""
-    tune = pieces_of(TUNE + LINE * 1225)
-    numbers = range(1, 20001)
-    first = 1 + len(pieces_of(bytes(8 * len(numbers))))
-    rows = (struct.pack('>II', n, first + len(tune) * (n - 1)) for n in numbers)
-    put(file, LIST, 1, 0)
-    end = put_chain(file, 1, pieces_of(b''.join(rows)))
-    for _ in numbers:
-        end = put_chain(file, end, tune)
-    put_count(file, end)
+def has_three_leaves(file):
+    """Whether each index has three leaves, but for that of incipits, of which no tune has one."""
+    return [leaves_of(file, name) for name in INDEXES] == [3, 3, 3, 3, 0]
+
+
+def leaves_of(file, name):
+    """How many leaves the list of an index names, on a page at most."""
+    if not number_at(file, first_of(name)):
+        return 0
+    file.seek(list_of(file, name) + 4)
+    return struct.unpack('>H', file.read(2))[0] // 4
+
+
+def put_archive(file, archive, most=LEAF_ENTRIES):
+    file.truncate(0)
+    archive.write(file, most)
+
+
+def put_tunes(file, count, tune, most=LEAF_ENTRIES):
+    """An archive of so many tunes of one text, with so many entries in a leaf at most."""
+    file.truncate(0)
+    pages = Writer(file)
+    chains = [pages.chain(b'\x00\x01' + tune.text) for _ in range(count)]
+    rows = ((key(four_bytes(number)), chain) for number, chain in enumerate(chains, 1))
+    firsts = [pages.index(rows, most)]
+    for words in keys_of(tune).values():
+        rows = ((word, number) for word in sorted(words) for number in range(1, count + 1))
+        firsts.append(pages.index(rows, most))
+    pages.end(four_bytes(1, *firsts, 0))
+
+
+def put_version_102(file):
+    """An archive of the two tunes as the program wrote it before it had indexes."""
+    file.truncate(0)
+    pages = Writer(file)
+    chains = [pages.chain(b'\x00\x01' + tune.text) for tune in (ONE, TWO)]
+    rows = pages.chain(four_bytes(1, chains[0], 2, chains[1]))
+    pages.end(four_bytes(102, rows, pages.chain(FRIDAY)))
+
+
+def put_the_one_of_the_page(file):
+    """The archive of one tune whose bytes stand in docs/FILE-FORMAT.md."""
+    with open(FORMAT_PAGE, encoding='utf-8') as page:
+        section = page.read().split('\n## An archive of one tune\n')[1].split('\n## ')[0]
+    file.truncate(0)
+    begin = 0
+    for line in section.split('\n'):
+        if heading := re.fullmatch(r'page (\d+)', line):
+            begin = place_of(int(heading[1]))
+        elif row := re.match(r'([0-9A-F]{4,8})  ((?:[0-9A-F]{2} )*[0-9A-F]{2})', line):
+            file.seek(begin + int(row[1], 16))
+            file.write(bytes.fromhex(row[2]))
+    file.truncate(begin + PAGE_BYTES)
 
 
 def put_log(file, count, images):
@@ -108,7 +167,7 @@ def put_log(file, count, images):
     put(file, DESCRIPTOR, count, len(images))
     file.seek(place_of(count))
     for page, image in enumerate(images):
-        file.write(struct.pack('>I', page) + image)
+        file.write(four_bytes(page) + image)
 
 
 def put_log_of_zeros(file, count):
@@ -116,6 +175,171 @@ def put_log_of_zeros(file, count):
     put_log(file, count, [])
     put(file, DESCRIPTOR, count, count)
     file.truncate(place_of(count) + (4 + PAGE_BYTES) * count)
+
+
+def list_of(file, name):
+    """Where the page begins on which the leaves of an index are listed."""
+    return place_of(number_at(file, first_of(name)))
+
+
+def put_list(file, name, *leaves):
+    """Gives the list of an index these leaves in the place of its own."""
+    put_short(file, list_of(file, name) + 4, 4 * len(leaves))
+    put(file, list_of(file, name) + PAGE_BYTES - LINK_BYTES, *leaves)
+
+
+def add_leaf(file, name, page):
+    """Lists a page behind the only leaf of an index."""
+    put_list(file, name, page_at(leaf_of(file, name)), page)
+
+
+# DAMAGE
+
+def two_of_one_number():
+    """An archive in which both tunes have the number 7; nothing else is wrong with it."""
+    first, second = Archive({7: ONE}), Archive({7: TWO})
+    first.tunes += second.tunes
+    for name in SEARCHES:
+        first.entries[name] = sorted(first.entries[name] + second.entries[name])
+    return first
+
+
+def with_entries(name, change):
+    """The archive of two tunes, and of one without keys, with other entries in a search index."""
+    archive = Archive({1: ONE, 2: TWO, 3: BARE}, FRIDAY)
+    archive.entries[name] = change(archive.entries[name])
+    return archive
+
+
+def with_row(word=None, data=None):
+    """The archive of two tunes, with another key of the first in the numbers, or another chain."""
+    archive = Archive({1: ONE, 2: TWO}, FRIDAY)
+    old_word, old_data = archive.tunes[0]
+    archive.tunes[0] = (word or old_word, old_data if data is None else data)
+    return archive
+
+
+def damages_of_the_root():
+    """Damage by its name: what it does to the file of the small archive."""
+    for version in (0, 3, 102):
+        yield f'version {version}', lambda file, v=version: put(file, PAGES, v)
+    for name in INDEXES:
+        yield (f'the {name} at a page that is not there',
+               lambda file, n=name: put(file, first_of(n), number_at(file, COUNT)))
+    yield ('one list for two indexes',
+           lambda file: put(file, first_of('rhythms'), number_at(file, first_of('titles'))))
+    yield ('a list of leaves as the set lists',
+           lambda file: put(file, first_of('sets'), number_at(file, first_of('titles'))))
+
+
+def damages_of_chains():
+    def turn_back(file):
+        put_short(file, list_of(file, 'sets') + 4, LINK_BYTES)
+        put(file, list_of(file, 'sets'), number_at(file, first_of('sets')))
+
+    def go_on(file):
+        count = number_at(file, COUNT)
+        put(file, list_of(file, 'sets'), count)
+        Writer(file, count).chain(FRIDAY)
+        put_count(file, count + 1)
+
+    yield ('a chain of which no byte counts',
+           lambda file: put_short(file, list_of(file, 'sets') + 4, 0))
+    yield ('a page of a chain of which more bytes count than it has',
+           lambda file: put_short(file, list_of(file, 'sets') + 4, LINK_BYTES + 1))
+    yield 'a chain that leads back to its front', turn_back
+    yield 'a chain that goes on behind a page that is not full', go_on
+
+
+def damages_of_leaves():
+    for name in INDEXES:
+        yield (f'a list of 5 bytes in the {name}',
+               lambda file, n=name: put_short(file, list_of(file, n) + 4, 5))
+        yield (f'a leaf of 114 entries in the {name}',
+               lambda file, n=name: put_short(file, leaf_of(file, n), LEAF_ENTRIES + 1))
+        yield f'the root as a leaf of the {name}', lambda file, n=name: add_leaf(file, n, 0)
+        yield (f'a leaf of the {name} that is not there',
+               lambda file, n=name: add_leaf(file, n, number_at(file, COUNT)))
+
+        def add_empty(file, n=name):
+            count = number_at(file, COUNT)
+            add_leaf(file, n, count)
+            put_count(file, count + 1)
+        yield f'a leaf without an entry beside the one of the {name}', add_empty
+
+        def swap_entries(file, n=name):
+            place = leaf_of(file, n) + LEAF_HEAD
+            file.seek(place)
+            first, second = file.read(ENTRY_BYTES), file.read(ENTRY_BYTES)
+            file.seek(place)
+            file.write(second + first)
+        yield f'entries of the {name} that do not rise', swap_entries
+
+        def repeat_entry(file, n=name):
+            place = leaf_of(file, n) + LEAF_HEAD
+            file.seek(place)
+            first = file.read(ENTRY_BYTES)
+            file.write(first)
+        yield f'an entry of the {name} twice', repeat_entry
+
+
+def share_leaf(file):
+    """The leaf of the titles is that of the rhythms too, whose entry is the same."""
+    put_archive(file, Archive({1: JIG}))
+    put_list(file, 'rhythms', page_at(leaf_of(file, 'titles')))
+
+
+def swap_leaves(file):
+    """Two leaves of the titles change their places in the list."""
+    put_archive(file, Archive({1: ONE, 2: TWO}, FRIDAY), 1)
+    put_list(file, 'titles', *[page_at(leaf_of(file, 'titles', place)) for place in (1, 0, 2)])
+
+
+def damaged_archives():
+    """Damage by its name, as an archive that has it."""
+    yield 'two tunes of one number', two_of_one_number()
+    yield 'a byte behind a number in its key', with_row(key(four_bytes(1))[:-1] + b'\x01')
+    for number in (0, 1000000):
+        yield f'a tune of the number {number:,}', Archive({number: ONE})
+    for revision in (0, 10000):
+        yield f'a tune at revision {revision:,}', Archive({1: ONE}, b'', revision)
+    yield 'a tune without a chain', with_row(data=b'')
+    yield 'a tune of one byte', with_row(data=b'\x00')
+    for name in SEARCHES:
+        yield (f'an entry of the {name} for a tune that is not there',
+               with_entries(name, lambda rows: rows + [(LAST_KEY, 4)]))
+    for what, text in (
+            ('no text', b''), ('a text without a key', b'T:\n'),
+            ('a text without its last line feed', b'K:\nA'),
+            ('a text with an X: line', b'K:\nX:\n'),
+            ('a text with an empty line', b'K:\n \t\nA\n'),
+            ('a text with a carriage return', b'K:\nA\r\n'),
+            ('a text of 16,001 bytes', MOST_TEXT + b'\n')):
+        yield what, Archive({1: Tune(text)})
+    for what, sets in (
+            ('a place that names no tune', set_bytes(b'friday', 3)),
+            ('two sets of one name', set_bytes(b'a') + set_bytes(b'a')),
+            ('sets whose names fall', set_bytes(b'b') + set_bytes(b'a')),
+            ('a set without a name', set_bytes(b'')), ('a set with a blank', set_bytes(b'a b')),
+            ('a name of 41 bytes', set_bytes(b'a' * 41)), ('a set that is cut', FRIDAY[:-1]),
+            ('a byte behind the sets', FRIDAY + b'\x00'),
+            ('a set of 201 places', set_bytes(b'friday', *[1] * 201)),
+            ('501 sets', b''.join(set_bytes(b'%03d' % number) for number in range(501)))):
+        yield what, Archive({1: ONE, 2: TWO}, sets)
+
+
+def other_keys():
+    """Archives in which a search index has entries other than those of the tunes."""
+    for name in SEARCHES:
+        yield f'an entry of the {name} taken out', with_entries(name, lambda rows: rows[:-1])
+        yield (f'an entry of the {name} put in',
+               with_entries(name, lambda rows: rows + [(LAST_KEY, 3)]))
+        yield (f'an entry of the {name} under another number',
+               with_entries(name, lambda rows: rows[:-1] + [(rows[-1][0], 3)]))
+        yield (f'another key in the {name}',
+               with_entries(name, lambda rows: rows[:-1] + [(LAST_KEY, rows[-1][1])]))
+        yield (f'a byte behind a key of the {name}', with_entries(
+            name, lambda rows: rows[:-1] + [(rows[-1][0][:-1] + b'\x01', rows[-1][1])]))
 
 
 # CASES
@@ -126,11 +350,9 @@ class Cases:
     def __init__(self, folder):
         self.failures = 0
         self.path = os.path.join(folder, 'forged.abcx')
-        archive = os.path.join(folder, 'small.abcx')
-        answers = [run([PROGRAM, 'make', archive])[0], run([PROGRAM, 'run', archive], SCRIPT)[0]]
-        if answers != [(0, 'made\n'), (0, REPLIES)]:
-            sys.exit(f'FAILED  no archive could be made: {answers}')
-        with open(archive, 'rb') as file:
+        with open(self.path, 'w+b') as file:
+            put_archive(file, Archive({1: ONE, 2: TWO}, FRIDAY))
+            file.seek(0)
             self.small = file.read()
 
     def number_at(self, offset):
@@ -147,52 +369,140 @@ class Cases:
         wrong = '' if kilobytes > MOST_KILOBYTES else f'{kilobytes} kB were seen'
         self.end('a program that takes more than it may', wrong, kilobytes)
 
-    def check(self, name, forge, wanted, recovers=False):
-        """Checks the file that `forge` makes of the small archive."""
-        with open(self.path, 'wb') as file:
+    def check(self, name, forge, whole, keys=True, recovers=False):
+        """Has the file read that `forge` makes of the small archive."""
+        with open(self.path, 'w+b') as file:
             file.write(self.small)
             forge(file)
         # Whatever is written to the file gives it another time than this one.
         os.utime(self.path, (1, 1))
-        before = os.stat(self.path)
-        answer, kilobytes = run([PROGRAM, 'check', self.path])
-        after = os.stat(self.path)
-        wrong = ''
-        if answer != wanted:
-            wrong = f'status and output are {answer} in place of {wanted}'
-        elif kilobytes > MOST_KILOBYTES:
-            wrong = f'{kilobytes} kB, at most {MOST_KILOBYTES}'
-        elif recovers == ((before.st_mtime, before.st_size) == (after.st_mtime, after.st_size)):
-            wrong = 'nothing was recovered' if recovers else 'the file was written'
+        wrong, book = self.wrong_apart(whole)
+        kilobytes = 0
+        if not wrong:
+            wrong, kilobytes = self.wrong_opened(whole and keys, recovers)
+        if not wrong and whole and keys and os.path.getsize(self.path) <= SMALL_FILE:
+            wrong = self.wrong_book(book)
         self.end(name, wrong, kilobytes)
         os.remove(self.path)
 
+    def was_written(self):
+        return os.stat(self.path).st_mtime != 1
+
+    def wrong_apart(self, whole):
+        """What is wrong with the answer of the reader, and its book."""
+        status, book, reason = read_apart(self.path)
+        wrong = ''
+        if (status, bool(reason)) != ((0, False) if whole else (1, True)):
+            wrong = f'the reader ends with status {status}: {reason or "it gives no reason"}'
+        elif self.was_written():
+            wrong = 'the reader wrote the file'
+        return wrong, book
+
+    def wrong_opened(self, whole, recovers):
+        """What is wrong with the answer of the program, and how much memory it took."""
+        answer, kilobytes = run([PROGRAM, 'check', self.path])
+        good = (answer[0] == 0 and answer[1].startswith(b'layout 1 tunes ') if whole
+                else answer == DAMAGED)
+        wrong = ''
+        if not good:
+            wrong = f'the program answers {answer}'
+        elif kilobytes > MOST_KILOBYTES:
+            wrong = f'{kilobytes} kB, at most {MOST_KILOBYTES}'
+        elif recovers != self.was_written():
+            wrong = 'nothing was recovered' if recovers else 'the program wrote the file'
+        return wrong, kilobytes
+
+    def wrong_book(self, book):
+        """What is wrong with the book of the program, beside that of the reader."""
+        (status, output), _ = run([PROGRAM, 'run', self.path], b'export\n')
+        if (status, output) != (0, b'ok export %d\n%b' % (len(book), book)):
+            return f'the program exports another book: {output[:60]}'
+        return ''
+
+    def check_whole(self):
+        """Archives as programs may write them, and some whose keys alone are wrong."""
+        two = Archive({1: ONE, 2: TWO}, FRIDAY)
+        odd = Archive({5: LONG, 9: BARE, 77: Tune(MOST_TEXT), 999999: JIG},
+                      set_bytes(b'a' * 40, *[9] * 200) + set_bytes(b'b'), 9999)
+        self.check('the archive of one tune that the page shows', put_the_one_of_the_page, True)
+        self.check('two tunes and a set', lambda file: put_archive(file, two), True)
+        self.check('leaves of one entry', lambda file: put_archive(file, two, 1), True)
+        self.check('odd keys, numbers, revisions and sets', lambda file: put_archive(file, odd),
+                   True)
+        self.check('20,000 tunes on 60,713 pages',
+                   lambda file: put_tunes(file, 20000, THREE_PAGES), True)
+        self.check('160,000 titles in 20,000 leaves',
+                   lambda file: put_tunes(file, 20000, EIGHT_TITLES, 8), True)
+        for name, archive in other_keys():
+            self.check(f'{name}, which no form tells',
+                       lambda file, it=archive: put_archive(file, it), True, keys=False)
+
+    def check_written(self):
+        """Files that the program writes, on as few pages as their tunes want."""
+        with open(os.path.join(ROOT, 'examples', 'kesh-jig.script'), 'rb') as file:
+            script = file.read()
+        self.check_pages_of('the Kesh Jig on twelve pages', script,
+                            lambda file: number_at(file, COUNT) == 12)
+        book = b''.join(b'X:%d\nT:Reel\nR:reel\nK:D\n\n' % number for number in range(1, 301))
+        self.check_pages_of('300 tunes of one key in three leaves',
+                            b'import %d\n%b' % (len(book), book), has_three_leaves)
+
+    def check_pages_of(self, name, script, good):
+        """Runs a script over a new archive, which the reader has to read as the program does."""
+        written = self.path + '.written'
+        answers = [run([PROGRAM, 'make', written])[0][0],
+                   run([PROGRAM, 'run', written], script)[0][0]]
+        with open(written, 'rb') as file:
+            wrong = '' if answers == [0, 0] and good(file) else 'its pages are others'
+            file.seek(0)
+            made = file.read()
+        os.remove(written)
+        self.failures += bool(wrong)
+        print(f'{"FAILED" if wrong else "ok":7} {name}, written{wrong and ": "}{wrong}', flush=True)
+        self.check(f'{name}, read', lambda file: put_bytes(file, made), True)
+
+    def check_damage(self):
+        for name, forge in [*damages_of_the_root(), *damages_of_chains(), *damages_of_leaves()]:
+            self.check(name, forge, False)
+        self.check('an archive of version 102', put_version_102, False)
+        self.check('one leaf for two indexes', share_leaf, False)
+        self.check('leaves that do not rise', swap_leaves, False)
+        for name, archive in damaged_archives():
+            self.check(name, lambda file, it=archive: put_archive(file, it), False)
+        self.check('20,001 tunes', lambda file: put_tunes(file, 20001, BARE), False)
+
     def check_chains(self):
         first = self.number_at(COUNT)
-        first_row = place_of(self.number_at(LIST)) + LINK_HEAD
-        names = ('the list of tunes', LIST), ('the set lists', SETS), ('a tune', first_row + 4)
+        numbers_leaf = place_of(self.number_at(
+            place_of(self.number_at(first_of('numbers'))) + PAGE_BYTES - LINK_BYTES))
+        names = [(f'the list of the {name}', first_of(name)) for name in INDEXES]
+        names += [('the set lists', first_of('sets')),
+                  ('a tune', numbers_leaf + LEAF_HEAD + KEY_BYTES)]
         for what, name_place in names:
-            def forge(file):
-                put_count(file, put_chain(file, first, LONG_CHAIN))
-                put(file, name_place, first)
-            self.check(f'a chain of 60,000 pages as {what}', forge, DAMAGED)
+            def forge(file, place=name_place):
+                pages = Writer(file, first)
+                pages.links(LONG_CHAIN)
+                put_count(file, pages.count)
+                put(file, place, first)
+            self.check(f'a chain of 60,000 pages as {what}', forge, False)
 
     def check_counts(self):
         for count in (999999, 1000000, 1000001, 4000000, 4000001):
-            wanted = WHOLE if count <= 1000000 else DAMAGED
-            self.check(f'{count:,} pages', lambda file: put_count(file, count), wanted)
+            self.check(f'{count:,} pages', lambda file, n=count: put_count(file, n),
+                       count <= 1000000)
         self.check('4,294,967,295 pages, which are not there',
-                   lambda file: put(file, COUNT, 4294967295), DAMAGED)
+                   lambda file: put(file, COUNT, 4294967295), False)
 
     def check_logs(self):
         images = [self.small[place_of(page):place_of(page + 1)]
                   for page in range(self.number_at(COUNT))]
         many = images + [bytes(PAGE_BYTES)] * (30000 - len(images))
-        self.check('a log of 30,000 pages', lambda file: put_log(file, 30000, many), WHOLE, True)
+        self.check('a log of 30,000 pages', lambda file: put_log(file, 30000, many), True,
+                   recovers=True)
         self.check('a log behind 999,999 pages',
-                   lambda file: put_log(file, 999999, images), WHOLE, True)
+                   lambda file: put_log(file, 999999, images), True, recovers=True)
         self.check('a log that names page 0 for 4,000,000 times',
-                   lambda file: put_log_of_zeros(file, 4000000), DAMAGED)
+                   lambda file: put_log_of_zeros(file, 4000000), False)
 
 
 def main():
@@ -201,9 +511,10 @@ def main():
     with tempfile.TemporaryDirectory() as folder:
         cases = Cases(folder)
         cases.measure()
-        cases.check('an archive as it was made', lambda file: None, WHOLE)
-        cases.check('20,000 tunes on 60,041 pages', put_most_tunes,
-                    (0, 'layout 1 tunes 20000 sets 0\n'))
+        cases.check('an archive as it was made', lambda file: None, True)
+        cases.check_written()
+        cases.check_whole()
+        cases.check_damage()
         cases.check_chains()
         cases.check_counts()
         cases.check_logs()

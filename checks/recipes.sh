@@ -75,8 +75,25 @@ has() {
     [ "$there" = "${1:+$1 }" ] || wrong "the files are '$there' in place of '$1'"
 }
 
+# A reader that goes by the page of the format alone reads the archives of the folder as the program
+# does: the book, and the names of the set lists with how many places each has.
+read_apart() {
+    for file in *.abcx; do
+        [ -f "$file" ] || continue
+        echo export | ./tunes run "$file" > "$work/told" 2> "$work/err" || continue
+        sed 1d "$work/told" > "$work/book"
+        python3 "$root/examples/read_archive.py" book "$file" > "$work/apart" 2> "$work/err"
+        cmp -s "$work/book" "$work/apart" || wrong "another reader reads $file otherwise"
+        echo sets | ./tunes run "$file" 2> "$work/err" | sed 1d > "$work/told"
+        python3 "$root/examples/read_archive.py" sets "$file" 2> "$work/err" |
+            cut -d ' ' -f 1,2 > "$work/apart"
+        cmp -s "$work/told" "$work/apart" || wrong "another reader reads other sets in $file"
+    done
+}
+
 # Ends a case.
 end() {
+    read_apart
     if [ -z "$why" ]; then
         printf 'ok      %s\n' "$title"
     else
@@ -264,10 +281,11 @@ begin 'the bytes of an archive of one tune'
 ./tunes run tunes.abcx < examples/kesh-jig.script > "$work/out" 2> "$work/err"
 status=$?
 ends_with 0
-# Three pages, the root, the list and the tune, and a log of three entries behind them.
-[ "$(wc -c < tunes.abcx)" -eq 40972 ] || wrong 'the file is not as long as it should be'
+# Twelve pages, the root, the tune, and a leaf and a list of each index, and a log of twelve entries
+# behind them.
+[ "$(wc -c < tunes.abcx)" -eq 114736 ] || wrong 'the file is not as long as it should be'
 root_front=$(od -An -tx1 -j16384 -N4 tunes.abcx)
-[ "$root_front" = ' 00 00 00 66' ] || wrong "page 0 begins with$root_front"
+[ "$root_front" = ' 00 00 00 01' ] || wrong "page 0 begins with$root_front"
 end
 
 begin 'a file that is no archive'
@@ -858,6 +876,17 @@ for word in --help --version; do
         ! grep -q 'Error: ' "$work/err" || wrong 'standard error has a raw error'
     fi
 done
+end
+
+begin 'the script of an archive of version 102'
+./tunes make new.abcx > "$work/out" 2> "$work/err"
+./tunes run new.abcx < "$root/checks/data/from-102.script" > replies.txt 2> "$work/err"
+status=$?
+ends_with 0
+! grep -q refused replies.txt || wrong 'a command of the script is refused'
+printf '%s\n' export sets 'set-show 0_-z' 'set-show empty' 'set-show friday' |
+    ./tunes run new.abcx > "$work/out" 2> "$work/err"
+same "$work/out" "$root/checks/data/from-102.contents"
 end
 
 # Each recipe that the pages print was run.

@@ -1,5 +1,5 @@
 #!/usr/bin/env python3
-"""Reads the file of an archive of layout 1 with indexes, by docs/LAYOUT-1.md alone.
+"""Reads the file of an archive of layout 1, by docs/FILE-FORMAT.md alone.
 
     read_archive.py book FILE   writes all tunes as a book, just as the command `export` does
     read_archive.py sets FILE   writes a line for each set list: its name, how many places it has,
@@ -10,8 +10,6 @@ be read, the status is 1, and a line on standard error says why; it is 2 where t
 
 Nothing is written to the file: behind an open gate the pages of the log are read in the place of
 the old ones, and the gate stays open. No program can open the file meanwhile.
-
-No program writes such files yet: those of today have version 102, which this refuses.
 
 Not looked at is which keys the text of a tune has. So of a search index this tells that it has the
 form of one, and that no entry is of a number that no tune has or more than a tune can have; but not

@@ -6,6 +6,7 @@ use Rattle.std.specs.Cmp.{ranks}
 use Rattle.std.specs.Cmp.Lexicographic.{slice_cmp}
 use Rattle.byteorder.specs.Endian.{big_from}
 use Rattle.byteorder.specs.Numbers.{big_from-lt}
+use Rattle.index_keys.specs.Entries.{rank}
 use Rattle.index_keys.specs.Inside.KeyNumbers.{Answers, digits, number_cons}
 
 -- one order alone answers for two numbers
@@ -55,3 +56,11 @@ front_order (suc n) (x ∷ xs) (y ∷ ys) s t a b =
     rw (number_cons n x xs, number_cons n y ys)
     (ap (λ (o : Ordering). ordering_then (nat_cmp x y) o) (front_order n xs ys (λ k. s (suc k)) (λ k. t (suc k)) (omega arith) (omega arith))
     ∙ then_then (nat_cmp x y) (nat_cmp f g) rest ∙ ap (λ (o : Ordering). ordering_then o rest) one)
+
+-- BEHIND ONE KEY
+-- values are in the order of their entries
+pub behind_same : (o : Ordering) (key other value other_value : ℕ) → key ≡ other → Answers o value other_value
+    → Answers o (rank (key, value)) (rank (other, other_value))
+behind_same Less key other value other_value same is = omega (arith, same, is)
+behind_same Equal key other value other_value same is = omega (arith, same, is)
+behind_same Greater key other value other_value same is = omega (arith, same, is)

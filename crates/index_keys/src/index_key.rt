@@ -84,15 +84,30 @@ impl<const W: usize> IndexKey<W> {
         IndexKey { bytes: self.bytes }
     }
 
+    /// Which of the two comes first: this key with this value, or the other key with the other
+    /// value.
+    pub fn compare(&self, value: u32, other: &Self, other_value: u32) -> Ordering
+        ensures { result ≡ nat_cmp (rank (self.now, value)) (rank (other.now, other_value)) }
+    {
+        match byte_order(&self.bytes, &other.bytes) {
+            Ordering::Less => Ordering::Less,
+            Ordering::Equal => value.cmp(&other_value),
+            Ordering::Greater => Ordering::Greater,
+        }
+    }
+
     /// Whether this key with this value stands before the other key with the other value.
     pub fn is_before(&self, value: u32, other: &Self, other_value: u32) -> bool
         ensures { IsTrue result ↔ (rank (self.now, value) < rank (other.now, other_value)) }
     {
-        match byte_order(&self.bytes, &other.bytes) {
-            Ordering::Less => true,
-            Ordering::Equal => value < other_value,
-            Ordering::Greater => false,
-        }
+        self.compare(value, other, other_value).is_lt()
+    }
+
+    /// Whether this key and the other are the same.
+    pub fn is_same(&self, other: &Self) -> bool
+        ensures { IsTrue result ↔ (self.now ≡ other.now) }
+    {
+        self.compare(0, other, 0).is_eq()
     }
 }
 

@@ -10,8 +10,10 @@ use std::alloc::Global;
 use std::process::Abort;
 use std::test::Fail;
 use tune_contents::{Contents, Room, claim, lay};
-use tune_format::{Row, write_root};
+use tune_format::{Firsts, Row, write_root};
+use tune_index::Index;
 use tune_pages::{Fault, Pages};
+use tune_search::{SearchFirsts, SearchIndexes};
 use tune_sets::{SetLists, SetName};
 use tune_store::{Change, Layout, Tune};
 
@@ -33,7 +35,12 @@ fn made_up_to<D: TestDisk>(alloc: Global, limit: u32) -> Result<Pages<D>, Fail>
     requires within { (0 < limit) × (limit ≤ 100) }
     ensures open { IfOk result (λ pages. pages.closed ≡ false) }
 {
-    match Pages::make(alloc, D::empty(alloc), &write_root(0, 0), limit) {
+    match Pages::make(
+        alloc,
+        D::empty(alloc),
+        &write_root(Layout::One, firsts([0; 6])),
+        limit,
+    ) {
         Ok(pages) => Ok(pages),
         Err(_) => Err(Fail::from("not made")),
     }
@@ -66,9 +73,25 @@ fn nothing(alloc: Global) -> Contents
     Contents {
         layout: Layout::One,
         rows: Vec::new(alloc),
+        numbers: Index::new(alloc),
+        searches: SearchIndexes::new(alloc),
         sets: SetLists::new(alloc),
-        list_first: 0,
-        sets_first: 0,
+        firsts: firsts([0; 6]),
+    }
+}
+
+// Where the lists of the indexes and the set lists begin.
+fn firsts(pages: [u32; 6]) -> Firsts {
+    let [numbers, titles, rhythms, scales, incipits, sets] = pages;
+    Firsts {
+        numbers,
+        searches: SearchFirsts {
+            titles,
+            rhythms,
+            scales,
+            incipits,
+        },
+        sets,
     }
 }
 
@@ -91,14 +114,8 @@ fn text(alloc: Global, bytes: &[u8]) -> Result<TuneText, Fail> {
     }
 }
 
-// Two rows, in contents without a set list.
-fn two(
-    alloc: Global,
-    one: Row,
-    other: Row,
-    list_first: u32,
-    sets_first: u32,
-) -> Result<Contents, Fail>
+// Two rows, in contents without a set list that have these indexes.
+fn two(alloc: Global, one: Row, other: Row, left: Contents) -> Result<Contents, Fail>
     ensures rows { IfOk result (λ contents. contents.rows.items ≡ one ∷ other ∷ []) }
     ensures sets { IfOk result (λ contents. contents.sets ≡ []) }
 {
@@ -108,9 +125,10 @@ fn two(
     Ok(Contents {
         layout: Layout::One,
         rows,
+        numbers: left.numbers,
+        searches: left.searches,
         sets: SetLists::new(alloc),
-        list_first,
-        sets_first,
+        firsts: left.firsts,
     })
 }
 
@@ -161,10 +179,13 @@ fn check_chain<R: AllocGlobal + Abort, D: TestDisk>(
     Ok(())
 }
 
+// The tunes stand on the pages 1 and 2, the leaf of the numbers on page 3 and its list on page 4;
+// then come the leaves of titles, scales and incipits, and the lists of these. No tune has a
+// rhythm.
 pub(crate) fn adds_two_tunes<R: AllocGlobal + Abort, D: TestDisk>(rt: &R) -> Result<(), Fail> {
     let mut pages = made::<D>(rt.alloc())?;
     let left = with_two(rt.alloc(), &mut pages)?;
-    assert_eq!(rt; (left.list_first, left.sets_first), (3, 0));
+    assert_eq!(rt; left.firsts, firsts([4, 8, 0, 9, 10, 0]));
     check(
         rt,
         pages,
@@ -173,7 +194,7 @@ pub(crate) fn adds_two_tunes<R: AllocGlobal + Abort, D: TestDisk>(rt: &R) -> Res
     )
 }
 
-// The first page of the tune that goes is free for the list, and then that of the old list.
+// Each index that has an entry of the tune keeps its leaf, and so the list of that stays.
 pub(crate) fn takes_a_tune<R: AllocGlobal + Abort, D: TestDisk>(rt: &R) -> Result<(), Fail> {
     let mut pages = made::<D>(rt.alloc())?;
     let left = with_two(rt.alloc(), &mut pages)?;
@@ -181,7 +202,7 @@ pub(crate) fn takes_a_tune<R: AllocGlobal + Abort, D: TestDisk>(rt: &R) -> Resul
         return Err(Fail::from("not two"));
     }
     let left = changed(rt.alloc(), &mut pages, &left, Change::Take { place: 0 })?;
-    assert_eq!(rt; (left.list_first, left.sets_first), (1, 0));
+    assert_eq!(rt; left.firsts, firsts([4, 8, 0, 9, 10, 0]));
     check(
         rt,
         pages,
@@ -193,13 +214,7 @@ pub(crate) fn takes_a_tune<R: AllocGlobal + Abort, D: TestDisk>(rt: &R) -> Resul
 pub(crate) fn puts_another_text<R: AllocGlobal + Abort, D: TestDisk>(rt: &R) -> Result<(), Fail> {
     let mut pages = made::<D>(rt.alloc())?;
     let left = with_two(rt.alloc(), &mut pages)?;
-    let known = two(
-        rt.alloc(),
-        row(1, 1, 1),
-        row(2, 1, 2),
-        left.list_first,
-        left.sets_first,
-    )?;
+    let known = two(rt.alloc(), row(1, 1, 1), row(2, 1, 2), left)?;
     let tune = Tune {
         number: 2,
         revision: 2,
@@ -225,13 +240,7 @@ pub(crate) fn puts_another_text<R: AllocGlobal + Abort, D: TestDisk>(rt: &R) -> 
 pub(crate) fn moves_a_tune<R: AllocGlobal + Abort, D: TestDisk>(rt: &R) -> Result<(), Fail> {
     let mut pages = made::<D>(rt.alloc())?;
     let left = with_two(rt.alloc(), &mut pages)?;
-    let known = two(
-        rt.alloc(),
-        row(1, 1, 1),
-        row(2, 1, 2),
-        left.list_first,
-        left.sets_first,
-    )?;
+    let known = two(rt.alloc(), row(1, 1, 1), row(2, 1, 2), left)?;
     changed(
         rt.alloc(),
         &mut pages,
@@ -270,20 +279,20 @@ fn friday() -> Result<SetName, Fail> {
     Ok(SetName::new(b"friday").ok_or("no name")?)
 }
 
-// The set lists stand on a chain of their own, and the list of tunes stays where it is. The chain
-// that goes is free for the next.
+// The set lists stand on a chain of their own, and all else stays where it is. The chain that goes
+// is free for the next.
 pub(crate) fn changes_set_lists<R: AllocGlobal + Abort, D: TestDisk>(rt: &R) -> Result<(), Fail> {
     let mut pages = made::<D>(rt.alloc())?;
     let left = with_two(rt.alloc(), &mut pages)?;
     let change = new_set(&left, friday()?)?;
     let left = changed(rt.alloc(), &mut pages, &left, change)?;
-    assert_eq!(rt; (left.list_first, left.sets_first), (3, 4));
-    check_chain(rt, &mut pages, 4, b"\x06friday\x00\x00")?;
+    assert_eq!(rt; left.firsts, firsts([4, 8, 0, 9, 10, 11]));
+    check_chain(rt, &mut pages, 11, b"\x06friday\x00\x00")?;
     let change = add_place(&left, friday()?, 2)?;
     let left = changed(rt.alloc(), &mut pages, &left, change)?;
-    assert_eq!(rt; (left.list_first, left.sets_first), (3, 4));
+    assert_eq!(rt; left.firsts, firsts([4, 8, 0, 9, 10, 11]));
     assert_eq!(rt; left.sets.places(b"friday").ok(), Some([2].as_slice()));
-    check_chain(rt, &mut pages, 4, b"\x06friday\x00\x01\x00\x00\x00\x02")?;
+    check_chain(rt, &mut pages, 11, b"\x06friday\x00\x01\x00\x00\x00\x02")?;
     check(
         rt,
         pages,
@@ -292,11 +301,12 @@ pub(crate) fn changes_set_lists<R: AllocGlobal + Abort, D: TestDisk>(rt: &R) -> 
     )
 }
 
-// Two tunes and their list ask for three pages beside the root, and one tune for two.
+// Beside the root two tunes ask for ten pages, and one for nine: its own, and a leaf and a list of
+// numbers, titles, scales and incipits.
 pub(crate) fn refuses_what_finds_no_page<R: AllocGlobal + Abort, D: TestDisk>(
     rt: &R,
 ) -> Result<(), Fail> {
-    let mut pages = made_up_to::<D>(rt.alloc(), 3)?;
+    let mut pages = made_up_to::<D>(rt.alloc(), 10)?;
     let empty = nothing(rt.alloc());
     let mut texts = Vec::new(rt.alloc());
     texts.push(text(rt.alloc(), LULLABY)?)?;
@@ -317,7 +327,7 @@ pub(crate) fn refuses_what_finds_no_page<R: AllocGlobal + Abort, D: TestDisk>(
     texts.push(text(rt.alloc(), MARCH)?)?;
     let change = Change::Add { first: 1, texts };
     let left = changed(rt.alloc(), &mut pages, &empty, change)?;
-    assert_eq!(rt; (left.list_first, left.sets_first), (2, 0));
+    assert_eq!(rt; left.firsts, firsts([3, 7, 0, 8, 9, 0]));
     check(
         rt,
         pages,

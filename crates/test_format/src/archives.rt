@@ -2,7 +2,7 @@
 ghost use Rattle.std.specs.Prelude.{OnSome};
 ghost use Rattle.tune_pages.specs.Work.{Fits};
 
-use crate::calls::page;
+use crate::calls::{key, page, show_firsts};
 use crate::quoted::{quote, unquoted};
 use std::alloc::{AllocError, Global};
 use std::fmt::Write;
@@ -26,23 +26,78 @@ fn file_of(alloc: Global, block: &str) -> Option<MemoryDisk> {
     let root = page(&unquoted(alloc, line_of(block, "root ")?).ok()?);
     let mut pages = Pages::make(alloc, MemoryDisk::new(alloc), &root, 100).ok()?;
     let mut work = pages.begin().ok()?;
-    put_chains(alloc, &pages, &mut work, block)?;
+    put_parts(alloc, &pages, &mut work, block)?;
     pages.finish(work).ok()?;
     Some(pages.into_disk())
 }
 
-// Puts the chains of a case.
-fn put_chains(alloc: Global, pages: &Pages<MemoryDisk>, work: &mut Work, block: &str) -> Option<()>
+// Puts the chains and the leaves of a case, each on the next pages.
+fn put_parts(alloc: Global, pages: &Pages<MemoryDisk>, work: &mut Work, block: &str) -> Option<()>
     requires { Fits pages.now work.old }
     ensures { OnSome result (Fits pages.now work.new) }
 {
     for line in block.lines() {
-        if let Some(bytes) = line.strip_prefix("chain ") {
-            let bytes = unquoted(alloc, bytes).ok()?;
-            let _ = pages.put_chain(work, &bytes).ok()?;
-        }
+        put_part(alloc, pages, work, line)?;
     }
     Some(())
+}
+
+// Puts the chain or the leaf of a line; another line puts none.
+fn put_part(alloc: Global, pages: &Pages<MemoryDisk>, work: &mut Work, line: &str) -> Option<()>
+    requires { Fits pages.now work.old }
+    ensures { OnSome result (Fits pages.now work.new) }
+{
+    if let Some(bytes) = line.strip_prefix("chain ") {
+        return put_chain(pages, work, &unquoted(alloc, bytes).ok()?);
+    }
+    if let Some(entries) = line.strip_prefix("leaf ") {
+        return put_leaf(pages, work, &leaf_of(alloc, entries)?);
+    }
+    Some(())
+}
+
+// Puts a chain on the next pages.
+fn put_chain(pages: &Pages<MemoryDisk>, work: &mut Work, bytes: &[u8]) -> Option<()>
+    requires { Fits pages.now work.old }
+    ensures { OnSome result (Fits pages.now work.new) }
+{
+    match pages.put_chain(work, bytes) {
+        Ok(_) => Some(()),
+        Err(_) => None,
+    }
+}
+
+// Puts a leaf on the next page.
+fn put_leaf(pages: &Pages<MemoryDisk>, work: &mut Work, bytes: &[u8]) -> Option<()>
+    requires { Fits pages.now work.old }
+    ensures { OnSome result (Fits pages.now work.new) }
+{
+    let leaf = pages.allocate(work).ok()?;
+    if !pages.in_use(work, leaf) {
+        return None;
+    }
+    match pages.put_page(work, leaf, &page(bytes)) {
+        Ok(()) => Some(()),
+        Err(_) => None,
+    }
+}
+
+// The bytes of a leaf of these entries, each a key and a value: how many there are, and each of
+// them.
+fn leaf_of(alloc: Global, entries: &str) -> Option<Vec<u8>> {
+    let count = entries.split(", ").count();
+    let mut bytes = Vec::new(alloc);
+    bytes.push(0).ok()?;
+    bytes.push(u8::try_from(count).ok()?).ok()?;
+    for entry in entries.split(", ") {
+        let (word, value) = entry.split_once(' ')?;
+        let value: u32 = value.parse().ok()?;
+        bytes
+            .extend_from_slice(key(&unquoted(alloc, word).ok()?).bytes())
+            .ok()?;
+        bytes.extend_from_slice(&value.to_be_bytes()).ok()?;
+    }
+    Some(bytes)
 }
 
 // Shows what is claimed of the pages of a case.
@@ -79,8 +134,8 @@ pub(crate) fn open_archive(
 }
 
 fn show_contents(contents: &Contents, answer: &mut String) -> Result<(), AllocError> {
-    let (list, sets) = (contents.list_first, contents.sets_first);
-    write!(answer, "list {list} sets {sets}")?;
+    answer.push_str("firsts ")?;
+    show_firsts(contents.firsts, answer)?;
     for row in &contents.rows {
         let (number, revision, first) = (row.number, row.revision, row.first);
         write!(answer, ", tune {number} {revision} {first}")?;

@@ -2,19 +2,21 @@
 use crate::quoted::{quote, unquoted};
 use std::alloc::{AllocError, Global};
 use std::fmt::Write;
-use tune_format::{Row, read_root, read_text, row_at, write_root, write_rows, write_text};
+use tune_format::{
+    Firsts, key_of_number, number_of_key, read_root, read_text, write_root, write_text,
+};
+use tune_index::IndexKey;
 use tune_journal::PageImage;
-
-/// How many bytes a row of the list has.
-const ROW_BYTES: usize = 8;
+use tune_search::SearchFirsts;
+use tune_store::Layout;
 
 /// A call.
 #[derive(Clone, Copy)]
 enum Call<'a> {
-    WriteRoot(u32, u32),
+    WriteRoot(Firsts),
     ReadRoot(&'a str),
-    WriteRows(&'a str),
-    RowAt(usize, &'a str),
+    KeyOfNumber(u32),
+    NumberOfKey(&'a str),
     WriteText(u16, &'a str),
     ReadText(&'a str),
 }
@@ -24,16 +26,10 @@ impl<'a> Call<'a> {
     fn read(line: &'a str) -> Option<Call<'a>> {
         let (word, rest) = line.split_once(' ').unwrap_or((line, ""));
         match word {
-            "write-root" => {
-                let (list, sets) = rest.split_once(' ')?;
-                Some(Call::WriteRoot(list.parse().ok()?, sets.parse().ok()?))
-            }
+            "write-root" => Some(Call::WriteRoot(firsts(rest)?)),
             "read-root" => Some(Call::ReadRoot(rest)),
-            "write-rows" => Some(Call::WriteRows(rest)),
-            "row-at" => {
-                let (place, bytes) = rest.split_once(' ')?;
-                Some(Call::RowAt(place.parse().ok()?, bytes))
-            }
+            "key-of-number" => Some(Call::KeyOfNumber(rest.parse().ok()?)),
+            "number-of-key" => Some(Call::NumberOfKey(rest)),
             "write-text" => {
                 let (revision, text) = rest.split_once(' ')?;
                 Some(Call::WriteText(revision.parse().ok()?, text))
@@ -44,19 +40,37 @@ impl<'a> Call<'a> {
     }
 }
 
+// Six numbers, as those of the first pages in a root.
+fn firsts(text: &str) -> Option<Firsts> {
+    let mut words = text.split(' ');
+    Some(Firsts {
+        numbers: words.next()?.parse().ok()?,
+        searches: SearchFirsts {
+            titles: words.next()?.parse().ok()?,
+            rhythms: words.next()?.parse().ok()?,
+            scales: words.next()?.parse().ok()?,
+            incipits: words.next()?.parse().ok()?,
+        },
+        sets: words.next()?.parse().ok()?,
+    })
+}
+
 // Makes the call of a line, and writes its answer.
 pub(crate) fn make_call(alloc: Global, line: &str, answer: &mut String) -> Result<(), AllocError> {
     let Some(call) = Call::read(line) else {
         return answer.push_str("no call");
     };
     match call {
-        Call::WriteRoot(list, sets) => show_root(&write_root(list, sets), answer),
-        Call::ReadRoot(bytes) => match read_root(&page(&unquoted(alloc, bytes)?)) {
-            Some((list, sets)) => write!(answer, "{list} {sets}"),
+        Call::WriteRoot(firsts) => show_root(&write_root(Layout::One, firsts), answer),
+        Call::ReadRoot(bytes) => match read_root(Layout::One, &page(&unquoted(alloc, bytes)?)) {
+            Some(firsts) => show_firsts(firsts, answer),
             None => answer.push_str("none"),
         },
-        Call::WriteRows(rows) => show_rows(alloc, rows, answer),
-        Call::RowAt(place, bytes) => show_row(place, &unquoted(alloc, bytes)?, answer),
+        Call::KeyOfNumber(number) => quote(key_of_number(number).bytes(), answer),
+        Call::NumberOfKey(bytes) => match number_of_key(&key(&unquoted(alloc, bytes)?)) {
+            Some(number) => write!(answer, "{number}"),
+            None => answer.push_str("none"),
+        },
         Call::WriteText(revision, text) => {
             let bytes = write_text(alloc, revision, &unquoted(alloc, text)?)?;
             quote(&bytes, answer)
@@ -74,9 +88,18 @@ pub(crate) fn page(bytes: &[u8]) -> PageImage {
     page
 }
 
+// A key that begins with these bytes, and has zeros behind them.
+pub(crate) fn key(bytes: &[u8]) -> IndexKey<32> {
+    let mut key = [0; 32];
+    for (place, byte) in key.iter_mut().zip(bytes) {
+        *place = *byte;
+    }
+    IndexKey::new(key)
+}
+
 // Shows what a root says, and whether zeros stand behind it.
 fn show_root(root: &PageImage, answer: &mut String) -> Result<(), AllocError> {
-    let (front, behind) = root.bytes.split_at(12);
+    let (front, behind) = root.bytes.split_at(28);
     quote(front, answer)?;
     if behind.iter().any(|byte| *byte != 0) {
         answer.push_str(" and others")?;
@@ -84,38 +107,18 @@ fn show_root(root: &PageImage, answer: &mut String) -> Result<(), AllocError> {
     Ok(())
 }
 
-// A row of the list of tunes: the number of the tune, its revision, and its first page.
-fn row(text: &str) -> Option<Row> {
-    let (number, rest) = text.split_once(' ')?;
-    let (revision, first) = rest.split_once(' ')?;
-    let number = number.parse().ok()?;
-    Some(Row {
-        number,
-        revision: revision.parse().ok()?,
-        first: first.parse().ok()?,
-    })
-}
-
-// Shows the bytes of a list of tunes, which are put in the place of another byte.
-fn show_rows(alloc: Global, text: &str, answer: &mut String) -> Result<(), AllocError> {
-    let mut rows = Vec::new(alloc);
-    for part in text.split(", ") {
-        if let Some(row) = row(part) {
-            rows.push(row)?;
-        }
-    }
-    let mut bytes = Vec::new(alloc);
-    bytes.push(1)?;
-    write_rows(&rows, &mut bytes)?;
-    quote(&bytes, answer)
-}
-
-fn show_row(place: usize, bytes: &[u8], answer: &mut String) -> Result<(), AllocError> {
-    if place >= bytes.len() / ROW_BYTES {
-        return answer.push_str("none");
-    }
-    let (number, first) = row_at(bytes, place);
-    write!(answer, "{number} {first}")
+pub(crate) fn show_firsts(firsts: Firsts, answer: &mut String) -> Result<(), AllocError> {
+    let Firsts {
+        numbers,
+        searches,
+        sets,
+    } = firsts;
+    let (titles, rhythms) = (searches.titles, searches.rhythms);
+    let (scales, incipits) = (searches.scales, searches.incipits);
+    write!(
+        answer,
+        "{numbers} {titles} {rhythms} {scales} {incipits} {sets}"
+    )
 }
 
 fn show_text(bytes: &[u8], answer: &mut String) -> Result<(), AllocError> {

@@ -45,7 +45,7 @@ use std::process::ExitCode;
 use std::{fs, io};
 
 /// The files of cases.
-const FILES: [&str; 5] = ["chains", "works", "claims", "stops", "faults"];
+const FILES: [&str; 6] = ["chains", "works", "claims", "stops", "faults", "cache"];
 
 /// How many cases there were, and how many of them came out as written.
 #[derive(Clone, Copy)]

@@ -2,8 +2,10 @@
 //! disk, and opens what is left.
 //!
 //! `data/steps` has the steps, between which a line `--` stands: each is a script of one command.
-//! `data/questions.script` asks for all that an archive holds. What an archive in memory answers it
-//! after so many of the steps is what a stop may leave.
+//! `data/leaves` has others, by which a leaf of the index of titles becomes two, and one of them
+//! goes again; over these the steps and the ends are tried too. `data/questions.script` asks for
+//! all that an archive holds. What an archive in memory answers it after so many of the steps is
+//! what a stop may leave.
 //!
 //! Over an archive on a disk in memory the steps are carried out again and again, each time with
 //! one more call of the disk before it fails for good. What a stop then leaves, whether all that
@@ -19,13 +21,14 @@ mod stops;
 mod texts;
 
 use cuts::{cut_left, cut_made};
+use std::fs::Files;
 use std::io;
 use std::process::ExitCode;
 use stops::{Outcome, end_steps, stop_making, stop_steps};
 use texts::{Texts, states_after};
 
 fn main(rt: HostRuntime) -> io::Result<ExitCode> {
-    let texts = Texts::read(&rt)?;
+    let texts = Texts::read(&rt, "steps")?;
     let states = states_after(rt.alloc(), &texts)?;
     let making = stop_making(rt.alloc(), &texts, states.as_slice())?;
     say(&rt, "make", making)?;
@@ -39,12 +42,24 @@ fn main(rt: HostRuntime) -> io::Result<ExitCode> {
     } else {
         println!(&rt; "cuts: one leaves another state, or is refused otherwise")?;
     }
+    let leaves = stop_leaves(&rt)?;
     let good = Outcome::AsBeforeOrAfter;
-    if making == good && steps == good && ends == good && cuts {
+    if making == good && steps == good && ends == good && cuts && leaves {
         Ok(ExitCode::SUCCESS)
     } else {
         Ok(ExitCode::FAILURE)
     }
+}
+
+// Stops an archive at the steps by which leaves come and go, and says whether all is well.
+fn stop_leaves<R: Files + Print + AllocGlobal>(rt: &R) -> io::Result<bool> {
+    let texts = Texts::read(rt, "leaves")?;
+    let states = states_after(rt.alloc(), &texts)?;
+    let steps = stop_steps(rt.alloc(), &texts, states.as_slice())?;
+    say(rt, "steps on leaves", steps)?;
+    let ends = end_steps(rt.alloc(), &texts, states.as_slice())?;
+    say(rt, "ends on leaves", ends)?;
+    Ok(steps == Outcome::AsBeforeOrAfter && ends == Outcome::AsBeforeOrAfter)
 }
 
 // Prints what came of a sweep of stops.

@@ -14,9 +14,9 @@ pub(crate) struct Texts {
 }
 
 impl Texts {
-    // Reads the scripts.
-    pub(crate) fn read<R: Files + AllocGlobal>(rt: &R) -> io::Result<Texts> {
-        let steps = fs::read_to_string(rt, "steps")?;
+    // Reads the scripts, the steps from the file of this name.
+    pub(crate) fn read<R: Files + AllocGlobal>(rt: &R, name: &str) -> io::Result<Texts> {
+        let steps = fs::read_to_string(rt, name)?;
         let questions = fs::read(rt, "questions.script")?;
         Ok(Texts {
             steps: parts_of(rt.alloc(), &steps)?,

@@ -3,7 +3,7 @@ use Rattle.std.proofs.Common.{◌≡◌, false, Result, Ok, refl, ap, ◌∙◌,
 use Rattle.tune_store.specs.State.{State, Standing}
 use Rattle.tune_store.specs.Step.{step}
 use Rattle.tune_store.specs.TuneSteps.{Outcome}
-use Rattle.tune_store.specs.Answers.{Answers, open_at, changes_nothing, stepped, file_full, no_memory, failed_before, failed_after, is_closed}
+use Rattle.tune_store.specs.Answers.{Answers, open_at, changes_nothing, stepped, no_memory, failed_before, failed_after, is_closed}
 use Rattle.tune_store.specs.Revisions.{accepts}
 use Rattle.tune_store.specs.declared.command.Command.{Command}
 use Rattle.tune_store.specs.declared.command.Reply.{Reply}
@@ -14,7 +14,6 @@ use Rattle.tune_store.proofs.KeptLemmas.{only_kept}
 accepted : (old new : Standing) (command : Command) (answer : Result Reply Refusal) → Answers old command answer new → (reply : Reply) → answer ≡ Ok reply
     → IsTrue (accepts old.state command)
 accepted _ _ _ _ (stepped old new command answer e) reply is = ap (λ (o : Outcome). is_ok o.1) e ∙ ap (λ (a : Result Reply Refusal). is_ok a) is
-accepted _ _ _ _ (file_full old command changes) reply is = cc
 accepted _ _ _ _ (no_memory old command) reply is = cc
 accepted _ _ _ _ (failed_before old command) reply is = cc
 accepted _ _ _ _ (failed_after old command) reply is = cc

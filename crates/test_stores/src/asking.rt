@@ -1,6 +1,6 @@
-// Which commands are questions, and which may take pages.
+// Which commands are questions.
 ghost use Rattle.std.specs.Prelude.{◌≡◌};
-ghost use Rattle.tune_store.specs.Answers.{asks, takes_pages};
+ghost use Rattle.tune_store.specs.Answers.{asks};
 
 use tune_store::Command;
 
@@ -17,15 +17,5 @@ pub(crate) fn asks(command: &Command) -> bool
             | Command::SetShow(_)
             | Command::ExportAll
             | Command::ExportSet(_)
-    )
-}
-
-// Whether a command may take pages that were free.
-pub(crate) fn takes_pages(command: &Command) -> bool
-    ensures { result ≡ takes_pages command.now }
-{
-    matches!(
-        command,
-        Command::Import(_) | Command::Replace { .. } | Command::SetNew(_) | Command::SetAdd { .. }
     )
 }

@@ -5,15 +5,15 @@ ghost use Rattle.tune_store.specs.State.{empty_state};
 ghost use Rattle.test_stores.specs.Record.{LeftSince, IsOfCount, IsRecorded, last_place};
 ghost use Rattle.test_stores.specs.Inside.Settling.{settles, left_earlier};
 
-use crate::asking::{asks, takes_pages};
+use crate::asking::asks;
 use crate::keeping::changes_nothing;
 use std::alloc::{AllocError, Global};
 use tune_store::{Command, ListArchive, Refusal, Reply, TuneStore};
 
 /// A fake store: an archive in memory, and the record of a device that holds one number, how many
 /// tunes there are. Each accepted change writes it, and each entry is a file that a stop may have
-/// left: the last now, the others earlier. The device is full after `most` entries: from then on
-/// each command that may take pages is refused `FileFull`, and others still find room.
+/// left: the last now, the others earlier. There is memory for `most` entries: from then on each
+/// command but a question is refused `OutOfMemory`.
 #[derive(Drop)]
 pub struct RecordedStore {
     archive: ListArchive,
@@ -22,8 +22,8 @@ pub struct RecordedStore {
 }
 
 impl RecordedStore {
-    /// A store without a tune, whose record begins with that. Its device is full after `most`
-    /// entries. The error is out of memory.
+    /// A store without a tune, whose record begins with that. There is memory for `most` entries.
+    /// The error is out of memory.
     pub fn new(alloc: Global, most: usize) -> Result<RecordedStore, AllocError>
         ensures state { IfOk result (λ store. ⟦<RecordedStore as TuneStore>⟧.state store
             ≡ empty_state) }
@@ -67,8 +67,8 @@ impl TuneStore for RecordedStore {
         left_earlier store.entries.items since earlier file le left };
 
     fn apply(&mut self, command: &Command) -> Result<Reply, Refusal> {
-        if takes_pages(command) && self.entries.len() >= self.most {
-            return Err(Refusal::FileFull);
+        if !asks(command) && self.entries.len() >= self.most {
+            return Err(Refusal::OutOfMemory);
         }
         self.entries.reserve(1)?;
         let reply = self.archive.apply(command)?;

@@ -1,7 +1,7 @@
 -- What an archive in a file knows of its tunes, and what it reads of them.
-use Rattle.std.proofs.Common.{◌≡◌, ℕ, zero, suc, ◌<◌, ◌≤◌, List, [], ◌∷◌, ◌++◌, length, get_or, Bool, false, Result, Ok, Err, Option, Some, None}
-use Rattle.std.proofs.Common.{refl, sym, ◌∙◌, ap, subst, arith, inl, inr, ◌⊎◌}
-use Rattle.std.specs.Prelude.{IfOk, IfErr, IfSome, IfNone}
+use Rattle.std.proofs.Common.{◌≡◌, ℕ, zero, suc, ◌<◌, ◌≤◌, List, [], ◌∷◌, ◌++◌, length, get_or, Bool, false, Result, Ok, Option, Some, None}
+use Rattle.std.proofs.Common.{refl, sym, ◌∙◌, ap, subst, arith, append_assoc}
+use Rattle.std.specs.Prelude.{IfSome, IfNone}
 use Rattle.std.specs.List.{AllByRecursion}
 use Rattle.std.proofs.Math.Seq.{get_or-append_seam}
 use Rattle.tune_disk.specs.Disk.{DiskState}
@@ -11,15 +11,15 @@ use Rattle.tune_pages.specs.Kept.{Kept, HonestAt, state_at}
 use Rattle.tune_pages.specs.Reading.{LooksAt, SameKept}
 use Rattle.tune_pages.specs.Stand.{Stand, HasChain}
 use Rattle.tune_pages.specs.declared.fault.Fault.{Fault}
-use Rattle.tune_pages.specs.declared.fault.Fault.TheVariants.{FileFull, OutOfMemory, Device, Closed}
-use Rattle.tune_parts.specs.Parts.{Part}
+use Rattle.tune_parts.specs.Parts.{Part, HoldsParts}
+use Rattle.tune_search.specs.IndexParts.{IndexParts, parts_of_index}
+use Rattle.tune_search.specs.Searches.{SearchParts, parts_of_search}
 use Rattle.tune_store.specs.Labels.{labels_of, LabelsRise}
 use Rattle.tune_store.specs.State.{State, IsState, IsTune, IsTunes}
 use Rattle.tune_store.specs.declared.catalog.Label.{Label}
-use Rattle.tune_store.specs.declared.layout.Layout.{Layout}
 use Rattle.tune_store.specs.declared.layout.Layout.TheVariants.{One}
 use Rattle.tune_store.specs.declared.tune.Tune.{Tune}
-use Rattle.tune_format.specs.Filed.{row_of, rows_of, HoldTunes, HoldsTuneAt}
+use Rattle.tune_format.specs.Filed.{row_of, rows_of, archive_parts, HoldTunes, HoldsTuneAt}
 use Rattle.tune_format.specs.Layout.{most_pages_of_archive}
 use Rattle.tune_format.specs.States.{state_in}
 use Rattle.tune_format.specs.declared.rows.Row.{Row}
@@ -29,7 +29,8 @@ use Rattle.tune_contents.specs.Claimed.{RowsRise}
 use Rattle.tune_contents.specs.Holds.{label_in, labels_in, HoldsContents}
 use Rattle.tune_contents.specs.declared.contents.Contents.{Contents}
 use Rattle.tune_archive.specs.Shelf.{Shelf, state_of, state_on}
-use Rattle.tune_archive.specs.Inside.Fetching.{IsTextOf, HoldsText, HoldsSomeText, HasFetched, Fetches}
+use Rattle.tune_contents.specs.Texts.{HoldsText, HoldsSomeText}
+use Rattle.tune_archive.specs.Inside.Fetching.{HasFetched, Fetches}
 use Rattle.tune_archive.specs.declared.archive.Fetched.{Fetched}
 use Rattle.tune_archive.specs.Inside.Holding.{stand_of, IsShelf}
 
@@ -54,6 +55,10 @@ labels_count (row ∷ rows) = omega (arith, labels_count rows)
 pub place_inside : (rows : List Row) (place : ℕ) → place < length (labels_in rows) → place < length rows
 place_inside rows place l = omega (arith, labels_count rows)
 
+-- and that of a row is one of a label
+pub label_inside : (rows : List Row) (place : ℕ) → place < length rows → place < length (labels_in rows)
+label_inside rows place l = omega (arith, l, labels_count rows)
+
 -- the rows of tunes have the labels of these
 labels_there : (tunes : List Tune) (texts : List Part) → HoldTunes texts tunes → labels_in (rows_of tunes texts) ≡ labels_of tunes
 labels_there [] texts holds = refl
@@ -72,6 +77,16 @@ rows_held s contents state holds = ap length holds.listed ∙ rows_count state.t
 middle : (P : Tune → Type 0) (front : List Tune) (tune : Tune) (back : List Tune) → AllByRecursion P (front ++ tune ∷ back) → P tune
 middle P [] tune back each = each.0
 middle P (first ∷ front) tune back each = middle P front tune back each.1
+
+-- the parts of an archive ahead of those of its tunes
+abbrev ahead_of : IndexParts → SearchParts → Part → List Part
+ahead_of numbers searches set_lists = parts_of_index numbers ++ (parts_of_search searches ++ set_lists ∷ [])
+
+parts_apart : (numbers : IndexParts) (searches : SearchParts) (set_lists : Part) (texts : List Part)
+    → archive_parts numbers searches set_lists texts ≡ ahead_of numbers searches set_lists ++ texts
+parts_apart numbers searches set_lists texts =
+    sym (append_assoc (parts_of_index numbers) (parts_of_search searches ++ set_lists ∷ []) texts
+    ∙ ap (λ l. parts_of_index numbers ++ l) (append_assoc (parts_of_search searches) (set_lists ∷ []) texts))
 
 -- the text of the tune at a place stands where its row says
 pub text_there : (s : Stand) (contents : Contents) (state : State) (place first : ℕ) (d : Row) (e : Tune) → HoldsContents s contents state → IsState state
@@ -98,7 +113,8 @@ text_there s contents state place first d e holds within l is =
     let bound = good.revision in
     let its_first : first ≡ at.part.first = is ∙ ap (λ (r : Row). r.first) its_row in
     let has : HasChain s at.part.first at.part.trail at.part.bytes =
-    has_text s (holds.filed.list ∷ holds.filed.set_lists ∷ []) texts tunes place holds.holds at in
+    has_text s (ahead_of holds.filed.numbers holds.filed.searches holds.filed.set_lists) texts tunes place
+    (subst (HoldsParts s) (parts_apart holds.filed.numbers holds.filed.searches holds.filed.set_lists texts) holds.holds) at in
     let held : HoldsText contents.layout s first at.tune.revision at.tune.text = record {
       trail = at.part.trail;
       bytes = at.part.bytes;
@@ -117,59 +133,6 @@ some_text s contents state place first d holds within l is =
     let e : Tune = record { number = 0; revision = 0; text = [] } in
     let there = text_there s contents state place first d e holds within l is in
     (there.0, (get_or state.tunes place e).text, there.1)
-
--- what was read of a chain and is the text of its bytes is the text there
-pub text_read : {T : Type 0} (layout : Layout) (text : T → List ℕ) (Honest : Type 0) (s mid : Stand) (first : ℕ) (bytes : List ℕ) (result : Result T Fault)
-    → (Honest → (trail all : List ℕ) → HasChain mid first trail all → bytes ≡ all) → mid ≡ s
-    → IfOk result (λ t. (revision : ℕ) (other : List ℕ) → IsTextOf layout bytes revision other → text t ≡ other)
-    → IfOk result (λ t. Honest → (revision : ℕ) (other : List ℕ) → HoldsText layout s first revision other → text t ≡ other)
-text_read layout text Honest s mid first bytes (Err fault) read same ok = tt
-text_read layout text Honest s mid first bytes (Ok t) read same ok = λ honest revision other holds.
-    (let has : HasChain mid first holds.trail holds.bytes = subst (λ (m : Stand). HasChain m first holds.trail holds.bytes) (sym same) holds.has in
-    ok revision other (subst (λ (l : List ℕ). IsTextOf layout l revision other) (sym (read honest holds.trail holds.bytes has)) holds.is))
-
--- no text stands where what was read is none
-abbrev NoText : Layout → List ℕ → Type 0
-NoText layout bytes = (revision : ℕ) (other : List ℕ) → IsTextOf layout bytes revision other → ⊥
-
-no_text : (layout : Layout) (Honest : Type 0) (s mid : Stand) (first : ℕ) (bytes : List ℕ)
-    → (Honest → (trail all : List ℕ) → HasChain mid first trail all → bytes ≡ all)
-    → mid ≡ s → NoText layout bytes → Honest → HoldsSomeText layout s first → ⊥
-no_text layout Honest s mid first bytes read same none h (revision, other, holds) =
-    let has : HasChain mid first holds.trail holds.bytes = subst (λ (m : Stand). HasChain m first holds.trail holds.bytes) (sym same) holds.has in
-    none revision other (subst (λ (l : List ℕ). IsTextOf layout l revision other) (sym (read h holds.trail holds.bytes has)) holds.is)
-
--- a text that was not read although its chain was: there was no memory, or there is none
-module _ {D : Type 0} (honest : D → Type 0) (failures : D → ℕ) (state : D → DiskState) (old new : Kept D)
-    (layout : Layout) (s mid : Stand) (first : ℕ) (bytes : List ℕ) where
-  pub looks_on : {T U : Type 0} (chain : U) (result : Result T Fault) → LooksAt {T = U} honest failures state (Ok chain) old new
-      → (HonestAt honest new.disk → (trail all : List ℕ) → HasChain mid first trail all → bytes ≡ all) → mid ≡ s
-      → (HonestAt honest old.disk → HoldsSomeText layout s first)
-      → IfErr result (λ fault. (fault ≡ OutOfMemory) ⊎ ((fault ≡ Device) × NoText layout bytes))
-      → LooksAt honest failures state result old new
-  looks_on chain (Ok text) looks read same there fault = record {
-    was_honest = looks.was_honest;
-    same_state = looks.same_state;
-    counted = looks.counted;
-    same = looks.same;
-  }
-  looks_on chain (Err FileFull) looks read same there (inl is) = (let no : ⊥ = cc in absurd no)
-  looks_on chain (Err FileFull) looks read same there (inr is) = (let e = is.0 in let no : ⊥ = cc in absurd no)
-  looks_on chain (Err Closed) looks read same there (inl is) = (let no : ⊥ = cc in absurd no)
-  looks_on chain (Err Closed) looks read same there (inr is) = (let e = is.0 in let no : ⊥ = cc in absurd no)
-  looks_on chain (Err OutOfMemory) looks read same there fault = record {
-    was_honest = looks.was_honest;
-    same_state = looks.same_state;
-    counted = looks.counted;
-    same = λ ne. looks.same;
-  }
-  looks_on chain (Err Device) looks read same there (inl is) = (let no : ⊥ = cc in absurd no)
-  looks_on chain (Err Device) looks read same there (inr is) = record {
-    was_honest = looks.was_honest;
-    same_state = looks.same_state;
-    counted = λ h. absurd (no_text layout (HonestAt honest new.disk) s mid first bytes read same is.1 h (there (looks.was_honest h)));
-    same = λ ne. absurd (ne refl);
-  }
 
 -- PLACES
 -- the label at the place of a number's row has the number

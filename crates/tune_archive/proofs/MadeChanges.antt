@@ -67,7 +67,7 @@ module _ {D : Type 0} (honest : D → Type 0) (state : D → DiskState) (may_sta
             → SinceThen (state_at state old.disk) new (StandsForOneOf (state_on state old.disk) (changed change (state_on state old.disk)))
         passes_laid_states new laid =
             let before = state_on state old.disk in
-            let after = after_is laid.next laid.left (laid.lays before holds.within.tunes.rises holds.holds) laid.few in
+            let after = after_is laid.next laid.left (laid.lays before holds.within holds.holds) laid.few in
             since_weaker (StandsForEither old.pages laid.next.pages) (StandsForOneOf before (changed change before))
             (λ file. either_state old.pages laid.next.pages before (changed change before) file before_is after) (state_at state old.disk) new laid.moments
 
@@ -94,7 +94,7 @@ module _ {D : Type 0} (honest : D → Type 0) (state : D → DiskState) (may_sta
             → state_on state new.disk ≡ changed change (state_on state old.disk)
         made_state new left h laid =
             let before = state_on state old.disk in
-            let after = after_is (stand_of new) left (laid.lays before holds.within.tunes.rises holds.holds) laid.few in
+            let after = after_is (stand_of new) left (laid.lays before holds.within holds.holds) laid.few in
             state_left new.disk (changed change before) h (λ file may. record { pages = new.pages; stands = laid.rest file may; is = after })
 
         pub made_holds : (new : Kept D) (left : Contents) → HonestAt honest new.disk → HasLaid state old new contents left change
@@ -103,7 +103,7 @@ module _ {D : Type 0} (honest : D → Type 0) (state : D → DiskState) (may_sta
             let before = state_on state old.disk in
             let is = sym (made_state new left h laid) in
             record {
-              holds = subst (λ (s : State). HoldsContents (stand_of new) left s) is (laid.lays before holds.within.tunes.rises holds.holds);
+              holds = subst (λ (s : State). HoldsContents (stand_of new) left s) is (laid.lays before holds.within holds.holds);
               first_layout = subst (λ (s : State). s.layout ≡ One) is holds.first_layout;
               within = subst (λ (s : State). IsState s) is within;
               few = omega (arith, laid.few, marks);

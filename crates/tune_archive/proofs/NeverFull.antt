@@ -11,7 +11,7 @@ use Rattle.tune_store.specs.declared.layout.Layout.TheVariants.{One}
 use Rattle.tune_store.specs.declared.plans.Change.{Change}
 use Rattle.tune_format.specs.Layout.{most_pages_of_archive}
 use Rattle.tune_contents.specs.Holds.{HoldsContents}
-use Rattle.tune_contents.specs.Most.{most_chain_pages, most_used}
+use Rattle.tune_contents.specs.Most.{most_part_pages, most_used}
 use Rattle.tune_contents.specs.declared.contents.Contents.{Contents}
 use Rattle.tune_archive.specs.Inside.Changing.{StaysWithin}
 
@@ -21,15 +21,15 @@ pub never_full : (start before : Stand) (contents : Contents) (change : Change) 
     → All (λ page. length page ≡ block_bytes) s.pages → length s.used ≤ free_pages s.used + most_used state.layout)
     → start ≡ before → StaysWithin before contents change → length before.used ≡ most_pages_of_archive
     → All (λ page. length page ≡ block_bytes) before.pages
-    → ((state : State) → HoldsContents start contents state → IsState (changed change state) → fault ≡ FileFull
-    → free_pages start.used < most_chain_pages contents.layout)
+    → ((state : State) → HoldsContents start contents state → IsState state → IsState (changed change state) → fault ≡ FileFull
+    → free_pages start.used < most_part_pages contents.layout)
     → fault ≢ FileFull
 never_full start before contents change fault law begun stays marks sized full is =
     let first = stays.first_layout in
     let uses : length before.used ≤ free_pages before.used + most_used One =
     subst (λ layout. length before.used ≤ free_pages before.used + most_used layout) first (law before contents stays.state stays.holds stays.within sized) in
-    let few : free_pages start.used < most_chain_pages One =
-    subst (λ layout. free_pages start.used < most_chain_pages layout) (stays.holds.layout ∙ first)
-    (full stays.state (subst (λ (s : Stand). HoldsContents s contents stays.state) (sym begun) stays.holds) stays.next is) in
+    let few : free_pages start.used < most_part_pages One =
+    subst (λ layout. free_pages start.used < most_part_pages layout) (stays.holds.layout ∙ first)
+    (full stays.state (subst (λ (s : Stand). HoldsContents s contents stays.state) (sym begun) stays.holds) stays.within stays.next is) in
     let same : free_pages start.used ≡ free_pages before.used = ap (λ (s : Stand). free_pages s.used) begun in
     absurd (omega (arith, uses, few, same, marks))

@@ -1,6 +1,6 @@
 -- What an archive holds once it is made or opened, and what a stop leaves meanwhile.
 use Rattle.std.proofs.Common.{◌≡◌, ◌≢◌, inl, inr, ℕ, ◌-◌, ◌<◌, ◌≤◌, List, [], ◌∷◌, ◌++◌, Bool, true, false, Option, Some, None, length, replicate}
-use Rattle.std.proofs.Common.{Result, Ok, Err, IfErr, refl, sym, ◌∙◌, ap, subst, arith}
+use Rattle.std.proofs.Common.{Result, Ok, Err, IfOk, IfErr, refl, sym, ◌∙◌, ap, subst, arith}
 use Rattle.std.proofs.lemmas.Bool.{cases_eq}
 use Rattle.std.proofs.lemmas.List.{length-replicate}
 use Rattle.tune_disk.specs.Disk.{DiskState, MayLeave}
@@ -21,17 +21,25 @@ use Rattle.tune_pages.specs.Kept.{Kept, HonestAt, state_at}
 use Rattle.tune_pages.specs.Opened.{only_root, IsUnopenedFor, LeavesSame}
 use Rattle.tune_pages.specs.Stand.{Stand}
 use Rattle.tune_pages.proofs.Chains.{length-marked}
-use Rattle.tune_parts.specs.Parts.{Part, AreParts, chain_part}
+use Rattle.tune_index.specs.Indexes.{Shape}
+use Rattle.tune_parts.specs.Parts.{Part, AreParts, IsPart, chain_part}
 use Rattle.tune_parts.proofs.PartLemmas.{open_parts, held_parts}
+use Rattle.tune_search.specs.Empty.{no_indexes, no_leaves}
+use Rattle.tune_search.specs.IndexParts.{HoldsIndex, IndexParts, KeepsIndex}
+use Rattle.tune_search.specs.SearchPages.{AreListed}
+use Rattle.tune_search.specs.Searches.{HoldsKeys, SearchParts, SearchShape, key_bytes}
 use Rattle.tune_store.specs.State.{State, IsState, empty_state}
 use Rattle.tune_store.specs.declared.layout.Layout.TheVariants.{One}
+use Rattle.tune_format.specs.Filed.{archive_parts}
 use Rattle.tune_format.specs.Layout.{most_pages_of_archive}
+use Rattle.tune_format.specs.Searched.{IsSearchIndex}
 use Rattle.tune_format.specs.States.{IsStateOf, StandsForState}
-use Rattle.tune_format.specs.Written.{IsRoot}
-use Rattle.tune_format.proofs.StateLemmas.{file_read, empty_within, empty_state_of}
+use Rattle.tune_format.specs.Written.{IsRoot, no_firsts}
+use Rattle.tune_format.specs.declared.root.Firsts.{Firsts}
+use Rattle.tune_format.proofs.StateLemmas.{file_read, empty_within, empty_state_of, none_among}
 use Rattle.tune_format.proofs.TextLemmas.{none_held}
 use Rattle.tune_contents.specs.Claimed.{AreRows, IsClaimed}
-use Rattle.tune_contents.specs.Holds.{HoldsContents}
+use Rattle.tune_contents.specs.Holds.{HoldsContents, KeepsTexts}
 use Rattle.tune_contents.specs.declared.contents.Contents.{Contents}
 use Rattle.tune_archive.specs.Inside.Holding.{stand_of, HoldsState, IsShelf}
 use Rattle.tune_archive.specs.Inside.Opening.{IsUnclaimedFor}
@@ -41,57 +49,127 @@ use Rattle.tune_archive.specs.Shelf.{Shelf, IsSound, state_on, StandsForOneOf}
 -- WHAT PAGES HOLD
 -- pages on which a state was claimed hold it, and nothing else is in use
 pub claims_hold : (pages : List (List ℕ)) (claimed : List Bool) (limit : ℕ) (contents : Contents) → length pages ≤ limit
-    → (is : IsClaimed pages contents.layout contents.rows.items contents.sets contents.list_first contents.sets_first claimed)
+    → (is : IsClaimed pages contents claimed)
     → HoldsContents (record { pages = pages; used = claimed ++ replicate (limit - length pages) false }) contents
     (record { layout = contents.layout; tunes = is.tunes; sets = contents.sets })
 claims_hold pages claimed limit contents few is =
     let used = claimed ++ replicate (limit - length pages) false in
-    let parts = is.filed.list ∷ is.filed.set_lists ∷ is.filed.texts in
+    let filed = is.filed in
+    let parts = archive_parts filed.numbers filed.searches filed.set_lists filed.texts in
     record {
       layout = refl;
-      filed = is.filed;
-      holds = held_parts (record { pages = pages; used = used }) limit parts is.filed.parts few
-          (open_parts pages claimed used limit parts is.filed.parts few is.marks refl);
+      filed = filed;
+      holds = held_parts (record { pages = pages; used = used }) limit parts filed.parts few
+          (open_parts pages claimed used limit parts filed.parts few is.marks refl);
       listed = is.listed;
+      numbers = is.numbers;
+      numbers_listed = is.numbers_listed;
+      searches = is.searches;
+      searches_listed = is.searches_listed;
       sets = refl;
-      list = is.list;
-      set_lists = is.set_lists;
+      firsts = is.firsts;
     }
 
--- no bytes are no chain
+-- no bytes are no chain, and an index without an entry is one without a leaf
 abbrev no_part : Part
 no_part = chain_part 0 [] []
 
-none_filed : (image : List ℕ) → IsRoot image 0 0 → AreParts (image ∷ []) (no_part ∷ no_part ∷ [])
-none_filed image root = record {
-  stand = (record { leads = refl; holds = refl }, (record { leads = refl; holds = refl }, tt));
-  apart = (refl, tt);
+abbrev no_index : IndexParts
+no_index = record { list = no_part; leaves = [] }
+
+abbrev no_searches : SearchParts
+no_searches = record { titles = no_index; rhythms = no_index; scales = no_index; incipits = no_index }
+
+none_there : (image : List ℕ) → IsPart (image ∷ []) no_part
+none_there image = record { leads = refl; holds = refl }
+
+none_filed : (image : List ℕ) → AreParts (image ∷ []) (archive_parts no_index no_searches no_part [])
+none_filed image =
+    let none = none_there image in
+    record { stand = (none, (none, (none, (none, (none, (none, tt)))))); apart = (refl, tt) }
+
+none_in_index : HoldsIndex key_bytes no_index []
+none_in_index = record { is_chain = refl; leaves = tt; listed = refl; hold = refl; rising = tt }
+
+none_kept : KeepsIndex key_bytes no_leaves no_index []
+none_kept = record {
+  is_chain = refl;
+  leaves = tt;
+  first = refl;
+  pages = refl;
+  heads = refl;
+  listed = λ e. refl;
+  hold = refl;
+  rising = tt;
+  fit = tt;
 }
 
--- a root alone that names no list holds no tunes and no sets
-pub root_holds : (image : List ℕ) (limit : ℕ) (contents : Contents) → IsRoot image 0 0 → 1 ≤ limit → contents.layout ≡ One → contents.rows.items ≡ []
-    → contents.sets ≡ []
-    → (contents.list_first ≡ 0) × (contents.sets_first ≡ 0)
+abbrev none_held_there : (keys_of : List ℕ → List ℕ) → HoldsKeys keys_of [] no_leaves no_index
+none_held_there keys_of = record {
+  entries = [];
+  keeps = none_kept;
+  exact = record { held = λ tune key c. absurd (none_among tune c); only = λ entry c. absurd (none_among entry c) };
+}
+
+none_searched : (keys_of : List ℕ → List ℕ) → IsSearchIndex keys_of [] no_index
+none_searched keys_of = record { entries = []; holds = none_in_index; exact = (none_held_there keys_of).exact }
+
+-- contents of memory in which nothing is yet
+pub record IsNothing (contents : Contents) : Type 0 where
+  pub layout : contents.layout ≡ One
+  pub rows : contents.rows.items ≡ []
+  pub sets : contents.sets ≡ []
+  pub numbers : contents.numbers ≡ no_leaves
+  pub searches : contents.searches ≡ no_indexes
+  pub firsts : contents.firsts ≡ no_firsts
+
+none_listed : AreListed no_indexes
+none_listed = record { titles = refl; rhythms = refl; scales = refl; incipits = refl }
+
+none_kept_texts : KeepsTexts no_indexes no_searches []
+none_kept_texts = record {
+  titles = none_held_there _;
+  rhythms = none_held_there _;
+  scales = none_held_there _;
+  incipits = none_held_there _;
+}
+
+-- a root that says where nothing begins
+pub root_of_none : (image : List ℕ) (firsts : Firsts) → firsts ≡ no_firsts → IsRoot One image firsts → IsRoot One image no_firsts
+root_of_none image firsts same root = subst (IsRoot One image) same root
+
+-- a root alone that names no chain holds no tunes and no sets
+pub root_holds : (image : List ℕ) (limit : ℕ) (contents : Contents) → IsRoot One image no_firsts → 1 ≤ limit → IsNothing contents
     → HoldsContents (record { pages = image ∷ []; used = only_root limit }) contents empty_state
-root_holds image limit contents root some known rows sets firsts = record {
-  layout = known;
+root_holds image limit contents root some is = record {
+  layout = is.layout;
   filed = record {
-    list = no_part;
+    numbers = no_index;
+    searches = no_searches;
     set_lists = no_part;
     texts = [];
-    parts = none_filed image root;
-    list_is_chain = refl;
-    sets_are_chain = refl;
+    parts = none_filed image;
     root = root;
-    listed = refl;
+    are_numbers = none_in_index;
+    are_searches = record {
+      titles = none_searched _;
+      rhythms = none_searched _;
+      scales = none_searched _;
+      incipits = none_searched _;
+    };
+    sets_are_chain = refl;
     are_sets = refl;
     are_tunes = none_held;
   };
-  holds = held_parts (record { pages = image ∷ []; used = only_root limit }) limit (no_part ∷ no_part ∷ []) (none_filed image root) some refl;
-  listed = rows;
-  sets = sets;
-  list = firsts.0;
-  set_lists = firsts.1;
+  holds = held_parts (record { pages = image ∷ []; used = only_root limit }) limit (archive_parts no_index no_searches no_part [])
+      (none_filed image) some refl;
+  listed = is.rows;
+  numbers = subst (λ (shape : Shape). KeepsIndex key_bytes shape no_index []) (sym is.numbers) none_kept;
+  numbers_listed = ap (λ (shape : Shape). shape.listed) is.numbers;
+  searches = subst (λ (shape : SearchShape). KeepsTexts shape no_searches []) (sym is.searches) none_kept_texts;
+  searches_listed = subst AreListed (sym is.searches) none_listed;
+  sets = is.sets;
+  firsts = is.firsts;
 }
 
 -- THE STATE OF A DISK
@@ -144,7 +222,7 @@ opening_keeps_states old new stays since = λ a b leaves. since_weaker (LeftOrSa
     one a b leaves file (inr it) = either a b it.0 file it.1 it.2 (leaves old.seen stays)
 
 -- A file that is being made stands for no archive, or for an empty one.
-pub making_keeps : (image : List ℕ) (old new : DiskState) → IsRoot image 0 0 → SinceThen old new (StandsForNoneOr image)
+pub making_keeps : (image : List ℕ) (old new : DiskState) → IsRoot One image no_firsts → SinceThen old new (StandsForNoneOr image)
     → SinceThen old new StandsForNoneOrEmpty
 making_keeps image old new root since = since_weaker (StandsForNoneOr image) StandsForNoneOrEmpty one old new since
   where
@@ -200,7 +278,7 @@ pub opened_shelf : {D : Type 0} (honest : D → Type 0) (state : D → DiskState
     → kept.used ≡ claimed ++ replicate (most_pages_of_archive - length pages) false → kept.closed ≡ false → length kept.used ≡ most_pages_of_archive
     → length pages ≤ most_pages_of_archive → 0 < length kept.pages → AreRows contents.layout contents.rows.items
     → (honest disk → LeavesOnly (state disk).now (StandsFor pages))
-    → (honest disk → 0 < length pages → IsClaimed pages contents.layout contents.rows.items contents.sets contents.list_first contents.sets_first claimed)
+    → (honest disk → 0 < length pages → IsClaimed pages contents claimed)
     → IsShelf honest state kept contents false
 opened_shelf honest state stays disk kept pages claimed contents same_disk same_pages same_used is_open marks few some rows rest claims = record {
   rows = rows;
@@ -219,15 +297,53 @@ opened_shelf honest state stays disk kept pages claimed contents same_disk same_
       (λ i. record { pages = sym same_pages i; used = sym same_used i }) holds);
 }
 
+-- The state of such an archive stands on its pages, and it is sound.
+state_there : {D : Type 0} (state : D → DiskState) (kept : Kept D) (contents : Contents) → HoldsState state kept contents
+    → IsStateOf kept.pages (state_on state kept.disk)
+state_there state kept contents held = record {
+  layout = held.first_layout;
+  filed = held.holds.filed;
+  within = held.within;
+  few = held.few;
+}
+
+pub opened_state : {D : Type 0} (honest : D → Type 0) (state : D → DiskState) (disk : D) (kept : Kept D) (pages : List (List ℕ)) (contents : Contents)
+    (archive : Shelf D) → IsShelf honest state kept contents false → kept.disk ≡ Some disk → kept.pages ≡ pages → archive.pages ≡ kept → honest disk
+    → IsStateOf pages (state_on state archive.pages.disk)
+opened_state {D} honest state disk kept pages contents archive shelf same_disk same_pages same h =
+    let here : HonestAt honest kept.disk = subst (HonestAt honest) (sym same_disk) h in
+    subst (λ (k : Kept D). IsStateOf pages (state_on state k.disk)) (sym same)
+    (subst (λ (l : List (List ℕ)). IsStateOf l (state_on state kept.disk)) same_pages (state_there state kept contents (shelf.holds here refl)))
+
+-- of the pages that the disk shows, and so did before they were claimed
+pub claimed_state : {D : Type 0} (honest : D → Type 0) (state : D → DiskState) (disk : D) (old new : List (List ℕ))
+    (result : Result (Shelf D) (Refused D)) → disk_of result ≡ Some disk → (honest disk → new ≡ old)
+    → IfOk result (λ archive. honest disk → IsStateOf new (state_on state archive.pages.disk))
+    → IfOk result (λ archive. HonestAt honest archive.pages.disk → IsStateOf old (state_on state archive.pages.disk))
+claimed_state honest state disk old new (Err refused) same pages is = tt
+claimed_state honest state disk old new (Ok archive) same pages is = λ h.
+    let here : honest disk = subst (HonestAt honest) same h in
+    subst (λ (l : List (List ℕ)). IsStateOf l (state_on state archive.pages.disk)) (pages here) (is here)
+
+pub opened_sound : {D : Type 0} (honest : D → Type 0) (state : D → DiskState) (kept : Kept D) (contents : Contents) (archive : Shelf D)
+    → IsShelf honest state kept contents false → archive.pages ≡ kept → IsSound honest state archive
+opened_sound {D} honest state kept contents archive shelf same = record {
+  within = subst (λ (k : Kept D). HonestAt honest k.disk → IsState (state_on state k.disk)) (sym same) (λ h. (shelf.holds h refl).within);
+  rest = λ here e. (subst
+      (λ (k : Kept D). HonestAt honest k.disk → LeavesOnly (state_at state k.disk).now (λ file. StandsForState file (state_on state k.disk))) (sym same)
+      (λ h file may.
+      let held = shelf.holds h refl in
+      record { pages = kept.pages; stands = held.rest file may; is = state_there state kept contents held })) here;
+}
+
 -- of the root alone
 pub made_shelf : {D : Type 0} (honest : D → Type 0) (state : D → DiskState) → ((disk : D) → honest disk → MayLeave (state disk).now (state disk).seen)
     → (kept : Kept D) (image : List ℕ) (contents : Contents) → (HonestAt honest kept.disk → kept.pages ≡ image ∷ [])
-    → kept.used ≡ only_root most_pages_of_archive → kept.closed ≡ false → IsRoot image 0 0
+    → kept.used ≡ only_root most_pages_of_archive → kept.closed ≡ false → IsRoot One image no_firsts
     → (HonestAt honest kept.disk → LeavesOnly (state_at state kept.disk).now (StandsFor (image ∷ [])))
-    → contents.layout ≡ One → contents.rows.items ≡ [] → contents.sets ≡ [] → (contents.list_first ≡ 0) × (contents.sets_first ≡ 0)
-    → IsShelf honest state kept contents false
-made_shelf honest state stays kept image contents pages used is_open root rest known rows sets firsts = record {
-  rows = subst (AreRows contents.layout) (sym rows) (record { rise = tt; numbers = tt; few = omega arith });
+    → IsNothing contents → IsShelf honest state kept contents false
+made_shelf honest state stays kept image contents pages used is_open root rest is = record {
+  rows = subst (AreRows contents.layout) (sym is.rows) (record { rise = tt; numbers = tt; few = omega arith });
   marks = λ e.
       ap (λ (l : List Bool). length l) used ∙ length-marked true (0 ∷ []) (replicate most_pages_of_archive false)
       ∙ length-replicate most_pages_of_archive false;
@@ -238,12 +354,12 @@ made_shelf honest state stays kept image contents pages used is_open root rest k
       (subst (λ (l : List (List ℕ)). length l ≤ most_pages_of_archive) (sym (pages h)) (omega arith)) refl empty_within
       (subst (λ (st : Stand). HoldsContents st contents empty_state)
       (λ i. record { pages = sym (pages h) i; used = sym used i })
-      (root_holds image most_pages_of_archive contents root (omega arith) known rows sets firsts));
+      (root_holds image most_pages_of_archive contents root (omega arith) is));
 }
 
 -- A root alone is read as the state in which nothing is yet.
 pub made_state : {D : Type 0} (honest : D → Type 0) (state : D → DiskState) → ((disk : D) → honest disk → MayLeave (state disk).now (state disk).seen)
-    → (held : Option D) (image : List ℕ) → IsRoot image 0 0 → HonestAt honest held
+    → (held : Option D) (image : List ℕ) → IsRoot One image no_firsts → HonestAt honest held
     → LeavesOnly (state_at state held).now (StandsFor (image ∷ [])) → state_on state held ≡ empty_state
 made_state honest state stays held image root h rest =
     let file = (state_at state held).seen in
@@ -254,7 +370,7 @@ made_state honest state stays held image root h rest =
     })
 
 pub made_sound : {D : Type 0} (honest : D → Type 0) (state : D → DiskState) → ((disk : D) → honest disk → MayLeave (state disk).now (state disk).seen)
-    → (archive : Shelf D) (image : List ℕ) → IsRoot image 0 0
+    → (archive : Shelf D) (image : List ℕ) → IsRoot One image no_firsts
     → (HonestAt honest archive.pages.disk → LeavesOnly (state_at state archive.pages.disk).now (StandsFor (image ∷ []))) → IsSound honest state archive
 made_sound honest state stays archive image root rest = record {
   within = λ h. subst IsState (sym (made_state honest state stays archive.pages.disk image root h (rest h))) empty_within;

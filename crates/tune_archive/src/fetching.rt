@@ -1,17 +1,26 @@
 // What an archive in a file tells of its tunes.
-ghost use Rattle.std.specs.Prelude.{◌≡◌, ◌≢◌, ℕ, ◌<◌, length, slice_index_or, IfSome, IfNone};
-ghost use Rattle.tune_format.specs.declared.rows.Row.{Row};
-ghost use Rattle.tune_contents.specs.Claimed.{RowsRise};
+ghost use Rattle.std.specs.Prelude.{◌≡◌, ℕ, List, false, true, Contains, IfOk};
+ghost use Rattle.tune_pages.specs.Faults.{AnswersRead};
+ghost use Rattle.tune_pages.specs.Kept.{HonestAt};
+ghost use Rattle.tune_pages.specs.Reading.{LooksAt};
+ghost use Rattle.tune_parts.specs.Parts.{Part};
+ghost use Rattle.tune_queries.specs.Queries.{finds};
+ghost use Rattle.tune_search.specs.Searches.{HoldsSomeTexts, HoldsTexts, SearchParts};
+ghost use Rattle.tune_search.specs.Searches.{notes_of_incipit};
+ghost use Rattle.tune_contents.specs.Texts.{HoldsSomeText, HoldsText};
+ghost use Rattle.tune_archive.specs.Inside.Holding.{stand_of};
 
 use crate::archive::{Archive, Fetched};
-use crate::texts::read_tune;
+use crate::places::{place_of, places_of_numbers};
 use abc_fields::TuneText;
+use std::alloc::Global;
+use tune_contents::read_tune;
 use tune_disk::Disk;
-use tune_format::Row;
-use tune_pages::Fault;
+use tune_pages::{Fault, Pages};
 use tune_queries::Sought;
+use tune_search::SearchIndexes;
 use tune_sets::SetLists;
-use tune_store::{Catalog, Label, Layout, Refusal, all_places};
+use tune_store::{Catalog, Label, Layout, Refusal};
 
 impl<D: Disk> Catalog for Archive<D> {
     ghost use Rattle.tune_contents.specs.Holds.{labels_in};
@@ -91,7 +100,7 @@ impl<D: Disk> Catalog for Archive<D> {
         let layout = self.contents.layout;
         let first = self.contents.rows[place].first;
         self.fetched = None;
-        match read_tune(self.alloc, &mut self.pages, layout, first) {
+        match read_text(self.alloc, &mut self.pages, layout, first) {
             Ok(text) => {
                 self.fetched = Some(Fetched { place, text });
                 Ok(())
@@ -111,22 +120,60 @@ impl<D: Disk> Catalog for Archive<D> {
         }
     }
 
-    fn candidates(&mut self, _sought: &Sought<'_>) -> Result<Vec<usize>, Refusal> {
-        Ok(all_places(self.alloc, self.contents.rows.len())?)
+    fn candidates(&mut self, sought: &Sought<'_>) -> Result<Vec<usize>, Refusal> {
+        if self.closed {
+            return Err(Refusal::Device);
+        }
+        match values_for(self.alloc, &mut self.pages, &self.contents.searches, sought) {
+            Ok(numbers) => Ok(places_of_numbers(self.alloc, &self.contents.rows, numbers)?),
+            Err(Fault::OutOfMemory) => Err(Refusal::OutOfMemory),
+            Err(_) => {
+                self.closed = true;
+                Err(Refusal::Device)
+            }
+        }
     }
 }
 
-// The place of the row of a number.
-fn place_of(rows: &[Row], number: u32) -> Option<usize>
-    requires { RowsRise 0 rows.now }
-    ensures within { IfSome result (λ place. place < length rows.now) }
-    ensures found { IfSome result (λ place. (d : Row)
-        → (slice_index_or rows.now place d).number ≡ number) }
-    ensures none { IfNone result ((place : ℕ) (d : Row) → place < length rows.now
-        → (slice_index_or rows.now place d).number ≢ number) }
+// Reads the text of the tune whose chain begins at `first`.
+fn read_text<D: Disk>(
+    alloc: Global,
+    pages: &mut Pages<D>,
+    layout: Layout,
+    first: u32,
+) -> Result<TuneText, Fault>
+    requires open { pages.old.closed ≡ false }
+    requires there { HonestAt D.honest pages.old.disk
+        → HoldsSomeText layout (stand_of pages.old) first }
+    ensures text { IfOk result (λ text. HonestAt D.honest pages.new.disk → (revision : ℕ)
+        (other : List ℕ) → HoldsText layout (stand_of pages.old) first revision other
+        → text ≡ other) }
+    ensures looks { LooksAt D.honest D.failures D.state result pages.old pages.new }
+    ensures answer { AnswersRead result pages.old.closed pages.new.closed }
 {
-    match rows.binary_search_by_key(&number, |row| row.number) {
-        Ok(place) => Some(place),
-        Err(_) => None,
-    }
+    let work = pages.begin()?;
+    read_tune(alloc, pages, &work, layout, first)
+}
+
+// The numbers of tunes at which a query is to be tried: that of each tune that it finds is among
+// them.
+fn values_for<D: Disk>(
+    alloc: Global,
+    pages: &mut Pages<D>,
+    searches: &SearchIndexes,
+    sought: &Sought<'_>,
+) -> Result<Vec<u32>, Fault>
+    requires open { pages.old.closed ≡ false }
+    requires holds { HonestAt D.honest pages.old.disk
+        → HoldsSomeTexts (stand_of pages.old) searches.now }
+    ensures finds { IfOk result (λ values. HonestAt D.honest pages.new.disk
+        → (before after : List Part) (parts : SearchParts) (tunes : List (ℕ × List ℕ))
+        → HoldsTexts (stand_of pages.old) searches.now before after parts tunes
+        → (tune : ℕ × List ℕ) → Contains tunes tune
+        → finds notes_of_incipit sought.now tune.1 ≡ true → Contains values.items tune.0) }
+    ensures looks { LooksAt D.honest D.failures D.state result pages.old pages.new }
+    ensures answer { AnswersRead result pages.old.closed pages.new.closed }
+{
+    let work = pages.begin()?;
+    searches.candidates(alloc, pages, &work, sought)
 }

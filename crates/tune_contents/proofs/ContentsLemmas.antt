@@ -1,26 +1,39 @@
 -- What the contents of an archive hold, through a change.
-use Rattle.std.proofs.Common.{◌≡◌, ℕ, false, List, [], ◌∷◌, Option, Some, None, is_some, refl, sym, ◌∙◌, ap, subst, arith}
+use Rattle.std.proofs.Common.{◌≡◌, ℕ, true, false, List, ◌∷◌, ◌++◌, Option, Some, None, is_some, refl, sym, ◌∙◌, ap, subst, arith, append_assoc}
 use Rattle.std.proofs.lemmas.List.{length-map}
+use Rattle.index_keys.specs.Entries.{Entry}
+use Rattle.tune_incipit.specs.SearchKeys.{scale_keys}
+use Rattle.tune_index.specs.Indexes.{Shape}
+use Rattle.tune_index.specs.Listed.{listed_bytes}
 use Rattle.tune_journal.specs.Pages.{page_at}
-use Rattle.tune_pages.specs.Stand.{Stand}
-use Rattle.tune_parts.proofs.PartLemmas.{are_parts}
+use Rattle.tune_pages.specs.Stand.{Stand, HasSomeChain, HasChain}
+use Rattle.tune_parts.specs.Parts.{Part, HoldsParts}
+use Rattle.tune_parts.specs.Parts.PartKind.{chain}
+use Rattle.tune_parts.proofs.PartLemmas.{are_parts, has_part}
+use Rattle.tune_search.specs.IndexParts.{HoldsIndex, IndexParts, KeepsIndex, parts_of_index}
+use Rattle.tune_search.specs.SearchPages.{AreListed, firsts_in}
+use Rattle.tune_search.specs.Searches.{HoldsKeys, SearchParts, SearchShape, incipit_keys_of_text, key_bytes, parts_of_search}
 use Rattle.tune_sets.specs.SetBytes.{written_sets}
 use Rattle.tune_sets.specs.declared.set_lists.TuneSet.{TuneSet}
 use Rattle.tune_sets.proofs.PlaceLemmas.{unheld_renumbered}
 use Rattle.tune_store.specs.declared.layout.Layout.{Layout}
 use Rattle.tune_store.specs.Plans.{CanChange, changed_sets, changed_tunes}
-use Rattle.tune_store.specs.State.{State, RisesFrom}
+use Rattle.tune_store.specs.State.{State, IsState, IsTunes}
 use Rattle.tune_store.specs.declared.tune.Tune.{Tune}
 use Rattle.tune_store.specs.declared.plans.Change.{Change}
 use Rattle.tune_store.specs.declared.plans.Change.TheVariants.{Add, Put, Take, Move, NewSet}
 use Rattle.tune_store.specs.declared.plans.Change.TheVariants.{AddPlace, CutPlace, DropSet}
-use Rattle.tune_format.specs.Written.{IsRoot, written_rows}
+use Rattle.tune_titles.specs.SearchKeys.{rhythm_keys, title_keys}
+use Rattle.tune_format.specs.Filed.{archive_parts, firsts_of, numbered_texts, rows_of}
+use Rattle.tune_format.specs.Searched.{AreSearchIndexes, IsSearchIndex}
+use Rattle.tune_format.specs.Written.{IsRoot, number_entries}
+use Rattle.tune_format.specs.declared.root.Firsts.{Firsts}
 use Rattle.tune_format.specs.declared.rows.Row.{Row}
-use Rattle.tune_contents.specs.Holds.{label_in, labels_in, HoldsContents, HoldsSomeState, LaysState}
-use Rattle.tune_contents.specs.Inside.Changes.{RowsAccept, SetsAccept, changes_tunes, changes_sets, LaysChange}
-use Rattle.tune_contents.specs.Inside.Laying.{HoldsSomeTunes, HoldsArchive, HoldsSomeArchive, LaysContents}
+use Rattle.tune_contents.specs.Holds.{label_in, labels_in, HoldsContents, HoldsSomeState, KeepsTexts, LaysState}
+use Rattle.tune_contents.specs.Inside.Changes.{RowsAccept, SetsAccept, changes_sets}
+use Rattle.tune_contents.specs.Inside.Indexed.{HoldsIndexed, HoldsSomeIndexed, Keeps, LaysIndexed, StandsAround, keeps_of}
+use Rattle.tune_contents.specs.Inside.Laying.{HoldsSets, LaysRoot, LaysSets}
 use Rattle.tune_contents.specs.declared.contents.Contents.{Contents}
-use Rattle.tune_contents.proofs.ArchiveLemmas.{with_tunes}
 
 -- WHAT A CHANGE ASKS
 pub rows_accept : (layout : Layout) (change : Change) (rows : List Row) (sets : List TuneSet) → CanChange change layout (labels_in rows) sets
@@ -60,75 +73,181 @@ sets_stay (AddPlace name number) sets h = cc
 sets_stay (CutPlace name place) sets h = cc
 sets_stay (DropSet name) sets h = cc
 
--- THE PARTS OF CONTENTS
-abbrev archive_of : (s : Stand) (c : Contents) (state : State) → HoldsContents s c state
-    → HoldsArchive s c.list_first c.sets_first c.rows.items c.sets state.tunes c.rows.items
-archive_of s c state h = record {
-  list = h.filed.list;
-  set_lists = h.filed.set_lists;
-  holds = record { texts = h.filed.texts; holds = h.holds; are_tunes = h.filed.are_tunes; listed = h.listed };
-  list_is_chain = h.filed.list_is_chain;
-  sets_are_chain = h.filed.sets_are_chain;
-  is_list = sym h.list;
-  is_sets = sym h.set_lists;
-  list_bytes = h.filed.listed ∙ ap (λ (r : List Row). written_rows r) (sym h.listed);
-  sets_bytes = h.filed.are_sets ∙ ap (λ (l : List TuneSet). written_sets l) (sym h.sets);
+-- INDEXES
+-- where its list names the leaves, memory has an index as it stands
+index_held : (shape : Shape) (parts : IndexParts) (entries : List Entry) → shape.listed ≡ true → KeepsIndex key_bytes shape parts entries
+    → HoldsIndex key_bytes parts entries
+index_held shape parts entries listed k = record {
+  is_chain = k.is_chain;
+  leaves = k.leaves;
+  listed = k.listed listed ∙ ap listed_bytes k.pages;
+  hold = k.hold;
+  rising = k.rising;
 }
 
-contents_of : (s : Stand) (c : Contents) (layout : Layout) (tunes : List Tune) (sets : List TuneSet) → c.layout ≡ layout → c.sets ≡ sets
-    → HoldsArchive s c.list_first c.sets_first c.rows.items c.sets tunes c.rows.items → IsRoot (page_at s.pages 0) c.list_first c.sets_first
-    → HoldsContents s c (record { layout = layout; tunes = tunes; sets = sets })
-contents_of s c layout tunes sets known same a root = record {
-  layout = known;
-  filed = record {
-    list = a.list;
-    set_lists = a.set_lists;
-    texts = a.holds.texts;
-    parts = are_parts s (a.list ∷ a.set_lists ∷ a.holds.texts) a.holds.holds;
-    list_is_chain = a.list_is_chain;
-    sets_are_chain = a.sets_are_chain;
-    root = subst (λ (n : ℕ). IsRoot (page_at s.pages 0) n a.set_lists.first) (sym a.is_list)
-        (subst (λ (n : ℕ). IsRoot (page_at s.pages 0) c.list_first n) (sym a.is_sets) root);
-    listed = a.list_bytes ∙ ap (λ (r : List Row). written_rows r) a.holds.listed;
-    are_sets = a.sets_bytes ∙ ap (λ (l : List TuneSet). written_sets l) same;
-    are_tunes = a.holds.are_tunes;
-  };
-  holds = a.holds.holds;
-  listed = a.holds.listed;
-  sets = same;
-  list = sym a.is_list;
-  set_lists = sym a.is_sets;
+search_held : (keys_of : List ℕ → List ℕ) (tunes : List (ℕ × List ℕ)) (shape : Shape) (parts : IndexParts) → shape.listed ≡ true
+    → HoldsKeys keys_of tunes shape parts → IsSearchIndex keys_of tunes parts
+search_held keys_of tunes shape parts listed h =
+    record { entries = h.entries; holds = index_held shape parts h.entries listed h.keeps; exact = h.exact }
+
+searches_held : (shape : SearchShape) (parts : SearchParts) (tunes : List (ℕ × List ℕ)) → AreListed shape → KeepsTexts shape parts tunes
+    → AreSearchIndexes tunes parts
+searches_held shape parts tunes listed k = record {
+  titles = search_held title_keys tunes shape.titles parts.titles listed.titles k.titles;
+  rhythms = search_held rhythm_keys tunes shape.rhythms parts.rhythms listed.rhythms k.rhythms;
+  scales = search_held scale_keys tunes shape.scales parts.scales listed.scales k.scales;
+  incipits = search_held incipit_keys_of_text tunes shape.incipits parts.incipits listed.incipits k.incipits;
 }
+
+-- THE PARTS OF CONTENTS
+abbrev pub keeps_in : Contents → Keeps
+keeps_in c = keeps_of c.numbers c.searches c.rows.items
+
+abbrev around_of : (s : Stand) (c : Contents) (state : State) → (h : HoldsContents s c state) → StandsAround s (keeps_in c) state.tunes h.filed.set_lists
+around_of s c state h = record {
+  numbers = h.filed.numbers;
+  searches = h.filed.searches;
+  texts = h.filed.texts;
+  holds = h.holds;
+  keeps_numbers = h.numbers;
+  keeps_searches = h.searches;
+  are_tunes = h.filed.are_tunes;
+  listed = h.listed;
+}
+
+within_of : (s : Stand) (c : Contents) (state : State) → HoldsContents s c state → IsTunes state.layout state.tunes → IsTunes c.layout state.tunes
+within_of s c state h is = subst (λ (layout : Layout). IsTunes layout state.tunes) (sym h.layout) is
+
+-- the tunes of the contents, and their indexes
+pub indexed_of : (s : Stand) (c : Contents) (state : State) → IsState state → HoldsContents s c state → HoldsIndexed c.layout s (keeps_in c) state.tunes
+indexed_of s c state is h = record { set_lists = h.filed.set_lists; around = around_of s c state h; within = within_of s c state h is.tunes }
+
+pub some_indexed : (s : Stand) (c : Contents) → HoldsSomeState s c → HoldsSomeIndexed c.layout s (keeps_in c)
+some_indexed s c (state, is, h) = (state.tunes, indexed_of s c state is h)
+
+-- the set lists among the other parts
+abbrev before_sets : IndexParts → SearchParts → List Part
+before_sets numbers searches = parts_of_index numbers ++ parts_of_search searches
+
+sets_among : (numbers : IndexParts) (searches : SearchParts) (set_lists : Part) (texts : List Part)
+    → before_sets numbers searches ++ set_lists ∷ texts ≡ archive_parts numbers searches set_lists texts
+sets_among numbers searches set_lists texts = append_assoc (parts_of_index numbers) (parts_of_search searches) (set_lists ∷ texts)
+
+-- what memory says of where things begin and of what its lists name
+pub record SaysWhere (c : Contents) : Type 0 where
+  pub numbers : c.numbers.first ≡ c.firsts.numbers
+  pub numbers_listed : c.numbers.listed ≡ true
+  pub searches : c.firsts.searches ≡ firsts_in c.searches
+  pub searches_listed : AreListed c.searches
+
+firsts_are : (c : Contents) (numbers : IndexParts) (searches : SearchParts) (set_lists : Part) (entries : List Entry) (tunes : List (ℕ × List ℕ)) → SaysWhere c
+    → KeepsIndex key_bytes c.numbers numbers entries → KeepsTexts c.searches searches tunes → set_lists.first ≡ c.firsts.sets
+    → c.firsts ≡ firsts_of numbers searches set_lists
+firsts_are c numbers searches set_lists entries tunes says index texts sets =
+    let one : c.firsts.numbers ≡ numbers.list.first = sym says.numbers ∙ index.first in
+    let four : c.firsts.searches ≡ (firsts_of numbers searches set_lists).searches = says.searches
+    ∙ (λ i. record {
+      titles = texts.titles.keeps.first i;
+      rhythms = texts.rhythms.keeps.first i;
+      scales = texts.scales.keeps.first i;
+      incipits = texts.incipits.keeps.first i;
+    }) in
+    let last : c.firsts.sets ≡ set_lists.first = sym sets in
+    λ i. record { numbers = one i; searches = four i; sets = last i }
+
+contents_of : (s : Stand) (c : Contents) (layout : Layout) (tunes : List Tune) (sets : List TuneSet) (set_lists : Part) → c.layout ≡ layout → c.sets ≡ sets
+    → SaysWhere c → StandsAround s (keeps_in c) tunes set_lists → set_lists.kind ≡ chain → set_lists.first ≡ c.firsts.sets
+    → set_lists.bytes ≡ written_sets c.sets → IsRoot c.layout (page_at s.pages 0) c.firsts
+    → HoldsContents s c (record { layout = layout; tunes = tunes; sets = sets })
+contents_of s c layout tunes sets set_lists known same says a kind begins bytes root =
+    let firsts = firsts_are c a.numbers a.searches set_lists (number_entries (rows_of tunes a.texts)) (numbered_texts tunes) says a.keeps_numbers
+    a.keeps_searches begins in
+    record {
+      layout = known;
+      filed = record {
+        numbers = a.numbers;
+        searches = a.searches;
+        set_lists = set_lists;
+        texts = a.texts;
+        parts = are_parts s (archive_parts a.numbers a.searches set_lists a.texts) a.holds;
+        root = subst (λ (l : Layout). IsRoot l (page_at s.pages 0) (firsts_of a.numbers a.searches set_lists)) known
+            (subst (λ (f : Firsts). IsRoot c.layout (page_at s.pages 0) f) firsts root);
+        are_numbers = index_held c.numbers a.numbers (number_entries (rows_of tunes a.texts)) says.numbers_listed a.keeps_numbers;
+        are_searches = searches_held c.searches a.searches (numbered_texts tunes) says.searches_listed a.keeps_searches;
+        sets_are_chain = kind;
+        are_sets = bytes ∙ ap (λ (l : List TuneSet). written_sets l) same;
+        are_tunes = a.are_tunes;
+      };
+      holds = a.holds;
+      listed = a.listed;
+      numbers = a.keeps_numbers;
+      numbers_listed = says.numbers_listed;
+      searches = a.keeps_searches;
+      searches_listed = says.searches_listed;
+      sets = same;
+      firsts = firsts;
+    }
 
 -- THE CHANGE
--- the tunes of the contents
-pub some_tunes : (s : Stand) (c : Contents) → HoldsSomeState s c → HoldsSomeTunes s c.rows.items
-some_tunes s c (state, rises, h) =
-    let a = archive_of s c state h in (a.list ∷ a.set_lists ∷ [], state.tunes, a.holds)
+-- the tunes and the indexes are changed, and the set lists are not yet
+module _ (s mid : Stand) (c : Contents) (is : Keeps) (change : Change) (can : CanChange change c.layout (labels_in c.rows.items) c.sets)
+    (lays : LaysIndexed c.layout s mid (keeps_in c) is change) (state : State) (within : IsTunes state.layout state.tunes) (h : HoldsContents s c state) where
+  indexed_then : StandsAround mid is (changed_tunes change state.tunes) h.filed.set_lists
+  indexed_then = lays h.filed.set_lists state.tunes c.sets (within_of s c state h within) can (around_of s c state h)
 
--- the tunes are changed, and the lists are not yet
-changing : (s mid : Stand) (c : Contents) (rows : List Row) (change : Change) (state : State) → RisesFrom 0 state.tunes → HoldsContents s c state
-    → LaysChange s mid c.rows.items rows change
-    → HoldsArchive mid c.list_first c.sets_first c.rows.items c.sets (changed_tunes change state.tunes) rows
-changing s mid c rows change state rises h lays =
-    let a = archive_of s c state h in
-    with_tunes s c.list_first c.sets_first c.rows.items c.sets state.tunes c.rows.items a mid (changed_tunes change state.tunes) rows
-    (lays (a.list ∷ a.set_lists ∷ []) state.tunes rises a.holds)
+  sets_then : HoldsSets mid (before_sets indexed_then.numbers indexed_then.searches) indexed_then.texts c.firsts.sets c.sets
+  sets_then = record {
+    part = h.filed.set_lists;
+    holds = subst (HoldsParts mid) (sym (sets_among indexed_then.numbers indexed_then.searches h.filed.set_lists indexed_then.texts)) indexed_then.holds;
+    is_chain = h.filed.sets_are_chain;
+    is_first = ap (λ (f : Firsts). f.sets) (sym h.firsts);
+    bytes = h.filed.are_sets ∙ ap (λ (l : List TuneSet). written_sets l) (sym h.sets);
+  }
 
-pub some_archive : (s mid : Stand) (c : Contents) (rows : List Row) (change : Change) → HoldsSomeState s c → LaysChange s mid c.rows.items rows change
-    → (changes_tunes change ≡ false → rows ≡ c.rows.items) → HoldsSomeArchive mid c.list_first c.sets_first (changes_tunes change) rows
-some_archive s mid c rows change (state, rises, h) lays same =
-    (c.rows.items, c.sets, changed_tunes change state.tunes, (λ e. sym (same e)), changing s mid c rows change state rises h lays)
+  chain_then : HasSomeChain mid c.firsts.sets
+  unfolding sets_then
+  chain_then =
+      let part = h.filed.set_lists in (
+        part.trail,
+        part.bytes,
+        subst (λ (n : ℕ). HasChain mid n part.trail part.bytes) sets_then.is_first
+            (has_part mid part (before_sets indexed_then.numbers indexed_then.searches) indexed_then.texts h.filed.sets_are_chain
+            (subst (HoldsParts mid) (sym (sets_among indexed_then.numbers indexed_then.searches part indexed_then.texts)) indexed_then.holds)),
+      )
 
--- the tunes, and then the lists
-pub state_laid : (s mid new : Stand) (c left : Contents) (change : Change) → LaysChange s mid c.rows.items left.rows.items change
-    → (changes_tunes change ≡ false → left.rows.items ≡ c.rows.items) → left.layout ≡ c.layout → left.sets ≡ changed_sets change c.sets
-    → LaysContents mid new (c.list_first, c.sets_first) (left.list_first, left.sets_first) (changes_tunes change) (changes_sets change c.sets) left.rows.items
-    left.sets
-    → LaysState s new c left change
-state_laid s mid new c left change lays same known sets whole = λ state rises h.
-    (let tunes = changed_tunes change state.tunes in
-    let done = whole c.rows.items c.sets tunes (λ e. sym (same e)) (λ e. sym (sets ∙ sets_stay change c.sets e))
-    (changing s mid c left.rows.items change state rises h lays) in
-    contents_of new left state.layout tunes (changed_sets change state.sets) (known ∙ h.layout)
-    (sets ∙ ap (λ (l : List TuneSet). changed_sets change l) h.sets) done.0 done.1)
+  -- the set lists, and then the root
+  laid_then : (late new : Stand) (left : Contents) → is ≡ keeps_in left
+      → LaysSets mid late c.firsts.sets left.firsts.sets (changes_sets change c.sets) left.sets
+      → LaysRoot c.layout late new left.firsts → left.layout ≡ c.layout → left.sets ≡ changed_sets change c.sets → SaysWhere left
+      → HoldsContents new left (record { layout = state.layout; tunes = changed_tunes change state.tunes; sets = changed_sets change state.sets })
+  laid_then late new left same named root known sets says =
+      let before = before_sets indexed_then.numbers indexed_then.searches in
+      let now = named before indexed_then.texts c.sets (λ e. sym (sets ∙ sets_stay change c.sets e)) sets_then in
+      let holds = root.parts (before ++ now.part ∷ indexed_then.texts) now.holds in
+      let all : StandsAround new is (changed_tunes change state.tunes) now.part = record {
+        numbers = indexed_then.numbers;
+        searches = indexed_then.searches;
+        texts = indexed_then.texts;
+        holds = subst (HoldsParts new) (sets_among indexed_then.numbers indexed_then.searches now.part indexed_then.texts) holds;
+        keeps_numbers = indexed_then.keeps_numbers;
+        keeps_searches = indexed_then.keeps_searches;
+        are_tunes = indexed_then.are_tunes;
+        listed = indexed_then.listed;
+      } in
+      contents_of new left state.layout (changed_tunes change state.tunes) (changed_sets change state.sets) now.part (known ∙ h.layout)
+      (sets ∙ ap (λ (l : List TuneSet). changed_sets change l) h.sets) says
+      (subst (λ (k : Keeps). StandsAround new k (changed_tunes change state.tunes) now.part) same all) now.is_chain now.is_first now.bytes
+      (subst (λ (l : Layout). IsRoot l (page_at new.pages 0) left.firsts) (sym known) root.root)
+
+-- the set lists begin at a chain
+pub sets_there : (s mid : Stand) (c : Contents) (is : Keeps) (change : Change) → CanChange change c.layout (labels_in c.rows.items) c.sets
+    → LaysIndexed c.layout s mid (keeps_in c) is change → HoldsSomeState s c → HasSomeChain mid c.firsts.sets
+sets_there s mid c is change can lays (state, within, h) = chain_then s mid c is change can lays state within.tunes h
+
+-- all is changed
+pub state_laid : (s mid late new : Stand) (c left : Contents) (change : Change) → CanChange change c.layout (labels_in c.rows.items) c.sets
+    → LaysIndexed c.layout s mid (keeps_in c) (keeps_in left) change
+    → LaysSets mid late c.firsts.sets left.firsts.sets (changes_sets change c.sets) left.sets → LaysRoot c.layout late new left.firsts → left.layout ≡ c.layout
+    → left.sets ≡ changed_sets change c.sets → SaysWhere left → LaysState s new c left change
+state_laid s mid late new c left change can lays named root known sets says =
+    λ state within h. laid_then s mid c (keeps_in left) change can lays state within.tunes h late new left refl named root known sets says

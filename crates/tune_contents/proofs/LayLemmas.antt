@@ -1,22 +1,27 @@
 -- Tunes that a change lays on other chains.
 use Rattle.std.proofs.Common.{◌≡◌, ◌<◌, ◌+◌, ℕ, List, [], ◌∷◌, ◌++◌, length, slice_set, refl, sym, ◌∙◌, ap, subst, arith}
-use Rattle.std.proofs.Common.{append-nil, append_assoc, Result, Ok, Err, IfOk, OnOk}
+use Rattle.std.proofs.Common.{append-nil, append_assoc, Bool, true, false, nat_eq, ◌&&◌, Result, Ok, Err, IfOk, OnOk}
 use Rattle.std.specs.List.{remove}
+use Rattle.std.proofs.lemmas.Bool.Decides.{nat_tests}
 use Rattle.tune_journal.specs.Pages.{page_at}
 use Rattle.tune_pages.proofs.Putting.{placed_here}
 use Rattle.tune_pages.specs.Stand.{Stand, with_page, PutsChain, HasChain, HasSomeChain, without_pages}
 use Rattle.tune_pages.specs.declared.fault.Fault.{Fault}
 use Rattle.tune_parts.specs.Parts.{Part, HoldsParts, chain_part}
-use Rattle.tune_parts.proofs.PartLemmas.{root_parts}
+use Rattle.tune_parts.proofs.PartLemmas.{has_part, root_parts}
+use Rattle.tune_sets.specs.SetBytes.{written_sets}
+use Rattle.tune_sets.specs.declared.set_lists.TuneSet.{TuneSet}
+use Rattle.tune_store.specs.declared.layout.Layout.{Layout}
 use Rattle.tune_store.specs.declared.tune.Tune.{Tune}
 use Rattle.tune_store.specs.TuneSteps.{numbered}
 use Rattle.tune_store.proofs.StateLemmas.{numbered_next}
 use Rattle.tune_format.specs.Filed.{row_of, rows_of, HoldsTuneAt}
 use Rattle.tune_format.specs.Written.{written_tune, IsRoot}
+use Rattle.tune_format.specs.declared.root.Firsts.{Firsts}
 use Rattle.tune_format.specs.declared.rows.Row.{Row}
-use Rattle.tune_format.proofs.ChangeLemmas.{has_text, row_at_place, add_text, put_text, cut_text}
+use Rattle.tune_format.proofs.ChangeLemmas.{has_text, row_at_place, add_text, put_text, cut_text, swap_part}
 use Rattle.tune_format.proofs.TextLemmas.{one_held, text_at, texts_join, texts_put, texts_cut, rows_join, rows_count, rows_put, rows_cut}
-use Rattle.tune_contents.specs.Inside.Laying.{SwapsChain, LaysRoot, HoldsTunes, HoldsSomeTunes, LaysTunes}
+use Rattle.tune_contents.specs.Inside.Laying.{SwapsChain, LaysRoot, LaysSets, HoldsSets, HoldsTunes, HoldsSomeTunes, LaysTunes}
 
 -- a chain freed, and then another one put
 pub swaps : (s mid new : Stand) (first next : ℕ) (bytes : List ℕ) → ((trail all : List ℕ) → HasChain s first trail all → mid ≡ without_pages trail s)
@@ -107,16 +112,80 @@ lays_more a b c rows mid left first number texts text is one two = λ ahead tune
     ∙ ap (λ (l : List Tune). tunes ++ l) (numbered_next first number texts text is))
     (two ahead (tunes ++ numbered first texts) (one ahead tunes holds))
 
--- a root that is put
-pub lays_root : (s new : Stand) (image : List ℕ) (list_first sets_first : ℕ) → IsRoot image list_first sets_first → new ≡ with_page 0 image s
-    → LaysRoot s new list_first sets_first
-lays_root s new image list_first sets_first is put = record {
-  root = subst (λ (t : Stand). IsRoot (page_at t.pages 0) list_first sets_first) (sym put)
-      (subst (λ (i : List ℕ). IsRoot i list_first sets_first) (sym (placed_here 0 image s.pages (omega arith))) is);
+-- SET LISTS
+sets_swapped : (s new : Stand) (first next : ℕ) (changes : Bool) (sets : List TuneSet) → SwapsChain s new first next (written_sets sets)
+    → LaysSets s new first next changes sets
+sets_swapped s new first next changes sets swap = λ before after held same holds.
+    (let part = holds.part in
+    let has : HasChain s first part.trail part.bytes = subst (λ (n : ℕ). HasChain s n part.trail part.bytes) holds.is_first
+    (has_part s part before after holds.is_chain holds.holds) in
+    let put = swap part.trail part.bytes has in
+    record {
+      part = chain_part next put.0 (written_sets sets);
+      holds = swap_part s new part next put.0 (written_sets sets) before after holds.holds put.1;
+      is_chain = refl;
+      is_first = refl;
+      bytes = refl;
+    })
+
+pub sets_laid : (result : Result ℕ Fault) (Honest : Type 0) (s new : Stand) (first : ℕ) (changes : Bool) (sets : List TuneSet)
+    → IfOk result (λ next. Honest → SwapsChain s new first next (written_sets sets)) → IfOk result (λ next. Honest → LaysSets s new first next changes sets)
+sets_laid (Ok next) Honest s new first changes sets swaps = λ h. sets_swapped s new first next changes sets (swaps h)
+sets_laid (Err fault) Honest s new first changes sets swaps = tt
+
+pub sets_stay : (s : Stand) (first : ℕ) (changes : Bool) (sets : List TuneSet) → changes ≡ false → LaysSets s s first first changes sets
+sets_stay s first changes sets none = λ before after held same holds. subst (HoldsSets s before after first) (same none) holds
+
+-- THE ROOT
+-- one that is put
+lays_root : (layout : Layout) (s new : Stand) (image : List ℕ) (firsts : Firsts) → IsRoot layout image firsts → new ≡ with_page 0 image s
+    → LaysRoot layout s new firsts
+lays_root layout s new image firsts is put = record {
+  root = subst (λ (t : Stand). IsRoot layout (page_at t.pages 0) firsts) (sym put)
+      (subst (λ (i : List ℕ). IsRoot layout i firsts) (sym (placed_here 0 image s.pages (omega arith))) is);
   parts = λ parts holds. subst (λ (t : Stand). HoldsParts t parts) (sym put) (root_parts s image parts holds).0;
 }
 
-pub lays_root_where : {T : Type 0} (result : Result T Fault) (s new : Stand) (image : List ℕ) (list_first sets_first : ℕ) → IsRoot image list_first sets_first
-    → OnOk result (new ≡ with_page 0 image s) → OnOk result (LaysRoot s new list_first sets_first)
-lays_root_where (Ok x) s new image list_first sets_first is put = lays_root s new image list_first sets_first is put
-lays_root_where (Err fault) s new image list_first sets_first is put = tt
+pub root_laid : {T : Type 0} (result : Result T Fault) (layout : Layout) (Honest : Type 0) (s mid new : Stand) (image : List ℕ) (firsts : Firsts)
+    → IsRoot layout image firsts → (Honest → mid ≡ s) → OnOk result (new ≡ with_page 0 image mid) → OnOk result (Honest → LaysRoot layout s new firsts)
+root_laid (Ok x) layout Honest s mid new image firsts is same put = λ h.
+    lays_root layout s new image firsts is (put ∙ ap (with_page 0 image) (same h))
+root_laid (Err fault) layout Honest s mid new image firsts is same put = tt
+
+-- one that says so already
+pub root_stays : (layout : Layout) (s new : Stand) (firsts : Firsts) → IsRoot layout (page_at s.pages 0) firsts → new ≡ s → LaysRoot layout s new firsts
+root_stays layout s new firsts is same = record {
+  root = subst (λ (t : Stand). IsRoot layout (page_at t.pages 0) firsts) (sym same) is;
+  parts = λ parts holds. subst (λ (t : Stand). HoldsParts t parts) (sym same) holds;
+}
+
+-- what a test of equality says
+both : (a b : Bool) → a && b ≡ true → (a ≡ true) × (b ≡ true)
+both true b t = (refl, t)
+both false b t = cc
+
+same_number : (n m : ℕ) → nat_eq n m ≡ true → n ≡ m
+same_number n m t = grind (arith, nat_tests)
+
+pub same_firsts : (one other : Firsts) (test : Bool)
+    → test ≡ (nat_eq one.numbers other.numbers && ((nat_eq one.searches.titles other.searches.titles && (nat_eq one.searches.rhythms other.searches.rhythms
+    && (nat_eq one.searches.scales other.searches.scales && nat_eq one.searches.incipits other.searches.incipits))) && nat_eq one.sets other.sets))
+    → test ≡ true → one ≡ other
+same_firsts one other test is t =
+    let all = both (nat_eq one.numbers other.numbers) _ (sym is ∙ t) in
+    let rest = both (nat_eq one.searches.titles other.searches.titles && (nat_eq one.searches.rhythms other.searches.rhythms
+    && (nat_eq one.searches.scales other.searches.scales && nat_eq one.searches.incipits other.searches.incipits))) (nat_eq one.sets other.sets) all.1 in
+    let first = both (nat_eq one.searches.titles other.searches.titles) _ rest.0 in
+    let second = both (nat_eq one.searches.rhythms other.searches.rhythms) _ first.1 in
+    let third = both (nat_eq one.searches.scales other.searches.scales) (nat_eq one.searches.incipits other.searches.incipits) second.1 in
+    let numbers = same_number one.numbers other.numbers all.0 in
+    let titles = same_number one.searches.titles other.searches.titles first.0 in
+    let rhythms = same_number one.searches.rhythms other.searches.rhythms second.0 in
+    let scales = same_number one.searches.scales other.searches.scales third.0 in
+    let incipits = same_number one.searches.incipits other.searches.incipits third.1 in
+    let sets = same_number one.sets other.sets rest.1 in
+    λ i. record {
+      numbers = numbers i;
+      searches = record { titles = titles i; rhythms = rhythms i; scales = scales i; incipits = incipits i };
+      sets = sets i;
+    }

@@ -1,9 +1,9 @@
 -- Rows by rising number, which stay so through a change.
 use Rattle.std.proofs.Common.{◌≡◌, ℕ, zero, suc, ◌+◌, ◌<◌, ◌≤◌, List, [], ◌∷◌, ◌++◌, length, get_or, slice_set, refl, ap, sym, ◌∙◌, subst, arith}
-use Rattle.std.proofs.Common.{append_assoc, length-append}
+use Rattle.std.proofs.Common.{append-nil, append_assoc, length-append}
 use Rattle.std.specs.List.{AllByRecursion, AllWithin, Contains, insert, remove, range_with_len}
 use Rattle.std.proofs.Math.ListN.{get_or-map}
-use Rattle.std.proofs.lemmas.List.{length-map, set-get_or}
+use Rattle.std.proofs.lemmas.List.{length-map, map-append, map-set, set-get_or}
 use Rattle.std.proofs.lemmas.List.Edits.{length-insert, length-remove}
 use Rattle.std.proofs.lemmas.List.FromFn.{length-range_with_len}
 use Rattle.tune_store.specs.declared.layout.Layout.{Layout}
@@ -13,6 +13,7 @@ use Rattle.tune_store.specs.declared.catalog.Label.{Label}
 use Rattle.tune_format.specs.declared.rows.Row.{Row}
 use Rattle.tune_contents.specs.Claimed.{AreRows, RowsRise}
 use Rattle.tune_contents.specs.Holds.{label_in, labels_in}
+use Rattle.tune_contents.specs.Inside.Numbers.{AddsRow, AddsRows, PutsRow}
 use Rattle.tune_contents.specs.Inside.Rows.{IsRowAfter, numbers_in}
 
 -- NUMBERS
@@ -109,12 +110,34 @@ range_next first (suc count) =
     let e : first + 1 + count ≡ first + suc count = omega arith in
     ap (λ numbers. first ∷ numbers) (range_next (first + 1) count ∙ ap (λ n. range_with_len (first + 1) count ++ n ∷ []) e)
 
-pub numbers_next : (numbers mid left : List ℕ) (first number count next : ℕ) → number ≡ first + count → next ≡ count + 1
+numbers_next : (numbers mid left : List ℕ) (first number count next : ℕ) → number ≡ first + count → next ≡ count + 1
     → mid ≡ numbers ++ range_with_len first count → left ≡ mid ++ number ∷ [] → left ≡ numbers ++ range_with_len first next
 numbers_next numbers mid left first number count next is more so_far added =
     let e : next ≡ suc count = omega arith in
     added ∙ (λ i. so_far i ++ is i ∷ []) ∙ append_assoc numbers (range_with_len first count) ((first + count) ∷ [])
     ∙ ap (λ all. numbers ++ all) (sym (range_next first count)) ∙ ap (λ n. numbers ++ range_with_len first n) (sym e)
+
+-- so many rows of numbers one after another, and one row more
+pub adds_none : (rows : List Row) (first : ℕ) → AddsRows first 0 rows rows
+adds_none rows first = ([], sym (append-nil rows), refl)
+
+pub adds_next : (rows mid left : List Row) (first number count next : ℕ) → number ≡ first + count → next ≡ count + 1 → AddsRows first count rows mid
+    → AddsRow number mid left → AddsRows first next rows left
+adds_next rows mid left first number count next is more (others, so_far, named) (row, added, its) = (
+  others ++ row ∷ [],
+  added ∙ ap (λ l. l ++ row ∷ []) so_far ∙ append_assoc rows others (row ∷ []),
+  numbers_next [] (numbers_in others) (numbers_in (others ++ row ∷ [])) first number count next is more named
+      (map-append (λ (r : Row). r.number) others (row ∷ []) ∙ ap (λ n. numbers_in others ++ n ∷ []) its),
+)
+
+-- the numbers of rows with others behind them, and with one in the place of another
+pub numbers_added : (rows left : List Row) (first count : ℕ) → AddsRows first count rows left → numbers_in left ≡ numbers_in rows ++ range_with_len first count
+numbers_added rows left first count (more, added, named) =
+    ap numbers_in added ∙ map-append (λ (r : Row). r.number) rows more ∙ ap (λ l. numbers_in rows ++ l) named
+
+pub numbers_put : (rows left : List Row) (place number : ℕ) → PutsRow place number rows left → numbers_in left ≡ slice_set (numbers_in rows) place number
+numbers_put rows left place number (row, l, put, its) =
+    ap numbers_in put ∙ map-set (λ (r : Row). r.number) rows place row ∙ ap (slice_set (numbers_in rows) place) its
 
 -- their numbers are above all others
 pub rows_added : {layout : Layout} → (rows left : List Row) (first count : ℕ) → length (labels_in rows) + count ≤ most_tunes layout

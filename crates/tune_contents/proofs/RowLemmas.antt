@@ -45,6 +45,14 @@ ordered low (row ∷ rows) zero (suc j) d rises h l = let later = above row.numb
 ordered low (row ∷ rows) (suc i) zero d rises h l = absurd (omega arith)
 ordered low (row ∷ rows) (suc i) (suc j) d rises h l = ordered row.number rows i j d rises.1 (omega arith) (omega arith)
 
+-- rows with one number stand at one place
+pub same_place : (rows : List Row) (i j : ℕ) (d : Row) → RowsRise 0 rows → i < length rows → j < length rows
+    → (get_or rows i d).number ≡ (get_or rows j d).number → i ≡ j
+same_place rows i j d rises l m same = elim (cases_lt i j) [
+  | inl below ↦ let less = strictly 0 rows i j d rises below m in absurd (omega arith)
+  | inr from ↦ elim (cases_lt j i) [ inl above ↦ let less = strictly 0 rows j i d rises above l in absurd (omega arith) | inr back ↦ omega arith ]
+]
+
 -- SEARCH
 -- behind the row of a number
 pub row_behind : (number : ℕ) (rows : List Row) (place : ℕ) → RowsRise 0 rows → place < length rows → ((e : Row) → (get_or rows place e).number ≡ number)

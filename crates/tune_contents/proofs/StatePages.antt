@@ -1,5 +1,6 @@
 -- How many pages a state uses.
 use Rattle.std.proofs.Common.{◌≡◌, ℕ, zero, suc, ◌+◌, ◌*◌, ◌≤◌, List, [], ◌∷◌, ◌++◌, length, map, replicate, true, false, refl, ◌∙◌, ap, arith}
+use Rattle.std.proofs.lemmas.List.{length-map}
 use Rattle.std.proofs.Common.{length-append, fold}
 use Rattle.std.specs.Int.{bytes_high_first}
 use Rattle.std.specs.List.{AllByRecursion}
@@ -10,9 +11,20 @@ use Rattle.tune_pages.specs.Stand.{Stand}
 use Rattle.tune_pages.proofs.Counting.{worth, marked_less}
 use Rattle.tune_pages.proofs.FreePages.{AreSized, chain_count}
 use Rattle.std.proofs.lemmas.Bool.Decides.{nat_tests}
+use Rattle.abc_fields.specs.Limits.{most_titles}
+use Rattle.index_keys.specs.Entries.{Entry}
+use Rattle.tune_index.specs.Indexes.{Shape}
+use Rattle.tune_index.proofs.Storing.{length-listed}
 use Rattle.tune_parts.specs.Parts.{Part, IsPart, trails, root_and_trails, HoldsParts}
 use Rattle.tune_parts.specs.Parts.PartKind.{chain}
+use Rattle.tune_parts.proofs.Lists.{all_left, all_right}
 use Rattle.tune_parts.proofs.PartLemmas.{its_chain}
+use Rattle.tune_parts.proofs.Staying.{trails_join}
+use Rattle.tune_search.specs.IndexParts.{IndexParts, KeepsIndex, parts_of_index}
+use Rattle.tune_search.specs.SearchPages.{AreListed, HasFewLeaves}
+use Rattle.tune_search.specs.Searches.{SearchParts, SearchShape, key_bytes, parts_of_search}
+use Rattle.tune_search.proofs.AmongLemmas.{leaves_on_pages}
+use Rattle.tune_search.proofs.FewEntries.{few_among, few_for_texts}
 use Rattle.tune_sets.specs.Names.{is_good_name}
 use Rattle.tune_format.proofs.TextLemmas.{rows_count}
 use Rattle.tune_sets.specs.SetBytes.{written_sets, written_set, written_numbers}
@@ -23,14 +35,15 @@ use Rattle.tune_store.specs.Limits.{longest_text, most_tunes}
 use Rattle.tune_store.specs.State.{State, IsTune, IsState}
 use Rattle.tune_store.specs.declared.layout.Layout.{Layout}
 use Rattle.tune_store.specs.declared.tune.Tune.{Tune}
-use Rattle.tune_format.specs.Filed.{AreChains, rows_of}
-use Rattle.tune_format.specs.Layout.{revision_bytes, row_bytes}
-use Rattle.tune_format.specs.Written.{written_tune, written_rows}
-use Rattle.tune_format.specs.declared.rows.Row.{Row}
-use Rattle.tune_contents.specs.Holds.{HoldsContents}
-use Rattle.tune_contents.specs.Most.{most_tune_pages, most_list_pages, most_sets_pages, most_used}
+use Rattle.tune_format.specs.Filed.{AreChains, HoldTunes, archive_parts, numbered_texts, rows_of}
+use Rattle.tune_format.specs.Layout.{number_bytes, revision_bytes}
+use Rattle.tune_format.specs.Written.{number_entries, written_tune}
+use Rattle.tune_contents.specs.Holds.{HoldsContents, KeepsTexts}
+use Rattle.tune_contents.specs.Inside.Indexed.{index_pages}
+use Rattle.tune_contents.specs.Inside.Searching.{search_pages}
+use Rattle.tune_contents.specs.Most.{most_tune_pages, most_number_pages, most_search_pages, most_sets_pages, most_used}
 use Rattle.tune_contents.specs.declared.contents.Contents.{Contents}
-use Rattle.tune_contents.specs.Takes.{tune_pages, list_pages, sets_pages}
+use Rattle.tune_contents.specs.Inside.Takes.{tune_pages, sets_pages}
 
 -- the pages of chains of these bytes
 abbrev chain_pages : List (List ℕ) → ℕ
@@ -55,22 +68,23 @@ trails_count pages (part ∷ parts) sized kinds are =
     let more = trails_count pages parts sized kinds.1 are.1 in
     omega (arith, here, more, length-append part.trail (trails parts))
 
--- What chains use, and the root, and what is free are all pages up to the limit.
-parts_count : (s : Stand) (parts : List Part) → AreSized s.pages → AreChains parts → HoldsParts s parts
-    → free_pages s.used + (chain_pages (bytes_of parts) + 1) ≡ length s.used
-parts_count s parts sized kinds holds =
+-- What parts use, and the root, and what is free are all pages up to the limit.
+parts_count : (s : Stand) (parts : List Part) → HoldsParts s parts → free_pages s.used + (length (trails parts) + 1) ≡ length s.used
+parts_count s parts holds =
     let less = marked_less (root_and_trails parts) (replicate (length s.used) false) holds.apart in
     let same : free_pages s.used ≡ _ = ap free_pages holds.used in
     let none = none_used (length s.used) in
-    let count = trails_count s.pages parts sized kinds holds.stand in
-    omega (arith, less, same, none, count)
+    omega (arith, less, same, none)
+
+trails_more : (before after : List Part) → length (trails (before ++ after)) ≡ length (trails before) + length (trails after)
+trails_more before after = ap (λ (l : List ℕ). length l) (trails_join before after) ∙ length-append (trails before) (trails after)
 
 -- TUNES
 at_most : (n k : ℕ) → n ≤ piece_room * k → pages_for n ≤ k
 at_most n k le = let ceil = div_ceil_times n piece_room (omega arith) in omega (arith, le, ceil.0, ceil.1)
 
 -- more bytes have no fewer pages
-pages_mono : (n m : ℕ) → n ≤ m → pages_for n ≤ pages_for m
+pub pages_mono : (n m : ℕ) → n ≤ m → pages_for n ≤ pages_for m
 pages_mono n m le = let ceil = div_ceil_times m piece_room (omega arith) in at_most n (pages_for m) (omega (arith, le, ceil.0, ceil.1))
 
 pub text_count : (layout : Layout) (text : List ℕ) → length text ≤ longest_text layout → tune_pages text ≤ most_tune_pages layout
@@ -114,13 +128,52 @@ sets_size (set ∷ sets) are =
 pub sets_count : (sets : List TuneSet) → AreSetLists sets → sets_pages sets ≤ most_sets_pages
 sets_count sets are = at_most (length (written_sets sets)) most_sets_pages (omega (arith, sets_size sets are.each, are.count))
 
--- THE LIST
-list_size : (rows : List Row) → length (written_rows rows) ≡ row_bytes * length rows
-list_size [] = refl
-list_size (row ∷ rows) = let more = list_size rows in omega (arith, more)
+-- INDEXES
+-- an index of at most so many leaves has a page for each, and its list
+index_count : (s : Stand) (shape : Shape) (parts : IndexParts) (entries : List Entry) (most : ℕ) → AreSized s.pages
+    → AllByRecursion (IsPart s.pages) (parts_of_index parts) → KeepsIndex key_bytes shape parts entries → shape.listed ≡ true → length shape.pages ≤ most
+    → length (trails (parts_of_index parts)) ≤ most + pages_for (number_bytes * most)
+index_count s shape parts entries most sized stand keeps listed few =
+    let its = chain_count s.pages parts.list.first parts.list.trail parts.list.bytes sized (its_chain s.pages parts.list keeps.is_chain stand.0) in
+    let size : length parts.list.bytes ≡ 4 * length shape.pages =
+    ap (λ (l : List ℕ). length l) (keeps.listed listed) ∙ length-listed shape.pages in
+    let list = pages_mono (length parts.list.bytes) (number_bytes * most) (omega (arith, size, few)) in
+    let alone = ap (λ (l : List ℕ). length l) ((leaves_on_pages key_bytes s parts.leaves keeps.leaves stand.1).alone) in
+    let same = ap (λ (l : List ℕ). length l) keeps.pages in
+    omega (arith, its, list, alone, same, few, length-append parts.list.trail (trails parts.leaves))
 
-pub list_count : (layout : Layout) (rows : List Row) → length rows ≤ most_tunes layout → list_pages rows ≤ most_list_pages layout
-list_count layout rows few = pages_mono (length (written_rows rows)) (row_bytes * most_tunes layout) (omega (arith, few, list_size rows))
+-- so have the four, of so many tunes
+search_count : (s : Stand) (shape : SearchShape) (parts : SearchParts) (tunes : List (ℕ × List ℕ)) → AreSized s.pages
+    → AllByRecursion (IsPart s.pages) (parts_of_search parts) → KeepsTexts shape parts tunes → AreListed shape → HasFewLeaves shape tunes
+    → length (trails (parts_of_search parts)) ≤ search_pages (length tunes)
+search_count s shape parts tunes sized stand keeps listed few =
+    let t = parts_of_index parts.titles in
+    let r = parts_of_index parts.rhythms in
+    let c = parts_of_index parts.scales in
+    let i = parts_of_index parts.incipits in
+    let behind = all_right (IsPart s.pages) t (r ++ (c ++ i)) stand in
+    let later = all_right (IsPart s.pages) r (c ++ i) behind in
+    let titles = index_count s shape.titles parts.titles keeps.titles.entries (most_titles * length tunes) sized
+    (all_left (IsPart s.pages) t (r ++ (c ++ i)) stand) keeps.titles.keeps listed.titles few.titles in
+    let rhythms = index_count s shape.rhythms parts.rhythms keeps.rhythms.entries (length tunes) sized
+    (all_left (IsPart s.pages) r (c ++ i) behind) keeps.rhythms.keeps listed.rhythms few.rhythms in
+    let scales = index_count s shape.scales parts.scales keeps.scales.entries (length tunes) sized
+    (all_left (IsPart s.pages) c i later) keeps.scales.keeps listed.scales few.scales in
+    let incipits = index_count s shape.incipits parts.incipits keeps.incipits.entries (length tunes) sized
+    (all_right (IsPart s.pages) c i later) keeps.incipits.keeps listed.incipits few.incipits in
+    omega (arith, titles, rhythms, scales, incipits, trails_more t (r ++ (c ++ i)), trails_more r (c ++ i), trails_more c i)
+
+-- more tunes have no fewer pages of indexes
+pub numbers_most : (layout : Layout) (count : ℕ) → count ≤ most_tunes layout → index_pages count ≤ most_number_pages layout
+numbers_most layout count few =
+    let list = pages_mono (number_bytes * count) (number_bytes * (1 * most_tunes layout)) (omega (arith, few)) in
+    omega (arith, few, list)
+
+pub searches_most : (layout : Layout) (count : ℕ) → count ≤ most_tunes layout → search_pages count ≤ most_search_pages layout
+searches_most layout count few =
+    let titles = pages_mono (number_bytes * (most_titles * count)) (number_bytes * (most_titles * most_tunes layout)) (omega (arith, few)) in
+    let list = pages_mono (number_bytes * count) (number_bytes * (1 * most_tunes layout)) (omega (arith, few)) in
+    omega (arith, few, titles, list)
 
 -- CHAINS
 -- none that holds a part of a state has more pages
@@ -135,26 +188,71 @@ module _ (pages : List (List ℕ)) (sized : AreSized pages) (part : Part) (kind 
       let same : pages_for (length (written_tune tune)) ≡ tune_pages tune.text = ap pages_for size in
       omega (arith, trail_count (written_tune tune) holds, same, text_count layout tune.text fits)
 
-  pub list_few : (rows : List Row) → part.bytes ≡ written_rows rows → length rows ≤ most_tunes layout → length part.trail ≤ most_list_pages layout
-  list_few rows holds few = omega (arith, trail_count (written_rows rows) holds, list_count layout rows few)
-
   pub sets_few : (sets : List TuneSet) → part.bytes ≡ written_sets sets → AreSetLists sets → length part.trail ≤ most_sets_pages
   sets_few sets holds are = omega (arith, trail_count (written_sets sets) holds, sets_count sets are)
 
 -- ALL
--- the root, and the chains of a state within the limits
+-- the texts of a state, and its set lists
+texts_count : (s : Stand) (layout : Layout) (texts : List Part) (tunes : List Tune) → AreSized s.pages → AllByRecursion (IsPart s.pages) texts
+    → HoldTunes texts tunes → AllByRecursion (IsTune layout) tunes → length tunes ≤ most_tunes layout
+    → length (trails texts) ≤ most_tunes layout * most_tune_pages layout
+texts_count s layout texts tunes sized stand are each few =
+    let all = times_count _ (length tunes) _ _ (tunes_count layout tunes each) few in
+    let trails = trails_count s.pages texts sized are.are_chains stand in
+    let same : chain_pages (bytes_of texts) ≡ chain_pages (map written_tune tunes) = ap chain_pages are.hold in
+    omega (arith, all, trails, same)
+
+-- all of it
+state_sum : (s : Stand) (numbers : IndexParts) (searches : SearchParts) (set_lists : Part) (texts : List Part) (layout : Layout)
+    → free_pages s.used + (length (trails (archive_parts numbers searches set_lists texts)) + 1) ≡ length s.used
+    → length (trails (parts_of_index numbers)) ≤ most_number_pages layout → length (trails (parts_of_search searches)) ≤ most_search_pages layout
+    → length set_lists.trail ≤ most_sets_pages → length (trails texts) ≤ most_tunes layout * most_tune_pages layout
+    → length s.used ≤ free_pages s.used + most_used layout
+state_sum s numbers searches set_lists texts layout all few_numbers few_searches few_sets few_texts =
+    omega (
+      arith,
+      all,
+      few_numbers,
+      few_searches,
+      few_sets,
+      few_texts,
+      trails_more (parts_of_index numbers) (parts_of_search searches ++ set_lists ∷ texts),
+      trails_more (parts_of_search searches) (set_lists ∷ texts),
+      length-append set_lists.trail (trails texts),
+    )
+
+-- the root, and the chains and leaves of a state within the limits
 pub state_count : (s : Stand) (contents : Contents) (state : State) → HoldsContents s contents state → IsState state → AreSized s.pages
     → length s.used ≤ free_pages s.used + most_used state.layout
 state_count s contents state holds within sized =
     let filed = holds.filed in
-    let all = parts_count s (filed.list ∷ filed.set_lists ∷ filed.texts) sized
-    (filed.list_is_chain, (filed.sets_are_chain, filed.are_tunes.are_chains)) holds.holds in
+    let n = parts_of_index filed.numbers in
+    let q = parts_of_search filed.searches in
+    let behind = filed.set_lists ∷ filed.texts in
+    let stand = holds.holds.stand in
+    let after_numbers = all_right (IsPart s.pages) n (q ++ behind) stand in
+    let after_searches = all_right (IsPart s.pages) q behind after_numbers in
     let rows = rows_of state.tunes filed.texts in
-    let count = rows_count state.tunes filed.texts filed.are_tunes in
-    let list = list_count state.layout rows (omega (arith, count, within.tunes.count)) in
-    let listed : pages_for (length filed.list.bytes) ≡ list_pages rows = ap (λ (l : List ℕ). pages_for (length l)) filed.listed in
-    let sets = sets_count state.sets within.sets in
-    let are_sets : pages_for (length filed.set_lists.bytes) ≡ sets_pages state.sets = ap (λ (l : List ℕ). pages_for (length l)) filed.are_sets in
-    let tunes = times_count _ (length state.tunes) _ _ (tunes_count state.layout state.tunes within.tunes.each) within.tunes.count in
-    let are_tunes : chain_pages (bytes_of filed.texts) ≡ chain_pages (map written_tune state.tunes) = ap chain_pages filed.are_tunes.hold in
-    omega (arith, all, list, listed, sets, are_sets, tunes, are_tunes, within.tunes.count)
+    let many : length (number_entries rows) ≡ length state.tunes = length-map rows _ ∙ rows_count state.tunes filed.texts filed.are_tunes in
+    let few_numbers = few_among key_bytes s contents.numbers [] (q ++ behind) filed.numbers (number_entries rows)
+    (record { holds = holds.holds; keeps = holds.numbers }) in
+    let numbers = index_count s contents.numbers filed.numbers (number_entries rows) (length state.tunes) sized
+    (all_left (IsPart s.pages) n (q ++ behind) stand) holds.numbers holds.numbers_listed (omega (arith, few_numbers, many)) in
+    let few_texts = few_for_texts s contents.searches n behind filed.searches (numbered_texts state.tunes)
+    (record {
+      holds = holds.holds;
+      titles = holds.searches.titles;
+      rhythms = holds.searches.rhythms;
+      scales = holds.searches.scales;
+      incipits = holds.searches.incipits;
+    }) in
+    let searches = search_count s contents.searches filed.searches (numbered_texts state.tunes) sized
+    (all_left (IsPart s.pages) q behind after_numbers) holds.searches holds.searches_listed few_texts in
+    let size : length (numbered_texts state.tunes) ≡ length state.tunes = length-map state.tunes _ in
+    let same : search_pages (length (numbered_texts state.tunes)) ≡ search_pages (length state.tunes) = ap search_pages size in
+    let sets = sets_few s.pages sized filed.set_lists filed.sets_are_chain after_searches.0 state.layout state.sets filed.are_sets within.sets in
+    let texts = texts_count s state.layout filed.texts state.tunes sized after_searches.1 filed.are_tunes within.tunes.each within.tunes.count in
+    state_sum s filed.numbers filed.searches filed.set_lists filed.texts state.layout
+    (parts_count s (archive_parts filed.numbers filed.searches filed.set_lists filed.texts) holds.holds)
+    (omega (arith, numbers, numbers_most state.layout (length state.tunes) within.tunes.count))
+    (omega (arith, searches, same, searches_most state.layout (length state.tunes) within.tunes.count)) sets texts

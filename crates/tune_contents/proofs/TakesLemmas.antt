@@ -8,7 +8,7 @@ use Rattle.tune_pages.specs.declared.fault.Fault.TheVariants.{FileFull, OutOfMem
 use Rattle.tune_pages.proofs.Counting.{marked_less}
 use Rattle.tune_pages.proofs.FreePages.{freed_more}
 use Rattle.tune_pages.specs.FreePages.{TakesAtMost}
-use Rattle.tune_contents.specs.Takes.{text_pages}
+use Rattle.tune_contents.specs.Inside.Takes.{text_pages}
 
 -- a chain takes as many pages as its bytes want
 pub put_count : (old new : Stand) (first : ℕ) (trail bytes : List ℕ) → PutsChain old new first trail bytes

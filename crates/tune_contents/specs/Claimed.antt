@@ -1,17 +1,21 @@
 -- What opening claims of an archive, and what is kept of it in memory.
-use Rattle.std.specs.Prelude.{◌≡◌, ℕ, ◌<◌, ◌≤◌, List, [], ◌∷◌, Bool, false, true, length}
-use Rattle.std.specs.Prelude.{replicate, ⊤}
+use Rattle.std.specs.Prelude.{◌≡◌, ℕ, ◌<◌, ◌≤◌, List, [], ◌∷◌, Bool, true, length, ⊤}
 use Rattle.std.specs.List.{AllByRecursion}
-use Rattle.tune_pages.specs.Stand.{marked}
-use Rattle.tune_parts.specs.Parts.{root_and_trails}
-use Rattle.tune_sets.specs.declared.set_lists.TuneSet.{TuneSet}
+use Rattle.tune_search.specs.Claiming.{ClaimsParts}
+use Rattle.tune_search.specs.IndexParts.{KeepsIndex}
+use Rattle.tune_search.specs.SearchPages.{AreListed}
+use Rattle.tune_search.specs.Searches.{key_bytes}
 use Rattle.tune_store.specs.Limits.{most_tunes, greatest_number}
 use Rattle.tune_store.specs.State.{IsState}
 use Rattle.tune_store.specs.declared.layout.Layout.{Layout}
 use Rattle.tune_store.specs.declared.layout.Layout.TheVariants.{One}
 use Rattle.tune_store.specs.declared.tune.Tune.{Tune}
-use Rattle.tune_format.specs.Filed.{Filed, rows_of}
+use Rattle.tune_format.specs.Filed.{Filed, archive_parts, firsts_of, numbered_texts}
+use Rattle.tune_format.specs.Filed.{rows_of}
+use Rattle.tune_format.specs.Written.{number_entries}
 use Rattle.tune_format.specs.declared.rows.Row.{Row}
+use Rattle.tune_contents.specs.Holds.{KeepsTexts}
+use Rattle.tune_contents.specs.declared.contents.Contents.{Contents}
 
 -- numbers rise strictly, and are above this one
 abbrev pub RowsRise : ℕ → List Row → Type 0
@@ -24,15 +28,24 @@ pub record AreRows (layout : Layout) (rows : List Row) : Type 0 where
   pub numbers : AllByRecursion (λ row. row.number ≤ greatest_number) rows
   pub few : length rows ≤ most_tunes layout
 
--- A state stands on the pages, its tunes where the rows say, and what was claimed is its own.
-pub record IsClaimed (pages : List (List ℕ)) (layout : Layout) (rows : List Row)
-    (sets : List TuneSet) (list_first sets_first : ℕ) (claimed : List Bool) : Type 0 where
-  pub first_layout : layout ≡ One
+-- A state stands on the pages, its tunes where the rows say, what memory has of its indexes is
+-- theirs, and what was claimed is its own.
+pub record IsClaimed (pages : List (List ℕ)) (contents : Contents) (claimed : List Bool)
+    : Type 0 where
+  pub first_layout : contents.layout ≡ One
   pub tunes : List Tune
-  pub filed : Filed pages tunes sets
-  pub within : IsState (record { layout = layout; tunes = tunes; sets = sets })
-  pub marks : claimed ≡ marked true (root_and_trails (filed.list ∷ filed.set_lists ∷ filed.texts))
-      (replicate (length pages) false)
-  pub listed : rows ≡ rows_of tunes filed.texts
-  pub list : list_first ≡ filed.list.first
-  pub set_lists : sets_first ≡ filed.set_lists.first
+  pub filed : Filed contents.layout pages tunes contents.sets
+  pub within : IsState (record {
+    layout = contents.layout;
+    tunes = tunes;
+    sets = contents.sets;
+  })
+  pub marks : ClaimsParts pages claimed
+      (archive_parts filed.numbers filed.searches filed.set_lists filed.texts)
+  pub listed : contents.rows.items ≡ rows_of tunes filed.texts
+  pub numbers : KeepsIndex key_bytes contents.numbers filed.numbers
+      (number_entries (rows_of tunes filed.texts))
+  pub numbers_listed : contents.numbers.listed ≡ true
+  pub searches : KeepsTexts contents.searches filed.searches (numbered_texts tunes)
+  pub searches_listed : AreListed contents.searches
+  pub firsts : contents.firsts ≡ firsts_of filed.numbers filed.searches filed.set_lists

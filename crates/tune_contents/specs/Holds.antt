@@ -1,12 +1,20 @@
 -- What an archive holds on its pages.
-use Rattle.std.specs.Prelude.{◌≡◌, List, ◌∷◌, map}
+use Rattle.std.specs.Prelude.{◌≡◌, ℕ, List, true, map}
+use Rattle.tune_incipit.specs.SearchKeys.{scale_keys}
 use Rattle.tune_pages.specs.Stand.{Stand}
 use Rattle.tune_parts.specs.Parts.{HoldsParts}
-use Rattle.tune_store.specs.State.{State, RisesFrom}
+use Rattle.tune_search.specs.IndexParts.{KeepsIndex}
+use Rattle.tune_search.specs.SearchPages.{AreListed}
+use Rattle.tune_search.specs.Searches.{HoldsKeys, SearchParts, SearchShape}
+use Rattle.tune_search.specs.Searches.{incipit_keys_of_text, key_bytes}
+use Rattle.tune_store.specs.State.{State, IsState}
 use Rattle.tune_store.specs.declared.catalog.Label.{Label}
 use Rattle.tune_store.specs.declared.plans.Change.{Change}
 use Rattle.tune_store.specs.Plans.{changed}
-use Rattle.tune_format.specs.Filed.{Filed, rows_of}
+use Rattle.tune_titles.specs.SearchKeys.{rhythm_keys, title_keys}
+use Rattle.tune_format.specs.Filed.{Filed, archive_parts, firsts_of, numbered_texts}
+use Rattle.tune_format.specs.Filed.{rows_of}
+use Rattle.tune_format.specs.Written.{number_entries}
 use Rattle.tune_format.specs.declared.rows.Row.{Row}
 use Rattle.tune_contents.specs.declared.contents.Contents.{Contents}
 
@@ -18,24 +26,36 @@ label_in row = record { number = row.number; revision = row.revision }
 abbrev pub labels_in : List Row → List Label
 labels_in rows = map label_in rows
 
+-- What memory has of the search indexes is that of these parts, with exactly the entries of these
+-- tunes.
+pub record KeepsTexts (shape : SearchShape) (parts : SearchParts) (tunes : List (ℕ × List ℕ))
+    : Type 0 where
+  pub titles : HoldsKeys title_keys tunes shape.titles parts.titles
+  pub rhythms : HoldsKeys rhythm_keys tunes shape.rhythms parts.rhythms
+  pub scales : HoldsKeys scale_keys tunes shape.scales parts.scales
+  pub incipits : HoldsKeys incipit_keys_of_text tunes shape.incipits parts.incipits
+
 -- The pages hold a state, and nothing else is in use. Its tunes stand where the rows say; its set
--- lists are those in memory, and where the lists begin is known.
+-- lists and its indexes are those in memory, and where they begin is known.
 pub record HoldsContents (s : Stand) (contents : Contents) (state : State) : Type 0 where
   pub layout : contents.layout ≡ state.layout
-  pub filed : Filed s.pages state.tunes state.sets
-  pub holds : HoldsParts s (filed.list ∷ filed.set_lists ∷ filed.texts)
+  pub filed : Filed state.layout s.pages state.tunes state.sets
+  pub holds : HoldsParts s
+      (archive_parts filed.numbers filed.searches filed.set_lists filed.texts)
   pub listed : contents.rows.items ≡ rows_of state.tunes filed.texts
+  pub numbers : KeepsIndex key_bytes contents.numbers filed.numbers
+      (number_entries (rows_of state.tunes filed.texts))
+  pub numbers_listed : contents.numbers.listed ≡ true
+  pub searches : KeepsTexts contents.searches filed.searches (numbered_texts state.tunes)
+  pub searches_listed : AreListed contents.searches
   pub sets : contents.sets ≡ state.sets
-  pub list : contents.list_first ≡ filed.list.first
-  pub set_lists : contents.sets_first ≡ filed.set_lists.first
+  pub firsts : contents.firsts ≡ firsts_of filed.numbers filed.searches filed.set_lists
 
--- they hold some state, whose tunes stand by rising number
+-- they hold some state that is within the limits
 abbrev pub HoldsSomeState : Stand → Contents → Type 0
-HoldsSomeState s contents =
-    (state : State) × RisesFrom 0 state.tunes × HoldsContents s contents state
+HoldsSomeState s contents = (state : State) × IsState state × HoldsContents s contents state
 
--- Whatever state they hold whose tunes stand by rising number, they then hold that after the
--- change.
+-- Whatever state within the limits they hold, they then hold that after the change.
 abbrev pub LaysState : Stand → Stand → Contents → Contents → Change → Type 0
-LaysState old new contents left change = (state : State) → RisesFrom 0 state.tunes
+LaysState old new contents left change = (state : State) → IsState state
     → HoldsContents old contents state → HoldsContents new left (changed change state)

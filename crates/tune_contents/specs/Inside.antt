@@ -1,5 +1,9 @@
 pub mod Changes
 pub mod Claiming
 pub mod ClaimedRows
+pub mod Indexed
 pub mod Laying
+pub mod Numbers
 pub mod Rows
+pub mod Searching
+pub mod Takes

@@ -3,4 +3,4 @@ pub mod Claimed
 pub mod Holds
 pub mod Inside
 pub mod Most
-pub mod Takes
+pub mod Texts

@@ -1,45 +1,43 @@
 // A change of an archive, laid on its pages.
-ghost use Rattle.std.specs.Prelude.{◌≡◌, ◌+◌, ◌<◌, false, IfOk, IfErr, OnOk};
-ghost use Rattle.tune_pages.specs.Faults.{free_pages};
+ghost use Rattle.std.specs.Prelude.{◌≡◌, ◌+◌, List, false, true, length, IfOk, IfErr, OnOk};
 ghost use Rattle.tune_pages.specs.FreePages.{TakesAtMost};
 ghost use Rattle.tune_pages.specs.Kept.{HonestAt};
 ghost use Rattle.tune_pages.specs.Reading.{LooksAt};
 ghost use Rattle.tune_pages.specs.Work.{stand, Fits};
-ghost use Rattle.tune_pages.specs.declared.fault.Fault.TheVariants.{OutOfMemory, FileFull};
-ghost use Rattle.tune_sets.specs.Sets.{AreSetLists};
+ghost use Rattle.tune_pages.specs.declared.fault.Fault.TheVariants.{OutOfMemory};
+ghost use Rattle.tune_search.specs.SearchPages.{AreListed, firsts_in};
 ghost use Rattle.tune_sets.specs.declared.faults.SetFault.TheVariants as set_fault;
-ghost use Rattle.tune_store.specs.Plans.{changed, changed_sets, CanChange};
+ghost use Rattle.tune_sets.specs.declared.set_lists.TuneSet.{TuneSet};
+ghost use Rattle.tune_store.specs.Plans.{changed, changed_sets, changed_tunes, CanChange};
 ghost use Rattle.tune_store.specs.State.{State, IsState};
+ghost use Rattle.tune_store.specs.declared.tune.Tune.{Tune};
 ghost use Rattle.tune_contents.specs.Answers.{AnswersLay};
 ghost use Rattle.tune_contents.specs.Claimed.{AreRows};
 ghost use Rattle.tune_contents.specs.Holds.{labels_in, HoldsContents, HoldsSomeState, LaysState};
-ghost use Rattle.tune_contents.specs.Most.{most_chain_pages, most_list_pages, most_sets_pages};
+ghost use Rattle.tune_contents.specs.Most.{most_part_pages};
 ghost use Rattle.tune_contents.specs.Inside.Changes.{RowsAccept, SetsAccept, LaysChange, KeepsRows};
-ghost use Rattle.tune_contents.specs.Inside.Changes.{changes_tunes, changes_sets};
+ghost use Rattle.tune_contents.specs.Inside.Changes.{changes_sets};
+ghost use Rattle.tune_contents.specs.Inside.Indexed.{HoldsIndexed, HoldsSomeIndexed, LaysIndexed};
+ghost use Rattle.tune_contents.specs.Inside.Indexed.{index_pages, keeps_of};
 ghost use Rattle.tune_contents.specs.Inside.Laying.{HoldsSomeTunes};
-ghost use Rattle.tune_contents.specs.Takes.{change_pages};
+ghost use Rattle.tune_contents.specs.Inside.Numbers.{ChangesRows};
+ghost use Rattle.tune_contents.specs.Inside.Searching.{search_pages};
+ghost use Rattle.tune_contents.specs.Inside.Takes.{change_pages};
 
 use crate::contents::Contents;
-use crate::laying::{add_tunes, lay_contents, put_tune, take_tune};
+use crate::laying::{add_tunes, lay_root, lay_sets_where, put_tune, take_tune};
+use crate::numbers::{change_numbers, number_runs};
 use crate::room::Room;
 use crate::rows::move_row;
+use crate::searching::{change_searches, text_runs};
 use std::alloc::Global;
-use std::mem;
 use tune_disk::Disk;
-use tune_format::Row;
+use tune_format::{Firsts, Row};
+use tune_index::Index;
 use tune_pages::{Fault, Pages, Work};
+use tune_search::{SearchFirsts, SearchIndexes};
 use tune_sets::{SetFault, SetLists};
-use tune_store::Change;
-
-// Whether a change is one of tunes.
-fn changes_tunes(change: &Change) -> bool
-    ensures { result ≡ changes_tunes change.now }
-{
-    match change {
-        Change::Add { .. } | Change::Put { .. } | Change::Take { .. } | Change::Move { .. } => true,
-        _ => false,
-    }
-}
+use tune_store::{Change, Layout};
 
 // Whether a change is one of set lists. A tune that none of them names is moved without them.
 fn changes_sets(change: &Change, sets: &SetLists) -> bool
@@ -77,47 +75,88 @@ fn lay_tunes<D: Disk>(
     pages: &mut Pages<D>,
     work: &mut Work,
     rows: &mut Vec<Row>,
-    change: Change,
+    change: &Change,
 ) -> Result<(), Fault>
     requires open { pages.old.closed ≡ false }
     requires fits { Fits pages.old work.old }
-    requires accept { RowsAccept change rows.old.items }
+    requires accept { RowsAccept change.now rows.old.items }
     requires holds { HonestAt D.honest pages.old.disk
         → HoldsSomeTunes (stand pages.old work.old) rows.old.items }
     ensures fits { OnOk result (Fits pages.new work.new) }
     ensures lays { OnOk result (HonestAt D.honest pages.new.disk → LaysChange
         (stand pages.old work.old) (stand pages.new work.new) rows.old.items rows.new.items
-        change) }
-    ensures same { changes_tunes change ≡ false → rows.new.items ≡ rows.old.items }
-    ensures rows { OnOk result (KeepsRows change rows.old.items rows.new.items) }
+        change.now) }
+    ensures changes { OnOk result (ChangesRows change.now rows.old.items rows.new.items) }
+    ensures rows { OnOk result (KeepsRows change.now rows.old.items rows.new.items) }
     ensures looks { LooksAt D.honest D.failures D.state result pages.old pages.new }
     ensures answer { AnswersLay result pages.new.closed }
-    ensures takes { HonestAt D.honest pages.new.disk → TakesAtMost (change_pages change) result
-        (stand pages.old work.old) (stand pages.new work.new) }
+    ensures takes { HonestAt D.honest pages.new.disk → TakesAtMost (change_pages change.now)
+        result (stand pages.old work.old) (stand pages.new work.new) }
 {
     match change {
-        Change::Add { first, texts } => add_tunes(alloc, pages, work, rows, first, texts),
-        Change::Put { place, tune } => put_tune(alloc, pages, work, rows, place, &tune),
-        Change::Take { place } => take_tune(pages, work, rows, place),
+        Change::Add { first, texts } => add_tunes(alloc, pages, work, rows, *first, texts),
+        Change::Put { place, tune } => put_tune(alloc, pages, work, rows, *place, tune),
+        Change::Take { place } => take_tune(pages, work, rows, *place),
         Change::Move { number, to } => {
-            move_row(rows, number, to);
+            move_row(rows, *number, *to);
             Ok(())
         }
         _ => Ok(()),
     }
 }
 
-// A copy of rows.
-fn copy_rows(room: &mut Room, rows: &[Row]) -> Result<Vec<Row>, Fault>
-    ensures rows { IfOk result (λ copy. copy.items ≡ rows.now) }
-    ensures err { IfErr result (λ fault. fault ≡ OutOfMemory) }
+// The indexes of an archive.
+#[derive(Drop)]
+struct Indexes {
+    numbers: Index<32>,
+    searches: SearchIndexes,
+}
+
+// Lays a change of tunes and that of the indexes that goes with it, and gives where the lists of
+// the indexes begin; a change of the set lists alone leaves all. `was` are the rows before it.
+fn lay_indexed<D: Disk>(
+    alloc: Global,
+    pages: &mut Pages<D>,
+    work: &mut Work,
+    layout: Layout,
+    was: &[Row],
+    rows: &mut Vec<Row>,
+    indexes: &mut Indexes,
+    change: &Change,
+) -> Result<(u32, SearchFirsts), Fault>
+    requires open { pages.old.closed ≡ false }
+    requires fits { Fits pages.old work.old }
+    requires accept { RowsAccept change.now was.now }
+    requires same { rows.old.items ≡ was.now }
+    requires holds { HonestAt D.honest pages.old.disk → HoldsSomeIndexed layout
+        (stand pages.old work.old) (keeps_of indexes.old.numbers indexes.old.searches was.now) }
+    ensures fits { OnOk result (Fits pages.new work.new) }
+    ensures lays { OnOk result (HonestAt D.honest pages.new.disk → LaysIndexed layout
+        (stand pages.old work.old) (stand pages.new work.new)
+        (keeps_of indexes.old.numbers indexes.old.searches was.now)
+        (keeps_of indexes.new.numbers indexes.new.searches rows.new.items) change.now) }
+    ensures lists { IfOk result (λ firsts. (indexes.new.numbers.first ≡ firsts.0)
+        × (indexes.new.numbers.listed ≡ true) × (firsts.1 ≡ firsts_in indexes.new.searches)
+        × AreListed indexes.new.searches) }
+    ensures rows { OnOk result (KeepsRows change.now was.now rows.new.items) }
+    ensures looks { LooksAt D.honest D.failures D.state result pages.old pages.new }
+    ensures answer { AnswersLay result pages.new.closed }
+    ensures takes { HonestAt D.honest pages.new.disk → (tunes : List Tune) (sets : List TuneSet)
+        → HoldsIndexed layout (stand pages.old work.old)
+        (keeps_of indexes.old.numbers indexes.old.searches was.now) tunes
+        → CanChange change.now layout (labels_in was.now) sets
+        → let count = length (changed_tunes change.now tunes) in
+        TakesAtMost (change_pages change.now + (index_pages count + search_pages count)) result
+        (stand pages.old work.old) (stand pages.new work.new) }
 {
-    let mut copy = mem::replace(&mut room.rows, Vec::new(room.alloc));
-    copy.clear();
-    match copy.extend_from_slice(rows) {
-        Ok(()) => Ok(copy),
-        Err(_) => Err(Fault::OutOfMemory),
-    }
+    let texts = text_runs(alloc, pages, work, layout, rows, change)?;
+    lay_tunes(alloc, pages, work, rows, change)?;
+    let Ok(entries) = number_runs(alloc, was, rows, change) else {
+        return Err(Fault::OutOfMemory);
+    };
+    let numbers = change_numbers(alloc, pages, work, &mut indexes.numbers, &entries)?;
+    let searches = change_searches(alloc, pages, work, &mut indexes.searches, &texts)?;
+    Ok((numbers, searches))
 }
 
 // The set lists after a change.
@@ -139,24 +178,23 @@ fn sets_after(sets: &SetLists, change: &Change) -> Result<SetLists, Fault>
 /// be kept in memory once the work is finished. `contents` stays as it is: where the work is
 /// dropped, or not finished, nothing was changed.
 ///
-/// Chains that go are freed before others are put, so that these may take their pages. The list of
-/// tunes and the set lists are put on other chains where they change, and the root says where both
-/// begin.
+/// Chains that go are freed before others are put, so that these may take their pages. The leaves
+/// of the indexes change that the change concerns; the lists of leaves, where leaves come or go;
+/// the set lists, where they change; and the root, where one of these begins elsewhere.
 ///
-/// - `lays`: where the pages held a state, with its tunes by rising number, they hold the state
-///   after the change.
+/// - `lays`: where the pages held a state within the limits, they hold the state after the change.
 /// - `rows`, of every disk: rows by rising number, within the limits, stay so.
 /// - `looks`: no page of the disk changes.
 /// - `fits`: the work may be changed further, or finished.
-/// - `takes`: within the limits it takes no more free pages than the chains have of the tunes that
-///   the change puts, and those of the lists at most; the file is full only where fewer are free.
-/// - `full`: where the state after the change is within the limits, that is only where fewer pages
-///   are free than the chains of a state have at most.
+/// - `takes`: where the state after the change is within the limits, it takes no more free pages
+///   than the chains and leaves of a state have at most; the file is full only where fewer are
+///   free.
 ///
 /// # Errors
 ///
-/// `FileFull`, where there is no page for a chain; `OutOfMemory`; the pages stay open. `Device`,
-/// where the device failed: the pages are closed then. A work that was refused is to be dropped.
+/// `FileFull`, where there is no page for a chain or a leaf; `OutOfMemory`; the pages stay open.
+/// `Device`, where the device failed: the pages are closed then. A work that was refused is to be
+/// dropped.
 pub fn lay<D: Disk>(
     room: &mut Room,
     pages: &mut Pages<D>,
@@ -177,30 +215,43 @@ pub fn lay<D: Disk>(
     ensures fits { OnOk result (Fits pages.new work.new) }
     ensures looks { LooksAt D.honest D.failures D.state result pages.old pages.new }
     ensures answer { AnswersLay result pages.new.closed }
-    ensures takes { HonestAt D.honest pages.new.disk
-        → AreRows contents.now.layout contents.now.rows.items
-        → AreSetLists (changed_sets change contents.now.sets) → TakesAtMost
-        (change_pages change + (most_list_pages contents.now.layout + most_sets_pages)) result
-        (stand pages.old work.old) (stand pages.new work.new) }
-    ensures full { HonestAt D.honest pages.new.disk
-        → AreRows contents.now.layout contents.now.rows.items
-        → (state : State) → HoldsContents (stand pages.old work.old) contents.now state
-        → IsState (changed change state) → IfErr result (λ fault. fault ≡ FileFull
-        → free_pages (stand pages.old work.old).used < most_chain_pages contents.now.layout) }
+    ensures takes { HonestAt D.honest pages.new.disk → (state : State)
+        → HoldsContents (stand pages.old work.old) contents.now state → IsState state
+        → IsState (changed change state) → TakesAtMost (most_part_pages contents.now.layout)
+        result (stand pages.old work.old) (stand pages.new work.new) }
 {
-    let mut rows = copy_rows(room, &contents.rows)?;
+    let mut rows = room.copy_rows(&contents.rows)?;
+    let mut indexes = Indexes {
+        numbers: room.copy_numbers(&contents.numbers)?,
+        searches: room.copy_searches(&contents.searches)?,
+    };
     let sets = sets_after(&contents.sets, &change)?;
-    let lists = changes_tunes(&change);
     let names = changes_sets(&change, &contents.sets);
-    lay_tunes(room.alloc, pages, work, &mut rows, change)?;
-    let firsts = (contents.list_first, contents.sets_first);
-    let list = &mut room.list;
-    let nexts = lay_contents(list, pages, work, firsts, &rows, &sets, lists, names)?;
+    let layout = contents.layout;
+    let was = contents.firsts;
+    let (numbers, searches) = lay_indexed(
+        room.alloc,
+        pages,
+        work,
+        layout,
+        &contents.rows,
+        &mut rows,
+        &mut indexes,
+        &change,
+    )?;
+    let sets_first = lay_sets_where(pages, work, was.sets, &sets, names)?;
+    let firsts = Firsts {
+        numbers,
+        searches,
+        sets: sets_first,
+    };
+    lay_root(pages, work, layout, was, firsts)?;
     Ok(Contents {
-        layout: contents.layout,
+        layout,
         rows,
+        numbers: indexes.numbers,
+        searches: indexes.searches,
         sets,
-        list_first: nexts.0,
-        sets_first: nexts.1,
+        firsts,
     })
 }

@@ -1,40 +1,46 @@
 // Claims what an archive has on its pages, and so finds whether a state stands there.
-ghost use Rattle.std.specs.Prelude.{◌≡◌, ℕ, ◌*◌, ◌<◌, ◌≤◌, List, [], ◌∷◌, ◌++◌, length, drop};
-ghost use Rattle.std.specs.Prelude.{IfOk, IfErr, IfSome, IfNone, IsTrue, ◌↔◌, ◌≢◌};
+ghost use Rattle.std.specs.Prelude.{◌≡◌, ◌≢◌, ◌↔◌, ℕ, ◌^◌, ◌<◌, ◌≤◌, List, length, slice_index};
+ghost use Rattle.std.specs.Prelude.{IfOk, IfErr, IfSome, IfNone, IsTrue};
+ghost use Rattle.tune_index.specs.Indexes.{Shape};
+ghost use Rattle.tune_pages.specs.Claim.{IsChainFault, LooksOpening};
+ghost use Rattle.tune_pages.specs.Opened.{only_root};
 ghost use Rattle.tune_parts.specs.Parts.{Part};
+ghost use Rattle.tune_search.specs.Claiming.{HasClaimed};
+ghost use Rattle.tune_search.specs.Claims.{AreAllKnown};
+ghost use Rattle.tune_search.specs.Loaded.{runs_in};
+ghost use Rattle.tune_search.specs.Searches.{SearchShape};
 ghost use Rattle.tune_sets.specs.Sets.{AreSetLists};
 ghost use Rattle.tune_sets.specs.SetBytes.{written_sets};
 ghost use Rattle.tune_sets.specs.declared.set_lists.TuneSet.{TuneSet};
 ghost use Rattle.tune_store.specs.Limits.{greatest_number};
 ghost use Rattle.tune_store.specs.State.{State};
 ghost use Rattle.tune_store.specs.declared.layout.Layout.TheVariants.{One};
-ghost use Rattle.tune_format.specs.Layout.{row_bytes};
 ghost use Rattle.tune_format.specs.States.{IsStateOf};
-ghost use Rattle.tune_format.specs.Written.{written_row, written_rows};
+ghost use Rattle.tune_format.specs.Written.{number_entries, row_entry};
+ghost use Rattle.tune_format.specs.declared.root.Firsts.{Firsts};
 ghost use Rattle.tune_format.specs.declared.rows.Row.{Row};
-ghost use Rattle.tune_pages.specs.Claim.{IsChainFault, LooksOpening};
-ghost use Rattle.tune_pages.specs.Opened.{only_root};
-ghost use Rattle.tune_contents.specs.Inside.Claiming.{AreBlocks, HasClaimed, ClaimsPart};
-ghost use Rattle.tune_contents.specs.Inside.Claiming.{IsPartThere};
-ghost use Rattle.tune_contents.specs.Inside.Claiming.{IsTuneChain, ClaimsTune, IsTuneThere};
-ghost use Rattle.tune_contents.specs.Inside.Claiming.{TunesClaimed, AreTunesThere};
-ghost use Rattle.tune_contents.specs.Inside.Claiming.{ClaimsLists, IsStateThere};
-ghost use Rattle.tune_contents.specs.Claimed.{IsClaimed};
-ghost use Rattle.tune_contents.specs.Inside.ClaimedRows.{RowsSoFar};
-ghost use Rattle.tune_contents.specs.Claimed.{AreRows, RowsRise};
-ghost use Rattle.tune_contents.specs.Inside.ClaimedRows.{HasNumber, NumberRows, NameRows};
+ghost use Rattle.tune_contents.specs.Claimed.{AreRows, IsClaimed, RowsRise};
+ghost use Rattle.tune_contents.specs.Inside.ClaimedRows.{AreEntriesOfRows, HasNumber, HaveFew};
+ghost use Rattle.tune_contents.specs.Inside.ClaimedRows.{NumberRows, NameRows};
+ghost use Rattle.tune_contents.specs.Inside.Claiming.{AreBlocks, AreRowsThere, AreTunesThere};
+ghost use Rattle.tune_contents.specs.Inside.Claiming.{ClaimsIndex, ListsClaimed};
+ghost use Rattle.tune_contents.specs.Inside.Claiming.{ClaimsLists, ClaimsPart, ClaimsSearch};
+ghost use Rattle.tune_contents.specs.Inside.Claiming.{ClaimsTune, IsIndexThere, IsPartThere};
+ghost use Rattle.tune_contents.specs.Inside.Claiming.{IsSearchThere, IsStateThere, IsTuneChain};
+ghost use Rattle.tune_contents.specs.Inside.Claiming.{IsTuneThere, TunesClaimed};
+ghost use Rattle.tune_contents.specs.Inside.Rows.{numbers_in};
+ghost use Rattle.tune_contents.specs.declared.contents.Contents.{Contents};
 
 use crate::contents::Contents;
-use abc_fields::{ByteText, TuneText};
-use std::alloc::Global;
+use abc_fields::{ByteText, MOST_TITLES, TuneText};
+use std::alloc::{AllocError, Global};
 use tune_disk::Disk;
-use tune_format::{Row, read_root, read_text, row_at};
+use tune_format::{Firsts, Row, number_of_key, read_root, read_text};
+use tune_index::{Index, IndexKey};
 use tune_pages::{ClaimFault, Opening, pages_for};
+use tune_search::{SearchClaims, SearchEntries, SearchFirsts, SearchIndexes};
 use tune_sets::{ReadFault, SetLists, TuneSet};
 use tune_store::{GREATEST_NUMBER, GREATEST_REVISION, Layout};
-
-// How many bytes the list of tunes has for each.
-const ROW_BYTES: usize = 8;
 
 // How many bytes the revision of a tune has, before its text.
 const REVISION_BYTES: usize = 2;
@@ -42,18 +48,21 @@ const REVISION_BYTES: usize = 2;
 // How many pages the chain of the set lists has at most.
 const MOST_SETS_PAGES: usize = 104;
 
-// The list of tunes and the set lists of an archive, as bytes, and where they begin.
+// The indexes of an archive with their entries, the set lists as bytes, and where all these begin.
 #[derive(Drop)]
 struct Lists {
-    list_first: u32,
-    sets_first: u32,
-    list: Vec<u8>,
+    firsts: Firsts,
+    numbers: Index<32>,
+    tunes: Vec<(IndexKey<32>, u32)>,
+    searches: SearchIndexes,
+    entries: SearchEntries,
     sets: Vec<u8>,
 }
 
-/// Claims what an archive has on its pages: the list of tunes, the set lists and each tune, whose
-/// text is read and let go. Nothing but the root was claimed before. A chain that is longer than
-/// that of any state is not read to its end, so that no file takes more memory than an archive may.
+/// Claims what an archive has on its pages: the indexes, the set lists and each tune, whose text is
+/// read, compared with the search indexes, and let go. Nothing but the root was claimed before. A
+/// chain or an index that is longer than that of any state is not read to its end, so that no file
+/// takes more memory than an archive may.
 ///
 /// # Errors
 ///
@@ -67,9 +76,8 @@ struct Lists {
 pub fn claim<D: Disk>(alloc: Global, opening: &mut Opening<D>) -> Result<Contents, ClaimFault>
     requires { opening.old.claimed ≡ only_root (length opening.old.pages) }
     ensures claimed { IfOk result (λ contents. D.honest opening.new.disk
-        → 0 < length opening.old.pages → IsClaimed opening.old.pages contents.layout
-        contents.rows.items contents.sets contents.list_first contents.sets_first
-        opening.new.claimed) }
+        → 0 < length opening.old.pages
+        → IsClaimed opening.old.pages contents opening.new.claimed) }
     ensures rows { IfOk result (λ contents. AreRows contents.layout contents.rows.items) }
     ensures damaged { IfErr result (λ fault. D.honest opening.new.disk
         → IsChainFault fault ((state : State) × IsStateOf opening.old.pages state)) }
@@ -77,50 +85,133 @@ pub fn claim<D: Disk>(alloc: Global, opening: &mut Opening<D>) -> Result<Content
 {
     // Its contract says that each page has the bytes of a block.
     let _count = opening.count();
-    // The version that a root has is that of layout 1.
+    // Files are of layout 1.
     let layout = Layout::One;
     let Lists {
-        list_first,
-        sets_first,
-        list,
+        firsts,
+        numbers,
+        tunes,
+        searches,
+        entries,
         sets,
-    } = claim_lists(opening, layout)?;
-    let rows = claim_tunes(alloc, opening, layout, &list)?;
-    let sets = read_named_sets(alloc, &rows, &sets)?;
+    } = claim_lists(alloc, opening, layout)?;
+    let (rows, sets) = claim_texts(alloc, opening, layout, &tunes, entries, &sets)?;
     Ok(Contents {
         layout,
         rows,
+        numbers,
+        searches,
         sets,
-        list_first,
-        sets_first,
+        firsts,
     })
 }
 
-// Claims the list of tunes and the set lists.
-fn claim_lists<D: Disk>(opening: &mut Opening<D>, layout: Layout) -> Result<Lists, ClaimFault>
+// Claims the tunes of the entries of the index of numbers, each at its entries in the search
+// indexes, and reads the set lists, which have to name tunes.
+//
+// - `claimed`: where the lists that the root names were claimed before, all is.
+fn claim_texts<D: Disk>(
+    alloc: Global,
+    opening: &mut Opening<D>,
+    layout: Layout,
+    tunes: &[(IndexKey<32>, u32)],
+    entries: SearchEntries,
+    sets: &[u8],
+) -> Result<(Vec<Row>, SetLists), ClaimFault>
+    requires first { layout ≡ One }
+    requires sized { D.honest opening.old.disk → AreBlocks opening.old.pages }
+    ensures claimed { IfOk result (λ made. D.honest opening.new.disk → (contents : Contents)
+        → contents.layout ≡ layout → contents.rows.items ≡ made.0.items → contents.sets ≡ made.1
+        → ClaimsLists opening.old.pages opening.old.claimed contents.firsts contents.numbers
+        tunes.now contents.searches (runs_in entries) sets.now
+        → IsClaimed opening.old.pages contents opening.new.claimed) }
+    ensures rows { IfOk result (λ made. AreRows layout made.0.items) }
+    ensures damaged { IfErr result (λ fault. D.honest opening.new.disk → (firsts : Firsts)
+        (shape : Shape) (shapes : SearchShape) → ListsClaimed opening.old.pages
+        opening.old.claimed firsts shape tunes.now shapes (runs_in entries) sets.now
+        → IsChainFault fault (IsStateThere opening.old.pages)) }
+    ensures looks { LooksOpening D.honest D.failures D.state result opening.old opening.new }
+{
+    let listed = listed_rows(alloc, layout, tunes)?;
+    let rows = claim_rows(alloc, opening, layout, &listed, entries)?;
+    let sets = read_named_sets(alloc, &rows, sets)?;
+    Ok((rows, sets))
+}
+
+// Claims the indexes and the set lists.
+fn claim_lists<D: Disk>(
+    alloc: Global,
+    opening: &mut Opening<D>,
+    layout: Layout,
+) -> Result<Lists, ClaimFault>
     requires first { layout ≡ One }
     requires root { opening.old.claimed ≡ only_root (length opening.old.pages) }
     requires sized { D.honest opening.old.disk → AreBlocks opening.old.pages }
     ensures claims { IfOk result (λ lists. D.honest opening.new.disk
         → 0 < length opening.old.pages → ClaimsLists opening.old.pages opening.new.claimed
-        lists.list_first lists.sets_first lists.list.items lists.sets.items) }
+        lists.firsts lists.numbers lists.tunes.items lists.searches (runs_in lists.entries)
+        lists.sets.items) }
     ensures damaged { IfErr result (λ fault. D.honest opening.new.disk
         → IsChainFault fault (IsStateThere opening.old.pages)) }
     ensures looks { LooksOpening D.honest D.failures D.state result opening.old opening.new }
 {
     let root = opening.read_root()?;
-    let Some((list_first, sets_first)) = read_root(&root) else {
+    let Some(firsts) = read_root(layout, &root) else {
         return Err(ClaimFault::Damaged);
     };
-    let most = pages_for(ROW_BYTES * layout.most_tunes());
-    let list = claim_part(opening, list_first, most)?;
-    let sets = claim_part(opening, sets_first, MOST_SETS_PAGES)?;
+    let most = layout.most_tunes() as u32;
+    let (numbers, tunes) = claim_index(alloc, opening, firsts.numbers, most)?;
+    let most_entries = MOST_TITLES as u32 * most;
+    let (searches, entries) = claim_searches(alloc, opening, firsts.searches, most_entries)?;
+    let sets = claim_part(opening, firsts.sets, MOST_SETS_PAGES)?;
     Ok(Lists {
-        list_first,
-        sets_first,
-        list,
+        firsts,
+        numbers,
+        tunes,
+        searches,
+        entries,
         sets,
     })
+}
+
+// Claims the index of at most so many entries whose list begins at this page.
+fn claim_index<D: Disk>(
+    alloc: Global,
+    opening: &mut Opening<D>,
+    first: u32,
+    most: u32,
+) -> Result<(Index<32>, Vec<(IndexKey<32>, u32)>), ClaimFault>
+    ensures claims { IfOk result (λ loaded. D.honest opening.new.disk → (front : List Part)
+        → HasClaimed opening.old.pages opening.old.claimed front
+        → ClaimsIndex most opening.old.pages front opening.new.claimed first loaded.0
+        loaded.1.items) }
+    ensures damaged { IfErr result (λ fault. D.honest opening.new.disk → (front : List Part)
+        → HasClaimed opening.old.pages opening.old.claimed front
+        → IsChainFault fault (IsIndexThere most opening.old.pages front first)) }
+    ensures looks { LooksOpening D.honest D.failures D.state result opening.old opening.new }
+{
+    let _count = opening.count();
+    Index::load(alloc, opening, first, most)
+}
+
+// Claims the search indexes, each of at most so many entries, whose lists begin at these pages.
+fn claim_searches<D: Disk>(
+    alloc: Global,
+    opening: &mut Opening<D>,
+    firsts: SearchFirsts,
+    most: u32,
+) -> Result<(SearchIndexes, SearchEntries), ClaimFault>
+    ensures claims { IfOk result (λ loaded. D.honest opening.new.disk → (front : List Part)
+        → HasClaimed opening.old.pages opening.old.claimed front
+        → ClaimsSearch most opening.old.pages front opening.new.claimed firsts loaded.0
+        (runs_in loaded.1)) }
+    ensures damaged { IfErr result (λ fault. D.honest opening.new.disk → (front : List Part)
+        → HasClaimed opening.old.pages opening.old.claimed front
+        → IsChainFault fault (IsSearchThere most opening.old.pages front firsts)) }
+    ensures looks { LooksOpening D.honest D.failures D.state result opening.old opening.new }
+{
+    let _count = opening.count();
+    SearchIndexes::load(alloc, opening, firsts, most)
 }
 
 // Claims the part of at most so many pages that begins at this one, and gives its bytes.
@@ -140,107 +231,212 @@ fn claim_part<D: Disk>(
     opening.claim_chain_within(first, most)
 }
 
-// Claims each tune of a list.
-fn claim_tunes<D: Disk>(
+// The rows of the entries of the index of numbers, with no revision yet. Their numbers have to rise
+// and to be within the limits.
+fn listed_rows(
     alloc: Global,
-    opening: &mut Opening<D>,
     layout: Layout,
-    list: &[u8],
+    tunes: &[(IndexKey<32>, u32)],
 ) -> Result<Vec<Row>, ClaimFault>
-    ensures claimed { IfOk result (λ rows. (list.now ≡ written_rows rows.items)
-        × (D.honest opening.new.disk → (front : List Part)
-        → HasClaimed opening.old.pages opening.old.claimed front → (low : ℕ)
-        × (low ≤ greatest_number)
-        × TunesClaimed layout opening.old.pages front opening.new.claimed rows.items low)) }
+    ensures same { IfOk result (λ rows. number_entries rows.items ≡ tunes.now) }
     ensures rows { IfOk result (λ rows. AreRows layout rows.items) }
-    ensures damaged { IfErr result (λ fault. D.honest opening.new.disk → (front : List Part)
-        → HasClaimed opening.old.pages opening.old.claimed front
-        → IsChainFault fault (AreTunesThere layout opening.old.pages front 0 list.now)) }
-    ensures looks { LooksOpening D.honest D.failures D.state result opening.old opening.new }
+    ensures damaged { IfErr result (λ fault.
+        IsChainFault fault (AreEntriesOfRows layout tunes.now)) }
+    ensures err { IfErr result (λ fault. fault ≢ ClaimFault.Device) }
 {
-    let most = layout.most_tunes();
-    if list.len() > ROW_BYTES * most {
+    if tunes.len() > layout.most_tunes() {
         return Err(ClaimFault::Damaged);
     }
     let mut rows = Vec::new(alloc);
     let mut low = 0;
-    let mut rest = list;
-    while let Some((number, first, later)) = first_row(rest) {
-        let row = claim_tune(alloc, opening, layout, low, number, first)?;
+    for entry in tunes {
+        let Some(row) = listed_row(entry, low) else {
+            return Err(ClaimFault::Damaged);
+        };
         if rows.push(row).is_err() {
             return Err(ClaimFault::OutOfMemory);
         }
-        low = number;
-        rest = later;
-    }
-    if !rest.is_empty() {
-        return Err(ClaimFault::Damaged);
+        low = row.number;
     }
     Ok(rows)
 }
 
-// The number and the first page at the front of a list, and the rest of it.
-fn first_row(list: &[u8]) -> Option<(u32, u32, &[u8])>
-    ensures some { IfSome result (λ r. (revision : ℕ)
-        → written_row (record { number = r.0; revision = revision; first = r.1 }) ++ r.2.now
-        ≡ list.now) }
-    ensures only { IfSome result (λ r. (row : Row) (after : List Row)
-        → row.number < 4294967296 → row.first < 4294967296
-        → list.now ≡ written_rows (row ∷ after)
-        → (row.number ≡ r.0) × (row.first ≡ r.1) × (r.2.now ≡ written_rows after)) }
-    ensures none { IfNone result (length list.now < row_bytes) }
+// The row of an entry, whose number has to be above `low`.
+fn listed_row(entry: &(IndexKey<32>, u32), low: u32) -> Option<Row>
+    ensures same { IfSome result (λ row. row_entry row ≡ entry.now) }
+    ensures within { IfSome result (λ row. (low < row.number) × (row.number ≤ greatest_number)) }
+    ensures none { IfNone result ((row : Row) → row_entry row ≡ entry.now → low < row.number
+        → greatest_number < row.number) }
 {
-    if list.len() < ROW_BYTES {
+    let Some(number) = number_of_key(&entry.0) else {
+        return None;
+    };
+    if number <= low || number > GREATEST_NUMBER {
         return None;
     }
-    let (number, first) = row_at(list, 0);
-    Some((number, first, behind_row(list)))
+    Some(Row {
+        number,
+        revision: 0,
+        first: entry.1,
+    })
 }
 
-// The list behind its first row.
-fn behind_row(list: &[u8]) -> &[u8]
-    requires { row_bytes ≤ length list.now }
-    ensures { result.now ≡ drop row_bytes list.now }
+// The entries of the search indexes, made ready to be compared with the tunes of these rows.
+fn search_claims(
+    alloc: Global,
+    rows: &[Row],
+    entries: SearchEntries,
+) -> Result<SearchClaims, ClaimFault>
+    requires { RowsRise 0 rows.now }
+    ensures numbers { IfOk result (λ claims. claims.numbers ≡ numbers_in rows.now) }
+    ensures runs { IfOk result (λ claims. claims.runs ≡ runs_in entries) }
+    ensures known { IfOk result (λ _. AreAllKnown (numbers_in rows.now) (runs_in entries)) }
+    ensures damaged { IfErr result (λ fault. IsChainFault fault (HaveFew (runs_in entries)
+        × AreAllKnown (numbers_in rows.now) (runs_in entries))) }
+    ensures err { IfErr result (λ fault. fault ≢ ClaimFault.Device) }
 {
-    &list[ROW_BYTES..]
+    if !have_few(&entries) {
+        return Err(ClaimFault::Damaged);
+    }
+    let Ok(numbers) = numbers_of(alloc, rows) else {
+        return Err(ClaimFault::OutOfMemory);
+    };
+    let SearchEntries {
+        titles,
+        rhythms,
+        scales,
+        incipits,
+    } = entries;
+    match SearchClaims::new(alloc, numbers, titles, rhythms, scales, incipits) {
+        Ok(Some(claims)) => Ok(claims),
+        Ok(None) => Err(ClaimFault::Damaged),
+        Err(_) => Err(ClaimFault::OutOfMemory),
+    }
 }
 
-// Claims the tune of a number, which has to be above `low`.
+// Whether there are fewer than 2^32 entries in each of the indexes.
+fn have_few(entries: &SearchEntries) -> bool
+    ensures { IsTrue result ↔ HaveFew (runs_in entries.now) }
+{
+    is_short(&entries.titles)
+        && is_short(&entries.rhythms)
+        && is_short(&entries.scales)
+        && is_short(&entries.incipits)
+}
+
+// Whether there are fewer than 2^32 entries.
+fn is_short(entries: &[(IndexKey<32>, u32)]) -> bool
+    ensures { IsTrue result ↔ (length entries.now < 2 ^ 32) }
+{
+    entries.len() <= 4_294_967_295
+}
+
+// The numbers of rows.
+fn numbers_of(alloc: Global, rows: &[Row]) -> Result<Vec<u32>, AllocError>
+    ensures { IfOk result (λ numbers. numbers.items ≡ numbers_in rows.now) }
+{
+    let mut numbers = Vec::with_capacity(alloc, rows.len())?;
+    for row in rows {
+        numbers.push(row.number)?;
+    }
+    Ok(numbers)
+}
+
+// Claims the tune of each of these rows, whose number has to stand at the keys of its text in the
+// search indexes, and no other number at any; gives the rows with their revisions.
+fn claim_rows<D: Disk>(
+    alloc: Global,
+    opening: &mut Opening<D>,
+    layout: Layout,
+    listed: &[Row],
+    entries: SearchEntries,
+) -> Result<Vec<Row>, ClaimFault>
+    requires { RowsRise 0 listed.now }
+    ensures same { IfOk result (λ rows. number_entries rows.items ≡ number_entries listed.now) }
+    ensures known { IfOk result (λ _. AreAllKnown (numbers_in listed.now) (runs_in entries)) }
+    ensures claimed { IfOk result (λ rows. D.honest opening.new.disk → (front : List Part)
+        → HasClaimed opening.old.pages opening.old.claimed front
+        → TunesClaimed layout opening.old.pages front (runs_in entries) opening.new.claimed
+        rows.items) }
+    ensures damaged { IfErr result (λ fault. D.honest opening.new.disk → (front : List Part)
+        → HasClaimed opening.old.pages opening.old.claimed front → IsChainFault fault
+        (AreRowsThere layout opening.old.pages front (runs_in entries) listed.now)) }
+    ensures looks { LooksOpening D.honest D.failures D.state result opening.old opening.new }
+{
+    let claims = search_claims(alloc, listed, entries)?;
+    claim_tunes(alloc, opening, layout, listed, &claims)
+}
+
+// Claims the tune of each of these rows, and gives them with their revisions.
+fn claim_tunes<D: Disk>(
+    alloc: Global,
+    opening: &mut Opening<D>,
+    layout: Layout,
+    listed: &[Row],
+    claims: &SearchClaims,
+) -> Result<Vec<Row>, ClaimFault>
+    requires { claims.now.numbers ≡ numbers_in listed.now }
+    ensures same { IfOk result (λ rows. number_entries rows.items ≡ number_entries listed.now) }
+    ensures claimed { IfOk result (λ rows. D.honest opening.new.disk → (front : List Part)
+        → HasClaimed opening.old.pages opening.old.claimed front
+        → TunesClaimed layout opening.old.pages front claims.now.runs opening.new.claimed
+        rows.items) }
+    ensures damaged { IfErr result (λ fault. D.honest opening.new.disk → (front : List Part)
+        → HasClaimed opening.old.pages opening.old.claimed front → IsChainFault fault
+        (AreTunesThere layout opening.old.pages front claims.now.runs listed.now)) }
+    ensures looks { LooksOpening D.honest D.failures D.state result opening.old opening.new }
+{
+    let mut rows = Vec::new(alloc);
+    for (place, row) in listed.iter().enumerate() {
+        let row = claim_tune(alloc, opening, layout, row, place, claims)?;
+        if rows.push(row).is_err() {
+            return Err(ClaimFault::OutOfMemory);
+        }
+    }
+    Ok(rows)
+}
+
+// Claims the tune of a row, whose number, at this place, has to stand at the keys of its text.
 fn claim_tune<D: Disk>(
     alloc: Global,
     opening: &mut Opening<D>,
     layout: Layout,
-    low: u32,
-    number: u32,
-    first: u32,
+    row: &Row,
+    place: usize,
+    claims: &SearchClaims,
 ) -> Result<Row, ClaimFault>
-    ensures claims { IfOk result (λ row. D.honest opening.new.disk → (front : List Part)
+    requires place { place < length claims.now.numbers }
+    requires number { slice_index claims.now.numbers place ≡ row.now.number }
+    ensures row { IfOk result (λ claimed. row_entry claimed ≡ row_entry row.now) }
+    ensures claims { IfOk result (λ claimed. D.honest opening.new.disk → (front : List Part)
         → HasClaimed opening.old.pages opening.old.claimed front
-        → ClaimsTune layout opening.old.pages front low opening.new.claimed row) }
-    ensures row { IfOk result (λ row. (row.number ≡ number) × (row.first ≡ first)
-        × (low < number) × (number ≤ greatest_number)) }
+        → ClaimsTune layout opening.old.pages front claims.now.runs opening.new.claimed
+        claimed) }
     ensures damaged { IfErr result (λ fault. D.honest opening.new.disk → (front : List Part)
-        → HasClaimed opening.old.pages opening.old.claimed front
-        → IsChainFault fault (IsTuneThere layout opening.old.pages front low number first)) }
+        → HasClaimed opening.old.pages opening.old.claimed front → IsChainFault fault
+        (IsTuneThere layout opening.old.pages front claims.now.runs row.now.number
+        row.now.first)) }
     ensures looks { LooksOpening D.honest D.failures D.state result opening.old opening.new }
 {
-    if number <= low || number > GREATEST_NUMBER {
-        return Err(ClaimFault::Damaged);
-    }
     let most = pages_for(layout.longest_text() + REVISION_BYTES);
-    let bytes = claim_part(opening, first, most)?;
-    let revision = revision_of(alloc, layout, &bytes)?;
-    Ok(Row {
-        number,
-        revision,
-        first,
-    })
+    let bytes = claim_part(opening, row.first, most)?;
+    let (revision, text) = text_of(alloc, layout, &bytes)?;
+    match claims.claim_tune(alloc, place, &text) {
+        Ok(true) => Ok(Row {
+            number: row.number,
+            revision,
+            first: row.first,
+        }),
+        Ok(false) => Err(ClaimFault::Damaged),
+        Err(_) => Err(ClaimFault::OutOfMemory),
+    }
 }
 
-// The revision of the tune of a chain, whose text has to be that of one tune.
-fn revision_of(alloc: Global, layout: Layout, bytes: &[u8]) -> Result<u16, ClaimFault>
-    ensures ok { IfOk result (λ revision.
-        (text : List ℕ) × IsTuneChain layout bytes.now revision text) }
+// The revision and the text of the tune of a chain.
+fn text_of(alloc: Global, layout: Layout, bytes: &[u8]) -> Result<(u16, TuneText), ClaimFault>
+    ensures ok { IfOk result (λ read. IsTuneChain layout bytes.now read.0 read.1) }
+    ensures only { IfOk result (λ read. (revision : ℕ) (text : List ℕ)
+        → IsTuneChain layout bytes.now revision text → text ≡ read.1) }
     ensures damaged { IfErr result (λ fault. IsChainFault fault
         ((revision : ℕ) × (text : List ℕ) × IsTuneChain layout bytes.now revision text)) }
     ensures err { IfErr result (λ fault. fault ≢ ClaimFault.Device) }
@@ -255,7 +451,7 @@ fn revision_of(alloc: Global, layout: Layout, bytes: &[u8]) -> Result<u16, Claim
         return Err(ClaimFault::OutOfMemory);
     };
     match TuneText::from_stored(text, layout.longest_text()) {
-        Ok(_) => Ok(revision),
+        Ok(text) => Ok((revision, text)),
         Err(_) => Err(ClaimFault::Damaged),
     }
 }

@@ -9,7 +9,7 @@ ghost use Rattle.tune_contents.specs.Most.{most_used};
 ghost use Rattle.tune_contents.specs.declared.contents.Contents.{Contents};
 
 /// The law of state pages: where pages hold a state within the limits, at most so many of them are
-/// in use, by its layout: 80,145 in layout 1. Each page has the bytes of a block.
+/// in use, by its layout: 320,342 in layout 1. Each page has the bytes of a block.
 pub fn law_of_state_pages()
     ensures { (s : Stand) (contents : Contents) (state : State)
         → HoldsContents s contents state → IsState state

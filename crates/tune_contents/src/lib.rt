@@ -7,11 +7,15 @@ mod claiming;
 mod contents;
 mod laws;
 mod laying;
+mod numbers;
 mod room;
 mod rows;
+mod searching;
+mod texts;
 
 pub use changes::lay;
 pub use claiming::claim;
 pub use contents::Contents;
 pub use laws::law_of_state_pages;
 pub use room::Room;
+pub use texts::read_tune;

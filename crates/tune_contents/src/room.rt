@@ -1,7 +1,14 @@
 // Memory for changes.
+ghost use Rattle.std.specs.Prelude.{◌≡◌, IfErr, IfOk};
+ghost use Rattle.tune_pages.specs.declared.fault.Fault.TheVariants.{OutOfMemory};
+
 use crate::contents::Contents;
 use std::alloc::Global;
+use std::mem;
 use tune_format::Row;
+use tune_index::Index;
+use tune_pages::Fault;
+use tune_search::SearchIndexes;
 
 /// Memory in which changes of an archive are laid, one after another, so that each uses that of
 /// those before it.
@@ -9,9 +16,10 @@ use tune_format::Row;
 pub struct Room {
     pub(crate) alloc: Global,
     // the rows to which a change leads
-    pub(crate) rows: Vec<Row>,
-    // the bytes of the list of tunes
-    pub(crate) list: Vec<u8>,
+    rows: Vec<Row>,
+    // the indexes to which it leads
+    numbers: Index<32>,
+    searches: SearchIndexes,
 }
 
 impl Room {
@@ -20,12 +28,52 @@ impl Room {
         Room {
             alloc,
             rows: Vec::new(alloc),
-            list: Vec::new(alloc),
+            numbers: Index::new(alloc),
+            searches: SearchIndexes::new(alloc),
         }
     }
 
     /// Takes the memory of contents that a change left behind.
     pub fn take(&mut self, behind: Contents) {
         self.rows = behind.rows;
+        self.numbers = behind.numbers;
+        self.searches = behind.searches;
+    }
+
+    // A copy of rows.
+    pub(crate) fn copy_rows(&mut self, rows: &[Row]) -> Result<Vec<Row>, Fault>
+        ensures rows { IfOk result (λ copy. copy.items ≡ rows.now) }
+        ensures err { IfErr result (λ fault. fault ≡ OutOfMemory) }
+    {
+        let mut copy = mem::replace(&mut self.rows, Vec::new(self.alloc));
+        copy.clear();
+        match copy.extend_from_slice(rows) {
+            Ok(()) => Ok(copy),
+            Err(_) => Err(Fault::OutOfMemory),
+        }
+    }
+
+    // A copy of an index of numbers.
+    pub(crate) fn copy_numbers(&mut self, numbers: &Index<32>) -> Result<Index<32>, Fault>
+        ensures numbers { IfOk result (λ copy. copy ≡ numbers.now) }
+        ensures err { IfErr result (λ fault. fault ≡ OutOfMemory) }
+    {
+        let mut copy = mem::replace(&mut self.numbers, Index::new(self.alloc));
+        match copy.copy_from(numbers) {
+            Ok(()) => Ok(copy),
+            Err(_) => Err(Fault::OutOfMemory),
+        }
+    }
+
+    // A copy of search indexes.
+    pub(crate) fn copy_searches(&mut self, searches: &SearchIndexes) -> Result<SearchIndexes, Fault>
+        ensures searches { IfOk result (λ copy. copy ≡ searches.now) }
+        ensures err { IfErr result (λ fault. fault ≡ OutOfMemory) }
+    {
+        let mut copy = mem::replace(&mut self.searches, SearchIndexes::new(self.alloc));
+        match copy.copy_from(searches) {
+            Ok(()) => Ok(copy),
+            Err(_) => Err(Fault::OutOfMemory),
+        }
     }
 }

@@ -1,17 +1,18 @@
 // Rows of tunes, found by number, and one under another number.
-ghost use Rattle.std.specs.Prelude.{◌≡◌, ◌≢◌, ◌<◌, ◌≤◌, ℕ, length, slice_index_or};
+ghost use Rattle.std.specs.Prelude.{◌≡◌, ◌≢◌, ◌⊎◌, ◌<◌, ◌≤◌, ℕ, length, slice_index_or};
 ghost use Rattle.std.specs.Prelude.{IfSome, IfNone};
 ghost use Rattle.std.specs.List.{Contains};
 ghost use Rattle.tune_store.specs.Limits.{greatest_number};
 ghost use Rattle.tune_format.specs.declared.rows.Row.{Row};
 ghost use Rattle.tune_store.specs.declared.layout.Layout.{Layout};
 ghost use Rattle.tune_contents.specs.Inside.Rows.{IsRowAfter, MovesTunes, numbers_in};
+ghost use Rattle.tune_contents.specs.Inside.Numbers.{HasNoRow, MovesRow};
 ghost use Rattle.tune_contents.specs.Claimed.{AreRows, RowsRise};
 
 use tune_format::Row;
 
 // The place of the row of a number.
-fn place_of(rows: &[Row], number: u32) -> Option<usize>
+pub(crate) fn place_of(rows: &[Row], number: u32) -> Option<usize>
     ensures within { IfSome result (λ place. place < length rows.now) }
     ensures found { IfSome result (λ place. (d : Row)
         → (slice_index_or rows.now place d).number ≡ number) }
@@ -38,6 +39,9 @@ fn place_after(rows: &[Row], number: u32) -> usize
 // Gives the row of a number another one, and moves it to where that belongs.
 pub(crate) fn move_row(rows: &mut Vec<Row>, number: u32, to: u32)
     ensures moves { MovesTunes rows.old.items rows.new.items number to }
+    ensures row { MovesRow number to rows.old.items rows.new.items
+        ⊎ ((rows.new.items ≡ rows.old.items)
+        × (RowsRise 0 rows.old.items → HasNoRow number rows.old.items)) }
     ensures rows { (layout : Layout) → AreRows layout rows.old.items
         → ¬ Contains (numbers_in rows.old.items) to → 0 < to → to ≤ greatest_number
         → AreRows layout rows.new.items }

@@ -1,82 +1,88 @@
--- Numbers, rows and texts as bytes.
-use Rattle.std.proofs.Common.{◌≡◌, ℕ, ◌+◌, ◌-◌, ◌*◌, ◌^◌, ◌<◌, ◌≤◌, List, [], ◌∷◌, ◌++◌, length, take, drop, replicate}
-use Rattle.std.proofs.Common.{refl, sym, ◌∙◌, ap, subst, arith, length-drop}
-use Rattle.std.proofs.Math.Seq.{drop-append_seam, take-add}
-use Rattle.std.proofs.lemmas.Grind.{flat_map-append}
-use Rattle.std.proofs.lemmas.List.{drop-drop, get_or-drop}
-use Rattle.byteorder.specs.Endian.{big_bytes, big_number}
-use Rattle.byteorder.specs.Numbers.{big_number-reads_back}
-use Rattle.tune_sets.proofs.ByteLemmas.{AreBytes, four_front}
-use Rattle.tune_format.specs.Layout.{row_bytes, version}
-use Rattle.tune_format.specs.Written.{IsRoot, number_at, root_bytes, written_row, written_rows}
-use Rattle.tune_format.specs.declared.rows.Row.{Row}
+-- Numbers, roots and keys of numbers as bytes.
+use Rattle.std.proofs.Common.{◌≡◌, ℕ, ◌+◌, ◌-◌, ◌*◌, ◌^◌, ◌<◌, List, [], ◌++◌, length, replicate, slice_index}
+use Rattle.std.proofs.Common.{refl, sym, ◌∙◌, ap, arith}
+use Rattle.byteorder.specs.Endian.{big_bytes, big_from, big_number}
+use Rattle.byteorder.specs.Numbers.{big_from-lt, big_number-reads_back}
+use Rattle.tune_store.specs.Limits.{layout_number}
+use Rattle.tune_store.specs.declared.layout.Layout.{Layout}
+use Rattle.tune_store.specs.declared.layout.Layout.TheVariants.{One, Two}
+use Rattle.tune_format.specs.Written.{IsRoot, head_of_root, number_at, root_bytes}
+use Rattle.tune_format.specs.declared.root.Firsts.{Firsts}
 
 -- a number at the front of bytes is read back
 pub number_front : (x : ℕ) (rest : List ℕ) → x < 2 ^ 32 → number_at 0 (big_bytes 4 x ++ rest) ≡ x
 number_front x rest small = big_number-reads_back 4 x rest (omega (arith, small))
 
 -- THE ROOT
-pub root_is : (list_first sets_first : ℕ) → list_first < 2 ^ 32 → sets_first < 2 ^ 32 → IsRoot (root_bytes list_first sets_first) list_first sets_first
+small_layout : (layout : Layout) → layout_number layout < 2 ^ 32
+small_layout One = omega arith
+small_layout Two = omega arith
+
+-- pages that a root may name
+pub record AreSmallFirsts (firsts : Firsts) : Type 0 where
+  pub numbers : firsts.numbers < 2 ^ 32
+  pub titles : firsts.searches.titles < 2 ^ 32
+  pub rhythms : firsts.searches.rhythms < 2 ^ 32
+  pub scales : firsts.searches.scales < 2 ^ 32
+  pub incipits : firsts.searches.incipits < 2 ^ 32
+  pub sets : firsts.sets < 2 ^ 32
+
+pub root_is : (layout : Layout) (firsts : Firsts) → AreSmallFirsts firsts → IsRoot layout (root_bytes layout firsts) firsts
 unfolding root_bytes
-root_is list_first sets_first small less = record {
-  is_version = refl;
-  list = number_front list_first (big_bytes 4 sets_first ++ replicate 4084 0) small;
-  sets = number_front sets_first (replicate 4084 0) less;
-}
+root_is layout firsts small =
+    let zeros = replicate 4068 0 in
+    let s = firsts.searches in
+    let sets = big_bytes 4 firsts.sets ++ zeros in
+    let incipits = big_bytes 4 s.incipits ++ sets in
+    let scales = big_bytes 4 s.scales ++ incipits in
+    let rhythms = big_bytes 4 s.rhythms ++ scales in
+    let titles = big_bytes 4 s.titles ++ rhythms in
+    let numbers = big_bytes 4 firsts.numbers ++ titles in
+    record {
+      is_version = number_front (layout_number layout) numbers (small_layout layout);
+      numbers = number_front firsts.numbers titles small.numbers;
+      titles = number_front s.titles rhythms small.titles;
+      rhythms = number_front s.rhythms scales small.rhythms;
+      scales = number_front s.scales incipits small.scales;
+      incipits = number_front s.incipits sets small.incipits;
+      sets = number_front firsts.sets zeros small.sets;
+    }
 
 -- what a root says, and zeros to the end of the page
-pub root_made : (list_first sets_first : ℕ) (head bytes : List ℕ) → head ≡ big_bytes 4 version ++ (big_bytes 4 list_first ++ big_bytes 4 sets_first)
-    → bytes ≡ head ++ replicate (4096 - length head) 0 → bytes ≡ root_bytes list_first sets_first
+pub root_made : (layout : Layout) (firsts : Firsts) (head bytes : List ℕ) → head ≡ head_of_root layout firsts
+    → bytes ≡ head ++ replicate (4096 - length head) 0 → bytes ≡ root_bytes layout firsts
 unfolding root_bytes
-root_made list_first sets_first head bytes is padded = padded ∙ ap (λ l. l ++ replicate (4096 - length l) 0) is
+root_made layout firsts head bytes is padded = padded ∙ ap (λ l. l ++ replicate (4096 - length l) 0) is
 
--- ROWS
--- a row at the front of bytes
-pub row_front : (bytes : List ℕ) → row_bytes ≤ length bytes → AreBytes bytes → AreBytes (drop 4 bytes)
-    → big_bytes 4 (big_number 4 bytes) ++ big_bytes 4 (big_number 4 (drop 4 bytes)) ≡ take row_bytes bytes
-row_front bytes some are later =
-    (λ i. four_front bytes (omega (arith, some)) are i ++ four_front (drop 4 bytes) (omega (arith, some, length-drop 4 bytes)) later i)
-    ∙ sym (take-add 4 4 bytes)
+-- KEYS OF NUMBERS
+-- 32 bytes spell the number of the first four of them, and what is behind
+parted : (xs : List ℕ) → big_from 0 32 xs ≡ big_from 0 4 xs * 256 ^ 28 + big_from 4 28 xs
+parted xs =
+    let rest = big_from 4 28 xs in
+    let whole : big_from 0 32 xs
+    ≡ slice_index xs 0 * 256 ^ 31 + (slice_index xs 1 * 256 ^ 30 + (slice_index xs 2 * 256 ^ 29 + (slice_index xs 3 * 256 ^ 28 + rest))) = refl in
+    let front : big_from 0 4 xs
+    ≡ slice_index xs 0 * 256 ^ 3 + (slice_index xs 1 * 256 ^ 2 + (slice_index xs 2 * 256 ^ 1 + (slice_index xs 3 * 256 ^ 0 + 0))) = refl in
+    omega (arith, whole, front)
 
--- the same of two numbers that stand there
-pub row_there : (bytes : List ℕ) (offset number first : ℕ) → offset + row_bytes ≤ length bytes → AreBytes bytes → number ≡ number_at offset bytes
-    → first ≡ number_at (offset + 4) bytes → big_bytes 4 number ++ big_bytes 4 first ≡ take row_bytes (drop offset bytes)
-row_there bytes offset number first some are is also =
-    let behind : (n : ℕ) → AreBytes (drop n bytes) = λ n i. rw (get_or-drop) (are (n + i)) in
-    let next : drop (offset + 4) bytes ≡ drop 4 (drop offset bytes) = ap (λ n. drop n bytes) (omega arith) ∙ sym (drop-drop 4 offset bytes) in
-    (λ i. big_bytes 4 (is i) ++ big_bytes 4 ((also ∙ ap (big_number 4) next) i))
-    ∙ row_front (drop offset bytes) (omega (arith, some, length-drop offset bytes)) (behind offset)
-    (subst AreBytes next (behind (offset + 4)))
+-- the number of which bytes are the key
+pub key_number : (number key : ℕ) (xs : List ℕ) → ((k : ℕ) → slice_index xs k < 256) → big_from 0 32 xs ≡ key → number * 256 ^ 28 ≡ key
+    → big_from 0 4 xs ≡ number
+key_number number key xs small is same =
+    let split = parted xs in
+    let rest = big_from-lt 4 28 xs small in
+    omega (arith, split, rest, is, same)
 
-pub rows-append : (before after : List Row) → written_rows (before ++ after) ≡ written_rows before ++ written_rows after
-rows-append before after = flat_map-append written_row before after
+-- a number in four bytes, and zeros behind
+pub key_made : (number : ℕ) → number < 2 ^ 32 → big_from 0 32 (big_bytes 4 number ++ replicate 28 0) ≡ number * 256 ^ 28
+key_made number small =
+    let xs = big_bytes 4 number ++ replicate 28 0 in
+    let split = parted xs in
+    let front = number_front number (replicate 28 0) small in
+    let zeros : big_from 4 28 xs ≡ 0 = refl in
+    omega (arith, split, front, zeros)
 
-pub length-rows : (rows : List Row) → length (written_rows rows) ≡ row_bytes * length rows
-length-rows [] = refl
-length-rows (row ∷ rows) = omega (arith, length-rows rows)
-
--- the bytes of a row and of those behind it
-pub rows_from : (before after : List Row) (row : Row) (place : ℕ) (bytes : List ℕ) → length before ≡ place → written_rows (before ++ row ∷ after) ≡ bytes
-    → drop (row_bytes * place) bytes ≡ written_row row ++ written_rows after
-rows_from before after row place bytes is written =
-    ap (drop (row_bytes * place)) (sym written ∙ rows-append before (row ∷ after))
-    ∙ ap (λ n. drop n (written_rows before ++ written_rows (row ∷ after))) (omega (arith, is, length-rows before))
-    ∙ drop-append_seam (written_rows before) (written_rows (row ∷ after))
-
-pub row_read : (row : Row) (after : List Row) → row.number < 2 ^ 32 → row.first < 2 ^ 32
-    → (row.number ≡ number_at 0 (written_row row ++ written_rows after)) × (row.first ≡ number_at 4 (written_row row ++ written_rows after))
-row_read row after small less = (
-  sym (number_front row.number (big_bytes 4 row.first ++ written_rows after) small),
-  sym (number_front row.first (written_rows after) less),
-)
-
--- the row at a place of a list
-pub row_known : (before after : List Row) (row : Row) (offset number first : ℕ) (bytes : List ℕ) → row_bytes * length before ≡ offset → row.number < 2 ^ 32
-    → row.first < 2 ^ 32 → written_rows (before ++ row ∷ after) ≡ bytes → number ≡ number_at offset bytes → first ≡ number_at (offset + 4) bytes
-    → (row.number ≡ number) × (row.first ≡ first)
-row_known before after row offset number first bytes is small less written there also =
-    let e : drop offset bytes ≡ written_row row ++ written_rows after = ap (λ n. drop n bytes) (sym is)
-    ∙ rows_from before after row (length before) bytes refl written in
-    let next : drop (offset + 4) bytes ≡ drop 4 (drop offset bytes) = ap (λ n. drop n bytes) (omega arith) ∙ sym (drop-drop 4 offset bytes) in
-    let read = row_read row after small less in
-    (read.0 ∙ ap (big_number 4) (sym e) ∙ sym there, read.1 ∙ ap (λ l. big_number 4 (drop 4 l)) (sym e) ∙ ap (big_number 4) (sym next) ∙ sym also)
+-- keys that have the same bytes are the same
+pub same_key : (one other : ℕ) → one < 256 ^ 32 → other < 256 ^ 32 → big_bytes 32 one ≡ big_bytes 32 other → one ≡ other
+same_key one other less also same =
+    sym (big_number-reads_back 32 one [] less) ∙ ap (λ (l : List ℕ). big_number 32 (l ++ [])) same ∙ big_number-reads_back 32 other [] also

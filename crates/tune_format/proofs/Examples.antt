@@ -1,18 +1,30 @@
 -- The definitions, tried on bytes that were written out by hand.
 use Rattle.std.proofs.Common.{◌≡◌, [], ◌∷◌, take, refl}
+use Rattle.tune_store.specs.declared.layout.Layout.TheVariants.{One}
 use Rattle.tune_store.specs.declared.tune.Tune.{Tune}
 use Rattle.tune_format.specs.Filed.{rows_of}
 use Rattle.tune_parts.specs.Parts.{Part, chain_part}
 use Rattle.tune_format.specs.Reading.{tune_of, sets_written}
-use Rattle.tune_format.specs.Written.{IsRoot, root_bytes, written_rows, written_tune}
+use Rattle.tune_format.specs.Written.{IsRoot, head_of_root, no_firsts, number_entries, number_key, written_tune}
+use Rattle.tune_format.specs.declared.root.Firsts.{Firsts}
 
--- the root of an archive with the list of its tunes on page 3, and no set
-root_written : take 16 (root_bytes 3 0) ≡ 0 ∷ 0 ∷ 0 ∷ 102 ∷ 0 ∷ 0 ∷ 0 ∷ 3 ∷ 0 ∷ 0 ∷ 0 ∷ 0 ∷ 0 ∷ 0 ∷ 0 ∷ 0 ∷ []
-unfolding root_bytes
+-- the chains of an archive, on pages that are not alike
+abbrev firsts : Firsts
+firsts = record {
+  numbers = 7;
+  searches = record { titles = 8; rhythms = 9; scales = 266; incipits = 11 };
+  sets = 65536;
+}
+
+root_written : head_of_root One firsts ≡ 0 ∷ 0 ∷ 0 ∷ 1 ∷ 0 ∷ 0 ∷ 0 ∷ 7 ∷ 0 ∷ 0 ∷ 0 ∷ 8 ∷ 0 ∷ 0 ∷ 0 ∷ 9 ∷ 0 ∷ 0 ∷ 1 ∷ 10 ∷ 0 ∷ 0 ∷ 0 ∷ 11 ∷ 0 ∷ 1 ∷ 0 ∷ 0 ∷ []
 root_written = refl
 
-root_read : IsRoot (0 ∷ 0 ∷ 0 ∷ 102 ∷ 0 ∷ 0 ∷ 1 ∷ 3 ∷ 0 ∷ 0 ∷ 0 ∷ 9 ∷ 7 ∷ []) 259 9
-root_read = record { is_version = refl; list = refl; sets = refl }
+root_read : IsRoot One (0 ∷ 0 ∷ 0 ∷ 1 ∷ 0 ∷ 0 ∷ 0 ∷ 7 ∷ 0 ∷ 0 ∷ 0 ∷ 8 ∷ 0 ∷ 0 ∷ 0 ∷ 9 ∷ 0 ∷ 0 ∷ 1 ∷ 10 ∷ 0 ∷ 0 ∷ 0 ∷ 11 ∷ 0 ∷ 1 ∷ 0 ∷ 0 ∷ 5 ∷ []) firsts
+root_read = record { is_version = refl; numbers = refl; titles = refl; rhythms = refl; scales = refl; incipits = refl; sets = refl }
+
+-- the root of a made archive
+made_written : take 8 (head_of_root One no_firsts) ≡ 0 ∷ 0 ∷ 0 ∷ 1 ∷ 0 ∷ 0 ∷ 0 ∷ 0 ∷ []
+made_written = refl
 
 -- tune 999,999 at revision 9,999, with the text `X`, in a chain from page 70,000 on
 abbrev last : Tune
@@ -27,8 +39,8 @@ tune_read = refl
 abbrev part : Part
 part = chain_part 70000 (70000 ∷ []) (39 ∷ 15 ∷ 88 ∷ [])
 
-row_written : written_rows (rows_of (last ∷ []) (part ∷ [])) ≡ 0 ∷ 15 ∷ 66 ∷ 63 ∷ 0 ∷ 1 ∷ 17 ∷ 112 ∷ []
-row_written = refl
+entry_written : number_entries (rows_of (last ∷ []) (part ∷ [])) ≡ (number_key 999999, 70000) ∷ []
+entry_written = refl
 
 -- the set `a` of tunes 1 and 258, and the set `b` of none
 sets_read : sets_written (1 ∷ 97 ∷ 0 ∷ 2 ∷ 0 ∷ 0 ∷ 0 ∷ 1 ∷ 0 ∷ 0 ∷ 1 ∷ 2 ∷ 1 ∷ 98 ∷ 0 ∷ 0 ∷ [])

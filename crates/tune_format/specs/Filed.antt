@@ -4,12 +4,18 @@ use Rattle.std.specs.List.{AllByRecursion}
 use Rattle.tune_journal.specs.Pages.{page_at}
 use Rattle.tune_parts.specs.Parts.{Part, AreParts}
 use Rattle.tune_parts.specs.Parts.PartKind.{chain}
+use Rattle.tune_search.specs.IndexParts.{HoldsIndex, IndexParts, parts_of_index}
+use Rattle.tune_search.specs.Searches.{SearchParts, parts_of_search, key_bytes}
 use Rattle.tune_sets.specs.SetBytes.{written_sets}
 use Rattle.tune_sets.specs.declared.set_lists.TuneSet.{TuneSet}
+use Rattle.tune_store.specs.declared.layout.Layout.{Layout}
 use Rattle.tune_store.specs.declared.tune.Tune.{Tune}
-use Rattle.tune_format.specs.Written.{IsRoot, written_rows, written_tune}
+use Rattle.tune_format.specs.Searched.{AreSearchIndexes}
+use Rattle.tune_format.specs.Written.{IsRoot, number_entries, written_tune}
+use Rattle.tune_format.specs.declared.root.Firsts.{Firsts}
 use Rattle.tune_format.specs.declared.rows.Row.{Row}
 
+-- TUNES
 -- a tune, and where its chain begins
 abbrev pub row_of : Tune → Part → Row
 row_of tune part =
@@ -30,17 +36,44 @@ pub record HoldTunes (parts : List Part) (tunes : List Tune) : Type 0 where
   pub are_chains : AreChains parts
   pub hold : map (λ part. part.bytes) parts ≡ map written_tune tunes
 
--- The pages hold the tunes and the sets: the list of tunes, the sets and each tune have a chain
--- each, and the root says where the first two begin.
-pub record Filed (pages : List (List ℕ)) (tunes : List Tune) (sets : List TuneSet) : Type 0 where
-  pub list : Part
+-- the texts of tunes, with their numbers
+abbrev pub numbered_texts : List Tune → List (ℕ × List ℕ)
+numbered_texts tunes = map (λ tune. (tune.number, tune.text)) tunes
+
+-- ALL
+-- where the lists of the indexes and the set lists begin
+abbrev pub firsts_of : IndexParts → SearchParts → Part → Firsts
+firsts_of numbers searches set_lists = record {
+  numbers = numbers.list.first;
+  searches = record {
+    titles = searches.titles.list.first;
+    rhythms = searches.rhythms.list.first;
+    scales = searches.scales.list.first;
+    incipits = searches.incipits.list.first;
+  };
+  sets = set_lists.first;
+}
+
+-- the parts of an archive: those of the index of numbers, of the search indexes, the set lists,
+-- and the tunes
+abbrev pub archive_parts : IndexParts → SearchParts → Part → List Part → List Part
+archive_parts numbers searches set_lists texts =
+    parts_of_index numbers ++ (parts_of_search searches ++ set_lists ∷ texts)
+
+-- The pages hold the tunes and the sets: the root says where the lists of the indexes and the set
+-- lists begin; the index of numbers, where the chain of each tune does; and the search indexes
+-- hold exactly the entries of the tunes.
+pub record Filed (layout : Layout) (pages : List (List ℕ)) (tunes : List Tune)
+    (sets : List TuneSet) : Type 0 where
+  pub numbers : IndexParts
+  pub searches : SearchParts
   pub set_lists : Part
   pub texts : List Part
-  pub parts : AreParts pages (list ∷ set_lists ∷ texts)
-  pub list_is_chain : list.kind ≡ chain
+  pub parts : AreParts pages (archive_parts numbers searches set_lists texts)
+  pub root : IsRoot layout (page_at pages 0) (firsts_of numbers searches set_lists)
+  pub are_numbers : HoldsIndex key_bytes numbers (number_entries (rows_of tunes texts))
+  pub are_searches : AreSearchIndexes (numbered_texts tunes) searches
   pub sets_are_chain : set_lists.kind ≡ chain
-  pub root : IsRoot (page_at pages 0) list.first set_lists.first
-  pub listed : list.bytes ≡ written_rows (rows_of tunes texts)
   pub are_sets : set_lists.bytes ≡ written_sets sets
   pub are_tunes : HoldTunes texts tunes
 

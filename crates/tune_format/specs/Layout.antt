@@ -1,29 +1,38 @@
--- How an archive is laid out on its pages: its version, and offsets and sizes in bytes. The code's
--- constants are tied to these by the clauses of the functions that use them.
+-- How an archive is laid out on its pages: offsets and sizes in bytes. The code's constants are
+-- tied to these by the clauses of the functions that use them.
 use Rattle.std.specs.Prelude.{ℕ}
 
--- the version of this layout, which stands first in the root
-abbrev pub version : ℕ
-version = 102
-
+-- the root begins with the number of the layout
 abbrev pub version_offset : ℕ
 version_offset = 0
 
--- behind it the first page of the list of tunes
-abbrev pub list_offset : ℕ
-list_offset = 4
+-- behind it the first pages of the lists of the indexes
+abbrev pub numbers_offset : ℕ
+numbers_offset = 4
+
+abbrev pub titles_offset : ℕ
+titles_offset = 8
+
+abbrev pub rhythms_offset : ℕ
+rhythms_offset = 12
+
+abbrev pub scales_offset : ℕ
+scales_offset = 16
+
+abbrev pub incipits_offset : ℕ
+incipits_offset = 20
 
 -- and the first page of the set lists
 abbrev pub sets_offset : ℕ
-sets_offset = 8
+sets_offset = 24
 
 -- a version, a number of a tune and a number of a page have four bytes each
 abbrev pub number_bytes : ℕ
 number_bytes = 4
 
--- a row of the list: the number of a tune, and the first page of its chain
-abbrev pub row_bytes : ℕ
-row_bytes = 8
+-- what stands behind the number of a tune in its key: zeros
+abbrev pub zeros_of_key : ℕ
+zeros_of_key = 28
 
 -- the revision of a tune, which stands before its text
 abbrev pub revision_bytes : ℕ

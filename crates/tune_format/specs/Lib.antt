@@ -1,3 +1,4 @@
+pub mod Searched
 pub mod Filed
 pub mod Layout
 pub mod Reading

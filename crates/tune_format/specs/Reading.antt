@@ -1,15 +1,20 @@
 -- What a file is read as, whatever it holds: functions that are total.
-use Rattle.std.specs.Prelude.{ℕ, zero, suc, ◌+◌, ◌*◌, ◌/◌, List, [], ◌∷◌, ◌++◌, length, take, drop}
-use Rattle.std.specs.Prelude.{◌==◌, if◌then◌else◌}
+use Rattle.std.specs.Prelude.{ℕ, zero, suc, ◌+◌, ◌*◌, ◌/◌, ◌^◌, List, [], ◌∷◌, ◌++◌, length, take}
+use Rattle.std.specs.Prelude.{drop, map, ◌==◌, if◌then◌else◌}
+use Rattle.std.specs.List.{flat_map}
 use Rattle.byteorder.specs.Endian.{big_number}
+use Rattle.index_keys.specs.Entries.{Entry}
+use Rattle.tune_index.specs.Leaves.{leaf_in}
+use Rattle.tune_index.specs.Listed.{numbers_in}
 use Rattle.tune_journal.specs.Image.{gate_of, count_of, new_count_of, log_of, pages_of}
 use Rattle.tune_journal.specs.Layout.{gate_open}
 use Rattle.tune_journal.specs.Pages.{page_at, changed}
 use Rattle.tune_pages.specs.Chain.{next_of, piece_of}
+use Rattle.tune_search.specs.Searches.{key_bytes}
 use Rattle.tune_sets.specs.declared.set_lists.TuneSet.{TuneSet}
 use Rattle.tune_store.specs.declared.tune.Tune.{Tune}
-use Rattle.tune_format.specs.Layout.{list_offset, sets_offset, number_bytes, row_bytes}
-use Rattle.tune_format.specs.Layout.{revision_bytes}
+use Rattle.tune_format.specs.Layout.{numbers_offset, sets_offset, number_bytes, revision_bytes}
+use Rattle.tune_format.specs.Layout.{zeros_of_key}
 use Rattle.tune_format.specs.Written.{number_at}
 
 -- CHAINS
@@ -24,6 +29,14 @@ bytes_from (suc most) pages page =
 abbrev pub chain_at : List (List ℕ) → ℕ → List ℕ
 chain_at pages first = bytes_from (length pages) pages first
 
+-- INDEXES
+-- the entries of the leaves that the chain from a page on lists, one leaf after another
+abbrev pub entries_at : List (List ℕ) → ℕ → List Entry
+entries_at pages first =
+    let list = chain_at pages first in
+    flat_map (λ page. leaf_in key_bytes (page_at pages page))
+    (numbers_in (length list / number_bytes) list)
+
 -- TUNES
 -- a tune, by its number and its chain
 abbrev pub tune_of : ℕ → List ℕ → Tune
@@ -33,16 +46,9 @@ tune_of number bytes = record {
   text = drop revision_bytes bytes;
 }
 
--- the tunes of a list with so many rows
-abbrev pub tunes_of : ℕ → List (List ℕ) → List ℕ → List Tune
-tunes_of zero pages bytes = []
-tunes_of (suc count) pages bytes =
-    tune_of (number_at 0 bytes) (chain_at pages (number_at number_bytes bytes))
-    ∷ tunes_of count pages (drop row_bytes bytes)
-
--- the tunes of the list whose bytes these are
-abbrev pub tunes_listed : List (List ℕ) → List ℕ → List Tune
-tunes_listed pages bytes = tunes_of (length bytes / row_bytes) pages bytes
+-- the tune of an entry of the index of numbers
+abbrev pub tune_at_entry : List (List ℕ) → Entry → Tune
+tune_at_entry pages entry = tune_of (entry.0 / 256 ^ zeros_of_key) (chain_at pages entry.1)
 
 -- SETS
 -- so many numbers, four bytes each
@@ -71,7 +77,8 @@ sets_written bytes = sets_of (length bytes) bytes
 -- PAGES AND FILES
 -- the tunes and the sets that pages are read as
 abbrev pub tunes_in : List (List ℕ) → List Tune
-tunes_in pages = tunes_listed pages (chain_at pages (number_at list_offset (page_at pages 0)))
+tunes_in pages =
+    map (tune_at_entry pages) (entries_at pages (number_at numbers_offset (page_at pages 0)))
 
 abbrev pub sets_in : List (List ℕ) → List TuneSet
 sets_in pages = sets_written (chain_at pages (number_at sets_offset (page_at pages 0)))

@@ -10,7 +10,7 @@ use Rattle.tune_format.specs.Reading.{tunes_in, sets_in, pages_in}
 -- The pages stand for a state: they hold its tunes and its sets, and it is within the limits.
 pub record IsStateOf (pages : List (List ℕ)) (state : State) : Type 0 where
   pub layout : state.layout ≡ One
-  pub filed : Filed pages state.tunes state.sets
+  pub filed : Filed state.layout pages state.tunes state.sets
   pub within : IsState state
   pub few : length pages ≤ most_pages_of_archive
 

@@ -7,18 +7,23 @@ ghost use Rattle.tune_journal.specs.Pages.{page_at};
 ghost use Rattle.tune_pages.specs.Stand.{Stand};
 ghost use Rattle.tune_parts.specs.Parts.{Part, HoldsParts};
 ghost use Rattle.tune_parts.specs.Parts.PartKind.{chain};
+ghost use Rattle.tune_search.specs.IndexParts.{HoldsIndex, IndexParts};
+ghost use Rattle.tune_search.specs.Searches.{SearchParts, key_bytes};
 ghost use Rattle.tune_sets.specs.SetBytes.{written_sets};
 ghost use Rattle.tune_sets.specs.Sets.{AreSetLists};
 ghost use Rattle.tune_sets.specs.declared.set_lists.TuneSet.{TuneSet};
 ghost use Rattle.tune_store.specs.State.{State, IsTunes, empty_state};
 ghost use Rattle.tune_store.specs.declared.layout.Layout.{Layout};
+ghost use Rattle.tune_store.specs.declared.layout.Layout.TheVariants.{One};
 ghost use Rattle.tune_store.specs.declared.tune.Tune.{Tune};
 ghost use Rattle.tune_format.specs.Filed.{row_of, rows_of, HoldTunes, HoldsTuneAt, Filed};
+ghost use Rattle.tune_format.specs.Filed.{archive_parts, firsts_of, numbered_texts};
+ghost use Rattle.tune_format.specs.Searched.{AreSearchIndexes};
 ghost use Rattle.tune_format.specs.Layout.{most_pages_of_archive};
 ghost use Rattle.tune_format.specs.Reading.{tunes_in, sets_in, pages_in};
 ghost use Rattle.tune_format.specs.States.{IsStateOf, StandsForState, state_of_pages};
 ghost use Rattle.tune_format.specs.States.{state_in};
-ghost use Rattle.tune_format.specs.Written.{IsRoot, written_rows, written_tune};
+ghost use Rattle.tune_format.specs.Written.{IsRoot, no_firsts, number_entries, written_tune};
 
 /// The laws of texts: of the parts that hold tunes, and of the rows of both.
 ///
@@ -28,7 +33,8 @@ ghost use Rattle.tune_format.specs.Written.{IsRoot, written_rows, written_tune};
 /// - `put`, `rows_put`: a chain with another tune in the place of one.
 /// - `cut`, `rows_cut`: the parts and the tunes without those at a place.
 /// - `inserted`, `rows_inserted`: a chain and its tune more, at a place.
-/// - `filed`: chains that are held, and named by the root and in the list, hold tunes and sets.
+/// - `filed`: parts that are held, and named by the root, by the indexes and by the list of each,
+///   hold tunes and sets.
 pub fn law_of_texts()
     ensures count { (texts : List Part) (tunes : List Tune) → HoldTunes texts tunes
         → length texts ≡ length tunes }
@@ -59,12 +65,14 @@ pub fn law_of_texts()
         (tune : Tune) → HoldTunes texts tunes
         → rows_of (insert tunes place tune) (insert texts place part)
         ≡ insert (rows_of tunes texts) place (row_of tune part) }
-    ensures filed { (s : Stand) (list set_lists : Part) (texts : List Part) (tunes : List Tune)
-        (sets : List TuneSet) → HoldsParts s (list ∷ set_lists ∷ texts)
-        → IsRoot (page_at s.pages 0) list.first set_lists.first → list.kind ≡ chain
-        → set_lists.kind ≡ chain → list.bytes ≡ written_rows (rows_of tunes texts)
+    ensures filed { (s : Stand) (layout : Layout) (numbers : IndexParts) (searches : SearchParts)
+        (set_lists : Part) (texts : List Part) (tunes : List Tune) (sets : List TuneSet)
+        → HoldsParts s (archive_parts numbers searches set_lists texts)
+        → IsRoot layout (page_at s.pages 0) (firsts_of numbers searches set_lists)
+        → HoldsIndex key_bytes numbers (number_entries (rows_of tunes texts))
+        → AreSearchIndexes (numbered_texts tunes) searches → set_lists.kind ≡ chain
         → set_lists.bytes ≡ written_sets sets → HoldTunes texts tunes
-        → Filed s.pages tunes sets }
+        → Filed layout s.pages tunes sets }
 {}
 
 /// The laws of files: what a file holds is read off it in one way.
@@ -75,15 +83,16 @@ pub fn law_of_texts()
 /// - `once`: a file stands for one state at most.
 /// - `either`: one that stands for the pages before a commit or after it stands for the state of
 ///   these.
-/// - `empty`: a root alone that names no list stands for the state in which nothing is yet.
+/// - `empty`: a root alone that names no chain stands for the state in which nothing is yet.
 pub fn law_of_files()
     ensures pages { (file : List ℕ) (pages : List (List ℕ)) → StandsFor pages file
         → pages_in file ≡ pages }
     ensures tunes { (layout : Layout) (pages : List (List ℕ)) (tunes : List Tune)
-        (sets : List TuneSet) → Filed pages tunes sets → IsTunes layout tunes
+        (sets : List TuneSet) → Filed layout pages tunes sets → IsTunes layout tunes
         → length pages ≤ most_pages_of_archive → tunes_in pages ≡ tunes }
-    ensures sets { (pages : List (List ℕ)) (tunes : List Tune) (sets : List TuneSet)
-        → Filed pages tunes sets → AreSetLists sets → sets_in pages ≡ sets }
+    ensures sets { (layout : Layout) (pages : List (List ℕ)) (tunes : List Tune)
+        (sets : List TuneSet) → Filed layout pages tunes sets → AreSetLists sets
+        → sets_in pages ≡ sets }
     ensures state { (pages : List (List ℕ)) (state : State) → IsStateOf pages state
         → state_of_pages pages ≡ state }
     ensures file { (file : List ℕ) (state : State) → StandsForState file state
@@ -93,5 +102,6 @@ pub fn law_of_files()
     ensures either { (before after : List (List ℕ)) (old new : State) (file : List ℕ)
         → IsStateOf before old → IsStateOf after new → StandsForEither before after file
         → StandsForState file old ⊎ StandsForState file new }
-    ensures empty { (image : List ℕ) → IsRoot image 0 0 → IsStateOf (image ∷ []) empty_state }
+    ensures empty { (image : List ℕ) → IsRoot One image no_firsts
+        → IsStateOf (image ∷ []) empty_state }
 {}

@@ -1,23 +1,37 @@
 // The root of an archive.
 ghost use Rattle.std.specs.Prelude.{◌≡◌, ◌≢◌, ◌-◌, ◌≤◌, ◌++◌, length, replicate, IfSome, IfNone};
-ghost use Rattle.byteorder.specs.Endian.{big_bytes};
-ghost use Rattle.tune_format.specs.Layout.{version, version_offset};
-ghost use Rattle.tune_format.specs.Written.{number_at, root_bytes, IsRoot};
+ghost use Rattle.tune_format.specs.Layout.{version_offset};
+ghost use Rattle.tune_format.specs.Written.{IsRoot, head_of_root, number_at, root_bytes};
+ghost use Rattle.tune_store.specs.Limits.{layout_number};
+ghost use Rattle.tune_store.specs.declared.layout.Layout.{Layout};
 
 use crate::numbers::number_at;
 use byteorder::{BigEndian, ByteOrder};
 use tune_journal::PageImage;
+use tune_search::SearchFirsts;
+use tune_store::Layout;
 
-// The version of this layout.
-const VERSION: u32 = 102;
+// How many bytes of a root say something.
+const HEAD_BYTES: usize = 28;
 
-/// The root of an archive whose list of tunes and whose set lists begin at these pages.
-pub fn write_root(list_first: u32, sets_first: u32) -> PageImage
-    ensures bytes { result.bytes ≡ root_bytes list_first sets_first }
-    ensures root { IsRoot result.bytes list_first sets_first }
+/// Where the chains begin that the root of an archive names; 0 for one without a byte.
+#[derive(Clone, Copy, Debug, PartialEq, Eq)]
+pub struct Firsts {
+    /// The list of the leaves of the index of numbers.
+    pub numbers: u32,
+    /// Those of the search indexes.
+    pub searches: SearchFirsts,
+    /// The set lists.
+    pub sets: u32,
+}
+
+/// The root of an archive of this layout whose chains begin at these pages.
+pub fn write_root(layout: Layout, firsts: Firsts) -> PageImage
+    ensures bytes { result.bytes ≡ root_bytes layout firsts }
+    ensures root { IsRoot layout result.bytes firsts }
 {
     PageImage {
-        bytes: padded(&head_bytes(list_first, sets_first)),
+        bytes: padded(&head_bytes(layout, firsts)),
     }
 }
 
@@ -32,25 +46,39 @@ fn padded(head: &[u8]) -> [u8; 4096]
 }
 
 // What a root says.
-fn head_bytes(list_first: u32, sets_first: u32) -> [u8; 12]
-    ensures { result ≡ big_bytes 4 version ++ (big_bytes 4 list_first ++ big_bytes 4 sets_first) }
+fn head_bytes(layout: Layout, firsts: Firsts) -> [u8; HEAD_BYTES]
+    ensures { result ≡ head_of_root layout firsts }
 {
-    let mut bytes = [0; 12];
-    BigEndian::write_u32(&mut bytes[..4], VERSION);
-    BigEndian::write_u32(&mut bytes[4..8], list_first);
-    BigEndian::write_u32(&mut bytes[8..], sets_first);
+    let mut bytes = [0; HEAD_BYTES];
+    BigEndian::write_u32(&mut bytes[..4], layout.number());
+    BigEndian::write_u32(&mut bytes[4..8], firsts.numbers);
+    BigEndian::write_u32(&mut bytes[8..12], firsts.searches.titles);
+    BigEndian::write_u32(&mut bytes[12..16], firsts.searches.rhythms);
+    BigEndian::write_u32(&mut bytes[16..20], firsts.searches.scales);
+    BigEndian::write_u32(&mut bytes[20..24], firsts.searches.incipits);
+    BigEndian::write_u32(&mut bytes[24..], firsts.sets);
     bytes
 }
 
-/// The first pages of the list of tunes and of the set lists. `None` exactly where the version is
-/// another one.
-pub fn read_root(image: &PageImage) -> Option<(u32, u32)>
-    ensures some { IfSome result (λ firsts. IsRoot image.now.bytes firsts.0 firsts.1) }
-    ensures none { IfNone result (number_at version_offset image.now.bytes ≢ version) }
+/// Where the chains begin of an archive of this layout. `None` exactly where the root is one of
+/// another version.
+pub fn read_root(layout: Layout, image: &PageImage) -> Option<Firsts>
+    ensures some { IfSome result (λ firsts. IsRoot layout image.now.bytes firsts) }
+    ensures none { IfNone result
+        (number_at version_offset image.now.bytes ≢ layout_number layout) }
 {
     let bytes = &image.bytes;
-    if number_at(bytes, 0) != VERSION {
+    if number_at(bytes, 0) != layout.number() {
         return None;
     }
-    Some((number_at(bytes, 4), number_at(bytes, 8)))
+    Some(Firsts {
+        numbers: number_at(bytes, 4),
+        searches: SearchFirsts {
+            titles: number_at(bytes, 8),
+            rhythms: number_at(bytes, 12),
+            scales: number_at(bytes, 16),
+            incipits: number_at(bytes, 20),
+        },
+        sets: number_at(bytes, 24),
+    })
 }

@@ -1,16 +1,9 @@
 // Where an archive keeps its tunes.
-ghost use Rattle.std.specs.Prelude.{◌≡◌, ℕ, ◌+◌, ◌*◌, ◌^◌, ◌<◌, ◌≤◌, List, ◌∷◌, ◌++◌, length, take};
-ghost use Rattle.std.specs.Prelude.{drop, IfOk, OnOk};
-ghost use Rattle.tune_format.specs.Layout.{row_bytes};
-ghost use Rattle.tune_format.specs.Written.{written_row, written_rows};
-ghost use Rattle.tune_format.specs.declared.rows.Row.{Row};
+ghost use Rattle.std.specs.Prelude.{◌≡◌, ◌≢◌, ℕ, ◌^◌, ◌<◌, IfNone, IfSome};
+ghost use Rattle.tune_format.specs.Written.{number_key, row_entry};
 
-use crate::numbers::number_at;
 use byteorder::{BigEndian, ByteOrder};
-use std::alloc::AllocError;
-
-// How many bytes the list has for each tune.
-const ROW_BYTES: usize = 8;
+use index_keys::IndexKey;
 
 /// Where an archive keeps a tune.
 #[derive(Clone, Copy, Debug, PartialEq, Eq)]
@@ -23,39 +16,34 @@ pub struct Row {
     pub first: u32,
 }
 
-/// Puts the bytes of the list of tunes in place of others: for each tune its number and the first
-/// page of its chain, the highest byte first. The error is out of memory.
-pub fn write_rows(rows: &[Row], bytes: &mut Vec<u8>) -> Result<(), AllocError>
-    ensures { OnOk result (bytes.new.items ≡ written_rows rows.now) }
+/// The entry of a tune in the index of numbers: at the key of its number the first page of its
+/// chain.
+pub fn entry_of_row(row: &Row) -> (IndexKey<32>, u32)
+    ensures { result ≡ row_entry row.now }
 {
-    bytes.clear();
-    bytes.reserve(rows.len().saturating_mul(ROW_BYTES))?;
-    for row in rows {
-        bytes.extend_from_slice(&row_bytes(row))?;
+    (key_of_number(row.number), row.first)
+}
+
+/// The key of a number in the index of numbers: its four bytes, the highest first, and zeros.
+pub fn key_of_number(number: u32) -> IndexKey<32>
+    ensures { result ≡ number_key number }
+{
+    let mut bytes = [0; 32];
+    BigEndian::write_u32(&mut bytes[..4], number);
+    IndexKey::new(bytes)
+}
+
+/// The number whose key this is. `None` exactly where it is that of no number: something but zeros
+/// stands behind the first four bytes.
+pub fn number_of_key(key: &IndexKey<32>) -> Option<u32>
+    ensures some { IfSome result (λ number. number_key number ≡ key.now) }
+    ensures none { IfNone result ((number : ℕ) → number < 2 ^ 32 → number_key number ≢ key.now) }
+{
+    let bytes = key.bytes();
+    let number = BigEndian::read_u32(bytes);
+    if key_of_number(number).bytes() == bytes {
+        Some(number)
+    } else {
+        None
     }
-    Ok(())
-}
-
-fn row_bytes(row: &Row) -> [u8; ROW_BYTES]
-    ensures { result ≡ written_row row.now }
-{
-    let mut bytes = [0; ROW_BYTES];
-    BigEndian::write_u32(&mut bytes[..4], row.number);
-    BigEndian::write_u32(&mut bytes[4..], row.first);
-    bytes
-}
-
-/// The number of the tune at a place of the list, from 0 on, and the first page of its chain.
-pub fn row_at(bytes: &[u8], place: usize) -> (u32, u32)
-    requires { row_bytes * (place + 1) ≤ length bytes.now }
-    ensures written { (revision : ℕ)
-        → written_row (record { number = result.0; revision = revision; first = result.1 })
-        ≡ take row_bytes (drop (row_bytes * place) bytes.now) }
-    ensures only { (before after : List Row) (row : Row) → length before ≡ place
-        → row.number < 2 ^ 32 → row.first < 2 ^ 32
-        → written_rows (before ++ row ∷ after) ≡ bytes.now
-        → (row.number ≡ result.0) × (row.first ≡ result.1) }
-{
-    let offset = ROW_BYTES * place;
-    (number_at(bytes, offset), number_at(bytes, offset + 4))
 }

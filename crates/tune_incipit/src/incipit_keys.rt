@@ -1,5 +1,6 @@
 // Incipits as keys. But for the last lines all of it is for any width and any number of notes.
 ghost use Rattle.std.specs.Prelude.{◌≡◌, ◌+◌, ◌*◌, ◌<◌, ◌≤◌, ◌++◌, length, take, IfOk};
+ghost use Rattle.std.specs.Option.{option_to_list};
 ghost use Rattle.index_keys.specs.Cuts.{cut_number};
 ghost use Rattle.tune_incipit.specs.Incipits.{incipit_of, tune_notes, finds_steps};
 ghost use Rattle.tune_incipit.specs.Limits.{fewest_notes, most_notes};
@@ -39,7 +40,7 @@ impl Keyed<32> for EightNoteKeys {
     fn keys(alloc: Global, text: &TuneText) -> Result<Vec<IndexKey<32>>, AllocError>
         ensures { IfOk result (λ keys. keys.items ≡ incipit_keys 8 text.now) }
     {
-        keys_of_notes(alloc, 8, text)
+        Vec::from_slice(alloc, key_of_incipit(text).as_slice())
     }
 
     fn range(query: &SomeSteps) -> (IndexKey<32>, IndexKey<32>)
@@ -68,23 +69,25 @@ pub fn finds_steps(notes: usize, front: &SomeSteps, text: &TuneText) -> bool
     begins(&front.steps, &steps(text, notes))
 }
 
-// The keys of a tune by its first `notes` notes that count: one, but of no step there is none.
-fn keys_of_notes<const W: usize>(
-    alloc: Global,
-    notes: usize,
-    text: &TuneText,
-) -> Result<Vec<IndexKey<W>>, AllocError>
+/// The key of a tune by the steps between its first eight notes that count, where it has a step.
+pub fn key_of_incipit(text: &TuneText) -> Option<IndexKey<32>>
+    ensures { option_to_list result ≡ incipit_keys 8 text.now }
+{
+    key_of_notes(8, text)
+}
+
+// The key of a tune by its first `notes` notes that count, where it has a step.
+fn key_of_notes<const W: usize>(notes: usize, text: &TuneText) -> Option<IndexKey<W>>
     requires few { fewest_notes ≤ notes }
     requires many { notes ≤ most_notes }
-    ensures { IfOk result (λ keys. keys.items
-        ≡ incipit_keys_of W (incipit_of notes (tune_notes text.now))) }
+    ensures { option_to_list result ≡ incipit_keys_of W (incipit_of notes (tune_notes text.now)) }
 {
     let own = steps(text, notes);
-    let mut keys = Vec::new(alloc);
-    if !own.is_empty() {
-        keys.push(key_of_steps(&own, 0))?;
+    if own.is_empty() {
+        None
+    } else {
+        Some(key_of_steps(&own, 0))
     }
-    Ok(keys)
 }
 
 // The first and the last key of the incipits that begin with these steps.

@@ -13,8 +13,8 @@ mod scales;
 mod some_steps;
 mod step_lists;
 
-pub use incipit_keys::{EightNoteKeys, finds_steps};
+pub use incipit_keys::{EightNoteKeys, finds_steps, key_of_incipit};
 pub use incipits::{BadQuery, FEWEST_NOTES, MOST_NOTES, begins, query_steps, steps};
-pub use scale_keys::ScaleKeys;
+pub use scale_keys::{ScaleKeys, key_of_scale};
 pub use some_steps::SomeSteps;
 pub use step_lists::Steps;

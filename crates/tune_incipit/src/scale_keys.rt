@@ -1,6 +1,8 @@
 // Scales as keys.
 ghost use Rattle.std.specs.Prelude.{◌≡◌, ◌∷◌, [], IfOk};
-ghost use Rattle.tune_incipit.specs.SearchKeys.{scale_code, scale_key, scale_keys};
+ghost use Rattle.std.specs.Option.{option_to_list};
+ghost use Rattle.tune_incipit.specs.Scales.{scale_of_text};
+ghost use Rattle.tune_incipit.specs.SearchKeys.{scale_code, scale_key, scale_keys, scale_keys_of};
 ghost use Rattle.tune_incipit.specs.SearchKeys.{tonic_code, sign_code, mode_code};
 
 use crate::scales::is_in_scale;
@@ -34,11 +36,7 @@ impl Keyed<32> for ScaleKeys {
     fn keys(alloc: Global, text: &TuneText) -> Result<Vec<IndexKey<32>>, AllocError>
         ensures { IfOk result (λ keys. keys.items ≡ scale_keys text.now) }
     {
-        let mut keys = Vec::new(alloc);
-        if let Some(scale) = key_of(fields(text).key).scale() {
-            keys.push(scale_key(&scale))?;
-        }
-        Ok(keys)
+        Vec::from_slice(alloc, key_of_scale(fields(text).key).as_slice())
     }
 
     fn range(query: &Scale) -> (IndexKey<32>, IndexKey<32>)
@@ -55,6 +53,16 @@ impl Keyed<32> for ScaleKeys {
     ghost rise = { λ text. scales_rise text };
 
     ghost law = { λ query text is. scale_found query text is };
+}
+
+/// The key of a tune whose key has this text, where it stands in a scale.
+pub fn key_of_scale(text: &[u8]) -> Option<IndexKey<32>>
+    ensures { option_to_list result ≡ scale_keys_of (scale_of_text text.now) }
+{
+    match key_of(text).scale() {
+        Some(scale) => Some(scale_key(&scale)),
+        None => None,
+    }
 }
 
 // The key of a scale.

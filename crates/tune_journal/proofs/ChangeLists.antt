@@ -92,6 +92,19 @@ pub image_of_missing : (page at : ℕ) (l : List Change) → MissingAt page at l
 image_of_missing page at l missing =
     ap (image_of page) (sym (take-append-drop at l)) ∙ image_of_between page (take at l) (drop at l) missing.below missing.above
 
+above_at : (low k : ℕ) (l : List Change) → AreAbove low l → k < length l → low < changed_page l k
+above_at low k [] above lt = absurd (omega (arith, lt))
+above_at low zero (c ∷ cs) above lt = above.0
+above_at low (suc k) (c ∷ cs) above lt = above_at low k cs above.1 (omega (arith, lt))
+
+-- the page of a change has its image
+pub image_named : (k : ℕ) (l : List Change) → PagesRise l → k < length l → image_of (changed_page l k) l ≡ Some (change_at l k).1
+image_named k [] rises lt = absurd (omega (arith, lt))
+image_named zero (c ∷ cs) rises lt = image_same c.0 c cs refl
+image_named (suc k) (c ∷ cs) rises lt =
+    let there : k < length cs = omega (arith, lt) in
+    image_after (changed_page cs k) c cs (above_at c.0 k cs rises.0 there) ∙ image_named k cs rises.1 there
+
 -- A list that rises still does with one more change.
 above_lower : (low page : ℕ) (l : List Change) → low < page → AreAbove page l → AreAbove low l
 above_lower low page [] lt above = tt

@@ -164,16 +164,17 @@ impl Changes {
         self.changed.is_empty()
     }
 
-    // The page of the change at this place.
-    pub(crate) fn page_at(&self, place: usize) -> u32
+    /// The page of the change at this place.
+    pub fn page_at(&self, place: usize) -> u32
         requires { place < length self.now }
-        ensures { result ≡ changed_page self.now place }
+        ensures page { result ≡ changed_page self.now place }
+        ensures found { image_of result self.now ≡ Some (change_at self.now place).1 }
     {
         self.changed[place].page
     }
 
-    // The image of the change at this place.
-    pub(crate) fn image_at(&self, place: usize) -> PageImage
+    /// The image of the change at this place.
+    pub fn image_at(&self, place: usize) -> PageImage
         requires { place < length self.now }
         ensures { result.bytes ≡ (change_at self.now place).1 }
     {

@@ -20,3 +20,4 @@ pub mod Lookups
 pub mod Examples
 pub mod FreePages
 pub mod Wants
+pub mod CacheLemmas

@@ -1,3 +1,4 @@
+pub mod Cached
 pub mod Claiming
 pub mod Codes
 pub mod Freed

@@ -1,6 +1,7 @@
 // The end of a work.
-ghost use Rattle.std.specs.Prelude.{◌≡◌, ◌≢◌, ◌<◌, ◌≤◌, true, false, length, max, All, OnOk};
+ghost use Rattle.std.specs.Prelude.{◌≡◌, ◌≢◌, ◌<◌, ◌≤◌, true, false, length, map, max, All, OnOk};
 ghost use Rattle.std.specs.Prelude.{MatchResult};
+ghost use Rattle.std.specs.List.Sorted.{IsStrictlyIncreasing};
 ghost use Rattle.tune_disk.specs.Stops.{SinceThen, LeavesOnly};
 ghost use Rattle.tune_journal.specs.Image.{StandsFor, StandsForEither};
 ghost use Rattle.tune_journal.specs.Pages.{NamesAll, pages_after};
@@ -144,6 +145,7 @@ impl<D: Disk> Pages<D> {
         requires below { All (λ c. c.0 < max (length self.old.pages) frontier) changes.now }
         requires names { NamesAll (length self.old.pages) (max (length self.old.pages) frontier)
             changes.now }
+        requires rising { IsStrictlyIncreasing (map (λ c. c.0) changes.now) }
         ensures calls { CallsDisk D.honest D.failures result self.old.disk self.new.disk }
         ensures moments { let old = state_at D.state self.old.disk in
             let new = state_at D.state self.new.disk in
@@ -168,6 +170,7 @@ impl<D: Disk> Pages<D> {
                 match journal.commit(count, changes) {
                     Ok(journal) => {
                         self.held = Held::Open(journal);
+                        self.cached.replace_all(changes);
                         Ok(())
                     }
                     Err(broken) => {

@@ -6,6 +6,7 @@
 //! leaves the pages from before the work or those from after it.
 #![tactic(auto)]
 
+mod cached;
 mod change;
 mod fault;
 mod finish;

@@ -22,7 +22,7 @@ ghost use Rattle.tune_pages.specs.Stand.{IsFree, marked};
 ghost use Rattle.tune_pages.specs.declared.fault.ClaimFault.TheVariants.{Device};
 
 use crate::fault::ClaimFault;
-use crate::link::{ROOM, add_piece, next_page, size_in};
+use crate::link::{add_piece, is_link, next_page};
 use crate::pages::Pages;
 use std::alloc::Global;
 use std::marker::Model;
@@ -69,25 +69,53 @@ fn out_of_memory<D: Disk>(journal: Journal<D>) -> Refused<D>
 }
 
 /// Reads a page of a journal.
-fn read_image<D: Disk>(journal: &mut Journal<D>, page: u32) -> Result<PageImage, ClaimFault>
+fn read_image<D: Disk>(
+    journal: &mut Journal<D>,
+    page: u32,
+    image: &mut PageImage,
+) -> Result<(), ClaimFault>
     requires { page < length journal.old.pages }
-    ensures image { IfOk result (λ image. D.honest journal.new.disk
-        → image.bytes ≡ page_at journal.old.pages page) }
+    ensures image { OnOk result (D.honest journal.new.disk
+        → image.new.bytes ≡ page_at journal.old.pages page) }
     ensures pages { D.honest journal.new.disk → journal.new.pages ≡ journal.old.pages }
     ensures count { length journal.new.pages ≡ length journal.old.pages }
     ensures looks { Looks D.honest D.failures D.state result journal.old.disk journal.new.disk }
     ensures err { IfErr result (λ fault. fault ≡ Device) }
 {
-    let mut image = PageImage::blank();
-    match journal.read(page, &mut image) {
-        Ok(()) => Ok(image),
+    match journal.read(page, image) {
+        Ok(()) => Ok(()),
         Err(DeviceFault) => Err(ClaimFault::Device),
     }
 }
 
 impl<D: Disk> Opening<D> {
-    /// Claims a page of a chain, adds its bytes, and gives the page behind it.
-    fn claim_link(&mut self, page: u32, bytes: &mut Vec<u8>) -> Result<u32, ClaimFault>
+    /// Claims a page, and reads it into the image.
+    fn claim_into(&mut self, page: u32, image: &mut PageImage) -> Result<(), ClaimFault>
+        ensures image { OnOk result (D.honest self.new.disk
+            → image.new.bytes ≡ page_at self.old.pages page) }
+        ensures free { OnOk result (IsFree self.old.claimed page
+            × (self.new.claimed ≡ slice_set self.old.claimed page true)) }
+        ensures within { OnOk result (page < length self.old.pages) }
+        ensures damaged { IfErr result (λ fault.
+            IsPageFault fault (IsFree self.old.claimed page)) }
+        ensures looks { LooksOpening D.honest D.failures D.state result self.old self.new }
+    {
+        let place = page as usize;
+        if place >= self.claimed.len() || self.claimed[place] {
+            return Err(ClaimFault::Damaged);
+        }
+        self.claimed[place] = true;
+        read_image(&mut self.journal, page, image)
+    }
+
+    /// Claims a page of a chain, adds its bytes, and gives the page behind it. The image is where
+    /// the page is read.
+    fn claim_link(
+        &mut self,
+        page: u32,
+        image: &mut PageImage,
+        bytes: &mut Vec<u8>,
+    ) -> Result<u32, ClaimFault>
         ensures free { OnOk result (IsFree self.old.claimed page
             × (self.new.claimed ≡ slice_set self.old.claimed page true)) }
         ensures link { IfOk result (λ next. D.honest self.new.disk
@@ -99,14 +127,12 @@ impl<D: Disk> Opening<D> {
             → IsChainFault fault (CanLink self.old.pages self.old.claimed page)) }
         ensures looks { LooksOpening D.honest D.failures D.state result self.old self.new }
     {
-        let image = self.claim_page(page)?;
-        let size = size_in(&image) as usize;
-        let next = next_page(&image);
-        if size == 0 || size > ROOM || (next != 0 && size < ROOM) {
+        self.claim_into(page, image)?;
+        if !is_link(image) {
             return Err(ClaimFault::Damaged);
         }
-        match add_piece(&image, bytes) {
-            Ok(()) => Ok(next),
+        match add_piece(image, bytes) {
+            Ok(()) => Ok(next_page(image)),
             Err(_) => Err(ClaimFault::OutOfMemory),
         }
     }
@@ -147,13 +173,14 @@ impl<D: Disk> Opening<D> {
         ensures looks { LooksOpening D.honest D.failures D.state result self.old self.new }
     {
         let mut bytes = Vec::new(self.alloc);
+        let mut image = PageImage::blank();
         let mut page = first;
         let mut left = most;
         while page != 0 {
             if left == 0 {
                 return Err(ClaimFault::Damaged);
             }
-            page = self.claim_link(page, &mut bytes)?;
+            page = self.claim_link(page, &mut image, &mut bytes)?;
             left -= 1;
         }
         Ok(bytes)
@@ -181,7 +208,9 @@ impl<D: Disk> Opening<D> {
         ensures err { IfErr result (λ fault. fault ≡ Device) }
         ensures looks { LooksOpening D.honest D.failures D.state result self.old self.new }
     {
-        read_image(&mut self.journal, 0)
+        let mut image = PageImage::blank();
+        read_image(&mut self.journal, 0, &mut image)?;
+        Ok(image)
     }
 
     /// Claims a page, and gives its image.
@@ -199,12 +228,9 @@ impl<D: Disk> Opening<D> {
             IsPageFault fault (IsFree self.old.claimed page)) }
         ensures looks { LooksOpening D.honest D.failures D.state result self.old self.new }
     {
-        let place = page as usize;
-        if place >= self.claimed.len() || self.claimed[place] {
-            return Err(ClaimFault::Damaged);
-        }
-        self.claimed[place] = true;
-        read_image(&mut self.journal, page)
+        let mut image = PageImage::blank();
+        self.claim_into(page, &mut image)?;
+        Ok(image)
     }
 
     /// The disk, which stands for the pages.

@@ -10,6 +10,7 @@ ghost use Rattle.tune_pages.specs.Stand.{IsUsed, IsFree};
 ghost use Rattle.tune_pages.specs.Work.{stand, Fits, IsIdle};
 ghost use Rattle.tune_pages.specs.declared.fault.Fault.TheVariants.{Device};
 
+use crate::cached::CachedImages;
 use crate::fault::Fault;
 use crate::work::Work;
 use std::alloc::Global;
@@ -33,6 +34,8 @@ pub(crate) enum Held<D: Disk> {
 pub struct Pages<D: Disk> {
     pub(crate) alloc: Global,
     pub(crate) held: Held<D>,
+    // of pages as the disk has them
+    pub(crate) cached: CachedImages,
     // a mark for each page up to the limit
     pub(crate) used: Vec<bool>,
     // no page below it is free
@@ -46,6 +49,8 @@ impl<D: Disk> Model for Pages<D> {
     ghost use Rattle.tune_pages.specs.Inside.Codes.{kept_code};
     ghost use Rattle.tune_pages.specs.Inside.Held.{held_disk, held_pages, IsKept, IsOpen};
     ghost use Rattle.tune_pages.specs.Inside.Held.{AllUsedBelow};
+    ghost use Rattle.tune_pages.specs.Inside.Cached.{AreKept};
+    ghost use Rattle.tune_pages.specs.Kept.{HonestAt};
     ghost use Rattle.tune_pages.specs.Kept.{Kept};
 
     ghost Value = { Kept D };
@@ -62,7 +67,9 @@ impl<D: Disk> Model for Pages<D> {
 
     ghost invariant = { λ p.
         IsKept (held_disk p.held) (held_pages p.held) p.used.items p.limit p.closed
-        × (p.closed ≡ false → IsOpen p.held) × AllUsedBelow p.low p.used.items };
+        × (p.closed ≡ false → IsOpen p.held) × AllUsedBelow p.low p.used.items
+        × (p.closed ≡ false → HonestAt D.honest (held_disk p.held)
+        → AreKept (held_pages p.held) p.cached) };
 }
 
 // The first page from `from` on that is not in use; `end` where none before it is free.
@@ -95,6 +102,7 @@ impl<D: Disk> Pages<D> {
         Pages {
             alloc,
             held: Held::Open(journal),
+            cached: CachedImages::new(alloc),
             used,
             low,
             limit,
@@ -174,6 +182,7 @@ impl<D: Disk> Pages<D> {
         let Pages {
             alloc: _,
             held,
+            cached: _,
             used: _,
             low: _,
             limit: _,

@@ -91,10 +91,14 @@ impl<D: Disk> Pages<D> {
         ensures closed { MatchResult result (λ _. self.new.closed ≡ false)
             (λ fault. (fault ≡ Device) × (self.new.closed ≡ true)) }
     {
+        if self.cached.read(page, image) {
+            return Ok(());
+        }
         match mem::replace(&mut self.held, Held::Gone) {
             Held::Open(mut journal) => match journal.read(page, image) {
                 Ok(()) => {
                     self.held = Held::Open(journal);
+                    self.cached.keep(page, image);
                     Ok(())
                 }
                 Err(DeviceFault) => {

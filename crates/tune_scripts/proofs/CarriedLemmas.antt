@@ -5,7 +5,7 @@ use Rattle.std.proofs.lemmas.List.{append_assoc, append-nil}
 use Rattle.tune_store.specs.State.{State, Standing}
 use Rattle.tune_store.specs.Step.{step}
 use Rattle.tune_store.specs.TuneSteps.{Outcome}
-use Rattle.tune_store.specs.Answers.{Answers, passed, stays_open, stepped, file_full, no_memory, failed_before, failed_after, is_closed}
+use Rattle.tune_store.specs.Answers.{Answers, passed, stays_open, stepped, no_memory, failed_before, failed_after, is_closed}
 use Rattle.tune_store.specs.Runs.{Answered, Runs}
 use Rattle.tune_store.specs.Stops.{StandsForOne}
 use Rattle.tune_store.specs.Stores.{StorePasses, standing_of}
@@ -27,7 +27,6 @@ ok_steps : (old new : Standing) (command : Command) (answer : Result Reply Refus
     → IfOk answer (λ _. new.state ≡ (step old.state command).0)
 ok_steps _ _ _ _ (stepped old new command (Ok reply) e) = sym (ap (λ (o : Outcome). o.0) e)
 ok_steps _ _ _ _ (stepped old new command (Err refusal) e) = tt
-ok_steps _ _ _ _ (file_full old command changes) = tt
 ok_steps _ _ _ _ (no_memory old command) = tt
 ok_steps _ _ _ _ (failed_before old command) = tt
 ok_steps _ _ _ _ (failed_after old command) = tt

@@ -18,7 +18,7 @@ use Rattle.tune_store.specs.declared.command.Refusal.{Refusal}
 use Rattle.tune_store.specs.declared.command.Refusal.TheVariants.{BookTooLong, NoTune}
 use Rattle.tune_store.specs.declared.command.Refusal.TheVariants.{BadTune, NotOne, Unknown, Stale}
 use Rattle.tune_store.specs.declared.command.Refusal.TheVariants.{Worn, ArchiveFull, NumbersSpent}
-use Rattle.tune_store.specs.declared.command.Refusal.TheVariants.{FileFull, OutOfMemory}
+use Rattle.tune_store.specs.declared.command.Refusal.TheVariants.{OutOfMemory}
 use Rattle.tune_store.specs.declared.command.Refusal.TheVariants.{Device, Closed}
 use Rattle.tune_store.specs.declared.command.Refusal.TheVariants.{Taken, InSet, NoSuchSet, SetTaken}
 use Rattle.tune_store.specs.declared.command.Refusal.TheVariants.{SetFull, SetsFull, NoSuchPlace}
@@ -126,7 +126,6 @@ refusal_bytes BadName = codes "refused 16 BadName\n"
 refusal_bytes BadNumber = codes "refused 17 BadNumber\n"
 refusal_bytes BadQuery = codes "refused 18 BadQuery\n"
 refusal_bytes BookTooLong = codes "refused 19 BookTooLong\n"
-refusal_bytes FileFull = codes "refused 20 FileFull\n"
 refusal_bytes OutOfMemory = codes "refused 21 OutOfMemory\n"
 refusal_bytes Device = codes "refused 22 Device\n"
 refusal_bytes Closed = codes "refused 23 Closed\n"

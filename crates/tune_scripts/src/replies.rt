@@ -172,7 +172,6 @@ fn write_refusal<W: Write>(writer: &mut W, refusal: &Refusal) -> io::Result<()>
         Refusal::BadNumber => writer.write_all(b"refused 17 BadNumber\n"),
         Refusal::BadQuery => writer.write_all(b"refused 18 BadQuery\n"),
         Refusal::BookTooLong => writer.write_all(b"refused 19 BookTooLong\n"),
-        Refusal::FileFull => writer.write_all(b"refused 20 FileFull\n"),
         Refusal::OutOfMemory => writer.write_all(b"refused 21 OutOfMemory\n"),
         Refusal::Device => writer.write_all(b"refused 22 Device\n"),
         Refusal::Closed => writer.write_all(b"refused 23 Closed\n"),

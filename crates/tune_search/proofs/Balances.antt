@@ -28,12 +28,41 @@ IsFullFor s shape change = (before after : List Part) (parts : IndexParts) (entr
 
 abbrev pub AreFullFor : Stand → SearchShape → (SearchRuns → SearchRuns) → Type 0
 AreFullFor s shape change = (before after : List Part) (parts : SearchParts) (entries : SearchRuns)
-    → HoldsFour s shape before after parts entries → free_pages s.used < entry_count (change entries)
+    → HoldsFour s shape before after parts entries → free_pages s.used + leaves_of shape < entry_count (change entries)
 
-module _ (was : SearchShape) (titles rhythms scales : Shape) (t r c i : List Entry → List Entry) where
+-- no entries are lost
+abbrev pub Grows : (List Entry → List Entry) → Type 0
+Grows change = (entries : List Entry) → length entries ≤ length (change entries)
+
+module _ (was : SearchShape) (titles rhythms scales : Shape) (t r c i : List Entry → List Entry) (more_r : Grows r) (more_c : Grows c) (more_i : Grows i) where
+  -- each index as it is before its run goes in has few leaves
+  few_rhythms : (s : Stand) (before after : List Part) (parts : SearchParts) (entries : SearchRuns) → HoldsFour s was before after parts entries
+      → length was.rhythms.pages ≤ length (r entries.rhythms)
+  few_rhythms s before after parts entries h =
+      let few = few_among key_bytes s was.rhythms _ _ parts.rhythms entries.rhythms (rhythms_among s was before after parts entries h) in
+      let grown = more_r entries.rhythms in
+      omega arith
+
+  few_scales : (s : Stand) (before after : List Part) (parts : SearchParts) (entries : SearchRuns) → HoldsFour s was before after parts entries
+      → length was.scales.pages ≤ length (c entries.scales)
+  few_scales s before after parts entries h =
+      let few = few_among key_bytes s was.scales _ _ parts.scales entries.scales (scales_among s was before after parts entries h) in
+      let grown = more_c entries.scales in
+      omega arith
+
+  few_incipits : (s : Stand) (before after : List Part) (parts : SearchParts) (entries : SearchRuns) → HoldsFour s was before after parts entries
+      → length was.incipits.pages ≤ length (i entries.incipits)
+  few_incipits s before after parts entries h =
+      let few = few_among key_bytes s was.incipits _ _ parts.incipits entries.incipits (incipits_among s was before after parts entries h) in
+      let grown = more_i entries.incipits in
+      omega arith
+
   pub titles_full : (s0 : Stand) → IsFullFor s0 was.titles t → AreFullFor s0 was (changed t r c i)
   titles_full s0 full = λ before after parts entries h.
       let none = full _ _ parts.titles entries.titles (titles_among s0 was before after parts entries h) in
+      let rest_r = few_rhythms s0 before after parts entries h in
+      let rest_c = few_scales s0 before after parts entries h in
+      let rest_i = few_incipits s0 before after parts entries h in
       omega arith
 
   pub rhythms_full : (s0 s1 : Stand) → LaysIndex key_bytes s0 s1 was.titles titles t → KeepsBalance s0 s1 was.titles.pages titles.pages
@@ -44,6 +73,8 @@ module _ (was : SearchShape) (titles rhythms scales : Shape) (t r c i : List Ent
       let done = one_laid was titles titles titles titles t t t t s0 s1 first before after parts entries h in
       let few = few_among key_bytes s1 titles _ _ done.0.titles (t entries.titles) (titles_among s1 is before after done.0 more done.1) in
       let none = full _ _ done.0.rhythms entries.rhythms (rhythms_among s1 is before after done.0 more done.1) in
+      let rest_c = few_scales s0 before after parts entries h in
+      let rest_i = few_incipits s0 before after parts entries h in
       omega arith
 
   pub scales_full : (s0 s1 s2 : Stand) → LaysIndex key_bytes s0 s1 was.titles titles t → LaysIndex key_bytes s1 s2 was.rhythms rhythms r
@@ -56,6 +87,7 @@ module _ (was : SearchShape) (titles rhythms scales : Shape) (t r c i : List Ent
       let few = few_among key_bytes s2 titles _ _ done.0.titles (t entries.titles) (titles_among s2 is before after done.0 more done.1) in
       let fewer = few_among key_bytes s2 rhythms _ _ done.0.rhythms (r entries.rhythms) (rhythms_among s2 is before after done.0 more done.1) in
       let none = full _ _ done.0.scales entries.scales (scales_among s2 is before after done.0 more done.1) in
+      let rest_i = few_incipits s0 before after parts entries h in
       omega arith
 
   pub incipits_full : (s0 s1 s2 s3 : Stand) → LaysIndex key_bytes s0 s1 was.titles titles t → LaysIndex key_bytes s1 s2 was.rhythms rhythms r
@@ -104,7 +136,7 @@ few_more s shape runs before after parts tunes more small also are h =
 -- so many pages are free
 pub full_for_texts : (s : Stand) (shape : SearchShape) (runs : SearchRuns) → AreFullFor s shape (λ entries. put_in runs entries)
     → (before after : List Part) (parts : SearchParts) (tunes more : List (ℕ × List ℕ)) → AreSmall tunes → AreSmall more → AreRunsOf more runs
-    → HoldsTexts s shape before after parts tunes → free_pages s.used < most_entries * length (tunes ++ more)
+    → HoldsTexts s shape before after parts tunes → free_pages s.used + leaves_of shape < most_entries * length (tunes ++ more)
 full_for_texts s shape runs full before after parts tunes more small also are h =
     let entries = entries_of_texts s shape before after parts tunes h in
     let none = full before after parts entries (texts_four s shape before after parts tunes h) in

@@ -1,7 +1,8 @@
 -- The entries of texts, as they come, and in order.
 use Rattle.std.proofs.Common.{◌≡◌, ℕ, suc, ◌+◌, ◌^◌, ◌<◌, ◌≤◌, Bool, false, List, [], ◌∷◌, ◌++◌, length, get_or, drop}
 use Rattle.std.proofs.Common.{arith, inl, inr, subst, sym, ap, ◌∙◌, append-nil, append_assoc, add-one, drop-cons}
-use Rattle.std.specs.Prelude.{◌==◌}
+use Rattle.std.specs.Option.{MatchOption, option_to_list}
+use Rattle.std.specs.Prelude.{◌==◌, None, Option, Some}
 use Rattle.std.specs.List.{AllByRecursion, Contains, IsDistinct}
 use Rattle.std.specs.List.Sorted.{IsNonDecreasingBy, IsPermutation}
 use Rattle.std.proofs.lemmas.Bool.Decides.{nat_tests}
@@ -35,6 +36,25 @@ text_more keys_of first i texts text run next all l is added e =
     let n : first + (i + 1) ≡ first + i + 1 = omega arith in
     let more : drop i texts ≡ text ∷ drop (suc i) texts = drop-cons texts i text l ∙ ap (λ (t : List ℕ). t ∷ drop (suc i) texts) (sym is) in
     rw (added, append_assoc, n, add-one i) (rw more at e)
+
+-- the entries of the texts in front of a place came in, and all of them fit
+pub record Gathered (keys_of : List ℕ → List ℕ) (first place : ℕ) (texts : List (List ℕ)) (run : List Entry) : Type 0 where
+  pub added : run ++ entries_of_tunes keys_of (numbered (first + place) (drop place texts)) ≡ entries_of_tunes keys_of (numbered first texts)
+  pub fit : AllFit 32 run
+
+pub gathered_more : (keys_of : List ℕ → List ℕ) (first i : ℕ) (texts : List (List ℕ)) (text keys : List ℕ) (run next : List Entry)
+    → i < length texts → text ≡ get_or texts i text → keys ≡ keys_of text → next ≡ run ++ entries_at (first + i) keys
+    → (AllFit 32 run → AllFit 32 next) → Gathered keys_of first i texts run → Gathered keys_of first (i + 1) texts next
+gathered_more keys_of first i texts text keys run next l is own more fit so_far = record {
+  added = text_more keys_of first i texts text run next (entries_of_tunes keys_of (numbered first texts)) l is
+      (more ∙ ap (λ (ks : List ℕ). run ++ entries_at (first + i) ks) own) so_far.added;
+  fit = fit so_far.fit;
+}
+
+-- what a slice of an option shows
+pub shown_alone : (key : Option ℕ) (keys : List ℕ) → MatchOption key (keys ≡ []) (λ one. keys ≡ one ∷ []) → keys ≡ option_to_list key
+shown_alone None keys is = is
+shown_alone (Some one) keys is = is
 
 -- no text more
 text_none : (keys_of : List ℕ → List ℕ) (first i : ℕ) (texts : List (List ℕ)) (run all : List Entry) → length texts ≤ i
@@ -176,12 +196,11 @@ sorted_rises es sorted once =
 
 -- THE RUN
 pub is_run_of : (keys_of : List ℕ → List ℕ) (first i : ℕ) (texts : List (List ℕ)) (es run : List Entry)
-    → ((text : List ℕ) → KeysRise 0 (keys_of text)) → first + length texts ≤ 2 ^ 32 → length texts ≤ i
-    → es ++ entries_of_tunes keys_of (numbered (first + i) (drop i texts)) ≡ entries_of_tunes keys_of (numbered first texts) → AllFit 32 es
+    → ((text : List ℕ) → KeysRise 0 (keys_of text)) → first + length texts ≤ 2 ^ 32 → length texts ≤ i → Gathered keys_of first i texts es
     → IsPermutation es run → IsNonDecreasingBy rank run → IsRunOf keys_of (numbered first texts) run
-is_run_of keys_of first i texts es run rise l at_end added fit moved sorted =
+is_run_of keys_of first i texts es run rise l at_end gathered moved sorted =
     let tunes = numbered first texts in
-    let is = text_none keys_of first i texts es (entries_of_tunes keys_of tunes) at_end added in
+    let is = text_none keys_of first i texts es (entries_of_tunes keys_of tunes) at_end gathered.added in
     let once : IsDistinct Same es = rw is (tunes_once keys_of first texts rise l) in
     let back = IsPermutation-sym es run moved in
     record {
@@ -192,5 +211,5 @@ is_run_of keys_of first i texts es run rise l at_end added fit moved sorted =
             Contains-permutation es run (key, tune.0) moved came;
         only = λ e at. whose keys_of tunes e (rw is at (Contains-permutation run es e back at));
       };
-      fit = fit_each 32 run (λ e at. fits_at 32 es e fit (Contains-permutation run es e back at));
+      fit = fit_each 32 run (λ e at. fits_at 32 es e gathered.fit (Contains-permutation run es e back at));
     }

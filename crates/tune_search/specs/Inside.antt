@@ -1,3 +1,4 @@
 pub mod Four
 pub mod EntryLinks
 pub mod TextEntries
+pub mod TextKeys

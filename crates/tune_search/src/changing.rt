@@ -49,7 +49,7 @@ fn put_runs<D: Disk>(
     ensures answer { AnswersEdit result pages.new.closed (HonestAt D.honest pages.new.disk
         → (before after : List Part) (parts : SearchParts) (entries : SearchRuns)
         → HoldsFour (stand pages.old work.old) indexes.old before after parts entries
-        → free_pages (stand pages.old work.old).used
+        → free_pages (stand pages.old work.old).used + leaves_of indexes.old
         < entry_count (put_in runs.now entries)) }
 {
     match put_run(alloc, pages, work, &mut indexes.titles, &runs.titles) {
@@ -117,9 +117,9 @@ impl SearchIndexes {
     ///
     /// # Errors
     ///
-    /// `FileFull` only where fewer pages are free than the entries that so many texts may have;
-    /// `OutOfMemory`; `Device` where the disk failed: the pages are then closed. The indexes and
-    /// the work are then to be dropped.
+    /// `FileFull` only where the pages that are free and the leaves are fewer than the entries that
+    /// so many texts may have; `OutOfMemory`; `Device` where the disk failed: the pages are then
+    /// closed. The indexes and the work are then to be dropped.
     pub fn put<D: Disk>(
         &mut self,
         alloc: Global,
@@ -147,7 +147,7 @@ impl SearchIndexes {
             → (before after : List Part) (parts : SearchParts) (tunes more : List (ℕ × List ℕ))
             → AreSmall tunes → AreSmall more → AreRunsOf more runs.now
             → HoldsTexts (stand pages.old work.old) self.old before after parts tunes
-            → free_pages (stand pages.old work.old).used
+            → free_pages (stand pages.old work.old).used + leaves_of self.old
             < most_entries * length (tunes ++ more)) }
     {
         match put_runs(alloc, pages, work, self, runs) {

@@ -9,12 +9,11 @@ ghost use Rattle.tune_search.specs.Claims.{AreAllKnown, AreKnown, HoldByNumber, 
 ghost use Rattle.tune_search.specs.Claims.{runs_of};
 ghost use Rattle.tune_search.specs.Searches.{SearchRuns};
 
+use crate::text_keys::TextKeys;
 use abc_fields::TuneText;
-use index_keys::{IndexKey, Keyed};
+use index_keys::IndexKey;
 use std::alloc::{AllocError, Global};
 use std::marker::Model;
-use tune_incipit::{EightNoteKeys, ScaleKeys};
-use tune_titles::{RhythmKeys, TitleKeys};
 
 // The entries of one index, those of each number linked in order. A place without an entry is how
 // many entries there are.
@@ -25,6 +24,24 @@ struct KeyClaims {
     firsts: Vec<u32>,
     // for each entry: where the next one of its number stands
     nexts: Vec<u32>,
+}
+
+// Where a number stands among numbers that rise, if it is one of them. Where none is left out
+// between the first and it, as is most often so, it is found at once.
+fn place_of(numbers: &[u32], number: u32) -> Option<usize>
+    requires { IsStrictlyIncreasing numbers.now }
+    ensures within { IfSome result (λ place. place < length numbers.now) }
+    ensures number { IfSome result (λ place. slice_index numbers.now place ≡ number) }
+    ensures none { result ≡ None → Contains numbers.now number → ⊥ }
+{
+    let guess = number.saturating_sub(*numbers.first()?) as usize;
+    if guess < numbers.len() && numbers[guess] == number {
+        return Some(guess);
+    }
+    match numbers.binary_search(&number) {
+        Ok(place) => Some(place),
+        Err(_) => None,
+    }
 }
 
 // Links the entries of each number, from the last entry to the first; false where the number of one
@@ -47,13 +64,11 @@ fn link(
     while at > 0 {
         at -= 1;
         let number = entries[at].1;
-        match numbers.binary_search(&number) {
-            Ok(place) => {
-                nexts[at] = firsts[place];
-                firsts[place] = at as u32;
-            }
-            Err(_) => return false,
-        }
+        let Some(place) = place_of(numbers, number) else {
+            return false;
+        };
+        nexts[at] = firsts[place];
+        firsts[place] = at as u32;
     }
     true
 }
@@ -89,12 +104,6 @@ fn claims_of(
     }))
 }
 
-fn is_same_key(key: &IndexKey<32>, other: &IndexKey<32>) -> bool
-    ensures { IsTrue result ↔ (key.now ≡ other.now) }
-{
-    !key.is_before(0, other, 0) && !other.is_before(0, key, 0)
-}
-
 // Whether the number whose first entry stands at this place stands at exactly these keys.
 fn stands_at(
     entries: &[(IndexKey<32>, u32)],
@@ -108,7 +117,7 @@ fn stands_at(
 {
     let mut at = first as usize;
     for key in keys {
-        if at >= entries.len() || !is_same_key(&entries[at].0, key) {
+        if at >= entries.len() || !entries[at].0.is_same(key) {
             return false;
         }
         at = nexts[at] as usize;
@@ -116,23 +125,17 @@ fn stands_at(
     at == entries.len()
 }
 
-// Whether the number at this place stands at exactly the keys of the text.
-fn claim<K: Keyed<32, Text = TuneText>>(
-    alloc: Global,
-    claims: &KeyClaims,
-    place: usize,
-    text: &TuneText,
-) -> Result<bool, AllocError>
+// Whether the number at this place stands at exactly these keys.
+fn has_keys(claims: &KeyClaims, place: usize, keys: &[IndexKey<32>]) -> bool
     requires place { place < length claims.now.firsts.items }
     requires nexts { AreNexts claims.now.entries.items claims.now.nexts.items }
     ensures { let entries = claims.now.entries.items in
         let first = slice_index claims.now.firsts.items place in
-        IfOk result (λ claimed. (number : ℕ) → first ≡ place_from number 0 entries
-        → (IsTrue claimed ↔ (keys_at number entries ≡ K.keys_of text.now))) }
+        (number : ℕ) → first ≡ place_from number 0 entries
+        → (IsTrue result ↔ (keys_at number entries ≡ keys.now)) }
 {
-    let keys = K::keys(alloc, text)?;
     let first = claims.firsts[place];
-    Ok(stands_at(&claims.entries, &claims.nexts, first, &keys))
+    stands_at(&claims.entries, &claims.nexts, first, keys)
 }
 
 /// The entries of the four search indexes as an opening compares them with the tunes, one tune
@@ -238,11 +241,12 @@ impl SearchClaims {
         ensures { IfOk result (λ claimed. IsTrue claimed
             ↔ StandsAtKeys self.now.runs (slice_index self.now.numbers place) text.now) }
     {
+        let keys = TextKeys::of(alloc, text)?;
         Ok(
-            claim::<TitleKeys>(alloc, &self.titles, place, text)?
-                && claim::<RhythmKeys>(alloc, &self.rhythms, place, text)?
-                && claim::<ScaleKeys>(alloc, &self.scales, place, text)?
-                && claim::<EightNoteKeys>(alloc, &self.incipits, place, text)?,
+            has_keys(&self.titles, place, &keys.titles)
+                && has_keys(&self.rhythms, place, keys.rhythm.as_slice())
+                && has_keys(&self.scales, place, keys.scale.as_slice())
+                && has_keys(&self.incipits, place, keys.incipit.as_slice()),
         )
     }
 }

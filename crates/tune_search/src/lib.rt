@@ -13,6 +13,7 @@ mod loading;
 mod runs;
 mod searches;
 mod storing;
+mod text_keys;
 
 pub use claims::{SearchClaims, law_of_claims};
 pub use laws::law_of_search_pages;

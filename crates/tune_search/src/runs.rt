@@ -1,17 +1,15 @@
 // The entries of texts, in order, before any page is touched.
 ghost use Rattle.std.specs.Prelude.{◌≡◌, ◌≤◌, ◌+◌, ◌++◌, ◌^◌, length, IfOk, OnOk};
-ghost use Rattle.std.specs.Ordering.{nat_cmp};
+ghost use Rattle.std.specs.List.Sorted.{IsNonDecreasingBy, IsPermutation};
 ghost use Rattle.index_keys.specs.Entries.{AllFit, FitsLeaf, rank};
 ghost use Rattle.tune_search.specs.Inside.TextEntries.{entries_at};
-ghost use Rattle.tune_search.specs.Searches.{AreRunsOf, IsRunOf, numbered};
+ghost use Rattle.tune_search.specs.Searches.{AreRunsOf, numbered};
 
+use crate::text_keys::TextKeys;
 use abc_fields::TuneText;
-use index_keys::{IndexKey, Keyed};
+use index_keys::IndexKey;
 use std::alloc::{AllocError, Global};
-use std::cmp::Ordering;
 use std::marker::Model;
-use tune_incipit::{EightNoteKeys, ScaleKeys};
-use tune_titles::{RhythmKeys, TitleKeys};
 
 /// The entries of some texts in each of the search indexes, in order: what goes into these indexes
 /// or out of them.
@@ -46,45 +44,38 @@ impl Runs {
         requires { first + length texts.now ≤ 2 ^ 32 }
         ensures { IfOk result (λ runs. AreRunsOf (numbered first texts.now) runs) }
     {
+        let mut titles = Vec::with_capacity(alloc, texts.len())?;
+        let mut rhythms = Vec::with_capacity(alloc, texts.len())?;
+        let mut scales = Vec::with_capacity(alloc, texts.len())?;
+        let mut incipits = Vec::with_capacity(alloc, texts.len())?;
+        for (place, text) in texts.iter().enumerate() {
+            let keys = TextKeys::of(alloc, text)?;
+            let number = first + place as u32;
+            add_entries(number, &keys.titles, &mut titles)?;
+            add_entries(number, keys.rhythm.as_slice(), &mut rhythms)?;
+            add_entries(number, keys.scale.as_slice(), &mut scales)?;
+            add_entries(number, keys.incipit.as_slice(), &mut incipits)?;
+        }
         Ok(Runs {
-            titles: run_of::<TitleKeys>(alloc, first, texts)?,
-            rhythms: run_of::<RhythmKeys>(alloc, first, texts)?,
-            scales: run_of::<ScaleKeys>(alloc, first, texts)?,
-            incipits: run_of::<EightNoteKeys>(alloc, first, texts)?,
+            titles: in_order(titles),
+            rhythms: in_order(rhythms),
+            scales: in_order(scales),
+            incipits: in_order(incipits),
         })
     }
 }
 
-// The entries of texts by one kind of keys, in order.
-fn run_of<K: Keyed<32, Text = TuneText>>(
-    alloc: Global,
-    first: u32,
-    texts: &[TuneText],
-) -> Result<Vec<(IndexKey<32>, u32)>, AllocError>
-    requires { first + length texts.now ≤ 2 ^ 32 }
-    ensures { IfOk result (λ run. IsRunOf K.keys_of (numbered first texts.now) run.items) }
-{
-    let mut run = Vec::new(alloc);
-    for (place, text) in texts.iter().enumerate() {
-        add_entries::<K>(alloc, first + place as u32, text, &mut run)?;
-    }
-    run.sort_unstable_by(|one, other| order_of(one, other));
-    Ok(run)
-}
-
-// The entries of a text, behind those that are there.
-fn add_entries<K: Keyed<32, Text = TuneText>>(
-    alloc: Global,
+// The entries of a number at these keys, behind those that are there.
+fn add_entries(
     number: u32,
-    text: &TuneText,
+    keys: &[IndexKey<32>],
     run: &mut Vec<(IndexKey<32>, u32)>,
 ) -> Result<(), AllocError>
     ensures added { OnOk result
-        (run.new.items ≡ run.old.items ++ entries_at number (K.keys_of text.now)) }
+        (run.new.items ≡ run.old.items ++ entries_at number keys.now) }
     ensures fit { AllFit 32 run.old.items → OnOk result (AllFit 32 run.new.items) }
 {
-    let keys = K::keys(alloc, text)?;
-    for key in &keys {
+    for key in keys {
         run.push(entry_at(key, number))?;
     }
     Ok(())
@@ -99,15 +90,12 @@ fn entry_at(key: &IndexKey<32>, number: u32) -> (IndexKey<32>, u32)
     (*key, number)
 }
 
-// Which of two entries comes first.
-fn order_of(one: &(IndexKey<32>, u32), other: &(IndexKey<32>, u32)) -> Ordering
-    ensures { result ≡ nat_cmp (rank one.now) (rank other.now) }
+// The entries in order.
+fn in_order(run: Vec<(IndexKey<32>, u32)>) -> Vec<(IndexKey<32>, u32)>
+    ensures same { IsPermutation run.items result.items }
+    ensures sorted { IsNonDecreasingBy rank result.items }
 {
-    if one.0.is_before(one.1, &other.0, other.1) {
-        Ordering::Less
-    } else if other.0.is_before(other.1, &one.0, one.1) {
-        Ordering::Greater
-    } else {
-        Ordering::Equal
-    }
+    let mut run = run;
+    run.sort_unstable_by(|one, other| one.0.compare(one.1, &other.0, other.1));
+    run
 }

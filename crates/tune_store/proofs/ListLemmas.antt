@@ -4,7 +4,7 @@ use Rattle.std.specs.Prelude.{⊤}
 use Rattle.tune_store.specs.State.{State, IsState, Standing}
 use Rattle.tune_store.specs.TuneSteps.{Outcome}
 use Rattle.tune_store.specs.Answers.{Answers, IsRefusalOfOwn, takes_memory, stays_open}
-use Rattle.tune_store.specs.Answers.{open_at, stepped, file_full, no_memory, failed_before, failed_after, is_closed}
+use Rattle.tune_store.specs.Answers.{open_at, stepped, no_memory, failed_before, failed_after, is_closed}
 use Rattle.tune_store.specs.Plans.{Decides, EndsFetch, IsRefusalOfPlan, grows}
 use Rattle.tune_store.specs.Revisions.{RaisesReplaced}
 use Rattle.tune_store.specs.Inside.Lists.{CarriedOut}
@@ -12,9 +12,9 @@ use Rattle.tune_store.specs.declared.plans.Plan.{Plan}
 use Rattle.tune_store.specs.declared.command.Command.{Command}
 use Rattle.tune_store.specs.declared.command.Reply.{Reply}
 use Rattle.tune_store.specs.declared.command.Refusal.{Refusal}
-use Rattle.tune_store.specs.declared.command.Refusal.TheVariants.{FileFull, OutOfMemory, Device}
+use Rattle.tune_store.specs.declared.command.Refusal.TheVariants.{OutOfMemory, Device}
 use Rattle.tune_store.proofs.LimitLemmas.{step_keeps_limits}
-use Rattle.tune_store.proofs.StepLemmas.{refused_stays, answers_close, never_fails, own_not_full}
+use Rattle.tune_store.proofs.StepLemmas.{refused_stays, answers_close, never_fails}
 use Rattle.tune_store.proofs.RevisionLemmas.{raised_where}
 
 -- what is refused leaves a list that no device serves
@@ -37,18 +37,6 @@ pub asked_for_memory : (old new : State) (command : Command) (plan : Plan) (answ
     → takes_memory command ≡ true
 asked_for_memory old new command plan (Ok reply) asks carried e = cc
 asked_for_memory old new command plan (Err refusal) asks carried e = asks carried.2
-
--- nothing is refused for a file that is full, neither where it is decided nor where it is carried out
-pub refused_not_full : (command : Command) (refusal : Refusal) (answer : Result Reply Refusal) → answer ≡ Err refusal → IsRefusalOfPlan command refusal
-    → answer ≡ Err FileFull → ⊥
-refused_not_full command refusal answer is (inl own) full =
-    let same : refusal ≡ FileFull = cc in own_not_full command (subst (IsRefusalOfOwn command) same own)
-refused_not_full command refusal answer is (inr (inl memory)) full = cc
-refused_not_full command refusal answer is (inr (inr device)) full = cc
-
-pub carried_not_full : (old new : State) (plan : Plan) (answer : Result Reply Refusal) → CarriedOut old plan answer new → answer ≡ Err FileFull → ⊥
-carried_not_full old new plan (Ok reply) carried full = cc
-carried_not_full old new plan (Err refusal) carried full = let memory = carried.0 in cc
 
 -- a list is never closed, and a refusal of it changes nothing
 still_open : (stays : Bool) → false ≡ not stays → stays ≡ true
@@ -75,7 +63,6 @@ list_raised old new command (Err refusal) answers = tt
 pub answers_within : (old new : Standing) (command : Command) (answer : Result Reply Refusal) → Answers old command answer new
     → IsState old.state → IsState new.state
 answers_within _ _ _ _ (stepped old new command answer e) is = subst IsState (ap (λ (o : Outcome). o.0) e) (step_keeps_limits old command is)
-answers_within _ _ _ _ (file_full old command takes) is = is
 answers_within _ _ _ _ (no_memory old command) is = is
 answers_within _ _ _ _ (failed_before old command) is = is
 answers_within _ _ _ _ (failed_after old command) is = step_keeps_limits old command is

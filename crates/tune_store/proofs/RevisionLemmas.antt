@@ -11,7 +11,7 @@ use Rattle.tune_store.specs.TuneSteps.{Outcome, TunesOutcome, with_tune, without
 use Rattle.tune_store.specs.TuneSteps.{moved, is_number, renumber, renumber_found, renumber_unless}
 use Rattle.tune_store.specs.SetSteps.{set_add_found}
 use Rattle.tune_store.specs.Step.{step}
-use Rattle.tune_store.specs.Answers.{Answers, stepped, file_full, no_memory, failed_before, failed_after, is_closed}
+use Rattle.tune_store.specs.Answers.{Answers, stepped, no_memory, failed_before, failed_after, is_closed}
 use Rattle.tune_store.specs.Runs.{Answered, Runs}
 use Rattle.tune_store.specs.Revisions.{revision_in, revision_of, HasTune, accepts, replaces, is_replace_of, is_delete_of, times_replaced, RaisesRevision}
 use Rattle.tune_store.specs.Revisions.{now_at, now_after, number_after, RaisesReplaced, AcceptedReplaceRaises}
@@ -284,8 +284,6 @@ answer_counts _ _ _ _ number current (stepped old new command answer e) is_open 
     let P : Outcome → Type 0 = λ o. IsFalse (is_delete_of number command && is_ok o.1)
     → revision_of (now_at command (is_ok o.1) number) o.0 ≡ Some (current + cond (is_replace_of number command && is_ok o.1) 1 0) in
     subst P e (step_counts old number current command has) stays
-answer_counts _ _ _ _ number current (file_full old command takes) is_open has stays =
-    rw (and_false (is_replace_of number command), number_stays command number, add-zero) has
 answer_counts _ _ _ _ number current (no_memory old command) is_open has stays =
     rw (and_false (is_replace_of number command), number_stays command number, add-zero) has
 answer_counts _ _ _ _ number current (failed_before old command) is_open has stays = cc
@@ -296,7 +294,6 @@ answer_counts _ _ _ _ number current (is_closed old command) is_open has stays =
 open_before : (old new : Standing) (command : Command) (answer : Result Reply Refusal) → Answers old command answer new
     → new.closed ≡ false → old.closed ≡ false
 open_before _ _ _ _ (stepped old new command answer e) is_open = refl
-open_before _ _ _ _ (file_full old command takes) is_open = refl
 open_before _ _ _ _ (no_memory old command) is_open = refl
 open_before _ _ _ _ (failed_before old command) is_open = refl
 open_before _ _ _ _ (failed_after old command) is_open = refl
@@ -329,7 +326,6 @@ answers_raise _ _ _ _ (stepped old new command (Ok reply) e) =
     let P : Outcome → Type 0 = λ o. IsTrue (is_ok o.1) → RaisesReplaced command old o.0 in
     subst P e (step_raises old command) refl
 answers_raise _ _ _ _ (stepped old new command (Err refusal) e) = tt
-answers_raise _ _ _ _ (file_full old command takes) = tt
 answers_raise _ _ _ _ (no_memory old command) = tt
 answers_raise _ _ _ _ (failed_before old command) = tt
 answers_raise _ _ _ _ (failed_after old command) = tt

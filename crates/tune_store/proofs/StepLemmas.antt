@@ -19,7 +19,7 @@ use Rattle.tune_store.specs.TuneSteps.{is_number, renumbered_state, renumber_unl
 use Rattle.tune_store.specs.SetSteps.{refusal_of_sets, sets_answer, sets_step, set_add_found}
 use Rattle.tune_store.specs.Questions.{shown}
 use Rattle.tune_store.specs.Step.{step}
-use Rattle.tune_store.specs.Answers.{Answers, open_at, stepped, file_full, no_memory, failed_before, failed_after, is_closed, passed}
+use Rattle.tune_store.specs.Answers.{Answers, open_at, stepped, no_memory, failed_before, failed_after, is_closed, passed}
 use Rattle.tune_store.specs.Answers.{stays_open, IsRefusalOf, IsRefusalOfAny, IsRefusalOfOwn}
 use Rattle.tune_store.specs.Stops.{Among, Passes}
 use Rattle.tune_store.specs.Inside.Plans.{IsOwnOrMemory}
@@ -33,7 +33,7 @@ use Rattle.tune_store.specs.declared.command.Reply.TheVariants.{Renumbered}
 use Rattle.tune_store.specs.declared.command.Refusal.{Refusal}
 use Rattle.tune_store.specs.declared.command.Refusal.TheVariants.{BookTooLong, NoTune, BadTune, NotOne, Unknown, Stale, Worn, ArchiveFull}
 use Rattle.tune_store.specs.declared.command.Refusal.TheVariants.{NumbersSpent, Taken, InSet, NoSuchSet, SetTaken, SetFull, SetsFull, NoSuchPlace}
-use Rattle.tune_store.specs.declared.command.Refusal.TheVariants.{BadName, BadNumber, BadQuery, FileFull, OutOfMemory, Device, Closed}
+use Rattle.tune_store.specs.declared.command.Refusal.TheVariants.{BadName, BadNumber, BadQuery, OutOfMemory, Device, Closed}
 use Rattle.tune_store.specs.declared.layout.Layout.{Layout}
 
 -- CALLS OF SETS
@@ -372,24 +372,6 @@ own_not_closed (SetShow name) own = own
 own_not_closed ExportAll own = own
 own_not_closed (ExportSet name) own = own
 
--- or that the file is full
-pub own_not_full : (command : Command) → IsRefusalOfOwn command FileFull → ⊥
-own_not_full (Import book) own = own
-own_not_full (Replace number revision book) own = own
-own_not_full (Delete number) own = own
-own_not_full (Renumber number to) own = own
-own_not_full (Show number) own = own
-own_not_full (Find query) own = own
-own_not_full Titles own = own
-own_not_full (SetNew name) own = own
-own_not_full (SetAdd name number) own = own
-own_not_full (SetCut name place) own = own
-own_not_full (SetDrop name) own = own
-own_not_full Sets own = own
-own_not_full (SetShow name) own = own
-own_not_full ExportAll own = own
-own_not_full (ExportSet name) own = own
-
 -- no command is refused for the device
 step_not_of_device : (old : State) (command : Command) (refusal : Refusal) → (step old command).1 ≡ Err refusal → IsOfDevice refusal → ⊥
 step_not_of_device old command refusal h of = elim (step_refuses old command refusal h) [
@@ -421,7 +403,6 @@ open_after BadQuery other = refl
 open_after ArchiveFull other = refl
 open_after NumbersSpent other = refl
 open_after BookTooLong other = refl
-open_after FileFull other = refl
 open_after OutOfMemory other = refl
 open_after Device other = absurd (other (inl refl))
 open_after Closed other = absurd (other (inr refl))
@@ -433,7 +414,6 @@ pub refused_stays : (old new : Standing) (command : Command) (answer : Result Re
 refused_stays _ _ _ _ (stepped old new command (Ok reply) e) = tt
 refused_stays _ _ _ _ (stepped old new command (Err refusal) e) =
     λ other. ap open_at (sym (ap (λ (o : Outcome). o.0) e) ∙ refused_keeps old command refusal (ap (λ (o : Outcome). o.1) e))
-refused_stays _ _ _ _ (file_full old command takes) = λ other. refl
 refused_stays _ _ _ _ (no_memory old command) = λ other. refl
 refused_stays _ _ _ _ (failed_before old command) = λ other. absurd (other refl)
 refused_stays _ _ _ _ (failed_after old command) = λ other. absurd (other refl)
@@ -447,7 +427,6 @@ answers_name _ _ _ _ (stepped old new command (Err refusal) e) = elim (step_refu
   | inl own ↦ inl own
   | inr memory ↦ inr (subst (IsRefusalOfAny command) (sym memory) tt)
 ]
-answers_name _ _ _ _ (file_full old command takes) = inr takes
 answers_name _ _ _ _ (no_memory old command) = inr tt
 answers_name _ _ _ _ (failed_before old command) = inr tt
 answers_name _ _ _ _ (failed_after old command) = inr tt
@@ -459,7 +438,6 @@ pub answers_close : (old new : Standing) (command : Command) (answer : Result Re
 answers_close _ _ _ _ (stepped old new command (Ok reply) e) = refl
 answers_close _ _ _ _ (stepped old new command (Err refusal) e) =
     sym (ap not (open_after refusal (step_not_of_device old command refusal (ap (λ (o : Outcome). o.1) e))))
-answers_close _ _ _ _ (file_full old command takes) = refl
 answers_close _ _ _ _ (no_memory old command) = refl
 answers_close _ _ _ _ (failed_before old command) = refl
 answers_close _ _ _ _ (failed_after old command) = refl
@@ -470,7 +448,6 @@ pub closed_answers : (old new : Standing) (command : Command) (answer : Result R
     → (answer ≡ Err Closed) ↔ (old.closed ≡ true)
 closed_answers _ _ _ _ (stepped old new command answer e) =
     (λ h. absurd (step_not_of_device old command Closed (ap (λ (o : Outcome). o.1) e ∙ h) (inr refl)), λ h. cc)
-closed_answers _ _ _ _ (file_full old command takes) = (λ h. cc, λ h. cc)
 closed_answers _ _ _ _ (no_memory old command) = (λ h. cc, λ h. cc)
 closed_answers _ _ _ _ (failed_before old command) = (λ h. cc, λ h. cc)
 closed_answers _ _ _ _ (failed_after old command) = (λ h. cc, λ h. cc)
@@ -482,7 +459,6 @@ pub answers_reach : (old new : Standing) (command : Command) (answer : Result Re
 answers_reach _ _ _ _ (stepped old new command (Ok reply) e) = inr (inl (sym (ap (λ (o : Outcome). o.0) e)))
 answers_reach _ _ _ _ (stepped old new command (Err refusal) e) =
     inl (sym (ap (λ (o : Outcome). o.0) e) ∙ refused_keeps old command refusal (ap (λ (o : Outcome). o.1) e))
-answers_reach _ _ _ _ (file_full old command takes) = inl refl
 answers_reach _ _ _ _ (no_memory old command) = inl refl
 answers_reach _ _ _ _ (failed_before old command) = inl refl
 answers_reach _ _ _ _ (failed_after old command) = inr (inl refl)

@@ -14,7 +14,7 @@ use Rattle.tune_store.specs.declared.command.Refusal.{Refusal}
 use Rattle.tune_store.specs.declared.command.Refusal.TheVariants.{BookTooLong, NoTune}
 use Rattle.tune_store.specs.declared.command.Refusal.TheVariants.{BadTune, NotOne, Unknown, Stale}
 use Rattle.tune_store.specs.declared.command.Refusal.TheVariants.{Worn, ArchiveFull, NumbersSpent}
-use Rattle.tune_store.specs.declared.command.Refusal.TheVariants.{FileFull, OutOfMemory}
+use Rattle.tune_store.specs.declared.command.Refusal.TheVariants.{OutOfMemory}
 use Rattle.tune_store.specs.declared.command.Refusal.TheVariants.{Device, Closed}
 use Rattle.tune_store.specs.declared.command.Refusal.TheVariants.{Taken, InSet, NoSuchSet, SetTaken}
 use Rattle.tune_store.specs.declared.command.Refusal.TheVariants.{SetFull, SetsFull, NoSuchPlace}
@@ -39,23 +39,11 @@ asks ExportAll = true
 asks (ExportSet name) = true
 asks command = false
 
--- whether a command may take pages of a file that were free: a delete, a renumber, a set-cut and a
--- set-drop have those that they free
-abbrev pub takes_pages : Command → Bool
-takes_pages (Import book) = true
-takes_pages (Replace number revision book) = true
-takes_pages (SetNew name) = true
-takes_pages (SetAdd name number) = true
-takes_pages command = false
-
 -- what a store stood for, a command, its answer, and what the store stands for then
 pub data Answers : Standing → Command → Result Reply Refusal → Standing → Type 0 where
   -- the answer and the state are those of the plain list
   stepped : (old new : State) (command : Command) (answer : Result Reply Refusal)
       → step old command ≡ (new, answer) → Answers (open_at old) command answer (open_at new)
-  -- no page is free in the file for a command that may take one, and nothing changed
-  file_full : (old : State) (command : Command) → takes_pages command ≡ true
-      → Answers (open_at old) command (Err FileFull) (open_at old)
   -- out of memory, and nothing changed
   no_memory : (old : State) (command : Command)
       → Answers (open_at old) command (Err OutOfMemory) (open_at old)
@@ -102,9 +90,8 @@ IsRefusalOfBook NoTune = ⊤
 IsRefusalOfBook (BadTune place why) = ⊤
 IsRefusalOfBook refusal = ⊥
 
--- The refusals that commands of every kind may be given; `FileFull` is for those that take pages.
+-- the refusals that commands of every kind may be given
 abbrev pub IsRefusalOfAny : Command → Refusal → Type 0
-IsRefusalOfAny command FileFull = takes_pages command ≡ true
 IsRefusalOfAny command OutOfMemory = ⊤
 IsRefusalOfAny command Device = ⊤
 IsRefusalOfAny command Closed = ⊤

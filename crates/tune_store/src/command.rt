@@ -152,9 +152,6 @@ pub enum Refusal {
     /// The book has more bytes than `abc_fields::LONGEST_BOOK`.
     #[error("the book is too long")]
     BookTooLong,
-    /// No page is free in the file for what the command is to write.
-    #[error("the file is full")]
-    FileFull,
     /// Memory ran out in this call.
     #[error("out of memory")]
     OutOfMemory,

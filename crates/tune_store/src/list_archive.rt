@@ -174,11 +174,10 @@ impl TuneStore for ListArchive {
 
     ghost since_earlier = { λ archive since earlier file le left. left };
 
-    /// It is never closed, it has no file that may be full, and a refusal changes nothing. Commands
-    /// that take no memory (`takes_memory`) are never refused for it.
+    /// It is never closed, and a refusal changes nothing. Commands that take no memory
+    /// (`takes_memory`) are never refused for it.
     fn apply(&mut self, command: &Command) -> Result<Reply, Refusal>
         ensures answer { Answers (open_at self.old) command.now result (open_at self.new) }
-        ensures room { IsErrOf result Refusal.FileFull → ⊥ }
         ensures memory { IsErrOf result Refusal.OutOfMemory → takes_memory command.now ≡ true }
         ensures refused { OnErr result (self.new ≡ self.old) }
         ensures names { IfErr result (IsRefusalOf command.now) }

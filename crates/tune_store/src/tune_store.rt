@@ -42,8 +42,7 @@ pub trait TuneStore {
     /// Whether a file stands for a state.
     ghost stands_for: { List ℕ → State → Type 0 } = { λ _ _. ⊥ };
 
-    /// Carries out a command, or refuses it. The refusals are those of the command, `FileFull`
-    /// where no page is free for an import, a replace, a set-new or a set-add, `OutOfMemory`,
+    /// Carries out a command, or refuses it. The refusals are those of the command, `OutOfMemory`,
     /// `Device` where the device failed, and `Closed` where it failed before. After each but
     /// `Device` the store is as it was. After `Device` it is closed, and makes no device call any
     /// more.

@@ -7,9 +7,11 @@ use Rattle.tune_titles.specs.Articles.{small_letters}
 use Rattle.tune_titles.specs.Titles.{sorting_title}
 
 -- TITLES: the first 32 bytes of each sorting title; what is shorter is filled up with zeros
+abbrev pub title_keys_of : List (List ℕ) → List ℕ
+title_keys_of titles = rising_keys (map (λ title. cut_number 32 0 (sorting_title title)) titles)
+
 abbrev pub title_keys : List ℕ → List ℕ
-title_keys text =
-    rising_keys (map (λ title. cut_number 32 0 (sorting_title title)) (titles_of text))
+title_keys text = title_keys_of (titles_of text)
 
 -- RHYTHMS: the first 32 bytes of the rhythm in small letters, where there is one
 abbrev pub rhythm_keys_of : Option (List ℕ) → List ℕ

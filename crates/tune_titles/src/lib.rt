@@ -16,5 +16,5 @@ mod shown;
 pub use lists::{TitleList, titles_of};
 pub use matching::{TitlePrefix, prefix_matches, rhythm_matches, title_matches_tune};
 pub use rows::{TitleRow, sort_rows};
-pub use search_keys::{RhythmKeys, TitleKeys};
+pub use search_keys::{RhythmKeys, TitleKeys, key_of_rhythm, keys_of_titles};
 pub use shown::{index_title, sort_title};

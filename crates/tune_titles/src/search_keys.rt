@@ -1,13 +1,14 @@
 // The keys by which titles and rhythms are found in an index.
-ghost use Rattle.std.specs.Prelude.{◌≡◌, IfOk};
+ghost use Rattle.std.specs.Prelude.{◌≡◌, IfOk, option_copied};
+ghost use Rattle.std.specs.Option.{option_to_list};
 ghost use Rattle.index_keys.specs.Cuts.{cut_number};
 ghost use Rattle.tune_titles.specs.Articles.{small_letters};
-ghost use Rattle.tune_titles.specs.SearchKeys.{rhythm_keys, title_keys};
+ghost use Rattle.tune_titles.specs.SearchKeys.{rhythm_keys_of, title_keys_of};
 ghost use Rattle.tune_titles.specs.Titles.{sorting_title};
 
 use crate::articles::rest_of;
 use crate::matching::{TitlePrefix, rhythm_matches};
-use abc_fields::{TuneText, fields, trim_blanks};
+use abc_fields::{Titles, TuneText, fields, trim_blanks};
 use index_keys::{IndexKey, Keyed, add_key};
 use std::alloc::{AllocError, Global};
 use std::marker::PhantomData;
@@ -49,7 +50,7 @@ impl<'a> Keyed<32> for TitleKeys<'a> {
     fn keys(alloc: Global, text: &TuneText) -> Result<Vec<IndexKey<32>>, AllocError>
         ensures { IfOk result (λ keys. keys.items ≡ title_keys text.now) }
     {
-        title_keys_of(alloc, text)
+        keys_of_titles(alloc, &fields(text).titles)
     }
 
     fn range(query: &TitlePrefix<'a>) -> (IndexKey<32>, IndexKey<32>)
@@ -90,7 +91,7 @@ impl<'a> Keyed<32> for RhythmKeys<'a> {
     fn keys(alloc: Global, text: &TuneText) -> Result<Vec<IndexKey<32>>, AllocError>
         ensures { IfOk result (λ keys. keys.items ≡ rhythm_keys text.now) }
     {
-        rhythm_keys_of(alloc, text)
+        Vec::from_slice(alloc, key_of_rhythm(fields(text).rhythm).as_slice())
     }
 
     fn range(query: &&'a [u8]) -> (IndexKey<32>, IndexKey<32>)
@@ -115,13 +116,16 @@ fn title_key(title: &[u8]) -> IndexKey<32>
     IndexKey::cut_small(rest_of(trim_blanks(title)), 0)
 }
 
-// The keys of the titles of a tune.
-fn title_keys_of(alloc: Global, text: &TuneText) -> Result<Vec<IndexKey<32>>, AllocError>
-    ensures { IfOk result (λ keys. keys.items ≡ title_keys text.now) }
+/// The keys of a tune that has these titles, rising, each once.
+///
+/// # Errors
+///
+/// There is no memory.
+pub fn keys_of_titles(alloc: Global, titles: &Titles) -> Result<Vec<IndexKey<32>>, AllocError>
+    ensures { IfOk result (λ keys. keys.items ≡ title_keys_of titles.now) }
 {
-    let fields = fields(text);
-    let titles = fields.titles.as_slice();
-    let mut keys = Vec::new(alloc);
+    let titles = titles.as_slice();
+    let mut keys = Vec::with_capacity(alloc, titles.len())?;
     let mut left = titles.len();
     while left > 0 {
         left -= 1;
@@ -130,13 +134,12 @@ fn title_keys_of(alloc: Global, text: &TuneText) -> Result<Vec<IndexKey<32>>, Al
     Ok(keys)
 }
 
-// The key of the rhythm of a tune, where it has one.
-fn rhythm_keys_of(alloc: Global, text: &TuneText) -> Result<Vec<IndexKey<32>>, AllocError>
-    ensures { IfOk result (λ keys. keys.items ≡ rhythm_keys text.now) }
+/// The key of a tune that has this rhythm, where it has one.
+pub fn key_of_rhythm(rhythm: Option<&[u8]>) -> Option<IndexKey<32>>
+    ensures { option_to_list result ≡ rhythm_keys_of (option_copied rhythm.entry) }
 {
-    let mut keys = Vec::new(alloc);
-    if let Some(rhythm) = fields(text).rhythm {
-        keys.push(IndexKey::cut_small(rhythm, 0))?;
+    match rhythm {
+        Some(rhythm) => Some(IndexKey::cut_small(rhythm, 0)),
+        None => None,
     }
-    Ok(keys)
 }

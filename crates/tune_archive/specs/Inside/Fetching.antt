@@ -1,57 +1,14 @@
 -- What becomes of an archive while texts of its tunes are read.
-use Rattle.std.specs.Prelude.{◌≡◌, ℕ, ◌^◌, ◌<◌, Bool, true, false, List, Some, Result, MatchResult}
-use Rattle.std.specs.Prelude.{slice_index_or}
-use Rattle.abc_fields.specs.Tunes.{IsTextWithin}
+use Rattle.std.specs.Prelude.{◌≡◌, ℕ, true, false, Some, slice_index_or}
 use Rattle.tune_disk.specs.Disk.{DiskState}
 use Rattle.tune_pages.specs.Kept.{HonestAt, state_at, failures_at}
-use Rattle.tune_pages.specs.Stand.{Stand, HasChain}
-use Rattle.tune_pages.specs.declared.fault.Fault.{Fault}
-use Rattle.tune_pages.specs.declared.fault.Fault.TheVariants.{FileFull, OutOfMemory, Device}
-use Rattle.tune_pages.specs.declared.fault.Fault.TheVariants.{Closed}
 use Rattle.tune_store.specs.Labels.{labels_of}
-use Rattle.tune_store.specs.Limits.{longest_text}
 use Rattle.tune_store.specs.Stops.{HasFailed}
-use Rattle.tune_store.specs.declared.layout.Layout.{Layout}
 use Rattle.tune_store.specs.declared.tune.Tune.{Tune}
-use Rattle.tune_format.specs.Written.{written_text}
 use Rattle.tune_contents.specs.Holds.{labels_in}
 use Rattle.tune_archive.specs.Shelf.{Shelf, state_of}
 use Rattle.tune_archive.specs.declared.archive.Fetched.{Fetched}
 
--- A TEXT
--- these bytes are a revision and this text of a tune, within the limits of the layout
-pub record IsTextOf (layout : Layout) (bytes : List ℕ) (revision : ℕ) (text : List ℕ) : Type 0 where
-  pub written : written_text revision text ≡ bytes
-  pub few : revision < 2 ^ 16
-  pub good : IsTextWithin (longest_text layout) text
-
--- The chain that begins there is in use, and holds a revision and this text of a tune.
-pub record HoldsText (layout : Layout) (s : Stand) (first revision : ℕ) (text : List ℕ)
-    : Type 0 where
-  pub trail : List ℕ
-  pub bytes : List ℕ
-  pub has : HasChain s first trail bytes
-  pub is : IsTextOf layout bytes revision text
-
--- some text stands there
-abbrev pub HoldsSomeText : Layout → Stand → ℕ → Type 0
-HoldsSomeText layout s first =
-    (revision : ℕ) × (text : List ℕ) × HoldsText layout s first revision text
-
--- A text that is read from open pages is refused for memory, which leaves them open, or for the
--- device.
-abbrev pub IsTextFault : Fault → Bool → Type 0
-IsTextFault OutOfMemory closed = closed ≡ false
-IsTextFault Device closed = Unit {0}
-IsTextFault FileFull closed = ⊥
-IsTextFault Closed closed = ⊥
-
--- the answer of such a read
-abbrev pub AnswersText : {T : Type 0} → Result T Fault → Bool → Type 0
-AnswersText result closed =
-    MatchResult result (λ _. closed ≡ false) (λ fault. IsTextFault fault closed)
-
--- THE ARCHIVE
 -- Where its disk is honest, what it knows in memory is that of its state.
 pub record Tells {D : Type 0} (honest : D → Type 0) (state : D → DiskState) (archive : Shelf D)
     : Type 0 where

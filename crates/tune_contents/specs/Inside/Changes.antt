@@ -7,7 +7,7 @@ use Rattle.tune_sets.specs.Calls.{create_set, add_number, cut_place, drop_set}
 use Rattle.tune_sets.specs.Sets.{holder}
 use Rattle.tune_sets.specs.declared.set_lists.TuneSet.{TuneSet}
 use Rattle.tune_store.specs.Plans.{changed_tunes, CanChange}
-use Rattle.tune_store.specs.State.{RisesFrom}
+use Rattle.tune_store.specs.State.{IsTunes, RisesFrom}
 use Rattle.tune_store.specs.declared.tune.Tune.{Tune}
 use Rattle.tune_store.specs.declared.layout.Layout.{Layout}
 use Rattle.tune_store.specs.declared.plans.Change.{Change}
@@ -33,14 +33,6 @@ SetsAccept (CutPlace name place) sets = IsOk (cut_place name place sets).1
 SetsAccept (DropSet name) sets = IsOk (drop_set name sets).1
 SetsAccept change sets = ⊤
 
--- whether it is one of tunes
-abbrev pub changes_tunes : Change → Bool
-changes_tunes (Add first texts) = true
-changes_tunes (Put place tune) = true
-changes_tunes (Take place) = true
-changes_tunes (Move number to) = true
-changes_tunes change = false
-
 -- whether it is one of these set lists, as the move of a tune is that they name
 abbrev pub changes_sets : Change → List TuneSet → Bool
 changes_sets (Add first texts) sets = false
@@ -55,6 +47,11 @@ abbrev pub LaysChange : Stand → Stand → List Row → List Row → Change →
 LaysChange old new rows left change = (ahead : List Part) (tunes : List Tune)
     → RisesFrom 0 tunes → HoldsTunes old ahead tunes rows
     → HoldsTunes new ahead (changed_tunes change tunes) left
+
+-- some tunes within the limits stand so
+abbrev pub HoldsTunesWithin : Layout → Stand → List Row → Type 0
+HoldsTunesWithin layout s rows = (ahead : List Part) × (tunes : List Tune) × IsTunes layout tunes
+    × HoldsTunes s ahead tunes rows
 
 -- Rows within the limits stay so, by rising number, where the change can be made of them.
 abbrev pub KeepsRows : Change → List Row → List Row → Type 0

@@ -14,7 +14,7 @@ returns-in_err-left-clause-never_full g c =
     let was = c.in_err-left.ensures.looks.was_honest h in
     never_full (stand old c.in_ok-work.work) (stand_of old) contents c.args.change c.in_err-left.field-0.0 c.law_of_state_pages.ensures
     c.in_ok-work.ensures.stand (c.requires.within was) c.requires.many (c.limit-limit.ensures.sized c.requires.open was)
-    (c.in_err-left.ensures.full h c.requires.rows))
+    (c.in_err-left.ensures.takes h))
 
 pub returns-in_err-finish-clause-moments : goal.returns-in_err-finish-clause-moments
 returns-in_err-finish-clause-moments g c = λ h.

@@ -1,20 +1,18 @@
-use Rattle.std.proofs.Common.{◌≡◌, List, length}
+use Rattle.std.proofs.Common.{◌≡◌, ◌++◌, List, drop, length}
 use Rattle.tune_parts.specs.Parts.{Part}
-use Rattle.tune_contents.specs.Inside.Claiming.{HasClaimed, ClaimsSoFar}
-use Rattle.tune_contents.specs.Inside.ClaimedRows.{RowsSoFar}
+use Rattle.tune_search.specs.Claiming.{HasClaimed}
+use Rattle.tune_format.specs.Written.{number_entries}
+use Rattle.tune_contents.specs.Inside.Claiming.{ClaimsSoFar}
 use Rattle.tune_contents.proofs.claiming.claim_tunes.Given as goal
 
-abbrev pub invariant-loop-number : goal.invariant-loop-number
-invariant-loop-number g l = record {
+abbrev pub invariant-loop-place : goal.invariant-loop-place
+invariant-loop-place g l = record {
   honest : g.D.Disk.honest l.opening.disk → g.D.Disk.honest l.initial.opening.disk;
   same : g.D.Disk.honest l.opening.disk → g.D.Disk.state l.opening.disk ≡ g.D.Disk.state l.initial.opening.disk;
   pages : g.D.Disk.honest l.opening.disk → l.opening.pages ≡ l.initial.opening.pages;
   count : length l.opening.pages ≡ length l.initial.opening.pages;
   failures : g.D.Disk.failures l.opening.disk ≡ g.D.Disk.failures l.initial.opening.disk;
-  rows : RowsSoFar l.list l.rows.items l.low l.rest;
+  entries : number_entries l.rows.items ++ number_entries (drop l.place l.listed) ≡ number_entries l.listed;
   claims : g.D.Disk.honest l.opening.disk → (front : List Part) → HasClaimed l.initial.opening.pages l.initial.opening.claimed front
-      → ClaimsSoFar l.layout l.initial.opening.pages front l.list l.opening.claimed l.rows.items l.low l.rest;
+      → ClaimsSoFar l.layout l.initial.opening.pages front l.claims.runs l.listed l.opening.claimed l.rows.items (drop l.place l.listed);
 }
-
-abbrev pub decreases-loop-number : goal.decreases-loop-number
-decreases-loop-number g l = length l.rest

@@ -1,14 +1,12 @@
 use Rattle.tune_pages.specs.Faults.{pages_for}
 use Rattle.tune_contents.proofs.TakesLemmas.{put_count}
-use Rattle.std.proofs.Common.{length, ◌+◌, arith, ◌≡◌, [], ◌∷◌, ◌++◌, ◌∙◌, ap, sym, subst, List, ℕ, rules}
-use Rattle.std.proofs.lemmas.List.{map-append}
+use Rattle.std.proofs.Common.{length, ◌+◌, arith, ◌≡◌, [], ◌∷◌, ◌++◌, ◌∙◌, ap, refl, sym, subst, List, ℕ, rules}
 use Rattle.tune_pages.specs.Stand.{PutsChain}
 use Rattle.tune_pages.specs.Work.{stand}
 use Rattle.tune_store.specs.declared.tune.Tune.{Tune}
 use Rattle.tune_format.specs.Written.{written_text, written_tune}
 use Rattle.tune_format.specs.declared.rows.Row.{Row}
 use Rattle.tune_contents.specs.Inside.Laying.{LaysTunes}
-use Rattle.tune_contents.specs.Inside.Rows.{numbers_in}
 use Rattle.tune_contents.proofs.LayLemmas.{adds_tune}
 use Rattle.tune_contents.proofs.laying.add_tune.Goals as goal
 
@@ -26,12 +24,11 @@ returns-clause-lays g c =
     (adds_tune old new c.args.rows.now.items c.in_ok-first.first tune put.0
     (subst (PutsChain old new c.in_ok-first.first put.0) bytes put.1))
 
-pub returns-clause-numbers : goal.returns-clause-numbers
-returns-clause-numbers g c =
-    let rows = c.args.rows.now.items in
+pub returns-clause-row : goal.returns-clause-row
+returns-clause-row g c =
     let row : Row = record { number = c.args.number; revision = 1; first = c.in_ok-first.first } in
-    let pushed : c.push.new.self.items ≡ rows ++ row ∷ [] = search rules in
-    ap numbers_in pushed ∙ map-append (λ (r : Row). r.number) rows (row ∷ [])
+    let pushed : c.push.new.self.items ≡ c.args.rows.now.items ++ row ∷ [] = search rules in
+    (row, pushed, refl)
 
 pub returns-clause-takes : goal.returns-clause-takes
 returns-clause-takes g c =

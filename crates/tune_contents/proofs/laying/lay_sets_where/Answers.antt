@@ -1,6 +1,6 @@
 use Rattle.tune_pages.specs.Kept.{HonestAt}
 use Rattle.tune_pages.specs.Work.{stand}
-use Rattle.tune_contents.proofs.ArchiveLemmas.{sets_laid}
+use Rattle.tune_contents.proofs.LayLemmas.{sets_laid}
 use Rattle.tune_contents.proofs.laying.lay_sets_where.Goals as goal
 
 pub returns-then-changes-clause-lays : goal.returns-then-changes-clause-lays

@@ -1,8 +1,6 @@
-use Rattle.std.proofs.Common.{◌≡◌, ◌∙◌, ap, subst, List, ℕ}
-use Rattle.std.proofs.lemmas.List.{map-set}
+use Rattle.std.proofs.Common.{◌≡◌, ◌∙◌, ap, refl, subst, List, ℕ}
 use Rattle.tune_pages.specs.Work.{stand}
 use Rattle.tune_format.specs.Written.{written_text, written_tune}
-use Rattle.tune_format.specs.declared.rows.Row.{Row}
 use Rattle.tune_contents.specs.Inside.Laying.{SwapsChain}
 use Rattle.tune_contents.proofs.LayLemmas.{some_chain, puts_tune}
 use Rattle.tune_contents.proofs.laying.put_tune.Goals as goal
@@ -23,8 +21,7 @@ returns-clause-lays g c = λ h.
     (rw c.deref.ensures.value at c.first_at.ensures)
     (subst (SwapsChain old new c.first_at.result c.in_ok-first.first) bytes (c.in_ok-first.ensures.swaps h)))
 
-pub returns-clause-numbers : goal.returns-clause-numbers
-returns-clause-numbers g c =
+pub returns-clause-row : goal.returns-clause-row
+returns-clause-row g c =
     let tune = c.args.tune.now in
-    map-set (λ (row : Row). row.number) c.args.rows.now.items c.args.place
-    (record { number = tune.number; revision = tune.revision; first = c.in_ok-first.first })
+    (record { number = tune.number; revision = tune.revision; first = c.in_ok-first.first }, c.requires.place, refl, refl)

@@ -7,7 +7,7 @@ pub returns : goal.returns
 returns c = record {
   pages = λ file pages. pages_read pages file;
   tunes = λ layout pages tunes sets filed are few. tunes_filed pages tunes sets filed are (omega (arith, few));
-  sets = sets_filed;
+  sets = λ layout. sets_filed;
   state = state_read;
   file = file_read;
   once = state_once;

@@ -35,7 +35,7 @@ loop-place-preserved g c =
           (g.D.Disk.state c.write_entry.new.disk).seen =
           writes_ok _ _ c.write_entry.result _ _ _ (c.in_ok-write_entry.was) (c.write_entry.ensures.write h) in
           entries_more c.args.base c.loop-place.place c.args.changes.now _ _ _ (c.loop-place.invariant.entries (c.write_entry.ensures.calls.was_honest h)) long
-          (λ t. big_bytes 4 (c.page_at.ensures t) ++ c.image_at.ensures t)
+          (λ t. big_bytes 4 (c.page_at.ensures.page t) ++ c.image_at.ensures t)
           (subst (λ (n : ℕ). Written n (log_entry page image) (g.D.Disk.state c.loop-place.disk).seen
           (g.D.Disk.state c.write_entry.new.disk).seen) c.loop-place.invariant.at written));
       failures = c.in_ok-write_entry.ensures.calls.counted ∙ c.loop-place.invariant.failures;

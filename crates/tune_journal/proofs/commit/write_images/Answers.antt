@@ -12,7 +12,7 @@ use Rattle.tune_journal.proofs.commit.write_images.Goals as goal
 pub write_image-requires : goal.write_image-requires
 write_image-requires g c =
     entry_below c.args.changes.now most_pages c.loop-place.place c.page_at.result c.requires
-    (omega (arith, c.loop-place-test.true, c.len-place-end.ensures.len)) c.page_at.ensures
+    (omega (arith, c.loop-place-test.true, c.len-place-end.ensures.len)) c.page_at.ensures.page
 
 pub returns-in_err-write_image-clause-spares : goal.returns-in_err-write_image-clause-spares
 returns-in_err-write_image-clause-spares g c = λ h.
@@ -21,7 +21,7 @@ returns-in_err-write_image-clause-spares g c = λ h.
     (spares_write (IsInNoPage c.args.changes.now) (page_offset c.page_at.result) c.image_at.result.bytes c.write_image.result _ _
     (c.write_image.ensures.write h)
     (λ i out.
-    outside_image c.args.changes.now c.loop-place.place c.page_at.result i c.image_at.result.bytes lt c.page_at.ensures c.write_image.ensures.size out)))
+    outside_image c.args.changes.now c.loop-place.place c.page_at.result i c.image_at.result.bytes lt c.page_at.ensures.page c.write_image.ensures.size out)))
 
 pub loop-place-preserved : goal.loop-place-preserved
 loop-place-preserved g c =
@@ -34,7 +34,7 @@ loop-place-preserved g c =
       honest = λ h. c.loop-place.invariant.honest (c.write_image.ensures.calls.was_honest h);
       spares = λ h. spares_then _ _ _ _ (c.loop-place.invariant.spares (c.write_image.ensures.calls.was_honest h))
           (spares_write (IsInNoPage log) (page_offset page) image c.write_image.result _ _ (c.write_image.ensures.write h)
-          (λ i out. outside_image log k page i image lt c.page_at.ensures c.write_image.ensures.size out));
+          (λ i out. outside_image log k page i image lt c.page_at.ensures.page c.write_image.ensures.size out));
       images = λ h n long all.
           (let written : Written (page_offset page) image (g.D.Disk.state c.loop-place.disk).seen
           (g.D.Disk.state c.write_image.new.disk).seen =
@@ -42,9 +42,9 @@ loop-place-preserved g c =
           let before = c.loop-place.invariant.images (c.write_image.ensures.calls.was_honest h) n long all in
           let long' : page_offset n ≤ length (g.D.Disk.state c.loop-place.disk).seen =
           omega (arith, long, (c.loop-place.invariant.spares (c.write_image.ensures.calls.was_honest h)).longer) in
-          image_more n page image _ _ c.write_image.ensures.size (entry_below log n k page all lt c.page_at.ensures) long' written
+          image_more n page image _ _ c.write_image.ensures.size (entry_below log n k page all lt c.page_at.ensures.page) long' written
           ∙ ap (λ (l : List (List ℕ)). set l page image) before
           ∙ sym (changed-push (pages_of n (g.D.Disk.state c.args.disk.now).seen) (take k log) (page, image))
-          ∙ ap (changed (pages_of n (g.D.Disk.state c.args.disk.now).seen)) (sym (take_entry log k page image lt c.page_at.ensures c.image_at.ensures)));
+          ∙ ap (changed (pages_of n (g.D.Disk.state c.args.disk.now).seen)) (sym (take_entry log k page image lt c.page_at.ensures.page c.image_at.ensures)));
       failures = c.in_ok-write_image.ensures.calls.counted ∙ c.loop-place.invariant.failures;
     }

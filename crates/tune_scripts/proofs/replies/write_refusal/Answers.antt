@@ -15,9 +15,6 @@ returns-in-NumbersSpent g c = rw c.in-NumbersSpent.is c.write_all-in-NumbersSpen
 pub returns-in-BookTooLong : goal.returns-in-BookTooLong
 returns-in-BookTooLong g c = rw c.in-BookTooLong.is c.write_all-in-BookTooLong.ensures.bytes
 
-pub returns-in-FileFull : goal.returns-in-FileFull
-returns-in-FileFull g c = rw c.in-FileFull.is c.write_all-in-FileFull.ensures.bytes
-
 pub returns-in-OutOfMemory : goal.returns-in-OutOfMemory
 returns-in-OutOfMemory g c = rw c.in-OutOfMemory.is c.write_all-in-OutOfMemory.ensures.bytes
 

@@ -3,6 +3,7 @@ use Rattle.tune_pages.specs.Faults.{free_pages}
 use Rattle.tune_pages.specs.Work.{stand}
 use Rattle.index_keys.specs.Entries.{Entry, inserted_all}
 use Rattle.tune_index.proofs.Answering.{edit_more}
+use Rattle.tune_index.proofs.Balances.{front_least}
 use Rattle.tune_search.specs.Inside.Four.{HoldsSomeFour, LaysFour, put_in}
 use Rattle.tune_search.specs.SearchPages.{leaves_of}
 use Rattle.tune_search.specs.Searches.{SearchRuns, SearchShape}
@@ -200,6 +201,7 @@ returns-in-Err-clause-answer g c =
     (subst (λ (r : SearchRuns). AreFullFor s0 was (λ entries. put_in r entries)) runs
     (titles_full was was.titles was.titles was.titles
     (inserted_all made.titles) (inserted_all made.rhythms) (inserted_all made.scales) (inserted_all made.incipits)
+    (front_least 0 made.rhythms) (front_least 0 made.scales) (front_least 0 made.incipits)
     s0 (full h1))))
     c.in-Err.ensures.answer
 
@@ -227,6 +229,7 @@ returns-in-Err-put_run-clause-answer g c =
     (subst (λ (r : SearchRuns). AreFullFor s0 was (λ entries. put_in r entries)) runs
     (rhythms_full was is1 is1 is1
     (inserted_all made.titles) (inserted_all made.rhythms) (inserted_all made.scales) (inserted_all made.incipits)
+    (front_least 0 made.rhythms) (front_least 0 made.scales) (front_least 0 made.incipits)
     s0 s1 (e1.lays h1) e1.balance (full h2))))
     c.in-Err-put_run.ensures.answer
 
@@ -259,6 +262,7 @@ returns-in-Err-put_run-2-clause-answer g c =
     (subst (λ (r : SearchRuns). AreFullFor s0 was (λ entries. put_in r entries)) runs
     (scales_full was is1 is2 is2
     (inserted_all made.titles) (inserted_all made.rhythms) (inserted_all made.scales) (inserted_all made.incipits)
+    (front_least 0 made.rhythms) (front_least 0 made.scales) (front_least 0 made.incipits)
     s0 s1 s2 (e1.lays h1) (e2.lays h2) e1.balance e2.balance (full h3))))
     c.in-Err-put_run-2.ensures.answer
 
@@ -301,5 +305,6 @@ returns-in-Err-put_run-3-clause-answer g c =
     (subst (λ (r : SearchRuns). AreFullFor s0 was (λ entries. put_in r entries)) runs
     (incipits_full was is1 is2 is3
     (inserted_all made.titles) (inserted_all made.rhythms) (inserted_all made.scales) (inserted_all made.incipits)
+    (front_least 0 made.rhythms) (front_least 0 made.scales) (front_least 0 made.incipits)
     s0 s1 s2 s3 (e1.lays h1) (e2.lays h2) (e3.lays h3) e1.balance e2.balance e3.balance (full h4))))
     c.in-Err-put_run-3.ensures.answer

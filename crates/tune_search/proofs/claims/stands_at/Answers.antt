@@ -16,5 +16,5 @@ loop-key-preserved c = λ number is.
     let l : at < length es = c.if-at-entries.false in
     let m : index < length keys = c.loop-key-test.true in
     let here = ap (λ (e : Entry). e.0) (get_or_default es at (0, 0) c.index-entries-at.result l) in
-    let same = here ∙ c.is_same_key.ensures.0 c.if-not-is_same_key.false ∙ get_or_read keys index c.key-item.result m c.key-item.is 0 in
+    let same = here ∙ c.is_same.ensures.0 c.if-not-is_same.false ∙ get_or_read keys index c.key-item.result m c.key-item.is 0 in
     compares_more number es keys at index (get_or c.args.nexts.now at 0) (c.loop-key.invariant number is) l m same (c.requires.each at l)

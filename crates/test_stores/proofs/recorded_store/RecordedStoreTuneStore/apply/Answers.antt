@@ -1,12 +1,12 @@
 use Rattle.std.proofs.Common.{◌≡◌, false, rules, ℕ, List, [], ◌∷◌, ◌++◌, Ok, ap, sym, ◌∙◌}
 use Rattle.std.proofs.lemmas.Result.{err_from_is_err_and}
-use Rattle.tune_store.specs.Answers.{changes_nothing, passed, file_full, no_memory}
+use Rattle.tune_store.specs.Answers.{changes_nothing, passed, no_memory}
 use Rattle.test_stores.proofs.KeptLemmas.{changes}
 use Rattle.test_stores.proofs.RecordLemmas.{pushes}
 use Rattle.test_stores.proofs.recorded_store.RecordedStoreTuneStore.apply.Goals as goal
 
 pub returns-then-len-self-clause-answer : goal.returns-then-len-self-clause-answer
-returns-then-len-self-clause-answer c = λ honest. file_full c.args.self.now.archive c.args.command.now (sym c.takes_pages.ensures ∙ c.if-takes_pages.true)
+returns-then-len-self-clause-answer c = λ honest. no_memory c.args.self.now.archive c.args.command.now
 
 pub returns-in_err-reserve-clause-answer : goal.returns-in_err-reserve-clause-answer
 returns-in_err-reserve-clause-answer c = λ honest.

@@ -1,7 +1,13 @@
-use Rattle.std.proofs.Common.{None, refl}
-use Rattle.tune_archive.specs.Shelf.{Shelf}
+use Rattle.std.proofs.Common.{◌≡◌, false, None, refl, ◌∙◌, ap}
+use Rattle.tune_archive.specs.Shelf.{Shelf, state_on}
 use Rattle.tune_archive.proofs.MadeChanges.{stays_within, made_shelf, made, kept_shelf, unmade}
 use Rattle.tune_archive.proofs.archive.Archive.make_change.Goals as goal
+
+pub change_pages-requires-clause-holds : goal.change_pages-requires-clause-holds
+change_pages-requires-clause-holds g c = λ h.
+    (let is_open : c.self.inside.closed ≡ false = ap (λ (s : Shelf g.row.D.Denot). s.closed) c.self.view_is ∙ c.requires.open in
+    let held = c.self.invariant.holds h is_open in
+    (state_on g.D.Disk.state c.self.inside.pages.disk, held.within, held.holds))
 
 pub change_pages-requires-clause-within : goal.change_pages-requires-clause-within
 change_pages-requires-clause-within g c =

@@ -1,5 +1,6 @@
-use Rattle.std.proofs.Common.{◌∙◌}
-use Rattle.tune_archive.proofs.OpenedArchives.{opened_shelf}
+use Rattle.std.proofs.Common.{◌∙◌, false}
+use Rattle.tune_archive.specs.Inside.Holding.{IsShelf}
+use Rattle.tune_archive.proofs.OpenedArchives.{opened_shelf, opened_state, opened_sound}
 use Rattle.tune_archive.proofs.archive.Archive.with_claims.Goals as goal
 
 pub over-requires : goal.over-requires
@@ -9,3 +10,21 @@ over-requires g c =
     opened_shelf g.D.Disk.honest g.D.Disk.state g.met.D.Disk.seen_may_stay c.args.opening.disk c.in_ok-pages.pages c.args.opening.pages
     c.args.opening.claimed c.args.contents done.disk done.pages done.used done.limit.1 (limit.marks ∙ limit.limit ∙ done.limit.0) done.few
     (limit.below done.limit.1 0 limit.root) c.requires.rows c.requires.rest c.requires.claimed
+
+-- so it holds of the archive that is given
+shelf : (g : _) (c : goal.After-over g) → IsShelf g.D.Disk.honest g.D.Disk.state c.in_ok-pages.pages c.args.contents false
+shelf g c =
+    let done = c.in_ok-pages.ensures in
+    let limit = c.limit-limit.ensures in
+    opened_shelf g.D.Disk.honest g.D.Disk.state g.met.D.Disk.seen_may_stay c.args.opening.disk c.in_ok-pages.pages c.args.opening.pages
+    c.args.opening.claimed c.args.contents done.disk done.pages done.used done.limit.1 (limit.marks ∙ limit.limit ∙ done.limit.0) done.few
+    (limit.below done.limit.1 0 limit.root) c.requires.rows c.requires.rest c.requires.claimed
+
+pub returns-clause-state : goal.returns-clause-state
+returns-clause-state g c =
+    opened_state g.D.Disk.honest g.D.Disk.state c.args.opening.disk c.in_ok-pages.pages c.args.opening.pages c.args.contents c.over.result (shelf g c)
+    c.in_ok-pages.ensures.disk c.in_ok-pages.ensures.pages c.over.ensures.pages
+
+pub returns-clause-sound : goal.returns-clause-sound
+returns-clause-sound g c =
+    opened_sound g.D.Disk.honest g.D.Disk.state c.in_ok-pages.pages c.args.contents c.over.result (shelf g c) c.over.ensures.pages

@@ -36,4 +36,5 @@ invariant_of-self g c =
       low_after c.args.work.now.frontier c.self.inside.low c.lowest-self-inside.result c.self.inside.used.items c.args.work.now.freed.items
           c.give_all_back.new.used.items c.self.invariant.2
           (omega (arith, c.lowest-self-inside.ensures.page, c.max.ensures)) (c.lowest-self-inside.ensures.freed c.requires.falls) marks,
+      c.self.invariant.3,
     )

@@ -4,7 +4,7 @@ use Rattle.tune_store.specs.Answers.{Answers, open_at}
 use Rattle.tune_store.specs.Inside.Lists.{state_with, CarriedOut}
 use Rattle.tune_store.proofs.StepLemmas.{answers_name, passes_in_memory}
 use Rattle.tune_store.proofs.ListLemmas.{list_refused, list_planned, list_open, list_stays, list_raised, answers_within}
-use Rattle.tune_store.proofs.ListLemmas.{asked_for_memory, refused_not_full, carried_not_full}
+use Rattle.tune_store.proofs.ListLemmas.{asked_for_memory}
 use Rattle.tune_store.proofs.list_archive.ListArchiveTuneStore.apply.Goals as goal
 
 -- WHERE THE COMMAND IS REFUSED
@@ -17,11 +17,6 @@ refused c =
 
 pub returns-in_err-plan-clause-answer : goal.returns-in_err-plan-clause-answer
 returns-in_err-plan-clause-answer c = refused c
-
-pub returns-in_err-plan-clause-room : goal.returns-in_err-plan-clause-room
-returns-in_err-plan-clause-room c =
-    let answer : c.from_residual.result ≡ Err c.in_err-plan.field-0.0 = search rules in
-    refused_not_full c.args.command.now c.in_err-plan.field-0.0 c.from_residual.result answer c.in_err-plan.ensures.names
 
 -- WHERE IT IS CARRIED OUT
 held : (c : goal.After-carry_out) → IsState c.args.self.now
@@ -54,7 +49,6 @@ returns c =
     let answers = planned c in
     record {
       answer = answers;
-      room = carried_not_full _ _ c.in_ok-plan.plan c.carry_out.result (carried c);
       memory = asked_for_memory _ _ c.args.command.now c.in_ok-plan.plan c.carry_out.result c.in_ok-plan.ensures.memory (carried c);
       refused = list_stays _ _ _ _ answers;
       names = answers_name _ _ _ _ answers;

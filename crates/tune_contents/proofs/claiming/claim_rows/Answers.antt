@@ -1,0 +1,11 @@
+use Rattle.std.proofs.Common.{sym, subst}
+use Rattle.tune_pages.proofs.Claiming.{fault_as}
+use Rattle.tune_contents.specs.Inside.Claiming.{AreTunesThere}
+use Rattle.tune_contents.proofs.ClaimLemmas.{err_as}
+use Rattle.tune_contents.proofs.claiming.claim_rows.Goals as goal
+
+pub returns-clause-damaged : goal.returns-clause-damaged
+returns-clause-damaged g c = err_as c.claim_tunes.result _ _
+    (λ fault none h front has. fault_as fault _ _
+    (λ there. subst (λ runs. AreTunesThere c.args.layout c.args.opening.now.pages front runs c.args.listed.now) (sym c.in_ok-claims.ensures.runs) there.tunes)
+    (none h front has)) c.claim_tunes.ensures.damaged

@@ -1,0 +1,316 @@
+// The search indexes, changed with the texts of tunes.
+ghost use Rattle.std.specs.Prelude.{◌≡◌, ◌≤◌, ◌<◌, ◌^◌, ◌+◌, ◌++◌, ℕ, false, length, List};
+ghost use Rattle.std.specs.Prelude.{slice_index_or, IfErr, IfOk, IfSome, IsSome, OnOk, Some};
+ghost use Rattle.index_keys.specs.Holdings.{AreSmall};
+ghost use Rattle.tune_index.specs.Faults.{AnswersEdit};
+ghost use Rattle.tune_pages.specs.Faults.{AnswersRead, free_pages};
+ghost use Rattle.tune_pages.specs.FreePages.{TakesAtMost};
+ghost use Rattle.tune_pages.specs.Kept.{HonestAt};
+ghost use Rattle.tune_pages.specs.Reading.{LooksAt, SameStand};
+ghost use Rattle.tune_pages.specs.Work.{stand, Fits};
+ghost use Rattle.tune_pages.specs.declared.fault.Fault.TheVariants.{OutOfMemory};
+ghost use Rattle.tune_parts.specs.Parts.{Part};
+ghost use Rattle.tune_search.specs.SearchPages.{AreListed, firsts_in, leaves_of};
+ghost use Rattle.tune_search.specs.Searches.{HoldsSomeTexts, HoldsTexts, SearchParts};
+ghost use Rattle.tune_search.specs.Searches.{numbered};
+ghost use Rattle.tune_store.specs.Plans.{CanChange, changed_tunes};
+ghost use Rattle.tune_store.specs.State.{IsTunes};
+ghost use Rattle.tune_store.specs.declared.tune.Tune.{Tune};
+ghost use Rattle.tune_sets.specs.declared.set_lists.TuneSet.{TuneSet};
+ghost use Rattle.tune_format.specs.Filed.{numbered_texts};
+ghost use Rattle.tune_contents.specs.Answers.{AnswersLay};
+ghost use Rattle.tune_contents.specs.Holds.{labels_in};
+ghost use Rattle.tune_contents.specs.Inside.Changes.{HoldsTunesWithin, RowsAccept};
+ghost use Rattle.tune_contents.specs.Inside.Laying.{HoldsTunes};
+ghost use Rattle.tune_contents.specs.Inside.Searching.{AreRunsOut, ChangesTexts, HasSmallNumbers};
+ghost use Rattle.tune_contents.specs.Inside.Searching.{HoldsTextsWith, IsFullForTexts, IsOldPlace};
+ghost use Rattle.tune_contents.specs.Inside.Searching.{IsOldTune, IsSomeRun, IsTuneAt, LaysTexts};
+ghost use Rattle.tune_contents.specs.Inside.Searching.{PutsIn, PutsTexts, TakesOut, TakesSome};
+ghost use Rattle.tune_contents.specs.Inside.Searching.{TakesTexts, coming, search_pages};
+
+use crate::rows::place_of;
+use crate::texts::read_tune;
+use abc_fields::TuneText;
+use std::alloc::Global;
+use std::slice;
+use tune_disk::Disk;
+use tune_format::Row;
+use tune_pages::{Fault, Pages, Work};
+use tune_search::{Runs, SearchFirsts, SearchIndexes, law_of_search_pages};
+use tune_store::{Change, Layout};
+
+// What goes out of the search indexes with a change, and what comes in.
+#[derive(Drop)]
+pub(crate) struct TextRuns {
+    gone: Option<Runs>,
+    come: Option<Runs>,
+}
+
+// Where the row stands of a tune that a change replaces, takes out or moves.
+fn old_place(rows: &[Row], change: &Change) -> Option<usize>
+    requires { RowsAccept change.now rows.now }
+    ensures within { IfSome result (λ place. place < length rows.now) }
+    ensures place { IsOldPlace change.now rows.now result }
+{
+    match change {
+        Change::Put { place, .. } => Some(*place),
+        Change::Take { place } => Some(*place),
+        Change::Move { number, .. } => place_of(rows, *number),
+        _ => None,
+    }
+}
+
+// The number and the text of the tune of the row at a place.
+fn tune_at<D: Disk>(
+    alloc: Global,
+    pages: &mut Pages<D>,
+    work: &Work,
+    layout: Layout,
+    rows: &[Row],
+    place: usize,
+) -> Result<(u32, TuneText), Fault>
+    requires open { pages.old.closed ≡ false }
+    requires fits { Fits pages.old work.now }
+    requires place { place < length rows.now }
+    requires holds { HonestAt D.honest pages.old.disk
+        → HoldsTunesWithin layout (stand pages.old work.now) rows.now }
+    ensures number { IfOk result (λ tune. (d : Row)
+        → (slice_index_or rows.now place d).number ≡ tune.0) }
+    ensures tune { IfOk result (λ tune. HonestAt D.honest pages.new.disk
+        → (ahead : List Part) (tunes : List Tune) → IsTunes layout tunes
+        → HoldsTunes (stand pages.old work.now) ahead tunes rows.now
+        → IsTuneAt place tunes (Some tune)) }
+    ensures fits { OnOk result (Fits pages.new work.now) }
+    ensures stand { OnOk result (SameStand (HonestAt D.honest pages.new.disk)
+        (stand pages.old work.now) (stand pages.new work.now)) }
+    ensures looks { LooksAt D.honest D.failures D.state result pages.old pages.new }
+    ensures answer { AnswersRead result pages.old.closed pages.new.closed }
+{
+    let row = rows[place];
+    match read_tune(alloc, pages, work, layout, row.first) {
+        Ok(text) => Ok((row.number, text)),
+        Err(fault) => Err(fault),
+    }
+}
+
+// The number and the text of the tune that a change replaces, takes out or moves, if it is such a
+// change and there is such a tune.
+fn old_tune<D: Disk>(
+    alloc: Global,
+    pages: &mut Pages<D>,
+    work: &Work,
+    layout: Layout,
+    rows: &[Row],
+    change: &Change,
+) -> Result<Option<(u32, TuneText)>, Fault>
+    requires open { pages.old.closed ≡ false }
+    requires fits { Fits pages.old work.now }
+    requires accept { RowsAccept change.now rows.now }
+    requires holds { HonestAt D.honest pages.old.disk
+        → HoldsTunesWithin layout (stand pages.old work.now) rows.now }
+    ensures tune { IfOk result (λ old. HonestAt D.honest pages.new.disk
+        → (ahead : List Part) (tunes : List Tune) → IsTunes layout tunes
+        → HoldsTunes (stand pages.old work.now) ahead tunes rows.now
+        → IsOldTune change.now tunes old) }
+    ensures fits { OnOk result (Fits pages.new work.now) }
+    ensures stand { OnOk result (SameStand (HonestAt D.honest pages.new.disk)
+        (stand pages.old work.now) (stand pages.new work.now)) }
+    ensures looks { LooksAt D.honest D.failures D.state result pages.old pages.new }
+    ensures answer { AnswersRead result pages.old.closed pages.new.closed }
+{
+    match old_place(rows, change) {
+        Some(place) => match tune_at(alloc, pages, work, layout, rows, place) {
+            Ok(tune) => Ok(Some(tune)),
+            Err(fault) => Err(fault),
+        },
+        None => Ok(None),
+    }
+}
+
+// The entries of texts, whose numbers are `first` and those after it.
+fn runs_of(alloc: Global, first: u32, texts: &[TuneText]) -> Result<Option<Runs>, Fault>
+    requires { first + length texts.now ≤ 2 ^ 32 }
+    ensures runs { IfOk result (λ run. IsSome run × PutsIn run (numbered first texts.now)) }
+    ensures err { IfErr result (λ fault. fault ≡ OutOfMemory) }
+{
+    match Runs::new(alloc, first, texts) {
+        Ok(runs) => Ok(Some(runs)),
+        Err(_) => Err(Fault::OutOfMemory),
+    }
+}
+
+// What goes: the entries of the tune that a change replaces, takes out or moves.
+fn runs_out(alloc: Global, old: &Option<(u32, TuneText)>) -> Result<Option<Runs>, Fault>
+    ensures runs { IfOk result (λ gone. AreRunsOut old.now gone) }
+    ensures err { IfErr result (λ fault. fault ≡ OutOfMemory) }
+{
+    match old {
+        Some((number, text)) => runs_of(alloc, *number, slice::from_ref(text)),
+        None => Ok(None),
+    }
+}
+
+// What comes: the entries of the new texts, or of the tune that a change moves, by its new number.
+fn runs_in(
+    alloc: Global,
+    change: &Change,
+    old: &Option<(u32, TuneText)>,
+) -> Result<Option<Runs>, Fault>
+    requires { HasSmallNumbers change.now }
+    ensures runs { IfOk result (λ come. PutsIn come (coming change.now old.now)) }
+    ensures err { IfErr result (λ fault. fault ≡ OutOfMemory) }
+{
+    match (change, old) {
+        (Change::Add { first, texts }, _) => runs_of(alloc, *first, texts),
+        (Change::Put { tune, .. }, _) => runs_of(alloc, tune.number, slice::from_ref(&tune.text)),
+        (Change::Move { to, .. }, Some((_, text))) => runs_of(alloc, *to, slice::from_ref(text)),
+        _ => Ok(None),
+    }
+}
+
+// What goes and what comes with a change of the tunes of these rows. The text of a tune that is
+// replaced, taken out or moved is read; nothing is written.
+pub(crate) fn text_runs<D: Disk>(
+    alloc: Global,
+    pages: &mut Pages<D>,
+    work: &Work,
+    layout: Layout,
+    rows: &[Row],
+    change: &Change,
+) -> Result<TextRuns, Fault>
+    requires open { pages.old.closed ≡ false }
+    requires fits { Fits pages.old work.now }
+    requires accept { RowsAccept change.now rows.now }
+    requires holds { HonestAt D.honest pages.old.disk
+        → HoldsTunesWithin layout (stand pages.old work.now) rows.now }
+    ensures gone { IfOk result (λ runs. HonestAt D.honest pages.new.disk
+        → (ahead : List Part) (tunes : List Tune) → IsTunes layout tunes
+        → HoldsTunes (stand pages.old work.now) ahead tunes rows.now
+        → TakesSome runs.gone (numbered_texts tunes)) }
+    ensures runs { IfOk result (λ runs. HonestAt D.honest pages.new.disk
+        → (ahead : List Part) (tunes : List Tune) (sets : List TuneSet) → IsTunes layout tunes
+        → HoldsTunes (stand pages.old work.now) ahead tunes rows.now
+        → CanChange change.now layout (labels_in rows.now) sets
+        → ChangesTexts runs.gone runs.come (numbered_texts tunes)
+        (numbered_texts (changed_tunes change.now tunes))) }
+    ensures come { IfOk result (λ runs. IsSomeRun runs.come) }
+    ensures fits { OnOk result (Fits pages.new work.now) }
+    ensures stand { OnOk result (SameStand (HonestAt D.honest pages.new.disk)
+        (stand pages.old work.now) (stand pages.new work.now)) }
+    ensures looks { LooksAt D.honest D.failures D.state result pages.old pages.new }
+    ensures answer { AnswersRead result pages.old.closed pages.new.closed }
+{
+    let old = match old_tune(alloc, pages, work, layout, rows, change) {
+        Ok(old) => old,
+        Err(fault) => return Err(fault),
+    };
+    let gone = runs_out(alloc, &old)?;
+    let come = runs_in(alloc, change, &old)?;
+    Ok(TextRuns { gone, come })
+}
+
+// Takes out of the search indexes what goes, if something does.
+fn take_runs<D: Disk>(
+    alloc: Global,
+    pages: &mut Pages<D>,
+    work: &mut Work,
+    searches: &mut SearchIndexes,
+    gone: &Option<Runs>,
+) -> Result<(), Fault>
+    requires open { pages.old.closed ≡ false }
+    requires fits { Fits pages.old work.old }
+    requires holds { HonestAt D.honest pages.old.disk
+        → HoldsSomeTexts (stand pages.old work.old) searches.old }
+    ensures fits { OnOk result (Fits pages.new work.new) }
+    ensures lays { OnOk result (HonestAt D.honest pages.new.disk → TakesTexts
+        (stand pages.old work.old) (stand pages.new work.new) searches.old searches.new gone.now) }
+    ensures balance { OnOk result (free_pages (stand pages.old work.old).used
+        + leaves_of searches.old ≡ free_pages (stand pages.new work.new).used
+        + leaves_of searches.new) }
+    ensures looks { LooksAt D.honest D.failures D.state result pages.old pages.new }
+    ensures answer { AnswersEdit result pages.new.closed ⊥ }
+{
+    let Some(gone) = gone else {
+        return Ok(());
+    };
+    match searches.take(alloc, pages, work, gone) {
+        Ok(()) => Ok(()),
+        Err(fault) => Err(fault),
+    }
+}
+
+// Puts into the search indexes what comes, if something does.
+fn put_runs<D: Disk>(
+    alloc: Global,
+    pages: &mut Pages<D>,
+    work: &mut Work,
+    searches: &mut SearchIndexes,
+    come: &Option<Runs>,
+) -> Result<(), Fault>
+    requires open { pages.old.closed ≡ false }
+    requires fits { Fits pages.old work.old }
+    requires holds { HonestAt D.honest pages.old.disk
+        → HoldsSomeTexts (stand pages.old work.old) searches.old }
+    requires come { IsSomeRun come.now }
+    ensures fits { OnOk result (Fits pages.new work.new) }
+    ensures lays { OnOk result (HonestAt D.honest pages.new.disk → PutsTexts
+        (stand pages.old work.old) (stand pages.new work.new) searches.old searches.new come.now) }
+    ensures balance { OnOk result (free_pages (stand pages.old work.old).used
+        + leaves_of searches.old ≡ free_pages (stand pages.new work.new).used
+        + leaves_of searches.new) }
+    ensures looks { LooksAt D.honest D.failures D.state result pages.old pages.new }
+    ensures answer { AnswersEdit result pages.new.closed (HonestAt D.honest pages.new.disk
+        → IsFullForTexts (stand pages.old work.old) searches.old come.now) }
+{
+    let Some(come) = come else {
+        return Ok(());
+    };
+    match searches.put(alloc, pages, work, come) {
+        Ok(()) => Ok(()),
+        Err(fault) => Err(fault),
+    }
+}
+
+// Takes out of the search indexes what goes and puts in what comes, stores their lists, and gives
+// where these begin.
+pub(crate) fn change_searches<D: Disk>(
+    alloc: Global,
+    pages: &mut Pages<D>,
+    work: &mut Work,
+    searches: &mut SearchIndexes,
+    runs: &TextRuns,
+) -> Result<SearchFirsts, Fault>
+    requires open { pages.old.closed ≡ false }
+    requires fits { Fits pages.old work.old }
+    requires holds { HonestAt D.honest pages.old.disk
+        → HoldsTextsWith (stand pages.old work.old) searches.old runs.now.gone }
+    requires come { IsSomeRun runs.now.come }
+    ensures fits { OnOk result (Fits pages.new work.new) }
+    ensures lays { OnOk result (HonestAt D.honest pages.new.disk → LaysTexts
+        (stand pages.old work.old) (stand pages.new work.new) searches.old searches.new
+        runs.now.gone runs.now.come) }
+    ensures firsts { IfOk result (λ firsts. firsts ≡ firsts_in searches.new) }
+    ensures listed { OnOk result (AreListed searches.new) }
+    ensures takes { HonestAt D.honest pages.new.disk
+        → (before after : List Part) (parts : SearchParts) (tunes others more : List (ℕ × List ℕ))
+        → AreSmall tunes → TakesOut runs.now.gone tunes others → PutsIn runs.now.come more
+        → HoldsTexts (stand pages.old work.old) searches.old before after parts tunes
+        → TakesAtMost (search_pages (length (others ++ more))) result
+        (stand pages.old work.old) (stand pages.new work.new) }
+    ensures looks { LooksAt D.honest D.failures D.state result pages.old pages.new }
+    ensures answer { AnswersLay result pages.new.closed }
+{
+    match take_runs(alloc, pages, work, searches, &runs.gone) {
+        Ok(()) => {}
+        Err(fault) => return Err(fault),
+    }
+    match put_runs(alloc, pages, work, searches, &runs.come) {
+        Ok(()) => {}
+        Err(fault) => return Err(fault),
+    }
+    law_of_search_pages();
+    match searches.store(alloc, pages, work) {
+        Ok(firsts) => Ok(firsts),
+        Err(fault) => Err(fault),
+    }
+}

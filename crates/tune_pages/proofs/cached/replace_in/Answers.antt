@@ -1,0 +1,29 @@
+use Rattle.std.proofs.Common.{◌≡◌, ℕ, List, Some, None, nat_eq, rules, sym, ◌∙◌, ap, subst}
+use Rattle.std.specs.Box.{with_value}
+use Rattle.std.specs.Global.{Box}
+use Rattle.std.specs.Map.{lookup, set_value}
+use Rattle.lru.specs.LruCache.{promoted}
+use Rattle.tune_journal.specs.ChangeList.{image_of}
+use Rattle.tune_journal.specs.declared.changes.PageImage.{PageImage}
+use Rattle.tune_pages.specs.Inside.Cached.{Entry, Replaces}
+use Rattle.tune_pages.proofs.CacheLemmas.{none_replaced, one_replaced}
+use Rattle.tune_pages.proofs.cached.replace_in.Goals as goal
+
+pub returns-in-Some-clause-only : goal.returns-in-Some-clause-only
+returns-in-Some-clause-only c =
+    let entries = c.args.cache.now.entries in
+    let changes = c.args.changes.now in
+    let page = c.page_at.result in
+    let new : Box PageImage = with_value c.in-Some.kept.now c.image_at.result in
+    let after : List Entry = set_value (nat_eq page) (promoted (nat_eq page) entries) new in
+    let found : lookup (nat_eq page) entries ≡ Some c.in-Some.kept.now = search rules in
+    let changed : image_of page changes ≡ Some c.image_at.result.bytes = c.page_at.ensures.found ∙ ap (λ (b : List ℕ). Some b) (sym c.image_at.ensures) in
+    subst (λ (p : ℕ). Replaces entries after changes p) c.page_at.ensures.page
+    (one_replaced page entries changes c.in-Some.kept.now new c.len-count.ensures.valid.0 found changed)
+
+pub returns-in_default-clause-only : goal.returns-in_default-clause-only
+returns-in_default-clause-only c =
+    let entries = c.args.cache.now.entries in
+    let changes = c.args.changes.now in
+    let none : lookup (nat_eq c.page_at.result) entries ≡ None = search rules in
+    subst (λ (p : ℕ). Replaces entries entries changes p) c.page_at.ensures.page (none_replaced c.page_at.result entries changes none)

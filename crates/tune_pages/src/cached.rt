@@ -1,0 +1,181 @@
+// Images of pages that are kept in memory.
+ghost use Rattle.std.specs.Prelude.{◌≡◌, ◌<◌, ◌≤◌, [], true, length, IfSome};
+ghost use Rattle.tune_journal.specs.ChangeList.{changed_page};
+ghost use Rattle.tune_pages.specs.Inside.Cached.{KeepsOnly, KeepsOneMore, HasImage};
+ghost use Rattle.tune_pages.specs.Inside.Cached.{Replaces, ReplacesAll};
+
+use lru::LruCache;
+use std::alloc::Global;
+use std::marker::Model;
+use std::num::NonZeroUsize;
+use tune_journal::{Changes, PageImage};
+
+/// How many images are kept at most.
+const MOST: usize = 1024;
+
+/// Images of pages, of those that were asked for last. Contracts see a list of pages with their
+/// images, the one that was asked for last first.
+#[derive(Drop)]
+pub(crate) struct CachedImages {
+    alloc: Global,
+    // none before the first image is kept, so that making it takes no memory
+    cache: Option<LruCache<u32, Box<PageImage>>>,
+}
+
+impl Model for CachedImages {
+    ghost use Rattle.std.specs.Prelude.{List};
+    ghost use Rattle.tune_pages.specs.Inside.Cached.{Entry, entries_in, HasRoom};
+
+    ghost Value = { List Entry };
+
+    ghost view = { λ c. entries_in c.cache };
+
+    ghost invariant = { λ c. HasRoom c.cache };
+}
+
+impl CachedImages {
+    /// No images. It takes no memory.
+    pub(crate) fn new(alloc: Global) -> CachedImages
+        ensures { result ≡ [] }
+    {
+        CachedImages { alloc, cache: None }
+    }
+
+    /// How many images are kept.
+    pub(crate) fn len(&self) -> usize
+        ensures len { result ≡ length self.now }
+        ensures most { result ≤ 1024 }
+    {
+        match &self.cache {
+            Some(cache) => cache.len(),
+            None => 0,
+        }
+    }
+
+    /// Puts the image of a page in the place of `image`, where it is kept.
+    pub(crate) fn read(&mut self, page: u32, image: &mut PageImage) -> bool
+        ensures found { result ≡ true → HasImage self.old page image.new.bytes }
+        ensures only { KeepsOnly self.old self.new }
+    {
+        if let Some(cache) = &mut self.cache {
+            return read_in(cache, page, image);
+        }
+        false
+    }
+
+    /// Keeps the image of a page, where there is memory for it. Where 1,024 are kept, the one that
+    /// was asked for longest ago goes.
+    pub(crate) fn keep(&mut self, page: u32, image: &PageImage)
+        ensures { KeepsOneMore self.old self.new page image.now.bytes }
+    {
+        self.begin();
+        if let Some(cache) = &mut self.cache {
+            return keep_in(cache, self.alloc, page, image);
+        }
+    }
+
+    /// Puts the new images of pages that change in the place of those that are kept of them. It
+    /// takes no memory.
+    pub(crate) fn replace_all(&mut self, changes: &Changes)
+        ensures { ReplacesAll self.old self.new changes.now }
+    {
+        if let Some(cache) = &mut self.cache {
+            return replace_all_in(cache, changes);
+        }
+    }
+
+    /// Makes the cache, where there is memory for it.
+    fn begin(&mut self)
+        ensures { self.new ≡ self.old }
+    {
+        if self.cache.is_some() {
+            return;
+        }
+        self.cache = empty_cache(self.alloc);
+    }
+}
+
+/// An empty cache, where there is memory for it.
+fn empty_cache(alloc: Global) -> Option<LruCache<u32, Box<PageImage>>>
+    ensures { IfSome result (λ cache. (cache.entries ≡ []) × (cache.cap ≡ 1024)) }
+{
+    let most = NonZeroUsize::new(MOST)?;
+    LruCache::new(alloc, most).ok()
+}
+
+/// Puts the image of a page in the place of `image`, where it is kept.
+fn read_in(cache: &mut LruCache<u32, Box<PageImage>>, page: u32, image: &mut PageImage) -> bool
+    ensures found { result ≡ true → HasImage cache.old.entries page image.new.bytes }
+    ensures only { KeepsOnly cache.old.entries cache.new.entries }
+    ensures cap { cache.new.cap ≡ cache.old.cap }
+{
+    match cache.get(&page) {
+        Some(kept) => {
+            *image = **kept;
+            true
+        }
+        None => false,
+    }
+}
+
+/// Keeps an image; where there is no memory it is not kept.
+fn keep_in(cache: &mut LruCache<u32, Box<PageImage>>, alloc: Global, page: u32, image: &PageImage)
+    ensures only { KeepsOneMore cache.old.entries cache.new.entries page image.now.bytes }
+    ensures cap { cache.new.cap ≡ cache.old.cap }
+{
+    if let Some(copy) = copy_of(cache, alloc, image) {
+        let _ = cache.put(page, copy);
+    }
+}
+
+/// A box with this image: where 1,024 are kept, that of the one that was asked for longest ago,
+/// and else a new one, where there is memory for it.
+fn copy_of(
+    cache: &mut LruCache<u32, Box<PageImage>>,
+    alloc: Global,
+    image: &PageImage,
+) -> Option<Box<PageImage>>
+    ensures copy { IfSome result (λ copy. copy.value.bytes ≡ image.now.bytes) }
+    ensures only { KeepsOnly cache.old.entries cache.new.entries }
+    ensures cap { cache.new.cap ≡ cache.old.cap }
+{
+    if cache.len() < MOST {
+        return boxed(alloc, image);
+    }
+    let (_, mut copy) = cache.pop_lru()?;
+    *copy = *image;
+    Some(copy)
+}
+
+/// A new box with this image, where there is memory for it. It is apart, so that no room for an
+/// image is cleared on the way of one that goes into a box that is there.
+#[inline(never)]
+fn boxed(alloc: Global, image: &PageImage) -> Option<Box<PageImage>>
+    ensures { IfSome result (λ copy. copy.value.bytes ≡ image.now.bytes) }
+{
+    Box::new(alloc, *image).ok()
+}
+
+/// Puts the new images of pages that change in the place of those that are kept of them.
+fn replace_all_in(cache: &mut LruCache<u32, Box<PageImage>>, changes: &Changes)
+    ensures only { ReplacesAll cache.old.entries cache.new.entries changes.now }
+    ensures cap { cache.new.cap ≡ cache.old.cap }
+{
+    for place in 0..changes.len() {
+        replace_in(cache, changes, place);
+    }
+}
+
+/// Puts the new image of a page that changes in the place of the one that is kept of it, if any.
+fn replace_in(cache: &mut LruCache<u32, Box<PageImage>>, changes: &Changes, place: usize)
+    requires { place < length changes.now }
+    ensures only { Replaces cache.old.entries cache.new.entries changes.now
+        (changed_page changes.now place) }
+    ensures cap { cache.new.cap ≡ cache.old.cap }
+{
+    // Its contract says that no page has two images.
+    let _count = cache.len();
+    if let Some(kept) = cache.get_mut(&changes.page_at(place)) {
+        **kept = changes.image_at(place);
+    }
+}
