@@ -1,5 +1,5 @@
-//! Tests of changes that are laid on the pages of an archive: each call with ample memory. What a
-//! change asks for is shown by a proof alone, so these are proved.
+//! A test of changes that are laid on pages of which there may be few: each call with ample memory.
+//! What a change asks for is shown by a proof alone, so this is proved.
 #![tactic(auto)]
 
 #[cfg(test)]
