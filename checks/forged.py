@@ -49,6 +49,32 @@ MOST_TEXT = b'K:\n' + b'w:words\n' * 1999 + b'w:on\n'
 # Above the keys of all of these.
 LAST_KEY = key(b'\xff')
 
+# What changes leave on pages: the first pages of the indexes and of the set lists, the tunes with
+# their pages, and chains of one page. Two tunes stand on the pages 1 and 2, the leaf of the numbers
+# on page 3 and its list on page 4; then come the leaves of titles, scales and incipits, and the
+# lists of these. No tune has a rhythm. An index whose entries change keeps its leaf, and so its
+# list stays.
+LULLABY, MARCH = b'T:Lullaby\nK:C\n', b'T:March\nK:D\nDFA\n'
+WALTZ = b'T:Waltz\nM:3/4\nK:G\nG2B2d2|\n'
+FIRSTS, FIRSTS_OF_ONE = (4, 8, 0, 9, 10), (3, 7, 0, 8, 9)
+STORED, STORED_TWO = (1, b'\0\1' + LULLABY), (2, b'\0\1' + MARCH)
+IMPORT_TWO = b'import %d\nX:1\n%bX:2\n%b' % (len(LULLABY + MARCH) + 8, LULLABY, MARCH)
+CHANGES = [
+    ('one tune that is added', b'import %d\nX:1\n%b' % (len(MARCH) + 4, MARCH),
+     (*FIRSTS_OF_ONE, 0), [(1, 1)], [(1, b'\0\1' + MARCH)]),
+    ('two tunes that are added', IMPORT_TWO, (*FIRSTS, 0), [(1, 1), (2, 2)], [STORED, STORED_TWO]),
+    ('a tune that is deleted', IMPORT_TWO + b'delete 1\n', (*FIRSTS, 0), [(2, 2)], [STORED_TWO]),
+    ('a tune that is replaced',
+     IMPORT_TWO + b'replace 2 1 %d\nX:1\n%b' % (len(WALTZ) + 4, WALTZ),
+     (*FIRSTS, 0), [(1, 1), (2, 2)], [STORED, (2, b'\0\2' + WALTZ)]),
+    ('a tune that is renumbered', IMPORT_TWO + b'renumber 1 9\n', (*FIRSTS, 0),
+     [(2, 2), (9, 1)], [STORED, STORED_TWO]),
+    ('a set list that is new', IMPORT_TWO + b'set-new friday\n', (*FIRSTS, 11),
+     [(1, 1), (2, 2)], [STORED, STORED_TWO, (11, set_bytes(b'friday'))]),
+    ('a set list that is longer', IMPORT_TWO + b'set-new friday\nset-add friday 2\n',
+     (*FIRSTS, 11), [(1, 1), (2, 2)], [STORED, STORED_TWO, (11, set_bytes(b'friday', 2))]),
+]
+
 # The front of a long tune, and its further lines.
 TUNE = b'T:Long\nK:C\n'
 LINE = b'GABc dedB\n'
@@ -175,6 +201,23 @@ def put_log_of_zeros(file, count):
     put_log(file, count, [])
     put(file, DESCRIPTOR, count, count)
     file.truncate(place_of(count) + (4 + PAGE_BYTES) * count)
+
+
+def stands(file, firsts, rows, chains):
+    """Whether the indexes and the set lists begin on these pages, the numbers have these tunes and
+    their pages, and chains of one page have these bytes."""
+    leaf = leaf_of(file, 'numbers')
+    return ([number_at(file, first_of(name)) for name in (*INDEXES, 'sets')] == list(firsts)
+            and bytes_at(file, leaf, 2) == struct.pack('>H', len(rows))
+            and bytes_at(file, leaf + LEAF_HEAD, ENTRY_BYTES * len(rows)) == b''.join(
+                key(four_bytes(number)) + four_bytes(page) for number, page in rows)
+            and all(bytes_at(file, place_of(page), 6 + len(data))
+                    == struct.pack('>IH', 0, len(data)) + data for page, data in chains))
+
+
+def bytes_at(file, offset, length):
+    file.seek(offset)
+    return file.read(length)
 
 
 def list_of(file, name):
@@ -446,6 +489,8 @@ class Cases:
         book = b''.join(b'X:%d\nT:Reel\nR:reel\nK:D\n\n' % number for number in range(1, 301))
         self.check_pages_of('300 tunes of one key in three leaves',
                             b'import %d\n%b' % (len(book), book), has_three_leaves)
+        for name, script, *wanted in CHANGES:
+            self.check_pages_of(name, script, lambda file, it=wanted: stands(file, *it))
 
     def check_pages_of(self, name, script, good):
         """Runs a script over a new archive, which the reader has to read as the program does."""
