@@ -8,10 +8,10 @@ of it has to be an answer and a status that docs/USING.md and docs/SCRIPTS.md te
 and the archive then opens by itself, as before a command of the script or after it, and as after
 each that was answered. A call that moves one byte alone is seen by nobody.
 
-The program is ./tunes, or the one that the variable TUNES names. The calls fail by a library,
-checks/fail_once.c, that is built for this by `cc`. Where there is no C compiler it fails, unless
-the variable LEAVE_OUT has the word `cc`. A line is printed for each case, and the status is 1 where
-one failed.
+The program is the one that ./tunes has built, and not that script, or the one that the variable
+TUNES names. The calls fail by a library, checks/fail_once.c, that is built for this by `cc`. Where
+there is no C compiler it fails, unless the variable LEAVE_OUT has the word `cc`. A line is printed
+for each case, and the status is 1 where one failed.
 """
 import errno
 import os
@@ -23,7 +23,8 @@ import threading
 from concurrent.futures import ThreadPoolExecutor
 
 ROOT = os.path.dirname(os.path.dirname(os.path.abspath(__file__)))
-PROGRAM = os.path.abspath(os.environ.get('TUNES') or os.path.join(ROOT, 'tunes'))
+BUILT = os.path.join(ROOT, 'crates', 'tunes', 'out', 'tunes')
+PROGRAM = os.path.abspath(os.environ.get('TUNES') or BUILT)
 LIBRARY = os.path.join(ROOT, 'checks', 'fail_once.c')
 ERRORS = [errno.EIO, errno.ENOSPC, errno.EACCES, errno.ENOENT, errno.EAGAIN, errno.EINTR]
 ONE_BYTE = 0
@@ -246,6 +247,9 @@ def how_of(kind, how):
 
 
 def main():
+    if not os.path.exists(PROGRAM):
+        print(f'FAILED  there is no program {PROGRAM}: ./tunes --version builds it')
+        return 1
     if not shutil.which('cc'):
         left_out = 'cc' in os.environ.get('LEAVE_OUT', '').split()
         print('skipped' if left_out else 'FAILED ', 'calls that fail once: there is no C compiler')
