@@ -31,7 +31,6 @@ ONE_BYTE = 0
 # Statuses of the program: done; it was not; the file is no archive, damaged, or not empty.
 DONE, NOT_DONE, NO_ARCHIVE = 0, 1, 3
 DEVICE, MEMORY = b'refused 22 Device\n', b'refused 21 OutOfMemory\n'
-CLOSED = b'refused 23 Closed\n'
 
 # Every command, each with what it reads; the last lines look at what stands there.
 KESH = b'X:1\nT:The Kesh Jig\nK:G\nGAG GAB|\nX:2\nT:Kesh Jig, The\nT:The Kesh\nR:jig\nK:G\n'
@@ -122,7 +121,7 @@ class Sweep:
         return self.judge_error(ended, opened, whole)
 
     def judge_error(self, ended, opened, whole):
-        """Replies as told up to one 22, and 23 behind it; or a front of them, where the call was
+        """Replies as told up to one 22, which ends the run; or a front of them, where the call was
         of a stream. What was answered has been done."""
         done, output = 0, ended.output
         while done < len(self.replies) and output.startswith(self.replies[done]):
@@ -132,17 +131,16 @@ class Sweep:
         if opened not in after:
             return f'after {done} replies it opens as another state'
         if output.startswith(DEVICE):
-            closed = output[len(DEVICE):].replace(CLOSED, b'')
-            return '' if not closed and ended.status == NOT_DONE else 'what follows 22 is no 23'
+            good = output == DEVICE and ended.status == NOT_DONE
+            return '' if good else 'the run goes on behind 22, or its status is another'
         if not whole.startswith(ended.output):
             return f'its output is {ended.output[-60:]!r}'
         # An error at the end, as of a close, is seen by nobody; else the run did not end.
         return '' if ended.status == NOT_DONE or ended.output == whole else 'it ended as done'
 
     def judge_memory(self, ended, opened):
-        """The command that is answered 21 changes nothing, and the others are answered as ever, as
-        those of a list that is handed them alone; where opening or a stream has no memory, nothing
-        is done."""
+        """The command that is answered 21 changes nothing, and the others are answered as in a run
+        that is handed them alone; where opening or a stream has no memory, nothing is done."""
         if ended.output in (b'', MEMORY) and ended.status == NOT_DONE:
             return '' if opened == self.states[0] else 'not opened, and another state'
         at = ended.output.find(MEMORY)
