@@ -1,3 +1,4 @@
+mod Filled
 mod Kept
 pub mod Moments
 mod Parts

@@ -1,7 +1,7 @@
 // A disk in memory, which keeps a record of its writes and syncs.
 ghost use Rattle.std.specs.Prelude.{◌≡◌, ◌∷◌, ◌++◌, [], ◌<◌, ◌≤◌, ◌^◌, ◌+◌, IfOk, OnOk, OnErr};
-ghost use Rattle.std.specs.Prelude.{IsOk, is_ok, ℕ, List, length, take, drop};
-ghost use Rattle.tune_disk.specs.Bytes.{filled};
+ghost use Rattle.std.specs.Prelude.{IsOk, is_ok, ℕ, List, length, take, drop, ◌-◌, replicate};
+ghost use Rattle.tune_disk.specs.Inside.Fills.{Fills, IsLastSync};
 ghost use Rattle.tune_disk.specs.Disk.{Written, Writes, Shows, CountsFailure};
 ghost use Rattle.tune_disk.specs.Records.{state_of};
 
@@ -23,6 +23,9 @@ pub enum StopChoice {
     Lost,
     /// The present content, as where all that was written came to the disk.
     Kept,
+    /// A file as long as the present one, in which each byte that was written since the last sync,
+    /// and each past the end that this left, is this one.
+    Fill(u8),
 }
 
 /// A file in memory, which is always honest. It keeps a record of all its writes and syncs, so that
@@ -40,7 +43,7 @@ pub struct MemoryDisk {
 
 impl MemoryDisk {
     ghost use Rattle.tune_disk.specs.Disk.{fresh, MayLeave};
-    ghost use Rattle.tune_disk.specs.Memory.{memory_state};
+    ghost use Rattle.tune_disk.specs.Memory.{memory_state, IsFilled};
 
     /// A file without a byte. It takes no memory yet.
     pub fn new(alloc: Global) -> MemoryDisk
@@ -79,6 +82,8 @@ impl MemoryDisk {
             → (memory_state disk).seen ≡ (memory_state self.now).now.stable) }
         ensures kept { IfOk result (λ disk. choice ≡ StopChoice.Kept
             → (memory_state disk).seen ≡ (memory_state self.now).seen) }
+        ensures fill { IfOk result (λ disk. (byte : ℕ) → choice ≡ StopChoice.Fill byte
+            → IsFilled byte (memory_state self.now) (memory_state disk).seen) }
     {
         let file = match choice {
             StopChoice::Lost => {
@@ -86,8 +91,20 @@ impl MemoryDisk {
                 replay(self.alloc, &self.first, synced)?
             }
             StopChoice::Kept => self.content.to_vec(self.alloc)?,
+            StopChoice::Fill(byte) => self.filled_with(byte)?,
         };
         MemoryDisk::holding(self.alloc, file)
+    }
+
+    // What the last sync left, with this byte wherever was written since, and up to the new end.
+    fn filled_with(&self, byte: u8) -> Result<Vec<u8>, AllocError>
+        ensures { IfOk result (λ file. IsFilled byte (memory_state self.now) file.items) }
+    {
+        let synced = up_to_last_sync(&self.records);
+        let mut file = replay(self.alloc, &self.first, &self.records[..synced])?;
+        lengthen(&mut file, self.content.len(), byte)?;
+        fill_written(&mut file, &self.records, synced, byte);
+        Ok(file)
     }
 
     // A disk that holds this file, all of it stable.
@@ -109,6 +126,7 @@ fn up_to_last_sync(records: &[Record]) -> usize
     ensures bound { result ≤ length records.now }
     ensures left { (first : List ℕ) → (state_of first (take result records.now)).seen
         ≡ (state_of first records.now).now.stable }
+    ensures last { IsLastSync result records.now }
 {
     let mut synced = 0;
     for i in 0..records.len() {
@@ -132,6 +150,30 @@ fn replay(alloc: Global, first: &[u8], records: &[Record]) -> Result<Vec<u8>, Al
         }
     }
     Ok(content)
+}
+
+// Puts this byte wherever was written after the last sync, up to which these are so many records.
+fn fill_written(file: &mut [u8], records: &[Record], synced: usize, byte: u8)
+    requires bound { synced ≤ length records.now }
+    requires last { IsLastSync synced records.now }
+    ensures { (first : List ℕ) → Fills
+        byte (state_of first records.now).now.written file.old file.new }
+{
+    for i in synced..records.len() {
+        match &records[i] {
+            Record::Write(at, bytes) => fill_range(file, *at, bytes.len(), byte),
+            Record::Sync => {}
+        }
+    }
+}
+
+// Puts this byte into the part of a file from an offset on, of so many bytes.
+fn fill_range(file: &mut [u8], at: u64, count: usize, byte: u8)
+    ensures { Fills byte ((at, count) ∷ []) file.old file.new }
+{
+    let from = (at as usize).min(file.len());
+    let end = (at as usize).saturating_add(count).min(file.len());
+    file[from..end].fill(byte);
 }
 
 impl Disk for MemoryDisk {
@@ -237,13 +279,14 @@ fn paste(file: &mut [u8], at: usize, bytes: &[u8])
     file[at..at + bytes.len()].copy_from_slice(bytes);
 }
 
-// Puts zeros behind a file, up to this length.
-fn lengthen(file: &mut Vec<u8>, size: usize) -> Result<(), AllocError>
-    ensures ok { OnOk result (file.new.items ≡ filled size file.old.items) }
+// Puts this byte behind a file, up to this length.
+fn lengthen(file: &mut Vec<u8>, size: usize, byte: u8) -> Result<(), AllocError>
+    ensures ok { OnOk result (file.new.items
+        ≡ file.old.items ++ replicate (size - length file.old.items) byte) }
     ensures err { OnErr result (file.new.items ≡ file.old.items) }
 {
     if size > file.len() {
-        file.resize(size, 0)?;
+        file.resize(size, byte)?;
     }
     Ok(())
 }
@@ -257,7 +300,7 @@ fn overwrite(file: &mut Vec<u8>, at: u64, bytes: &[u8]) -> Result<(), AllocError
     }
     let at = at as usize;
     let end = at.checked_add(bytes.len()).ok_or(AllocError)?;
-    lengthen(file, end)?;
+    lengthen(file, end, 0)?;
     paste(file, at, bytes);
     Ok(())
 }

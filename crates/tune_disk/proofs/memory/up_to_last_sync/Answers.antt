@@ -3,6 +3,7 @@ use Rattle.tune_disk.specs.Disk.{DiskState, fresh}
 use Rattle.tune_disk.specs.Records.{record_to, state_of}
 use Rattle.tune_disk.specs.declared.memory.Record.{Record}
 use Rattle.tune_disk.specs.declared.memory.Record.TheVariants.{Write, Sync}
+use Rattle.tune_disk.proofs.Filled.{no_later_sync}
 use Rattle.tune_disk.proofs.Kept.{one_more}
 use Rattle.tune_disk.proofs.memory.up_to_last_sync.Goals as goal
 use Rattle.tune_disk.proofs.memory.up_to_last_sync.Goals.{in-Write, in-Sync}
@@ -16,6 +17,7 @@ loop-i-preserved c =
     let more : (first : List ℕ) → state_of first (take (i + 1) records) ≡ record_to one (state_of first (take i records)) =
     λ first. one_more records i one (fresh first) c.loop-i-test.true c.index-records-i.is in
     let seen : (first : List ℕ) (n : ℕ) → List ℕ = λ first n. (state_of first (take n records)).seen in
+    let written : (first : List ℕ) (n : ℕ) → List (ℕ × ℕ) = λ first n. (state_of first (take n records)).now.written in
     elim c.match-records-i.branch [
       | in-Write w ↦
           (let it : one ≡ Write w.in-Write.field-0 w.in-Write.field-1 = search rules in
@@ -26,6 +28,10 @@ loop-i-preserved c =
                 (let s = state_of first (take i records) in
                 let to = more first ∙ ap (λ (x : Record). record_to x s) it in
                 ap (seen first) same ∙ inv.left first ∙ sym (ap (λ (t : DiskState). t.now.stable) to));
+            settled = λ first. ap (written first) same ∙ inv.settled first;
+            later = λ k le lt.
+                no_later_sync records i w.in-Write.field-0 w.in-Write.field-1 one c.index-records-i.is it c.loop-i-test.true c.loop-i.synced inv.later k
+                (omega (arith, same, le)) lt;
           })
       | in-Sync w ↦
           (let it : one ≡ Sync = search rules in
@@ -36,5 +42,10 @@ loop-i-preserved c =
                 (let s = state_of first (take i records) in
                 let to = more first ∙ ap (λ (x : Record). record_to x s) it in
                 ap (seen first) same ∙ ap (λ (t : DiskState). t.seen) to ∙ sym (ap (λ (t : DiskState). t.now.stable) to));
+            settled = λ first.
+                (let s = state_of first (take i records) in
+                let to = more first ∙ ap (λ (x : Record). record_to x s) it in
+                ap (written first) same ∙ ap (λ (t : DiskState). t.now.written) to);
+            later = λ k le lt sync. absurd (omega (arith, same, le, lt));
           })
     ]
