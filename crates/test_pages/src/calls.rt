@@ -7,6 +7,7 @@ use tune_disk::StopChoice;
 pub(crate) enum Call<'a> {
     Disk(DiskCall<'a>),
     Opening(OpeningCall),
+    Limit(u32),
     Begin,
     Work(WorkCall<'a>),
     Close,
@@ -57,6 +58,7 @@ impl<'a> Call<'a> {
         let (word, rest) = line.split_once(' ').unwrap_or((line, ""));
         match word {
             "begin" => return Some(Call::Begin),
+            "limit" => return Some(Call::Limit(page(rest, at)?)),
             "close" => return Some(Call::Close),
             _ => {}
         }

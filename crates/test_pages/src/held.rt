@@ -71,6 +71,10 @@ pub(crate) fn make_call(
     match (held, call) {
         (Held::Disk(disk), Call::Disk(call)) => call_disk(alloc, disk, call, answer),
         (Held::Opening(opening), Call::Opening(call)) => call_opening(opening, call, answer),
+        (Held::Pages(pages), Call::Limit(limit)) => set_limit(pages, limit, answer),
+        (Held::Begun(Begun { pages, work: _ }), Call::Limit(limit)) => {
+            set_limit(pages, limit, answer)
+        }
         (Held::Pages(pages), Call::Begin) => begin(pages, answer),
         (Held::Begun(Begun { pages, work: _ }), Call::Begin) => begin(pages, answer),
         (Held::Begun(begun), Call::Work(call)) => call_work(alloc, begun, call, answer),
@@ -96,6 +100,24 @@ fn begin(pages: Pages<InMemory>, answer: &mut String) -> Result<Held, AllocError
             Ok(Held::Pages(pages))
         }
     }
+}
+
+// Changes how many pages there may be, to as many as before or more.
+fn set_limit(
+    mut pages: Pages<InMemory>,
+    limit: u32,
+    answer: &mut String,
+) -> Result<Held, AllocError> {
+    // Of pages that are closed nobody knows how many there are.
+    if let Err(fault) = pages.begin() {
+        write!(answer, "{fault:?}")?;
+    } else if limit < pages.limit() || !is_limit(limit) {
+        answer.push_str("no limit")?;
+    } else {
+        pages.set_limit(limit);
+        answer.push_str("done")?;
+    }
+    Ok(Held::Pages(pages))
 }
 
 fn call_disk(

@@ -18,7 +18,8 @@
 //!
 //! Those of an opening are `root`, `claim-page PAGE`, `claim-chain FIRST`, `count` (how many pages
 //! there are), `claim-chain-within FIRST MOST` of at most so many pages, and `done LIMIT`, which
-//! gives the pages. `begin` begins a work on pages, and drops the one that was begun before.
+//! gives the pages. `limit LIMIT` changes how many pages there may be, to no fewer than before;
+//! `begin` begins a work on pages. Both drop a work that was begun before.
 //!
 //! Those of a work are `allocate`, `free PAGE`, `put-page PAGE BYTES`, `put-chain BYTES`,
 //! `free-chain FIRST`, `read-page PAGE`, `read-bytes PAGE FROM TO`, `read-chain FIRST`,

@@ -1,6 +1,7 @@
 // The end of a work.
 ghost use Rattle.std.specs.Prelude.{◌≡◌, ◌≢◌, ◌<◌, ◌≤◌, true, false, length, map, max, All, OnOk};
 ghost use Rattle.std.specs.Prelude.{MatchResult};
+ghost use Rattle.std.specs.Vec.{vec_capacity};
 ghost use Rattle.std.specs.List.Sorted.{IsStrictlyIncreasing};
 ghost use Rattle.tune_disk.specs.Stops.{SinceThen, LeavesOnly};
 ghost use Rattle.tune_journal.specs.Image.{StandsFor, StandsForEither};
@@ -24,7 +25,8 @@ use tune_journal::Changes;
 fn take_front(used: &mut Vec<bool>, low: usize, frontier: usize)
     requires range { (low ≤ frontier) × (frontier ≤ length used.old.items) }
     requires low { AllUsedBelow low used.old.items }
-    ensures { used.new.items ≡ front frontier used.old.items }
+    ensures marks { used.new.items ≡ front frontier used.old.items }
+    ensures room { vec_capacity used.new ≡ vec_capacity used.old }
 {
     for page in low..frontier {
         used[page] = true;
@@ -34,7 +36,8 @@ fn take_front(used: &mut Vec<bool>, low: usize, frontier: usize)
 // Marks these pages as free.
 fn give_back(used: &mut Vec<bool>, freed: &[u32])
     requires { All (λ p. p < length used.old.items) freed.now }
-    ensures { used.new.items ≡ marked false freed.now used.old.items }
+    ensures marks { used.new.items ≡ marked false freed.now used.old.items }
+    ensures room { vec_capacity used.new ≡ vec_capacity used.old }
 {
     for page in freed {
         used[*page as usize] = false;
@@ -44,7 +47,8 @@ fn give_back(used: &mut Vec<bool>, freed: &[u32])
 // The same of pages in two pieces.
 fn give_all_back(used: &mut Vec<bool>, freed: &VecDeque<u32>)
     requires { All (λ p. p < length used.old.items) freed.now.items }
-    ensures { used.new.items ≡ marked false freed.now.items used.old.items }
+    ensures marks { used.new.items ≡ marked false freed.now.items used.old.items }
+    ensures room { vec_capacity used.new ≡ vec_capacity used.old }
 {
     let (above, below) = freed.as_slices();
     give_back(used, above);

@@ -2,6 +2,7 @@
 ghost use Rattle.std.specs.Prelude.{◌≡◌, ◌≢◌, ◌<◌, ◌≤◌, ◌-◌, ◌++◌, [], ◌∷◌, ℕ, true, false, List};
 ghost use Rattle.std.specs.Prelude.{length, replicate, slice_set, MatchResult, IfOk, IfErr};
 ghost use Rattle.std.specs.Prelude.{IfSome, OnOk, Some, All};
+ghost use Rattle.std.specs.Vec.{vec_capacity};
 ghost use Rattle.tune_disk.specs.Disk.{Looks};
 ghost use Rattle.tune_disk.specs.Stops.{SinceThen, LeavesOnly};
 ghost use Rattle.tune_journal.specs.Image.{StandsFor, gate_of};
@@ -274,19 +275,27 @@ impl<D: Disk> Opening<D> {
                 why: OpenFault::Damaged,
             });
         }
-        match claimed.resize(limit as usize, false) {
-            Ok(()) => Ok(Pages::over(alloc, journal, claimed, limit)),
-            Err(_) => Err(out_of_memory(journal)),
+        let more = ROOM_FOR_MARKS.saturating_sub(claimed.len());
+        if claimed.reserve(more).is_err() || claimed.resize(limit as usize, false).is_err() {
+            return Err(out_of_memory(journal));
         }
+        Ok(Pages::over(alloc, journal, claimed, limit))
     }
 }
+
+// There is room for a mark of each page of a file, so that a limit is changed without memory.
+const ROOM_FOR_MARKS: usize = 4_000_000;
 
 /// Marks of so many pages, of which the root alone is in use.
 fn mark_root(alloc: Global, count: u32) -> Option<Vec<bool>>
     requires { 1 ≤ count }
-    ensures { IfSome result (λ marks. marks.items ≡ only_root count) }
+    ensures marks { IfSome result (λ marks. marks.items ≡ only_root count) }
+    ensures room { IfSome result (λ marks. most_pages ≤ vec_capacity marks) }
 {
     let mut marks = Vec::new(alloc);
+    if marks.reserve(ROOM_FOR_MARKS).is_err() {
+        return None;
+    }
     match marks.resize(count as usize, false) {
         Ok(()) => {
             marks[0] = true;

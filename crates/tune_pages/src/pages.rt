@@ -1,6 +1,7 @@
 // The pages of an open archive.
 ghost use Rattle.std.specs.Prelude.{◌≡◌, ℕ, ◌<◌, ◌≤◌, false, Some, length, IfOk, MatchResult};
-ghost use Rattle.std.specs.Prelude.{true, All, Err};
+ghost use Rattle.std.specs.Prelude.{true, All, Err, ◌-◌, ◌++◌, replicate, take};
+ghost use Rattle.std.specs.Vec.{vec_capacity};
 ghost use Rattle.tune_journal.specs.Layout.{block_bytes, most_pages};
 ghost use Rattle.tune_journal.specs.Moments.{LeavesPages};
 ghost use Rattle.tune_pages.specs.Faults.{AnswersBegin, IsReadFault};
@@ -45,7 +46,9 @@ pub struct Pages<D: Disk> {
 }
 
 impl<D: Disk> Model for Pages<D> {
-    ghost use Rattle.std.specs.Prelude.{◌≡◌, false};
+    ghost use Rattle.std.specs.Prelude.{◌≡◌, ◌≤◌, false};
+    ghost use Rattle.std.specs.Vec.{vec_capacity};
+    ghost use Rattle.tune_journal.specs.Layout.{most_pages};
     ghost use Rattle.tune_pages.specs.Inside.Codes.{kept_code};
     ghost use Rattle.tune_pages.specs.Inside.Held.{held_disk, held_pages, IsKept, IsOpen};
     ghost use Rattle.tune_pages.specs.Inside.Held.{AllUsedBelow};
@@ -69,7 +72,8 @@ impl<D: Disk> Model for Pages<D> {
         IsKept (held_disk p.held) (held_pages p.held) p.used.items p.limit p.closed
         × (p.closed ≡ false → IsOpen p.held) × AllUsedBelow p.low p.used.items
         × (p.closed ≡ false → HonestAt D.honest (held_disk p.held)
-        → AreKept (held_pages p.held) p.cached) };
+        → AreKept (held_pages p.held) p.cached)
+        × (most_pages ≤ vec_capacity p.used) };
 }
 
 // The first page from `from` on that is not in use; `end` where none before it is free.
@@ -92,6 +96,7 @@ impl<D: Disk> Pages<D> {
     pub(crate) fn over(alloc: Global, journal: Journal<D>, used: Vec<bool>, limit: u32) -> Pages<D>
         requires limit { (1 ≤ limit) × (limit ≤ most_pages) × (length used.items ≡ limit) }
         requires root { IsUsed used.items 0 }
+        requires room { most_pages ≤ vec_capacity used }
         requires below { (p : ℕ) → IsUsed used.items p → p < length journal.pages }
         requires few { length journal.pages ≤ limit }
         ensures disk { result.disk ≡ Some journal.disk }
@@ -152,6 +157,23 @@ impl<D: Disk> Pages<D> {
             let _ = journal.count();
         }
         self.limit
+    }
+
+    /// Changes how many pages there may be, and nothing else: from as many as there are to
+    /// 4,000,000. It takes no memory. No work that was begun before is to be changed or finished
+    /// after it.
+    pub fn set_limit(&mut self, limit: u32)
+        requires some { (1 ≤ limit) × (limit ≤ most_pages) }
+        requires few { length self.old.pages ≤ limit }
+        ensures limit { self.new.limit ≡ limit }
+        ensures marks { self.new.used
+            ≡ take limit (self.old.used ++ replicate (limit - self.old.limit) false) }
+        ensures disk { self.new.disk ≡ self.old.disk }
+        ensures pages { (self.new.pages ≡ self.old.pages) × (self.new.closed ≡ self.old.closed) }
+    {
+        self.used.resize(limit as usize, false).unwrap();
+        self.low = self.low.min(limit);
+        self.limit = limit;
     }
 
     /// Closes the pages, where the disk showed what cannot be, as a page that has not the form of

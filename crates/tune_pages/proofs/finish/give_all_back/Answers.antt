@@ -15,13 +15,13 @@ all_second Q (p ∷ a) b all = all_second Q a b (All-tail Q p (a ++ b) all)
 pub give_back-requires-2 : goal.give_back-requires-2
 give_back-requires-2 c =
     let all = subst (All (λ p. p < length c.args.used.now.items)) (sym c.as_slices.ensures.items) c.requires in
-    let long : length c.give_back.new.used.items ≡ length c.args.used.now.items = ap (λ (m : List Bool). length m) c.give_back.ensures
+    let long : length c.give_back.new.used.items ≡ length c.args.used.now.items = ap (λ (m : List Bool). length m) c.give_back.ensures.marks
     ∙ length-marked false c.as_slices.result.0.now c.args.used.now.items in
     λ k d lt. (let a = all_second (λ p. p < length c.args.used.now.items) c.as_slices.result.0.now c.as_slices.result.1.now all k d lt in
     omega (arith, a, long))
 
-pub returns : goal.returns
-returns c =
-    c.give_back-2.ensures ∙ ap (marked false c.as_slices.result.1.now) c.give_back.ensures
+pub returns-clause-marks : goal.returns-clause-marks
+returns-clause-marks c =
+    c.give_back-2.ensures.marks ∙ ap (marked false c.as_slices.result.1.now) c.give_back.ensures.marks
     ∙ sym (marked_both c.as_slices.result.0.now c.as_slices.result.1.now c.args.used.now.items)
     ∙ ap (λ (l : List ℕ). marked false l c.args.used.now.items) c.as_slices.ensures.items

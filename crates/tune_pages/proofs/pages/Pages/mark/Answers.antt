@@ -1,4 +1,5 @@
 use Rattle.std.proofs.Common.{◌≡◌, ◌<◌, ◌≤◌, ℕ, All, List, Bool, false, length, sym, ◌∙◌, ap, subst, arith}
+use Rattle.tune_journal.specs.Layout.{most_pages}
 use Rattle.tune_pages.specs.Kept.{Kept}
 use Rattle.tune_pages.specs.Stand.{marked}
 use Rattle.tune_pages.specs.Work.{front}
@@ -17,7 +18,7 @@ take_front-requires-clause-low g c = λ q lt. c.self.invariant.2 q (omega (arith
 pub give_all_back-requires : goal.give_all_back-requires
 give_all_back-requires g c =
     let here : c.self.inside.used.items ≡ c.args.self.now.used = ap (λ (k : Kept _). k.used) c.self.view_is in
-    let table : c.take_front.new.used.items ≡ front c.args.work.now.frontier c.args.self.now.used = c.take_front.ensures
+    let table : c.take_front.new.used.items ≡ front c.args.work.now.frontier c.args.self.now.used = c.take_front.ensures.marks
     ∙ ap (λ (u : List Bool). front c.args.work.now.frontier u) here in
     let all = used_below c.args.work.now.freed.items (front c.args.work.now.frontier c.args.self.now.used) c.requires.freed in
     subst (λ (m : List Bool). All (λ p. p < length m) c.args.work.now.freed.items) (sym table) all
@@ -27,7 +28,7 @@ invariant_of-self g c =
     let here : c.args.self.now.used ≡ c.self.inside.used.items = sym (ap (λ (k : Kept _). k.used) c.self.view_is) in
     let there : length c.args.self.now.pages ≡ _ = ap (λ (k : Kept _). length k.pages) (sym c.self.view_is) in
     let marks : c.give_all_back.new.used.items ≡ marked false c.args.work.now.freed.items (front c.args.work.now.frontier c.self.inside.used.items) =
-    c.give_all_back.ensures ∙ ap (λ (m : List Bool). marked false c.args.work.now.freed.items m) c.take_front.ensures in (
+    c.give_all_back.ensures.marks ∙ ap (λ (m : List Bool). marked false c.args.work.now.freed.items m) c.take_front.ensures.marks in (
       kept_marks _ _ _ _ _ c.args.work.now.frontier c.args.work.now.freed.items c.give_all_back.new.used.items c.self.invariant.0
           (subst (λ (u : List Bool). c.args.work.now.frontier ≤ length u) here c.requires.within)
           (subst (λ (n : ℕ). c.args.work.now.frontier ≤ n) there c.requires.count)
@@ -37,4 +38,5 @@ invariant_of-self g c =
           c.give_all_back.new.used.items c.self.invariant.2
           (omega (arith, c.lowest-self-inside.ensures.page, c.max.ensures)) (c.lowest-self-inside.ensures.freed c.requires.falls) marks,
       c.self.invariant.3,
+      subst (λ (n : ℕ). most_pages ≤ n) (sym (c.give_all_back.ensures.room ∙ c.take_front.ensures.room)) c.self.invariant.4,
     )
