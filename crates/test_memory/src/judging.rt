@@ -1,5 +1,5 @@
 // Scripts that are carried out where memory may be refused, and what is to come of them.
-use crate::pieces::{Answered, MARK, Replies, reply_to, state_of};
+use crate::pieces::{Answer, MARK, Replies, reply_to, state_of};
 use crate::verdict::Verdict;
 use std::alloc::Global;
 use std::io;
@@ -137,11 +137,11 @@ fn judge_piece(
     alloc: Global,
     before: Verdict,
     piece: &[u8],
-    answered: Answered,
+    answered: Answer,
     model: &mut ListArchive,
     states: &mut Vec<Vec<u8>>,
 ) -> io::Result<One> {
-    let Answered { reply, end, left } = answered;
+    let Answer { reply, end, left } = answered;
     let stopped = end == RunEnd::DeviceFault && left == MARK.len();
     if let Verdict::Device(_) = before {
         let closed = stopped && reply == CLOSED;

@@ -45,7 +45,7 @@ fn main(rt: HostRuntime) -> io::Result<ExitCode> {
     let words: Vec<String> = env::args(&rt)?.collect(rt.alloc())?;
     let mut script = String::new(rt.alloc());
     rt.reader().read_to_string(&mut script)?;
-    match asked(words.as_slice()) {
+    match meaning_of(words.as_slice()) {
         Some(asked) => {
             let verdict = try_out(&rt, asked, &script)?;
             Ok(ExitCode::from(verdict.status()))
@@ -67,7 +67,7 @@ enum Asked {
 }
 
 // What the words ask for.
-fn asked(words: &[String]) -> Option<Asked> {
+fn meaning_of(words: &[String]) -> Option<Asked> {
     match words {
         [_, what] if what.as_str() == "list" => Some(Asked::List),
         [_, what] if what.as_str() == "file" => Some(Asked::File),

@@ -32,7 +32,7 @@ pub(crate) struct Replies {
 
 /// What one piece is answered, how its run ended, and how many bytes of it are left.
 #[derive(Clone, Copy)]
-pub(crate) struct Answered<'a> {
+pub(crate) struct Answer<'a> {
     pub(crate) reply: &'a [u8],
     pub(crate) end: RunEnd,
     pub(crate) left: usize,
@@ -68,13 +68,13 @@ impl Replies {
     }
 
     /// What the piece at this place is answered, counted from 0, if it was carried out.
-    pub(crate) fn answered(&self, place: usize) -> Option<Answered<'_>> {
+    pub(crate) fn answered(&self, place: usize) -> Option<Answer<'_>> {
         let turn = *self.turns.get(place)?;
         let from = match place.checked_sub(1) {
             Some(before) => self.turns.get(before)?.to,
             None => 0,
         };
-        Some(Answered {
+        Some(Answer {
             reply: self.bytes.get(from..turn.to)?,
             end: turn.end,
             left: turn.left,

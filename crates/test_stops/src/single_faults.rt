@@ -80,6 +80,24 @@ impl Told {
             None
         }
     }
+
+    // Whether each step behind this one is answered by an archive as where its disk has failed.
+    fn is_closed_behind<S: TuneStore>(
+        &self,
+        alloc: Global,
+        texts: &Texts,
+        step: usize,
+        archive: &mut S,
+    ) -> io::Result<bool> {
+        let steps = texts.steps.iter().zip(&self.replies);
+        for (step, told) in steps.skip(step.saturating_add(1)) {
+            let replies = replies_of(alloc, step, archive)?;
+            if replies.as_slice() != behind_a_fault(told) {
+                return Ok(false);
+            }
+        }
+        Ok(true)
+    }
 }
 
 // Has each call of the disk fail once under a run of all steps, that of the opening before too.
@@ -107,7 +125,7 @@ fn fault_at(
     let Ok(made) = Archive::make(alloc, MemoryDisk::new(alloc)) else {
         return Err(io::ErrorKind::Other.into());
     };
-    let mut archive = match Archive::open(alloc, faulty(made.into_disk(), call)) {
+    let mut archive = match Archive::open(alloc, with_fault(made.into_disk(), call)) {
         Ok(archive) => archive,
         Err(refused) if refused.why == OpenFault::Device => {
             return judge_disk(
@@ -140,7 +158,7 @@ fn fault_at(
 }
 
 // A disk of which this call fails. It has room for one call more than come before.
-fn faulty(disk: MemoryDisk, call: u64) -> Faulty {
+fn with_fault(disk: MemoryDisk, call: u64) -> Faulty {
     OneFault::new(FuseDisk::new(disk, call.saturating_add(1)), call)
 }
 
@@ -220,7 +238,7 @@ fn fault_opening(alloc: Global, texts: &Texts, left: MemoryDisk) -> io::Result<O
     state.push(replies_of(alloc, &texts.questions, &mut archive)?)?;
     let writes = archive.into_disk().bytes() != left.bytes();
     for call in 0..MOST_CALLS_OF_OPENING {
-        let fault = match Archive::open(alloc, faulty(left.stopped(CHOICES[1])?, call)) {
+        let fault = match Archive::open(alloc, with_fault(left.stopped(CHOICES[1])?, call)) {
             Ok(archive) => judge_whole(true, archive.into_disk()),
             Err(refused) if refused.why == OpenFault::Device => {
                 judge_disk(alloc, texts, refused.disk, &state, call)?
