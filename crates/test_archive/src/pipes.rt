@@ -21,6 +21,50 @@ impl<'a> Read for FailingReader<'a> {
     }
 }
 
+/// Gives its text, at most three bytes a call, but for one call, which fails.
+#[derive(Drop)]
+pub(crate) struct OnceFailingReader<'a> {
+    pub(crate) text: &'a [u8],
+    calls_before: Option<u32>,
+    /// How many bytes were left when it failed.
+    pub(crate) left: Option<usize>,
+}
+
+impl<'a> OnceFailingReader<'a> {
+    /// It fails in the call of this number, counted from 0.
+    pub(crate) fn new(text: &'a [u8], call: u32) -> OnceFailingReader<'a> {
+        OnceFailingReader {
+            text,
+            calls_before: Some(call),
+            left: None,
+        }
+    }
+}
+
+impl<'a> Read for OnceFailingReader<'a> {
+    fn read(&mut self, buf: &mut [u8]) -> io::Result<usize> {
+        match self.calls_before {
+            Some(0) => {
+                self.calls_before = None;
+                self.left = Some(self.text.len());
+                Err(io::Error::from(io::ErrorKind::BrokenPipe))
+            }
+            calls => {
+                self.calls_before = calls.map(|calls| calls.saturating_sub(1));
+                give_three(&mut self.text, buf)
+            }
+        }
+    }
+}
+
+// Gives the first bytes of a text, at most three.
+fn give_three(text: &mut &[u8], buf: &mut [u8]) -> io::Result<usize> {
+    let most = buf.len().min(3);
+    let mut piece = text.get(..most).unwrap_or(text);
+    *text = text.get(most..).unwrap_or(b"");
+    piece.read(buf)
+}
+
 /// Takes this many calls, to write or to flush, and fails each one after them.
 #[derive(Drop)]
 pub(crate) struct FailingWriter {

@@ -9,6 +9,12 @@
 //     reader-fails READ WRITTEN
 //                          how a run ends over an empty archive, of the first bytes of the script,
 //                          where the reader fails after these; so many bytes of replies are wanted
+//     reader-fails-each COUNT
+//                          nothing, where each run over an empty archive ends as it has to, its
+//                          replies are those to all that was read, and the archive is that of
+//                          these, where the reader fails in call 0, 1 and so on, below so many, and
+//                          works again; the last one is past the input's end. Each piece of the
+//                          replies answers the piece of the script before it
 //     writer-fails CALLS   how a run ends where the writer fails after so many calls
 //     writer-fails-each COUNT
 //                          nothing, where each run over an empty archive ends as it has to, and
@@ -30,7 +36,9 @@ use crate::arguments::{Arguments, no_data};
 use crate::cases::Bench;
 use crate::no_files::NoFiles;
 use crate::pieces::add_piece;
-use crate::pipes::{AskingReader, CountingWriter, FailingReader, FailingWriter, Flushes};
+use crate::pipes::{
+    AskingReader, CountingWriter, FailingReader, FailingWriter, Flushes, OnceFailingReader,
+};
 use crate::wear::wear;
 use std::alloc::Global;
 use std::cell::Cell;
@@ -45,6 +53,8 @@ pub(crate) struct Scripts {
     archive: ListArchive,
     script: Vec<u8>,
     replies: Vec<u8>,
+    /// Up to where the script and the replies stood after each piece of the replies.
+    ends: Vec<(usize, usize)>,
 }
 
 impl Bench for Scripts {
@@ -54,15 +64,19 @@ impl Bench for Scripts {
             archive: ListArchive::new(alloc),
             script: Vec::new(alloc),
             replies: Vec::new(alloc),
+            ends: Vec::new(alloc),
         }
     }
 
     fn call(&mut self, name: &str, given: Arguments, answer: &mut Answer) -> io::Result<()> {
         match name {
             "script" | "replies" | "next" | "anew" | "cut" => self.write(name, given),
-            "run" | "reader-fails" | "writer-fails" | "writer-fails-each" | "in-turn" => {
-                self.run(name, given, answer)
-            }
+            "run"
+            | "in-turn"
+            | "reader-fails"
+            | "reader-fails-each"
+            | "writer-fails"
+            | "writer-fails-each" => self.run(name, given, answer),
             "status" | "status-reader-fails" | "status-writer-fails" => {
                 self.list(name, given, answer)
             }
@@ -82,7 +96,10 @@ impl Scripts {
     fn write(&mut self, call: &str, mut given: Arguments) -> io::Result<()> {
         match call {
             "script" => add_piece(self.alloc, &mut self.script, given),
-            "replies" => add_piece(self.alloc, &mut self.replies, given),
+            "replies" => {
+                add_piece(self.alloc, &mut self.replies, given)?;
+                Ok(self.ends.push((self.script.len(), self.replies.len()))?)
+            }
             "cut" => {
                 self.script.truncate(given.size()?);
                 Ok(())
@@ -94,6 +111,7 @@ impl Scripts {
             _ => {
                 self.script = Vec::new(self.alloc);
                 self.replies = Vec::new(self.alloc);
+                self.ends = Vec::new(self.alloc);
                 Ok(())
             }
         }
@@ -104,6 +122,7 @@ impl Scripts {
         match call {
             "run" => self.run_whole(answer),
             "reader-fails" => self.run_failing_reader(given.size()?, given.size()?, answer),
+            "reader-fails-each" => self.run_failing_readers(given.number()?, answer),
             "writer-fails" => {
                 let (end, _) = self.run_failing_writer(given.number()?);
                 answer.name(end)
@@ -140,6 +159,63 @@ impl Scripts {
         let end = run(self.alloc, &mut reader, &mut written, &mut self.archive);
         answer.name(end)?;
         say_difference(&written, wanted, answer)
+    }
+
+    // Runs the script over empty archives, with readers that fail once, in call 0, 1 and so on,
+    // below so many. Says in which call the run is another than it has to be.
+    fn run_failing_readers(&mut self, most: u32, answer: &mut Answer) -> io::Result<()> {
+        for call in 0..most {
+            let mut reader = OnceFailingReader::new(self.script.as_slice(), call);
+            let mut written = Vec::new(self.alloc);
+            self.archive = ListArchive::new(self.alloc);
+            let end = run(self.alloc, &mut reader, &mut written, &mut self.archive);
+            let (left, unread) = (reader.left, reader.text.len());
+            if !self.is_read_to(end, left, unread, &written)? {
+                answer.name(end)?;
+                answer.say("in")?;
+                answer.say(call)?;
+            }
+            if left.is_none() {
+                return Ok(());
+            }
+        }
+        answer.say("each failed")
+    }
+
+    // Whether a run of a reader that failed with so many bytes left, or did not, has ended so, read
+    // no byte behind, answered all that it had read, and left the archive of that.
+    fn is_read_to(
+        &mut self,
+        end: RunEnd,
+        left: Option<usize>,
+        unread: usize,
+        written: &[u8],
+    ) -> io::Result<bool> {
+        let wanted_end = if left.is_some() {
+            RunEnd::ReaderFault
+        } else {
+            RunEnd::Ended
+        };
+        let left = left.unwrap_or(0);
+        let (script, replies) = self.answered_of(self.script.len().saturating_sub(left));
+        let mut read = self.script.get(..script).ok_or(no_data())?;
+        let wanted = self.replies.get(..replies).ok_or(no_data())?;
+        let mut archive = ListArchive::new(self.alloc);
+        let mut others = Vec::new(self.alloc);
+        let _ = run(self.alloc, &mut read, &mut others, &mut archive);
+        let same = all_of(self.alloc, &mut archive) == all_of(self.alloc, &mut self.archive);
+        Ok(same && end == wanted_end && unread == left && written == wanted)
+    }
+
+    // How far the script and the replies go of the pieces within its first bytes, so many.
+    fn answered_of(&self, read: usize) -> (usize, usize) {
+        let mut answered = (0, 0);
+        for end in &self.ends {
+            if end.0 <= read {
+                answered = *end;
+            }
+        }
+        answered
     }
 
     // Runs the script with a writer that fails after so many calls, and says whether it failed.
@@ -256,6 +332,14 @@ fn add_tune(tune: &Tune, answer: &mut Answer) -> io::Result<()> {
     answer.say(tune.revision)?;
     answer.add(b" ")?;
     answer.add(tune.text.bytes())
+}
+
+// What an archive answers who asks for all that it holds.
+fn all_of(alloc: Global, archive: &mut ListArchive) -> Vec<u8> {
+    let mut questions: &[u8] = b"export\ntitles\nsets\nset-show friday\nshow 1\nshow 2\n";
+    let mut replies = Vec::new(alloc);
+    let _ = run(alloc, &mut questions, &mut replies, archive);
+    replies
 }
 
 // How a run ends where the writer has failed, or has not.

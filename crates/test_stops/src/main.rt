@@ -17,10 +17,12 @@
 #![tactic(auto)]
 
 mod cuts;
+mod single_faults;
 mod stops;
 mod texts;
 
 use cuts::{cut_left, cut_made};
+use single_faults::{Sweep, fault_openings, fault_steps};
 use std::fs::Files;
 use std::io;
 use std::process::ExitCode;
@@ -43,8 +45,9 @@ fn main(rt: HostRuntime) -> io::Result<ExitCode> {
         println!(&rt; "cuts: one leaves another state, or is refused otherwise")?;
     }
     let leaves = stop_leaves(&rt)?;
+    let faults = fail_once(&rt)?;
     let good = Outcome::AsBeforeOrAfter;
-    if making == good && steps == good && ends == good && cuts && leaves {
+    if making == good && steps == good && ends == good && cuts && leaves && faults {
         Ok(ExitCode::SUCCESS)
     } else {
         Ok(ExitCode::FAILURE)
@@ -60,6 +63,26 @@ fn stop_leaves<R: Files + Print + AllocGlobal>(rt: &R) -> io::Result<bool> {
     let ends = end_steps(rt.alloc(), &texts, states.as_slice())?;
     say(rt, "ends on leaves", ends)?;
     Ok(steps == Outcome::AsBeforeOrAfter && ends == Outcome::AsBeforeOrAfter)
+}
+
+// Has each call of the disk fail once, and says whether all is well.
+fn fail_once<R: Files + Print + AllocGlobal>(rt: &R) -> io::Result<bool> {
+    let texts = Texts::read(rt, "faults")?;
+    let states = states_after(rt.alloc(), &texts)?;
+    let steps = fault_steps(rt.alloc(), &texts, states.as_slice())?;
+    say_faults(rt, "faults in steps", steps)?;
+    let openings = fault_openings(rt.alloc(), &texts)?;
+    say_faults(rt, "faults in openings", openings)?;
+    Ok(steps == Sweep::AsTold && openings == Sweep::AsTold)
+}
+
+// Prints what came of a sweep of faults.
+fn say_faults<R: Print>(rt: &R, name: &str, sweep: Sweep) -> io::Result<()> {
+    match sweep {
+        Sweep::AsTold => println!(rt; "{name}: each is told, and leaves the state before or after"),
+        Sweep::TooFew => println!(rt; "{name}: the disk was hardly called"),
+        Sweep::Otherwise(calls) => println!(rt; "{name}: one at call {calls} is not as told"),
+    }
 }
 
 // Prints what came of a sweep of stops.

@@ -7,10 +7,10 @@ use tune_disk::{FuseDisk, MemoryDisk, StopChoice};
 use tune_journal::OpenFault;
 
 /// How many calls of the disk are tried at most.
-const MOST_CALLS: u64 = 5_000;
+pub(crate) const MOST_CALLS: u64 = 5_000;
 
 /// How many calls of an opening are tried at most.
-const MOST_CALLS_OF_OPENING: u64 = 200;
+pub(crate) const MOST_CALLS_OF_OPENING: u64 = 200;
 
 /// The first calls of an opening, over which its faults are spread from one step to the next. It
 /// has no factor in common with the numbers of calls of a commit.
@@ -19,7 +19,7 @@ const SPREAD: u64 = 31;
 /// Fewer calls than these are no archive at work.
 const FEWEST_CALLS: u64 = 3;
 
-const CHOICES: [StopChoice; 2] = [StopChoice::Lost, StopChoice::Kept];
+pub(crate) const CHOICES: [StopChoice; 2] = [StopChoice::Lost, StopChoice::Kept];
 
 /// What came of a sweep of stops.
 #[derive(Clone, Copy, Debug, PartialEq, Eq)]
@@ -37,7 +37,7 @@ pub(crate) enum Outcome {
 #[derive(Drop)]
 pub(crate) struct Stopped {
     pub(crate) disk: MemoryDisk,
-    answered: usize,
+    pub(crate) answered: usize,
 }
 
 // Stops an archive while it is made, at each call.
@@ -194,7 +194,7 @@ fn stop_opening(
 }
 
 // Opens what a stop left, which has to hold one of these states.
-fn open_left(
+pub(crate) fn open_left(
     alloc: Global,
     texts: &Texts,
     left: MemoryDisk,

@@ -23,6 +23,15 @@ impl Texts {
             questions,
         })
     }
+
+    // How many bytes the steps have behind this one, counted from 0.
+    pub(crate) fn bytes_behind(&self, step: usize) -> usize {
+        let mut bytes: usize = 0;
+        for later in self.steps.iter().skip(step.saturating_add(1)) {
+            bytes = bytes.saturating_add(later.len());
+        }
+        bytes
+    }
 }
 
 // The parts of a text, between which a line `--` stands.
