@@ -17,11 +17,17 @@
 #![tactic(auto)]
 
 mod cuts;
+mod forged;
+mod left_files;
+mod numbers;
+mod reopened;
 mod single_faults;
 mod stops;
 mod texts;
 
 use cuts::{cut_left, cut_made};
+use forged::forge_all;
+use reopened::{reopen_steps, stop_between};
 use single_faults::{Sweep, fault_openings, fault_steps};
 use std::fs::Files;
 use std::io;
@@ -46,8 +52,11 @@ fn main(rt: HostRuntime) -> io::Result<ExitCode> {
     }
     let leaves = stop_leaves(&rt)?;
     let faults = fail_once(&rt)?;
+    let commands = stop_commands(&rt)?;
+    let forged = forge_all(&rt)?;
     let good = Outcome::AsBeforeOrAfter;
-    if making == good && steps == good && ends == good && cuts && leaves && faults {
+    let sweeps = making == good && steps == good && ends == good;
+    if sweeps && cuts && leaves && faults && commands && forged {
         Ok(ExitCode::SUCCESS)
     } else {
         Ok(ExitCode::FAILURE)
@@ -85,6 +94,18 @@ fn say_faults<R: Print>(rt: &R, name: &str, sweep: Sweep) -> io::Result<()> {
     }
 }
 
+// Stops an archive at the commands by each choice, and the openings of what is left, and says
+// whether all is well.
+fn stop_commands<R: Files + Print + AllocGlobal>(rt: &R) -> io::Result<bool> {
+    let texts = Texts::read(rt, "commands")?;
+    let states = states_after(rt.alloc(), &texts)?;
+    let reopened = reopen_steps(rt.alloc(), &texts, states.as_slice())?;
+    say(rt, "commands, and openings of what is left", reopened)?;
+    let between = stop_between(rt.alloc(), &texts, states.as_slice())?;
+    say(rt, "between commands", between)?;
+    Ok(reopened == Outcome::AsBeforeOrAfter && between == Outcome::AsBeforeOrAfter)
+}
+
 // Prints what came of a sweep of stops.
 fn say<R: Print>(rt: &R, name: &str, outcome: Outcome) -> io::Result<()> {
     match outcome {
@@ -98,5 +119,9 @@ fn say<R: Print>(rt: &R, name: &str, outcome: Outcome) -> io::Result<()> {
         Outcome::NotOpened(calls) => {
             println!(rt; "{name}: what a stop at call {calls} leaves is not opened")
         }
+        Outcome::StaysOpen(calls) => {
+            println!(rt; "{name}: after a fault at call {calls} the archive is not closed")
+        }
+        Outcome::TooMany => println!(rt; "{name}: ever more files are left"),
     }
 }
