@@ -1,7 +1,7 @@
 // Readers and writers that fail, and that depend on one another.
 use std::cell::Cell;
 use std::io;
-use std::io::{Read, Write};
+use std::io::{BufRead, Read, Write};
 
 /// Gives its text, at most three bytes a call, and then fails.
 #[derive(Drop)]
@@ -18,6 +18,19 @@ impl<'a> Read for FailingReader<'a> {
         let mut piece = self.text.get(..most).unwrap_or(self.text);
         self.text = self.text.get(most..).unwrap_or(b"");
         piece.read(buf)
+    }
+}
+
+impl<'a> BufRead for FailingReader<'a> {
+    fn fill_buf(&mut self) -> io::Result<&[u8]> {
+        if self.text.is_empty() {
+            return Err(io::Error::from(io::ErrorKind::BrokenPipe));
+        }
+        Ok(self.text.get(..3).unwrap_or(self.text))
+    }
+
+    fn consume(&mut self, amount: usize) {
+        self.text = self.text.get(amount..).unwrap_or(b"");
     }
 }
 
@@ -43,6 +56,15 @@ impl<'a> OnceFailingReader<'a> {
 
 impl<'a> Read for OnceFailingReader<'a> {
     fn read(&mut self, buf: &mut [u8]) -> io::Result<usize> {
+        let mut shown = self.fill_buf()?;
+        let count = shown.read(buf)?;
+        self.consume(count);
+        Ok(count)
+    }
+}
+
+impl<'a> BufRead for OnceFailingReader<'a> {
+    fn fill_buf(&mut self) -> io::Result<&[u8]> {
         match self.calls_before {
             Some(0) => {
                 self.calls_before = None;
@@ -51,18 +73,14 @@ impl<'a> Read for OnceFailingReader<'a> {
             }
             calls => {
                 self.calls_before = calls.map(|calls| calls.saturating_sub(1));
-                give_three(&mut self.text, buf)
+                Ok(self.text.get(..3).unwrap_or(self.text))
             }
         }
     }
-}
 
-// Gives the first bytes of a text, at most three.
-fn give_three(text: &mut &[u8], buf: &mut [u8]) -> io::Result<usize> {
-    let most = buf.len().min(3);
-    let mut piece = text.get(..most).unwrap_or(text);
-    *text = text.get(most..).unwrap_or(b"");
-    piece.read(buf)
+    fn consume(&mut self, amount: usize) {
+        self.text = self.text.get(amount..).unwrap_or(b"");
+    }
 }
 
 /// Takes this many calls, to write or to flush, and fails each one after them.
@@ -137,6 +155,24 @@ impl<'a> Read for AskingReader<'a> {
             }
             _ => Ok(0),
         }
+    }
+}
+
+impl<'a> BufRead for AskingReader<'a> {
+    fn fill_buf(&mut self) -> io::Result<&[u8]> {
+        if self.flushes.flushed.get() < self.lines {
+            self.flushes.asked_early.set(true);
+        }
+        Ok(self.text.get(..1).unwrap_or(b""))
+    }
+
+    fn consume(&mut self, amount: usize) {
+        for byte in self.text.get(..amount).unwrap_or(b"") {
+            if *byte == b'\n' {
+                self.lines = self.lines.saturating_add(1);
+            }
+        }
+        self.text = self.text.get(amount..).unwrap_or(b"");
     }
 }
 

@@ -17,7 +17,7 @@ use clap::error::ErrorKind;
 use clap::{Arg, Command};
 use std::alloc::{AllocError, Global};
 use std::io;
-use std::io::{Read, Write};
+use std::io::{BufRead, Write};
 use tune_archive::{Archive, TuneStore};
 use tune_disk::{Disk, Drive};
 use tune_scripts::{RunEnd, run};
@@ -135,7 +135,7 @@ pub fn report<T: Print + Eprint>(rt: &T, fault: &WordsFault) -> io::Result<u8>
 /// tells its bytes. Standard input tells none. Of a file it says what `make_on`, `run_on` and
 /// `check_on` say of the disk that `rt`, as a drive, gave for the file's path, and that the disk
 /// that came of it was closed. `make` alone asks for a file that may have to be made.
-pub fn act<R: Read, W: Write, D: Disk, T: AllocGlobal + Drive<Disk = D>>(
+pub fn act<R: BufRead, W: Write, D: Disk, T: AllocGlobal + Drive<Disk = D>>(
     rt: &T,
     action: &Action,
     reader: &mut R,
@@ -154,7 +154,7 @@ pub fn act<R: Read, W: Write, D: Disk, T: AllocGlobal + Drive<Disk = D>>(
 }
 
 // Runs the script of the reader on an empty archive in memory.
-fn list<R: Read, W: Write>(alloc: Global, reader: &mut R, writer: &mut W) -> u8
+fn list<R: BufRead, W: Write>(alloc: Global, reader: &mut R, writer: &mut W) -> u8
     ensures { ListsScript (R.remaining reader.old) (R.remaining reader.new)
         (W.contents writer.old) (W.contents writer.new) result }
 {

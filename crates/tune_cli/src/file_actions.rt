@@ -11,7 +11,7 @@ ghost use Rattle.tune_cli.specs.Lines.{counts_bytes};
 use crate::actions::status;
 use std::alloc::Global;
 use std::io;
-use std::io::{Read, Write};
+use std::io::{BufRead, Write};
 use tune_archive::{Archive, Counts, TuneStore};
 use tune_disk::{DeviceFault, Disk, Drive};
 use tune_journal::OpenFault;
@@ -81,7 +81,7 @@ pub fn check_on<W: Write, D: Disk>(alloc: Global, writer: &mut W, disk: D) -> Do
 /// This is what the archive is for: each reply is that of a plain list of tunes and set lists, and
 /// a stop (a crash or power loss) at any moment of the call leaves the state after a prefix of the
 /// commands, which holds every command that was answered by then.
-pub fn run_on<R: Read, W: Write, D: Disk>(
+pub fn run_on<R: BufRead, W: Write, D: Disk>(
     alloc: Global,
     reader: &mut R,
     writer: &mut W,
@@ -148,7 +148,7 @@ pub(crate) fn check<W: Write, D: Disk, T: AllocGlobal + Drive<Disk = D>>(
 }
 
 // Runs a script on the archive in the file at a path.
-pub(crate) fn run_file<R: Read, W: Write, D: Disk, T: AllocGlobal + Drive<Disk = D>>(
+pub(crate) fn run_file<R: BufRead, W: Write, D: Disk, T: AllocGlobal + Drive<Disk = D>>(
     rt: &T,
     path: &str,
     reader: &mut R,

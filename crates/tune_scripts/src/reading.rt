@@ -1,29 +1,48 @@
 // Reads the lines and books of a script.
-ghost use Rattle.std.specs.Prelude.{ℕ, ◌≡◌, ◌≤◌, ◌<◌, take, length};
+ghost use Rattle.std.specs.Prelude.{◌≡◌, ◌+◌, ◌<◌, length};
 ghost use Rattle.tune_scripts.specs.Limits.{longest_line};
-ghost use Rattle.tune_scripts.specs.Inside.Reads.{ReadsByte, ReadsLine, ReadsBook};
+ghost use Rattle.tune_scripts.specs.Inside.Reads.{ReadsPiece, ReadsLine, ReadsPart, ReadsBook};
 
 use crate::script_lines::LONGEST_LINE;
 use abc_fields::ByteText;
+use memchr::memchr;
 use std::alloc::Global;
-use std::io::Read;
+use std::io::BufRead;
 
-/// What a read of one byte gave.
-pub(crate) enum ByteRead {
-    Byte(u8),
+/// What the reader's own buffer showed of a line.
+pub(crate) enum PieceRead {
+    /// This many bytes, and then the line feed, which was read too.
+    Fed(usize),
+    /// This many bytes, at least one, and not yet the line feed.
+    Open(usize),
+    /// Nothing: the input is at its end.
     End,
     Fault,
 }
 
-// Reads one byte.
-fn read_byte<R: Read>(reader: &mut R) -> ByteRead
-    ensures { ReadsByte (R.remaining reader.old) (R.remaining reader.new) result }
+// Reads what the reader's buffer shows of a line, up to its line feed, as far as there is room.
+fn read_piece<R: BufRead>(reader: &mut R, room: &mut [u8]) -> PieceRead
+    requires { 0 < length room.old }
+    ensures { ReadsPiece (R.remaining reader.old) (R.remaining reader.new) room.new result }
 {
-    let mut byte = [0u8];
-    match reader.read(&mut byte) {
-        Ok(0) => ByteRead::End,
-        Ok(_) => ByteRead::Byte(byte[0]),
-        Err(_) => ByteRead::Fault,
+    let Ok(shown) = reader.fill_buf() else {
+        return PieceRead::Fault;
+    };
+    if shown.is_empty() {
+        return PieceRead::End;
+    }
+    let most = shown.len().min(room.len());
+    match memchr(b'\n', &shown[..most]) {
+        Some(n) => {
+            room[..n].copy_from_slice(&shown[..n]);
+            reader.consume(n + 1);
+            PieceRead::Fed(n)
+        }
+        None => {
+            room[..most].copy_from_slice(&shown[..most]);
+            reader.consume(most);
+            PieceRead::Open(most)
+        }
     }
 }
 
@@ -38,19 +57,22 @@ pub(crate) enum LineRead {
     Fault,
 }
 
+/// How many bytes of an input show whether its line is too long.
+pub(crate) const LINE_ROOM: usize = LONGEST_LINE + 1;
+
 // Reads a line up to its line feed, which it does not keep.
-pub(crate) fn read_line<R: Read>(reader: &mut R, line: &mut [u8]) -> LineRead
-    requires { length line.old ≡ longest_line }
+pub(crate) fn read_line<R: BufRead>(reader: &mut R, line: &mut [u8]) -> LineRead
+    requires { length line.old ≡ longest_line + 1 }
     ensures { ReadsLine (R.remaining reader.old) (R.remaining reader.new) line.new result }
 {
-    for n in 0..LONGEST_LINE + 1 {
-        match read_byte(reader) {
-            ByteRead::Fault => return LineRead::Fault,
-            ByteRead::End if n == 0 => return LineRead::End,
-            ByteRead::End => return LineRead::Line(n, false),
-            ByteRead::Byte(b'\n') => return LineRead::Line(n, true),
-            ByteRead::Byte(_) if n == LONGEST_LINE => return LineRead::Long,
-            ByteRead::Byte(byte) => line[n] = byte,
+    let mut len = 0;
+    while len < LINE_ROOM {
+        match read_piece(reader, &mut line[len..]) {
+            PieceRead::Fault => return LineRead::Fault,
+            PieceRead::End if len == 0 => return LineRead::End,
+            PieceRead::End => return LineRead::Line(len, false),
+            PieceRead::Fed(n) => return LineRead::Line(len + n, true),
+            PieceRead::Open(n) => len += n,
         }
     }
     LineRead::Long
@@ -66,10 +88,41 @@ pub(crate) enum BookRead {
     Fault,
 }
 
-const CHUNK: usize = 4_096;
+/// What the reader's own buffer showed of a book.
+pub(crate) enum PartRead {
+    /// This many bytes, at least one, and whether they were kept.
+    Taken(usize, bool),
+    /// Nothing: the input is at its end.
+    End,
+    Fault,
+}
+
+// Reads what the reader's buffer shows of a book, at most so many bytes, and puts it behind the
+// book where it is wanted.
+fn read_part<R: BufRead>(
+    reader: &mut R,
+    most: usize,
+    is_wanted: bool,
+    book: &mut Vec<u8>,
+) -> PartRead
+    requires { 0 < most }
+    ensures { ReadsPart (R.remaining reader.old) (R.remaining reader.new) most is_wanted
+        book.old.items book.new.items result }
+{
+    let Ok(shown) = reader.fill_buf() else {
+        return PartRead::Fault;
+    };
+    if shown.is_empty() {
+        return PartRead::End;
+    }
+    let count = shown.len().min(most);
+    let is_kept = is_wanted && book.extend_from_slice(&shown[..count]).is_ok();
+    reader.consume(count);
+    PartRead::Taken(count, is_kept)
+}
 
 // Reads a book of this length, and keeps it where it is wanted.
-pub(crate) fn read_book<R: Read>(
+pub(crate) fn read_book<R: BufRead>(
     alloc: Global,
     reader: &mut R,
     len: usize,
@@ -79,19 +132,14 @@ pub(crate) fn read_book<R: Read>(
 {
     let mut book = Vec::new(alloc);
     let mut has_room = is_wanted && book.reserve_exact(len).is_ok();
-    let mut chunk = [0u8; CHUNK];
     let mut left = len;
     while left > 0 {
-        let most = left.min(CHUNK);
-        let piece = &mut chunk[..most];
-        match reader.read(piece) {
-            Err(_) => return BookRead::Fault,
-            Ok(0) => return BookRead::Cut,
-            Ok(n) => {
-                left -= n;
-                if has_room {
-                    has_room = book.extend_from_slice(&piece[..n]).is_ok();
-                }
+        match read_part(reader, left, has_room, &mut book) {
+            PartRead::Fault => return BookRead::Fault,
+            PartRead::End => return BookRead::Cut,
+            PartRead::Taken(count, is_kept) => {
+                left -= count;
+                has_room = is_kept;
             }
         }
     }

@@ -1,5 +1,5 @@
 // Runs a script.
-ghost use Rattle.std.specs.Prelude.{◌≡◌, ◌≤◌, length, true, None, Some, Err};
+ghost use Rattle.std.specs.Prelude.{◌≡◌, ◌+◌, ◌≤◌, length, true, None, Some, Err};
 ghost use Rattle.tune_scripts.specs.Limits.{longest_line, most_lines};
 ghost use Rattle.tune_scripts.specs.Replies.{answer_bytes, bad_line_bytes};
 ghost use Rattle.tune_scripts.specs.Scripts.{line_text};
@@ -7,12 +7,12 @@ ghost use Rattle.tune_scripts.specs.ScriptRuns.{RunsScript};
 ghost use Rattle.tune_scripts.specs.Inside.Turns.{Turns, TurnsBook, TurnsOver};
 ghost use Rattle.tune_scripts.specs.Inside.Turns.{WritesOut, IsCarriedOut, next_of};
 
-use crate::reading::{BookRead, LineRead, read_book, read_line};
+use crate::reading::{BookRead, LINE_ROOM, LineRead, read_book, read_line};
 use crate::replies::{write_answer, write_bad_line};
-use crate::script_lines::{BookUse, LONGEST_LINE, ScriptLine, meaning};
+use crate::script_lines::{BookUse, ScriptLine, meaning};
 use abc_fields::LONGEST_BOOK;
 use std::alloc::Global;
-use std::io::{Read, Write};
+use std::io::{BufRead, Write};
 use tune_store::{Command, Refusal, Reply, TuneStore};
 
 /// How a run ended.
@@ -41,9 +41,10 @@ pub const MOST_LINES: u32 = 1_000_000;
 /// line is looked at.
 ///
 /// `reader` gives the script: a line, and directly after it the book that it asks for. Both are
-/// read in small pieces, so a reader that buffers serves well. `alloc` is for the texts that
-/// commands hold (a book, a query's text, or the name of a set list): where there is no memory for
-/// one, a book is read and dropped, and the reply says so. No other command is so answered here.
+/// taken from the reader's own buffer, however little that shows at a time, and no more of it than
+/// they need. `alloc` is for the texts that commands hold (a book, a query's text, or the name of a
+/// set list): where there is no memory for one, a book is read and dropped, and the reply says so.
+/// No other command is so answered here.
 ///
 /// The clause `runs` speaks of a store whose device has answered as a device does, at every end. It
 /// gives one list, of the commands that the store carried out (`carried`), and says of it:
@@ -60,7 +61,7 @@ pub const MOST_LINES: u32 = 1_000_000;
 ///
 /// Two more clauses hold of every device: a store that was closed is left as it was (`idle`), and
 /// after the end `DeviceFault` the store is closed (`fault`).
-pub fn run<R: Read, W: Write, S: TuneStore>(
+pub fn run<R: BufRead, W: Write, S: TuneStore>(
     alloc: Global,
     reader: &mut R,
     writer: &mut W,
@@ -72,7 +73,7 @@ pub fn run<R: Read, W: Write, S: TuneStore>(
     ensures idle { S.closed store.old ≡ true → store.new ≡ store.old }
     ensures fault { result ≡ RunEnd.DeviceFault → S.closed store.new ≡ true }
 {
-    let mut line = [0u8; LONGEST_LINE];
+    let mut line = [0u8; LINE_ROOM];
     for lines in 0..MOST_LINES {
         if let Some(end) = turn(alloc, reader, writer, store, &mut line) {
             return end;
@@ -82,14 +83,14 @@ pub fn run<R: Read, W: Write, S: TuneStore>(
 }
 
 // One line of a script, with its book.
-fn turn<R: Read, W: Write, S: TuneStore>(
+fn turn<R: BufRead, W: Write, S: TuneStore>(
     alloc: Global,
     reader: &mut R,
     writer: &mut W,
     store: &mut S,
     line: &mut [u8],
 ) -> Option<RunEnd>
-    requires { length line.old ≡ longest_line }
+    requires { length line.old ≡ longest_line + 1 }
     ensures was_honest { S.honest store.new → S.honest store.old }
     ensures idle { S.closed store.old ≡ true → store.new ≡ store.old }
     ensures fault { result ≡ Some RunEnd.DeviceFault → S.closed store.new ≡ true }
@@ -128,7 +129,7 @@ fn without_return(line: &[u8], fed: bool) -> &[u8]
 }
 
 // Reads a book, and carries out the command over it.
-fn with_book<R: Read, W: Write, S: TuneStore>(
+fn with_book<R: BufRead, W: Write, S: TuneStore>(
     alloc: Global,
     reader: &mut R,
     writer: &mut W,

@@ -1,21 +1,35 @@
 -- What a read of a line or a book takes of the known bytes of a reader.
-use Rattle.std.specs.Prelude.{◌≡◌, ℕ, ◌+◌, ◌<◌, ◌≤◌, List, [], ◌∷◌, Bool, true, length, take, drop}
-use Rattle.std.specs.Prelude.{Option, IfSome, ⊤, Some}
+use Rattle.std.specs.Prelude.{◌≡◌, ℕ, ◌+◌, ◌<◌, ◌≤◌, List, [], ◌∷◌, ◌++◌, Bool, true, not, ◌==◌}
+use Rattle.std.specs.Prelude.{length, take, drop, Option, IfSome, ⊤, Some}
+use Rattle.std.specs.List.{list_all}
 use Rattle.std.specs.Io.KnownBytes.{Consumes, IsAtEnd}
+use Rattle.abc_fields.specs.Bytes.{line_feed}
 use Rattle.tune_scripts.specs.Limits.{longest_line}
 use Rattle.tune_scripts.specs.InputLines.{before_feed, after_feed, has_feed}
-use Rattle.tune_scripts.specs.declared.reading.ByteRead.{ByteRead}
-use Rattle.tune_scripts.specs.declared.reading.ByteRead.TheVariants as byte
+use Rattle.tune_scripts.specs.declared.reading.PieceRead.{PieceRead}
+use Rattle.tune_scripts.specs.declared.reading.PieceRead.TheVariants as piece
+use Rattle.tune_scripts.specs.declared.reading.PartRead.{PartRead}
+use Rattle.tune_scripts.specs.declared.reading.PartRead.TheVariants as part
 use Rattle.tune_scripts.specs.declared.reading.LineRead.{LineRead}
 use Rattle.tune_scripts.specs.declared.reading.LineRead.TheVariants as line
 use Rattle.tune_scripts.specs.declared.reading.BookRead.{BookRead}
 use Rattle.tune_scripts.specs.declared.reading.BookRead.TheVariants as book
 
--- a byte was taken, or the input is at its end
-abbrev pub ReadsByte : Option (List ℕ) → Option (List ℕ) → ByteRead → Type 0
-ReadsByte old new (byte.Byte b) = Consumes old new (b ∷ [])
-ReadsByte old new byte.End = IsAtEnd old × Consumes old new []
-ReadsByte old new byte.Fault = ⊤
+-- bytes of a line: none is a line feed
+abbrev pub is_inside : ℕ → Bool
+is_inside b = not (b == line_feed)
+
+-- Bytes of a line were taken into the front of `got`, with the line feed behind them or without; or
+-- the input is at its end.
+abbrev pub ReadsPiece : Option (List ℕ) → Option (List ℕ) → List ℕ → PieceRead → Type 0
+ReadsPiece old new got (piece.Fed n) =
+    (n < length got) × (list_all is_inside (take n got) ≡ true)
+    × Consumes old new (take n got ++ line_feed ∷ [])
+ReadsPiece old new got (piece.Open n) =
+    (0 < n) × (n ≤ length got) × (list_all is_inside (take n got) ≡ true)
+    × Consumes old new (take n got)
+ReadsPiece old new got piece.End = IsAtEnd old × Consumes old new []
+ReadsPiece old new got piece.Fault = ⊤
 
 -- An input that is not at its end begins with this line, whose line feed is there or not, and goes
 -- on with `rest`.
@@ -37,7 +51,7 @@ LosesLongLine old new = IfSome old (λ input.
 
 -- a line was read into `got`, or it is too long, or there is none and nothing was read
 abbrev pub ReadsLine : Option (List ℕ) → Option (List ℕ) → List ℕ → LineRead → Type 0
-ReadsLine old new got (line.Line n fed) = (n ≤ length got) × TakesLine old new (take n got) fed
+ReadsLine old new got (line.Line n fed) = (n ≤ longest_line) × TakesLine old new (take n got) fed
 ReadsLine old new got line.Long = LosesLongLine old new
 ReadsLine old new got line.End = IsAtEnd old × Consumes old new []
 ReadsLine old new got line.Fault = ⊤
@@ -45,6 +59,16 @@ ReadsLine old new got line.Fault = ⊤
 -- the known bytes are fewer than these, and are all lost
 abbrev pub IsCut : Option (List ℕ) → Option (List ℕ) → ℕ → Type 0
 IsCut old new len = IfSome old (λ input. (length input < len) × (new ≡ Some []))
+
+-- Bytes of a book were taken, at least one and at most so many, and stand behind the book where
+-- they are wanted and there was memory for them; or the input is at its end.
+abbrev pub ReadsPart : Option (List ℕ) → Option (List ℕ) → ℕ → Bool → List ℕ → List ℕ → PartRead
+    → Type 0
+ReadsPart old new most wanted was now (part.Taken n kept) =
+    (0 < n) × (n ≤ most) × (bytes : List ℕ) × (length bytes ≡ n) × Consumes old new bytes
+    × (kept ≡ true → (wanted ≡ true) × (now ≡ was ++ bytes))
+ReadsPart old new most wanted was now part.End = IsAtEnd old × Consumes old new []
+ReadsPart old new most wanted was now part.Fault = ⊤
 
 -- A book of this length was read and kept, or read and dropped, or the input ends within it and was
 -- read to its end.
