@@ -1,9 +1,13 @@
 -- The order of texts, byte by byte, and of rows.
-use Rattle.std.proofs.Common.{◌≡◌, ℕ, zero, suc, ◌<◌, ◌≤◌, List, [], ◌∷◌, length, drop, get_or, refl, ap, sym, ◌∙◌, arith, ◌⊎◌, inl, inr, ⊎_elim, eqb}
+use Rattle.std.proofs.Common.{◌≡◌, ℕ, zero, suc, ◌<◌, ◌≤◌, List, [], ◌∷◌, length, take, drop, ◌++◌, get_or, refl, Ordering}
+use Rattle.std.proofs.Common.{ap, sym, ◌∙◌, arith, ◌⊎◌, inl, inr, ⊎_elim, eqb}
 use Rattle.std.proofs.lemmas.Bool.{lt-ltb, le-ltb, ne_eqb, eq-eqb, eqb-true, cases_lt}
 use Rattle.std.specs.Char.{to_ascii_lowercase}
+use Rattle.std.specs.List.{between}
+use Rattle.std.proofs.lemmas.List.{take-append-drop, take-take}
+use Rattle.std.proofs.lemmas.Slice.{between_is}
 use Rattle.std.specs.Ordering.{nat_cmp, ordering_then}
-use Rattle.std.specs.Cmp.{both_ways, IsTotalOrder, then_total, nat_cmp_total, on_total}
+use Rattle.std.specs.Cmp.{both_ways, IsTotalOrder, then_total, nat_cmp_total, on_total, tied_itself}
 use Rattle.std.specs.Cmp.Lexicographic.{nat_list_cmp_total}
 use Rattle.tune_titles.specs.Titles.{sorting_title}
 use Rattle.tune_titles.specs.Order.{Row, small_order, row_order, LawOfOrder}
@@ -39,6 +43,27 @@ order_at_end [] b (suc i) p q e = absurd (omega arith)
 order_at_end (x ∷ a) [] (suc i) p q e = absurd (omega arith)
 order_at_end (x ∷ a) (y ∷ b) (suc i) p q (inl e) = order_at_end a b i (omega arith) (omega arith) (inl (omega arith)) ∙ sym (nat_cmp_suc (length a) (length b))
 order_at_end (x ∷ a) (y ∷ b) (suc i) p q (inr e) = order_at_end a b i (omega arith) (omega arith) (inr (omega arith)) ∙ sym (nat_cmp_suc (length a) (length b))
+
+-- bytes that are alike in front do not matter
+same_front : (p a b : List ℕ) → small_order (p ++ a) (p ++ b) ≡ small_order a b
+same_front [] a b = refl
+same_front (x ∷ p) a b =
+    ap (λ (o : Ordering). ordering_then o (small_order (p ++ a) (p ++ b))) (tied_itself nat_cmp_total (to_ascii_lowercase x)) ∙ same_front p a b
+
+pub order_behind : (a b : List ℕ) (k : ℕ) → take k a ≡ take k b → small_order (drop k a) (drop k b) ≡ small_order a b
+order_behind a b k e =
+    sym (same_front (take k a) (drop k a) (drop k b))
+    ∙ ap (λ l. small_order (take k a ++ drop k a) (l ++ drop k b)) e
+    ∙ ap (λ l. small_order l (take k b ++ drop k b)) (take-append-drop k a) ∙ ap (λ l. small_order a l) (take-append-drop k b)
+
+-- a block more that is alike
+take_split : (a : List ℕ) (i j : ℕ) → i ≤ j → take j a ≡ take i a ++ between i j a
+take_split a i j h =
+    sym (take-append-drop i (take j a)) ∙ ap (λ l. l ++ drop i (take j a)) (take-take i j a h) ∙ ap (λ l. take i a ++ l) (sym (between_is a i j))
+
+pub alike_more : (a b : List ℕ) (i j : ℕ) → i ≤ j → take i a ≡ take i b → between i j a ≡ between i j b → take j a ≡ take j b
+alike_more a b i j l e h =
+    take_split a i j l ∙ ap (λ p. p ++ between i j a) e ∙ ap (λ p. take i b ++ p) h ∙ sym (take_split b i j l)
 
 -- rows are in a total order
 pub row_order_total : IsTotalOrder row_order

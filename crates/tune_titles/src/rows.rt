@@ -1,5 +1,5 @@
 // The titles of tunes in order.
-ghost use Rattle.std.specs.Prelude.{◌≡◌, OnOk, OnErr};
+ghost use Rattle.std.specs.Prelude.{◌≡◌, ◌≤◌, OnOk, OnErr, length, take};
 ghost use Rattle.tune_titles.specs.Order.{row_order, small_order, in_order, LawOfOrder};
 
 use crate::articles::rest_of;
@@ -97,12 +97,14 @@ pub fn sort_rows(rows: &mut Vec<TitleRow>) -> Result<(), AllocError>
     rows.sort_by(|row, other| row.order(other))
 }
 
-// The order of two texts in small letters.
+// The order of two texts in small letters. What they have alike is passed over in blocks, so that
+// letters are made small only from about the first difference on.
 fn small_order(one: &[u8], other: &[u8]) -> Ordering
     ensures { result ≡ small_order one.now other.now }
 {
+    let alike = alike_blocks(one, other);
     let shorter = one.len().min(other.len());
-    for i in 0..shorter {
+    for i in alike..shorter {
         let first = one[i].to_ascii_lowercase();
         let second = other[i].to_ascii_lowercase();
         match first.cmp(&second) {
@@ -111,4 +113,20 @@ fn small_order(one: &[u8], other: &[u8]) -> Ordering
         }
     }
     one.len().cmp(&other.len())
+}
+
+const BLOCK: usize = 128;
+
+// How many bytes two texts have alike at their fronts, in whole blocks.
+fn alike_blocks(one: &[u8], other: &[u8]) -> usize
+    ensures one { result ≤ length one.now }
+    ensures other { result ≤ length other.now }
+    ensures alike { take result one.now ≡ take result other.now }
+{
+    let shorter = one.len().min(other.len());
+    let mut at = 0;
+    while shorter - at >= BLOCK && one[at..at + BLOCK] == other[at..at + BLOCK] {
+        at += BLOCK;
+    }
+    at
 }

@@ -1,7 +1,10 @@
 use Rattle.std.proofs.Common.{◌∙◌, sym, arith, inl, inr, ⊎_elim, length}
 use Rattle.std.proofs.lemmas.Bool.{cases_lt}
-use Rattle.tune_titles.proofs.OrderLemmas.{order_at_end}
+use Rattle.tune_titles.proofs.OrderLemmas.{order_at_end, order_behind}
 use Rattle.tune_titles.proofs.rows.small_order.Goals as goal
+
+pub loop-i-init : goal.loop-i-init
+loop-i-init c = order_behind c.args.one.now c.args.other.now c.alike_blocks-alike.result c.alike_blocks-alike.ensures.alike
 
 pub returns : goal.returns
 returns c =
