@@ -18,7 +18,8 @@ returns-in-End-2 g c =
     let same = take-put_mid_below len (length line - len) line c.read_piece.new.room len (omega arith) (omega arith) in (
       omega (arith, c.loop-len-test.true),
       subst (λ l. TakesLine old new l false) (sym same)
-          (line_last old (g.R.Read.remaining c.loop-len.reader) new (take len line) (omega (arith, c.if-len-eq0.false)) v.inside v.taken c.in-End-2.ensures.0 c.in-End-2.ensures.1),
+          (line_last old (g.R.Read.remaining c.loop-len.reader) new (take len line) (omega (arith, c.if-len-eq0.false))
+          v.inside v.taken c.in-End-2.ensures.0 c.in-End-2.ensures.1),
     )
 
 pub returns-in-Fed : goal.returns-in-Fed

@@ -20,7 +20,8 @@ returns-in-Some g c =
     let is = copied_front shown copied (drop n room) n c.copy_from_slice.ensures.after (omega (arith, high)) in
     let rested = c.fill_buf.follows.lender-at-none in
     let filled = subst (FillKeeps _ (g.R.Read.remaining rested) (g.R.BufRead.consumable_len rested)) c.in-Ok.is c.fill_buf.follows.holds-at-none in
-    let moved = Consumes_shown _ _ _ _ shown (n + 1) (omega (arith, high)) c.in-Ok.ensures.front c.in-Ok.ensures.end filled.0 filled.1 c.consume.ensures.bytes in
+    let front = c.in-Ok.ensures.front in
+    let moved = Consumes_shown _ _ _ _ shown (n + 1) (omega (arith, high)) front c.in-Ok.ensures.end filled.0 filled.1 c.consume.ensures.bytes in
     let feed = feed_shown shown most n (omega arith) (omega (arith, high)) c.in-Some.ensures.1 in (
       omega (
         arith,

@@ -1,0 +1,84 @@
+#!/usr/bin/env bash
+# Usage: bench/titles.sh [EXECUTABLE]
+# Puts 20,000 titles in the order of an index, by the program `bench_titles`. A line is a text of
+# titles, and what one pass takes: the seconds of a run with a pass less those of a run without, and
+# in the same way the instructions, in millions, where valgrind is there (with HOSTILE=yes for the
+# long titles too, which takes minutes).
+set -u
+root=$(CDPATH='' cd -- "$(dirname -- "$0")/.." && pwd) || exit 1
+program=${1:-$root/crates/bench_titles/out/bench_titles}
+work=$root/bench/work
+[ -x "$program" ] || {
+    echo "no program at $program: build it by 'rt run' in crates/bench_titles" >&2
+    exit 1
+}
+mkdir -p "$work" || exit 1
+export LC_ALL=C
+
+# Titles of a few words each, in no order.
+usual() {
+    awk 'BEGIN {
+        count = split("The A Kesh Morning Star Rakes Mallow Irish Silver Spear Drowsy Maggie", w, " ")
+        seed = 7
+        for (n = 1; n <= 20000; n++) {
+            line = ""
+            for (i = 0; i < 3; i++) {
+                seed = (seed * 16807) % 2147483647
+                line = line w[seed % count + 1] " "
+            }
+            print line n
+        }
+    }'
+}
+
+# Titles of 15,900 bytes that differ at their ends alone. The first letter of every second one is
+# this.
+long() {
+    awk -v first="$1" 'BEGIN {
+        front = "x"
+        while (length(front) < 15889) front = front front
+        front = substr(front, 1, 15889)
+        for (n = 1; n <= 20000; n++) {
+            printf "%s", n % 2 ? first : "x"
+            printf "%s", front
+            printf "%05d%05d\n", (n * 7919) % 20000, n
+        }
+    }'
+}
+
+# Leaves in `spent` the seconds of processor time of so many passes.
+seconds() {
+    local TIMEFORMAT=%3U
+    { time "$program" "$1" < "$work/titles" > "$work/count" 2> "$work/errors"; } 2> "$work/spent"
+    spent=$(cat "$work/spent")
+}
+
+# Leaves in `spent` the instructions of so many passes.
+instructions() {
+    valgrind --tool=callgrind --callgrind-out-file=/dev/null "$program" "$1" \
+        < "$work/titles" > "$work/count" 2> "$work/errors" || exit 1
+    spent=$(awk '/Collected/ { print $4 }' "$work/errors")
+}
+
+measure() {
+    local name=$1 counts=$2 none
+    seconds 0
+    none=$spent
+    seconds 1
+    awk -v name="$name" -v one="$spent" -v none="$none" \
+        'BEGIN { printf "%-40s %8.3f s", name, one - none }'
+    if [ "$counts" = yes ] && command -v valgrind > "$work/count"; then
+        instructions 0
+        none=$spent
+        instructions 1
+        awk -v one="$spent" -v none="$none" 'BEGIN { printf " %10.1f", (one - none) / 1000000 }'
+    fi
+    echo
+}
+
+usual > "$work/titles" || exit 1
+measure "usual titles" yes
+long x > "$work/titles" || exit 1
+measure "15,900 bytes, other at the end" "${HOSTILE:-no}"
+long X > "$work/titles" || exit 1
+measure "the same, every second with a capital" "${HOSTILE:-no}"
