@@ -18,7 +18,7 @@ export LC_ALL=C
 # Titles of a few words each, in no order.
 usual() {
     awk 'BEGIN {
-        count = split("The A Kesh Morning Star Rakes Mallow Irish Silver Spear Drowsy Maggie", w, " ")
+        count = split("The A Kesh Morning Star Rakes Mallow Irish Silver Spear", w, " ")
         seed = 7
         for (n = 1; n <= 20000; n++) {
             line = ""
