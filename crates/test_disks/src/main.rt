@@ -11,6 +11,7 @@
 //! | `inner` | takes all that was put round the disk off |
 //! | `len`, `read AT N`, `write AT BYTES`, `sync` | the calls of a disk; `fault` where one fails |
 //! | `bytes`, `lost`, `kept` | what a disk in memory holds, or a stop leaves of it by that choice |
+//! | `fill BYTE` | what a stop leaves that fills with this byte what was not stable |
 //! | `leave` | goes on with what a stop leaves (kept), and puts the disk aside |
 //! | `swap` | goes on with the disk that was put aside |
 //! | `create PATH`, `open PATH`, `close` | a disk over a file, until it is closed |

@@ -41,7 +41,7 @@ impl<'a> Stand<'a> {
             return Ok(answer);
         }
         match name {
-            "bytes" | "lost" | "kept" | "leave" => self.look(rt.alloc(), name),
+            "bytes" | "lost" | "kept" | "fill" | "leave" => self.look(rt.alloc(), name, rest),
             "create" | "open" => self.open_file(rt, name, rest),
             _ => self.change(rt.alloc(), name, rest),
         }
@@ -63,13 +63,14 @@ impl<'a> Stand<'a> {
     }
 
     // Looks at a disk in memory, or leaves it by a stop.
-    fn look(&mut self, alloc: Global, name: &str) -> io::Result<Answer> {
+    fn look(&mut self, alloc: Global, name: &str, rest: &str) -> io::Result<Answer> {
         let Device::Memory(disk) = &self.device else {
             return Ok(Answer::NoDisk);
         };
         let left = match name {
             "bytes" => return Ok(Answer::Bytes(disk.bytes().to_vec(alloc)?)),
             "lost" => disk.stopped(StopChoice::Lost)?,
+            "fill" => disk.stopped(StopChoice::Fill(byte(alloc, rest)?))?,
             _ => disk.stopped(StopChoice::Kept)?,
         };
         if name == "leave" {
@@ -94,6 +95,12 @@ impl<'a> Stand<'a> {
             Err(_) => Ok(Answer::Fault),
         }
     }
+}
+
+// The byte that a word says.
+fn byte(alloc: Global, word: &str) -> io::Result<u8> {
+    let bytes = bytes_of(alloc, word)?;
+    bytes.first().copied().ok_or(bad_line())
 }
 
 // A disk in memory that holds these bytes.
