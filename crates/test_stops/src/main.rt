@@ -14,13 +14,30 @@
 //! too. Then a program is ended at each call, while the system runs on: a disk that was not made
 //! stable is opened, whole and until a call fails. The file that is left at the end is cut at many
 //! places: it is then no archive, a damaged one, or still holds the last state.
+//!
+//! `data/commands` has 15 steps more. Over these a stop also fills with one byte, A7 or 0, what was
+//! not stable. What stops of one command leave is a list of files, each of which is opened, and
+//! opened until a call fails, at each call; what a stop then leaves is put on the list. After a
+//! fault the archive has to be closed; between two commands a stop leaves one state alone.
+//!
+//! `data/forged` is a table: changes of a made file, as `OFFSET=BYTES`, and how it is answered:
+//! `NotArchive`, `Damaged`, or `empty`, where it opens as an archive without a tune. `data/jig` has
+//! the one step of an archive that has each kind of page but set lists. Each page of it, and of the
+//! archive that the first 30 steps make, is changed so that it has not its form; and each cut of
+//! the made file, and of that of `data/jig`, inside its pages is opened. All have to be refused.
 #![tactic(auto)]
 
 mod cuts;
+mod forged;
+mod left_files;
+mod numbers;
+mod reopened;
 mod stops;
 mod texts;
 
 use cuts::{cut_left, cut_made};
+use forged::forge_all;
+use reopened::{reopen_steps, stop_between};
 use std::fs::Files;
 use std::io;
 use std::process::ExitCode;
@@ -43,8 +60,10 @@ fn main(rt: HostRuntime) -> io::Result<ExitCode> {
         println!(&rt; "cuts: one leaves another state, or is refused otherwise")?;
     }
     let leaves = stop_leaves(&rt)?;
+    let commands = stop_commands(&rt)?;
+    let forged = forge_all(&rt)?;
     let good = Outcome::AsBeforeOrAfter;
-    if making == good && steps == good && ends == good && cuts && leaves {
+    if making == good && steps == good && ends == good && cuts && leaves && commands && forged {
         Ok(ExitCode::SUCCESS)
     } else {
         Ok(ExitCode::FAILURE)
@@ -62,6 +81,18 @@ fn stop_leaves<R: Files + Print + AllocGlobal>(rt: &R) -> io::Result<bool> {
     Ok(steps == Outcome::AsBeforeOrAfter && ends == Outcome::AsBeforeOrAfter)
 }
 
+// Stops an archive at the commands by each choice, and the openings of what is left, and says
+// whether all is well.
+fn stop_commands<R: Files + Print + AllocGlobal>(rt: &R) -> io::Result<bool> {
+    let texts = Texts::read(rt, "commands")?;
+    let states = states_after(rt.alloc(), &texts)?;
+    let reopened = reopen_steps(rt.alloc(), &texts, states.as_slice())?;
+    say(rt, "commands, and openings of what is left", reopened)?;
+    let between = stop_between(rt.alloc(), &texts, states.as_slice())?;
+    say(rt, "between commands", between)?;
+    Ok(reopened == Outcome::AsBeforeOrAfter && between == Outcome::AsBeforeOrAfter)
+}
+
 // Prints what came of a sweep of stops.
 fn say<R: Print>(rt: &R, name: &str, outcome: Outcome) -> io::Result<()> {
     match outcome {
@@ -75,5 +106,9 @@ fn say<R: Print>(rt: &R, name: &str, outcome: Outcome) -> io::Result<()> {
         Outcome::NotOpened(calls) => {
             println!(rt; "{name}: what a stop at call {calls} leaves is not opened")
         }
+        Outcome::StaysOpen(calls) => {
+            println!(rt; "{name}: after a fault at call {calls} the archive is not closed")
+        }
+        Outcome::TooMany => println!(rt; "{name}: ever more files are left"),
     }
 }

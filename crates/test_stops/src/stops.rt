@@ -31,13 +31,19 @@ pub(crate) enum Outcome {
     Unlike(u64),
     /// A stop at this call left what is not opened.
     NotOpened(u64),
+    /// After a fault at this call the archive answered as if it were open.
+    StaysOpen(u64),
+    /// The files that stops leave came to no end.
+    TooMany,
 }
 
 // What a stop left, and how many of the steps were answered by then.
 #[derive(Drop)]
 pub(crate) struct Stopped {
     pub(crate) disk: MemoryDisk,
-    answered: usize,
+    pub(crate) answered: usize,
+    /// After a fault a command was not refused as one over a closed archive.
+    pub(crate) is_open_after_fault: bool,
 }
 
 // Stops an archive while it is made, at each call.
@@ -129,7 +135,7 @@ fn open_unstable(
 }
 
 // The end of a sweep after so many calls.
-fn enough(calls: u64) -> Outcome {
+pub(crate) fn enough(calls: u64) -> Outcome {
     if calls < FEWEST_CALLS {
         Outcome::TooFew
     } else {
@@ -139,6 +145,11 @@ fn enough(calls: u64) -> Outcome {
 
 // Carries the steps out on a new archive, whose disk fails after so many calls more.
 pub(crate) fn carry_out(alloc: Global, texts: &Texts, calls: u64) -> io::Result<Stopped> {
+    carry_out_first(alloc, &texts.steps, calls)
+}
+
+// The same with these steps, which are the first.
+pub(crate) fn carry_out_first(alloc: Global, steps: &[Vec<u8>], calls: u64) -> io::Result<Stopped> {
     let Ok(made) = Archive::make(alloc, MemoryDisk::new(alloc)) else {
         return Err(io::ErrorKind::Other.into());
     };
@@ -148,13 +159,17 @@ pub(crate) fn carry_out(alloc: Global, texts: &Texts, calls: u64) -> io::Result<
             return Ok(Stopped {
                 disk: refused.disk.into_inner(),
                 answered: 0,
+                is_open_after_fault: false,
             });
         }
     };
     let mut answered: usize = 0;
-    for step in &texts.steps {
+    let mut is_open_after_fault = false;
+    for step in steps {
         let replies = replies_of(alloc, step, &mut archive)?;
         if replies.as_slice().starts_with(b"refused 22") {
+            let replies = replies_of(alloc, b"show 1\n", &mut archive)?;
+            is_open_after_fault = replies.as_slice() != b"refused 23 Closed\n".as_slice();
             break;
         }
         answered = answered.saturating_add(1);
@@ -162,6 +177,7 @@ pub(crate) fn carry_out(alloc: Global, texts: &Texts, calls: u64) -> io::Result<
     Ok(Stopped {
         disk: archive.into_disk().into_inner(),
         answered,
+        is_open_after_fault,
     })
 }
 
@@ -194,7 +210,7 @@ fn stop_opening(
 }
 
 // Opens what a stop left, which has to hold one of these states.
-fn open_left(
+pub(crate) fn open_left(
     alloc: Global,
     texts: &Texts,
     left: MemoryDisk,
