@@ -10,6 +10,9 @@ use tune_disk::{Disk, MemoryDisk};
 use tune_journal::OpenFault;
 use tune_store::ListArchive;
 
+/// After so many of the steps there are tunes of more pages than one, and set lists.
+const WITH_ALL_KINDS: usize = 30;
+
 /// How many pages a chain has at most, of those that are followed.
 const MOST_PAGES: usize = 1_000;
 
@@ -22,8 +25,11 @@ const ENOUGH_CALLS: u64 = 1_000_000;
 /// Where the number of pages stands, and in the root the first page of the list of the numbers'
 /// leaves, those of the other indexes, and the first page of the set lists.
 const PAGES_OFFSET: usize = 12_288;
+
 const NUMBERS_OFFSET: usize = 16_388;
+
 const SEARCH_OFFSETS: [usize; 4] = [16_392, 16_396, 16_400, 16_404];
+
 const SETS_OFFSET: usize = 16_408;
 
 /// What an archive is asked that holds nothing.
@@ -45,12 +51,20 @@ pub(crate) fn forge_all<R: Files + Print + AllocGlobal>(rt: &R) -> io::Result<bo
     if all {
         println!(rt; "a made file, changed: each is answered as the table says")?;
     }
+    all &= say(rt, "a made file, made again", is_made_once(alloc, &made)?)?;
     all &= say(rt, "a made file, cut", is_cut_refused(alloc, &made)?)?;
-    let jig = file_after(alloc, &Texts::read(rt, "jig")?)?;
+    let jig = Texts::read(rt, "jig")?;
+    let jig = file_after(alloc, &jig.steps)?;
     all &= say(rt, "a file of one tune, cut", is_cut_refused(alloc, &jig)?)?;
     all &= say(rt, "its pages, changed", are_pages_refused(alloc, &jig)?)?;
-    let many = file_after(alloc, &Texts::read(rt, "steps")?)?;
-    all &= say(rt, "pages of all kinds, changed", are_pages_refused(alloc, &many)?)?;
+    let texts = Texts::read(rt, "steps")?;
+    let count = WITH_ALL_KINDS.min(texts.steps.len());
+    let many = file_after(alloc, &texts.steps[..count])?;
+    all &= say(
+        rt,
+        "pages of all kinds, changed",
+        are_pages_refused(alloc, &many)?,
+    )?;
     Ok(all)
 }
 
@@ -72,9 +86,25 @@ fn made_file(alloc: Global) -> io::Result<Vec<u8>> {
     }
 }
 
+// Whether a made file has the bytes of one page, and no archive is made over it or over one byte of
+// it, which stay as they are.
+fn is_made_once(alloc: Global, made: &[u8]) -> io::Result<bool> {
+    for file in [made, part(made, 0, 1)] {
+        match Archive::make(alloc, MemoryDisk::from_bytes(alloc, file)?) {
+            Err(refused) if refused.why == OpenFault::NotEmpty => {
+                if refused.disk.bytes() != file {
+                    return Ok(false);
+                }
+            }
+            _ => return Ok(false),
+        }
+    }
+    Ok(made.len() == 20_480)
+}
+
 // The file of an archive that carried out these steps.
-fn file_after(alloc: Global, texts: &Texts) -> io::Result<Vec<u8>> {
-    let carried = carry_out_first(alloc, &texts.steps, ENOUGH_CALLS)?;
+fn file_after(alloc: Global, steps: &[Vec<u8>]) -> io::Result<Vec<u8>> {
+    let carried = carry_out_first(alloc, steps, ENOUGH_CALLS)?;
     Ok(carried.disk.bytes().to_vec(alloc)?)
 }
 
@@ -130,22 +160,24 @@ fn bad_line() -> io::Error {
 }
 
 // Whether each cut of a file inside its pages is refused: below 8 bytes as no archive, else as a
-// damaged one.
+// damaged one. The disk is handed back by each opening, and grows by a byte.
 fn is_cut_refused(alloc: Global, file: &[u8]) -> io::Result<bool> {
     let size = page_offset(number_at(file, PAGES_OFFSET, 4)).min(file.len());
+    let mut disk = MemoryDisk::new(alloc);
     for length in 0..size {
         let wanted = if length < 8 {
             OpenFault::NotArchive
         } else {
             OpenFault::Damaged
         };
-        let disk = MemoryDisk::from_bytes(alloc, &file[..length])?;
         match Archive::open(alloc, disk) {
-            Err(refused) if refused.why == wanted => {}
+            Err(refused) if refused.why == wanted => disk = refused.disk,
             _ => return Ok(false),
         }
+        let at = u32::try_from(length).map_err(|_| bad_line())?;
+        write_at(&mut disk, at, part(file, length, 1))?;
     }
-    Ok(true)
+    Ok(size > 0)
 }
 
 // Where a page of this number stands.
@@ -158,7 +190,7 @@ fn are_pages_refused(alloc: Global, file: &[u8]) -> io::Result<bool> {
     let pages = Pages::of(alloc, file)?;
     for page in &pages.links {
         let at = page_offset(*page);
-        let next = *page as u32;
+        let next = u32::try_from(*page).map_err(|_| bad_line())?;
         if !is_damaged(alloc, file, at, &next.to_be_bytes())?
             || !is_damaged(alloc, file, at.saturating_add(4), &[0, 0])?
             || !is_damaged(alloc, file, at.saturating_add(4), &4_091_u16.to_be_bytes())?
@@ -237,7 +269,9 @@ impl Pages {
             self.leaves.push(page)?;
             let at = page_offset(page);
             for entry in 0..number_at(file, at, 2) {
-                let behind_key = at.saturating_add(34).saturating_add(entry.saturating_mul(36));
+                let behind_key = at
+                    .saturating_add(34)
+                    .saturating_add(entry.saturating_mul(36));
                 values.push(number_at(file, behind_key, 4))?;
             }
         }

@@ -14,6 +14,21 @@
 //! too. Then a program is ended at each call, while the system runs on: a disk that was not made
 //! stable is opened, whole and until a call fails. The file that is left at the end is cut at many
 //! places: it is then no archive, a damaged one, or still holds the last state.
+//!
+//! Over the steps of `data/faults` each call of the disk fails once, and no other does: the command
+//! is answered so, every one behind it is refused without a call, and the file opens as before or
+//! after it. Each call of an opening fails once too: the disk comes back, and opens as it would.
+//!
+//! `data/commands` has 15 steps more. Over these a stop also fills with one byte, A7 or 0, what was
+//! not stable. What stops of one command leave is a list of files, each of which is opened, and
+//! opened until a call fails, at each call; what a stop then leaves is put on the list. After a
+//! fault the archive has to be closed; between two commands a stop leaves one state alone.
+//!
+//! `data/forged` is a table: changes of a made file, as `OFFSET=BYTES`, and how it is answered:
+//! `NotArchive`, `Damaged`, or `empty`, where it opens as an archive without a tune. `data/jig` has
+//! the one step of an archive that has each kind of page but set lists. Each page of it, and of the
+//! archive that the first 30 steps make, is changed so that it has not its form; and each cut of
+//! the made file, and of that of `data/jig`, inside its pages is opened. All have to be refused.
 #![tactic(auto)]
 
 mod cuts;
@@ -55,8 +70,8 @@ fn main(rt: HostRuntime) -> io::Result<ExitCode> {
     let commands = stop_commands(&rt)?;
     let forged = forge_all(&rt)?;
     let good = Outcome::AsBeforeOrAfter;
-    let sweeps = making == good && steps == good && ends == good;
-    if sweeps && cuts && leaves && faults && commands && forged {
+    let stops = making == good && steps == good && ends == good && leaves && commands;
+    if stops && cuts && faults && forged {
         Ok(ExitCode::SUCCESS)
     } else {
         Ok(ExitCode::FAILURE)
@@ -72,6 +87,18 @@ fn stop_leaves<R: Files + Print + AllocGlobal>(rt: &R) -> io::Result<bool> {
     let ends = end_steps(rt.alloc(), &texts, states.as_slice())?;
     say(rt, "ends on leaves", ends)?;
     Ok(steps == Outcome::AsBeforeOrAfter && ends == Outcome::AsBeforeOrAfter)
+}
+
+// Stops an archive at the commands by each choice, and the openings of what is left, and says
+// whether all is well.
+fn stop_commands<R: Files + Print + AllocGlobal>(rt: &R) -> io::Result<bool> {
+    let texts = Texts::read(rt, "commands")?;
+    let states = states_after(rt.alloc(), &texts)?;
+    let reopened = reopen_steps(rt.alloc(), &texts, states.as_slice())?;
+    say(rt, "commands, and openings of what is left", reopened)?;
+    let between = stop_between(rt.alloc(), &texts, states.as_slice())?;
+    say(rt, "between commands", between)?;
+    Ok(reopened == Outcome::AsBeforeOrAfter && between == Outcome::AsBeforeOrAfter)
 }
 
 // Has each call of the disk fail once, and says whether all is well.
@@ -92,18 +119,6 @@ fn say_faults<R: Print>(rt: &R, name: &str, sweep: Sweep) -> io::Result<()> {
         Sweep::TooFew => println!(rt; "{name}: the disk was hardly called"),
         Sweep::Otherwise(calls) => println!(rt; "{name}: one at call {calls} is not as told"),
     }
-}
-
-// Stops an archive at the commands by each choice, and the openings of what is left, and says
-// whether all is well.
-fn stop_commands<R: Files + Print + AllocGlobal>(rt: &R) -> io::Result<bool> {
-    let texts = Texts::read(rt, "commands")?;
-    let states = states_after(rt.alloc(), &texts)?;
-    let reopened = reopen_steps(rt.alloc(), &texts, states.as_slice())?;
-    say(rt, "commands, and openings of what is left", reopened)?;
-    let between = stop_between(rt.alloc(), &texts, states.as_slice())?;
-    say(rt, "between commands", between)?;
-    Ok(reopened == Outcome::AsBeforeOrAfter && between == Outcome::AsBeforeOrAfter)
 }
 
 // Prints what came of a sweep of stops.

@@ -1,7 +1,9 @@
 // Files that stops leave by each choice, and those that stopped openings of these leave in turn.
 use crate::left_files::{LeftFile, LeftFiles};
 use crate::numbers::number_at;
-use crate::stops::{Outcome, carry_out, carry_out_first, enough, open_left};
+use crate::stops::{
+    MOST_CALLS, MOST_CALLS_OF_OPENING, Outcome, carry_out, carry_out_first, enough, open_left,
+};
 use crate::texts::Texts;
 use std::alloc::Global;
 use std::io;
@@ -9,14 +11,8 @@ use tune_archive::Archive;
 use tune_disk::{FuseDisk, MemoryDisk, StopChoice};
 use tune_journal::OpenFault;
 
-/// How many calls of the disk are tried at most.
-const MOST_CALLS: u64 = 5_000;
-
 /// More calls of the disk than all steps make.
 const ENOUGH_CALLS: u64 = 1_000_000;
-
-/// How many calls of an opening are tried at most.
-const MOST_CALLS_OF_OPENING: u64 = 200;
 
 /// How many files that stops of one command leave are opened at most.
 const MOST_FILES: usize = 100_000;
@@ -30,9 +26,9 @@ const FEW_PAGES: usize = 3;
 /// Where the number of entries of the log stands.
 const ENTRIES_OFFSET: usize = 8_196;
 
-const CHOICES: [StopChoice; 4] = [
+/// What a stop leaves, but for `Kept`, which is what a disk in memory holds.
+const CHOICES: [StopChoice; 3] = [
     StopChoice::Lost,
-    StopChoice::Kept,
     StopChoice::Fill(0xA7),
     StopChoice::Fill(0),
 ];
@@ -79,6 +75,7 @@ fn in_progress(states: &[Vec<u8>], command: usize) -> &[Vec<u8>] {
 
 // Puts on the list what a stop may leave.
 fn add_left(left: &mut LeftFiles, disk: &MemoryDisk, openings: usize) -> io::Result<()> {
+    left.add(disk.bytes(), openings)?;
     for choice in CHOICES {
         left.add(disk.stopped(choice)?.bytes(), openings)?;
     }
@@ -115,7 +112,7 @@ fn is_stopped_again(file: &LeftFile) -> bool {
     file.openings < OPENINGS_IN_A_ROW || number_at(&file.bytes, ENTRIES_OFFSET, 4) <= FEW_PAGES
 }
 
-// Stops the opening of a file at each call, puts on the list what is left, and says whether it ends.
+// Stops the opening of a file at each call, lists what is left, and says whether the opening ends.
 fn stop_opening(alloc: Global, left: &mut LeftFiles, file: &LeftFile) -> io::Result<bool> {
     let openings = file.openings.saturating_add(1);
     for calls in 0..MOST_CALLS_OF_OPENING {
@@ -150,6 +147,10 @@ pub(crate) fn stop_between(
                 Outcome::AsBeforeOrAfter => {}
                 other => return Ok(other),
             }
+        }
+        match open_left(alloc, texts, disk, state, count as u64)? {
+            Outcome::AsBeforeOrAfter => {}
+            other => return Ok(other),
         }
     }
     Ok(enough(states.len() as u64))

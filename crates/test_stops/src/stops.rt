@@ -149,11 +149,7 @@ pub(crate) fn carry_out(alloc: Global, texts: &Texts, calls: u64) -> io::Result<
 }
 
 // The same with these steps, which are the first.
-pub(crate) fn carry_out_first(
-    alloc: Global,
-    steps: &[Vec<u8>],
-    calls: u64,
-) -> io::Result<Stopped> {
+pub(crate) fn carry_out_first(alloc: Global, steps: &[Vec<u8>], calls: u64) -> io::Result<Stopped> {
     let Ok(made) = Archive::make(alloc, MemoryDisk::new(alloc)) else {
         return Err(io::ErrorKind::Other.into());
     };
