@@ -18,6 +18,7 @@ the one that the variable TUNES names. It uses all cores. The status is 1 where 
 where one of the three answers was so rare that it says little.
 """
 import argparse
+import copy
 import io
 import multiprocessing
 import os
@@ -84,6 +85,12 @@ class Forged:
         self.texts = [range(self.place[page] + LINK_HEAD + 2 * (page == trail[0]),
                             self.place[page] + LINK_HEAD + self.number(self.place[page] + 4, 2))
                       for _, trail in archive.tunes for page in trail]
+
+    def copy(self):
+        """The same once more, to be changed by itself."""
+        other = copy.copy(self)
+        other.data, other.fields = bytearray(self.data), list(self.fields)
+        return other
 
     def number(self, at, size=4):
         return int.from_bytes(self.data[at:at + size], 'big')
@@ -284,9 +291,9 @@ MUSIC = [b'C', b'D', b'E', b'F', b'G', b'A', b'B', b'c', b'd', b'e', b'f', b'g',
          b'[^c_e]', b'[1', b'[K:', b'[K:Dmin]', b'[K: g]', b'[M:3/4]', b'[k:A]', b'{', b'}',
          b'{gab}', b'"', b'"Am"', b'!', b'!trill!', b'+', b'(', b'(3', b'(3:2', b'(3:2:3', b'(3::2',
          b'%', b'\\%', b'\\', b'z', b' ', b'-', b'2', b'/', b'~', b'.', b'h', b'\x00', b'\xc3']
-OTHER_LINES = [b'%%begintext', b'%%beginps', b'%%endtext', b'%%end', b'%%begin', b'+:more', b'%abc',
-               b'L:1/8', b'w:la la', b'V:1', b'r:reel', b't:no', b'k:D', b'%%text K:', b' K:D', b'T',
-               b'1:2']
+OTHER_LINES = [b'%%begintext', b'%%beginps', b'%%endtext', b'%%end', b'%%begin', b'+:more',
+               b'%abc', b'L:1/8', b'w:la la', b'V:1', b'r:reel', b't:no', b'k:D', b'%%text K:',
+               b' K:D', b'T', b'1:2']
 
 
 def made_up(choice):
@@ -314,7 +321,8 @@ def made_up(choice):
              (lambda: choice.choice(OTHER_LINES), 2)]
     makers, weights = zip(*kinds)
     lines += [choice.choices(makers, weights)[0]() for _ in range(choice.randrange(5))]
-    return b''.join(line + b'\n' for line in lines if line.strip(b' \t') or not choice.randrange(50))
+    lines = [line for line in lines if line.strip(b' \t') or not choice.randrange(50)]
+    return b''.join(line + b'\n' for line in lines)
 
 
 def tune_of(text):
@@ -477,7 +485,7 @@ class Generator:
 
     def __init__(self, seed, folder, keep, bases):
         self.seed, self.folder, self.keep = seed, folder, keep
-        self.bases, self.weights = zip(*bases.items())
+        self.bases, self.weights = [Forged(data) for data in bases], list(bases.values())
 
     def forge(self, number):
         choice = random.Random(f'{self.seed} {number}')
@@ -485,7 +493,7 @@ class Generator:
             forged = Forged(made_up_archive(choice))
             changes = choice.choice([0, 0, 0, 1, 1, 2])
         else:
-            forged = Forged(choice.choices(self.bases, self.weights)[0])
+            forged = choice.choices(self.bases, self.weights)[0].copy()
             changes = choice.choice([1, 1, 1, 1, 1, 2, 2, 3, 4])
         for change in choice.choices(list(CHANGES), CHANGES.values(), k=changes):
             change(choice, forged)

@@ -322,7 +322,7 @@ class Archive:
         return f"page {page}, at byte {FIRST_PAGE + BLOCK * page}: {what}"
 
     def sets_on(self, place: int) -> Iterator[str]:
-        """The names of the set lists of which bytes are on the page at this place of their chain."""
+        """The names of the set lists that have bytes on the page at this place of their chain."""
         end = 0
         for name, numbers in self.sets:
             begin, end = end, end + 1 + len(name) + 2 + 4 * len(numbers)
@@ -342,7 +342,7 @@ class Archive:
         count, used = self.pages.count, len(self.pages.owners)
         lines = [f"layout {self.version}: {len(self.tunes)} tunes, {len(self.sets)} set lists",
                  f"{count} pages: {used} in use, {count - used} free"]
-        lines += [f"the index of {index.what}: {len(index.entries)} entries in {index.leaves} leaves"
+        lines += [f"index of {index.what}: {len(index.entries)} entries in {index.leaves} leaves"
                   for index in (self.numbers, *self.searches)]
         out.write("".join(line + "\n" for line in lines).encode())
 
