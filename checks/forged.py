@@ -30,7 +30,7 @@ READER = os.path.join(ROOT, 'examples', 'read_archive.py')
 FORMAT_PAGE = os.path.join(ROOT, 'docs', 'FILE-FORMAT.md')
 PROGRAM = os.path.abspath(os.environ.get('TUNES') or os.path.join(ROOT, 'tunes'))
 MOST_KILOBYTES = 65536
-DAMAGED = 3, b'refused 41 Damaged\n'
+NOT_ARCHIVE, DAMAGED = (3, b'refused 40 NotArchive\n'), (3, b'refused 41 Damaged\n')
 # Files up to this size are written out as books too.
 SMALL_FILE = 1000000
 
@@ -263,6 +263,46 @@ def with_row(word=None, data=None):
     return archive
 
 
+def fronts_of_no_archive():
+    """What begins as no archive does, by its name: what it does to the file of the small archive.
+    """
+    for length in (0, 7):
+        yield f'a file of {length} bytes', lambda file, n=length: file.truncate(n)
+
+    def put_magic(file):
+        file.seek(7)
+        file.write(b'2')
+    yield 'another magic', put_magic
+
+
+def damages_of_the_front():
+    """Damage by its name: what it does to the file of the small archive."""
+    for length in (8, PAGES + PAGE_BYTES - 1):
+        yield f'a file that is cut to {length} bytes', lambda file, n=length: file.truncate(n)
+    yield ('a file that is cut in its last page',
+           lambda file: file.truncate(place_of(number_at(file, COUNT)) - 1))
+    yield 'no page', lambda file: put(file, COUNT, 0)
+    for pages, entries in ((0, 1), (1, 0), (1, 2), (4000001, 1)):
+        def lie(file, descriptor=(pages, entries)):
+            put_log(file, number_at(file, COUNT), [bytes(PAGE_BYTES)] * 2)
+            put(file, DESCRIPTOR, *descriptor)
+        yield f'a log of {entries} entries for {pages} pages', lie
+    for name, entry, page in (
+            ('a log whose pages fall', 0, 2), ('a log of one page twice', 0, 1),
+            ('a log of a page that is not there', 1, 2 ** 32 - 1)):
+        def put_entry(file, entry=entry, page=page):
+            count = number_at(file, COUNT)
+            put_log(file, count, [bytes(PAGE_BYTES)] * 2)
+            put(file, place_of(count) + (4 + PAGE_BYTES) * entry, page)
+        yield name, put_entry
+
+    def cut_log(file):
+        count = number_at(file, COUNT)
+        put_log(file, count, [bytes(PAGE_BYTES)] * 2)
+        file.truncate(place_of(count) + 2 * (4 + PAGE_BYTES) - 1)
+    yield 'a log that is cut', cut_log
+
+
 def damages_of_the_root():
     """Damage by its name: what it does to the file of the small archive."""
     for version in (0, 3, 102):
@@ -438,7 +478,7 @@ class Cases:
         wrong = '' if kilobytes > MOST_KILOBYTES else f'{kilobytes} kB were seen'
         self.end('a program that takes more than it may', wrong, kilobytes)
 
-    def check(self, name, forge, whole, recovers=False):
+    def check(self, name, forge, whole, recovers=False, refusal=DAMAGED):
         """Has the file read that `forge` makes of the small archive."""
         with open(self.path, 'w+b') as file:
             file.write(self.small)
@@ -448,7 +488,7 @@ class Cases:
         wrong, book = self.wrong_apart(whole)
         kilobytes = 0
         if not wrong:
-            wrong, kilobytes = self.wrong_opened(whole, recovers)
+            wrong, kilobytes = self.wrong_opened(whole, recovers, refusal)
         if not wrong and whole and os.path.getsize(self.path) <= SMALL_FILE:
             wrong = self.wrong_book(book)
         self.end(name, wrong, kilobytes)
@@ -478,11 +518,11 @@ class Cases:
             return f'the reader tells of it, with status {status}, {first}, and not {reason}'
         return ''
 
-    def wrong_opened(self, whole, recovers):
+    def wrong_opened(self, whole, recovers, refusal):
         """What is wrong with the answer of the program, and how much memory it took."""
         answer, kilobytes = run([PROGRAM, 'check', self.path])
         good = (answer[0] == 0 and answer[1].startswith(b'layout 1 tunes ') if whole
-                else answer == DAMAGED)
+                else answer == refusal)
         wrong = ''
         if not good:
             wrong = f'the program answers {answer}'
@@ -544,7 +584,10 @@ class Cases:
         self.check(f'{name}, read', lambda file: put_bytes(file, made), True)
 
     def check_damage(self):
-        for name, forge in [*damages_of_the_root(), *damages_of_chains(), *damages_of_leaves()]:
+        for name, forge in fronts_of_no_archive():
+            self.check(name, forge, False, refusal=NOT_ARCHIVE)
+        for name, forge in [*damages_of_the_front(), *damages_of_the_root(), *damages_of_chains(),
+                            *damages_of_leaves()]:
             self.check(name, forge, False)
         self.check('an archive of version 102', put_version_102, False)
         self.check('one leaf for two indexes', share_leaf, False)

@@ -85,7 +85,7 @@ class Pages:
         """A fault ends what is done in this, and is noted."""
         try:
             yield
-        except Damaged as fault:
+        except (Damaged, OSError) as fault:
             self.faults.append(str(fault))
 
     def note_unless(self, holds: bool, why: str) -> None:
@@ -94,11 +94,8 @@ class Pages:
 
     def bytes_at(self, offset: int, size: int) -> bytes:
         """As many bytes as there are up to this size."""
-        try:
-            self.file.seek(offset)
-            return self.file.read(size)
-        except OSError as fault:
-            raise Damaged(f"the bytes from {offset} on cannot be read: {fault.strerror}") from fault
+        self.file.seek(offset)
+        return self.file.read(size)
 
     def read_front(self) -> None:
         claim_that(self.bytes_at(0, len(MAGIC)) == MAGIC, "it does not begin as an archive does")
@@ -125,7 +122,10 @@ class Pages:
 
     def image(self, page: int, what: str) -> bytes:
         claim_that(page < self.count, f"{what} has page {page}, which is not there")
-        return self.bytes_at(self.images.get(page, FIRST_PAGE + BLOCK * page), BLOCK)
+        try:
+            return self.bytes_at(self.images.get(page, FIRST_PAGE + BLOCK * page), BLOCK)
+        except OSError as fault:
+            raise Damaged(f"page {page} of {what} cannot be read: {fault.strerror}") from fault
 
     def claim(self, page: int, what: str) -> None:
         owner = self.owners.setdefault(page, what)
