@@ -66,6 +66,11 @@ def number(data: bytes, at: int = 0, size: int = 4) -> int:
     return int.from_bytes(data[at:at + size], "big")
 
 
+def shown(key: bytes) -> str:
+    """A key as people may read it."""
+    return ascii(key.rstrip(b"\0"))[1:]
+
+
 class Pages:
     """The pages that a file stands for, who has each, and all faults that were found so far."""
 
@@ -183,7 +188,8 @@ class Index:
         self.is_whole = len(pages.faults) == known
         for before, after in zip(self.entries, self.entries[1:]):
             rises = before[:2] < after[:2]
-            pages.note_unless(rises, f"the entries {self.at(after)} do not rise at {after[:2]}")
+            at = self.at(after)
+            pages.note_unless(rises, f"the entries {at} do not rise at {shown(after[0])}")
 
     def read_leaf(self, pages: Pages, page: int, width: int) -> None:
         self.leaves += 1
@@ -250,7 +256,8 @@ class Archive:
         with self.pages.noting():
             most = MOST_SETS * SET_BYTES
             self.set_pages = self.pages.chain(sets, "the chain of the set lists", most)
-            self.sets.extend(split_sets(self.pages.bytes_on(self.set_pages)))
+            for named in split_sets(self.pages.bytes_on(self.set_pages)):
+                self.sets.append(named)
         self.check_numbers()
         self.check_sets()
         for key, first, _ in self.numbers.entries:
@@ -304,13 +311,15 @@ class Archive:
         for index, entries in zip(self.searches, wanted):
             found = {entry[:2]: entry for entry in index.entries}
             for key, tune in sorted(entries - found.keys()) if index.is_whole else []:
-                self.pages.note_unless(False, f"the {index.what} have no {key!r} of tune {tune}")
+                why = f"the {index.what} have no key {shown(key)} of tune {tune}"
+                self.pages.note_unless(False, why)
             for key, tune in sorted(found.keys() - entries):
                 at, is_none = index.at(found[key, tune]), tune not in self.first_of
                 if is_none and self.numbers.is_whole:
                     self.pages.note_unless(False, f"an entry {at} has tune {tune}, which is none")
                 elif tune in read:
-                    self.pages.note_unless(False, f"tune {tune} has no {key!r}, which is {at[:-1]}")
+                    why = f"tune {tune} has not the key {shown(key)}, which is {at[:-1]}"
+                    self.pages.note_unless(False, why)
 
     def holder(self, page: int) -> str:
         """What stands on a page, in words."""

@@ -18,7 +18,7 @@ TONIC = re.compile(rb"([A-G])([#b]?)(?![^ \tA-Za-z^_=])")
 MODE = re.compile(rb"([ \t]*)([A-Za-z]*)")
 # The digits of modes by the first three letters of their words; EXPLICIT is no mode of a scale.
 EXPLICIT = 7
-SHORT_MODES = {b"": 0, b"M": 0, b"m": 5}
+SHORT_MODES = {b"": 0, b"m": 5, b"M": 5}
 MODES = {b"maj": 0, b"ion": 0, b"dor": 1, b"phr": 2, b"lyd": 3, b"mix": 4, b"min": 5, b"aeo": 5,
          b"loc": 6, b"exp": EXPLICIT}
 # How many sharps a scale has: by its tonic in major, by its sign, and by the digit of its mode.
