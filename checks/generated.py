@@ -9,8 +9,8 @@ ends that are cut off or put on, gates and logs that lie. Some of them are archi
 
 Both have to say the same of each file: that it is no archive, that it is damaged, or which tunes
 and set lists it has. The program may take 65,536 kilobytes of memory and a second of processor for
-that; it ends by itself, and writes nothing behind a closed gate. Behind an open one the file reads
-the same when it was opened as before.
+that, and ends by itself. It writes the file where a log holds behind an open gate, and nowhere
+else; and the file reads the same then as before.
 
 The file of a number depends on the seed alone, and on what the program writes. Files on which the
 two disagree are kept in FOLDER, /tmp/generated. The program is the one that ./tunes has built, or
@@ -388,7 +388,8 @@ def written_by_program(folder):
 # JUDGING
 
 class Answer(NamedTuple):
-    """What is said of a file: an answer, a reason for it, and the book and the sets in it."""
+    """What is said of a file: whether a log holds, an answer and its reason, book and sets."""
+    recovers: bool
     what: str
     reason: str = ''
     book: bytes = b''
@@ -398,22 +399,35 @@ class Answer(NamedTuple):
 def said_by_reader(path):
     with open(path, 'rb', buffering=0) as file:
         archive = read_archive.Archive(file)
+        recovers = bool(archive.pages.images)
         if faults := archive.pages.faults:
-            return Answer(NOT_ARCHIVE if 'does not begin' in faults[0] else DAMAGED, faults[0])
+            what = NOT_ARCHIVE if 'does not begin' in faults[0] else DAMAGED
+            return Answer(recovers, what, faults[0])
         book = io.BytesIO()
         archive.write_book(book)
-        return Answer(OPENED, '', book.getvalue(), tuple(archive.sets))
+        return Answer(recovers, OPENED, '', book.getvalue(), tuple(archive.sets))
 
 
 def told(answer):
-    """What the program is asked, and what it has to reply where it opens the file."""
-    names = [name.encode() for name, _ in answer.sets]
-    script = b''.join([b'export\nsets\n', *(b'set-show %b\n' % name for name in names)])
-    reply = b'ok export %d\n%bok sets %d\n' % (len(answer.book), answer.book, len(names))
-    rows = [(name.encode(), len(places)) for name, places in answer.sets]
-    reply += b''.join(b'%b %d\n' % row for row in rows)
-    reply += b''.join(b'ok set-show %b %d\n' % row for row in rows)
-    return script, reply
+    """What the program is asked, and how its reply begins where it opens the file: with the book,
+    and then these lines, each of which may go on with a title where a place is told."""
+    names = [(name.encode(), places) for name, places in answer.sets]
+    script = b''.join([b'export\nsets\n', *(b'set-show %b\n' % name for name, _ in names)])
+    lines = [b'ok sets %d' % len(names)]
+    lines += [b'%b %d' % (name, len(places)) for name, places in names]
+    for name, places in names:
+        lines.append(b'ok set-show %b %d' % (name, len(places)))
+        lines += [b'%d %d' % row for row in enumerate(places, 1)]
+    return script, b'ok export %d\n%b' % (len(answer.book), answer.book), lines
+
+
+def fits(output, answer):
+    """Whether the program replied that it has what the reader read."""
+    _, book, wanted = told(answer)
+    lines = output[len(book):].split(b'\n')
+    return (output.startswith(book) and lines.pop() == b'' and len(lines) == len(wanted)
+            and all(line == begin or line.startswith(begin + b' ')
+                    for line, begin in zip(lines, wanted)))
 
 
 class Ended(NamedTuple):
@@ -449,34 +463,21 @@ def run(path, script):
         return Ended(process.returncode, output, usage.ru_maxrss, usage.ru_utime + usage.ru_stime)
 
 
-def without_rows(output):
-    """Replies without the rows of places, which have titles, and the numbers of these."""
-    book, mark, rest = output.partition(b'\nok sets ')
-    lines = rest.split(b'\n')
-    places = [line.split(b' ')[1] for line in lines if re.match(rb'[0-9]+ [0-9]+ ', line)]
-    lines = [line for line in lines if not re.match(rb'[0-9]+ [0-9]+ ', line)]
-    return book + mark + b'\n'.join(lines), [int(number) for number in places]
-
-
-def wrong_with(path, answer, ended, is_open):
+def wrong_with(path, answer, ended):
     """What is wrong with how the program ended, when this was the answer of the reader."""
     if ended.kilobytes > MOST_KILOBYTES or ended.seconds > MOST_SECONDS:
         return f'it takes {ended.kilobytes} kB and {ended.seconds:.2f} seconds'
     if answer.what in REFUSALS:
-        if (ended.status, ended.output) != (3, REFUSALS[answer.what]):
-            return (f'the reader says {answer.what}, {answer.reason}; '
-                    f'the program {ended.status} {ended.output[:40]}')
+        good = (ended.status, ended.output) == (3, REFUSALS[answer.what])
     else:
-        _, reply = told(answer)
-        wanted = reply, [number for _, places in answer.sets for number in places]
-        found = without_rows(ended.output)
-        if ended.status != 0 or (found[0].rstrip(b'\n'), found[1]) != (
-                wanted[0].rstrip(b'\n'), wanted[1]):
-            return f'the reader reads it; the program {ended.status} {ended.output[:40]}'
-    if not is_open and os.stat(path).st_mtime != 1:
-        return 'the program wrote behind a closed gate'
-    if is_open and answer.what == OPENED and said_by_reader(path) != answer:
-        return 'the file is another after it was opened'
+        good = ended.status == 0 and fits(ended.output, answer)
+    if not good:
+        return (f'the reader says: {answer.what}, {answer.reason}; '
+                f'the program ends with {ended.status} and {ended.output[:60]}')
+    if answer.recovers != (os.stat(path).st_mtime != 1):
+        return 'nothing was recovered' if answer.recovers else 'the program wrote the file'
+    if answer.recovers and said_by_reader(path) != answer._replace(recovers=False):
+        return 'the file is another after it was recovered'
     return ''
 
 
@@ -510,8 +511,7 @@ class Generator:
         os.utime(path, (1, 1))
         answer = said_by_reader(path)
         ended = run(path, told(answer)[0])
-        is_open = forged.data[GATE:GATE + 1] == OPEN
-        wrong = wrong_with(path, answer, ended, is_open)
+        wrong = wrong_with(path, answer, ended)
         if wrong:
             kept = os.path.join(self.keep, f'{self.seed}-{number}.abcx')
             os.makedirs(self.keep, exist_ok=True)
@@ -522,6 +522,14 @@ class Generator:
         os.remove(path)
         reason = re.sub(r"b?'[^']*'|b\"[^\"]*\"", '..', re.sub('[0-9]+', 'N', answer.reason))
         return answer.what, reason, wrong, ended.kilobytes, ended.seconds
+
+
+# The generator of a process, which begins with it.
+GENERATORS = []
+
+
+def judge(number):
+    return GENERATORS[0].judge(number)
 
 
 def main():
@@ -535,9 +543,9 @@ def main():
     room = '/dev/shm' if os.access('/dev/shm', os.W_OK) else None
     signal.signal(signal.SIGALRM, impatient)
     with tempfile.TemporaryDirectory(dir=room) as folder:
-        generator = Generator(words.seed, folder, words.keep, written_by_program(folder))
+        GENERATORS.append(Generator(words.seed, folder, words.keep, written_by_program(folder)))
         with multiprocessing.get_context('fork').Pool() as workers:
-            judged = workers.imap_unordered(generator.judge, range(words.files), 50)
+            judged = workers.imap_unordered(judge, range(words.files), 50)
             answers, reasons, most = Counter(), Counter(), (0, 0)
             failures = 0
             for what, reason, wrong, kilobytes, seconds in judged:
