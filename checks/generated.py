@@ -15,7 +15,7 @@ else; and the file reads the same then as before.
 The file of a number depends on the seed alone, and on what the program writes. Files on which the
 two disagree are kept in FOLDER, /tmp/generated. The program is the one that ./tunes has built, or
 the one that the variable TUNES names. It uses all cores. The status is 1 where something failed, or
-where one of the three answers was so rare that it says little.
+where one of the answers was so rare that it says little.
 """
 import argparse
 import copy
@@ -46,8 +46,11 @@ PROGRAM = os.path.abspath(os.environ.get('TUNES') or BUILT)
 MOST_KILOBYTES, MOST_SECONDS, PATIENCE = 65536, 1, 60
 NOT_ARCHIVE, DAMAGED, OPENED = 'NotArchive', 'Damaged', 'opened'
 REFUSALS = {NOT_ARCHIVE: b'refused 40 NotArchive\n', DAMAGED: b'refused 41 Damaged\n'}
-# Of a hundred files each answer has to have so many at least.
+# Of a hundred files each answer has to have so many at least; and so many have to be damaged behind
+# the front, which says how many pages there are, so that pages were read.
 LEAST = {NOT_ARCHIVE: 1, DAMAGED: 30, OPENED: 15}
+BEHIND_THE_FRONT, LEAST_BEHIND = 'damaged behind the front', 25
+FRONT = re.compile('it says |the file |the log |it does not ')
 LINK_HEAD = PAGE_BYTES - LINK_BYTES
 EDGES = {1: (0, 1, 40, 41, 200, 201, 255),
          2: (0, 1, 2, 4, 112, 113, 114, 4089, 4090, 4091, 9999, 10000, 32768, 65535),
@@ -558,13 +561,17 @@ def main():
     if words.reasons:
         for reason, count in reasons.most_common():
             print(f'{count:7} {reason}')
-    rare = [what for what, least in LEAST.items() if answers[what] * 100 < least * words.files]
-    told_all = ', '.join(f'{count} {what}' for what, count in sorted(answers.items()))
+    answers[BEHIND_THE_FRONT] = sum(count for reason, count in reasons.items()
+                                    if reason and not FRONT.match(reason))
+    least = {**LEAST, BEHIND_THE_FRONT: LEAST_BEHIND}
+    rare = [what for what, of_a_hundred in least.items()
+            if answers[what] * 100 < of_a_hundred * words.files]
+    told_all = ', '.join(f'{answers[what]} {what}' for what in least)
     print(f'{"FAILED" if failures or rare else "ok":7} {words.files} files of seed {words.seed}: '
           f'{told_all}; {len(reasons)} reasons, {failures} failures; at most {most[0]} kB and '
           f'{most[1]:.2f} seconds each; {time.time() - begun:.0f} seconds')
     for what in rare:
-        print(f'FAILED  too few files are answered {what}')
+        print(f'FAILED  too few files are {what}')
     sys.exit(1 if failures or rare else 0)
 
 
