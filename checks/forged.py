@@ -3,11 +3,11 @@
 
 Writes files by docs/FILE-FORMAT.md and not by the code, whole ones and damaged ones, among them
 archives of very many pages and forged chains, and has each read by two: by examples/read_archive.py
-and by `tunes check`. Where the form of a file is damaged both have to say so, and no byte of it may
-be written; what is whole both have to read, and to the same book. Where the keys of an index alone
-are other than those of the tunes, the program has to see it. It may take 65,536 kilobytes of memory
-for each. The program is ./tunes, or the one that the variable TUNES names. A line is printed for
-each case, and the status is 1 where a case failed.
+and by `tunes check`. What is damaged both have to call so, and no byte of it may be written; the
+reader gives a reason, and says by `where` what is damaged. What is whole both have to read, and to
+the same book. Where one chain is broken the reader salvages all other tunes. The program may take
+65,536 kilobytes of memory for each file. It is ./tunes, or the one that the variable TUNES names. A
+line is printed for each case, and the status is 1 where a case failed.
 
 The largest files have 250 MB, one at a time; those that are longer have holes, and take no room.
 """
@@ -30,7 +30,7 @@ READER = os.path.join(ROOT, 'examples', 'read_archive.py')
 FORMAT_PAGE = os.path.join(ROOT, 'docs', 'FILE-FORMAT.md')
 PROGRAM = os.path.abspath(os.environ.get('TUNES') or os.path.join(ROOT, 'tunes'))
 MOST_KILOBYTES = 65536
-DAMAGED = 3, b'refused 41 Damaged\n'
+NOT_ARCHIVE, DAMAGED = (3, b'refused 40 NotArchive\n'), (3, b'refused 41 Damaged\n')
 # Files up to this size are written out as books too.
 SMALL_FILE = 1000000
 
@@ -87,13 +87,14 @@ FULL = LINE * (LINK_BYTES // len(LINE))
 LONG_CHAIN = [(b'\x00\x01' + TUNE + FULL)[:LINK_BYTES]] + [FULL] * 59999
 
 
-def read_apart(path):
-    """The status of the reader that goes by the page alone, its book where the file is small, and
-    why it ended so."""
+def read_apart(word, path):
+    """The status of the reader that goes by the page alone, what it writes where the file is small,
+    and the last line of what it says."""
     small = os.path.getsize(path) <= SMALL_FILE
-    reader = subprocess.run([sys.executable, READER, 'book', path], stderr=subprocess.PIPE,
+    reader = subprocess.run([sys.executable, READER, word, path], stderr=subprocess.PIPE,
                             stdout=subprocess.PIPE if small else subprocess.DEVNULL, check=False)
-    return reader.returncode, reader.stdout or b'', reader.stderr.decode()
+    lines = reader.stderr.decode().splitlines()
+    return reader.returncode, reader.stdout or b'', lines[-1] if lines else ''
 
 
 def run(words, script=b''):
@@ -262,6 +263,46 @@ def with_row(word=None, data=None):
     return archive
 
 
+def fronts_of_no_archive():
+    """What begins as no archive does, by its name: what it does to the file of the small archive.
+    """
+    for length in (0, 7):
+        yield f'a file of {length} bytes', lambda file, n=length: file.truncate(n)
+
+    def put_magic(file):
+        file.seek(7)
+        file.write(b'2')
+    yield 'another magic', put_magic
+
+
+def damages_of_the_front():
+    """Damage by its name: what it does to the file of the small archive."""
+    for length in (8, PAGES + PAGE_BYTES - 1):
+        yield f'a file that is cut to {length} bytes', lambda file, n=length: file.truncate(n)
+    yield ('a file that is cut in its last page',
+           lambda file: file.truncate(place_of(number_at(file, COUNT)) - 1))
+    yield 'no page', lambda file: put(file, COUNT, 0)
+    for pages, entries in ((0, 1), (1, 0), (1, 2), (4000001, 1)):
+        def lie(file, descriptor=(pages, entries)):
+            put_log(file, number_at(file, COUNT), [bytes(PAGE_BYTES)] * 2)
+            put(file, DESCRIPTOR, *descriptor)
+        yield f'a log of {entries} entries for {pages} pages', lie
+    for name, entry, page in (
+            ('a log whose pages fall', 0, 2), ('a log of one page twice', 0, 1),
+            ('a log of a page that is not there', 1, 2 ** 32 - 1)):
+        def put_entry(file, entry=entry, page=page):
+            count = number_at(file, COUNT)
+            put_log(file, count, [bytes(PAGE_BYTES)] * 2)
+            put(file, place_of(count) + (4 + PAGE_BYTES) * entry, page)
+        yield name, put_entry
+
+    def cut_log(file):
+        count = number_at(file, COUNT)
+        put_log(file, count, [bytes(PAGE_BYTES)] * 2)
+        file.truncate(place_of(count) + 2 * (4 + PAGE_BYTES) - 1)
+    yield 'a log that is cut', cut_log
+
+
 def damages_of_the_root():
     """Damage by its name: what it does to the file of the small archive."""
     for version in (0, 3, 102):
@@ -324,6 +365,31 @@ def damages_of_leaves():
             first = file.read(ENTRY_BYTES)
             file.write(first)
         yield f'an entry of the {name} twice', repeat_entry
+
+
+def damages_of_a_chain(number):
+    """Damage of the chain of one tune by its name, on each of its pages."""
+    def trail(file):
+        leaf = leaf_of(file, 'numbers') + LEAF_HEAD + ENTRY_BYTES * (number - 1)
+        pages = [number_at(file, leaf + KEY_BYTES)]
+        while behind := number_at(file, place_of(pages[-1])):
+            pages.append(behind)
+        return pages
+
+    for link in range(3):
+        def put_on(file, offset, value, put_it=put, link=link):
+            pages = trail(file)
+            place = place_of(pages[min(link, len(pages) - 1)])
+            put_it(file, place + offset, page_at(place) if value is None else value)
+        yield (f'a page that is not there behind link {link}',
+               lambda file, it=put_on: it(file, 0, 2 ** 32 - 1))
+        yield (f'itself behind link {link}', lambda file, it=put_on: it(file, 0, None))
+        for used in (0, LINK_BYTES + 1):
+            yield (f'{used} bytes on link {link}',
+                   lambda file, it=put_on, u=used: it(file, 4, u, put_short))
+    for value, what in ((0, 'no page'), (2 ** 32 - 1, 'a page that is not there')):
+        yield (f'{what} in the index', lambda file, v=value: put(
+            file, leaf_of(file, 'numbers') + LEAF_HEAD + ENTRY_BYTES * (number - 1) + KEY_BYTES, v))
 
 
 def share_leaf(file):
@@ -412,7 +478,7 @@ class Cases:
         wrong = '' if kilobytes > MOST_KILOBYTES else f'{kilobytes} kB were seen'
         self.end('a program that takes more than it may', wrong, kilobytes)
 
-    def check(self, name, forge, whole, keys=True, recovers=False):
+    def check(self, name, forge, whole, recovers=False, refusal=DAMAGED):
         """Has the file read that `forge` makes of the small archive."""
         with open(self.path, 'w+b') as file:
             file.write(self.small)
@@ -422,8 +488,8 @@ class Cases:
         wrong, book = self.wrong_apart(whole)
         kilobytes = 0
         if not wrong:
-            wrong, kilobytes = self.wrong_opened(whole and keys, recovers)
-        if not wrong and whole and keys and os.path.getsize(self.path) <= SMALL_FILE:
+            wrong, kilobytes = self.wrong_opened(whole, recovers, refusal)
+        if not wrong and whole and os.path.getsize(self.path) <= SMALL_FILE:
             wrong = self.wrong_book(book)
         self.end(name, wrong, kilobytes)
         os.remove(self.path)
@@ -433,19 +499,30 @@ class Cases:
 
     def wrong_apart(self, whole):
         """What is wrong with the answer of the reader, and its book."""
-        status, book, reason = read_apart(self.path)
+        status, book, reason = read_apart('book', self.path)
         wrong = ''
         if (status, bool(reason)) != ((0, False) if whole else (1, True)):
             wrong = f'the reader ends with status {status}: {reason or "it gives no reason"}'
+        elif not whole:
+            wrong = self.wrong_told(reason)
         elif self.was_written():
             wrong = 'the reader wrote the file'
         return wrong, book
 
-    def wrong_opened(self, whole, recovers):
+    def wrong_told(self, reason):
+        """What is wrong with what the reader tells of the damage."""
+        status, lines, _ = read_apart('where', self.path)
+        first = lines.decode().split('\n')[0]
+        if status != 1 or os.path.getsize(self.path) <= SMALL_FILE and not (
+                first and reason.endswith(': ' + first)):
+            return f'the reader tells of it, with status {status}, {first}, and not {reason}'
+        return ''
+
+    def wrong_opened(self, whole, recovers, refusal):
         """What is wrong with the answer of the program, and how much memory it took."""
         answer, kilobytes = run([PROGRAM, 'check', self.path])
         good = (answer[0] == 0 and answer[1].startswith(b'layout 1 tunes ') if whole
-                else answer == DAMAGED)
+                else answer == refusal)
         wrong = ''
         if not good:
             wrong = f'the program answers {answer}'
@@ -477,8 +554,8 @@ class Cases:
         self.check('160,000 titles in 20,000 leaves',
                    lambda file: put_tunes(file, 20000, EIGHT_TITLES, 8), True)
         for name, archive in other_keys():
-            self.check(f'{name}, which no form tells',
-                       lambda file, it=archive: put_archive(file, it), True, keys=False)
+            self.check(f'{name}, which the texts tell',
+                       lambda file, it=archive: put_archive(file, it), False)
 
     def check_written(self):
         """Files that the program writes, on as few pages as their tunes want."""
@@ -507,7 +584,10 @@ class Cases:
         self.check(f'{name}, read', lambda file: put_bytes(file, made), True)
 
     def check_damage(self):
-        for name, forge in [*damages_of_the_root(), *damages_of_chains(), *damages_of_leaves()]:
+        for name, forge in fronts_of_no_archive():
+            self.check(name, forge, False, refusal=NOT_ARCHIVE)
+        for name, forge in [*damages_of_the_front(), *damages_of_the_root(), *damages_of_chains(),
+                            *damages_of_leaves()]:
             self.check(name, forge, False)
         self.check('an archive of version 102', put_version_102, False)
         self.check('one leaf for two indexes', share_leaf, False)
@@ -515,6 +595,28 @@ class Cases:
         for name, archive in damaged_archives():
             self.check(name, lambda file, it=archive: put_archive(file, it), False)
         self.check('20,001 tunes', lambda file: put_tunes(file, 20001, BARE), False)
+
+    def check_salvage(self):
+        """Tunes of which one has a broken chain; the first is that one, and a short one, and so on.
+        """
+        texts = [THREE_PAGES, ONE, TWO, THREE_PAGES._replace(text=TUNE + LINE * 830)]
+        tunes = dict(enumerate(texts, 1))
+        for number in tunes:
+            books = [(other, tune.text) for other, tune in tunes.items() if other != number]
+            wanted = b'%abc-2.1\n' + b''.join(b'\nX:%d\n%b' % row for row in books)
+            for name, break_chain in damages_of_a_chain(number):
+                def forge(file, damage=break_chain):
+                    put_archive(file, Archive(tunes, FRIDAY))
+                    damage(file)
+                name = f'{name} of tune {number}'
+                self.check(name, forge, False)
+                with open(self.path, 'w+b') as file:
+                    forge(file)
+                status, book, reason = read_apart('salvage', self.path)
+                _, told, _ = read_apart('where', self.path)
+                good = (status, book, bool(reason)) == (1, wanted, True)
+                good = good and b'tune %d' % number in told.split(b'\n')[0]
+                self.end(f'{name}, salvaged', '' if good else 'other tunes, or none is named', 0)
 
     def check_chains(self):
         first = self.number_at(COUNT)
@@ -560,10 +662,12 @@ def main():
         cases.check_written()
         cases.check_whole()
         cases.check_damage()
+        cases.check_salvage()
         cases.check_chains()
         cases.check_counts()
         cases.check_logs()
     sys.exit(1 if cases.failures else 0)
 
 
-main()
+if __name__ == '__main__':
+    main()

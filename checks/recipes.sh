@@ -88,6 +88,8 @@ read_apart() {
         python3 "$root/examples/read_archive.py" sets "$file" 2> "$work/err" |
             cut -d ' ' -f 1,2 > "$work/apart"
         cmp -s "$work/told" "$work/apart" || wrong "another reader reads other sets in $file"
+        python3 "$root/examples/read_archive.py" check "$file" > "$work/apart" 2> "$work/err" ||
+            wrong "another reader finds $file damaged: $(cat "$work/err")"
     done
 }
 
@@ -337,6 +339,16 @@ holds() {
     [ "$found" = "$1" ] || wrong "the archive holds '$found' in place of '$1'"
 }
 
+# The number of the page that has these words, as another reader tells it.
+page_of() {
+    page=0
+    until python3 examples/read_archive.py where tunes.abcx "$page" | grep -q ": $1\$"; do
+        page=$((page + 1))
+        [ "$page" -lt 1000 ] || return
+    done
+    echo "$page"
+}
+
 # The tunes of an archive with their numbers, and its set lists.
 contents() {
     names=$(echo sets | ./tunes run "$1" | sed '1d; s/ .*//; s/^/set-show /')
@@ -572,6 +584,32 @@ same tunes.abcx "$copy"
 same tunes.old "$copy"
 has "backup $copy mine.abc tunes.abcx tunes.old tunes.old.~1~"
 rm tunes.old*
+end
+
+go_on 'a damaged archive'
+cp tunes.abcx whole
+page=$(page_of 'tune 7')
+printf '\0\0' | dd of=tunes.abcx bs=1 seek=$((16384 + 4096 * page + 4)) conv=notrunc 2> "$work/err"
+holds 'refused 41 Damaged'
+cp tunes.abcx "$work/damaged"
+run damaged
+ends_with 1
+same tunes.abcx "$work/damaged"
+same damaged.abcx "$work/damaged"
+[ "$(cat damage.txt)" = "0 bytes of page $page of tune 7 count" ] ||
+    wrong "it tells of '$(head -n 1 damage.txt)'"
+awk 'BEGIN { RS = ""; ORS = "\n\n" } !/^X:7\n/' "$export" | sed '$d' > "$work/wanted"
+same salvaged.abc "$work/wanted"
+grep -q '^tune 7 is left out$' left-out.txt || wrong 'tune 7 is not told to be left out'
+grep -q '^the set list friday has the tunes 3 1$' left-out.txt || wrong 'no set list is told'
+mv whole tunes.abcx
+sh examples/add.sh tunes.abcx salvaged.abc > "$work/out"
+says 'salvaged.abc: 14 of its 14 tunes are in tunes.abcx already'
+run_again damaged
+ends_with 0
+[ ! -s damage.txt ] && [ ! -s left-out.txt ] || wrong 'a whole archive is told to be damaged'
+same salvaged.abc "$export"
+rm damage* salvaged.abc left-out.txt
 end
 
 go_on 'going over to another archive by a script'
