@@ -63,10 +63,10 @@ says() {
         wrong "'$words' says '$(head -n 3 "$work/out")' in place of '$1'"
 }
 
-# Standard error has this text, and each of its messages is one of tunes-book.
+# Standard error has a message of tunes-book with this text.
 complains() {
     case $(cat "$work/err") in
-    "tunes-book: "*"$1"*) ;;
+    *"tunes-book: "*"$1"*) ;;
     *) wrong "'$words' complains by '$(head -n 2 "$work/err")', without '$1'" ;;
     esac
 }
@@ -147,8 +147,9 @@ cases_of_words() {
     done_with "$("$program" --version)"
     for line in 'count' '-x find a' '-f' 'show' 'show 1 2' 'show one' 'show 1234567890' 'new a' \
         'cut friday' 'cut friday x' 'put friday' 'put fri/day 1' 'set a.b' 'find' 'find key' \
-        'find --within' 'find --split a' 'add' 'add absent.abc' '--json show 1' 'move a 1' 'undo 1' \
-        'export' 'hear 1' 'backup' 'restore' 'dump' 'load absent' 'titles x' 'add --within x'; do
+        'find --within' 'find --split a' 'add' 'add absent.abc' '--json show 1' 'move a 1' \
+        'undo 1' 'export' 'hear 1' 'backup' 'restore' 'dump' 'load absent' 'titles x' \
+        'add --within x'; do
         run $line
         refused 2 ''
         [ ! -s "$work/out" ] || wrong "'$line' prints something"
@@ -358,8 +359,10 @@ of "all"'
 
     begin 'books with NUL, carriage returns and a byte order mark'
     run new
-    printf '\357\273\277%%abc-2.1\r\nM:6/8\r\nT:all\r\n\r\nX:9\rT:o\0ne\rK:C\r\n\r\nremark\r\nX:8\nK:D\n%%\0\351\377' \
-        > a.abc
+    {
+        printf '\357\273\277%%abc-2.1\r\nM:6/8\r\nT:all\r\n\r\nX:9\rT:o\0ne\rK:C\r\n\r\nremark\r\n'
+        printf 'X:8\nK:D\n%%\0\351\377'
+    } > a.abc
     run add a.abc
     done_with 'a.abc: tunes 1 to 2; 2 lines of it go into no tune, and are not kept'
     printf '%%abc-2.1\n\nX:1\nT:o\0ne\nM:6/8\nK:C\n\nX:2\nM:6/8\nK:D\n%%\0\351\377\n' > wanted
@@ -537,13 +540,15 @@ cases_of_sets() {
     run move b 1 2
     refused 1 'no such set list'
     # a full set list
-    awk 'BEGIN { print "set-new full"; for (i = 0; i < 200; i++) print "set-add full " i % 15 + 1 }' |
-        "$program" run tunes.abcx > "$work/told"
+    awk 'BEGIN {
+        print "set-new full"
+        for (i = 0; i < 200; i++) print "set-add full " i % 15 + 1
+    }' | "$program" run tunes.abcx > "$work/told"
     run move full 2 200
     done_with ''
     run set full
-    [ "$(tail -n 1 "$work/out" | cut -d ' ' -f 1,2)" = '200 2' ] || wrong 'place 2 is not at the end'
-    [ "$(sed -n 2p "$work/out" | cut -d ' ' -f 1,2)" = '2 3' ] || wrong 'place 3 is not place 2'
+    [ "$(sed -n '2p; 200p' "$work/out" | cut -d ' ' -f 1,2 | tr '\n' ' ')" = '2 3 200 2 ' ] ||
+        wrong 'place 2 is not at the end'
     run put full 1
     refused 1 '200 places, and no more; begin a second one; 0 of the 1 tunes'
     end
@@ -551,7 +556,7 @@ cases_of_sets() {
 
 # An edit by these words of sed is not put in, for this reason.
 left_out() {
-    printf 'sed -i '\''%s'\'' "$1"; cp "$1" written\n' "$1" > editor
+    printf '%s\n' "sed -i '$1' \"\$1\"; cp \"\$1\" written" | editor
     run edit 3
     refused 1 "$2"
     case $(cat "$work/err") in
@@ -584,10 +589,10 @@ cases_of_edits() {
     run show 3
     same "$work/out" shown
     # empty lines at the end change nothing, and are allowed
-    echo "printf '\\n \\n' >> \"\$1\"; sed -i 's/jig/reel/' \"\$1\"" | editor
+    printf '%s\n' 'printf "\n \n" >> "$1"; sed -i s/jig/reel/ "$1"' | editor
     run edit 3
     done_with 'tune 3 has revision 4 now'
-    echo "printf 'W:\\r\\nW:last' >> \"\$1\"" | editor
+    printf '%s\n' 'printf "W:\r\nW:last" >> "$1"' | editor
     run edit 3
     done_with 'tune 3 has revision 5 now'
     run show 3
@@ -600,10 +605,10 @@ cases_of_edits() {
 
     begin 'editors that leave something out' session
     cp tunes.abcx before
-    echo "sed -i '3s/\$/\\n/' \"\$1\"; cp \"\$1\" written" | editor
+    printf '%s\n' 'sed -i "9s/\$/\n/" "$1"; cp "$1" written' | editor
     run edit 3
     refused 1 'these lines would not be kept'
-    grep -q '^    K:D$' "$work/err" || wrong 'a line that is lost is not shown'
+    grep -q '^    .*efe edc|$' "$work/err" || wrong 'a line that is lost is not shown'
     same tune-3.abc written
     run edit 3
     refused 1 'tune-3.abc is there'
@@ -663,7 +668,7 @@ sys.exit(subprocess.run(sys.argv[1:], start_new_session=True).returncode)' \
 
     begin 'a tune that is replaced meanwhile' session
     cat > other << 'END'
-{ echo "replace 3 1 20"; printf 'X:1\nT:other\nK:C\nab\n'; } | "$TUNES" run tunes.abcx > told
+{ echo "replace 3 1 19"; printf 'X:1\nT:other\nK:C\nab\n'; } | "$TUNES" run tunes.abcx > told
 END
     echo 'sh ./other; sed -i s/^R:.*/R:slide/ "$1"; cp "$1" written' | editor
     run edit 3
@@ -854,8 +859,8 @@ cases_of_devices() {
         echo 'X:1' > mine.abc
         flock tunes.abcx sh -c 'echo > locked; while [ ! -e over ]; do sleep 0.05; done' &
         while [ ! -e locked ]; do sleep 0.05; done
-        for line in titles 'show 1' 'edit 1' 'delete 1' 'put a 1' 'cut a 1' 'export b.abc' 'dump b' \
-            'check' 'backup b' 'add mine.abc' 'restore before'; do
+        for line in titles 'show 1' 'edit 1' 'delete 1' 'put a 1' 'cut a 1' 'export b.abc' \
+            'dump b' 'check' 'backup b' 'add mine.abc' 'restore before'; do
                 run $line
             refused 1 'another program has it open'
         done
@@ -953,7 +958,8 @@ END
     fake << 'END'
 case $1 in run) cat > /dev/null ;; *) exec "$real" "$@" ;; esac
 END
-    for line in 'export out' 'dump out' 'show 1' titles "add $book" 'put a 1' 'cut a 1' 'delete 1'; do
+    for line in 'export out' 'dump out' 'show 1' titles "add $book" 'put a 1' 'cut a 1' \
+        'delete 1'; do
         run $line
         refused 1 'no answer came'
         same out wanted
@@ -1033,8 +1039,8 @@ cases_of_tools() {
     PATH=$PWD/bin:$PATH
     echo older > out
     cp out wanted
-    for body in 'exit 1' 'exit 0' 'echo half > book.ps' ': > book.ps; exit 2' 'echo half > tune.mid' \
-        ': > tune.mid'; do
+    for body in 'exit 1' 'exit 0' 'echo half > book.ps' ': > book.ps; exit 2' \
+        'echo half > tune.mid' ': > tune.mid'; do
         for tool in abcm2ps abc2midi; do
             printf '#!/bin/sh\n%s\n' "$body" > bin/$tool
             chmod +x bin/$tool
@@ -1085,6 +1091,142 @@ cases_of_tools() {
     fi
 }
 
+# PAGES, COMPLETION AND WHAT IS INSTALLED
+
+# The commands of --help: the first words of its lines of two blanks, those behind `titles,` and
+# `;`, and the others.
+commands() {
+    sh "$root/tunes-book" --help | sed -n 'h
+        s/^  \([a-z][a-z-]*\)\(, \([a-z]*\)\)\{0,1\} .*/\1 \3/p
+        g
+        s/.*; \([a-z]*\) [A-Z][A-Z]* .*/\1/p' | tr ' ' '\n' | sed '/^$/d; /^tunes-book$/d' |
+        LC_ALL=C sort -u
+}
+
+cases_of_pages() {
+    begin 'pages and words'
+    version=$(sed -n 's/^pub const VERSION: &str = "\(.*\)";$/\1/p' \
+        "$root/crates/tune_cli/src/command_line.rt")
+    [ -n "$version" ] || wrong 'the version is not found in the sources'
+    [ "$("$program" --version)" = "tunes $version" ] || wrong 'the program has another version'
+    for page in tunes tunes-book; do
+        head -n 1 "$root/docs/$page.1" | grep -q "\"tunes $version\"" ||
+            wrong "docs/$page.1 has another version"
+        if command -v groff > /dev/null; then
+            groff -man -ww -z "$root/docs/$page.1" 2> "$work/err"
+            [ ! -s "$work/err" ] || wrong "docs/$page.1: $(head -n 1 "$work/err")"
+        fi
+    done
+    commands > "$work/commands"
+    [ "$(($(wc -l < "$work/commands")))" -ge 23 ] || wrong 'the commands of --help are not read'
+    while read -r word; do
+        case $word in import-check) plain='import\\-check' ;; *) plain=$word ;; esac
+        grep -q "^\.BI\{0,1\} \"\{0,1\}$plain\>" "$root/docs/tunes-book.1" ||
+            wrong "docs/tunes-book.1 has no $word"
+        for page in tunes.bash _tunes; do
+            sed -n '/new add import/,/ty[)"]/p; /new add import/,/--version/p' \
+                "$root/completions/$page" | grep -q -e "\<$word\>" ||
+                wrong "completions/$page has no $word"
+        done
+    done < "$work/commands"
+    end
+
+    if command -v bash > /dev/null; then
+        begin 'completion' session
+        by_script 'set-new friday' 'set-new francis' 'set-new x'
+        mkdir bin 'a b'
+        : > 'a b/c.abc'
+        ln -s "$root/tunes-book" bin/tunes-book
+        while IFS='|' read -r typed wanted; do
+            # The words of the line are those between bars, of which the last is completed.
+            found=$(PATH=$PWD/bin:$PATH bash -c '. "$0/completions/tunes.bash"
+                IFS=" " read -r -a COMP_WORDS <<< "$1"
+                [ "${1% }" = "$1" ] || COMP_WORDS+=("")
+                COMP_CWORD=$((${#COMP_WORDS[@]} - 1))
+                case ${COMP_WORDS[0]} in tunes) _tunes ;; *) _tunes_book ;; esac
+                printf "%s," "${COMPREPLY[@]}"' "$root" "$typed" 2> "$work/err" < /dev/null)
+            [ "$found" = "$wanted" ] || wrong "'$typed' is completed by '$found'"
+        done << 'END'
+tunes ma|make,
+tunes make a|a b,
+tunes-book ex|export,
+tunes-book -f a|a b,
+tunes-book -f tunes.abcx fi|find,
+tunes-book find r|rhythm,
+tunes-book --json find --w|--within,
+tunes-book set f|francis,friday,
+tunes-book -f tunes.abcx put fr|francis,friday,
+tunes-book -f absent.abcx set f|,
+tunes-book print a|a b,
+tunes-book print a.pdf fri|friday,
+tunes-book add --s|--split,
+tunes-book add a|a b,
+tunes-book show a|,
+END
+        end
+    else
+        skip completion bash
+    fi
+    if command -v zsh > /dev/null; then
+        begin 'completion of zsh'
+        zsh -n "$root/completions/_tunes" 2> "$work/err" || wrong "$(head -n 1 "$work/err")"
+        end
+    fi
+
+    begin 'installing and releasing'
+    # A copy of what is installed, with the program at hand in the place of the one that is built.
+    mkdir -p top/crates/tunes/out top/examples
+    for name in tunes tunes-book install release docs completions LICENSE CHANGELOG.md crates.txt \
+        HANDLES; do
+        cp -R "$root/$name" top
+    done
+    cp "$book" top/examples
+    cp "$program" top/crates/tunes/out/tunes
+    DESTDIR=$PWD top/install /to > "$work/out" 2> "$work/err"
+    status=$?
+    words='install'
+    done_with ''
+    (cd to && find . -type f | LC_ALL=C sort) > found
+    printf './%s\n' bin/tunes bin/tunes-book share/bash-completion/completions/tunes \
+        share/bash-completion/completions/tunes-book share/doc/tunes/ABC-PROFILE.md \
+        share/doc/tunes/CHANGELOG.md share/doc/tunes/FILE-FORMAT.md share/doc/tunes/GLOSSARY.md \
+        share/doc/tunes/LICENSE share/doc/tunes/SCRIPTS.md share/doc/tunes/USING.md \
+        share/doc/tunes/session.abc share/man/man1/tunes-book.1 share/man/man1/tunes.1 \
+        share/zsh/site-functions/_tunes > wanted
+    same found wanted
+    unset TUNES
+    to/bin/tunes-book -f a.abcx new && to/bin/tunes-book -f a.abcx add to/share/doc/tunes \
+        > "$work/out" 2> "$work/err"
+    status=$?
+    words='add, of what is installed'
+    done_with 'to/share/doc/tunes/session.abc: tunes 1 to 15'
+    ln -s to/bin/tunes-book book
+    ./book -f a.abcx check > "$work/out" 2> "$work/err"
+    status=$?
+    words='check, by a link'
+    done_with 'layout 1 tunes 15 sets 0'
+    mkdir one two
+    top/release one > "$work/out" 2> "$work/err"
+    status=$?
+    words='release'
+    ends_with 0
+    sleep 1
+    top/release two > "$work/out" 2>> "$work/err"
+    [ ! -s "$work/err" ] || wrong "a release complains: $(head -n 1 "$work/err")"
+    name=$(cd one && ls ./*.gz)
+    case $name in
+    "./tunes-$version-"*.tar.gz) ;;
+    *) wrong "the release is named $name" ;;
+    esac
+    same "one/$name" "two/$name"
+    (cd one && sha256sum -c ./*.sha256) > "$work/told" 2>&1 || wrong 'the sum is another'
+    gzip -dc "one/$name" | tar -tf - > found
+    grep -q '/share/man/man1/tunes-book\.1$' found || wrong 'the release has no pages'
+    gzip -dc "one/$name" | tar -xOf - "$(basename "$name" .tar.gz)/BUILT" > found
+    grep -q '^built on the C library: .*[0-9]' found || wrong 'it does not say how it was built'
+    end
+}
+
 "$program" make "$work/session.abcx" > "$work/told" || exit 1
 { printf 'import %d\n' "$(($(wc -c < "$book")))"; cat "$book"; } |
     "$program" run "$work/session.abcx" > "$work/told" || exit 1
@@ -1100,4 +1242,6 @@ for shell in ${SHELLS:-sh bash busybox}; do
         "cases_of_$part"
     done
 done
+shell='sh'
+cases_of_pages
 [ "$failures" -eq 0 ]
