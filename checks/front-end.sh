@@ -263,6 +263,31 @@ delete 1'
     has 'all.abc mine.abc tunes.abcx'
     end
 
+    begin 'adding what is new' session
+    cp "$book" mine.abc
+    cp tunes.abcx before
+    run add --new mine.abc
+    done_with 'mine.abc: all its tunes are there already, 15'
+    same tunes.abcx before
+    printf '\nX:1\nT:o\0ne\nK:C\n\nX:2\nT:o\0ne\nK:C\n\nremark\n' >> mine.abc
+    printf 'X:1\nT:o\0ne\nK:C\n\nX:2\nT:two\nK:C\n' > more.abc
+    printf 'X:1\nT:bad\n' > bad.abc
+    run add --new mine.abc bad.abc more.abc
+    refused 1 'bad.abc: its tune number 1 has no K: line'
+    says 'mine.abc: tune 16; 16 of its tunes are there already; '\
+'1 line of it goes into no tune, and is not kept
+more.abc: tune 17; 1 of its tunes are there already'
+    run add --new --dry mine.abc more.abc "$book"
+    done_with "mine.abc: all its tunes are there already, 17
+more.abc: all its tunes are there already, 2
+$book: all its tunes are there already, 15"
+    run show 16
+    printf 'X:16\nT:o\0ne\nK:C\n' > wanted
+    same "$work/out" wanted
+    run add --new --split mine.abc
+    refused 2 'not both'
+    end
+
     begin 'titles of any bytes, as JSON and CSV'
     printf 'X:1\nT:q "b", \\ c\nK:C\n\nX:2\nK:C\n\n' > a.abc
     printf 'X:3\nT:\351 \303\251 \342\231\257 \360\235\204\236 \355\240\200 \001\nK:C\n' >> a.abc
@@ -698,6 +723,7 @@ ab'
         echo 'echo W:more >> "$1"; cp "$1" written; flock tunes.abcx sleep 2 & sleep 0.5' | editor
         run edit 5
         refused 1 'another program has it open'
+        grep -q 'your text is in tune-5.abc' "$work/err" || wrong 'it does not say where it is'
         same tune-5.abc written
         sleep 2
     fi
@@ -1160,6 +1186,7 @@ tunes-book -f absent.abcx set f|,
 tunes-book print a|a b,
 tunes-book print a.pdf fri|friday,
 tunes-book add --s|--split,
+tunes-book add --n|--new,
 tunes-book add a|a b,
 tunes-book show a|,
 END

@@ -40,7 +40,7 @@ _tunes_book() {
     1.set | 1.put | 1.cut | 1.move | 1.drop | 2.export | 2.print)
         [ "${file:0:1}" != '~' ] || file=$HOME${file:1}
         names=$(tunes-book -f "$file" sets 2> /dev/null | cut -d ' ' -f 1) ;;
-    1.add) case $word in -*) names='--split --dry' ;; esac ;;
+    1.add) case $word in -*) names='--new --split --dry' ;; esac ;;
     1.show | 1.edit | 1.delete | 1.hear | *.find | *.put | *.cut | *.move) return ;;
     esac
     if [ -n "${names-}" ]; then
