@@ -687,7 +687,7 @@ sys.exit(subprocess.run(sys.argv[1:], start_new_session=True).returncode)' \
     # one that takes the file away
     echo 'echo W:more >> "$1"; mv "$1" away' | editor
     run edit 3
-    refused 1 'could not be read'
+    refused 1 'tune-3.abc is gone, by the editor'
     same tunes.abcx before
     end
 
