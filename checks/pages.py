@@ -25,7 +25,7 @@ WIDTH, PROOF_WIDTH = 100, 160
 MOST_LINES = {'README.md': 120, 'docs/ARCHITECTURE.md': 100}
 RECIPE_PAGES = ('README.md', 'docs/USING.md')
 NAME_PAGES = ('docs/PROOFS.md', 'docs/ARCHITECTURE.md', 'docs/GLOSSARY.md', 'docs/DECISIONS.md')
-PATH = re.compile(r'(crates|docs|bench|checks|examples)/[\w./*-]*')
+PATH = re.compile(r'(crates|docs|bench|checks|examples|completions)/[\w./*-]*')
 FILE_NAME = re.compile(r'\w+\.(rt|antt)')
 NAME = re.compile(r'[A-Za-z]\w*(::[A-Za-z]\w*)*|[a-z0-9]+(-[a-z0-9]+)+')
 LINK = re.compile(r'\[([^\]]*)\]\(([^()\s]+)\)')
@@ -64,7 +64,8 @@ def files():
 # WIDTHS
 
 def is_script(path):
-    return path in ('tunes', 'test', 'LICENSE') or path.startswith('.ci/')
+    scripts = ('tunes', 'tunes-book', 'test', 'install', 'release', 'LICENSE')
+    return path in scripts or path.startswith(('.ci/', 'completions/'))
 
 
 def contract_lines(lines):

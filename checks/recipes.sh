@@ -9,8 +9,8 @@ case $program in
 /*) ;;
 *) program=$PWD/$program ;;
 esac
-# the scripts of examples/ run ./tunes, which each case has
-unset TUNES
+# tunes-book and the scripts of examples/ run ./tunes, which each case has
+unset TUNES TUNES_BOOK VISUAL
 work=$(mktemp -d) || exit 1
 trap 'rm -rf "$work"' EXIT
 trap 'exit 1' HUP INT TERM
@@ -39,6 +39,7 @@ begin() {
     why=
     mkdir "$work/$cases" && cd "$work/$cases" || exit 1
     ln -s "$program" tunes
+    ln -s "$root/tunes-book" tunes-book
     ln -s "$root/examples" examples
 }
 
@@ -361,72 +362,55 @@ shown() {
 }
 
 begin 'the archive of the README'
-cp "$book" mine.abc
+mkdir books
+cp "$book" books/mine.abc
 run begin
-ends_with 0
-says 'made
-mine.abc: ok import 1 15
-ok find 1
+says 'books/mine.abc: tunes 1 to 15
 1 Kesh Jig, The'
-run_again begin
-ends_with 0
-says 'refused 42 NotEmpty
-mine.abc: 15 of its 15 tunes are in tunes.abcx already
-ok find 1
-1 Kesh Jig, The'
-holds 'layout 1 tunes 15 sets 0'
-has 'mine.abc tunes.abcx'
+if command -v abcm2ps > "$work/told" && command -v ps2pdf > "$work/told"; then
+    ends_with 0
+    has 'books books/mine.abc friday.pdf tunes.abcx'
+    run_again begin
+    ends_with 0
+else
+    ends_with 4
+    has 'books books/mine.abc tunes.abcx'
+    run_again begin
+    ends_with 4
+fi
+says 'books/mine.abc: tunes 16 to 30
+1 Kesh Jig, The
+16 Kesh Jig, The'
+holds 'layout 1 tunes 30 sets 1'
 end
 
 begin 'making an archive'
 cp "$book" mine.abc
 run make
 ends_with 0
-says made
+says ''
 run_again make
 ends_with 3
-says 'refused 42 NotEmpty'
+grep -q 'the file is not empty' "$work/err" || wrong 'it does not say why'
 holds 'layout 1 tunes 0 sets 0'
 end
 
 go_on 'adding a book'
 run add
 ends_with 0
-says 'mine.abc: ok import 1 15'
+says 'mine.abc: tunes 1 to 15'
+cp tunes.abcx once.abcx
 run_again add
 ends_with 0
-says 'mine.abc: 15 of its 15 tunes are in tunes.abcx already'
+says 'mine.abc: tunes 16 to 30'
+mv once.abcx tunes.abcx
 holds 'layout 1 tunes 15 sets 0'
 echo export | ./tunes run tunes.abcx | sed 1d > "$work/found"
 same "$work/found" "$export"
 end
 
-go_on 'adding a book that has grown'
-printf '\nX:1\nT:The Night Before\nK:D\nABAd|\n' >> mine.abc
-run add
-ends_with 0
-says 'mine.abc: 15 of its 16 tunes are in tunes.abcx already
-mine.abc: ok import 16 16'
-run_again add
-says 'mine.abc: 16 of its 16 tunes are in tunes.abcx already'
-holds 'layout 1 tunes 16 sets 0'
-printf 'X:1\nT:Keyless\n' > bad.abc
-sh examples/add.sh tunes.abcx bad.abc absent.abc mine.abc > "$work/out" 2> "$work/err"
-status=$?
-ends_with 1
-says 'bad.abc: refused 2 BadTune 1 NoKey
-absent.abc: cannot be read
-mine.abc: 16 of its 16 tunes are in tunes.abcx already'
-holds 'layout 1 tunes 16 sets 0'
-rm bad.abc
-echo 'delete 16' | ./tunes run tunes.abcx > "$work/out"
-cp "$book" mine.abc
-end
-
 go_on 'finding tunes in a file'
-wanted='ok find 1
-1 Kesh Jig, The
-ok find 2
+wanted='1 Kesh Jig, The
 6 Drowsy Maggie
 9 Fig for a Kiss, A
 3 Tripping Up the Stairs'
@@ -440,76 +424,48 @@ end
 
 go_on 'looking at a tune'
 shown 3 > "$work/tune"
-{ echo "ok show 3 1 $(wc -c < "$work/tune")" && cat "$work/tune"; } > "$work/wanted"
 run show
 ends_with 0
-same "$work/out" "$work/wanted"
+same "$work/out" "$work/tune"
 run_again show
 ends_with 0
-same "$work/out" "$work/wanted"
+same "$work/out" "$work/tune"
 end
 
 go_on 'changing a tune'
 export EDITOR='sed -i s/^R:.*/R:slide/'
 run change
 ends_with 0
-says 'ok replace 3 2'
-same tune.old "$work/tune"
+says 'tune 3 has revision 2 now'
 sed 's/^R:.*/R:slide/' "$work/tune" > "$work/wanted"
-same tune.abc "$work/wanted"
 run_again change
 ends_with 0
-says 'ok replace 3 3'
+says 'tune 3 is not changed'
 echo show 3 | ./tunes run tunes.abcx | sed 1d > "$work/found"
 same "$work/found" "$work/wanted"
 holds 'layout 1 tunes 15 sets 0'
+has 'mine.abc tunes.abcx tunes.abcx.old.abc'
 end
 
-go_on 'changing a tune that somebody else changes meanwhile'
-cat > editor << 'END'
-{ echo "replace 3 3 $(wc -c < tune.old)"; cat tune.old; } | ./tunes run tunes.abcx > other.out
-sed -i s/^R:.*/R:reel/ "$1"
-END
-export EDITOR='sh editor'
-run change
-says 'refused 5 Stale 4'
-echo show 3 | ./tunes run tunes.abcx | sed 1d > "$work/found"
+go_on 'undoing'
+echo export | ./tunes run tunes.abcx > "$work/wanted"
+run undo
+ends_with 0
+says 'tune 15 is there again'
+run_again undo
+ends_with 0
+echo export | ./tunes run tunes.abcx > "$work/found"
 same "$work/found" "$work/wanted"
-rm editor other.out
 end
 
 go_on 'a set list in a file'
-places='ok set-new friday
-ok set-add friday 1
-ok set-add friday 2
-ok set-show friday 2
-1 3 Tripping Up the Stairs
-2 1 Kesh Jig, The'
 run set
 ends_with 0
-says "refused 11 NoSuchSet
-$places"
+says '1 5 Blarney Pilgrim, The
+2 3 Tripping Up the Stairs'
 run_again set
 ends_with 0
-says "ok set-drop friday
-$places"
 holds 'layout 1 tunes 15 sets 1'
-end
-
-go_on 'a book that is saved whole, or not at all'
-sh examples/save.sh tunes.abcx friday.abc export-set friday > "$work/out" 2> "$work/err"
-status=$?
-ends_with 0
-{ printf '%%abc-2.1\n%% set friday\n\nX:1\n' && sed 1d "$work/wanted" && printf '\nX:2\n' &&
-    shown 1 | sed 1d; } > "$work/set"
-same friday.abc "$work/set"
-sh examples/save.sh tunes.abcx friday.abc export-set saturday > "$work/out" 2> "$work/err"
-status=$?
-ends_with 1
-says 'refused 11 NoSuchSet'
-same friday.abc "$work/set"
-rm friday.abc tune.*
-has 'mine.abc tunes.abcx'
 end
 
 if command -v abcm2ps > "$work/out" && command -v ps2pdf > "$work/out"; then
@@ -518,7 +474,7 @@ if command -v abcm2ps > "$work/out" && command -v ps2pdf > "$work/out"; then
     ends_with 0
     run_again print-set
     ends_with 0
-    has 'friday.abc friday.pdf friday.ps mine.abc tunes.abcx'
+    has 'friday.pdf mine.abc tunes.abcx tunes.abcx.old.abc'
     rm friday.*
     end
 else
@@ -531,27 +487,29 @@ if command -v abc2midi > "$work/out"; then
     ends_with 0
     run_again hear-set
     ends_with 0
-    has 'first.mid friday.abc mine.abc tunes.abcx'
-    rm first.mid friday.abc
+    has 'first.mid mine.abc tunes.abcx tunes.abcx.old.abc'
+    rm first.mid
     end
 else
     skip hear-set abc2midi
 fi
 
 go_on 'backing up'
+rm tunes.abcx.old.abc
 copy=backup/$(date +%F).abcx
 run back-up
 ends_with 0
-says 'layout 1 tunes 15 sets 1'
+says ''
 same "$copy" tunes.abcx
+cp "$copy" "$work/wanted"
 run_again back-up
-ends_with 0
-says 'layout 1 tunes 15 sets 1'
-same "$copy" tunes.abcx
+ends_with 1
+same "$copy" "$work/wanted"
 has "backup $copy mine.abc tunes.abcx"
 end
 
 go_on 'backing up while a program has the archive open'
+mv "$copy" "$work/copy.abcx"
 mkfifo script
 ./tunes run tunes.abcx < script > "$work/replies" &
 exec 9> script
@@ -567,7 +525,8 @@ exec 9>&-
 wait
 rm script
 holds 'layout 1 tunes 14 sets 1'
-has "backup $copy mine.abc tunes.abcx"
+has 'backup mine.abc tunes.abcx'
+mv "$work/copy.abcx" "$copy"
 end
 
 go_on 'restoring'
@@ -575,15 +534,17 @@ head -c 20000 tunes.abcx > cut && mv cut tunes.abcx
 holds 'refused 41 Damaged'
 run restore
 ends_with 0
-says 'layout 1 tunes 15 sets 1'
+says 'layout 1 tunes 15 sets 1
+the archive that was there is tunes.abcx.1.old now'
 same tunes.abcx "$copy"
 run_again restore
 ends_with 0
-says 'layout 1 tunes 15 sets 1'
+says 'layout 1 tunes 15 sets 1
+the archive that was there is tunes.abcx.2.old now'
 same tunes.abcx "$copy"
-same tunes.old "$copy"
-has "backup $copy mine.abc tunes.abcx tunes.old tunes.old.~1~"
-rm tunes.old*
+same tunes.abcx.2.old "$copy"
+has "backup $copy mine.abc tunes.abcx tunes.abcx.1.old tunes.abcx.2.old"
+rm tunes.abcx.*
 end
 
 go_on 'a damaged archive'
@@ -617,24 +578,131 @@ printf '%s\n' 'renumber 15 900' 'delete 7' 'set-add friday 900' 'set-new 0_-z' |
     ./tunes run tunes.abcx > "$work/out"
 run dump
 ends_with 0
+cp tunes.script "$work/script"
 run_again dump
 ends_with 0
-cp tunes.script "$work/script"
+same tunes.script "$work/script"
 run load
 ends_with 0
 contents tunes.abcx > "$work/wanted"
 contents new.abcx > "$work/found"
 same "$work/found" "$work/wanted"
 grep -q '^X:900$' "$work/found" || wrong 'no tune has the number 900'
-grep -q '^ok set-show friday 3$' "$work/found" || wrong 'friday has not its three places'
 cp new.abcx "$work/new"
 title="$title, and again"
 run load
-ends_with 3
-says 'refused 42 NotEmpty'
+ends_with 1
+grep -q 'new.abcx is there' "$work/err" || wrong 'it does not say why'
 same new.abcx "$work/new"
-sh examples/dump.sh new.abcx > "$work/found"
-same "$work/found" "$work/script"
+./tunes-book -f new.abcx dump again.script
+same again.script "$work/script"
+end
+
+# SCRIPTS ON AN ARCHIVE IN A FILE
+
+begin 'asking by a script'
+cp "$book" mine.abc
+{ echo "ok show 3 1 $(wc -c < "$work/tune")" && cat "$work/tune"; } > "$work/shown"
+run ask
+ends_with 0
+says "made
+mine.abc: ok import 1 15
+ok find 1
+1 Kesh Jig, The
+$(cat "$work/shown")"
+run_again ask
+ends_with 0
+says "refused 42 NotEmpty
+mine.abc: 15 of its 15 tunes are in tunes.abcx already
+ok find 1
+1 Kesh Jig, The
+$(cat "$work/shown")"
+holds 'layout 1 tunes 15 sets 0'
+has 'mine.abc tunes.abcx'
+end
+
+go_on 'adding a book that has grown'
+printf '\nX:1\nT:The Night Before\nK:D\nABAd|\n' >> mine.abc
+run add-new
+ends_with 0
+says 'mine.abc: 15 of its 16 tunes are in tunes.abcx already
+mine.abc: ok import 16 16'
+run_again add-new
+says 'mine.abc: 16 of its 16 tunes are in tunes.abcx already'
+holds 'layout 1 tunes 16 sets 0'
+printf 'X:1\nT:Keyless\n' > bad.abc
+sh examples/add.sh tunes.abcx bad.abc absent.abc mine.abc > "$work/out" 2> "$work/err"
+status=$?
+ends_with 1
+says 'bad.abc: refused 2 BadTune 1 NoKey
+absent.abc: cannot be read
+mine.abc: 16 of its 16 tunes are in tunes.abcx already'
+holds 'layout 1 tunes 16 sets 0'
+rm bad.abc
+echo 'delete 16' | ./tunes run tunes.abcx > "$work/out"
+cp "$book" mine.abc
+end
+
+go_on 'replacing a tune by a script'
+export EDITOR='sed -i s/^R:.*/R:slide/'
+run replace-tune
+ends_with 0
+says 'ok replace 3 2'
+same tune.old "$work/tune"
+sed 's/^R:.*/R:slide/' "$work/tune" > "$work/wanted"
+same tune.abc "$work/wanted"
+run_again replace-tune
+ends_with 0
+says 'ok replace 3 3'
+echo show 3 | ./tunes run tunes.abcx | sed 1d > "$work/found"
+same "$work/found" "$work/wanted"
+holds 'layout 1 tunes 15 sets 0'
+end
+
+go_on 'replacing a tune that somebody else changes meanwhile'
+cat > editor << 'END'
+{ echo "replace 3 3 $(wc -c < tune.old)"; cat tune.old; } | ./tunes run tunes.abcx > other.out
+sed -i s/^R:.*/R:reel/ "$1"
+END
+export EDITOR='sh editor'
+run replace-tune
+says 'refused 5 Stale 4'
+echo show 3 | ./tunes run tunes.abcx | sed 1d > "$work/found"
+same "$work/found" "$work/wanted"
+rm editor other.out
+end
+
+go_on 'a set list by a script'
+places='ok set-new friday
+ok set-add friday 1
+ok set-add friday 2
+ok set-show friday 2
+1 3 Tripping Up the Stairs
+2 1 Kesh Jig, The'
+run set-script
+ends_with 0
+says "refused 11 NoSuchSet
+$places"
+run_again set-script
+ends_with 0
+says "ok set-drop friday
+$places"
+holds 'layout 1 tunes 15 sets 1'
+end
+
+go_on 'a book that is saved whole, or not at all'
+run save
+ends_with 0
+{ printf '%%abc-2.1\n%% set friday\n\nX:1\n' && sed 1d "$work/wanted" && printf '\nX:2\n' &&
+    shown 1 | sed 1d; } > "$work/set"
+same friday.abc "$work/set"
+sh examples/save.sh tunes.abcx friday.abc export-set saturday > "$work/out" 2> "$work/err"
+status=$?
+ends_with 1
+says 'refused 11 NoSuchSet'
+same friday.abc "$work/set"
+rm friday.abc tune.*
+has 'mine.abc tunes.abcx'
 end
 
 # Takes the archive of a script over to a new one by a script, and compares the two.
@@ -685,7 +753,7 @@ end
 begin 'going over from an archive that is not there'
 run dump
 ends_with 1
-has tunes.script.new
+has ''
 end
 
 # FILES THAT CANNOT BE USED

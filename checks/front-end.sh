@@ -1,0 +1,1274 @@
+#!/bin/sh
+# Usage: checks/front-end.sh
+# Tries each command of ./tunes-book under each of the shells `sh`, `bash --posix` and `busybox sh`
+# that is here, over the program ./tunes, or over the program that the variable TUNES names; then
+# the pages, the completion, ./install and ./release. Prints a line for each case, and ends with
+# status 1 where one failed.
+# shellcheck disable=SC2015,SC2016,SC2028,SC2086 # words of a line are split; `$` is for others
+root=$(CDPATH='' cd -- "$(dirname -- "$0")/.." && pwd) || exit 1
+program=${TUNES:-$root/tunes}
+case $program in
+/*) ;;
+*) program=$PWD/$program ;;
+esac
+# The launcher builds the program, if need be; then the program is called without it.
+"$program" --version > /dev/null || exit 1
+if [ "$program" = "$root/tunes" ]; then program=$root/crates/tunes/out/tunes; fi
+unset TUNES TUNES_BOOK VISUAL EDITOR LC_ALL
+work=$(mktemp -d) || exit 1
+trap 'rm -rf "$work"' EXIT
+trap 'exit 1' HUP INT TERM
+failures=0
+cases=0
+shell='sh'
+book=$root/examples/session.abc
+TMPDIR="$work/tem porary"
+TUNES=$program
+export TMPDIR TUNES
+mkdir "$TMPDIR" && chmod 755 "$work" && chmod 1777 "$TMPDIR"
+{ printf '%%abc-2.1\n\n' && cat "$book"; } > "$work/session-book"
+
+# Begins a case: a new folder, with an archive of the fifteen tunes where the second word says so.
+begin() {
+    cases=$((cases + 1))
+    title=$1
+    why=
+    mkdir "$work/$cases" && cd "$work/$cases" || exit 1
+    TUNES=$program
+    TUNES_BOOK=tunes.abcx
+    export TUNES TUNES_BOOK
+    unset VISUAL
+    EDITOR='sh ./editor'
+    export EDITOR
+    [ "${2-}" != session ] || cp "$work/session.abcx" tunes.abcx
+}
+
+# Keeps what is wrong in this case; the first counts.
+wrong() { [ -n "$why" ] || why=$1; }
+
+# Runs ./tunes-book.
+run() {
+    words=$*
+    $shell "$root/tunes-book" "$@" > "$work/out" 2> "$work/err" < /dev/null
+    status=$?
+}
+
+ends_with() {
+    [ "$status" -eq "$1" ] ||
+        wrong "'$words' has status $status in place of $1: $(head -n 1 "$work/err")"
+}
+
+says() {
+    [ "$(cat "$work/out")" = "$1" ] ||
+        wrong "'$words' says '$(head -n 3 "$work/out")' in place of '$1'"
+}
+
+# Standard error has a message of tunes-book with this text.
+complains() {
+    case $(cat "$work/err") in
+    *"tunes-book: "*"$1"*) ;;
+    *) wrong "'$words' complains by '$(head -n 2 "$work/err")', without '$1'" ;;
+    esac
+}
+
+# The last command did what it was to do.
+done_with() {
+    ends_with 0
+    says "$1"
+    [ ! -s "$work/err" ] || wrong "'$words' writes to standard error: $(head -n 1 "$work/err")"
+}
+
+# The last command was refused, in words.
+refused() {
+    ends_with "$1"
+    complains "$2"
+}
+
+same() { cmp -s -- "$1" "$2" || wrong "$1 is not what it should be, after '$words'"; }
+
+# The folder has these files, and no others.
+has() {
+    there=$(find . ! -name . ! -type l | sed 's|^\./||' | LC_ALL=C sort | tr '\n' ' ')
+    [ "$there" = "${1:+$1 }" ] || wrong "the files are '$there' in place of '$1', after '$words'"
+}
+
+end() {
+    cd "$work" || exit 1
+    left=$(ls -A "$TMPDIR")
+    [ -z "$left" ] || wrong "working files are left: $left"
+    rm -rf "${TMPDIR:?}"/*
+    if [ -z "$why" ]; then
+        printf 'ok      %s: %s\n' "$shell" "$title"
+    else
+        failures=$((failures + 1))
+        printf 'FAILED  %s: %s: %s\n' "$shell" "$title" "$why"
+    fi
+}
+
+skip() { printf 'skipped %s: %s: there is no %s here\n' "$shell" "$1" "$2"; }
+
+# What an archive has: its tunes with their numbers, and its set lists.
+contents() {
+    names=$(echo sets | "$program" run "$1" | sed '1d; s/ .*//; s/^/set-show /')
+    printf '%s\n' export sets "$names" | "$program" run "$1"
+}
+
+# Runs a line of script on the archive.
+by_script() { printf '%s\n' "$@" | "$program" run tunes.abcx > "$work/told"; }
+
+# The editor is the script of standard input. A case may name another for a while.
+editor() { cat > editor; }
+
+# A program in the place of `tunes`: standard input is a script, in which $real is the true one.
+fake() {
+    { printf '#!/bin/sh\nreal='\''%s'\''\n' "$program" && cat; } > fake
+    chmod +x fake
+    TUNES=$PWD/fake
+}
+
+# A folder with links to all tools that tunes-book asks for, but those of these words.
+tools_without() {
+    mkdir -p bin
+    for tool in awk cat chmod cmp cp cut dd flock grep head ln ls mktemp mv od readlink rm sed sh \
+        sync tail tr wc sleep; do
+        case " $* " in *" $tool "*) continue ;; esac
+        found=$(command -v "$tool") && ln -s "$found" "bin/$tool"
+    done
+}
+
+cases_of_words() {
+    begin 'words'
+    run
+    refused 2 'no command is given'
+    run help
+    done_with "$("$root/tunes-book" --help)"
+    [ "$(awk 'length > 79' "$work/out")" = '' ] || wrong 'the help has lines above 79 columns'
+    run --version
+    done_with "$("$program" --version)"
+    for line in 'count' '-x find a' '-f' 'show' 'show 1 2' 'show one' 'show 1234567890' 'new a' \
+        'cut friday' 'cut friday x' 'put friday' 'put fri/day 1' 'set a.b' 'find' 'find key' \
+        'find --within' 'find --split a' 'add' 'add absent.abc' '--json show 1' 'move a 1' \
+        'undo 1' 'export' 'hear 1' 'backup' 'restore' 'dump' 'load absent' 'titles x' \
+        'add --within x'; do
+        run $line
+        refused 2 ''
+        [ ! -s "$work/out" ] || wrong "'$line' prints something"
+    done
+    has ''
+    unset TUNES_BOOK
+    run find kesh
+    refused 2 'no archive is told'
+    run -f '' find kesh
+    refused 2 'empty'
+    end
+
+    begin 'an archive that is made'
+    run new
+    done_with ''
+    run check
+    done_with 'layout 1 tunes 0 sets 0'
+    for word in titles sets; do
+        run "$word"
+        done_with ''
+    done
+    run find kesh
+    done_with ''
+    run --json titles
+    done_with '[
+]'
+    run new
+    refused 3 'not empty'
+    run -f other.abcx new
+    done_with ''
+    has 'other.abcx tunes.abcx'
+    end
+
+    begin 'files that are no archive'
+    run find kesh
+    refused 1 'no such file'
+    run export a.abc
+    refused 1 'no such file'
+    run backup a.abcx
+    refused 1 'no such file'
+    mkdir tunes.abcx
+    run titles
+    refused 1 'no regular file'
+    rmdir tunes.abcx
+    cp "$book" tunes.abcx
+    for line in 'titles' 'show 1' 'edit 1' 'delete 1' 'put a 1' 'export b.abc' 'dump b' 'check' \
+        'backup b' "add $book"; do
+        run $line
+        refused 3 'no archive'
+    done
+    same tunes.abcx "$book"
+    head -c 20000 "$work/session.abcx" > tunes.abcx
+    run titles
+    refused 3 'damaged'
+    run backup b
+    refused 3 'damaged'
+    has tunes.abcx
+    end
+}
+
+# Runs a command as somebody who may not open every file, as root may.
+as_nobody() {
+    setpriv --reuid=65534 --regid=65534 --clear-groups "$@" > "$work/out" 2> "$work/err" < /dev/null
+}
+
+cases_of_books() {
+    begin 'adding a book, and all ways to list' 
+    run new
+    cp "$book" mine.abc
+    run add mine.abc
+    done_with 'mine.abc: tunes 1 to 15'
+    run find kesh
+    done_with '1 Kesh Jig, The'
+    run find title kesh
+    done_with '1 Kesh Jig, The'
+    run find key Edor
+    done_with '6 Drowsy Maggie
+9 Fig for a Kiss, A'
+    run find --within STAIRS up
+    done_with '3 Tripping Up the Stairs'
+    run find --within 'no such "words"'
+    done_with ''
+    run find notes zz
+    refused 1 'nothing is asked for'
+    run find 'kesh
+delete 1'
+    done_with ''
+    run --csv find key Edor
+    done_with 'number,title
+6,"Drowsy Maggie"
+9,"Fig for a Kiss, A"'
+    run find --json kesh
+    done_with '[
+{"number": 1, "title": "Kesh Jig, The"}
+]'
+    run titles
+    ends_with 0
+    echo titles | "$program" run tunes.abcx | sed 1d > "$work/wanted"
+    same "$work/out" "$work/wanted"
+    run check
+    done_with 'layout 1 tunes 15 sets 0'
+    run export all.abc
+    done_with ''
+    same all.abc "$work/session-book"
+    run show 3
+    ends_with 0
+    sed -n '/^X:3$/,/^$/p' "$book" | sed '/^$/d' > "$work/wanted"
+    same "$work/out" "$work/wanted"
+    run show 16
+    refused 1 'no tune has the number 16'
+    has 'all.abc mine.abc tunes.abcx'
+    end
+
+    begin 'adding what is new' session
+    cp "$book" mine.abc
+    cp tunes.abcx before
+    run add --new mine.abc
+    done_with 'mine.abc: all its tunes are there already, 15'
+    same tunes.abcx before
+    printf '\nX:1\nT:o\0ne\nK:C\n\nX:2\nT:o\0ne\nK:C\n\nremark\n' >> mine.abc
+    printf 'X:1\nT:o\0ne\nK:C\n\nX:2\nT:two\nK:C\n' > more.abc
+    printf 'X:1\nT:bad\n' > bad.abc
+    run add --new mine.abc bad.abc more.abc
+    refused 1 'bad.abc: its tune number 1 has no K: line'
+    says 'mine.abc: tune 16; 16 of its tunes are there already; '\
+'1 line of it goes into no tune, and is not kept
+more.abc: tune 17; 1 of its tunes are there already'
+    run add --new --dry mine.abc more.abc "$book"
+    done_with "mine.abc: all its tunes are there already, 17
+more.abc: all its tunes are there already, 2
+$book: all its tunes are there already, 15"
+    run show 16
+    printf 'X:16\nT:o\0ne\nK:C\n' > wanted
+    same "$work/out" wanted
+    run add --new --split mine.abc
+    refused 2 'not both'
+    end
+
+    begin 'titles of any bytes, as JSON and CSV'
+    printf 'X:1\nT:q "b", \\ c\nK:C\n\nX:2\nK:C\n\n' > a.abc
+    printf 'X:3\nT:\351 \303\251 \342\231\257 \360\235\204\236 \355\240\200 \001\nK:C\n' >> a.abc
+    run new
+    run add a.abc
+    done_with 'a.abc: tunes 1 to 3'
+    run put x 2 1
+    run --csv set x
+    done_with 'place,number,title
+1,2,
+2,1,"q ""b"", \ c"'
+    run --json set x
+    done_with '[
+{"place": 1, "number": 2, "title": null},
+{"place": 2, "number": 1, "title": "q \"b\", \\ c"}
+]'
+    run --json sets
+    done_with '[
+{"name": "x", "places": 2}
+]'
+    run sets --csv
+    done_with 'name,places
+x,2'
+    run --json titles
+    ends_with 0
+    grep -q 'u00e9 .u00e9 .u266f .ud834.udd1e .u00ed.u00a0.u0080 .u0001"}' "$work/out" ||
+        wrong 'bytes of a title are written otherwise'
+    ! command -v python3 > /dev/null || python3 -m json.tool < "$work/out" > "$work/told" ||
+        wrong 'the list is no JSON'
+    end
+
+    begin 'folders of books'
+    run new
+    mkdir empty 'fol der'
+    run add empty
+    refused 2 'there is no .abc file'
+    printf 'X:1\nT:b\nK:C\n' > 'fol der/b.abc'
+    printf 'X:1\nT:B\nK:C\n' > 'fol der/B.abc'
+    printf 'X:1\nT:none\n' > 'fol der/a.abc'
+    echo 'X:1' > 'fol der/readme.txt'
+    run add 'fol der' absent.abc
+    refused 2 'absent.abc: there is no such file'
+    run check
+    done_with 'layout 1 tunes 0 sets 0'
+    run add 'fol der'
+    refused 1 'a.abc: its tune number 1 has no K: line'
+    says 'fol der/B.abc: tune 1
+fol der/b.abc: tune 2'
+    run import-check 'fol der'
+    refused 1 'a.abc: its tune number 1 has no K: line'
+    says 'fol der/B.abc: 1 tune
+fol der/b.abc: 1 tune'
+    run add --dry "$book"
+    done_with "$book: 15 tunes"
+    run check
+    done_with 'layout 1 tunes 2 sets 0'
+    echo 'a remark' > remark.abc
+    run import-check remark.abc
+    refused 1 'no line begins with X:'
+    end
+
+    begin 'names with blanks and line feeds, and of options'
+    odd='my tunes
+of "all"'
+    run -f "$odd" new
+    done_with ''
+    printf 'X:1\nT:a\nK:C\n' > "$odd.abc"
+    cp "$odd.abc" -- -n.abc
+    run -f "$odd" add "$odd.abc" -n.abc
+    done_with "$odd.abc: tune 1
+-n.abc: tune 2"
+    run -f "$odd" export "out $odd"
+    done_with ''
+    run -f "$odd" export -- -o.abc
+    done_with ''
+    same ./-o.abc "out $odd"
+    run -f "$odd" backup "copy $odd"
+    done_with ''
+    run -f "$odd" restore "copy $odd"
+    ends_with 0
+    run -f "$odd" delete 1
+    done_with ''
+    run -f "$odd" undo
+    done_with 'tune 1 is there again'
+    run -f "$odd" dump "script $odd"
+    done_with ''
+    run -f -new.abcx load "script $odd"
+    done_with 'layout 1 tunes 2 sets 0'
+    [ -s -new.abcx ] || wrong 'an archive with a dash in front is not there'
+    EDITOR='sed -i s/T:a/T:b/'
+    run -f "$odd" edit 1
+    done_with 'tune 1 has revision 2 now'
+    end
+
+    begin 'books with NUL, carriage returns and a byte order mark'
+    run new
+    {
+        printf '\357\273\277%%abc-2.1\r\nM:6/8\r\nT:all\r\n\r\nX:9\rT:o\0ne\rK:C\r\n\r\nremark\r\n'
+        printf 'X:8\nK:D\n%%\0\351\377'
+    } > a.abc
+    run add a.abc
+    done_with 'a.abc: tunes 1 to 2; 2 lines of it go into no tune, and are not kept'
+    printf '%%abc-2.1\n\nX:1\nT:o\0ne\nM:6/8\nK:C\n\nX:2\nM:6/8\nK:D\n%%\0\351\377\n' > wanted
+    run export b.abc
+    same b.abc wanted
+    EDITOR='sed -i s/T:o/T:p/'
+    run edit 1
+    done_with 'tune 1 has revision 2 now'
+    sed 's/T:o/T:p/' wanted > wanted.new
+    run export b.abc
+    same b.abc wanted.new
+    run undo
+    done_with 'tune 1 has revision 3 now'
+    run delete 2
+    done_with ''
+    run undo
+    done_with 'tune 2 is there again'
+    run export b.abc
+    same b.abc wanted
+    run dump s
+    run -f new.abcx load s
+    ends_with 0
+    run -f new.abcx export b.abc
+    same b.abc wanted
+    end
+
+    begin 'lines that are not kept are counted'
+    run new
+    for form in '0 X:1\nK:C\n' \
+        '2 remark\n\nX:1\nK:C\n\nW:verse\n' \
+        '3 free text\nM:4/4\nR:jig\n\nX:1\nK:C\n' \
+        '1 M:4/4\nX:1\nK:C\n' \
+        '2 %%abc-2.1\nI:abc-charset utf-8\nI:linebreak $\n%% a\n%%%%staves 1\n\nX:1\nK:C\n' \
+        '1 M:4/4\n+:more\nR:jig\n\nX:1\nR:reel\nK:C\n\nX:2\nR:jig\nM:2/4\nK:C\nR:in the body\n'; do
+        # shellcheck disable=SC2059 # a form
+        printf "${form#* }" > a.abc
+        run import-check a.abc
+        ends_with 0
+        case ${form%% *}.$(cat "$work/out") in
+        0.*[0-9]' tune' | 1.*' 1 line of'* | "${form%% *}."*" ${form%% *} lines of"*) ;;
+        *) wrong "of '$form' it says '$(cat "$work/out")'" ;;
+        esac
+    done
+    end
+
+    begin 'a book that is too long, and its parts'
+    run new
+    awk 'BEGIN {
+        print "M:6/8\n%%staves 1\n"
+        for (i = 1; i <= 400; i++) {
+            printf "X:%d\nT:tune %d\n", i, i
+            if (i % 2) print "M:4/4"
+            print "K:C"
+            for (j = 0; j < 200; j++) print "abcdefgabcdefgabcdefgabcdefgabcdefgabcdefgabcdefgabc"
+            print ""
+        }
+    }' > long.abc
+    run add "$book" long.abc
+    refused 1 'long.abc: it has more than 4,000,000 bytes; `tunes-book add --split`'
+    run add --split long.abc "$book"
+    done_with "long.abc: tunes 16 to 415, in 2 parts
+$book: tunes 416 to 430"
+    run show 16
+    head -n 3 "$work/out" > "$work/found"
+    printf 'X:16\nT:tune 1\nM:4/4\n' > "$work/wanted"
+    same "$work/found" "$work/wanted"
+    run show 415
+    head -n 5 "$work/out" > "$work/found"
+    printf 'X:415\nT:tune 400\nM:6/8\n%%%%staves 1\nK:C\n' > "$work/wanted"
+    same "$work/found" "$work/wanted"
+    printf 'X:1\nT:bad\n' >> long.abc
+    run import-check --split long.abc
+    refused 1 'long.abc: part 2 of 2: its tune number'
+    # old Mac lines, and no file header
+    sed '1,3d; $d' long.abc | sed '$d' | tr '\n' '\r' > mac.abc
+    run import-check --split mac.abc
+    done_with 'mac.abc: 400 tunes, in 2 parts'
+    end
+
+    begin 'a book that cannot be read'
+    printf 'X:1\nK:C\n' > a.abc
+    cp a.abc b.abc
+    chmod 0 a.abc
+    chmod 755 .
+    if [ "$(id -u)" -ne 0 ]; then
+        run import-check a.abc b.abc
+    elif as_nobody "$program" --version && as_nobody head -c 1 "$root/tunes-book"; then
+        as_nobody $shell "$root/tunes-book" import-check a.abc b.abc
+        status=$?
+        words='import-check a.abc b.abc'
+    else
+        echo 'tunes-book: it cannot be read' > "$work/err"
+        echo 'b.abc: 1 tune' > "$work/out"
+        status=1
+    fi
+    refused 1 'it cannot be read'
+    says 'b.abc: 1 tune'
+    end
+}
+
+cases_of_sets() {
+    begin 'set lists' session
+    run put friday 3 1
+    done_with ''
+    run put friday 005 1
+    done_with ''
+    run set friday
+    done_with '1 3 Tripping Up the Stairs
+2 1 Kesh Jig, The
+3 5 Blarney Pilgrim, The
+4 1 Kesh Jig, The'
+    run sets
+    done_with 'friday 4'
+    run put friday 2 99 4
+    refused 1 'tune 99: no tune has the number 99'
+    run put new 99
+    refused 1 'no tune has the number 99'
+    run sets
+    done_with 'friday 4'
+    run put "$(printf '%041d' 1)" 1
+    refused 1 '1 to 40 letters'
+    run put friday 0
+    refused 1 'from 1 to 999,999'
+    run cut friday 2
+    done_with ''
+    run cut friday 9
+    refused 1 'no such place'
+    run cut saturday 1
+    refused 1 'no such set list'
+    run set saturday
+    refused 1 'no such set list'
+    run delete 3
+    refused 1 'the set list friday has it'
+    run undo
+    refused 1 'nothing is left'
+    run export friday.abc friday
+    done_with ''
+    [ "$(sed -n 2p friday.abc)" = '% set friday' ] || wrong 'friday.abc is another book'
+    cp friday.abc wanted
+    run export friday.abc saturday
+    refused 1 'no such set list'
+    same friday.abc wanted
+    run drop friday
+    done_with ''
+    run drop friday
+    refused 1 'no such set list'
+    run sets
+    done_with ''
+    end
+
+    begin 'moving in a set list' session
+    for from in 1 2 3 4 5; do
+        for to in 1 3 5; do
+            by_script 'set-drop a' 'set-new a' 'set-add a 1' 'set-add a 2' 'set-add a 3' \
+                'set-add a 4' 'set-add a 2'
+            run move a "$from" "$to"
+            done_with ''
+            printf '1\n2\n3\n4\n2\n' | awk -v from="$from" -v to="$to" '
+                { tune[NR] = $1 }
+                END {
+                    moved = tune[from]
+                    if (from < to) for (i = from; i < to; i++) tune[i] = tune[i + 1]
+                    else for (i = from; i > to; i--) tune[i] = tune[i - 1]
+                    tune[to] = moved
+                    for (i = 1; i <= 5; i++) print tune[i]
+                }' > "$work/wanted"
+            echo 'set-show a' | "$program" run tunes.abcx | sed 1d | cut -d ' ' -f 2 > "$work/found"
+            same "$work/found" "$work/wanted"
+        done
+    done
+    run move a 0 1
+    refused 1 'it has 5 places'
+    run move a 1 6
+    refused 1 'it has 5 places'
+    run move b 1 2
+    refused 1 'no such set list'
+    # a full set list
+    awk 'BEGIN {
+        print "set-new full"
+        for (i = 0; i < 200; i++) print "set-add full " i % 15 + 1
+    }' | "$program" run tunes.abcx > "$work/told"
+    run move full 2 200
+    done_with ''
+    run set full
+    [ "$(sed -n '2p; 200p' "$work/out" | cut -d ' ' -f 1,2 | tr '\n' ' ')" = '2 3 200 2 ' ] ||
+        wrong 'place 2 is not at the end'
+    run put full 1
+    refused 1 '200 places, and no more; begin a second one; 0 of the 1 tunes'
+    end
+}
+
+# An edit by these words of sed is not put in, for this reason.
+left_out() {
+    printf '%s\n' "sed -i '$1' \"\$1\"; cp \"\$1\" written" | editor
+    run edit 3
+    refused 1 "$2"
+    case $(cat "$work/err") in
+    *'your text stays there'*) ;;
+    *) wrong "after '$1' it does not say where the text is" ;;
+    esac
+    same tune-3.abc written
+    rm -f tune-3.abc
+}
+
+cases_of_edits() {
+    begin 'editors' session
+    run show 3
+    cp "$work/out" shown
+    editor < /dev/null
+    run edit 3
+    done_with 'tune 3 is not changed'
+    echo "sed -i 's/^R:.*/R:slide/' \"\$1\"; cp \"\$1\" seen; echo \"\$LC_ALL\" > locale" | editor
+    export LC_ALL=C.UTF-8
+    run edit 003
+    unset LC_ALL
+    done_with 'tune 3 has revision 2 now'
+    [ "$(cat locale)" = C.UTF-8 ] || wrong 'the editor has another locale'
+    run show 3
+    same "$work/out" seen
+    export VISUAL='sed -i s/slide/jig/'
+    run edit 3
+    unset VISUAL
+    done_with 'tune 3 has revision 3 now'
+    run show 3
+    same "$work/out" shown
+    # empty lines at the end change nothing, and are allowed
+    printf '%s\n' 'printf "\n \n" >> "$1"; sed -i s/jig/reel/ "$1"' | editor
+    run edit 3
+    done_with 'tune 3 has revision 4 now'
+    printf '%s\n' 'printf "W:\r\nW:last" >> "$1"' | editor
+    run edit 3
+    done_with 'tune 3 has revision 5 now'
+    run show 3
+    [ "$(tail -n 1 "$work/out")" = 'W:last' ] || wrong 'the last line is not kept'
+    run edit 99
+    refused 1 'no tune has the number 99'
+    rm editor
+    has 'locale seen shown tunes.abcx tunes.abcx.old.abc'
+    end
+
+    begin 'editors that leave something out' session
+    cp tunes.abcx before
+    printf '%s\n' 'sed -i "9s/\$/\n/" "$1"; cp "$1" written' | editor
+    run edit 3
+    refused 1 'these lines would not be kept'
+    grep -q '^    .*efe edc|$' "$work/err" || wrong 'a line that is lost is not shown'
+    same tune-3.abc written
+    run edit 3
+    refused 1 'tune-3.abc is there'
+    EDITOR='cp written'
+    run edit 3
+    refused 1 'tune-3.abc is there'
+    same tune-3.abc written
+    rm tune-3.abc
+    EDITOR='sh ./editor'
+    left_out '/^X:/d' 'no line begins with X:'
+    left_out '/^K:/d' 'has no K: line'
+    left_out '$s/$/\nX:2\nK:C/' 'more tunes than one'
+    left_out '1s/^/T:lost\n/' 'would not be kept'
+    left_out '$s/$/\n\nW:verse/' 'would not be kept'
+    left_out '1,$d' 'no line begins with X:'
+    same tunes.abcx before
+    [ ! -e tunes.abcx.old.abc ] || wrong 'an old text is kept though nothing is changed'
+    end
+
+    begin 'editors that fail, and one that is stopped' session
+    cp tunes.abcx before
+    echo 'exit 1' | editor
+    run edit 3
+    refused 1 'the editor ended with status 1; tune 3 is not changed'
+    EDITOR=no-such-editor run edit 3
+    refused 1 'the editor ended with status 127; tune 3 is not changed'
+    has 'before editor tunes.abcx'
+    EDITOR='sh ./editor'
+    echo 'echo W:more >> "$1"; cp "$1" written; exit 3' | editor
+    run edit 3
+    refused 1 'the editor ended with status 3'
+    same tune-3.abc written
+    rm tune-3.abc
+    echo 'echo W:more >> "$1"; cp "$1" written; kill -s INT $$; sleep 5' | editor
+    run edit 3
+    refused 1 'your text stays there'
+    same tune-3.abc written
+    # an interrupt of the terminal goes to both
+    rm tune-3.abc
+    if command -v python3 > /dev/null; then
+        echo 'echo W:more >> "$1"; cp "$1" written; kill -s INT 0; sleep 5' | editor
+            python3 -c 'import os, signal, subprocess, sys
+signal.signal(signal.SIGINT, signal.default_int_handler)
+sys.exit(subprocess.run(sys.argv[1:], start_new_session=True).returncode)' \
+            $shell "$root/tunes-book" edit 3 > "$work/out" 2> "$work/err"
+        status=$?
+        refused 1 'your text stays there'
+        same tune-3.abc written
+        rm tune-3.abc
+    fi
+    # one that takes the file away
+    echo 'echo W:more >> "$1"; mv "$1" away' | editor
+    run edit 3
+    refused 1 'tune-3.abc is gone, by the editor'
+    same tunes.abcx before
+    end
+
+    begin 'a tune that is replaced meanwhile' session
+    cat > other << 'END'
+{ echo "replace 3 1 19"; printf 'X:1\nT:other\nK:C\nab\n'; } | "$TUNES" run tunes.abcx > told
+END
+    echo 'sh ./other; sed -i s/^R:.*/R:slide/ "$1"; cp "$1" written' | editor
+    run edit 3
+    refused 1 'tune 3 was replaced meanwhile; `tunes-book show 3` prints the other'
+    same tune-3.abc written
+    run show 3
+    says 'X:3
+T:other
+K:C
+ab'
+    run undo
+    refused 1 'nothing is left'
+    mv tune-3.abc mine.abc
+    EDITOR='cp mine.abc'
+    run edit 3
+    done_with 'tune 3 has revision 3 now'
+    run show 3
+    same "$work/out" mine.abc
+    # deleted meanwhile
+    EDITOR='sh ./editor'
+    echo 'echo delete 4 | "$TUNES" run tunes.abcx > told; echo W:more >> "$1"' | editor
+    run edit 4
+    refused 1 'no tune has the number 4'
+    [ -s tune-4.abc ] || wrong 'the text is lost'
+    # a program has the archive open when the editor is left
+    if command -v flock > /dev/null; then
+        echo 'echo W:more >> "$1"; cp "$1" written; flock tunes.abcx sleep 2 & sleep 0.5' | editor
+        run edit 5
+        refused 1 'another program has it open'
+        grep -q 'your text is in tune-5.abc' "$work/err" || wrong 'it does not say where it is'
+        same tune-5.abc written
+        sleep 2
+    fi
+    end
+}
+
+cases_of_undo() {
+    begin 'undoing replaces and deletes' session
+    run export was.abc
+    run undo
+    refused 1 'nothing is to be undone'
+    EDITOR='sed -i s/^R:.*/R:one/'
+    run edit 3
+    EDITOR='sed -i s/^R:.*/R:two/'
+    run edit 3
+    run delete 7
+    done_with ''
+    run undo
+    done_with 'tune 7 is there again'
+    run undo
+    done_with 'tune 3 has revision 4 now'
+    run show 3
+    grep -q '^R:one$' "$work/out" || wrong 'the last replace is not undone'
+    run undo
+    done_with 'tune 3 has revision 5 now'
+    run export is.abc
+    same is.abc was.abc
+    run undo
+    refused 1 'nothing is left to be undone'
+    # every text is there
+    for rhythm in jig one two; do
+        grep -q "^R:$rhythm\$" tunes.abcx.old.abc || wrong "the text of R:$rhythm is lost"
+    done
+    # the old texts are a book
+    run import-check tunes.abcx.old.abc
+    ends_with 0
+    # a number that another tune has meanwhile
+    run delete 7
+    by_script 'renumber 15 7'
+    run undo
+    done_with 'tune 7 is there again, with the number 15'
+    # a delete that took no place, and a tune that is gone
+    EDITOR='sed -i s/^R:.*/R:one/'
+    run edit 2
+    by_script 'delete 2'
+    run undo
+    refused 1 'its old text is in tunes.abcx.old.abc, from line'
+    end
+
+    begin 'old texts that are cut, and texts like marks' session
+    by_script 'delete 3'
+    printf 'X:1\nT:marks\nK:C\n%% tunes-book undone\n%% tunes-book replace 1 1 5\nX\n' > a.abc
+    run add a.abc
+    done_with 'a.abc: tune 16'
+    cp tunes.abcx before
+    EDITOR='sed -i s/marks/other/'
+    run edit 16
+    run undo
+    done_with 'tune 16 has revision 3 now'
+    run show 16
+    sed 1d "$work/out" > found
+    sed 1d a.abc > wanted
+    same found wanted
+    run delete 16
+    printf '\n%% tunes-book replace 1 1 500\nX:1\nK:C\n' >> tunes.abcx.old.abc
+    run undo
+    done_with 'tune 16 is there again'
+    [ ! -e /dev/full ] || {
+        rm tunes.abcx.old.abc
+        ln -s /dev/full tunes.abcx.old.abc
+        cp tunes.abcx before
+        run delete 1
+        refused 1 'the old text could not be kept'
+        EDITOR='sed -i s/^R:.*/R:one/'
+        run edit 1
+        refused 1 'the old text could not be kept'
+        [ -s tune-1.abc ] || wrong 'the text of the edit is lost'
+        same tunes.abcx before
+    }
+    end
+}
+
+cases_of_copies() {
+    begin 'backup and restore' session
+    run put friday 3 1
+    run backup copy.abcx
+    done_with ''
+    same copy.abcx tunes.abcx
+    run backup copy.abcx
+    refused 1 'copy.abcx is there'
+    contents tunes.abcx > wanted
+    run drop friday
+    run delete 3
+    cp tunes.abcx later
+    run restore copy.abcx
+    done_with 'layout 1 tunes 15 sets 1
+the archive that was there is tunes.abcx.1.old now'
+    contents tunes.abcx > found
+    same found wanted
+    same tunes.abcx.1.old later
+    head -c 20000 copy.abcx > cut.abcx
+    cp tunes.abcx before
+    run restore cut.abcx
+    refused 3 'damaged'
+    run restore absent.abcx
+    refused 1 'no such file'
+    same tunes.abcx before
+    # over a damaged archive, and over none
+    cp cut.abcx tunes.abcx
+    run restore copy.abcx
+    ends_with 0
+    same tunes.abcx.2.old cut.abcx
+    rm tunes.abcx
+    run restore copy.abcx
+    done_with 'layout 1 tunes 15 sets 1'
+    has "before copy.abcx cut.abcx found later tunes.abcx tunes.abcx.1.old tunes.abcx.2.old \
+tunes.abcx.old.abc wanted"
+    end
+
+    begin 'dump and load' session
+    run new
+    by_script 'renumber 15 900' 'renumber 1 2000' 'delete 7' 'set-new friday' \
+        'set-add friday 900' 'set-add friday 3' 'set-add friday 900' 'set-new 0_-z' \
+        'set-new set-show' 'set-add set-show 2000'
+    run dump all.script
+    done_with ''
+    run -f new.abcx load all.script
+    done_with 'layout 1 tunes 14 sets 3'
+    contents tunes.abcx > wanted
+    contents new.abcx > found
+    same found wanted
+    run -f new.abcx dump again.script
+    same again.script all.script
+    run -f new.abcx load all.script
+    refused 1 'new.abcx is there'
+    head -c 900 all.script > cut.script
+    run -f other.abcx load cut.script
+    refused 1 'a command of it is refused'
+    run -f other.abcx load "$book"
+    refused 1 ''
+    [ ! -e other.abcx ] && [ ! -e other.abcx.new ] || wrong 'something is made of a bad script'
+    run -f empty.abcx new
+    run -f empty.abcx dump empty.script
+    done_with ''
+    run -f other.abcx load empty.script
+    done_with 'layout 1 tunes 0 sets 0'
+    # the same from replies of `tunes` alone
+    "$program" make by-hand.abcx > told
+    "$program" run by-hand.abcx < all.script > told
+    contents by-hand.abcx > found
+    same found wanted
+    end
+}
+
+cases_of_devices() {
+    if command -v flock > /dev/null; then
+        begin 'another program in the way' session
+        cp tunes.abcx before
+        echo 'X:1' > mine.abc
+        flock tunes.abcx sh -c 'echo > locked; while [ ! -e over ]; do sleep 0.05; done' &
+        while [ ! -e locked ]; do sleep 0.05; done
+        for line in titles 'show 1' 'edit 1' 'delete 1' 'put a 1' 'cut a 1' 'export b.abc' \
+            'dump b' 'check' 'backup b' 'add mine.abc' 'restore before'; do
+                run $line
+            refused 1 'another program has it open'
+        done
+        : > over
+        wait
+        same tunes.abcx before
+        has 'before locked mine.abc over tunes.abcx'
+        end
+    else
+        skip 'another program in the way' flock
+    fi
+
+    if [ -e /dev/full ]; then
+        begin 'a full device' session
+        echo older > out
+        cp out wanted
+        ln -s /dev/full out.new
+        for line in 'export out' 'dump out' 'hear 1 out' 'print out'; do
+                run $line
+            [ "$status" -ne 0 ] || wrong "'$line' ends with 0"
+            same out wanted
+            [ -L out.new ] || ln -s /dev/full out.new
+        done
+        ln -s /dev/full copy.new
+        run backup copy
+        refused 1 'could not be written'
+        [ ! -e copy ] || wrong 'there is a copy'
+        for line in titles 'show 1' 'find kesh' '--json titles' '--csv sets' check help; do
+            $shell "$root/tunes-book" $line > /dev/full 2> "$work/err"
+            status=$?
+            words=$line
+            ends_with 1
+        done
+        end
+    else
+        skip 'a full device' /dev/full
+    fi
+
+    begin 'files in the way' session
+    echo mine > out.new
+    run export out
+    refused 1 'out.new is there'
+    [ "$(cat out.new)" = mine ] || wrong 'out.new is overwritten'
+    mkdir folder
+    run export folder
+    refused 2 'folder is a folder'
+    run export no/such/folder
+    refused 1 'could not be written'
+    has 'folder out.new tunes.abcx'
+    end
+}
+
+cases_of_programs() {
+    begin 'answers that are cut' session
+    fake << 'END'
+case $1 in
+run)
+    "$real" "$@" > answer
+    head -c $(($(wc -c < answer) - 3)) answer
+    rm answer ;;
+*) exec "$real" "$@" ;;
+esac
+END
+    echo older > out
+    cp out wanted
+    for line in 'export out' 'dump out' 'print out' 'hear 1 out' 'show 1' 'find kesh' 'titles' \
+        'edit 1' 'add mine.abc' 'find --within a'; do
+        printf 'X:1\nK:C\n' > mine.abc
+        EDITOR='sed -i s/jig/reel/'
+        run $line
+        [ "$status" -ne 0 ] || wrong "'$line' ends with 0"
+        same out wanted
+    done
+    has 'fake mine.abc out tunes.abcx wanted'
+    end
+
+    begin 'answers that are cut after an edit' session
+    fake << 'END'
+case $1 in
+run)
+    if [ -e second ]; then "$real" "$@" | head -c 4; else "$real" "$@"; fi
+    : > second ;;
+*) exec "$real" "$@" ;;
+esac
+END
+    EDITOR='sed -i s/jig/reel/'
+    run edit 1
+    refused 1 'your text stays there'
+    grep -q reel tune-1.abc || wrong 'the text is lost'
+    end
+
+    begin 'a program that answers nothing, or is none' session
+    echo older > out
+    cp out wanted
+    fake << 'END'
+case $1 in run) cat > /dev/null ;; *) exec "$real" "$@" ;; esac
+END
+    for line in 'export out' 'dump out' 'show 1' titles "add $book" 'put a 1' 'cut a 1' \
+        'delete 1'; do
+        run $line
+        refused 1 'no answer came'
+        same out wanted
+    done
+    TUNES=/bin/true
+    run titles
+    refused 4 'is another program'
+    TUNES=$PWD/absent
+    run titles
+    refused 4 'is not found'
+    fake << 'END'
+exit 125
+END
+    run titles
+    refused 4 'cannot be run'
+    end
+
+    begin 'a stop in the middle leaves nothing' session
+    fake << 'END'
+case $1 in run) : > asked; sleep 1 ;; *) exec "$real" "$@" ;; esac
+END
+    for signal in TERM HUP; do
+        rm -f asked
+            $shell "$root/tunes-book" export out > "$work/out" 2> "$work/err" &
+        while [ ! -e asked ]; do sleep 0.05; done
+        kill -s "$signal" $!
+        wait $! 2> "$work/told"
+        [ $? -gt 128 ] || wrong "it goes on after $signal"
+    done
+    has 'asked fake tunes.abcx'
+    end
+}
+
+# Runs ./tunes-book where PATH has no shell of another name.
+run_by_path() {
+    case $shell in
+    bash*) "$bash" --posix "$root/tunes-book" "$@" > "$work/out" 2> "$work/err" ;;
+    busy*) "$busybox" sh "$root/tunes-book" "$@" > "$work/out" 2> "$work/err" ;;
+    *) sh "$root/tunes-book" "$@" > "$work/out" 2> "$work/err" ;;
+    esac
+    status=$?
+}
+
+cases_of_tools() {
+    begin 'tools that are missing' session
+    tools_without
+    for words_of in 'print a.pdf:abcm2ps' 'print a.ps:abcm2ps' 'hear 1 a.mid:abc2midi'; do
+        was=$PATH
+        PATH=$PWD/bin
+        run_by_path ${words_of%:*}
+        PATH=$was
+        words=$words_of
+        refused 4 "the program ${words_of#*:} is not found"
+    done
+    rm -r bin
+    # those of busybox are in its shell
+    case $shell in
+    busy*) ;;
+    *)
+        for missing in awk mktemp od; do
+            tools_without "$missing"
+            was=$PATH
+            PATH=$PWD/bin
+            run_by_path titles
+            PATH=$was
+            words="titles without $missing"
+            refused 4 "the program $missing is not found"
+            rm -r bin
+        done ;;
+    esac
+    has tunes.abcx
+    end
+
+    begin 'tools that fail' session
+    mkdir bin
+    was=$PATH
+    PATH=$PWD/bin:$PATH
+    echo older > out
+    cp out wanted
+    for body in 'exit 1' 'exit 0' 'echo half > book.ps' ': > book.ps; exit 2' \
+        'echo half > tune.mid' ': > tune.mid'; do
+        for tool in abcm2ps abc2midi; do
+            printf '#!/bin/sh\n%s\n' "$body" > bin/$tool
+            chmod +x bin/$tool
+        done
+        run print out
+        refused 1 'abcm2ps made no sheets'
+        run hear 1 out
+        refused 1 'abc2midi made no sound file'
+        same out wanted
+    done
+    printf '#!/bin/sh\nprintf "%%%%!PS\\n%%%%%%%%EOF\\n" > book.ps\n' > bin/abcm2ps
+    printf '#!/bin/sh\nexit 1\n' > bin/ps2pdf
+    chmod +x bin/ps2pdf
+    run print out
+    ends_with 0
+    cp wanted out.pdf
+    run print out.pdf
+    refused 1 'ps2pdf failed'
+    same out.pdf wanted
+    PATH=$was
+    end
+
+    if command -v abcm2ps > /dev/null && command -v ps2pdf > /dev/null; then
+        begin 'sheets of music' session
+        run put friday 3 1
+        run print friday.pdf friday
+        ends_with 0
+        [ "$(head -c 4 friday.pdf)" = %PDF ] || wrong 'friday.pdf is no PDF'
+        run print all.ps
+        ends_with 0
+        [ "$(head -c 4 all.ps)" = %!PS ] || wrong 'all.ps is no PostScript'
+        has 'all.ps friday.pdf tunes.abcx'
+        end
+    else
+        skip 'sheets of music' 'abcm2ps or ps2pdf'
+    fi
+    if command -v abc2midi > /dev/null; then
+        begin 'a sound file' session
+        run hear 3 three.mid
+        ends_with 0
+        [ "$(head -c 4 three.mid)" = MThd ] || wrong 'three.mid is no sound file'
+        run hear 99 none.mid
+        refused 1 'no tune has the number 99'
+        has 'three.mid tunes.abcx'
+        end
+    else
+        skip 'a sound file' abc2midi
+    fi
+}
+
+# PAGES, COMPLETION AND WHAT IS INSTALLED
+
+# The commands of --help: the first words of its lines of two blanks, those behind `titles,` and
+# `;`, and the others.
+commands() {
+    sh "$root/tunes-book" --help | sed -n 'h
+        s/^  \([a-z][a-z-]*\)\(, \([a-z]*\)\)\{0,1\} .*/\1 \3/p
+        g
+        s/.*; \([a-z]*\) [A-Z][A-Z]* .*/\1/p' | tr ' ' '\n' | sed '/^$/d; /^tunes-book$/d' |
+        LC_ALL=C sort -u
+}
+
+cases_of_pages() {
+    begin 'pages and words'
+    version=$(sed -n 's/^pub const VERSION: &str = "\(.*\)";$/\1/p' \
+        "$root/crates/tune_cli/src/command_line.rt")
+    [ -n "$version" ] || wrong 'the version is not found in the sources'
+    [ "$("$program" --version)" = "tunes $version" ] || wrong 'the program has another version'
+    for page in tunes tunes-book; do
+        head -n 1 "$root/docs/$page.1" | grep -q "\"tunes $version\"" ||
+            wrong "docs/$page.1 has another version"
+        if command -v groff > /dev/null; then
+            groff -man -ww -z "$root/docs/$page.1" 2> "$work/err"
+            [ ! -s "$work/err" ] || wrong "docs/$page.1: $(head -n 1 "$work/err")"
+        fi
+    done
+    commands > "$work/commands"
+    [ "$(($(wc -l < "$work/commands")))" -ge 23 ] || wrong 'the commands of --help are not read'
+    while read -r word; do
+        case $word in import-check) plain='import\\-check' ;; *) plain=$word ;; esac
+        grep -q "^\.BI\{0,1\} \"\{0,1\}$plain\>" "$root/docs/tunes-book.1" ||
+            wrong "docs/tunes-book.1 has no $word"
+        for page in tunes.bash _tunes; do
+            sed -n '/new add import/,/ty[)"]/p; /new add import/,/--version/p' \
+                "$root/completions/$page" | grep -q -e "\<$word\>" ||
+                wrong "completions/$page has no $word"
+        done
+    done < "$work/commands"
+    end
+
+    if command -v bash > /dev/null; then
+        begin 'completion' session
+        by_script 'set-new friday' 'set-new francis' 'set-new x'
+        mkdir bin 'a b'
+        : > 'a b/c.abc'
+        ln -s "$root/tunes-book" bin/tunes-book
+        while IFS='|' read -r typed wanted; do
+            # The words of the line are those between bars, of which the last is completed.
+            found=$(PATH=$PWD/bin:$PATH bash -c '. "$0/completions/tunes.bash"
+                IFS=" " read -r -a COMP_WORDS <<< "$1"
+                [ "${1% }" = "$1" ] || COMP_WORDS+=("")
+                COMP_CWORD=$((${#COMP_WORDS[@]} - 1))
+                case ${COMP_WORDS[0]} in tunes) _tunes ;; *) _tunes_book ;; esac
+                printf "%s," "${COMPREPLY[@]}"' "$root" "$typed" 2> "$work/err" < /dev/null)
+            [ "$found" = "$wanted" ] || wrong "'$typed' is completed by '$found'"
+        done << 'END'
+tunes ma|make,
+tunes make a|a b,
+tunes-book ex|export,
+tunes-book -f a|a b,
+tunes-book -f tunes.abcx fi|find,
+tunes-book find r|rhythm,
+tunes-book --json find --w|--within,
+tunes-book set f|francis,friday,
+tunes-book -f tunes.abcx put fr|francis,friday,
+tunes-book -f absent.abcx set f|,
+tunes-book print a|a b,
+tunes-book print a.pdf fri|friday,
+tunes-book add --s|--split,
+tunes-book add --n|--new,
+tunes-book add a|a b,
+tunes-book show a|,
+END
+        end
+    else
+        skip completion bash
+    fi
+    if command -v zsh > /dev/null; then
+        begin 'completion of zsh'
+        zsh -n "$root/completions/_tunes" 2> "$work/err" || wrong "$(head -n 1 "$work/err")"
+        end
+    fi
+
+    begin 'installing and releasing'
+    # A copy of what is installed, with the program at hand in the place of the one that is built.
+    mkdir -p top/crates/tunes/out top/examples
+    for name in tunes tunes-book install release docs completions LICENSE CHANGELOG.md crates.txt \
+        HANDLES; do
+        cp -R "$root/$name" top
+    done
+    cp "$book" top/examples
+    cp "$program" top/crates/tunes/out/tunes
+    DESTDIR=$PWD top/install /to > "$work/out" 2> "$work/err"
+    status=$?
+    words='install'
+    done_with ''
+    (cd to && find . -type f | LC_ALL=C sort) > found
+    printf './%s\n' bin/tunes bin/tunes-book share/bash-completion/completions/tunes \
+        share/bash-completion/completions/tunes-book share/doc/tunes/ABC-PROFILE.md \
+        share/doc/tunes/CHANGELOG.md share/doc/tunes/FILE-FORMAT.md share/doc/tunes/GLOSSARY.md \
+        share/doc/tunes/LICENSE share/doc/tunes/SCRIPTS.md share/doc/tunes/USING.md \
+        share/doc/tunes/session.abc share/man/man1/tunes-book.1 share/man/man1/tunes.1 \
+        share/zsh/site-functions/_tunes > wanted
+    same found wanted
+    unset TUNES
+    to/bin/tunes-book -f a.abcx new && to/bin/tunes-book -f a.abcx add to/share/doc/tunes \
+        > "$work/out" 2> "$work/err"
+    status=$?
+    words='add, of what is installed'
+    done_with 'to/share/doc/tunes/session.abc: tunes 1 to 15'
+    ln -s to/bin/tunes-book book
+    ./book -f a.abcx check > "$work/out" 2> "$work/err"
+    status=$?
+    words='check, by a link'
+    done_with 'layout 1 tunes 15 sets 0'
+    mkdir one two
+    top/release one > "$work/out" 2> "$work/err"
+    status=$?
+    words='release'
+    ends_with 0
+    sleep 1
+    top/release two > "$work/out" 2>> "$work/err"
+    [ ! -s "$work/err" ] || wrong "a release complains: $(head -n 1 "$work/err")"
+    name=$(cd one && ls ./*.gz)
+    case $name in
+    "./tunes-$version-"*.tar.gz) ;;
+    *) wrong "the release is named $name" ;;
+    esac
+    same "one/$name" "two/$name"
+    (cd one && sha256sum -c ./*.sha256) > "$work/told" 2>&1 || wrong 'the sum is another'
+    gzip -dc "one/$name" | tar -tf - > found
+    grep -q '/share/man/man1/tunes-book\.1$' found || wrong 'the release has no pages'
+    gzip -dc "one/$name" | tar -xOf - "$(basename "$name" .tar.gz)/BUILT" > found
+    grep -q '^built on the C library: .*[0-9]' found || wrong 'it does not say how it was built'
+    end
+}
+
+"$program" make "$work/session.abcx" > "$work/told" || exit 1
+{ printf 'import %d\n' "$(($(wc -c < "$book")))"; cat "$book"; } |
+    "$program" run "$work/session.abcx" > "$work/told" || exit 1
+bash=$(command -v bash)
+busybox=$(command -v busybox)
+for shell in ${SHELLS:-sh bash busybox}; do
+    command -v "$shell" > /dev/null || { printf 'skipped %s: it is not here\n' "$shell"; continue; }
+    case $shell in
+    bash) shell='bash --posix' ;;
+    busybox) shell='busybox sh' ;;
+    esac
+    for part in ${PARTS:-words books sets edits undo copies devices programs tools}; do
+        "cases_of_$part"
+    done
+done
+shell='sh'
+cases_of_pages
+[ "$failures" -eq 0 ]
