@@ -549,6 +549,7 @@ end
 
 go_on 'a damaged archive'
 cp tunes.abcx whole
+echo export | ./tunes run tunes.abcx | sed 1d > "$work/all"
 page=$(page_of 'tune 7')
 printf '\0\0' | dd of=tunes.abcx bs=1 seek=$((16384 + 4096 * page + 4)) conv=notrunc 2> "$work/err"
 holds 'refused 41 Damaged'
@@ -559,7 +560,7 @@ same tunes.abcx "$work/damaged"
 same damaged.abcx "$work/damaged"
 [ "$(cat damage.txt)" = "0 bytes of page $page of tune 7 count" ] ||
     wrong "it tells of '$(head -n 1 damage.txt)'"
-awk 'BEGIN { RS = ""; ORS = "\n\n" } !/^X:7\n/' "$export" | sed '$d' > "$work/wanted"
+awk 'BEGIN { RS = ""; ORS = "\n\n" } !/^X:7\n/' "$work/all" | sed '$d' > "$work/wanted"
 same salvaged.abc "$work/wanted"
 grep -q '^tune 7 is left out$' left-out.txt || wrong 'tune 7 is not told to be left out'
 grep -q '^the set list friday has the tunes 3 1$' left-out.txt || wrong 'no set list is told'
@@ -569,7 +570,7 @@ says 'salvaged.abc: 14 of its 14 tunes are in tunes.abcx already'
 run_again damaged
 ends_with 0
 [ ! -s damage.txt ] && [ ! -s left-out.txt ] || wrong 'a whole archive is told to be damaged'
-same salvaged.abc "$export"
+same salvaged.abc "$work/all"
 rm damage* salvaged.abc left-out.txt
 end
 
