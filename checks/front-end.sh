@@ -720,12 +720,18 @@ ab'
     [ -s tune-4.abc ] || wrong 'the text is lost'
     # a program has the archive open when the editor is left
     if command -v flock > /dev/null; then
-        echo 'echo W:more >> "$1"; cp "$1" written; flock tunes.abcx sleep 2 & sleep 0.5' | editor
+        editor << 'END'
+echo W:more >> "$1"
+cp "$1" written
+flock tunes.abcx sh -c ': > locked; while [ ! -e over ]; do sleep 0.05; done' &
+while [ ! -e locked ]; do sleep 0.05; done
+END
         run edit 5
         refused 1 'another program has it open'
         grep -q 'your text is in tune-5.abc' "$work/err" || wrong 'it does not say where it is'
         same tune-5.abc written
-        sleep 2
+        : > over
+        flock tunes.abcx true
     fi
     end
 }
