@@ -117,8 +117,7 @@ fn small_order(one: &[u8], other: &[u8]) -> Ordering
 
 const BLOCK: usize = 128;
 
-// How many bytes two texts have alike at their fronts, in whole blocks. Most titles have no block.
-#[inline(always)]
+// How many bytes two texts have alike at their fronts, in whole blocks.
 fn alike_blocks(one: &[u8], other: &[u8]) -> usize
     ensures one { result ≤ length one.now }
     ensures other { result ≤ length other.now }
