@@ -163,7 +163,7 @@ impl<'a> BufRead for AskingReader<'a> {
         if self.flushes.flushed.get() < self.lines {
             self.flushes.asked_early.set(true);
         }
-        Ok(self.text.get(..1).unwrap_or(b""))
+        Ok(self.text.get(..1).unwrap_or(self.text))
     }
 
     fn consume(&mut self, amount: usize) {
