@@ -153,5 +153,5 @@ pub(crate) fn stop_between(
             other => return Ok(other),
         }
     }
-    Ok(enough(states.len() as u64))
+    Ok(Outcome::AsBeforeOrAfter)
 }
