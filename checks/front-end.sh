@@ -5,6 +5,15 @@
 # the pages, the completion, ./install and ./release. Prints a line for each case, and ends with
 # status 1 where one failed.
 # shellcheck disable=SC2015,SC2016,SC2028,SC2086 # words of a line are split; `$` is for others
+# A shell cannot take a signal that was ignored when it began: all begin again as they are by rights.
+if [ -z "${SIGNALS_ARE_TAKEN-}" ]; then
+    SIGNALS_ARE_TAKEN=yes
+    export SIGNALS_ARE_TAKEN
+    exec python3 -c 'import os, signal, sys
+for each in signal.SIGHUP, signal.SIGINT, signal.SIGTERM, signal.SIGPIPE:
+    signal.signal(each, signal.SIG_DFL)
+os.execvp("sh", ["sh", *sys.argv[1:]])' "$0" "$@"
+fi
 root=$(CDPATH='' cd -- "$(dirname -- "$0")/.." && pwd) || exit 1
 program=${TUNES:-$root/tunes}
 case $program in

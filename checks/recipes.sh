@@ -550,6 +550,7 @@ end
 go_on 'a damaged archive'
 cp tunes.abcx whole
 echo export | ./tunes run tunes.abcx | sed 1d > "$work/all"
+friday=$(echo 'set-show friday' | ./tunes run tunes.abcx | awk 'NR > 1 { printf " %s", $2 }')
 page=$(page_of 'tune 7')
 printf '\0\0' | dd of=tunes.abcx bs=1 seek=$((16384 + 4096 * page + 4)) conv=notrunc 2> "$work/err"
 holds 'refused 41 Damaged'
@@ -563,7 +564,7 @@ same damaged.abcx "$work/damaged"
 awk 'BEGIN { RS = ""; ORS = "\n\n" } !/^X:7\n/' "$work/all" | sed '$d' > "$work/wanted"
 same salvaged.abc "$work/wanted"
 grep -q '^tune 7 is left out$' left-out.txt || wrong 'tune 7 is not told to be left out'
-grep -q '^the set list friday has the tunes 3 1$' left-out.txt || wrong 'no set list is told'
+grep -q "^the set list friday has the tunes$friday\$" left-out.txt || wrong 'no set list is told'
 mv whole tunes.abcx
 sh examples/add.sh tunes.abcx salvaged.abc > "$work/out"
 says 'salvaged.abc: 14 of its 14 tunes are in tunes.abcx already'

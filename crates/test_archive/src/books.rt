@@ -7,6 +7,7 @@
 //     text PLACE           the kept text at a place, from 1
 //     copy PLACE           a copy of it
 //     write NUMBER..       the book of the kept texts, with these numbers
+//     write-friday         the book of the kept texts as those of the set list `friday`
 //     bytes TEXT           a copy of the bytes
 //     stored LONGEST LETTERS TEXT
 //                          `tune` where so many letters A with this text behind them are the text
@@ -19,7 +20,7 @@ use crate::cases::Bench;
 use abc_fields::{BookFault, ByteText, Lines, TuneText, judge_book, split_book};
 use std::alloc::Global;
 use std::io;
-use tune_books::write_book;
+use tune_books::{write_book, write_set};
 
 // The greatest length of a tune's text that may be asked for.
 const LONGEST: usize = 64_000;
@@ -46,6 +47,7 @@ impl Bench for Books {
             "split" | "judge" => self.take_book(name, given, answer),
             "text" | "copy" => self.show_text(name, given, answer),
             "write" => self.write(given, answer),
+            "write-friday" => self.write_friday(answer),
             "bytes" => copy_bytes(self.alloc, given, answer),
             "stored" => show_stored(self.alloc, given, answer),
             _ => Err(no_data()),
@@ -104,6 +106,12 @@ impl Books {
             return Err(no_data());
         }
         let book = write_book(self.alloc, numbers, texts)?;
+        answer.add(book.as_slice())
+    }
+
+    // The book of these texts as those of a set list.
+    fn write_friday(&self, answer: &mut Answer) -> io::Result<()> {
+        let book = write_set(self.alloc, b"friday", self.tunes.as_slice())?;
         answer.add(book.as_slice())
     }
 }

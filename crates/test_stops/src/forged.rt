@@ -90,13 +90,11 @@ fn made_file(alloc: Global) -> io::Result<Vec<u8>> {
 // it, which stay as they are.
 fn is_made_once(alloc: Global, made: &[u8]) -> io::Result<bool> {
     for file in [made, part(made, 0, 1)] {
-        match Archive::make(alloc, MemoryDisk::from_bytes(alloc, file)?) {
-            Err(refused) if refused.why == OpenFault::NotEmpty => {
-                if refused.disk.bytes() != file {
-                    return Ok(false);
-                }
-            }
-            _ => return Ok(false),
+        let Err(refused) = Archive::make(alloc, MemoryDisk::from_bytes(alloc, file)?) else {
+            return Ok(false);
+        };
+        if refused.why != OpenFault::NotEmpty || refused.disk.bytes() != file {
+            return Ok(false);
         }
     }
     Ok(made.len() == 20_480)
@@ -170,10 +168,13 @@ fn is_cut_refused(alloc: Global, file: &[u8]) -> io::Result<bool> {
         } else {
             OpenFault::Damaged
         };
-        match Archive::open(alloc, disk) {
-            Err(refused) if refused.why == wanted => disk = refused.disk,
-            _ => return Ok(false),
+        let Err(refused) = Archive::open(alloc, disk) else {
+            return Ok(false);
+        };
+        if refused.why != wanted {
+            return Ok(false);
         }
+        disk = refused.disk;
         let at = u32::try_from(length).map_err(|_| bad_line())?;
         write_at(&mut disk, at, part(file, length, 1))?;
     }
