@@ -5,7 +5,7 @@
 # the pages, the completion, ./install and ./release. Prints a line for each case, and ends with
 # status 1 where one failed.
 # shellcheck disable=SC2015,SC2016,SC2028,SC2086 # words of a line are split; `$` is for others
-# A shell cannot take a signal that was ignored when it began: all begin again as they are by rights.
+# A shell cannot take a signal that was ignored when it began: here each is as at the start.
 if [ -z "${SIGNALS_ARE_TAKEN-}" ]; then
     SIGNALS_ARE_TAKEN=yes
     export SIGNALS_ARE_TAKEN
