@@ -31,8 +31,12 @@ PROGRAM = os.path.abspath(os.environ.get('TEST_MEMORY') or BUILT)
 # Statuses of the program: nothing was refused; not judged; refused, and all as it has to be.
 NONE, UNJUDGED, TOLD = 0, 1, 2
 MARK = b'--\n'
-# These take no memory in an archive in memory, and are never refused it there.
-WITHOUT_MEMORY = {b'delete', b'renumber', b'set-cut', b'set-drop'}
+# These take no memory in an archive in memory, and are never refused it there; but the name of a
+# set list is a text, which is read before.
+WITHOUT_MEMORY = {b'delete', b'renumber'}
+NAME_ALONE = {b'set-cut', b'set-drop'}
+# In these scripts no set list is there any more when they are asked for.
+NO_ROWS = b'sets\n'
 # It is refused before a tune is read, so its text alone takes memory.
 NO_TUNE = b'import 8\nno tune\n'
 LEAVES = [b'import %d\n%b' % (len(FULL_LEAF), FULL_LEAF),
@@ -99,15 +103,23 @@ def judge(words, pieces, runs):
         return
     for number, piece in enumerate(pieces, 1):
         refused = sum(answer == (21, number) for answer in answers)
-        may = words[0] != 'list' or piece.split()[0] not in WITHOUT_MEMORY
-        if (refused > 0) != may:
+        least, most = takings(words[0], piece)
+        if not least <= refused <= most:
             yield f'piece {number} was refused memory {refused} times'
-        if piece == NO_TUNE and refused != 1:
-            yield f'a text alone was refused memory {refused} times'
     if words[0] == 'file' and not any(number == 22 for number, _ in answers):
         yield 'the disk was never refused memory'
     if words[0] == 'list' and any(number == 22 for number, _ in answers):
         yield 'an archive in memory answers 22'
+
+
+def takings(store, piece):
+    """How often a piece may be refused memory, at least and at most."""
+    word = piece.split()[0]
+    if piece == NO_ROWS or (store == 'list' and word in WITHOUT_MEMORY):
+        return 0, 0
+    if piece == NO_TUNE or (store == 'list' and word in NAME_ALONE):
+        return 1, 1
+    return 1, MOST_CALLS ** 2
 
 
 def stops_in_commits(folder):
