@@ -1,9 +1,10 @@
 #!/usr/bin/env bash
 # Usage: bench/titles.sh [EXECUTABLE]
 # Puts 20,000 titles in the order of an index, by the program `bench_titles`. A line is a text of
-# titles, and what one pass takes: the seconds of a run with a pass less those of a run without, and
-# in the same way the instructions, in millions, where valgrind is there (with HOSTILE=yes for the
-# long titles too, which takes minutes).
+# titles, whether rows of them hold what an index shows (`shown`, as those of the command `titles`)
+# or not (`rows`), and what one pass takes: the seconds of a run with a pass less those of a run
+# without, and in the same way the memory, in MB, where there is a time(1), and the instructions, in
+# millions, where valgrind is there (with HOSTILE=yes for the long titles too, which takes minutes).
 set -u
 root=$(CDPATH='' cd -- "$(dirname -- "$0")/.." && pwd) || exit 1
 program=${1:-$root/crates/bench_titles/out/bench_titles}
@@ -46,34 +47,51 @@ long() {
     }'
 }
 
-# Leaves in `spent` the seconds of processor time of so many passes.
+# Leaves in `spent` the seconds of processor time of so many passes with rows of this kind.
 seconds() {
     local TIMEFORMAT=%3U
-    { time "$program" "$1" < "$work/titles" > "$work/count" 2> "$work/errors"; } 2> "$work/spent"
+    { time "$program" "$1" "$2" < "$work/titles" > "$work/count" 2> "$work/errors"; } \
+        2> "$work/spent"
     spent=$(cat "$work/spent")
 }
 
-# Leaves in `spent` the instructions of so many passes.
+# Leaves in `spent` the most memory that they take, in kilobytes.
+memory() {
+    command time -f %M -o "$work/spent" "$program" "$1" "$2" \
+        < "$work/titles" > "$work/count" 2> "$work/errors" || exit 1
+    spent=$(cat "$work/spent")
+}
+
+# Leaves in `spent` their instructions.
 instructions() {
-    valgrind --tool=callgrind --callgrind-out-file=/dev/null "$program" "$1" \
+    valgrind --tool=callgrind --callgrind-out-file=/dev/null "$program" "$1" "$2" \
         < "$work/titles" > "$work/count" 2> "$work/errors" || exit 1
     spent=$(awk '/Collected/ { print $4 }' "$work/errors")
 }
 
-measure() {
-    local name=$1 counts=$2 none
-    seconds 0
+# Prints in this form what a pass takes more than none, by one of the functions above.
+difference() {
+    local function=$1 kind=$2 form=$3 part=$4 none
+    "$function" "$kind" 0
     none=$spent
-    seconds 1
-    awk -v name="$name" -v one="$spent" -v none="$none" \
-        'BEGIN { printf "%-40s %8.3f s", name, one - none }'
-    if [ "$counts" = yes ] && command -v valgrind > "$work/count"; then
-        instructions 0
-        none=$spent
-        instructions 1
-        awk -v one="$spent" -v none="$none" 'BEGIN { printf " %10.1f", (one - none) / 1000000 }'
-    fi
-    echo
+    "$function" "$kind" 1
+    awk -v form="$form" -v one="$spent" -v none="$none" -v part="$part" \
+        'BEGIN { printf form, (one - none) / part }'
+}
+
+measure() {
+    local name=$1 counts=$2 kind
+    for kind in rows shown; do
+        printf '%-40s %-6s' "$name" "$kind"
+        difference seconds "$kind" ' %8.3f s' 1
+        if type -P time > "$work/count"; then
+            difference memory "$kind" ' %8.1f MB' 1000
+        fi
+        if [ "$counts" = yes ] && command -v valgrind > "$work/count"; then
+            difference instructions "$kind" ' %10.1f' 1000000
+        fi
+        echo
+    done
 }
 
 usual > "$work/titles" || exit 1

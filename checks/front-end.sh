@@ -952,6 +952,38 @@ cases_of_devices() {
     refused 1 'could not be written'
     has 'folder out.new tunes.abcx'
     end
+
+    begin 'links' session
+    mkdir away
+    run export all.abc
+    echo older > away/book
+    ln -s away/book out
+    run export out
+    done_with ''
+    [ -L out ] || wrong 'a link is written over'
+    same away/book all.abc
+    ln -s away/none dangling
+    run export dangling
+    done_with ''
+    same away/none all.abc
+    ln -s no/such/folder/book nowhere
+    run export nowhere
+    refused 1 'leads nowhere'
+    mv tunes.abcx away/archive
+    ln -s away/archive tunes.abcx
+    if command -v flock > /dev/null; then
+        run backup copy
+        done_with ''
+        cp away/archive before
+        run delete 1
+        cp away/archive later
+        run restore copy
+        ends_with 0
+        [ -L tunes.abcx ] || wrong 'the link to the archive is written over'
+        same away/archive before
+        same away/archive.1.old later
+    fi
+    end
 }
 
 cases_of_programs() {
@@ -1144,6 +1176,60 @@ commands() {
         LC_ALL=C sort -u
 }
 
+# Lines that are typed into a real shell at a terminal, and behind the bar what they are once all
+# that may come in the place of the last word stands there, but for a slash at the end.
+completion() {
+    begin "completion of $typed_in" session
+    by_script 'set-new friday' 'set-new francis' 'set-new x'
+    mkdir bin 'a b'
+    : > 'a b/c.abc'
+    : > all.abc
+    ln -s "$root/tunes-book" bin/tunes-book
+    cp tunes.abcx "my archive's"
+    cat > lines << 'END'
+tunes ma|tunes make
+tunes |tunes --help --version check list make run
+tunes make a|tunes make a\ b all.abc
+tunes check bi|tunes check bin
+tunes run "a b/|tunes run "a b/c.abc"
+tunes list |tunes list
+tunes-book ex|tunes-book export
+tunes-book --|tunes-book --csv --help --json --version
+tunes-book -f a|tunes-book -f a\ b all.abc
+tunes-book -f tunes.abcx fi|tunes-book -f tunes.abcx find
+tunes-book find r|tunes-book find rhythm
+tunes-book --json find --w|tunes-book --json find --within
+tunes-book find kesh |tunes-book find kesh
+tunes-book titles |tunes-book titles --csv --json
+tunes-book set f|tunes-book set francis friday
+tunes-book -f tunes.abcx put fr|tunes-book -f tunes.abcx put francis friday
+tunes-book -f my\ archive\'s cut |tunes-book -f my\ archive\'s cut francis friday x
+tunes-book -f "my archive's" move |tunes-book -f "my archive's" move francis friday x
+bin/tunes-book -f ./tunes.abcx drop x|bin/tunes-book -f ./tunes.abcx drop x
+tunes-book -f absent.abcx set f|tunes-book -f absent.abcx set f
+tunes-book put friday |tunes-book put friday
+tunes-book print bi|tunes-book print bin
+tunes-book print a.pdf fri|tunes-book print a.pdf friday
+tunes-book export a.abc |tunes-book export a.abc francis friday x
+tunes-book add --|tunes-book add --dry --new --split
+tunes-book import-check -|tunes-book import-check --split
+tunes-book add a|tunes-book add a\ b all.abc
+tunes-book add b.abc a\ b/|tunes-book add b.abc a\ b/c.abc
+tunes-book show a|tunes-book show a
+tunes-book hear |tunes-book hear
+tunes-book hear 3 bi|tunes-book hear 3 bin
+tunes-book new |tunes-book new
+tunes make a|tunes make a\ b all.abc
+END
+    cut -d '|' -f 1 lines > typed
+    cut -d '|' -f 2 lines > wanted
+    PATH=$PWD/bin:$PATH python3 "$root/checks/complete.py" "$typed_in" "$root/completions" \
+        < typed > "$work/out" 2> "$work/err" || wrong "$(head -n 1 "$work/err")"
+    sed 's|[ /]*$||' "$work/out" > found
+    diff wanted found > "$work/told" || wrong "$(sed -n '/^[<>]/p' "$work/told" | head -n 4)"
+    end
+}
+
 cases_of_pages() {
     begin 'pages and words'
     version=$(sed -n 's/^pub const VERSION: &str = "\(.*\)";$/\1/p' \
@@ -1172,48 +1258,13 @@ cases_of_pages() {
     done < "$work/commands"
     end
 
-    if command -v bash > /dev/null; then
-        begin 'completion' session
-        by_script 'set-new friday' 'set-new francis' 'set-new x'
-        mkdir bin 'a b'
-        : > 'a b/c.abc'
-        ln -s "$root/tunes-book" bin/tunes-book
-        while IFS='|' read -r typed wanted; do
-            # The words of the line are those between bars, of which the last is completed.
-            found=$(PATH=$PWD/bin:$PATH bash -c '. "$0/completions/tunes.bash"
-                IFS=" " read -r -a COMP_WORDS <<< "$1"
-                [ "${1% }" = "$1" ] || COMP_WORDS+=("")
-                COMP_CWORD=$((${#COMP_WORDS[@]} - 1))
-                case ${COMP_WORDS[0]} in tunes) _tunes ;; *) _tunes_book ;; esac
-                printf "%s," "${COMPREPLY[@]}"' "$root" "$typed" 2> "$work/err" < /dev/null)
-            [ "$found" = "$wanted" ] || wrong "'$typed' is completed by '$found'"
-        done << 'END'
-tunes ma|make,
-tunes make a|a b,
-tunes-book ex|export,
-tunes-book -f a|a b,
-tunes-book -f tunes.abcx fi|find,
-tunes-book find r|rhythm,
-tunes-book --json find --w|--within,
-tunes-book set f|francis,friday,
-tunes-book -f tunes.abcx put fr|francis,friday,
-tunes-book -f absent.abcx set f|,
-tunes-book print a|a b,
-tunes-book print a.pdf fri|friday,
-tunes-book add --s|--split,
-tunes-book add --n|--new,
-tunes-book add a|a b,
-tunes-book show a|,
-END
-        end
-    else
-        skip completion bash
-    fi
-    if command -v zsh > /dev/null; then
-        begin 'completion of zsh'
-        zsh -n "$root/completions/_tunes" 2> "$work/err" || wrong "$(head -n 1 "$work/err")"
-        end
-    fi
+    for typed_in in bash zsh; do
+        if command -v "$typed_in" > /dev/null; then
+            completion
+        else
+            skip "completion of $typed_in" "$typed_in"
+        fi
+    done
 
     begin 'installing and releasing'
     # A copy of what is installed, with the program at hand in the place of the one that is built.

@@ -9,8 +9,8 @@ ends with 0:
 - headings have an empty line above and below, and no figure of a page is left open;
 - links, with their anchors, lead somewhere, and paths that stand in code spans are there;
 - README.md has at most 120 lines, docs/ARCHITECTURE.md at most 100;
-- in docs/PROOFS.md each clause stands at the call that it names, and each definition in the file
-  that is linked; every name of code on the pages is in the code;
+- each clause stands at the call that it names, and each definition in the file that is linked, on
+  every page and in the texts of the figures; every name of code on the pages is in the code;
 - a block of code that says where it is from stands there, and one for the shell is a recipe.
 """
 import glob
@@ -24,7 +24,8 @@ SCRATCH = 'bench/work'
 WIDTH, PROOF_WIDTH = 100, 160
 MOST_LINES = {'README.md': 120, 'docs/ARCHITECTURE.md': 100}
 RECIPE_PAGES = ('README.md', 'docs/USING.md')
-NAME_PAGES = ('docs/PROOFS.md', 'docs/ARCHITECTURE.md', 'docs/GLOSSARY.md', 'docs/DECISIONS.md')
+NAME_PAGES = ('docs/PROOFS.md', 'docs/ARCHITECTURE.md', 'docs/GLOSSARY.md', 'docs/DECISIONS.md',
+              'docs/PIPE-TO-PLATTER.md', 'docs/RESULTS.md')
 PATH = re.compile(r'(crates|docs|bench|checks|examples|completions)/[\w./*-]*')
 FILE_NAME = re.compile(r'\w+\.(rt|antt)')
 NAME = re.compile(r'[A-Za-z]\w*(::[A-Za-z]\w*)*|[a-z0-9]+(-[a-z0-9]+)+')
@@ -288,7 +289,10 @@ def main():
         check_links(page, pages)
         check_spans(page, names, file_names)
         check_blocks(page)
-    check_promises(pages['docs/PROOFS.md'])
+        check_promises(page)
+    for path in paths:
+        if path.startswith('docs/figures/') and path.endswith('.txt'):
+            check_promises(Page(path))
     for line in faults:
         print(line)
     if faults:

@@ -3,6 +3,7 @@
 # Runs each recipe of README.md and docs/USING.md as it is printed there, over the program ./tunes,
 # or over the program that the variable TUNES names. Prints a line for each case, and ends with
 # status 1 where one failed. A recipe is a block of code below a line <!-- recipe: NAME -->.
+# shellcheck disable=SC2015,SC2059,SC2086 # words of a line are split; a form is an argument
 root=$(CDPATH='' cd -- "$(dirname -- "$0")/.." && pwd) || exit 1
 program=${TUNES:-$root/tunes}
 case $program in
@@ -530,7 +531,7 @@ mv "$work/copy.abcx" "$copy"
 end
 
 go_on 'restoring'
-head -c 20000 tunes.abcx > cut && mv cut tunes.abcx
+head -c 20000 tunes.abcx > front && mv front tunes.abcx
 holds 'refused 41 Damaged'
 run restore
 ends_with 0
@@ -566,8 +567,8 @@ same salvaged.abc "$work/wanted"
 grep -q '^tune 7 is left out$' left-out.txt || wrong 'tune 7 is not told to be left out'
 grep -q "^the set list friday has the tunes$friday\$" left-out.txt || wrong 'no set list is told'
 mv whole tunes.abcx
-sh examples/add.sh tunes.abcx salvaged.abc > "$work/out"
-says 'salvaged.abc: 14 of its 14 tunes are in tunes.abcx already'
+./tunes-book -f tunes.abcx add --new salvaged.abc > "$work/out"
+says 'salvaged.abc: all its tunes are there already, 14'
 run_again damaged
 ends_with 0
 [ ! -s damage.txt ] && [ ! -s left-out.txt ] || wrong 'a whole archive is told to be damaged'
@@ -608,41 +609,19 @@ cp "$book" mine.abc
 run ask
 ends_with 0
 says "made
-mine.abc: ok import 1 15
+mine.abc: tunes 1 to 15
 ok find 1
 1 Kesh Jig, The
 $(cat "$work/shown")"
 run_again ask
 ends_with 0
 says "refused 42 NotEmpty
-mine.abc: 15 of its 15 tunes are in tunes.abcx already
+mine.abc: all its tunes are there already, 15
 ok find 1
 1 Kesh Jig, The
 $(cat "$work/shown")"
 holds 'layout 1 tunes 15 sets 0'
 has 'mine.abc tunes.abcx'
-end
-
-go_on 'adding a book that has grown'
-printf '\nX:1\nT:The Night Before\nK:D\nABAd|\n' >> mine.abc
-run add-new
-ends_with 0
-says 'mine.abc: 15 of its 16 tunes are in tunes.abcx already
-mine.abc: ok import 16 16'
-run_again add-new
-says 'mine.abc: 16 of its 16 tunes are in tunes.abcx already'
-holds 'layout 1 tunes 16 sets 0'
-printf 'X:1\nT:Keyless\n' > bad.abc
-sh examples/add.sh tunes.abcx bad.abc absent.abc mine.abc > "$work/out" 2> "$work/err"
-status=$?
-ends_with 1
-says 'bad.abc: refused 2 BadTune 1 NoKey
-absent.abc: cannot be read
-mine.abc: 16 of its 16 tunes are in tunes.abcx already'
-holds 'layout 1 tunes 16 sets 0'
-rm bad.abc
-echo 'delete 16' | ./tunes run tunes.abcx > "$work/out"
-cp "$book" mine.abc
 end
 
 go_on 'replacing a tune by a script'

@@ -11,7 +11,10 @@ fails:
 - For each promise of docs/PROOFS.md it prints how many lines of definitions its clauses and the
   definitions to read need, imports, comments and empty lines apart. The column *lines to read* of
   that page has this number. In `N, M but for `a` and `b``, M is the number where a and b are taken
-  as words, and what these need is not read. `--write` writes the numbers into the page.
+  as words, and what these need is not read; in `N, M besides `a``, M is the number of those that a
+  does not need. The column *edits* has how many must-fail edits stand
+  in the crates whose calls carry the promise; where a call is one of a trait, the crates that meet
+  the trait are among them. `--write` writes the numbers into the page.
 
 `--ways CRATE` prints from where each definition of a crate is reached.
 """
@@ -30,7 +33,7 @@ WORD = re.compile(r"[^\s(){}\[\],;:`\"→λ]+")
 PROOFS = "docs/PROOFS.md"
 CALL = re.compile(r"\[`([\w:]+)`\]\(([^()\s]+\.rt)\)((?:,?(?: and)? `\w+`)*)")
 READ = re.compile(r"\[`(\w+)`\]\(([^()\s]+\.antt)\)")
-LINES = re.compile(r"([\d,]+\d|\d)(?:, ([\d,]+) but for ((?:(?:, | and )?`\w+`)+))?")
+LINES = re.compile(r"([\d,]+\d|\d)(?:, ([\d,]+) (but for|besides) ((?:(?:, | and )?`\w+`)+))?")
 
 
 def imports(text):
@@ -77,6 +80,7 @@ def modules():
 
 
 MODULES = modules()
+SOURCES = glob.glob("crates/*/src/**/*.rt", recursive=True)
 
 
 def defined_at(module, name):
@@ -113,9 +117,10 @@ class Reached:
         names = {own: (module, own) for own in MODULES[module].definitions}
         self.by_text(MODULES[module].definitions[name], {**names, **MODULES[module].imports}, name)
 
-    def lines(self):
-        """How many lines the definitions have."""
-        texts = (MODULES[module].definitions[name] for module, name in self.ways)
+    def lines(self, others=()):
+        """How many lines the definitions have that are none of the others."""
+        ways = (way for way in self.ways if way not in others)
+        texts = (MODULES[module].definitions[name] for module, name in ways)
         return sum(bool(line.strip()) for text in texts for line in text.split("\n"))
 
 
@@ -145,7 +150,7 @@ def read_source(path):
 def missed_files():
     """Prints each file directly under specs/ that no exported clause reaches, and counts them."""
     reached = Reached()
-    for path in glob.glob("crates/*/src/**/*.rt", recursive=True):
+    for path in SOURCES:
         source = read_source(path)
         for part in exported_parts(source):
             reached.by_text(part, imports(source), path)
@@ -187,8 +192,14 @@ def clauses(source, call, names):
                 yield braced(contract, clause.end())
 
 
-def lines_to_read(row, words):
-    """How many lines of definitions the promise of a row of the table needs."""
+def module_at(link):
+    """The module that a link of the page leads to."""
+    path = os.path.normpath(os.path.join("docs", link))
+    return next(at for at, module in MODULES.items() if module.path == path)
+
+
+def needed(row, words=()):
+    """The definitions that the promise of a row of the table needs."""
     reached = Reached(words)
     _, _, carried, read = row[:4]
     for call, link, named in CALL.findall(carried):
@@ -196,51 +207,83 @@ def lines_to_read(row, words):
         for clause in clauses(source, call, re.findall(r"`(\w+)`", named)):
             reached.by_text(clause, imports(source), call)
     for name, link in READ.findall(read):
+        reached.by_name((module_at(link), name), PROOFS)
+    return reached
+
+
+def needed_by(words):
+    """The definitions that those need which the page links under these names."""
+    reached = Reached()
+    for name, link in READ.findall(open(PROOFS, encoding="utf-8").read()):
+        if name in words:
+            reached.by_name((module_at(link), name), PROOFS)
+    return reached
+
+
+def edits_of(row):
+    """How many must-fail edits the crates have whose calls carry the promise of a row."""
+    if row[0] == "all":
+        return len(glob.glob("crates/*/must-fail/*.edit"))
+    crates = set()
+    for call, link, _ in CALL.findall(row[2]):
         path = os.path.normpath(os.path.join("docs", link))
-        module = next(at for at, module in MODULES.items() if module.path == path)
-        reached.by_name((module, name), PROOFS)
-    return reached.lines()
+        crates.add(path.split("/")[1])
+        owner = call.rpartition("::")[0]
+        if owner and re.search(r"\bpub trait " + owner + r"\b", read_source(path)):
+            meets = re.compile(r"^impl\b.*\b" + owner + r" for ", re.M)
+            crates.update(other.split("/")[1] for other in SOURCES
+                          if meets.search(read_source(other)))
+    return sum(len(glob.glob(f"crates/{crate}/must-fail/*.edit")) for crate in crates)
 
 
 def rows_of_promises():
-    """The rows of the table of promises that name a call, cell by cell."""
-    table = open(PROOFS, encoding="utf-8").read().split("\n## The promises\n")[1]
-    for line in table.split("\n## ")[0].split("\n"):
+    """The rows of the tables with a column of lines to read, cell by cell."""
+    counted = False
+    for line in open(PROOFS, encoding="utf-8").read().split("\n"):
         cells = line.strip("| ").split(" | ")
-        if line.startswith("|") and CALL.search(line):
+        if not line.startswith("|"):
+            counted = False
+        elif "lines to read" in cells:
+            counted = True
+        elif counted and (CALL.search(line) or cells[0] == "all"):
             yield cells
 
 
 def counts_of(row):
-    """What the column of a row is to have."""
+    """What the two counted columns of a row are to have."""
+    if row[0] == "all":
+        return [row[4], f"{edits_of(row)}"]
     found = LINES.fullmatch(row[4])
-    words = re.findall(r"`(\w+)`", found[3] or "") if found else []
-    counts = f"{lines_to_read(row, ()):,}"
-    if words:
-        counts += f", {lines_to_read(row, words):,} but for {found[3]}"
-    return counts
+    words = re.findall(r"`(\w+)`", found[4] or "") if found else []
+    counts = f"{needed(row).lines():,}"
+    if words and found[3] == "besides":
+        counts += f", {needed(row).lines(needed_by(words).ways):,} besides {found[4]}"
+    elif words:
+        counts += f", {needed(row, words).lines():,} but for {found[4]}"
+    return [counts, f"{edits_of(row)}"]
 
 
 def wrong_counts():
-    """Prints the lines of definitions that each promise needs, and counts what the page has wrong.
+    """Prints the lines of definitions that each promise needs, and its edits, and counts what the
+    page has wrong.
     """
     wrong = 0
     for row in rows_of_promises():
         title = re.sub(r"\[(\w+)\]\(.*?\)", r"\1", row[0])
         counts = counts_of(row)
-        print(f"promise {title}: {counts} lines of definitions")
-        if row[4] == counts:
+        print(f"promise {title}: {counts[0]} lines of definitions, {counts[1]} edits")
+        if row[4:6] == counts:
             continue
         if "--write" in sys.argv:
-            write_row(row, row[:4] + [counts] + row[5:])
+            write_row(row, row[:4] + counts + row[6:])
         else:
-            print(f"{PROOFS}: promise {title} has '{row[4]}'")
+            print(f"{PROOFS}: promise {title} has '{row[4]}' and '{row[5]}'")
             wrong += 1
     return wrong
 
 
 def write_row(old, new):
-    """Puts a row of the table in the place of another."""
+    """Puts a row of a table in the place of another."""
     page = open(PROOFS, encoding="utf-8").read()
     page = page.replace(f"| {' | '.join(old)} |", f"| {' | '.join(new)} |")
     open(PROOFS, "w", encoding="utf-8").write(page)

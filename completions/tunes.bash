@@ -3,11 +3,10 @@
 _tunes() {
     local word=${COMP_WORDS[COMP_CWORD]}
     COMPREPLY=()
-    if [ "$COMP_CWORD" -eq 1 ]; then
-        mapfile -t COMPREPLY < <(compgen -W 'list make run check --help --version' -- "$word")
-    elif [ "$COMP_CWORD" -eq 2 ] && [ "${COMP_WORDS[1]}" != list ]; then
-        _tunes_files "$word"
-    fi
+    case $COMP_CWORD.${COMP_WORDS[1]} in
+    1.*) mapfile -t COMPREPLY < <(compgen -W 'list make run check --help --version' -- "$word") ;;
+    2.make | 2.run | 2.check) _tunes_files "$word" ;;
+    esac
 }
 
 _tunes_files() {
@@ -18,11 +17,18 @@ _tunes_files() {
 # The words of the command are counted from the one behind the options. Names of set lists are asked
 # for, which opens the archive.
 _tunes_book() {
-    local word=${COMP_WORDS[COMP_CWORD]} at=1 file=${TUNES_BOOK-} command kind names
+    local word=${COMP_WORDS[COMP_CWORD]} at=1 file=${TUNES_BOOK-} command names=''
     COMPREPLY=()
     while [ "$at" -lt "$COMP_CWORD" ]; do
         case ${COMP_WORDS[at]} in
-        -f) file=${COMP_WORDS[at + 1]-} at=$((at + 2)) ;;
+        -f)
+            # The word is as it was typed.
+            file=${COMP_WORDS[at + 1]-} at=$((at + 2))
+            case $file in
+            \"*\" | \'*\') file=${file:1:${#file}-2} ;;
+            \~/*) file=$HOME${file:1} ;;
+            esac
+            file=${file//\\/} ;;
         --json | --csv) at=$((at + 1)) ;;
         *) break ;;
         esac
@@ -32,22 +38,19 @@ _tunes_book() {
         _tunes_files "$word"
         return
     fi
-    kind=$((COMP_CWORD - at)).$command
-    case $kind in
+    case $((COMP_CWORD - at)).$command.$word in
     0.*) names='new add import-check find titles sets show edit delete undo set put cut drop move
         export print hear backup restore dump load check help -f --json --csv --help --version' ;;
-    1.find) names='title rhythm key notes --within --json --csv' ;;
-    1.set | 1.put | 1.cut | 1.move | 1.drop | 2.export | 2.print)
-        [ "${file:0:1}" != '~' ] || file=$HOME${file:1}
-        names=$(tunes-book -f "$file" sets 2> /dev/null | cut -d ' ' -f 1) ;;
-    1.add) case $word in -*) names='--new --split --dry' ;; esac ;;
-    1.show | 1.edit | 1.delete | 1.hear | *.find | *.put | *.cut | *.move) return ;;
+    1.find.*) names='title rhythm key notes --within --json --csv' ;;
+    1.set.* | 1.put.* | 1.cut.* | 1.move.* | 1.drop.* | 2.export.* | 2.print.*)
+        names=$("${COMP_WORDS[0]}" -f "$file" sets 2> /dev/null | cut -d ' ' -f 1) ;;
+    1.add.-*) names='--new --split --dry' ;;
+    1.import-check.-*) names='--split' ;;
+    1.titles.* | 1.sets.*) names='--json --csv' ;;
+    *.add.* | *.import-check.* | 1.export.* | 1.print.* | 1.backup.* | 1.restore.* | 1.dump.* | \
+        1.load.* | 2.hear.*) _tunes_files "$word"; return ;;
     esac
-    if [ -n "${names-}" ]; then
-        mapfile -t COMPREPLY < <(compgen -W "$names" -- "$word")
-    else
-        _tunes_files "$word"
-    fi
+    mapfile -t COMPREPLY < <(compgen -W "$names" -- "$word")
 }
 
 complete -F _tunes tunes

@@ -16,6 +16,10 @@ be read, the status is 1, and a line on standard error says why; it is 2 where t
 
 Nothing is written to the file: behind an open gate the pages of the log are read in the place of
 the old ones, and the gate stays open. No program can open the file meanwhile.
+
+It reads files of the versions 1 and 2. In version 2 the incipits are of twelve notes, so the keys
+of their index have 48 bytes, and a leaf of it has at most 78 entries; a text may have 64,000 bytes,
+and there may be 50,000 tunes and 4,000,000 pages. All else is as in version 1.
 """
 import fcntl
 import os
@@ -50,7 +54,8 @@ class Layout(NamedTuple):
 
 
 # By the version in the root.
-LAYOUTS = {1: Layout(1_000_000, 20_000, 16_000, 32, 32, 8)}
+LAYOUTS = {1: Layout(1_000_000, 20_000, 16_000, 32, 32, 8),
+           2: Layout(4_000_000, 50_000, 64_000, 32, 48, 12)}
 
 
 class Damaged(Exception):

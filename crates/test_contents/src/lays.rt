@@ -11,7 +11,7 @@ use tune_contents::{Contents, Room, lay};
 use tune_format::{Firsts, write_root};
 use tune_index::Index;
 use tune_pages::{Fault, Pages};
-use tune_search::{SearchFirsts, SearchIndexes};
+use tune_search::{IncipitNotes, SearchFirsts, SearchIndexes};
 use tune_sets::SetLists;
 use tune_store::{Change, Layout};
 
@@ -45,7 +45,7 @@ fn nothing(alloc: Global) -> Contents
         layout: Layout::One,
         rows: Vec::new(alloc),
         numbers: Index::new(alloc),
-        searches: SearchIndexes::new(alloc),
+        searches: SearchIndexes::new(alloc, IncipitNotes::Eight),
         sets: SetLists::new(alloc),
         firsts: firsts([0; 6]),
     }

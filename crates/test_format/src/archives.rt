@@ -51,7 +51,10 @@ fn put_part(alloc: Global, pages: &Pages<MemoryDisk>, work: &mut Work, line: &st
         return put_chain(pages, work, &unquoted(alloc, bytes).ok()?);
     }
     if let Some(entries) = line.strip_prefix("leaf ") {
-        return put_leaf(pages, work, &leaf_of(alloc, entries)?);
+        return put_leaf(pages, work, &leaf_of::<32>(alloc, entries)?);
+    }
+    if let Some(entries) = line.strip_prefix("wide ") {
+        return put_leaf(pages, work, &leaf_of::<48>(alloc, entries)?);
     }
     Some(())
 }
@@ -82,9 +85,9 @@ fn put_leaf(pages: &Pages<MemoryDisk>, work: &mut Work, bytes: &[u8]) -> Option<
     }
 }
 
-// The bytes of a leaf of these entries, each a key and a value: how many there are, and each of
-// them.
-fn leaf_of(alloc: Global, entries: &str) -> Option<Vec<u8>> {
+// The bytes of a leaf of these entries, each a key of so many bytes and a value: how many there
+// are, and each of them.
+fn leaf_of<const W: usize>(alloc: Global, entries: &str) -> Option<Vec<u8>> {
     let count = entries.split(", ").count();
     let mut bytes = Vec::new(alloc);
     bytes.push(0).ok()?;
@@ -93,7 +96,7 @@ fn leaf_of(alloc: Global, entries: &str) -> Option<Vec<u8>> {
         let (word, value) = entry.split_once(' ')?;
         let value: u32 = value.parse().ok()?;
         bytes
-            .extend_from_slice(key(&unquoted(alloc, word).ok()?).bytes())
+            .extend_from_slice(key::<W>(&unquoted(alloc, word).ok()?).bytes())
             .ok()?;
         bytes.extend_from_slice(&value.to_be_bytes()).ok()?;
     }
@@ -134,7 +137,7 @@ pub(crate) fn open_archive(
 }
 
 fn show_contents(contents: &Contents, answer: &mut String) -> Result<(), AllocError> {
-    answer.push_str("firsts ")?;
+    write!(answer, "layout {} firsts ", contents.layout.number())?;
     show_firsts(contents.firsts, answer)?;
     for row in &contents.rows {
         let (number, revision, first) = (row.number, row.revision, row.first);

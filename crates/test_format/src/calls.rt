@@ -13,7 +13,7 @@ use tune_store::Layout;
 /// A call.
 #[derive(Clone, Copy)]
 enum Call<'a> {
-    WriteRoot(Firsts),
+    WriteRoot(Layout, Firsts),
     ReadRoot(&'a str),
     KeyOfNumber(u32),
     NumberOfKey(&'a str),
@@ -26,7 +26,10 @@ impl<'a> Call<'a> {
     fn read(line: &'a str) -> Option<Call<'a>> {
         let (word, rest) = line.split_once(' ').unwrap_or((line, ""));
         match word {
-            "write-root" => Some(Call::WriteRoot(firsts(rest)?)),
+            "write-root" => {
+                let (number, rest) = rest.split_once(' ')?;
+                Some(Call::WriteRoot(layout(number)?, firsts(rest)?))
+            }
             "read-root" => Some(Call::ReadRoot(rest)),
             "key-of-number" => Some(Call::KeyOfNumber(rest.parse().ok()?)),
             "number-of-key" => Some(Call::NumberOfKey(rest)),
@@ -37,6 +40,15 @@ impl<'a> Call<'a> {
             "read-text" => Some(Call::ReadText(rest)),
             _ => None,
         }
+    }
+}
+
+// The layout of a number.
+fn layout(number: &str) -> Option<Layout> {
+    match number {
+        "1" => Some(Layout::One),
+        "2" => Some(Layout::Two),
+        _ => None,
     }
 }
 
@@ -61,9 +73,12 @@ pub(crate) fn make_call(alloc: Global, line: &str, answer: &mut String) -> Resul
         return answer.push_str("no call");
     };
     match call {
-        Call::WriteRoot(firsts) => show_root(&write_root(Layout::One, firsts), answer),
-        Call::ReadRoot(bytes) => match read_root(Layout::One, &page(&unquoted(alloc, bytes)?)) {
-            Some(firsts) => show_firsts(firsts, answer),
+        Call::WriteRoot(layout, firsts) => show_root(&write_root(layout, firsts), answer),
+        Call::ReadRoot(bytes) => match read_root(&page(&unquoted(alloc, bytes)?)) {
+            Some((layout, firsts)) => {
+                write!(answer, "{} ", layout.number())?;
+                show_firsts(firsts, answer)
+            }
             None => answer.push_str("none"),
         },
         Call::KeyOfNumber(number) => quote(key_of_number(number).bytes(), answer),
@@ -89,8 +104,8 @@ pub(crate) fn page(bytes: &[u8]) -> PageImage {
 }
 
 // A key that begins with these bytes, and has zeros behind them.
-pub(crate) fn key(bytes: &[u8]) -> IndexKey<32> {
-    let mut key = [0; 32];
+pub(crate) fn key<const W: usize>(bytes: &[u8]) -> IndexKey<W> {
+    let mut key = [0; W];
     for (place, byte) in key.iter_mut().zip(bytes) {
         *place = *byte;
     }

@@ -3,17 +3,17 @@
 //! `data/bytes` has a line for each call of the format, `NAME: CALL = ANSWER`. Bytes stand between
 //! double quotes, with escapes as `bstr` has them; a call that finds none answers `none`:
 //!
-//! - `write-root NUMBERS TITLES RHYTHMS SCALES INCIPITS SETS`, what a page begins with, up to the
-//!   zeros; and `read-root BYTES`.
+//! - `write-root LAYOUT NUMBERS TITLES RHYTHMS SCALES INCIPITS SETS`, what a page begins with, up
+//!   to the zeros; and `read-root BYTES`.
 //! - `key-of-number NUMBER`, and `number-of-key BYTES`, behind which zeros stand.
 //! - `write-text REVISION BYTES`, and `read-text BYTES`.
 //!
 //! `data/archives` has cases, between which an empty line stands: `case NAME`; `root BYTES`, which
 //! the root begins with; a line `chain BYTES` for each chain, and a line `leaf KEY VALUE, ..` for
-//! each leaf, whose keys have zeros at their ends, put on the next pages from page 1 on; `claims
-//! ANSWER`, what is claimed of these pages; and `opens ANSWER`, what comes of opening an archive
-//! of them. A tune is shown by its number, its revision and its first page. Lines that begin with
-//! `#` are passed over, in both.
+//! each leaf of keys of 32 bytes, or `wide KEY VALUE, ..` of 48, which have zeros at their ends,
+//! put on the next pages from page 1 on; `claims ANSWER`, what is claimed of these pages; and
+//! `opens ANSWER`, what comes of opening an archive of them. A tune is shown by its number, its
+//! revision and its first page. Lines that begin with `#` are passed over, in both.
 //!
 //! The program prints a line for each case, and how many came out as written; where one did not, it
 //! ends with status 1.

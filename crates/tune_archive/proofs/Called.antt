@@ -90,7 +90,7 @@ module _ {D : Type 0} (honest : D → Type 0) (failures : D → ℕ) (state : D 
       record {
         pages = archive.pages.pages;
         stands = held.rest file may;
-        is = record { layout = held.first_layout; filed = held.holds.filed; within = held.within; few = held.few };
+        is = record { filed = held.holds.filed; within = held.within; few = held.few };
       })
 
   -- what an open archive knows in memory is that of its state

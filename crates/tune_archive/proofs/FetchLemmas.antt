@@ -17,10 +17,9 @@ use Rattle.tune_search.specs.Searches.{SearchParts, parts_of_search}
 use Rattle.tune_store.specs.Labels.{labels_of, LabelsRise}
 use Rattle.tune_store.specs.State.{State, IsState, IsTune, IsTunes}
 use Rattle.tune_store.specs.declared.catalog.Label.{Label}
-use Rattle.tune_store.specs.declared.layout.Layout.TheVariants.{One}
 use Rattle.tune_store.specs.declared.tune.Tune.{Tune}
 use Rattle.tune_format.specs.Filed.{row_of, rows_of, archive_parts, HoldTunes, HoldsTuneAt}
-use Rattle.tune_format.specs.Layout.{most_pages_of_archive}
+use Rattle.tune_format.specs.Layout.{most_pages_of}
 use Rattle.tune_format.specs.States.{state_in}
 use Rattle.tune_format.specs.declared.rows.Row.{Row}
 use Rattle.tune_format.proofs.ChangeLemmas.{row_at_place, has_text}
@@ -171,9 +170,9 @@ module _ {D : Type 0} (honest : D → Type 0) (failures : D → ℕ) (state : D 
         record {
           holds = subst (λ (s : Stand). HoldsContents s contents (state_on state new.disk)) (sym stand)
               (subst (λ (s : State). HoldsContents (stand_of old) contents s) (sym its) held.holds);
-          first_layout = subst (λ (s : State). s.layout ≡ One) (sym its) held.first_layout;
           within = subst IsState (sym its) held.within;
-          few = subst (λ (p : List (List ℕ)). length p ≤ most_pages_of_archive) (sym pages) held.few;
+          few = subst (λ (p : List (List ℕ)). length p ≤ most_pages_of (state_on state new.disk).layout) (sym pages)
+              (subst (λ (s : State). length old.pages ≤ most_pages_of s.layout) (sym its) held.few);
           rest = subst (λ (p : List (List ℕ)). LeavesOnly (state_at state new.disk).now (StandsFor p)) (sym pages)
               (subst (λ (d : DiskState). LeavesOnly d.now (StandsFor old.pages)) (sym (looks.same_state h)) held.rest);
         });

@@ -9,7 +9,7 @@ use Rattle.tune_parts.specs.Parts.{Part}
 use Rattle.tune_queries.specs.Queries.{finds}
 use Rattle.tune_queries.specs.declared.sought.Sought.{Sought}
 use Rattle.tune_search.specs.IndexParts.{parts_of_index}
-use Rattle.tune_search.specs.Searches.{HoldsSomeTexts, HoldsTexts, SearchParts, notes_of_incipit}
+use Rattle.tune_search.specs.Searches.{HoldsSomeTexts, HoldsTexts, SearchParts}
 use Rattle.tune_store.specs.Candidates.{ArePlacesOf, HoldsFound}
 use Rattle.tune_store.specs.Labels.{labels_of}
 use Rattle.tune_store.specs.Limits.{notes_of}
@@ -55,11 +55,11 @@ text_among tunes place d l =
     (place, omega (arith, l, length-map tunes text_of), get_or-map text_of tunes place d _ l)
 
 -- where the numbers are those of the tunes that a query finds, and more, the places are theirs, and more
-found_places : (tunes : List Tune) (labels : List Label) (numbers places : List ℕ) (sought : Sought) → labels ≡ labels_of tunes
+found_places : (notes : ℕ) (tunes : List Tune) (labels : List Label) (numbers places : List ℕ) (sought : Sought) → labels ≡ labels_of tunes
     → ArePlacesOf numbers labels places
-    → ((tune : ℕ × List ℕ) → Contains (numbered_texts tunes) tune → finds notes_of_incipit sought tune.1 ≡ true → Contains numbers tune.0)
-    → HoldsFound notes_of_incipit sought tunes places
-found_places tunes labels numbers places sought same are held = λ place d l found.
+    → ((tune : ℕ × List ℕ) → Contains (numbered_texts tunes) tune → finds notes sought tune.1 ≡ true → Contains numbers tune.0)
+    → HoldsFound notes sought tunes places
+found_places notes tunes labels numbers places sought same are held = λ place d l found.
     let tune = get_or tunes place d in
     let there = held (tune.number, tune.text) (text_among tunes place d l) found in
     let within : place < length labels = omega (arith, l, labels_long tunes labels (sym same)) in
@@ -73,14 +73,14 @@ pub found_in_archive : {D : Type 0} (honest : D → Type 0) (state : D → DiskS
     → IsShelf honest state archive.pages archive.contents archive.closed → archive.closed ≡ false → HonestAt honest archive.pages.disk
     → ((before after : List Part) (parts : SearchParts) (tunes : List (ℕ × List ℕ))
     → HoldsTexts (stand_of archive.pages) archive.contents.searches before after parts tunes → (tune : ℕ × List ℕ) → Contains tunes tune
-    → finds notes_of_incipit sought tune.1 ≡ true → Contains numbers tune.0)
+    → finds archive.contents.searches.notes sought tune.1 ≡ true → Contains numbers tune.0)
     → ArePlacesOf numbers (labels_in archive.contents.rows.items) places
     → HoldsFound (notes_of archive.contents.layout) sought (state_of state archive).tunes places
 found_in_archive honest state archive sought numbers places shelf is_open h held are =
     let holds = (shelf.holds h is_open).holds in
-    let first = holds.layout ∙ (shelf.holds h is_open).first_layout in
+    let same : archive.contents.searches.notes ≡ notes_of archive.contents.layout = holds.notes ∙ sym (ap notes_of holds.layout) in
     let now = state_of state archive in
-    subst (λ notes. HoldsFound notes sought now.tunes places) (sym (ap notes_of first))
-    (found_places now.tunes (labels_in archive.contents.rows.items) numbers places sought
+    subst (λ notes. HoldsFound notes sought now.tunes places) same
+    (found_places archive.contents.searches.notes now.tunes (labels_in archive.contents.rows.items) numbers places sought
     (labels_held (stand_of archive.pages) archive.contents now holds) are
     (held _ _ _ _ (texts_held (stand_of archive.pages) archive.contents now holds)))

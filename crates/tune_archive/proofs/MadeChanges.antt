@@ -8,13 +8,12 @@ use Rattle.tune_pages.specs.Kept.{Kept, HonestAt, state_at}
 use Rattle.tune_pages.specs.Stand.{Stand}
 use Rattle.tune_pages.specs.declared.fault.Fault.{Fault}
 use Rattle.tune_pages.specs.declared.fault.Fault.TheVariants.{FileFull, OutOfMemory, Device, Closed}
-use Rattle.tune_store.specs.declared.layout.Layout.TheVariants.{One}
 use Rattle.tune_store.specs.Plans.{changed}
 use Rattle.tune_store.specs.State.{State, IsState}
 use Rattle.tune_store.specs.Stops.{HasFailed}
 use Rattle.tune_store.specs.declared.command.Refusal.{Refusal}
 use Rattle.tune_store.specs.declared.plans.Change.{Change}
-use Rattle.tune_format.specs.Layout.{most_pages_of_archive}
+use Rattle.tune_format.specs.Layout.{most_pages_of}
 use Rattle.tune_format.specs.States.{IsStateOf, StandsForState, state_in}
 use Rattle.tune_format.proofs.StateLemmas.{file_read, either_state}
 use Rattle.tune_contents.specs.Answers.{IsLayFault}
@@ -51,16 +50,16 @@ module _ {D : Type 0} (honest : D → Type 0) (state : D → DiskState) (may_sta
 
   module _ (old : Kept D) (contents : Contents) (holds : HoldsState state old contents) where
     before_is : IsStateOf old.pages (state_on state old.disk)
-    before_is = record { layout = holds.first_layout; filed = holds.holds.filed; within = holds.within; few = holds.few }
+    before_is = record { filed = holds.holds.filed; within = holds.within; few = holds.few }
 
     rests : LeavesOnly (state_at state old.disk).now (λ file. StandsForState file (state_on state old.disk))
     rests file may = record { pages = old.pages; stands = holds.rest file may; is = before_is }
 
-    module _ (marks : length old.used ≡ most_pages_of_archive) where
+    module _ (marks : length old.used ≡ most_pages_of contents.layout) where
       module _ (change : Change) (within : IsState (changed change (state_on state old.disk))) where
         after_is : (next : Stand) (left : Contents) → HoldsContents next left (changed change (state_on state old.disk))
             → length next.pages ≤ length old.used → IsStateOf next.pages (changed change (state_on state old.disk))
-        after_is next left held few = record { layout = holds.first_layout; filed = held.filed; within = within; few = omega (arith, few, marks) }
+        after_is next left held few = record { filed = held.filed; within = within; few = omega (arith, few, marks, ap most_pages_of holds.holds.layout) }
 
         -- a stop at any moment leaves the state before or the one after
         passes_laid_states : (new : DiskState) → PassesLaid (state_at state old.disk) new (stand_of old) contents change
@@ -104,9 +103,9 @@ module _ {D : Type 0} (honest : D → Type 0) (state : D → DiskState) (may_sta
             let is = sym (made_state new left h laid) in
             record {
               holds = subst (λ (s : State). HoldsContents (stand_of new) left s) is (laid.lays before holds.within holds.holds);
-              first_layout = subst (λ (s : State). s.layout ≡ One) is holds.first_layout;
               within = subst (λ (s : State). IsState s) is within;
-              few = omega (arith, laid.few, marks);
+              few = subst (λ (s : State). length new.pages ≤ most_pages_of s.layout) is
+                  ((after_is (stand_of new) left (laid.lays before holds.within holds.holds) laid.few).few);
               rest = laid.rest;
             }
 
@@ -120,9 +119,8 @@ module _ {D : Type 0} (honest : D → Type 0) (state : D → DiskState) (may_sta
         record {
           holds = subst (λ (s : Stand). HoldsContents s contents (state_on state new.disk)) stood
               (subst (λ (s : State). HoldsContents (stand_of old) contents s) seen holds.holds);
-          first_layout = subst (λ (s : State). s.layout ≡ One) seen holds.first_layout;
           within = subst (λ (s : State). IsState s) seen holds.within;
-          few = omega (arith, holds.few, stays.same.count);
+          few = subst (λ (s : State). length new.pages ≤ most_pages_of s.layout) seen (omega (arith, holds.few, stays.same.count));
           rest = subst (λ (d : DiskState). LeavesOnly d.now (StandsFor new.pages)) disk
               (subst (λ pages. LeavesOnly (state_at state old.disk).now (StandsFor pages)) pages holds.rest);
         }
@@ -139,7 +137,6 @@ stays_within {D} honest state old whole same shelf was_open change limits h =
       state = state_of state old;
       holds = held.holds;
       within = held.within;
-      first_layout = held.first_layout;
       next = (subst (λ (s : Shelf D). HonestAt honest s.pages.disk → IsState (changed change (state_of state s))) (sym same) limits) h;
     }
 
@@ -164,11 +161,11 @@ module _ {D : Type 0} (honest : D → Type 0) (failures : D → ℕ) (state : D 
   -- what was laid
   module _ (left : Contents) (calls : CallsWhere honest failures (Ok left) old.pages.disk new.pages.disk)
       (laid : HonestAt honest new.pages.disk → HasLaid state old.pages new.pages old.contents left change) where
-    pub made_shelf : AreRows left.layout left.rows.items → length new.pages.used ≡ length old.pages.used → new.pages.closed ≡ false
-        → IsShelf honest state new.pages left old.closed
-    made_shelf rows marks opened = record {
+    pub made_shelf : AreRows left.layout left.rows.items → left.layout ≡ old.contents.layout → length new.pages.used ≡ length old.pages.used
+        → new.pages.closed ≡ false → IsShelf honest state new.pages left old.closed
+    made_shelf rows its marks opened = record {
       rows = rows;
-      marks = λ _. marks ∙ shelf.marks is_open;
+      marks = λ _. marks ∙ shelf.marks is_open ∙ ap most_pages_of (sym its);
       is_open = λ _. opened;
       holds = λ h _. (let was = calls.was_honest h in
           made_holds honest state may_stay old.pages old.contents (shelf.holds was is_open) (shelf.marks is_open) change (within was) new.pages left h

@@ -18,7 +18,7 @@ use Rattle.tune_journal.specs.declared.open_fault.OpenFault.TheVariants.{Device}
 use Rattle.tune_journal.specs.declared.open_fault.Refused.{Refused}
 use Rattle.tune_journal.proofs.Above.{stands_once}
 use Rattle.tune_pages.specs.Kept.{Kept, HonestAt, state_at}
-use Rattle.tune_pages.specs.Opened.{only_root, IsUnopenedFor, LeavesSame}
+use Rattle.tune_pages.specs.Opened.{only_root, IsUndoneFor, IsUnopenedFor, LeavesSame}
 use Rattle.tune_pages.specs.Stand.{Stand}
 use Rattle.tune_pages.proofs.Chains.{length-marked}
 use Rattle.tune_index.specs.Indexes.{Shape}
@@ -31,16 +31,17 @@ use Rattle.tune_search.specs.Searches.{HoldsKeys, SearchParts, SearchShape, key_
 use Rattle.tune_store.specs.State.{State, IsState, empty_state}
 use Rattle.tune_store.specs.declared.layout.Layout.TheVariants.{One}
 use Rattle.tune_format.specs.Filed.{archive_parts}
-use Rattle.tune_format.specs.Layout.{most_pages_of_archive}
+use Rattle.tune_format.specs.Layout.{most_pages_of}
 use Rattle.tune_format.specs.Searched.{IsSearchIndex}
 use Rattle.tune_format.specs.States.{IsStateOf, StandsForState}
 use Rattle.tune_format.specs.Written.{IsRoot, no_firsts}
 use Rattle.tune_format.specs.declared.root.Firsts.{Firsts}
-use Rattle.tune_format.proofs.StateLemmas.{file_read, empty_within, empty_state_of, none_among}
+use Rattle.tune_format.proofs.StateLemmas.{same_layout, file_read, empty_within, empty_state_of, none_among}
 use Rattle.tune_format.proofs.TextLemmas.{none_held}
 use Rattle.tune_contents.specs.Claimed.{AreRows, IsClaimed}
 use Rattle.tune_contents.specs.Holds.{HoldsContents, KeepsTexts}
 use Rattle.tune_contents.specs.declared.contents.Contents.{Contents}
+use Rattle.tune_contents.proofs.ClaimListLemmas.{state_some}
 use Rattle.tune_archive.specs.Inside.Holding.{stand_of, HoldsState, IsShelf}
 use Rattle.tune_archive.specs.Inside.Opening.{IsUnclaimedFor}
 use Rattle.tune_archive.specs.Opened.{disk_of, StandsForNoneOrEmpty, KeepsStates, IsUnopenedArchiveFor}
@@ -58,6 +59,7 @@ claims_hold pages claimed limit contents few is =
     let parts = archive_parts filed.numbers filed.searches filed.set_lists filed.texts in
     record {
       layout = refl;
+      notes = is.notes;
       filed = filed;
       holds = held_parts (record { pages = pages; used = used }) limit parts filed.parts few
           (open_parts pages claimed used limit parts filed.parts few is.marks refl);
@@ -88,11 +90,11 @@ none_filed image =
     let none = none_there image in
     record { stand = (none, (none, (none, (none, (none, (none, tt)))))); apart = (refl, tt) }
 
-none_in_index : HoldsIndex key_bytes no_index []
-none_in_index = record { is_chain = refl; leaves = tt; listed = refl; hold = refl; rising = tt }
+none_in_index : (width : ℕ) → HoldsIndex width no_index []
+none_in_index width = record { is_chain = refl; leaves = tt; listed = refl; hold = refl; rising = tt }
 
-none_kept : KeepsIndex key_bytes no_leaves no_index []
-none_kept = record {
+none_kept : (width : ℕ) → KeepsIndex width no_leaves no_index []
+none_kept width = record {
   is_chain = refl;
   leaves = tt;
   first = refl;
@@ -104,15 +106,15 @@ none_kept = record {
   fit = tt;
 }
 
-abbrev none_held_there : (keys_of : List ℕ → List ℕ) → HoldsKeys keys_of [] no_leaves no_index
-none_held_there keys_of = record {
+abbrev none_held_there : (width : ℕ) (keys_of : List ℕ → List ℕ) → HoldsKeys width keys_of [] no_leaves no_index
+none_held_there width keys_of = record {
   entries = [];
-  keeps = none_kept;
+  keeps = none_kept width;
   exact = record { held = λ tune key c. absurd (none_among tune c); only = λ entry c. absurd (none_among entry c) };
 }
 
-none_searched : (keys_of : List ℕ → List ℕ) → IsSearchIndex keys_of [] no_index
-none_searched keys_of = record { entries = []; holds = none_in_index; exact = (none_held_there keys_of).exact }
+none_searched : (width : ℕ) (keys_of : List ℕ → List ℕ) → IsSearchIndex width keys_of [] no_index
+none_searched width keys_of = record { entries = []; holds = none_in_index width; exact = (none_held_there width keys_of).exact }
 
 -- contents of memory in which nothing is yet
 pub record IsNothing (contents : Contents) : Type 0 where
@@ -120,18 +122,18 @@ pub record IsNothing (contents : Contents) : Type 0 where
   pub rows : contents.rows.items ≡ []
   pub sets : contents.sets ≡ []
   pub numbers : contents.numbers ≡ no_leaves
-  pub searches : contents.searches ≡ no_indexes
+  pub searches : contents.searches ≡ no_indexes 8
   pub firsts : contents.firsts ≡ no_firsts
 
-none_listed : AreListed no_indexes
+none_listed : AreListed (no_indexes 8)
 none_listed = record { titles = refl; rhythms = refl; scales = refl; incipits = refl }
 
-none_kept_texts : KeepsTexts no_indexes no_searches []
+none_kept_texts : KeepsTexts (no_indexes 8) no_searches []
 none_kept_texts = record {
-  titles = none_held_there _;
-  rhythms = none_held_there _;
-  scales = none_held_there _;
-  incipits = none_held_there _;
+  titles = none_held_there _ _;
+  rhythms = none_held_there _ _;
+  scales = none_held_there _ _;
+  incipits = none_held_there _ _;
 }
 
 -- a root that says where nothing begins
@@ -143,6 +145,7 @@ pub root_holds : (image : List ℕ) (limit : ℕ) (contents : Contents) → IsRo
     → HoldsContents (record { pages = image ∷ []; used = only_root limit }) contents empty_state
 root_holds image limit contents root some is = record {
   layout = is.layout;
+  notes = ap (λ (shape : SearchShape). shape.notes) is.searches;
   filed = record {
     numbers = no_index;
     searches = no_searches;
@@ -150,12 +153,12 @@ root_holds image limit contents root some is = record {
     texts = [];
     parts = none_filed image;
     root = root;
-    are_numbers = none_in_index;
+    are_numbers = none_in_index key_bytes;
     are_searches = record {
-      titles = none_searched _;
-      rhythms = none_searched _;
-      scales = none_searched _;
-      incipits = none_searched _;
+      titles = none_searched _ _;
+      rhythms = none_searched _ _;
+      scales = none_searched _ _;
+      incipits = none_searched _ _;
     };
     sets_are_chain = refl;
     are_sets = refl;
@@ -164,7 +167,7 @@ root_holds image limit contents root some is = record {
   holds = held_parts (record { pages = image ∷ []; used = only_root limit }) limit (archive_parts no_index no_searches no_part [])
       (none_filed image) some refl;
   listed = is.rows;
-  numbers = subst (λ (shape : Shape). KeepsIndex key_bytes shape no_index []) (sym is.numbers) none_kept;
+  numbers = subst (λ (shape : Shape). KeepsIndex key_bytes shape no_index []) (sym is.numbers) (none_kept key_bytes);
   numbers_listed = ap (λ (shape : Shape). shape.listed) is.numbers;
   searches = subst (λ (shape : SearchShape). KeepsTexts shape no_searches []) (sym is.searches) none_kept_texts;
   searches_listed = subst AreListed (sym is.searches) none_listed;
@@ -182,20 +185,18 @@ shown_stays honest state stays (Some disk) h = stays disk h
 -- the state that pages hold is the one that their disk is read as
 pub disk_holds : {D : Type 0} (state : D → DiskState) (kept : Kept D) (contents : Contents) (s : State)
     → MayLeave (state_at state kept.disk).now (state_at state kept.disk).seen → LeavesOnly (state_at state kept.disk).now (StandsFor kept.pages)
-    → length kept.pages ≤ most_pages_of_archive → s.layout ≡ One → IsState s → HoldsContents (stand_of kept) contents s
-    → HoldsState state kept contents
-disk_holds state kept contents s stays rest few first within holds =
+    → length kept.pages ≤ most_pages_of s.layout → IsState s → HoldsContents (stand_of kept) contents s → HoldsState state kept contents
+disk_holds state kept contents s stays rest few within holds =
     let file = (state_at state kept.disk).seen in
     let read : state_on state kept.disk ≡ s = file_read file s (record {
       pages = kept.pages;
       stands = rest file stays;
-      is = record { layout = first; filed = holds.filed; within = within; few = few };
+      is = record { filed = holds.filed; within = within; few = few };
     }) in
     record {
       holds = subst (λ (x : State). HoldsContents (stand_of kept) contents x) (sym read) holds;
-      first_layout = subst (λ (x : State). x.layout ≡ One) (sym read) first;
       within = subst IsState (sym read) within;
-      few = few;
+      few = subst (λ (x : State). length kept.pages ≤ most_pages_of x.layout) (sym read) few;
       rest = rest;
     }
 
@@ -228,7 +229,7 @@ making_keeps image old new root since = since_weaker (StandsForNoneOr image) Sta
   where
     one : (file : List ℕ) → StandsForNoneOr image file → StandsForNoneOrEmpty file
     one file (inl none) = inl none
-    one file (inr stands) = inr (record { pages = image ∷ []; stands = stands; is = empty_state_of image root })
+    one file (inr stands) = inr (record { pages = image ∷ []; stands = stands; is = empty_state_of One image root })
 
 -- REFUSALS
 -- why pages are not opened, of an archive
@@ -271,12 +272,37 @@ claims_refused NotEmpty pages old new shown is = is
 claims_refused OutOfMemory pages old new shown is = same_pages_left pages old new shown
 claims_refused Device pages old new shown is = tt
 
+-- pages of which there are too many for the layout that was claimed stand for no state
+undone : (why : OpenFault) (pages new : List (List ℕ)) (contents : Contents) (claimed : List Bool) → new ≡ pages
+    → (0 < length pages → IsClaimed pages contents claimed) → IsUndoneFor why (most_pages_of contents.layout) (length new) → IsUnclaimedFor why pages
+undone Damaged pages new contents claimed same claims less = λ s is.
+    let its = claims (state_some pages (s, is)) in
+    let layout : s.layout ≡ contents.layout =
+    same_layout s.layout contents.layout (sym is.filed.root.is_version ∙ its.filed.root.is_version) in
+    let few : length pages ≤ most_pages_of contents.layout = subst (λ l. length pages ≤ most_pages_of l) layout is.few in
+    omega (arith, few, less, ap (λ (l : List (List ℕ)). length l) same)
+undone OutOfMemory pages new contents claimed same claims less = tt
+undone NotArchive pages new contents claimed same claims less = absurd less
+undone NotEmpty pages new contents claimed same claims less = absurd less
+undone Device pages new contents claimed same claims less = absurd less
+
+pub unclaimed : {D : Type 0} (honest : D → Type 0) (disk : D) (pages new : List (List ℕ)) (contents : Contents) (claimed : List Bool)
+    (result : Result (Shelf D) (Refused D)) → disk_of result ≡ Some disk → (honest disk → new ≡ pages)
+    → (honest disk → 0 < length pages → IsClaimed pages contents claimed)
+    → IfErr result (λ refused. IsUndoneFor refused.why (most_pages_of contents.layout) (length new))
+    → IfErr result (λ refused. honest refused.disk → IsUnclaimedFor refused.why pages)
+unclaimed honest disk pages new contents claimed (Ok archive) same on claims less = tt
+unclaimed honest disk pages new contents claimed (Err refused) same on claims less = λ h.
+    let here : honest disk = subst (HonestAt honest) same h in
+    undone refused.why pages new contents claimed (on here) (claims here) less
+
 -- AN ARCHIVE OF PAGES
 -- of pages whose state was claimed
 pub opened_shelf : {D : Type 0} (honest : D → Type 0) (state : D → DiskState) → ((disk : D) → honest disk → MayLeave (state disk).now (state disk).seen)
     → (disk : D) (kept : Kept D) (pages : List (List ℕ)) (claimed : List Bool) (contents : Contents) → kept.disk ≡ Some disk → kept.pages ≡ pages
-    → kept.used ≡ claimed ++ replicate (most_pages_of_archive - length pages) false → kept.closed ≡ false → length kept.used ≡ most_pages_of_archive
-    → length pages ≤ most_pages_of_archive → 0 < length kept.pages → AreRows contents.layout contents.rows.items
+    → kept.used ≡ claimed ++ replicate (most_pages_of contents.layout - length pages) false → kept.closed ≡ false
+    → length kept.used ≡ most_pages_of contents.layout → length pages ≤ most_pages_of contents.layout → 0 < length kept.pages
+    → AreRows contents.layout contents.rows.items
     → (honest disk → LeavesOnly (state disk).now (StandsFor pages))
     → (honest disk → 0 < length pages → IsClaimed pages contents claimed)
     → IsShelf honest state kept contents false
@@ -288,11 +314,11 @@ opened_shelf honest state stays disk kept pages claimed contents same_disk same_
       let here = subst (HonestAt honest) same_disk h in
       let is = claims here (subst (λ (l : List (List ℕ)). 0 < length l) same_pages some) in
       let s : State = record { layout = contents.layout; tunes = is.tunes; sets = contents.sets } in
-      let holds = claims_hold pages claimed most_pages_of_archive contents few is in
+      let holds = claims_hold pages claimed (most_pages_of contents.layout) contents few is in
       disk_holds state kept contents s (shown_stays honest state stays kept.disk h)
       (subst (λ (l : List (List ℕ)). LeavesOnly (state_at state kept.disk).now (StandsFor l)) (sym same_pages)
       (subst (λ (d : Option _). LeavesOnly (state_at state d).now (StandsFor pages)) (sym same_disk) (rest here)))
-      (subst (λ (l : List (List ℕ)). length l ≤ most_pages_of_archive) (sym same_pages) few) is.first_layout is.within
+      (subst (λ (l : List (List ℕ)). length l ≤ most_pages_of contents.layout) (sym same_pages) few) is.within
       (subst (λ (st : Stand). HoldsContents st contents s)
       (λ i. record { pages = sym same_pages i; used = sym same_used i }) holds);
 }
@@ -301,7 +327,6 @@ opened_shelf honest state stays disk kept pages claimed contents same_disk same_
 state_there : {D : Type 0} (state : D → DiskState) (kept : Kept D) (contents : Contents) → HoldsState state kept contents
     → IsStateOf kept.pages (state_on state kept.disk)
 state_there state kept contents held = record {
-  layout = held.first_layout;
   filed = held.holds.filed;
   within = held.within;
   few = held.few;
@@ -339,22 +364,22 @@ opened_sound {D} honest state kept contents archive shelf same = record {
 -- of the root alone
 pub made_shelf : {D : Type 0} (honest : D → Type 0) (state : D → DiskState) → ((disk : D) → honest disk → MayLeave (state disk).now (state disk).seen)
     → (kept : Kept D) (image : List ℕ) (contents : Contents) → (HonestAt honest kept.disk → kept.pages ≡ image ∷ [])
-    → kept.used ≡ only_root most_pages_of_archive → kept.closed ≡ false → IsRoot One image no_firsts
+    → kept.used ≡ only_root 1000000 → kept.closed ≡ false → IsRoot One image no_firsts
     → (HonestAt honest kept.disk → LeavesOnly (state_at state kept.disk).now (StandsFor (image ∷ [])))
     → IsNothing contents → IsShelf honest state kept contents false
 made_shelf honest state stays kept image contents pages used is_open root rest is = record {
   rows = subst (AreRows contents.layout) (sym is.rows) (record { rise = tt; numbers = tt; few = omega arith });
   marks = λ e.
-      ap (λ (l : List Bool). length l) used ∙ length-marked true (0 ∷ []) (replicate most_pages_of_archive false)
-      ∙ length-replicate most_pages_of_archive false;
+      ap (λ (l : List Bool). length l) used ∙ length-marked true (0 ∷ []) (replicate 1000000 false) ∙ length-replicate 1000000 false
+      ∙ ap most_pages_of (sym is.layout);
   is_open = λ e. is_open;
   holds = λ h e.
       disk_holds state kept contents empty_state (shown_stays honest state stays kept.disk h)
       (subst (λ (l : List (List ℕ)). LeavesOnly (state_at state kept.disk).now (StandsFor l)) (sym (pages h)) (rest h))
-      (subst (λ (l : List (List ℕ)). length l ≤ most_pages_of_archive) (sym (pages h)) (omega arith)) refl empty_within
+      (subst (λ (l : List (List ℕ)). length l ≤ most_pages_of One) (sym (pages h)) (omega arith)) (empty_within One)
       (subst (λ (st : Stand). HoldsContents st contents empty_state)
       (λ i. record { pages = sym (pages h) i; used = sym used i })
-      (root_holds image most_pages_of_archive contents root (omega arith) is));
+      (root_holds image 1000000 contents root (omega arith) is));
 }
 
 -- A root alone is read as the state in which nothing is yet.
@@ -366,17 +391,17 @@ made_state honest state stays held image root h rest =
     file_read file empty_state (record {
       pages = image ∷ [];
       stands = rest file (shown_stays honest state stays held h);
-      is = empty_state_of image root;
+      is = empty_state_of One image root;
     })
 
 pub made_sound : {D : Type 0} (honest : D → Type 0) (state : D → DiskState) → ((disk : D) → honest disk → MayLeave (state disk).now (state disk).seen)
     → (archive : Shelf D) (image : List ℕ) → IsRoot One image no_firsts
     → (HonestAt honest archive.pages.disk → LeavesOnly (state_at state archive.pages.disk).now (StandsFor (image ∷ []))) → IsSound honest state archive
 made_sound honest state stays archive image root rest = record {
-  within = λ h. subst IsState (sym (made_state honest state stays archive.pages.disk image root h (rest h))) empty_within;
+  within = λ h. subst IsState (sym (made_state honest state stays archive.pages.disk image root h (rest h))) (empty_within One);
   rest = λ h e file left.
       subst (StandsForState file) (sym (made_state honest state stays archive.pages.disk image root h (rest h)))
-      (record { pages = image ∷ []; stands = rest h file left; is = empty_state_of image root });
+      (record { pages = image ∷ []; stands = rest h file left; is = empty_state_of One image root });
 }
 
 -- Pages that could not be claimed are those that the disk shows, so they tell of its file.

@@ -15,9 +15,6 @@ use tune_contents::{Contents, Room};
 use tune_disk::Disk;
 use tune_pages::Pages;
 
-/// How many pages an archive has at most (this archive's profile).
-pub(crate) const MOST_PAGES: u32 = 1_000_000;
-
 /// The text of the tune at a place.
 #[derive(Drop)]
 pub(crate) struct Fetched {

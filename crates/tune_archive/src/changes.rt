@@ -5,7 +5,7 @@ ghost use Rattle.tune_contents.specs.Claimed.{AreRows};
 ghost use Rattle.tune_contents.specs.Holds.{labels_in, HoldsSomeState};
 ghost use Rattle.tune_pages.specs.Kept.{HonestAt, state_at};
 ghost use Rattle.tune_pages.specs.declared.fault.Fault.TheVariants.{FileFull, Device};
-ghost use Rattle.tune_format.specs.Layout.{most_pages_of_archive};
+ghost use Rattle.tune_format.specs.Layout.{most_pages_of};
 ghost use Rattle.tune_store.specs.Plans.{CanChange, changed};
 ghost use Rattle.tune_store.specs.State.{IsState};
 ghost use Rattle.tune_archive.specs.Shelf.{state_of};
@@ -54,7 +54,7 @@ fn change_pages<D: Disk>(
     requires rows { AreRows contents.now.layout contents.now.rows.items }
     requires few { HonestAt D.honest pages.old.disk
         → length pages.old.pages ≤ length pages.old.used }
-    requires many { length pages.old.used ≡ most_pages_of_archive }
+    requires many { length pages.old.used ≡ most_pages_of contents.now.layout }
     requires within { HonestAt D.honest pages.old.disk
         → StaysWithin (stand_of pages.old) contents.now change }
     ensures calls { CallsWhere D.honest D.failures result pages.old.disk pages.new.disk }
@@ -64,6 +64,7 @@ fn change_pages<D: Disk>(
     ensures laid { IfOk result (λ left. HonestAt D.honest pages.new.disk
         → HasLaid D.state pages.old pages.new contents.now left change) }
     ensures rows { IfOk result (λ left. AreRows left.layout left.rows.items) }
+    ensures layout { IfOk result (λ left. left.layout ≡ contents.now.layout) }
     ensures marks { OnOk result (length pages.new.used ≡ length pages.old.used) }
     ensures stays { IfErr result (λ fault. fault ≢ Device
         → StaysKept D.honest D.state pages.old pages.new) }

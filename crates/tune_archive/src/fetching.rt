@@ -6,7 +6,6 @@ ghost use Rattle.tune_pages.specs.Reading.{LooksAt};
 ghost use Rattle.tune_parts.specs.Parts.{Part};
 ghost use Rattle.tune_queries.specs.Queries.{finds};
 ghost use Rattle.tune_search.specs.Searches.{HoldsSomeTexts, HoldsTexts, SearchParts};
-ghost use Rattle.tune_search.specs.Searches.{notes_of_incipit};
 ghost use Rattle.tune_contents.specs.Texts.{HoldsSomeText, HoldsText};
 ghost use Rattle.tune_archive.specs.Inside.Holding.{stand_of};
 
@@ -170,7 +169,7 @@ fn values_for<D: Disk>(
         → (before after : List Part) (parts : SearchParts) (tunes : List (ℕ × List ℕ))
         → HoldsTexts (stand_of pages.old) searches.now before after parts tunes
         → (tune : ℕ × List ℕ) → Contains tunes tune
-        → finds notes_of_incipit sought.now tune.1 ≡ true → Contains values.items tune.0) }
+        → finds searches.now.notes sought.now tune.1 ≡ true → Contains values.items tune.0) }
     ensures looks { LooksAt D.honest D.failures D.state result pages.old pages.new }
     ensures answer { AnswersRead result pages.old.closed pages.new.closed }
 {

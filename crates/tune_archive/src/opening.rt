@@ -9,7 +9,7 @@ ghost use Rattle.tune_pages.specs.Opened.{only_root, IsUnmadePagesFor, IsPagesMa
 ghost use Rattle.tune_pages.specs.Opened.{IsPagesOpenReason, IsUndoneFor};
 ghost use Rattle.tune_store.specs.State.{empty_state};
 ghost use Rattle.tune_store.specs.declared.layout.Layout.TheVariants.{One};
-ghost use Rattle.tune_format.specs.Layout.{most_pages_of_archive};
+ghost use Rattle.tune_format.specs.Layout.{most_pages_of};
 ghost use Rattle.tune_search.specs.Empty.{no_indexes, no_leaves};
 ghost use Rattle.tune_format.specs.States.{IsStateOf, StandsForState};
 ghost use Rattle.tune_format.specs.Written.{no_firsts};
@@ -19,15 +19,15 @@ ghost use Rattle.tune_archive.specs.Opened.{IsUnopenedArchiveFor};
 ghost use Rattle.tune_archive.specs.Inside.Opening.{reason_of, IsUnclaimedFor};
 ghost use Rattle.tune_archive.specs.Shelf.{state_of, IsSound};
 
-use crate::archive::{Archive, MOST_PAGES};
+use crate::archive::Archive;
 use std::alloc::Global;
 use tune_contents::{Contents, claim};
 use tune_disk::Disk;
-use tune_format::{Firsts, write_root};
+use tune_format::{Firsts, most_pages, write_root};
 use tune_index::Index;
 use tune_journal::{OpenFault, Refused};
 use tune_pages::{ClaimFault, Opening, Pages};
-use tune_search::{SearchFirsts, SearchIndexes};
+use tune_search::{IncipitNotes, SearchFirsts, SearchIndexes};
 use tune_sets::SetLists;
 use tune_store::Layout;
 
@@ -37,14 +37,14 @@ fn nothing(alloc: Global) -> Contents
     ensures rows { result.rows.items ≡ [] }
     ensures sets { result.sets ≡ [] }
     ensures numbers { result.numbers ≡ no_leaves }
-    ensures searches { result.searches ≡ no_indexes }
+    ensures searches { result.searches ≡ no_indexes 8 }
     ensures firsts { result.firsts ≡ no_firsts }
 {
     Contents {
         layout: Layout::One,
         rows: Vec::new(alloc),
         numbers: Index::new(alloc),
-        searches: SearchIndexes::new(alloc),
+        searches: SearchIndexes::new(alloc, IncipitNotes::Eight),
         sets: SetLists::new(alloc),
         firsts: no_firsts(),
     }
@@ -106,7 +106,8 @@ impl<D: Disk> Archive<D> {
             (λ refused. CountsFailureIf refused.why (D.failures disk) (D.failures refused.disk)) }
     {
         let root = write_root(Layout::One, no_firsts());
-        let pages = Pages::make(alloc, disk, &root, MOST_PAGES)?;
+        let limit = most_pages(Layout::One);
+        let pages = Pages::make(alloc, disk, &root, limit)?;
         Ok(Archive::over(alloc, pages, nothing(alloc)))
     }
 
@@ -161,13 +162,6 @@ impl<D: Disk> Archive<D> {
             (λ refused.
             CountsFailureIf refused.why (D.failures opening.disk) (D.failures refused.disk)) }
     {
-        // Nothing is read of a file that has more pages than an archive.
-        if opening.count() > MOST_PAGES {
-            return Err(Refused {
-                disk: opening.into_disk(),
-                why: OpenFault::Damaged,
-            });
-        }
         match claim(alloc, &mut opening) {
             Ok(contents) => Archive::with_claims(alloc, opening, contents),
             Err(fault) => Err(Refused {
@@ -193,11 +187,12 @@ impl<D: Disk> Archive<D> {
         ensures sound { IfOk result (λ archive. IsSound D.honest D.state archive) }
         ensures is_open { IfOk result (λ archive. archive.closed ≡ false) }
         ensures refused { IfErr result (λ refused.
-            IsUndoneFor refused.why most_pages_of_archive (length opening.pages)) }
+            IsUndoneFor refused.why (most_pages_of contents.layout) (length opening.pages)) }
     {
-        let pages = opening.done(MOST_PAGES)?;
+        let limit = most_pages(contents.layout);
+        let pages = opening.done(limit)?;
         // Its contract says that there is a mark for each page up to the limit.
-        let _limit = pages.limit();
+        let _marks = pages.limit();
         Ok(Archive::over(alloc, pages, contents))
     }
 }

@@ -4,7 +4,7 @@ use Rattle.index_keys.specs.Entries.{Entry}
 use Rattle.tune_index.specs.Indexes.{Shape}
 use Rattle.tune_index.specs.Listed.{IsStored, LoadsIndex}
 use Rattle.tune_parts.specs.Parts.{Part}
-use Rattle.tune_search.specs.Claiming.{HasClaimed, parts_loaded, search_loaded}
+use Rattle.tune_search.specs.Claiming.{HasClaimed, firsts_of, parts_loaded, search_loaded}
 use Rattle.tune_search.specs.Loaded.{AreStored, LoadsSearch}
 use Rattle.tune_search.specs.Searches.{SearchRuns, SearchShape, key_bytes}
 use Rattle.tune_search.specs.declared.loading.SearchFirsts.{SearchFirsts}
@@ -41,12 +41,13 @@ search_claimed most pages claimed now firsts shape runs front few has loads = re
     scales = loads.scales.listed;
     incipits = loads.incipits.listed;
   };
-  only = λ other others more are holds begin.
-      same_four most pages claimed now firsts shape runs loads other others front more few are has.marks holds begin;
+  only = λ other others more are notes holds begin.
+      same_four most pages claimed now firsts shape runs loads other others front more few are has.marks notes holds begin;
 }
 
-pub search_stored : (most : ℕ) (pages : List (List ℕ)) (claimed : List Bool) (firsts : SearchFirsts) (front : List Part) → HasClaimed pages claimed front
-    → IsSearchThere most pages front firsts → AreStored most pages claimed firsts
-search_stored most pages claimed firsts front has there =
-    subst (λ (f : SearchFirsts). AreStored most pages claimed f) there.are_first
-    (there_four most pages claimed there.parts there.runs front there.more there.are has.marks there.holds)
+pub search_stored : (notes most : ℕ) (pages : List (List ℕ)) (claimed : List Bool) (firsts : SearchFirsts) (front : List Part) → HasClaimed pages claimed front
+    → IsSearchThere notes most pages front firsts → AreStored notes most pages claimed firsts
+search_stored notes most pages claimed firsts front has there =
+    subst (λ (f : SearchFirsts). AreStored notes most pages claimed f) there.are_first
+    (subst (λ (n : ℕ). AreStored n most pages claimed (firsts_of there.parts)) there.same
+    (there_four most pages claimed there.parts there.runs front there.more there.are has.marks there.holds))

@@ -18,16 +18,16 @@ use Rattle.tune_search.specs.IndexParts.{IndexParts, parts_of_index}
 use Rattle.tune_search.specs.Searches.{SearchParts, SearchRuns, SearchShape, key_bytes, parts_of_search}
 use Rattle.tune_search.specs.declared.loading.SearchFirsts.{SearchFirsts}
 use Rattle.tune_search.proofs.FewEntries.{few_by_incipit, few_by_rhythm, few_by_scale, few_by_title}
-use Rattle.tune_store.specs.Limits.{layout_number, most_tunes}
+use Rattle.tune_store.specs.Limits.{layout_number, most_tunes, notes_of}
 use Rattle.tune_store.specs.State.{State}
 use Rattle.tune_store.specs.declared.layout.Layout.{Layout}
-use Rattle.tune_store.specs.declared.layout.Layout.TheVariants.{One}
 use Rattle.tune_store.specs.declared.tune.Tune.{Tune}
 use Rattle.tune_format.specs.Filed.{numbered_texts, rows_of}
 use Rattle.tune_format.specs.States.{IsStateOf}
 use Rattle.tune_format.specs.Layout.{version_offset}
 use Rattle.tune_format.specs.Written.{IsRoot, number_at, number_entries, row_entry}
 use Rattle.tune_format.specs.declared.root.Firsts.{Firsts}
+use Rattle.tune_format.proofs.StateLemmas.{same_layout}
 use Rattle.tune_format.proofs.TextLemmas.{rows_count}
 use Rattle.tune_contents.specs.Most.{most_sets_pages}
 use Rattle.tune_contents.specs.Inside.Claiming.{AreBlocks, ClaimsIndex, ClaimsLists, ClaimsPart, ClaimsSearch, IsIndexThere, IsPartThere, IsSearchThere}
@@ -48,43 +48,48 @@ fault_where OutOfMemory There none = tt
 fault_where Device There none = tt
 
 -- THE ROOT
-pub root_at : (layout : Layout) (image : List ℕ) (pages : List (List ℕ)) (firsts : Firsts) → layout ≡ One → image ≡ page_at pages 0
-    → IsRoot layout image firsts → IsRoot One (page_at pages 0) firsts
-root_at layout image pages firsts first is root =
-    subst (λ (l : List ℕ). IsRoot One l firsts) is (subst (λ l. IsRoot l image firsts) first root)
-
 -- a root of another version is that of no state
-pub root_none : (layout : Layout) (image : List ℕ) (pages : List (List ℕ)) → layout ≡ One → image ≡ page_at pages 0
-    → (number_at version_offset image ≡ layout_number layout → ⊥) → IsStateThere pages → ⊥
-root_none layout image pages first is none (state, its) =
-    none (ap (λ (l : List ℕ). number_at version_offset l) is ∙ its.filed.root.is_version ∙ ap layout_number (its.layout ∙ sym first))
+pub root_none : (image : List ℕ) (pages : List (List ℕ)) → image ≡ page_at pages 0
+    → ((layout : Layout) → number_at version_offset image ≡ layout_number layout → ⊥) → IsStateThere pages → ⊥
+root_none image pages is none (state, its) = none state.layout (ap (λ (l : List ℕ). number_at version_offset l) is ∙ its.filed.root.is_version)
+
+pub root_at : {layout : Layout} → (image : List ℕ) (pages : List (List ℕ)) (firsts : Firsts) → image ≡ page_at pages 0 → IsRoot layout image firsts
+    → IsRoot layout (page_at pages 0) firsts
+root_at {layout} image pages firsts is root = subst (λ (l : List ℕ). IsRoot layout l firsts) is root
+
+-- and each state that stands there is of the layout that the root says
+pub layout_there : {layout : Layout} → (pages : List (List ℕ)) (firsts : Firsts) → IsRoot layout (page_at pages 0) firsts → (state : State)
+    → IsStateOf pages state → state.layout ≡ layout
+layout_there {layout} pages firsts root state is = same_layout state.layout layout (sym is.filed.root.is_version ∙ root.is_version)
+
+most_there : {layout : Layout} → (pages : List (List ℕ)) (firsts : Firsts) (factor most : ℕ) → IsRoot layout (page_at pages 0) firsts
+    → factor * most_tunes layout ≤ most → (state : State) → IsStateOf pages state → factor * most_tunes state.layout ≤ most
+most_there pages firsts factor most root le state is =
+    subst (λ (l : Layout). factor * most_tunes l ≤ most) (sym (layout_there pages firsts root state is)) le
 
 -- HOW MANY ENTRIES
-tunes_few : (pages : List (List ℕ)) (state : State) → IsStateOf pages state → length state.tunes ≤ most_tunes One
-tunes_few pages state is = subst (λ layout. length state.tunes ≤ most_tunes layout) is.layout is.within.tunes.count
-
-numbers_few : (pages : List (List ℕ)) (state : State) (is : IsStateOf pages state) (most : ℕ) → most_tunes One ≤ most
+numbers_few : (pages : List (List ℕ)) (state : State) (is : IsStateOf pages state) (most : ℕ) → 1 * most_tunes state.layout ≤ most
     → HoldsAtMost key_bytes most is.filed.numbers (number_entries (rows_of state.tunes is.filed.texts))
 numbers_few pages state is most le =
     let rows = rows_of state.tunes is.filed.texts in
     let count = rows_count state.tunes is.filed.texts is.filed.are_tunes in
-    let few = tunes_few pages state is in
+    let few = is.within.tunes.count in
     record { holds = is.filed.are_numbers; few = omega (arith, count, few, le, length-map rows row_entry) }
 
 numbered_few : (tunes : List Tune) → length (numbered_texts tunes) ≡ length tunes
 numbered_few tunes = length-map tunes (λ (tune : Tune). (tune.number, tune.text))
 
-pub searches_few : (pages : List (List ℕ)) (state : State) (is : IsStateOf pages state) (most : ℕ) → 8 * most_tunes One ≤ most
+pub searches_few : (pages : List (List ℕ)) (state : State) (is : IsStateOf pages state) (most : ℕ) → 8 * most_tunes state.layout ≤ most
     → HoldEachAtMost most is.filed.searches (runs_filed is.filed.are_searches)
 searches_few pages state is most le =
     let tunes = numbered_texts state.tunes in
-    let few = tunes_few pages state is in
+    let few = is.within.tunes.count in
     let count = numbered_few state.tunes in
     let are = is.filed.are_searches in
     let titles = few_by_title tunes are.titles.entries are.titles.holds.rising are.titles.exact in
     let rhythms = few_by_rhythm tunes are.rhythms.entries are.rhythms.holds.rising are.rhythms.exact in
     let scales = few_by_scale tunes are.scales.entries are.scales.holds.rising are.scales.exact in
-    let incipits = few_by_incipit tunes are.incipits.entries are.incipits.holds.rising are.incipits.exact in
+    let incipits = few_by_incipit (notes_of state.layout) tunes are.incipits.entries are.incipits.holds.rising are.incipits.exact in
     record {
       titles = record { holds = are.titles.holds; few = omega (arith, titles, few, count, le) };
       rhythms = record { holds = are.rhythms.holds; few = omega (arith, rhythms, few, count, le) };
@@ -94,8 +99,8 @@ searches_few pages state is most le =
 
 -- WHAT A STATE HAS THERE
 -- where its search indexes begin
-searches_begin : (pages : List (List ℕ)) (state : State) (is : IsStateOf pages state) (firsts : Firsts) → IsRoot One (page_at pages 0) firsts
-    → loaded.firsts_of is.filed.searches ≡ firsts.searches
+searches_begin : {layout : Layout} → (pages : List (List ℕ)) (state : State) (is : IsStateOf pages state) (firsts : Firsts)
+    → IsRoot layout (page_at pages 0) firsts → loaded.firsts_of is.filed.searches ≡ firsts.searches
 searches_begin pages state is firsts root = λ i. record {
   titles = (sym is.filed.root.titles ∙ root.titles) i;
   rhythms = (sym is.filed.root.rhythms ∙ root.rhythms) i;
@@ -103,14 +108,14 @@ searches_begin pages state is firsts root = λ i. record {
   incipits = (sym is.filed.root.incipits ∙ root.incipits) i;
 }
 
-numbers_there : (pages : List (List ℕ)) (firsts : Firsts) (most : ℕ) → IsRoot One (page_at pages 0) firsts → most_tunes One ≤ most
+numbers_there : {layout : Layout} → (pages : List (List ℕ)) (firsts : Firsts) (most : ℕ) → IsRoot layout (page_at pages 0) firsts → 1 * most_tunes layout ≤ most
     → IsStateThere pages → IsIndexThere most pages [] firsts.numbers
 numbers_there pages firsts most root le (state, is) = record {
   parts = is.filed.numbers;
   entries = number_entries (rows_of state.tunes is.filed.texts);
   more = parts_of_search is.filed.searches ++ is.filed.set_lists ∷ is.filed.texts;
   are = is.filed.parts;
-  holds = numbers_few pages state is most le;
+  holds = numbers_few pages state is most (most_there pages firsts 1 most root le state is);
   is_first = sym is.filed.root.numbers ∙ root.numbers;
 }
 
@@ -120,15 +125,16 @@ behind_numbers : (pages : List (List ℕ)) (state : State) (is : IsStateOf pages
 behind_numbers pages state is numbers same =
     subst (λ n. AreParts pages (parts_of_index n ++ (parts_of_search is.filed.searches ++ is.filed.set_lists ∷ is.filed.texts))) same is.filed.parts
 
-searches_there : (pages : List (List ℕ)) (firsts : Firsts) (most : ℕ) (numbers : IndexParts) → IsRoot One (page_at pages 0) firsts
-    → 8 * most_tunes One ≤ most
-    → (there : IsStateThere pages) → there.1.filed.numbers ≡ numbers → IsSearchThere most pages (parts_of_index numbers) firsts.searches
+searches_there : {layout : Layout} → (pages : List (List ℕ)) (firsts : Firsts) (most : ℕ) (numbers : IndexParts) → IsRoot layout (page_at pages 0) firsts
+    → 8 * most_tunes layout ≤ most
+    → (there : IsStateThere pages) → there.1.filed.numbers ≡ numbers → IsSearchThere (notes_of layout) most pages (parts_of_index numbers) firsts.searches
 searches_there pages firsts most numbers root le (state, is) same = record {
   parts = is.filed.searches;
   runs = runs_filed is.filed.are_searches;
+  same = ap notes_of (layout_there pages firsts root state is);
   more = is.filed.set_lists ∷ is.filed.texts;
   are = behind_numbers pages state is numbers same;
-  holds = searches_few pages state is most le;
+  holds = searches_few pages state is most (most_there pages firsts 8 most root le state is);
   are_first = searches_begin pages state is firsts root;
 }
 
@@ -141,8 +147,8 @@ behind_searches pages state is numbers searches same also =
     (subst (λ s. AreParts pages (parts_of_index numbers ++ (parts_of_search s ++ is.filed.set_lists ∷ is.filed.texts))) also
     (behind_numbers pages state is numbers same))
 
-sets_there : (pages : List (List ℕ)) (firsts : Firsts) (numbers : IndexParts) (searches : SearchParts) → IsRoot One (page_at pages 0) firsts
-    → AreBlocks pages
+sets_there : {layout : Layout} → (pages : List (List ℕ)) (firsts : Firsts) (numbers : IndexParts) (searches : SearchParts)
+    → IsRoot layout (page_at pages 0) firsts → AreBlocks pages
     → (there : IsStateThere pages) → there.1.filed.numbers ≡ numbers → there.1.filed.searches ≡ searches
     → IsPartThere pages (parts_of_index numbers ++ parts_of_search searches) firsts.sets most_sets_pages
 sets_there pages firsts numbers searches root sized (state, is) same also =
@@ -160,27 +166,29 @@ sets_there pages firsts numbers searches root sized (state, is) same also =
 
 -- WHAT WAS CLAIMED
 -- what was claimed is what a state has
-same_numbers : (pages : List (List ℕ)) (now : List Bool) (firsts : Firsts) (most : ℕ) (shape : Shape) (entries : List Entry)
-    → IsRoot One (page_at pages 0) firsts
-    → most_tunes One ≤ most → (first : ClaimsIndex most pages [] now firsts.numbers shape entries) (state : State) (is : IsStateOf pages state)
+same_numbers : {layout : Layout} → (pages : List (List ℕ)) (now : List Bool) (firsts : Firsts) (most : ℕ) (shape : Shape) (entries : List Entry)
+    → IsRoot layout (page_at pages 0) firsts
+    → 1 * most_tunes layout ≤ most → (first : ClaimsIndex most pages [] now firsts.numbers shape entries) (state : State) (is : IsStateOf pages state)
     → (is.filed.numbers ≡ first.parts) × (number_entries (rows_of state.tunes is.filed.texts) ≡ entries)
 same_numbers pages now firsts most shape entries root le first state is =
     first.only is.filed.numbers (number_entries (rows_of state.tunes is.filed.texts))
     (parts_of_search is.filed.searches ++ is.filed.set_lists ∷ is.filed.texts) is.filed.parts
-    (numbers_few pages state is most le) (sym is.filed.root.numbers ∙ root.numbers)
+    (numbers_few pages state is most (most_there pages firsts 1 most root le state is)) (sym is.filed.root.numbers ∙ root.numbers)
 
-same_searches : (pages : List (List ℕ)) (now : List Bool) (firsts : Firsts) (most : ℕ) (numbers : IndexParts) (shape : SearchShape) (runs : SearchRuns)
-    → IsRoot One (page_at pages 0) firsts
-    → 8 * most_tunes One ≤ most → (then : ClaimsSearch most pages (parts_of_index numbers) now firsts.searches shape runs) (state : State)
-    (is : IsStateOf pages state) → is.filed.numbers ≡ numbers
+same_searches : {layout : Layout} → (pages : List (List ℕ)) (now : List Bool) (firsts : Firsts) (most : ℕ) (numbers : IndexParts)
+    (shape : SearchShape) (runs : SearchRuns) → IsRoot layout (page_at pages 0) firsts
+    → 8 * most_tunes layout ≤ most → (then : ClaimsSearch most pages (parts_of_index numbers) now firsts.searches shape runs) → shape.notes ≡ notes_of layout
+    → (state : State) (is : IsStateOf pages state) → is.filed.numbers ≡ numbers
     → (is.filed.searches ≡ then.parts) × (runs_filed is.filed.are_searches ≡ runs)
-same_searches pages now firsts most numbers shape runs root le then state is same =
+same_searches pages now firsts most numbers shape runs root le then notes state is same =
     then.only is.filed.searches (runs_filed is.filed.are_searches) (is.filed.set_lists ∷ is.filed.texts)
-    (behind_numbers pages state is numbers same) (searches_few pages state is most le) (searches_begin pages state is firsts root)
+    (behind_numbers pages state is numbers same)
+    (ap notes_of (layout_there pages firsts root state is) ∙ sym notes ∙ sym then.held.notes)
+    (searches_few pages state is most (most_there pages firsts 8 most root le state is)) (searches_begin pages state is firsts root)
 
 -- THE CALLS, ONE AFTER ANOTHER
-pub numbers_fault : (f : ClaimFault) (now pages : List (List ℕ)) (claimed : List Bool) (firsts : Firsts) (most : ℕ) → now ≡ pages
-    → claimed ≡ only_root (length pages) → IsRoot One (page_at pages 0) firsts → most_tunes One ≤ most
+pub numbers_fault : {layout : Layout} → (f : ClaimFault) (now pages : List (List ℕ)) (claimed : List Bool) (firsts : Firsts) (most : ℕ) → now ≡ pages
+    → claimed ≡ only_root (length pages) → IsRoot layout (page_at pages 0) firsts → 1 * most_tunes layout ≤ most
     → ((front : List Part) → HasClaimed now claimed front → IsChainFault f (IsIndexThere most now front firsts.numbers))
     → IsChainFault f (IsStateThere pages)
 numbers_fault f now pages claimed firsts most on marks root le call = fault_where f (IsStateThere pages) (λ there.
@@ -196,18 +204,20 @@ pub numbers_claimed : (now pages : List (List ℕ)) (claimed then : List Bool) (
 numbers_claimed now pages claimed then first most shape entries on marks some call =
     at_pages (λ l front. ClaimsIndex most l front then first shape entries) now pages claimed [] on (no_front pages claimed marks some) call
 
-pub searches_fault : (f : ClaimFault) (now pages : List (List ℕ)) (then : List Bool) (firsts : Firsts) (most many : ℕ) (shape : Shape) (entries : List Entry)
-    → now ≡ pages → IsRoot One (page_at pages 0) firsts → most_tunes One ≤ most → 8 * most_tunes One ≤ many
+pub searches_fault : {layout : Layout} → (f : ClaimFault) (now pages : List (List ℕ)) (then : List Bool) (firsts : Firsts)
+    (most many notes : ℕ) (shape : Shape) (entries : List Entry) → notes ≡ notes_of layout → now ≡ pages → IsRoot layout (page_at pages 0) firsts
+    → 1 * most_tunes layout ≤ most → 8 * most_tunes layout ≤ many
     → (0 < length pages → ClaimsIndex most pages [] then firsts.numbers shape entries)
-    → ((front : List Part) → HasClaimed now then front → IsChainFault f (IsSearchThere many now front firsts.searches))
+    → ((front : List Part) → HasClaimed now then front → IsChainFault f (IsSearchThere notes many now front firsts.searches))
     → IsChainFault f (IsStateThere pages)
-searches_fault f now pages then firsts most many shape entries on root le less claims call = fault_where f (IsStateThere pages) (λ there.
+searches_fault f now pages then firsts most many notes shape entries by on root le less claims call = fault_where f (IsStateThere pages) (λ there.
     let first = claims (state_some pages there) in
     let front = parts_of_index first.parts in
-    fault_as f (IsSearchThere many pages front firsts.searches) (IsStateThere pages)
-    (λ (some : IsStateThere pages). searches_there pages firsts many first.parts root less some
-    (same_numbers pages then firsts most shape entries root le first some.0 some.1).0)
-    (at_pages (λ l front. IsChainFault f (IsSearchThere many l front firsts.searches)) now pages then front on first.held.has call))
+    fault_as f (IsSearchThere notes many pages front firsts.searches) (IsStateThere pages)
+    (λ (some : IsStateThere pages). subst (λ (n : ℕ). IsSearchThere n many pages front firsts.searches) (sym by)
+    (searches_there pages firsts many first.parts root less some
+    (same_numbers pages then firsts most shape entries root le first some.0 some.1).0))
+    (at_pages (λ l front. IsChainFault f (IsSearchThere notes many l front firsts.searches)) now pages then front on first.held.has call))
 
 pub searches_claimed : (now pages : List (List ℕ)) (then last : List Bool) (first most many : ℕ) (firsts : SearchFirsts) (shape : Shape)
     (entries : List Entry)
@@ -239,29 +249,31 @@ both_claimed mid now pages claimed then last firsts most many shape entries shap
       tail = searches_claimed now pages then last firsts.numbers most many firsts.searches shape entries shapes runs also head more;
     }
 
-pub sets_fault : (f : ClaimFault) (now pages : List (List ℕ)) (then last : List Bool) (firsts : Firsts) (most many : ℕ) (shape : Shape)
+pub sets_fault : {layout : Layout} → (f : ClaimFault) (now pages : List (List ℕ)) (then last : List Bool) (firsts : Firsts) (most many : ℕ) (shape : Shape)
     (entries : List Entry)
-    (shapes : SearchShape) (runs : SearchRuns) → now ≡ pages → IsRoot One (page_at pages 0) firsts → most_tunes One ≤ most → 8 * most_tunes One ≤ many
-    → AreBlocks pages → (0 < length pages → ClaimsBoth most many pages then last firsts shape entries shapes runs)
+    (shapes : SearchShape) (runs : SearchRuns) → now ≡ pages → IsRoot layout (page_at pages 0) firsts → 1 * most_tunes layout ≤ most
+    → 8 * most_tunes layout ≤ many → AreBlocks pages → shapes.notes ≡ notes_of layout
+    → (0 < length pages → ClaimsBoth most many pages then last firsts shape entries shapes runs)
     → ((front : List Part) → HasClaimed now last front → IsChainFault f (IsPartThere now front firsts.sets most_sets_pages))
     → IsChainFault f (IsStateThere pages)
-sets_fault f now pages then last firsts most many shape entries shapes runs on root le less sized claims call =
+sets_fault f now pages then last firsts most many shape entries shapes runs on root le less sized notes claims call =
     fault_where f (IsStateThere pages) (λ there.
     let both = claims (state_some pages there) in
     let front = front_of both in
     fault_as f (IsPartThere pages front firsts.sets most_sets_pages) (IsStateThere pages)
     (λ (some : IsStateThere pages).
     let same = (same_numbers pages then firsts most shape entries root le both.head some.0 some.1).0 in
-    let also = (same_searches pages last firsts many both.head.parts shapes runs root less both.tail some.0 some.1 same).0 in
+    let also = (same_searches pages last firsts many both.head.parts shapes runs root less both.tail notes some.0 some.1 same).0 in
     sets_there pages firsts both.head.parts both.tail.parts root sized some same also)
     (at_pages (λ l front. IsChainFault f (IsPartThere l front firsts.sets most_sets_pages)) now pages last front on both.tail.held.has call))
 
-pub lists_claimed : (now pages : List (List ℕ)) (then last end : List Bool) (firsts : Firsts) (most many : ℕ) (shape : Shape) (entries : List Entry)
-    (shapes : SearchShape) (runs : SearchRuns) (bytes : List ℕ) → now ≡ pages → IsRoot One (page_at pages 0) firsts → most_tunes One ≤ most
-    → 8 * most_tunes One ≤ many → ClaimsBoth most many pages then last firsts shape entries shapes runs
+pub lists_claimed : {layout : Layout} → (now pages : List (List ℕ)) (then last end : List Bool) (firsts : Firsts) (most many : ℕ) (shape : Shape)
+    (entries : List Entry) (shapes : SearchShape) (runs : SearchRuns) (bytes : List ℕ) → now ≡ pages → IsRoot layout (page_at pages 0) firsts
+    → 1 * most_tunes layout ≤ most
+    → 8 * most_tunes layout ≤ many → shapes.notes ≡ notes_of layout → ClaimsBoth most many pages then last firsts shape entries shapes runs
     → ((front : List Part) → HasClaimed now last front → ClaimsPart now front end firsts.sets bytes)
-    → ClaimsLists pages end firsts shape entries shapes runs bytes
-lists_claimed now pages then last end firsts most many shape entries shapes runs bytes on root le less both call =
+    → ClaimsLists layout pages end firsts shape entries shapes runs bytes
+lists_claimed now pages then last end firsts most many shape entries shapes runs bytes on root le less notes both call =
     let front = front_of both in
     let sets : ClaimsPart pages front end firsts.sets bytes =
     at_pages (λ l front. ClaimsPart l front end firsts.sets bytes) now pages last front on both.tail.held.has call in
@@ -276,6 +288,8 @@ lists_claimed now pages then last end firsts most many shape entries shapes runs
       firsts_are = λ i. record { numbers = sym head.held.begins i; searches = sym tail.held.begin i; sets = sym sets.is_first i };
       keeps = head.held.keeps;
       listed = head.listed;
+      notes = notes;
+      of_runs = tail.held.notes;
       titles = tail.held.titles;
       rhythms = tail.held.rhythms;
       scales = tail.held.scales;
@@ -285,7 +299,7 @@ lists_claimed now pages then last end firsts most many shape entries shapes runs
       sets_hold = sets.holds;
       only = λ state is.
           let same = same_numbers pages then firsts most shape entries root le head state is in
-          let also = same_searches pages last firsts many head.parts shapes runs root less tail state is same.0 in
+          let also = same_searches pages last firsts many head.parts shapes runs root less tail notes state is same.0 in
           record {
             are_numbers = same.0;
             are_searches = also.0;

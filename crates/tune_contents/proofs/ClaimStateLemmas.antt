@@ -1,15 +1,15 @@
 -- The state that stands on pages that were claimed.
-use Rattle.std.proofs.Common.{◌≡◌, inl, inr, ℕ, ◌<◌, ◌≤◌, List, [], ◌∷◌, ◌++◌, length, drop, get_or, map, eqb, Bool, true}
+use Rattle.std.proofs.Common.{◌≡◌, inl, inr, ℕ, ◌*◌, ◌<◌, ◌≤◌, List, [], ◌∷◌, ◌++◌, length, drop, get_or, map, eqb, Bool, true}
 use Rattle.std.proofs.Common.{refl, sym, ◌∙◌, ap, subst, append_assoc, arith}
 use Rattle.std.specs.Prelude.{IsSome}
 use Rattle.std.specs.List.{AllByRecursion, Contains}
 use Rattle.std.proofs.lemmas.Bool.{cases_Bool, eqb-true, eq-eqb, false≢true}
 use Rattle.index_keys.specs.Entries.{Entry}
-use Rattle.index_keys.specs.Holdings.{HaveOwnNumbers, keys_at}
+use Rattle.index_keys.specs.Holdings.{HaveOwnNumbers, HoldsEntries, keys_at}
 use Rattle.index_keys.specs.Inside.Members.{contains_cases, contains_none}
 use Rattle.index_keys.proofs.ByNumber.{by_number_held, held_by_number}
 use Rattle.tune_incipit.specs.Incipits.{incipit_of, tune_notes}
-use Rattle.tune_incipit.specs.SearchKeys.{scale_keys}
+use Rattle.tune_incipit.specs.SearchKeys.{incipit_keys, scale_keys}
 use Rattle.tune_incipit.specs.Inside.KeyLaws.{incipit_rises, scales_rise}
 use Rattle.tune_index.specs.Indexes.{Shape}
 use Rattle.tune_index.specs.Listed.{listed_bytes}
@@ -22,14 +22,14 @@ use Rattle.tune_pages.proofs.Claiming.{fault_as}
 use Rattle.tune_search.specs.Claiming.{HasClaimed, HoldEachAtMost}
 use Rattle.tune_search.specs.Claims.{AreAllKnown, HoldByNumber, StandsAtKeys}
 use Rattle.tune_search.specs.IndexParts.{HoldsIndex, IndexParts, KeepsIndex, parts_of_index}
-use Rattle.tune_search.specs.Searches.{SearchParts, SearchRuns, SearchShape, incipit_keys_of_text, key_bytes, parts_of_search}
+use Rattle.tune_search.specs.Searches.{SearchParts, SearchRuns, SearchShape, key_bytes, parts_of_search}
 use Rattle.tune_sets.specs.Sets.{AreSetLists}
 use Rattle.tune_sets.specs.SetBytes.{written_sets}
 use Rattle.tune_sets.specs.declared.set_lists.TuneSet.{TuneSet}
-use Rattle.tune_store.specs.Limits.{greatest_number, most_tunes}
+use Rattle.tune_store.specs.Limits.{greatest_number, most_tunes, notes_of}
 use Rattle.tune_store.specs.State.{State, IsTune, RisesFrom, greatest, tune_at, AreHeld, NameTunes}
 use Rattle.tune_store.specs.declared.layout.Layout.{Layout}
-use Rattle.tune_store.specs.declared.layout.Layout.TheVariants.{One}
+use Rattle.tune_store.specs.declared.layout.Layout.TheVariants.{One, Two}
 use Rattle.tune_store.specs.declared.tune.Tune.{Tune}
 use Rattle.tune_format.specs.Filed.{HoldTunes, archive_parts, firsts_of, numbered_texts, rows_of}
 use Rattle.tune_format.specs.States.{IsStateOf}
@@ -46,7 +46,7 @@ use Rattle.tune_contents.specs.Inside.Claiming.{TunesClaimed, runs_filed}
 use Rattle.tune_contents.specs.Inside.ClaimedRows.{AreEntriesOfRows, HasNumber, HaveFew, NumberRows, NameRows}
 use Rattle.tune_contents.specs.Inside.Rows.{numbers_in}
 use Rattle.tune_contents.proofs.ClaimLemmas.{at_pages, claimed_as}
-use Rattle.tune_contents.proofs.ClaimListLemmas.{fault_where, searches_few, state_some}
+use Rattle.tune_contents.proofs.ClaimListLemmas.{fault_where, layout_there, searches_few, state_some}
 use Rattle.tune_contents.proofs.ClaimedRowLemmas.{all_each, each_all, rows_as, same_numbers}
 
 -- ROWS OF TUNES
@@ -83,9 +83,9 @@ numbers_of_rows (tune ∷ tunes) [] hold = absurd (tune_without tune tunes hold)
 numbers_of_rows (tune ∷ tunes) (part ∷ texts) hold =
     ap (λ (l : List ℕ). tune.number ∷ l) (numbers_of_rows tunes texts (later_held part texts tune tunes hold))
 
-state_rows : (pages : List (List ℕ)) (state : State) (is : IsStateOf pages state) → AreRows One (rows_of state.tunes is.filed.texts)
+state_rows : (pages : List (List ℕ)) (state : State) (is : IsStateOf pages state) → AreRows state.layout (rows_of state.tunes is.filed.texts)
 state_rows pages state is =
-    let few = subst (λ layout. length state.tunes ≤ most_tunes layout) is.layout is.within.tunes.count in
+    let few = is.within.tunes.count in
     let count = rows_count state.tunes is.filed.texts is.filed.are_tunes in
     record {
       rise = rise_of 0 state.tunes is.filed.texts is.within.tunes.rises;
@@ -128,12 +128,13 @@ state_holds pages state is =
     let tunes = numbered_texts state.tunes in
     let own : HaveOwnNumbers tunes = own_numbers 0 state.tunes is.within.tunes.rises in
     let are = is.filed.are_searches in
+    let notes = notes_of state.layout in
     record {
       titles = by_number_held title_keys tunes are.titles.entries are.titles.holds.rising own (λ t c. titles_rise t.1) are.titles.exact;
       rhythms = by_number_held rhythm_keys tunes are.rhythms.entries are.rhythms.holds.rising own (λ t c. rhythm_rises t.1) are.rhythms.exact;
       scales = by_number_held scale_keys tunes are.scales.entries are.scales.holds.rising own (λ t c. scales_rise t.1) are.scales.exact;
-      incipits = by_number_held incipit_keys_of_text tunes are.incipits.entries are.incipits.holds.rising own
-          (λ t c. incipit_rises 32 (incipit_of 8 (tune_notes t.1))) are.incipits.exact;
+      incipits = by_number_held (incipit_keys notes) tunes are.incipits.entries are.incipits.holds.rising own
+          (λ t c. incipit_rises (4 * notes) (incipit_of notes (tune_notes t.1))) are.incipits.exact;
     }
 
 -- each of the tunes has a property
@@ -151,7 +152,7 @@ to_numbered P (tune ∷ tunes) all = (all.0, to_numbered P tunes all.1)
 each_stands : (runs : SearchRuns) (tunes : List (ℕ × List ℕ)) → AllByRecursion (λ tune. keys_at tune.0 runs.titles ≡ title_keys tune.1) tunes
     → AllByRecursion (λ tune. keys_at tune.0 runs.rhythms ≡ rhythm_keys tune.1) tunes
     → AllByRecursion (λ tune. keys_at tune.0 runs.scales ≡ scale_keys tune.1) tunes
-    → AllByRecursion (λ tune. keys_at tune.0 runs.incipits ≡ incipit_keys_of_text tune.1) tunes
+    → AllByRecursion (λ tune. keys_at tune.0 runs.incipits ≡ incipit_keys runs.notes tune.1) tunes
     → AllByRecursion (λ tune. StandsAtKeys runs tune.0 tune.1) tunes
 each_stands runs [] a b c d = tt
 each_stands runs (tune ∷ tunes) a b c d =
@@ -181,7 +182,7 @@ held_all runs tunes keys known =
         known = known.scales;
       };
       incipits = record {
-        each = all_map (λ tune. StandsAtKeys runs tune.0 tune.1) (λ tune. keys_at tune.0 runs.incipits ≡ incipit_keys_of_text tune.1)
+        each = all_map (λ tune. StandsAtKeys runs tune.0 tune.1) (λ tune. keys_at tune.0 runs.incipits ≡ incipit_keys runs.notes tune.1)
             (λ t s. s.incipits) list all;
         known = known.incipits;
       };
@@ -243,10 +244,15 @@ tunes_named tunes texts rows sets same names =
     sets (all_each (λ set. NumberRows rows set.numbers) sets names)
 
 -- WHAT A STATE HAS, OF WHAT WAS CLAIMED
+-- in each layout an index has few entries
+few_tunes : (layout : Layout) → 8 * most_tunes layout ≤ 400000
+few_tunes One = omega arith
+few_tunes Two = omega arith
+
 module _ (pages : List (List ℕ)) (state : State) (is : IsStateOf pages state) (numbers : IndexParts) (searches : SearchParts) (set_lists : Part)
     (entries : List Entry) (runs : SearchRuns) (has : HasLists pages state is numbers searches set_lists entries runs) where
   -- its rows are those of the entries
-  listed_there : AreEntriesOfRows One entries
+  listed_there : AreEntriesOfRows state.layout entries
   listed_there = (rows_of state.tunes is.filed.texts, state_rows pages state is, has.are_entries)
 
   holds_there : HoldByNumber (numbered_texts state.tunes) runs
@@ -261,9 +267,9 @@ module _ (pages : List (List ℕ)) (state : State) (is : IsStateOf pages state) 
   known_there : (rows : List Row) → number_entries rows ≡ entries → HaveFew runs × AreAllKnown (numbers_in rows) runs
   known_there rows same =
       let holds = holds_there in
-      let few = subst (λ (r : SearchRuns). HoldEachAtMost 160000 searches r) has.are_runs
-      (subst (λ (s : SearchParts). HoldEachAtMost 160000 s (runs_filed is.filed.are_searches)) has.are_searches
-      (searches_few pages state is 160000 (omega arith))) in (
+      let few = subst (λ (r : SearchRuns). HoldEachAtMost 400000 searches r) has.are_runs
+      (subst (λ (s : SearchParts). HoldEachAtMost 400000 s (runs_filed is.filed.are_searches)) has.are_searches
+      (searches_few pages state is 400000 (few_tunes state.layout))) in (
         record {
           titles = omega (arith, few.titles.few);
           rhythms = omega (arith, few.rhythms.few);
@@ -281,7 +287,7 @@ module _ (pages : List (List ℕ)) (state : State) (is : IsStateOf pages state) 
 
   -- its tunes stand behind the lists
   tunes_there : (rows : List Row) → number_entries rows ≡ entries → AreBlocks pages
-      → AreTunesThere One pages (archive_parts numbers searches set_lists []) runs rows
+      → AreTunesThere state.layout pages (archive_parts numbers searches set_lists []) runs rows
   tunes_there rows same sized = (
     state.tunes,
     is.filed.texts,
@@ -293,37 +299,39 @@ module _ (pages : List (List ℕ)) (state : State) (is : IsStateOf pages state) 
           (subst (λ n. AreParts pages (archive_parts n is.filed.searches is.filed.set_lists is.filed.texts)) has.are_numbers is.filed.parts)));
       hold = is.filed.are_tunes;
       listed = has.are_entries ∙ sym same;
-      each = subst (λ layout. AllByRecursion (IsTune layout) state.tunes) is.layout is.within.tunes.each;
+      each = is.within.tunes.each;
       keys = stand_all runs state.tunes holds_there;
     },
   )
 
 -- THE FAULTS
-module _ (f : ClaimFault) (pages : List (List ℕ)) (now : List Bool) (firsts : Firsts) (shape : Shape) (entries : List Entry)
-    (shapes : SearchShape) (runs : SearchRuns) (bytes : List ℕ) (lists : ListsClaimed pages now firsts shape entries shapes runs bytes) where
-  pub listed_fault : (other : List Entry) → other ≡ entries → IsChainFault f (AreEntriesOfRows One other) → IsChainFault f (IsStateThere pages)
+module _ (f : ClaimFault) (layout : Layout) (pages : List (List ℕ)) (now : List Bool) (firsts : Firsts) (shape : Shape) (entries : List Entry)
+    (shapes : SearchShape) (runs : SearchRuns) (bytes : List ℕ) (lists : ListsClaimed layout pages now firsts shape entries shapes runs bytes) where
+  pub listed_fault : (other : List Entry) → other ≡ entries → IsChainFault f (AreEntriesOfRows layout other) → IsChainFault f (IsStateThere pages)
   listed_fault other same call = fault_where f (IsStateThere pages) (λ there.
       let l = lists (state_some pages there) in
-      fault_as f (AreEntriesOfRows One other) (IsStateThere pages)
-      (λ (some : IsStateThere pages). subst (AreEntriesOfRows One) (sym same)
-      (listed_there pages some.0 some.1 l.numbers l.searches l.set_lists entries runs (l.only some.0 some.1))) call)
+      fault_as f (AreEntriesOfRows layout other) (IsStateThere pages)
+      (λ (some : IsStateThere pages). subst (AreEntriesOfRows layout) (sym same)
+      (subst (λ (its : Layout). AreEntriesOfRows its entries) (layout_there pages firsts l.root some.0 some.1)
+      (listed_there pages some.0 some.1 l.numbers l.searches l.set_lists entries runs (l.only some.0 some.1)))) call)
 
   pub rows_fault : (at : List (List ℕ)) (rows : List Row) → at ≡ pages → number_entries rows ≡ entries → AreBlocks pages
-      → ((front : List Part) → HasClaimed at now front → IsChainFault f (AreRowsThere One at front runs rows))
+      → ((front : List Part) → HasClaimed at now front → IsChainFault f (AreRowsThere layout at front runs rows))
       → IsChainFault f (IsStateThere pages)
   rows_fault at rows on same sized call = fault_where f (IsStateThere pages) (λ there.
       let l = lists (state_some pages there) in
       let front = archive_parts l.numbers l.searches l.set_lists [] in
-      fault_as f (AreRowsThere One pages front runs rows) (IsStateThere pages)
+      fault_as f (AreRowsThere layout pages front runs rows) (IsStateThere pages)
       (λ (some : IsStateThere pages).
       let its = l.only some.0 some.1 in
       let known = known_there pages some.0 some.1 l.numbers l.searches l.set_lists entries runs its rows same in
       record {
         few = known.0;
         known = known.1;
-        tunes = tunes_there pages some.0 some.1 l.numbers l.searches l.set_lists entries runs its rows same sized;
+        tunes = subst (λ (its : Layout). AreTunesThere its pages front runs rows) (layout_there pages firsts l.root some.0 some.1)
+            (tunes_there pages some.0 some.1 l.numbers l.searches l.set_lists entries runs its rows same sized);
       })
-      (at_pages (λ p before. IsChainFault f (AreRowsThere One p before runs rows)) at pages now front on l.has call))
+      (at_pages (λ p before. IsChainFault f (AreRowsThere layout p before runs rows)) at pages now front on l.has call))
 
   pub sets_fault : (rows : List Row) → number_entries rows ≡ entries
       → IsChainFault f ((sets : List TuneSet) × AreSetLists sets × (written_sets sets ≡ bytes) × NameRows rows sets)
@@ -341,8 +349,8 @@ module _ (f : ClaimFault) (pages : List (List ℕ)) (now : List Bool) (firsts : 
       call)
 
 -- THE STATE
-kept_index : {entries : List Entry} → (shape : Shape) (parts : IndexParts) → shape.listed ≡ true → KeepsIndex key_bytes shape parts entries
-    → HoldsIndex key_bytes parts entries
+kept_index : {width : ℕ} {entries : List Entry} → (shape : Shape) (parts : IndexParts) → shape.listed ≡ true → KeepsIndex width shape parts entries
+    → HoldsIndex width parts entries
 kept_index shape parts listed keeps = record {
   is_chain = keeps.is_chain;
   leaves = keeps.leaves;
@@ -352,14 +360,14 @@ kept_index shape parts listed keeps = record {
 }
 
 pub state_claimed : (at pages : List (List ℕ)) (now last : List Bool) (contents : Contents) (entries : List Entry) (runs : SearchRuns)
-    (bytes : List ℕ) (listed : List Row) → contents.layout ≡ One → at ≡ pages
-    → ClaimsLists pages now contents.firsts contents.numbers entries contents.searches runs bytes
+    (bytes : List ℕ) (listed : List Row) → at ≡ pages
+    → ClaimsLists contents.layout pages now contents.firsts contents.numbers entries contents.searches runs bytes
     → AreRows contents.layout contents.rows.items → number_entries listed ≡ entries → number_entries contents.rows.items ≡ number_entries listed
     → AreAllKnown (numbers_in listed) runs
     → written_sets contents.sets ≡ bytes → AreSetLists contents.sets → NameRows contents.rows.items contents.sets
     → ((front : List Part) → HasClaimed at now front → TunesClaimed contents.layout at front runs last contents.rows.items)
     → IsClaimed pages contents last
-state_claimed at pages now last contents entries runs bytes listed first on l are same also known written are_sets names call =
+state_claimed at pages now last contents entries runs bytes listed on l are same also known written are_sets names call =
     let front = archive_parts l.numbers l.searches l.set_lists [] in
     let rows : List Row = contents.rows.items in
     let t : TunesClaimed contents.layout pages front runs last rows =
@@ -375,12 +383,18 @@ state_claimed at pages now last contents entries runs bytes listed first on l ar
     let titles = held_by_number title_keys list runs.titles holds.titles in
     let rhythms = held_by_number rhythm_keys list runs.rhythms holds.rhythms in
     let scales = held_by_number scale_keys list runs.scales holds.scales in
-    let incipits = held_by_number incipit_keys_of_text list runs.incipits holds.incipits in
+    let by_runs = held_by_number (incipit_keys runs.notes) list runs.incipits holds.incipits in
+    let incipits = subst (λ (n : ℕ). HoldsEntries (incipit_keys n) list runs.incipits) l.of_runs by_runs in
+    let its_notes : HoldsEntries (incipit_keys (notes_of contents.layout)) list runs.incipits =
+    subst (λ (n : ℕ). HoldsEntries (incipit_keys n) list runs.incipits) l.notes incipits in
+    let its_index : HoldsIndex (4 * notes_of contents.layout) l.searches.incipits runs.incipits =
+    subst (λ (n : ℕ). HoldsIndex (4 * n) l.searches.incipits runs.incipits) l.notes
+    (kept_index contents.searches.incipits l.searches.incipits l.all_listed.incipits l.incipits) in
     let keeps : KeepsIndex key_bytes contents.numbers l.numbers (number_entries (rows_of t.tunes t.texts)) =
     subst (λ (es : List Entry). KeepsIndex key_bytes contents.numbers l.numbers es) (sym rows_same) l.keeps in
     let count = rows_count t.tunes t.texts t.hold in
     record {
-      first_layout = first;
+      notes = l.notes;
       tunes = t.tunes;
       filed = record {
         numbers = l.numbers;
@@ -388,8 +402,7 @@ state_claimed at pages now last contents entries runs bytes listed first on l ar
         set_lists = l.set_lists;
         texts = t.texts;
         parts = has.are;
-        root = subst (λ layout. IsRoot layout (page_at pages 0) (firsts_of l.numbers l.searches l.set_lists)) (sym first)
-            (subst (IsRoot One (page_at pages 0)) l.firsts_are l.root);
+        root = subst (IsRoot contents.layout (page_at pages 0)) l.firsts_are l.root;
         are_numbers = kept_index contents.numbers l.numbers l.listed keeps;
         are_searches = record {
           titles = record {
@@ -409,8 +422,8 @@ state_claimed at pages now last contents entries runs bytes listed first on l ar
           };
           incipits = record {
             entries = runs.incipits;
-            holds = kept_index contents.searches.incipits l.searches.incipits l.all_listed.incipits l.incipits;
-            exact = incipits;
+            holds = its_index;
+            exact = its_notes;
           };
         };
         sets_are_chain = l.sets_are_chain;
@@ -443,16 +456,17 @@ state_claimed at pages now last contents entries runs bytes listed first on l ar
 
 -- as the code has it
 pub texts_claimed : {layout : Layout} → (at pages : List (List ℕ)) (now last : List Bool) (contents : Contents) (entries : List Entry)
-    (runs : SearchRuns) (bytes : List ℕ) (listed rows : List Row) (sets : List TuneSet) → layout ≡ One → at ≡ pages
+    (runs : SearchRuns) (bytes : List ℕ) (listed rows : List Row) (sets : List TuneSet) → at ≡ pages
     → contents.layout ≡ layout → contents.rows.items ≡ rows → contents.sets ≡ sets
-    → ClaimsLists pages now contents.firsts contents.numbers entries contents.searches runs bytes
+    → ClaimsLists layout pages now contents.firsts contents.numbers entries contents.searches runs bytes
     → AreRows layout listed → number_entries listed ≡ entries → number_entries rows ≡ number_entries listed
     → AreAllKnown (numbers_in listed) runs → written_sets sets ≡ bytes → AreSetLists sets → NameRows rows sets
     → ((front : List Part) → HasClaimed at now front → TunesClaimed layout at front runs last rows)
     → IsClaimed pages contents last
-texts_claimed at pages now last contents entries runs bytes listed rows sets first on its its_rows its_sets l are same also known written good names call =
+texts_claimed at pages now last contents entries runs bytes listed rows sets on its its_rows its_sets l are same also known written good names call =
     let entries_are : number_entries contents.rows.items ≡ number_entries listed = ap number_entries its_rows ∙ also in
-    state_claimed at pages now last contents entries runs bytes listed (its ∙ first) on l
+    state_claimed at pages now last contents entries runs bytes listed on
+    (subst (λ (n : Layout). ClaimsLists n pages now contents.firsts contents.numbers entries contents.searches runs bytes) (sym its) l)
     (rows_as contents.rows.items listed entries_are (subst (λ layout. AreRows layout listed) (sym its) are)) same entries_are known
     (ap written_sets its_sets ∙ written) (subst AreSetLists (sym its_sets) good)
     (subst (λ r. NameRows r contents.sets) (sym its_rows) (subst (NameRows rows) (sym its_sets) names))
@@ -460,17 +474,17 @@ texts_claimed at pages now last contents entries runs bytes listed rows sets fir
     (subst (λ layout. TunesClaimed layout at front runs last rows) (sym its) (call front has)))
 
 -- of equal pages, entries and bytes
-pub lists_as : (at pages : List (List ℕ)) (now : List Bool) (firsts : Firsts) (shape : Shape) (other entries : List Entry)
+pub lists_as : {layout : Layout} → (at pages : List (List ℕ)) (now : List Bool) (firsts : Firsts) (shape : Shape) (other entries : List Entry)
     (shapes : SearchShape) (runs : SearchRuns) (others bytes : List ℕ) → at ≡ pages → other ≡ entries → others ≡ bytes
-    → ClaimsLists pages now firsts shape entries shapes runs bytes → ClaimsLists at now firsts shape other shapes runs others
-lists_as at pages now firsts shape other entries shapes runs others bytes on same also l =
-    subst (λ p. ClaimsLists p now firsts shape other shapes runs others) (sym on)
-    (subst (λ es. ClaimsLists pages now firsts shape es shapes runs others) (sym same)
-    (subst (λ b. ClaimsLists pages now firsts shape entries shapes runs b) (sym also) l))
+    → ClaimsLists layout pages now firsts shape entries shapes runs bytes → ClaimsLists layout at now firsts shape other shapes runs others
+lists_as {layout} at pages now firsts shape other entries shapes runs others bytes on same also l =
+    subst (λ p. ClaimsLists layout p now firsts shape other shapes runs others) (sym on)
+    (subst (λ es. ClaimsLists layout pages now firsts shape es shapes runs others) (sym same)
+    (subst (λ b. ClaimsLists layout pages now firsts shape entries shapes runs b) (sym also) l))
 
-pub lists_at : (at pages : List (List ℕ)) (now : List Bool) (firsts : Firsts) (shape : Shape) (other entries : List Entry)
+pub lists_at : {layout : Layout} → (at pages : List (List ℕ)) (now : List Bool) (firsts : Firsts) (shape : Shape) (other entries : List Entry)
     (shapes : SearchShape) (runs : SearchRuns) (others bytes : List ℕ) → at ≡ pages → other ≡ entries → others ≡ bytes
-    → ListsClaimed pages now firsts shape entries shapes runs bytes → ListsClaimed at now firsts shape other shapes runs others
+    → ListsClaimed layout pages now firsts shape entries shapes runs bytes → ListsClaimed layout at now firsts shape other shapes runs others
 lists_at at pages now firsts shape other entries shapes runs others bytes on same also lists = λ some.
     lists_as at pages now firsts shape other entries shapes runs others bytes on same also
     (lists (subst (λ (p : List (List ℕ)). 0 < length p) on some))

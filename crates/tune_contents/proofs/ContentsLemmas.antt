@@ -2,7 +2,7 @@
 use Rattle.std.proofs.Common.{◌≡◌, ℕ, true, false, List, ◌∷◌, ◌++◌, Option, Some, None, is_some, refl, sym, ◌∙◌, ap, subst, arith, append_assoc}
 use Rattle.std.proofs.lemmas.List.{length-map}
 use Rattle.index_keys.specs.Entries.{Entry}
-use Rattle.tune_incipit.specs.SearchKeys.{scale_keys}
+use Rattle.tune_incipit.specs.SearchKeys.{incipit_keys, scale_keys}
 use Rattle.tune_index.specs.Indexes.{Shape}
 use Rattle.tune_index.specs.Listed.{listed_bytes}
 use Rattle.tune_journal.specs.Pages.{page_at}
@@ -12,11 +12,12 @@ use Rattle.tune_parts.specs.Parts.PartKind.{chain}
 use Rattle.tune_parts.proofs.PartLemmas.{are_parts, has_part}
 use Rattle.tune_search.specs.IndexParts.{HoldsIndex, IndexParts, KeepsIndex, parts_of_index}
 use Rattle.tune_search.specs.SearchPages.{AreListed, firsts_in}
-use Rattle.tune_search.specs.Searches.{HoldsKeys, SearchParts, SearchShape, incipit_keys_of_text, key_bytes, parts_of_search}
+use Rattle.tune_search.specs.Searches.{HoldsKeys, SearchParts, SearchShape, key_bytes, parts_of_search}
 use Rattle.tune_sets.specs.SetBytes.{written_sets}
 use Rattle.tune_sets.specs.declared.set_lists.TuneSet.{TuneSet}
 use Rattle.tune_sets.proofs.PlaceLemmas.{unheld_renumbered}
 use Rattle.tune_store.specs.declared.layout.Layout.{Layout}
+use Rattle.tune_store.specs.Limits.{notes_of}
 use Rattle.tune_store.specs.Plans.{CanChange, changed_sets, changed_tunes}
 use Rattle.tune_store.specs.State.{State, IsState, IsTunes}
 use Rattle.tune_store.specs.declared.tune.Tune.{Tune}
@@ -75,8 +76,8 @@ sets_stay (DropSet name) sets h = cc
 
 -- INDEXES
 -- where its list names the leaves, memory has an index as it stands
-index_held : (shape : Shape) (parts : IndexParts) (entries : List Entry) → shape.listed ≡ true → KeepsIndex key_bytes shape parts entries
-    → HoldsIndex key_bytes parts entries
+index_held : {width : ℕ} → (shape : Shape) (parts : IndexParts) (entries : List Entry) → shape.listed ≡ true → KeepsIndex width shape parts entries
+    → HoldsIndex width parts entries
 index_held shape parts entries listed k = record {
   is_chain = k.is_chain;
   leaves = k.leaves;
@@ -85,18 +86,18 @@ index_held shape parts entries listed k = record {
   rising = k.rising;
 }
 
-search_held : (keys_of : List ℕ → List ℕ) (tunes : List (ℕ × List ℕ)) (shape : Shape) (parts : IndexParts) → shape.listed ≡ true
-    → HoldsKeys keys_of tunes shape parts → IsSearchIndex keys_of tunes parts
+search_held : {width : ℕ} → (keys_of : List ℕ → List ℕ) (tunes : List (ℕ × List ℕ)) (shape : Shape) (parts : IndexParts) → shape.listed ≡ true
+    → HoldsKeys width keys_of tunes shape parts → IsSearchIndex width keys_of tunes parts
 search_held keys_of tunes shape parts listed h =
     record { entries = h.entries; holds = index_held shape parts h.entries listed h.keeps; exact = h.exact }
 
 searches_held : (shape : SearchShape) (parts : SearchParts) (tunes : List (ℕ × List ℕ)) → AreListed shape → KeepsTexts shape parts tunes
-    → AreSearchIndexes tunes parts
+    → AreSearchIndexes shape.notes tunes parts
 searches_held shape parts tunes listed k = record {
   titles = search_held title_keys tunes shape.titles parts.titles listed.titles k.titles;
   rhythms = search_held rhythm_keys tunes shape.rhythms parts.rhythms listed.rhythms k.rhythms;
   scales = search_held scale_keys tunes shape.scales parts.scales listed.scales k.scales;
-  incipits = search_held incipit_keys_of_text tunes shape.incipits parts.incipits listed.incipits k.incipits;
+  incipits = search_held (incipit_keys shape.notes) tunes shape.incipits parts.incipits listed.incipits k.incipits;
 }
 
 -- THE PARTS OF CONTENTS
@@ -155,15 +156,17 @@ firsts_are c numbers searches set_lists entries tunes says index texts sets =
     let last : c.firsts.sets ≡ set_lists.first = sym sets in
     λ i. record { numbers = one i; searches = four i; sets = last i }
 
-contents_of : (s : Stand) (c : Contents) (layout : Layout) (tunes : List Tune) (sets : List TuneSet) (set_lists : Part) → c.layout ≡ layout → c.sets ≡ sets
-    → SaysWhere c → StandsAround s (keeps_in c) tunes set_lists → set_lists.kind ≡ chain → set_lists.first ≡ c.firsts.sets
+contents_of : (s : Stand) (c : Contents) (layout : Layout) (tunes : List Tune) (sets : List TuneSet) (set_lists : Part) → c.layout ≡ layout
+    → c.searches.notes ≡ notes_of layout → c.sets ≡ sets → SaysWhere c → StandsAround s (keeps_in c) tunes set_lists
+    → set_lists.kind ≡ chain → set_lists.first ≡ c.firsts.sets
     → set_lists.bytes ≡ written_sets c.sets → IsRoot c.layout (page_at s.pages 0) c.firsts
     → HoldsContents s c (record { layout = layout; tunes = tunes; sets = sets })
-contents_of s c layout tunes sets set_lists known same says a kind begins bytes root =
+contents_of s c layout tunes sets set_lists known notes same says a kind begins bytes root =
     let firsts = firsts_are c a.numbers a.searches set_lists (number_entries (rows_of tunes a.texts)) (numbered_texts tunes) says a.keeps_numbers
     a.keeps_searches begins in
     record {
       layout = known;
+      notes = notes;
       filed = record {
         numbers = a.numbers;
         searches = a.searches;
@@ -173,7 +176,8 @@ contents_of s c layout tunes sets set_lists known same says a kind begins bytes 
         root = subst (λ (l : Layout). IsRoot l (page_at s.pages 0) (firsts_of a.numbers a.searches set_lists)) known
             (subst (λ (f : Firsts). IsRoot c.layout (page_at s.pages 0) f) firsts root);
         are_numbers = index_held c.numbers a.numbers (number_entries (rows_of tunes a.texts)) says.numbers_listed a.keeps_numbers;
-        are_searches = searches_held c.searches a.searches (numbered_texts tunes) says.searches_listed a.keeps_searches;
+        are_searches = subst (λ (n : ℕ). AreSearchIndexes n (numbered_texts tunes) a.searches) notes
+            (searches_held c.searches a.searches (numbered_texts tunes) says.searches_listed a.keeps_searches);
         sets_are_chain = kind;
         are_sets = bytes ∙ ap (λ (l : List TuneSet). written_sets l) same;
         are_tunes = a.are_tunes;
@@ -218,9 +222,10 @@ module _ (s mid : Stand) (c : Contents) (is : Keeps) (change : Change) (can : Ca
   -- the set lists, and then the root
   laid_then : (late new : Stand) (left : Contents) → is ≡ keeps_in left
       → LaysSets mid late c.firsts.sets left.firsts.sets (changes_sets change c.sets) left.sets
-      → LaysRoot c.layout late new left.firsts → left.layout ≡ c.layout → left.sets ≡ changed_sets change c.sets → SaysWhere left
+      → LaysRoot c.layout late new left.firsts → left.layout ≡ c.layout → left.searches.notes ≡ c.searches.notes
+      → left.sets ≡ changed_sets change c.sets → SaysWhere left
       → HoldsContents new left (record { layout = state.layout; tunes = changed_tunes change state.tunes; sets = changed_sets change state.sets })
-  laid_then late new left same named root known sets says =
+  laid_then late new left same named root known notes sets says =
       let before = before_sets indexed_then.numbers indexed_then.searches in
       let now = named before indexed_then.texts c.sets (λ e. sym (sets ∙ sets_stay change c.sets e)) sets_then in
       let holds = root.parts (before ++ now.part ∷ indexed_then.texts) now.holds in
@@ -234,7 +239,7 @@ module _ (s mid : Stand) (c : Contents) (is : Keeps) (change : Change) (can : Ca
         are_tunes = indexed_then.are_tunes;
         listed = indexed_then.listed;
       } in
-      contents_of new left state.layout (changed_tunes change state.tunes) (changed_sets change state.sets) now.part (known ∙ h.layout)
+      contents_of new left state.layout (changed_tunes change state.tunes) (changed_sets change state.sets) now.part (known ∙ h.layout) (notes ∙ h.notes)
       (sets ∙ ap (λ (l : List TuneSet). changed_sets change l) h.sets) says
       (subst (λ (k : Keeps). StandsAround new k (changed_tunes change state.tunes) now.part) same all) now.is_chain now.is_first now.bytes
       (subst (λ (l : Layout). IsRoot l (page_at new.pages 0) left.firsts) (sym known) root.root)
@@ -248,6 +253,6 @@ sets_there s mid c is change can lays (state, within, h) = chain_then s mid c is
 pub state_laid : (s mid late new : Stand) (c left : Contents) (change : Change) → CanChange change c.layout (labels_in c.rows.items) c.sets
     → LaysIndexed c.layout s mid (keeps_in c) (keeps_in left) change
     → LaysSets mid late c.firsts.sets left.firsts.sets (changes_sets change c.sets) left.sets → LaysRoot c.layout late new left.firsts → left.layout ≡ c.layout
-    → left.sets ≡ changed_sets change c.sets → SaysWhere left → LaysState s new c left change
-state_laid s mid late new c left change can lays named root known sets says =
-    λ state within h. laid_then s mid c (keeps_in left) change can lays state within.tunes h late new left refl named root known sets says
+    → left.searches.notes ≡ c.searches.notes → left.sets ≡ changed_sets change c.sets → SaysWhere left → LaysState s new c left change
+state_laid s mid late new c left change can lays named root known notes sets says =
+    λ state within h. laid_then s mid c (keeps_in left) change can lays state within.tunes h late new left refl named root known notes sets says

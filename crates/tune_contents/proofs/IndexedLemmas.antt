@@ -7,7 +7,7 @@ use Rattle.index_keys.specs.Entries.{AllFit, Entry, inserted_all, removed_all}
 use Rattle.index_keys.specs.Holdings.{AreSmall, SameMembers}
 use Rattle.index_keys.specs.Inside.Members.{contains_cases, contains_none}
 use Rattle.index_keys.proofs.Holding.{holds_same}
-use Rattle.tune_incipit.specs.SearchKeys.{scale_keys}
+use Rattle.tune_incipit.specs.SearchKeys.{incipit_keys, scale_keys}
 use Rattle.tune_index.specs.Indexes.{Shape}
 use Rattle.tune_pages.specs.Faults.{pages_for}
 use Rattle.tune_pages.specs.FreePages.{TakesAtMost}
@@ -16,7 +16,7 @@ use Rattle.tune_pages.specs.declared.fault.Fault.{Fault}
 use Rattle.tune_parts.specs.Parts.{Part, HoldsParts}
 use Rattle.tune_search.specs.IndexParts.{HoldsIndexAmong, HoldsSomeIndex, IndexParts, KeepsIndex, LaysIndex, parts_of_index}
 use Rattle.tune_search.specs.Searches.{HoldsKeys, HoldsTexts, SearchParts, SearchRuns, SearchShape}
-use Rattle.tune_search.specs.Searches.{incipit_keys_of_text, key_bytes, parts_of_search}
+use Rattle.tune_search.specs.Searches.{key_bytes, parts_of_search}
 use Rattle.tune_sets.specs.declared.set_lists.TuneSet.{TuneSet}
 use Rattle.tune_store.specs.Limits.{greatest_number}
 use Rattle.tune_store.specs.Plans.{CanChange, changed_tunes}
@@ -68,8 +68,8 @@ small_below (tune ∷ tunes) le = λ one at. elim (contains_cases (tune.number, 
 pub are_small : (layout : Layout) (tunes : List Tune) → IsTunes layout tunes → AreSmall (numbered_texts tunes)
 are_small layout tunes within = small_below tunes within.numbers
 
-same_keys : (keys_of : List ℕ → List ℕ) (held others : List (ℕ × List ℕ)) (shape : Shape) (parts : IndexParts) → SameMembers held others
-    → HoldsKeys keys_of held shape parts → HoldsKeys keys_of others shape parts
+same_keys : {width : ℕ} → (keys_of : List ℕ → List ℕ) (held others : List (ℕ × List ℕ)) (shape : Shape) (parts : IndexParts) → SameMembers held others
+    → HoldsKeys width keys_of held shape parts → HoldsKeys width keys_of others shape parts
 same_keys keys_of held others shape parts same h = record {
   entries = h.entries;
   keeps = h.keeps;
@@ -82,7 +82,7 @@ same_texts shape parts held others same k = record {
   titles = same_keys title_keys held others shape.titles parts.titles same k.titles;
   rhythms = same_keys rhythm_keys held others shape.rhythms parts.rhythms same k.rhythms;
   scales = same_keys scale_keys held others shape.scales parts.scales same k.scales;
-  incipits = same_keys incipit_keys_of_text held others shape.incipits parts.incipits same k.incipits;
+  incipits = same_keys (incipit_keys shape.notes) held others shape.incipits parts.incipits same k.incipits;
 }
 
 -- PARTS

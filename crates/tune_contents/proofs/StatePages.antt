@@ -22,7 +22,7 @@ use Rattle.tune_parts.proofs.PartLemmas.{its_chain}
 use Rattle.tune_parts.proofs.Staying.{trails_join}
 use Rattle.tune_search.specs.IndexParts.{IndexParts, KeepsIndex, parts_of_index}
 use Rattle.tune_search.specs.SearchPages.{AreListed, HasFewLeaves}
-use Rattle.tune_search.specs.Searches.{SearchParts, SearchShape, key_bytes, parts_of_search}
+use Rattle.tune_search.specs.Searches.{SearchParts, SearchShape, incipit_bytes, key_bytes, parts_of_search}
 use Rattle.tune_search.proofs.AmongLemmas.{leaves_on_pages}
 use Rattle.tune_search.proofs.FewEntries.{few_among, few_for_texts}
 use Rattle.tune_sets.specs.Names.{is_good_name}
@@ -130,15 +130,15 @@ sets_count sets are = at_most (length (written_sets sets)) most_sets_pages (omeg
 
 -- INDEXES
 -- an index of at most so many leaves has a page for each, and its list
-index_count : (s : Stand) (shape : Shape) (parts : IndexParts) (entries : List Entry) (most : ℕ) → AreSized s.pages
-    → AllByRecursion (IsPart s.pages) (parts_of_index parts) → KeepsIndex key_bytes shape parts entries → shape.listed ≡ true → length shape.pages ≤ most
+index_count : (width : ℕ) (s : Stand) (shape : Shape) (parts : IndexParts) (entries : List Entry) (most : ℕ) → AreSized s.pages
+    → AllByRecursion (IsPart s.pages) (parts_of_index parts) → KeepsIndex width shape parts entries → shape.listed ≡ true → length shape.pages ≤ most
     → length (trails (parts_of_index parts)) ≤ most + pages_for (number_bytes * most)
-index_count s shape parts entries most sized stand keeps listed few =
+index_count width s shape parts entries most sized stand keeps listed few =
     let its = chain_count s.pages parts.list.first parts.list.trail parts.list.bytes sized (its_chain s.pages parts.list keeps.is_chain stand.0) in
     let size : length parts.list.bytes ≡ 4 * length shape.pages =
     ap (λ (l : List ℕ). length l) (keeps.listed listed) ∙ length-listed shape.pages in
     let list = pages_mono (length parts.list.bytes) (number_bytes * most) (omega (arith, size, few)) in
-    let alone = ap (λ (l : List ℕ). length l) ((leaves_on_pages key_bytes s parts.leaves keeps.leaves stand.1).alone) in
+    let alone = ap (λ (l : List ℕ). length l) ((leaves_on_pages width s parts.leaves keeps.leaves stand.1).alone) in
     let same = ap (λ (l : List ℕ). length l) keeps.pages in
     omega (arith, its, list, alone, same, few, length-append parts.list.trail (trails parts.leaves))
 
@@ -153,13 +153,13 @@ search_count s shape parts tunes sized stand keeps listed few =
     let i = parts_of_index parts.incipits in
     let behind = all_right (IsPart s.pages) t (r ++ (c ++ i)) stand in
     let later = all_right (IsPart s.pages) r (c ++ i) behind in
-    let titles = index_count s shape.titles parts.titles keeps.titles.entries (most_titles * length tunes) sized
+    let titles = index_count key_bytes s shape.titles parts.titles keeps.titles.entries (most_titles * length tunes) sized
     (all_left (IsPart s.pages) t (r ++ (c ++ i)) stand) keeps.titles.keeps listed.titles few.titles in
-    let rhythms = index_count s shape.rhythms parts.rhythms keeps.rhythms.entries (length tunes) sized
+    let rhythms = index_count key_bytes s shape.rhythms parts.rhythms keeps.rhythms.entries (length tunes) sized
     (all_left (IsPart s.pages) r (c ++ i) behind) keeps.rhythms.keeps listed.rhythms few.rhythms in
-    let scales = index_count s shape.scales parts.scales keeps.scales.entries (length tunes) sized
+    let scales = index_count key_bytes s shape.scales parts.scales keeps.scales.entries (length tunes) sized
     (all_left (IsPart s.pages) c i later) keeps.scales.keeps listed.scales few.scales in
-    let incipits = index_count s shape.incipits parts.incipits keeps.incipits.entries (length tunes) sized
+    let incipits = index_count (incipit_bytes shape.notes) s shape.incipits parts.incipits keeps.incipits.entries (length tunes) sized
     (all_right (IsPart s.pages) c i later) keeps.incipits.keeps listed.incipits few.incipits in
     omega (arith, titles, rhythms, scales, incipits, trails_more t (r ++ (c ++ i)), trails_more r (c ++ i), trails_more c i)
 
@@ -236,7 +236,7 @@ state_count s contents state holds within sized =
     let many : length (number_entries rows) ≡ length state.tunes = length-map rows _ ∙ rows_count state.tunes filed.texts filed.are_tunes in
     let few_numbers = few_among key_bytes s contents.numbers [] (q ++ behind) filed.numbers (number_entries rows)
     (record { holds = holds.holds; keeps = holds.numbers }) in
-    let numbers = index_count s contents.numbers filed.numbers (number_entries rows) (length state.tunes) sized
+    let numbers = index_count key_bytes s contents.numbers filed.numbers (number_entries rows) (length state.tunes) sized
     (all_left (IsPart s.pages) n (q ++ behind) stand) holds.numbers holds.numbers_listed (omega (arith, few_numbers, many)) in
     let few_texts = few_for_texts s contents.searches n behind filed.searches (numbered_texts state.tunes)
     (record {

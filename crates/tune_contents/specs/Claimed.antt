@@ -5,10 +5,9 @@ use Rattle.tune_search.specs.Claiming.{ClaimsParts}
 use Rattle.tune_search.specs.IndexParts.{KeepsIndex}
 use Rattle.tune_search.specs.SearchPages.{AreListed}
 use Rattle.tune_search.specs.Searches.{key_bytes}
-use Rattle.tune_store.specs.Limits.{most_tunes, greatest_number}
+use Rattle.tune_store.specs.Limits.{most_tunes, greatest_number, notes_of}
 use Rattle.tune_store.specs.State.{IsState}
 use Rattle.tune_store.specs.declared.layout.Layout.{Layout}
-use Rattle.tune_store.specs.declared.layout.Layout.TheVariants.{One}
 use Rattle.tune_store.specs.declared.tune.Tune.{Tune}
 use Rattle.tune_format.specs.Filed.{Filed, archive_parts, firsts_of, numbered_texts}
 use Rattle.tune_format.specs.Filed.{rows_of}
@@ -32,7 +31,7 @@ pub record AreRows (layout : Layout) (rows : List Row) : Type 0 where
 -- theirs, and what was claimed is its own.
 pub record IsClaimed (pages : List (List ℕ)) (contents : Contents) (claimed : List Bool)
     : Type 0 where
-  pub first_layout : contents.layout ≡ One
+  pub notes : contents.searches.notes ≡ notes_of contents.layout
   pub tunes : List Tune
   pub filed : Filed contents.layout pages tunes contents.sets
   pub within : IsState (record {

@@ -1,12 +1,13 @@
 -- What an archive holds on its pages.
 use Rattle.std.specs.Prelude.{◌≡◌, ℕ, List, true, map}
-use Rattle.tune_incipit.specs.SearchKeys.{scale_keys}
+use Rattle.tune_incipit.specs.SearchKeys.{incipit_keys, scale_keys}
 use Rattle.tune_pages.specs.Stand.{Stand}
 use Rattle.tune_parts.specs.Parts.{HoldsParts}
 use Rattle.tune_search.specs.IndexParts.{KeepsIndex}
 use Rattle.tune_search.specs.SearchPages.{AreListed}
-use Rattle.tune_search.specs.Searches.{HoldsKeys, SearchParts, SearchShape}
-use Rattle.tune_search.specs.Searches.{incipit_keys_of_text, key_bytes}
+use Rattle.tune_search.specs.Searches.{HoldsKeys, SearchParts, SearchShape, incipit_bytes}
+use Rattle.tune_search.specs.Searches.{key_bytes}
+use Rattle.tune_store.specs.Limits.{notes_of}
 use Rattle.tune_store.specs.State.{State, IsState}
 use Rattle.tune_store.specs.declared.catalog.Label.{Label}
 use Rattle.tune_store.specs.declared.plans.Change.{Change}
@@ -30,15 +31,17 @@ labels_in rows = map label_in rows
 -- tunes.
 pub record KeepsTexts (shape : SearchShape) (parts : SearchParts) (tunes : List (ℕ × List ℕ))
     : Type 0 where
-  pub titles : HoldsKeys title_keys tunes shape.titles parts.titles
-  pub rhythms : HoldsKeys rhythm_keys tunes shape.rhythms parts.rhythms
-  pub scales : HoldsKeys scale_keys tunes shape.scales parts.scales
-  pub incipits : HoldsKeys incipit_keys_of_text tunes shape.incipits parts.incipits
+  pub titles : HoldsKeys key_bytes title_keys tunes shape.titles parts.titles
+  pub rhythms : HoldsKeys key_bytes rhythm_keys tunes shape.rhythms parts.rhythms
+  pub scales : HoldsKeys key_bytes scale_keys tunes shape.scales parts.scales
+  pub incipits : HoldsKeys (incipit_bytes shape.notes) (incipit_keys shape.notes) tunes
+      shape.incipits parts.incipits
 
 -- The pages hold a state, and nothing else is in use. Its tunes stand where the rows say; its set
 -- lists and its indexes are those in memory, and where they begin is known.
 pub record HoldsContents (s : Stand) (contents : Contents) (state : State) : Type 0 where
   pub layout : contents.layout ≡ state.layout
+  pub notes : contents.searches.notes ≡ notes_of state.layout
   pub filed : Filed state.layout s.pages state.tunes state.sets
   pub holds : HoldsParts s
       (archive_parts filed.numbers filed.searches filed.set_lists filed.texts)

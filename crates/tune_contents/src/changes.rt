@@ -139,6 +139,8 @@ fn lay_indexed<D: Disk>(
         × (indexes.new.numbers.listed ≡ true) × (firsts.1 ≡ firsts_in indexes.new.searches)
         × AreListed indexes.new.searches) }
     ensures rows { OnOk result (KeepsRows change.now was.now rows.new.items) }
+    ensures notes { OnOk result
+        (indexes.new.searches.notes ≡ indexes.old.searches.notes) }
     ensures looks { LooksAt D.honest D.failures D.state result pages.old pages.new }
     ensures answer { AnswersLay result pages.new.closed }
     ensures takes { HonestAt D.honest pages.new.disk → (tunes : List Tune) (sets : List TuneSet)
@@ -149,7 +151,8 @@ fn lay_indexed<D: Disk>(
         TakesAtMost (change_pages change.now + (index_pages count + search_pages count)) result
         (stand pages.old work.old) (stand pages.new work.new) }
 {
-    let texts = text_runs(alloc, pages, work, layout, rows, change)?;
+    let notes = indexes.searches.notes();
+    let texts = text_runs(alloc, pages, work, layout, notes, rows, change)?;
     lay_tunes(alloc, pages, work, rows, change)?;
     let Ok(entries) = number_runs(alloc, was, rows, change) else {
         return Err(Fault::OutOfMemory);
@@ -183,7 +186,8 @@ fn sets_after(sets: &SetLists, change: &Change) -> Result<SetLists, Fault>
 /// the set lists, where they change; and the root, where one of these begins elsewhere.
 ///
 /// - `lays`: where the pages held a state within the limits, they hold the state after the change.
-/// - `rows`, of every disk: rows by rising number, within the limits, stay so.
+/// - `rows`, `layout`, of every disk: rows by rising number, within the limits, stay so, and the
+///   layout stays.
 /// - `looks`: no page of the disk changes.
 /// - `fits`: the work may be changed further, or finished.
 /// - `takes`: where the state after the change is within the limits, it takes no more free pages
@@ -212,6 +216,7 @@ pub fn lay<D: Disk>(
         (stand pages.old work.old) (stand pages.new work.new) contents.now left change) }
     ensures rows { AreRows contents.now.layout contents.now.rows.items
         → IfOk result (λ left. AreRows left.layout left.rows.items) }
+    ensures layout { IfOk result (λ left. left.layout ≡ contents.now.layout) }
     ensures fits { OnOk result (Fits pages.new work.new) }
     ensures looks { LooksAt D.honest D.failures D.state result pages.old pages.new }
     ensures answer { AnswersLay result pages.new.closed }

@@ -7,14 +7,14 @@ ghost use Rattle.tune_pages.specs.Opened.{only_root};
 ghost use Rattle.tune_parts.specs.Parts.{Part};
 ghost use Rattle.tune_search.specs.Claiming.{HasClaimed};
 ghost use Rattle.tune_search.specs.Claims.{AreAllKnown};
+ghost use Rattle.tune_search.specs.IncipitForms.{notes_in};
 ghost use Rattle.tune_search.specs.Loaded.{runs_in};
 ghost use Rattle.tune_search.specs.Searches.{SearchShape};
 ghost use Rattle.tune_sets.specs.Sets.{AreSetLists};
 ghost use Rattle.tune_sets.specs.SetBytes.{written_sets};
 ghost use Rattle.tune_sets.specs.declared.set_lists.TuneSet.{TuneSet};
-ghost use Rattle.tune_store.specs.Limits.{greatest_number};
+ghost use Rattle.tune_store.specs.Limits.{greatest_number, notes_of};
 ghost use Rattle.tune_store.specs.State.{State};
-ghost use Rattle.tune_store.specs.declared.layout.Layout.TheVariants.{One};
 ghost use Rattle.tune_format.specs.States.{IsStateOf};
 ghost use Rattle.tune_format.specs.Written.{number_entries, row_entry};
 ghost use Rattle.tune_format.specs.declared.root.Firsts.{Firsts};
@@ -32,13 +32,14 @@ ghost use Rattle.tune_contents.specs.Inside.Rows.{numbers_in};
 ghost use Rattle.tune_contents.specs.declared.contents.Contents.{Contents};
 
 use crate::contents::Contents;
+use crate::layout_notes::incipit_notes;
 use abc_fields::{ByteText, MOST_TITLES, TuneText};
 use std::alloc::{AllocError, Global};
 use tune_disk::Disk;
 use tune_format::{Firsts, Row, number_of_key, read_root, read_text};
 use tune_index::{Index, IndexKey};
 use tune_pages::{ClaimFault, Opening, pages_for};
-use tune_search::{SearchClaims, SearchEntries, SearchFirsts, SearchIndexes};
+use tune_search::{IncipitNotes, SearchClaims, SearchEntries, SearchFirsts, SearchIndexes};
 use tune_sets::{ReadFault, SetLists, TuneSet};
 use tune_store::{GREATEST_NUMBER, GREATEST_REVISION, Layout};
 
@@ -51,6 +52,7 @@ const MOST_SETS_PAGES: usize = 104;
 // The indexes of an archive with their entries, the set lists as bytes, and where all these begin.
 #[derive(Drop)]
 struct Lists {
+    layout: Layout,
     firsts: Firsts,
     numbers: Index<32>,
     tunes: Vec<(IndexKey<32>, u32)>,
@@ -85,16 +87,15 @@ pub fn claim<D: Disk>(alloc: Global, opening: &mut Opening<D>) -> Result<Content
 {
     // Its contract says that each page has the bytes of a block.
     let _count = opening.count();
-    // Files are of layout 1.
-    let layout = Layout::One;
     let Lists {
+        layout,
         firsts,
         numbers,
         tunes,
         searches,
         entries,
         sets,
-    } = claim_lists(alloc, opening, layout)?;
+    } = claim_lists(alloc, opening)?;
     let (rows, sets) = claim_texts(alloc, opening, layout, &tunes, entries, &sets)?;
     Ok(Contents {
         layout,
@@ -118,16 +119,15 @@ fn claim_texts<D: Disk>(
     entries: SearchEntries,
     sets: &[u8],
 ) -> Result<(Vec<Row>, SetLists), ClaimFault>
-    requires first { layout ≡ One }
     requires sized { D.honest opening.old.disk → AreBlocks opening.old.pages }
     ensures claimed { IfOk result (λ made. D.honest opening.new.disk → (contents : Contents)
         → contents.layout ≡ layout → contents.rows.items ≡ made.0.items → contents.sets ≡ made.1
-        → ClaimsLists opening.old.pages opening.old.claimed contents.firsts contents.numbers
-        tunes.now contents.searches (runs_in entries) sets.now
+        → ClaimsLists layout opening.old.pages opening.old.claimed contents.firsts
+        contents.numbers tunes.now contents.searches (runs_in entries) sets.now
         → IsClaimed opening.old.pages contents opening.new.claimed) }
     ensures rows { IfOk result (λ made. AreRows layout made.0.items) }
     ensures damaged { IfErr result (λ fault. D.honest opening.new.disk → (firsts : Firsts)
-        (shape : Shape) (shapes : SearchShape) → ListsClaimed opening.old.pages
+        (shape : Shape) (shapes : SearchShape) → ListsClaimed layout opening.old.pages
         opening.old.claimed firsts shape tunes.now shapes (runs_in entries) sets.now
         → IsChainFault fault (IsStateThere opening.old.pages)) }
     ensures looks { LooksOpening D.honest D.failures D.state result opening.old opening.new }
@@ -139,32 +139,30 @@ fn claim_texts<D: Disk>(
 }
 
 // Claims the indexes and the set lists.
-fn claim_lists<D: Disk>(
-    alloc: Global,
-    opening: &mut Opening<D>,
-    layout: Layout,
-) -> Result<Lists, ClaimFault>
-    requires first { layout ≡ One }
+fn claim_lists<D: Disk>(alloc: Global, opening: &mut Opening<D>) -> Result<Lists, ClaimFault>
     requires root { opening.old.claimed ≡ only_root (length opening.old.pages) }
     requires sized { D.honest opening.old.disk → AreBlocks opening.old.pages }
     ensures claims { IfOk result (λ lists. D.honest opening.new.disk
-        → 0 < length opening.old.pages → ClaimsLists opening.old.pages opening.new.claimed
-        lists.firsts lists.numbers lists.tunes.items lists.searches (runs_in lists.entries)
+        → 0 < length opening.old.pages
+        → ClaimsLists lists.layout opening.old.pages opening.new.claimed lists.firsts
+        lists.numbers lists.tunes.items lists.searches (runs_in lists.entries)
         lists.sets.items) }
     ensures damaged { IfErr result (λ fault. D.honest opening.new.disk
         → IsChainFault fault (IsStateThere opening.old.pages)) }
     ensures looks { LooksOpening D.honest D.failures D.state result opening.old opening.new }
 {
     let root = opening.read_root()?;
-    let Some(firsts) = read_root(layout, &root) else {
+    let Some((layout, firsts)) = read_root(&root) else {
         return Err(ClaimFault::Damaged);
     };
     let most = layout.most_tunes() as u32;
     let (numbers, tunes) = claim_index(alloc, opening, firsts.numbers, most)?;
     let most_entries = MOST_TITLES as u32 * most;
-    let (searches, entries) = claim_searches(alloc, opening, firsts.searches, most_entries)?;
+    let notes = incipit_notes(layout);
+    let (searches, entries) = claim_searches(alloc, opening, notes, firsts.searches, most_entries)?;
     let sets = claim_part(opening, firsts.sets, MOST_SETS_PAGES)?;
     Ok(Lists {
+        layout,
         firsts,
         numbers,
         tunes,
@@ -198,20 +196,23 @@ fn claim_index<D: Disk>(
 fn claim_searches<D: Disk>(
     alloc: Global,
     opening: &mut Opening<D>,
+    notes: IncipitNotes,
     firsts: SearchFirsts,
     most: u32,
 ) -> Result<(SearchIndexes, SearchEntries), ClaimFault>
+    ensures notes { IfOk result (λ loaded. loaded.0.notes ≡ notes_in notes) }
     ensures claims { IfOk result (λ loaded. D.honest opening.new.disk → (front : List Part)
         → HasClaimed opening.old.pages opening.old.claimed front
         → ClaimsSearch most opening.old.pages front opening.new.claimed firsts loaded.0
         (runs_in loaded.1)) }
     ensures damaged { IfErr result (λ fault. D.honest opening.new.disk → (front : List Part)
         → HasClaimed opening.old.pages opening.old.claimed front
-        → IsChainFault fault (IsSearchThere most opening.old.pages front firsts)) }
+        → IsChainFault fault
+        (IsSearchThere (notes_in notes) most opening.old.pages front firsts)) }
     ensures looks { LooksOpening D.honest D.failures D.state result opening.old opening.new }
 {
     let _count = opening.count();
-    SearchIndexes::load(alloc, opening, firsts, most)
+    SearchIndexes::load(alloc, opening, notes, firsts, most)
 }
 
 // Claims the part of at most so many pages that begins at this one, and gives its bytes.
@@ -318,17 +319,17 @@ fn search_claims(
 fn have_few(entries: &SearchEntries) -> bool
     ensures { IsTrue result ↔ HaveFew (runs_in entries.now) }
 {
-    is_short(&entries.titles)
-        && is_short(&entries.rhythms)
-        && is_short(&entries.scales)
-        && is_short(&entries.incipits)
+    is_short(entries.titles.len())
+        && is_short(entries.rhythms.len())
+        && is_short(entries.scales.len())
+        && is_short(entries.incipits.len())
 }
 
-// Whether there are fewer than 2^32 entries.
-fn is_short(entries: &[(IndexKey<32>, u32)]) -> bool
-    ensures { IsTrue result ↔ (length entries.now < 2 ^ 32) }
+// Whether so many entries are fewer than 2^32.
+fn is_short(count: usize) -> bool
+    ensures { IsTrue result ↔ (count < 2 ^ 32) }
 {
-    entries.len() <= 4_294_967_295
+    count <= 4_294_967_295
 }
 
 // The numbers of rows.

@@ -266,10 +266,13 @@ fn has_root<D: Disk>(
         return Ok(false);
     }
     let root = pages.read_page(work, 0)?;
-    match read_root(layout, &root) {
-        Some(found) => Ok(found == firsts),
-        None => Ok(false),
+    let Some((its, found)) = read_root(&root) else {
+        return Ok(false);
+    };
+    if its.number() != layout.number() {
+        return Ok(false);
     }
+    Ok(found == firsts)
 }
 
 // Puts a root on page 0 that says where these begin; one that says so already stays.

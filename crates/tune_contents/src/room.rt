@@ -8,7 +8,7 @@ use std::mem;
 use tune_format::Row;
 use tune_index::Index;
 use tune_pages::Fault;
-use tune_search::SearchIndexes;
+use tune_search::{IncipitNotes, SearchIndexes};
 
 /// Memory in which changes of an archive are laid, one after another, so that each uses that of
 /// those before it.
@@ -29,7 +29,7 @@ impl Room {
             alloc,
             rows: Vec::new(alloc),
             numbers: Index::new(alloc),
-            searches: SearchIndexes::new(alloc),
+            searches: SearchIndexes::new(alloc, IncipitNotes::Eight),
         }
     }
 
@@ -70,8 +70,9 @@ impl Room {
         ensures searches { IfOk result (λ copy. copy ≡ searches.now) }
         ensures err { IfErr result (λ fault. fault ≡ OutOfMemory) }
     {
-        let mut copy = mem::replace(&mut self.searches, SearchIndexes::new(self.alloc));
-        match copy.copy_from(searches) {
+        let none = SearchIndexes::new(self.alloc, IncipitNotes::Eight);
+        let mut copy = mem::replace(&mut self.searches, none);
+        match copy.copy_from(self.alloc, searches) {
             Ok(()) => Ok(copy),
             Err(_) => Err(Fault::OutOfMemory),
         }

@@ -10,6 +10,7 @@ ghost use Rattle.tune_pages.specs.Reading.{LooksAt, SameStand};
 ghost use Rattle.tune_pages.specs.Work.{stand, Fits};
 ghost use Rattle.tune_pages.specs.declared.fault.Fault.TheVariants.{OutOfMemory};
 ghost use Rattle.tune_parts.specs.Parts.{Part};
+ghost use Rattle.tune_search.specs.IncipitForms.{notes_in};
 ghost use Rattle.tune_search.specs.SearchPages.{AreListed, firsts_in, leaves_of};
 ghost use Rattle.tune_search.specs.Searches.{HoldsSomeTexts, HoldsTexts, SearchParts};
 ghost use Rattle.tune_search.specs.Searches.{numbered};
@@ -23,7 +24,8 @@ ghost use Rattle.tune_contents.specs.Holds.{labels_in};
 ghost use Rattle.tune_contents.specs.Inside.Changes.{HoldsTunesWithin, RowsAccept};
 ghost use Rattle.tune_contents.specs.Inside.Laying.{HoldsTunes};
 ghost use Rattle.tune_contents.specs.Inside.Searching.{AreRunsOut, ChangesTexts, HasSmallNumbers};
-ghost use Rattle.tune_contents.specs.Inside.Searching.{HoldsTextsWith, IsFullForTexts, IsOldPlace};
+ghost use Rattle.tune_contents.specs.Inside.Searching.{HoldsTextsWith, IsByNotes, IsFullForTexts};
+ghost use Rattle.tune_contents.specs.Inside.Searching.{IsOldPlace};
 ghost use Rattle.tune_contents.specs.Inside.Searching.{IsOldTune, IsSomeRun, IsTuneAt, LaysTexts};
 ghost use Rattle.tune_contents.specs.Inside.Searching.{PutsIn, PutsTexts, TakesOut, TakesSome};
 ghost use Rattle.tune_contents.specs.Inside.Searching.{TakesTexts, coming, search_pages};
@@ -36,7 +38,7 @@ use std::slice;
 use tune_disk::Disk;
 use tune_format::Row;
 use tune_pages::{Fault, Pages, Work};
-use tune_search::{Runs, SearchFirsts, SearchIndexes, law_of_search_pages};
+use tune_search::{IncipitNotes, Runs, SearchFirsts, SearchIndexes, law_of_search_pages};
 use tune_store::{Change, Layout};
 
 // What goes out of the search indexes with a change, and what comes in.
@@ -128,24 +130,35 @@ fn old_tune<D: Disk>(
 }
 
 // The entries of texts, whose numbers are `first` and those after it.
-fn runs_of(alloc: Global, first: u32, texts: &[TuneText]) -> Result<Option<Runs>, Fault>
+fn runs_of(
+    alloc: Global,
+    notes: IncipitNotes,
+    first: u32,
+    texts: &[TuneText],
+) -> Result<Option<Runs>, Fault>
     requires { first + length texts.now ≤ 2 ^ 32 }
+    ensures notes { IfOk result (λ run. IsByNotes (notes_in notes) run) }
     ensures runs { IfOk result (λ run. IsSome run × PutsIn run (numbered first texts.now)) }
     ensures err { IfErr result (λ fault. fault ≡ OutOfMemory) }
 {
-    match Runs::new(alloc, first, texts) {
+    match Runs::new(alloc, notes, first, texts) {
         Ok(runs) => Ok(Some(runs)),
         Err(_) => Err(Fault::OutOfMemory),
     }
 }
 
 // What goes: the entries of the tune that a change replaces, takes out or moves.
-fn runs_out(alloc: Global, old: &Option<(u32, TuneText)>) -> Result<Option<Runs>, Fault>
+fn runs_out(
+    alloc: Global,
+    notes: IncipitNotes,
+    old: &Option<(u32, TuneText)>,
+) -> Result<Option<Runs>, Fault>
+    ensures notes { IfOk result (λ gone. IsByNotes (notes_in notes) gone) }
     ensures runs { IfOk result (λ gone. AreRunsOut old.now gone) }
     ensures err { IfErr result (λ fault. fault ≡ OutOfMemory) }
 {
     match old {
-        Some((number, text)) => runs_of(alloc, *number, slice::from_ref(text)),
+        Some((number, text)) => runs_of(alloc, notes, *number, slice::from_ref(text)),
         None => Ok(None),
     }
 }
@@ -153,17 +166,23 @@ fn runs_out(alloc: Global, old: &Option<(u32, TuneText)>) -> Result<Option<Runs>
 // What comes: the entries of the new texts, or of the tune that a change moves, by its new number.
 fn runs_in(
     alloc: Global,
+    notes: IncipitNotes,
     change: &Change,
     old: &Option<(u32, TuneText)>,
 ) -> Result<Option<Runs>, Fault>
     requires { HasSmallNumbers change.now }
+    ensures notes { IfOk result (λ come. IsByNotes (notes_in notes) come) }
     ensures runs { IfOk result (λ come. PutsIn come (coming change.now old.now)) }
     ensures err { IfErr result (λ fault. fault ≡ OutOfMemory) }
 {
     match (change, old) {
-        (Change::Add { first, texts }, _) => runs_of(alloc, *first, texts),
-        (Change::Put { tune, .. }, _) => runs_of(alloc, tune.number, slice::from_ref(&tune.text)),
-        (Change::Move { to, .. }, Some((_, text))) => runs_of(alloc, *to, slice::from_ref(text)),
+        (Change::Add { first, texts }, _) => runs_of(alloc, notes, *first, texts),
+        (Change::Put { tune, .. }, _) => {
+            runs_of(alloc, notes, tune.number, slice::from_ref(&tune.text))
+        }
+        (Change::Move { to, .. }, Some((_, text))) => {
+            runs_of(alloc, notes, *to, slice::from_ref(text))
+        }
         _ => Ok(None),
     }
 }
@@ -175,6 +194,7 @@ pub(crate) fn text_runs<D: Disk>(
     pages: &mut Pages<D>,
     work: &Work,
     layout: Layout,
+    notes: IncipitNotes,
     rows: &[Row],
     change: &Change,
 ) -> Result<TextRuns, Fault>
@@ -194,6 +214,8 @@ pub(crate) fn text_runs<D: Disk>(
         → ChangesTexts runs.gone runs.come (numbered_texts tunes)
         (numbered_texts (changed_tunes change.now tunes))) }
     ensures come { IfOk result (λ runs. IsSomeRun runs.come) }
+    ensures gone_notes { IfOk result (λ runs. IsByNotes (notes_in notes) runs.gone) }
+    ensures come_notes { IfOk result (λ runs. IsByNotes (notes_in notes) runs.come) }
     ensures fits { OnOk result (Fits pages.new work.now) }
     ensures stand { OnOk result (SameStand (HonestAt D.honest pages.new.disk)
         (stand pages.old work.now) (stand pages.new work.now)) }
@@ -204,8 +226,8 @@ pub(crate) fn text_runs<D: Disk>(
         Ok(old) => old,
         Err(fault) => return Err(fault),
     };
-    let gone = runs_out(alloc, &old)?;
-    let come = runs_in(alloc, change, &old)?;
+    let gone = runs_out(alloc, notes, &old)?;
+    let come = runs_in(alloc, notes, change, &old)?;
     Ok(TextRuns { gone, come })
 }
 
@@ -219,9 +241,11 @@ fn take_runs<D: Disk>(
 ) -> Result<(), Fault>
     requires open { pages.old.closed ≡ false }
     requires fits { Fits pages.old work.old }
+    requires notes { IsByNotes searches.old.notes gone.now }
     requires holds { HonestAt D.honest pages.old.disk
         → HoldsSomeTexts (stand pages.old work.old) searches.old }
     ensures fits { OnOk result (Fits pages.new work.new) }
+    ensures notes { OnOk result (searches.new.notes ≡ searches.old.notes) }
     ensures lays { OnOk result (HonestAt D.honest pages.new.disk → TakesTexts
         (stand pages.old work.old) (stand pages.new work.new) searches.old searches.new gone.now) }
     ensures balance { OnOk result (free_pages (stand pages.old work.old).used
@@ -252,7 +276,9 @@ fn put_runs<D: Disk>(
     requires holds { HonestAt D.honest pages.old.disk
         → HoldsSomeTexts (stand pages.old work.old) searches.old }
     requires come { IsSomeRun come.now }
+    requires notes { IsByNotes searches.old.notes come.now }
     ensures fits { OnOk result (Fits pages.new work.new) }
+    ensures notes { OnOk result (searches.new.notes ≡ searches.old.notes) }
     ensures lays { OnOk result (HonestAt D.honest pages.new.disk → PutsTexts
         (stand pages.old work.old) (stand pages.new work.new) searches.old searches.new come.now) }
     ensures balance { OnOk result (free_pages (stand pages.old work.old).used
@@ -285,7 +311,10 @@ pub(crate) fn change_searches<D: Disk>(
     requires holds { HonestAt D.honest pages.old.disk
         → HoldsTextsWith (stand pages.old work.old) searches.old runs.now.gone }
     requires come { IsSomeRun runs.now.come }
+    requires gone_notes { IsByNotes searches.old.notes runs.now.gone }
+    requires come_notes { IsByNotes searches.old.notes runs.now.come }
     ensures fits { OnOk result (Fits pages.new work.new) }
+    ensures notes { OnOk result (searches.new.notes ≡ searches.old.notes) }
     ensures lays { OnOk result (HonestAt D.honest pages.new.disk → LaysTexts
         (stand pages.old work.old) (stand pages.new work.new) searches.old searches.new
         runs.now.gone runs.now.come) }

@@ -11,12 +11,12 @@ use Rattle.index_keys.specs.Cuts.{cut_number}
 use Rattle.index_keys.specs.Entries.{Entry}
 use Rattle.index_keys.specs.Holdings.{HoldsEntries}
 use Rattle.tune_incipit.specs.Incipits as Incipits
-use Rattle.tune_incipit.specs.SearchKeys.{scale_keys}
+use Rattle.tune_incipit.specs.SearchKeys.{incipit_keys, scale_keys}
 use Rattle.tune_index.specs.Leaves as Leaves
 use Rattle.tune_pages.specs.Chain as Chain
 use Rattle.tune_parts.specs.Parts.{chain_part, leaf_part}
 use Rattle.tune_search.specs.IndexParts.{IndexParts}
-use Rattle.tune_search.specs.Searches.{SearchParts, incipit_keys_of_text}
+use Rattle.tune_search.specs.Searches.{SearchParts}
 use Rattle.tune_store.specs.declared.layout.Layout.TheVariants.{One}
 use Rattle.tune_store.specs.declared.tune.Tune.{Tune}
 use Rattle.tune_titles.specs.SearchKeys.{rhythm_keys, title_keys}
@@ -54,7 +54,7 @@ its_scale : scale_keys text ≡ scale_key ∷ []
 unfolding Keys.key_of_text ScaleTable.listed_count
 its_scale = refl
 
-its_incipit : incipit_keys_of_text text ≡ incipit_key ∷ []
+its_incipit : incipit_keys 8 text ≡ incipit_key ∷ []
 unfolding Keys.key_of_text ScaleTable.listed_count Incipits.incipit_of Incipits.differences Pitches.sounded_notes Music.events_after_header
     Music.body_events Music.line_events Music.item_events Rows.first_item Rows.enclosed Rows.inline_field Rows.chord Rows.tuplet Rows.note Music.plain_events
     Music.written Pitches.borne Pitches.in_force
@@ -261,7 +261,7 @@ filed = record {
         hold = refl;
         rising = (omega arith, tt);
       };
-      exact = one_entry incipit_keys_of_text 1 incipit_key text its_incipit;
+      exact = one_entry (incipit_keys 8) 1 incipit_key text its_incipit;
     };
   };
   sets_are_chain = refl;

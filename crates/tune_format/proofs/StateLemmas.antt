@@ -1,26 +1,51 @@
 -- The state that pages stand for, and the one that they are read as.
-use Rattle.std.proofs.Common.{◌≡◌, ◌⊎◌, inl, inr, ℕ, List, [], ◌∷◌, refl, sym, ◌∙◌, ap, arith}
+use Rattle.std.proofs.Common.{◌≡◌, ◌⊎◌, inl, inr, ℕ, ◌*◌, ◌^◌, ◌<◌, ◌≤◌, List, [], ◌∷◌, refl, sym, ◌∙◌, ap, arith, ◌==◌, if◌then◌else◌}
 use Rattle.std.specs.List.{Contains}
 use Rattle.tune_journal.specs.Image.{StandsForEither}
-use Rattle.tune_store.specs.State.{State, IsState, empty_state}
+use Rattle.tune_store.specs.Limits.{layout_number, notes_of}
+use Rattle.tune_store.specs.State.{State, IsState, empty_of}
 use Rattle.tune_format.specs.Filed.{Filed}
 use Rattle.tune_parts.specs.Parts.{Part, chain_part}
 use Rattle.tune_format.specs.States.{IsStateOf, StandsForState, state_of_pages, state_in}
 use Rattle.tune_format.specs.Searched.{IsSearchIndex}
-use Rattle.tune_format.specs.Written.{IsRoot, no_firsts}
-use Rattle.tune_incipit.specs.SearchKeys.{scale_keys}
+use Rattle.tune_format.specs.Layout.{most_pages_of, version_offset}
+use Rattle.tune_format.specs.Reading.{layout_in}
+use Rattle.tune_format.specs.Written.{IsRoot, no_firsts, number_at}
+use Rattle.tune_journal.specs.Pages.{page_at}
+use Rattle.tune_incipit.specs.SearchKeys.{incipit_keys, scale_keys}
 use Rattle.tune_search.specs.IndexParts.{HoldsIndex, IndexParts}
-use Rattle.tune_search.specs.Searches.{incipit_keys_of_text, key_bytes}
-use Rattle.tune_store.specs.declared.layout.Layout.TheVariants.{One}
+use Rattle.tune_search.specs.Searches.{key_bytes}
+use Rattle.tune_store.specs.declared.layout.Layout.{Layout}
+use Rattle.tune_store.specs.declared.layout.Layout.TheVariants.{One, Two}
 use Rattle.tune_titles.specs.SearchKeys.{rhythm_keys, title_keys}
 use Rattle.tune_format.proofs.FileLemmas.{pages_read, tunes_filed, sets_filed}
 use Rattle.tune_format.proofs.TextLemmas.{none_held}
 
+-- THE LAYOUT
+-- in each, pages have numbers of four bytes
+pub few_pages : (layout : Layout) → most_pages_of layout < 2 ^ 32
+few_pages One = omega arith
+few_pages Two = omega arith
+
+-- layouts of one number are the same
+pub same_layout : (one other : Layout) → layout_number one ≡ layout_number other → one ≡ other
+same_layout One One same = refl
+same_layout One Two same = absurd (omega (arith, same))
+same_layout Two One same = absurd (omega (arith, same))
+same_layout Two Two same = refl
+
+-- and it is read off the root that says it
+layout_read : (layout : Layout) (pages : List (List ℕ)) → number_at version_offset (page_at pages 0) ≡ layout_number layout → layout_in pages ≡ layout
+layout_read One pages is = ap (λ (n : ℕ). if n == layout_number Two then Two else One) is
+layout_read Two pages is = ap (λ (n : ℕ). if n == layout_number Two then Two else One) is
+
+-- THE STATE
 pub state_read : (pages : List (List ℕ)) (state : State) → IsStateOf pages state → state_of_pages pages ≡ state
 state_read pages state is =
-    let tunes = tunes_filed pages state.tunes state.sets is.filed is.within.tunes (omega (arith, is.few)) in
+    let tunes = tunes_filed pages state.tunes state.sets is.filed is.within.tunes (omega (arith, is.few, few_pages state.layout)) in
     let sets = sets_filed pages state.tunes state.sets is.filed is.within.sets in
-    (λ i. record { layout = sym is.layout i; tunes = tunes i; sets = sets i })
+    let layout = layout_read state.layout pages is.filed.root.is_version in
+    (λ i. record { layout = layout i; tunes = tunes i; sets = sets i })
 
 pub file_read : (file : List ℕ) (state : State) → StandsForState file state → state_in file ≡ state
 unfolding state_in
@@ -41,23 +66,23 @@ no_part = chain_part 0 [] []
 no_index : IndexParts
 no_index = record { list = chain_part 0 [] []; leaves = [] }
 
-none_held_there : HoldsIndex key_bytes no_index []
+none_held_there : (width : ℕ) → HoldsIndex width no_index []
 unfolding no_index
-none_held_there = record { is_chain = refl; leaves = tt; listed = refl; hold = refl; rising = tt }
+none_held_there width = record { is_chain = refl; leaves = tt; listed = refl; hold = refl; rising = tt }
 
 pub none_among : {X : Type 0} (x : X) → Contains {X = X} [] x → ⊥
 none_among x (k, l, e) = omega arith
 
-no_entries : (keys_of : List ℕ → List ℕ) → IsSearchIndex keys_of [] no_index
-no_entries keys_of = record {
+no_entries : (width : ℕ) (keys_of : List ℕ → List ℕ) → IsSearchIndex width keys_of [] no_index
+no_entries width keys_of = record {
   entries = [];
-  holds = none_held_there;
+  holds = none_held_there width;
   exact = record { held = λ tune key c. absurd (none_among tune c); only = λ entry c. absurd (none_among entry c) };
 }
 
-pub empty_filed : (image : List ℕ) → IsRoot One image no_firsts → Filed One (image ∷ []) [] []
+pub empty_filed : (layout : Layout) (image : List ℕ) → IsRoot layout image no_firsts → Filed layout (image ∷ []) [] []
 unfolding no_part no_index
-empty_filed image root = record {
+empty_filed layout image root = record {
   numbers = no_index;
   searches = record { titles = no_index; rhythms = no_index; scales = no_index; incipits = no_index };
   set_lists = no_part;
@@ -76,24 +101,33 @@ empty_filed image root = record {
     apart = (refl, tt);
   };
   root = root;
-  are_numbers = none_held_there;
+  are_numbers = none_held_there key_bytes;
   are_searches = record {
-    titles = no_entries title_keys;
-    rhythms = no_entries rhythm_keys;
-    scales = no_entries scale_keys;
-    incipits = no_entries incipit_keys_of_text;
+    titles = no_entries key_bytes title_keys;
+    rhythms = no_entries key_bytes rhythm_keys;
+    scales = no_entries key_bytes scale_keys;
+    incipits = no_entries (4 * notes_of layout) (incipit_keys (notes_of layout));
   };
   sets_are_chain = refl;
   are_sets = refl;
   are_tunes = none_held;
 }
 
-pub empty_within : IsState empty_state
-empty_within = record {
+pub empty_within : (layout : Layout) → IsState (empty_of layout)
+empty_within One = record {
+  tunes = record { rises = tt; numbers = omega arith; each = tt; count = omega arith };
+  sets = record { rises = tt; each = tt; count = omega arith };
+  named = tt;
+}
+empty_within Two = record {
   tunes = record { rises = tt; numbers = omega arith; each = tt; count = omega arith };
   sets = record { rises = tt; each = tt; count = omega arith };
   named = tt;
 }
 
-pub empty_state_of : (image : List ℕ) → IsRoot One image no_firsts → IsStateOf (image ∷ []) empty_state
-empty_state_of image root = record { layout = refl; filed = empty_filed image root; within = empty_within; few = omega arith }
+few_of_one : (layout : Layout) → 1 ≤ most_pages_of layout
+few_of_one One = omega arith
+few_of_one Two = omega arith
+
+pub empty_state_of : (layout : Layout) (image : List ℕ) → IsRoot layout image no_firsts → IsStateOf (image ∷ []) (empty_of layout)
+empty_state_of layout image root = record { filed = empty_filed layout image root; within = empty_within layout; few = few_of_one layout }

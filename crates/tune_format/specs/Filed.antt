@@ -8,6 +8,7 @@ use Rattle.tune_search.specs.IndexParts.{HoldsIndex, IndexParts, parts_of_index}
 use Rattle.tune_search.specs.Searches.{SearchParts, parts_of_search, key_bytes}
 use Rattle.tune_sets.specs.SetBytes.{written_sets}
 use Rattle.tune_sets.specs.declared.set_lists.TuneSet.{TuneSet}
+use Rattle.tune_store.specs.Limits.{notes_of}
 use Rattle.tune_store.specs.declared.layout.Layout.{Layout}
 use Rattle.tune_store.specs.declared.tune.Tune.{Tune}
 use Rattle.tune_format.specs.Searched.{AreSearchIndexes}
@@ -72,7 +73,7 @@ pub record Filed (layout : Layout) (pages : List (List ℕ)) (tunes : List Tune)
   pub parts : AreParts pages (archive_parts numbers searches set_lists texts)
   pub root : IsRoot layout (page_at pages 0) (firsts_of numbers searches set_lists)
   pub are_numbers : HoldsIndex key_bytes numbers (number_entries (rows_of tunes texts))
-  pub are_searches : AreSearchIndexes (numbered_texts tunes) searches
+  pub are_searches : AreSearchIndexes (notes_of layout) (numbered_texts tunes) searches
   pub sets_are_chain : set_lists.kind ≡ chain
   pub are_sets : set_lists.bytes ≡ written_sets sets
   pub are_tunes : HoldTunes texts tunes

@@ -1,6 +1,8 @@
 -- How an archive is laid out on its pages: offsets and sizes in bytes. The code's constants are
 -- tied to these by the clauses of the functions that use them.
 use Rattle.std.specs.Prelude.{ℕ}
+use Rattle.tune_store.specs.declared.layout.Layout.{Layout}
+use Rattle.tune_store.specs.declared.layout.Layout.TheVariants.{One, Two}
 
 -- the root begins with the number of the layout
 abbrev pub version_offset : ℕ
@@ -39,5 +41,6 @@ abbrev pub revision_bytes : ℕ
 revision_bytes = 2
 
 -- how many pages an archive has at most
-abbrev pub most_pages_of_archive : ℕ
-most_pages_of_archive = 1000000
+abbrev pub most_pages_of : Layout → ℕ
+most_pages_of One = 1000000
+most_pages_of Two = 4000000

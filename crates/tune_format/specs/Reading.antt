@@ -12,9 +12,12 @@ use Rattle.tune_journal.specs.Pages.{page_at, changed}
 use Rattle.tune_pages.specs.Chain.{next_of, piece_of}
 use Rattle.tune_search.specs.Searches.{key_bytes}
 use Rattle.tune_sets.specs.declared.set_lists.TuneSet.{TuneSet}
+use Rattle.tune_store.specs.Limits.{layout_number}
+use Rattle.tune_store.specs.declared.layout.Layout.{Layout}
+use Rattle.tune_store.specs.declared.layout.Layout.TheVariants.{One, Two}
 use Rattle.tune_store.specs.declared.tune.Tune.{Tune}
 use Rattle.tune_format.specs.Layout.{numbers_offset, sets_offset, number_bytes, revision_bytes}
-use Rattle.tune_format.specs.Layout.{zeros_of_key}
+use Rattle.tune_format.specs.Layout.{version_offset, zeros_of_key}
 use Rattle.tune_format.specs.Written.{number_at}
 
 -- CHAINS
@@ -75,6 +78,11 @@ abbrev pub sets_written : List ℕ → List TuneSet
 sets_written bytes = sets_of (length bytes) bytes
 
 -- PAGES AND FILES
+-- the layout that pages are read in: the second where the root says so, else the first
+abbrev pub layout_in : List (List ℕ) → Layout
+layout_in pages =
+    if number_at version_offset (page_at pages 0) == layout_number Two then Two else One
+
 -- the tunes and the sets that pages are read as
 abbrev pub tunes_in : List (List ℕ) → List Tune
 tunes_in pages =

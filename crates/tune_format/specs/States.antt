@@ -1,18 +1,17 @@
 -- Which state of an archive pages and files stand for.
-use Rattle.std.specs.Prelude.{◌≡◌, ℕ, ◌≤◌, List, length}
+use Rattle.std.specs.Prelude.{ℕ, ◌≤◌, List, length}
 use Rattle.tune_journal.specs.Image.{StandsFor}
-use Rattle.tune_store.specs.declared.layout.Layout.TheVariants.{One}
 use Rattle.tune_store.specs.State.{State, IsState}
 use Rattle.tune_format.specs.Filed.{Filed}
-use Rattle.tune_format.specs.Layout.{most_pages_of_archive}
-use Rattle.tune_format.specs.Reading.{tunes_in, sets_in, pages_in}
+use Rattle.tune_format.specs.Layout.{most_pages_of}
+use Rattle.tune_format.specs.Reading.{layout_in, tunes_in, sets_in, pages_in}
 
--- The pages stand for a state: they hold its tunes and its sets, and it is within the limits.
+-- The pages stand for a state: they hold its tunes and its sets in its layout, and it is within
+-- the limits.
 pub record IsStateOf (pages : List (List ℕ)) (state : State) : Type 0 where
-  pub layout : state.layout ≡ One
   pub filed : Filed state.layout pages state.tunes state.sets
   pub within : IsState state
-  pub few : length pages ≤ most_pages_of_archive
+  pub few : length pages ≤ most_pages_of state.layout
 
 -- A file stands for a state.
 pub record StandsForState (file : List ℕ) (state : State) : Type 0 where
@@ -22,7 +21,11 @@ pub record StandsForState (file : List ℕ) (state : State) : Type 0 where
 
 -- the state that pages are read as, whatever they hold
 abbrev pub state_of_pages : List (List ℕ) → State
-state_of_pages pages = record { layout = One; tunes = tunes_in pages; sets = sets_in pages }
+state_of_pages pages = record {
+  layout = layout_in pages;
+  tunes = tunes_in pages;
+  sets = sets_in pages;
+}
 
 -- and the one that a file is read as
 unfoldable pub state_in : List ℕ → State

@@ -12,14 +12,14 @@ ghost use Rattle.tune_search.specs.Searches.{SearchParts, key_bytes};
 ghost use Rattle.tune_sets.specs.SetBytes.{written_sets};
 ghost use Rattle.tune_sets.specs.Sets.{AreSetLists};
 ghost use Rattle.tune_sets.specs.declared.set_lists.TuneSet.{TuneSet};
-ghost use Rattle.tune_store.specs.State.{State, IsTunes, empty_state};
+ghost use Rattle.tune_store.specs.Limits.{notes_of};
+ghost use Rattle.tune_store.specs.State.{State, IsTunes, empty_of};
 ghost use Rattle.tune_store.specs.declared.layout.Layout.{Layout};
-ghost use Rattle.tune_store.specs.declared.layout.Layout.TheVariants.{One};
 ghost use Rattle.tune_store.specs.declared.tune.Tune.{Tune};
 ghost use Rattle.tune_format.specs.Filed.{row_of, rows_of, HoldTunes, HoldsTuneAt, Filed};
 ghost use Rattle.tune_format.specs.Filed.{archive_parts, firsts_of, numbered_texts};
 ghost use Rattle.tune_format.specs.Searched.{AreSearchIndexes};
-ghost use Rattle.tune_format.specs.Layout.{most_pages_of_archive};
+ghost use Rattle.tune_format.specs.Layout.{most_pages_of};
 ghost use Rattle.tune_format.specs.Reading.{tunes_in, sets_in, pages_in};
 ghost use Rattle.tune_format.specs.States.{IsStateOf, StandsForState, state_of_pages};
 ghost use Rattle.tune_format.specs.States.{state_in};
@@ -70,8 +70,8 @@ pub fn law_of_texts()
         → HoldsParts s (archive_parts numbers searches set_lists texts)
         → IsRoot layout (page_at s.pages 0) (firsts_of numbers searches set_lists)
         → HoldsIndex key_bytes numbers (number_entries (rows_of tunes texts))
-        → AreSearchIndexes (numbered_texts tunes) searches → set_lists.kind ≡ chain
-        → set_lists.bytes ≡ written_sets sets → HoldTunes texts tunes
+        → AreSearchIndexes (notes_of layout) (numbered_texts tunes) searches
+        → set_lists.kind ≡ chain → set_lists.bytes ≡ written_sets sets → HoldTunes texts tunes
         → Filed layout s.pages tunes sets }
 {}
 
@@ -89,7 +89,7 @@ pub fn law_of_files()
         → pages_in file ≡ pages }
     ensures tunes { (layout : Layout) (pages : List (List ℕ)) (tunes : List Tune)
         (sets : List TuneSet) → Filed layout pages tunes sets → IsTunes layout tunes
-        → length pages ≤ most_pages_of_archive → tunes_in pages ≡ tunes }
+        → length pages ≤ most_pages_of layout → tunes_in pages ≡ tunes }
     ensures sets { (layout : Layout) (pages : List (List ℕ)) (tunes : List Tune)
         (sets : List TuneSet) → Filed layout pages tunes sets → AreSetLists sets
         → sets_in pages ≡ sets }
@@ -102,6 +102,6 @@ pub fn law_of_files()
     ensures either { (before after : List (List ℕ)) (old new : State) (file : List ℕ)
         → IsStateOf before old → IsStateOf after new → StandsForEither before after file
         → StandsForState file old ⊎ StandsForState file new }
-    ensures empty { (image : List ℕ) → IsRoot One image no_firsts
-        → IsStateOf (image ∷ []) empty_state }
+    ensures empty { (layout : Layout) (image : List ℕ) → IsRoot layout image no_firsts
+        → IsStateOf (image ∷ []) (empty_of layout) }
 {}

@@ -1,6 +1,4 @@
-//! How the tunes and set lists of an archive stand on its pages in layout 1, with indexes.
-//!
-//! No store uses it yet: files are of version 102, which is that of `tune_format`.
+//! How the tunes and set lists of an archive stand on its pages, with indexes, in each layout.
 #![tactic(auto)]
 
 mod changes;
@@ -12,6 +10,6 @@ mod texts;
 
 pub use changes::law_of_changes;
 pub use laws::{law_of_files, law_of_texts};
-pub use root::{Firsts, read_root, write_root};
+pub use root::{Firsts, most_pages, read_root, write_root};
 pub use rows::{Row, entry_of_row, key_of_number, number_of_key};
 pub use texts::{read_text, write_text};

@@ -1,6 +1,6 @@
 // The root of an archive.
 ghost use Rattle.std.specs.Prelude.{◌≡◌, ◌≢◌, ◌-◌, ◌≤◌, ◌++◌, length, replicate, IfSome, IfNone};
-ghost use Rattle.tune_format.specs.Layout.{version_offset};
+ghost use Rattle.tune_format.specs.Layout.{most_pages_of, version_offset};
 ghost use Rattle.tune_format.specs.Written.{IsRoot, head_of_root, number_at, root_bytes};
 ghost use Rattle.tune_store.specs.Limits.{layout_number};
 ghost use Rattle.tune_store.specs.declared.layout.Layout.{Layout};
@@ -60,18 +60,31 @@ fn head_bytes(layout: Layout, firsts: Firsts) -> [u8; HEAD_BYTES]
     bytes
 }
 
-/// Where the chains begin of an archive of this layout. `None` exactly where the root is one of
-/// another version.
-pub fn read_root(layout: Layout, image: &PageImage) -> Option<Firsts>
-    ensures some { IfSome result (λ firsts. IsRoot layout image.now.bytes firsts) }
-    ensures none { IfNone result
-        (number_at version_offset image.now.bytes ≢ layout_number layout) }
+// The layout of a version.
+fn layout_of(version: u32) -> Option<Layout>
+    ensures some { IfSome result (λ layout. version ≡ layout_number layout) }
+    ensures none { IfNone result ((layout : Layout) → version ≢ layout_number layout) }
+{
+    match version {
+        1 => Some(Layout::One),
+        2 => Some(Layout::Two),
+        _ => None,
+    }
+}
+
+/// The layout of an archive with this root, and where its chains begin. `None` exactly where the
+/// root is one of another version.
+pub fn read_root(image: &PageImage) -> Option<(Layout, Firsts)>
+    ensures some { IfSome result (λ root. IsRoot root.0 image.now.bytes root.1) }
+    ensures none { IfNone result ((layout : Layout)
+        → number_at version_offset image.now.bytes ≢ layout_number layout) }
 {
     let bytes = &image.bytes;
-    if number_at(bytes, 0) != layout.number() {
-        return None;
-    }
-    Some(Firsts {
+    let layout = match layout_of(number_at(bytes, 0)) {
+        Some(layout) => layout,
+        None => return None,
+    };
+    let firsts = Firsts {
         numbers: number_at(bytes, 4),
         searches: SearchFirsts {
             titles: number_at(bytes, 8),
@@ -80,5 +93,18 @@ pub fn read_root(layout: Layout, image: &PageImage) -> Option<Firsts>
             incipits: number_at(bytes, 20),
         },
         sets: number_at(bytes, 24),
-    })
+    };
+    Some((layout, firsts))
+}
+
+/// How many pages an archive of this layout has at most (this archive's profile).
+pub fn most_pages(layout: Layout) -> u32
+    ensures most { result ≡ most_pages_of layout }
+    ensures some { 1 ≤ result }
+    ensures bound { result ≤ 4000000 }
+{
+    match layout {
+        Layout::One => 1_000_000,
+        Layout::Two => 4_000_000,
+    }
 }

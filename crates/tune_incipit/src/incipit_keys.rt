@@ -60,6 +60,52 @@ impl Keyed<32> for EightNoteKeys {
         incipit_found 32 (incipit_of 8 (tune_notes text)) query.steps query.some is };
 }
 
+/// Tunes by the steps between their first twelve notes that count: each step and 2^31 in four
+/// bytes, the highest first, and zeros (this archive's profile). A tune without a step has no key.
+pub enum TwelveNoteKeys {}
+
+impl Keyed<48> for TwelveNoteKeys {
+    ghost use Rattle.std.specs.Prelude.{ℕ};
+    ghost use Rattle.index_keys.specs.Cuts.{cut_number};
+    ghost use Rattle.tune_incipit.specs.Incipits.{incipit_of, tune_notes, finds_steps};
+    ghost use Rattle.tune_incipit.specs.SearchKeys.{bytes_of_steps, incipit_keys};
+    ghost use Rattle.tune_incipit.specs.Inside.KeyLaws.{incipit_rises, incipit_found};
+
+    type Text = TuneText;
+
+    type Query = SomeSteps;
+
+    ghost keys_of = { incipit_keys 12 };
+
+    ghost low_of = { λ query. cut_number 48 0 (bytes_of_steps query.steps) };
+
+    ghost high_of = { λ query. cut_number 48 255 (bytes_of_steps query.steps) };
+
+    ghost matches = { λ query text. finds_steps 12 query.steps text };
+
+    fn keys(alloc: Global, text: &TuneText) -> Result<Vec<IndexKey<48>>, AllocError>
+        ensures { IfOk result (λ keys. keys.items ≡ incipit_keys 12 text.now) }
+    {
+        Vec::from_slice(alloc, key_of_twelve_notes(text).as_slice())
+    }
+
+    fn range(query: &SomeSteps) -> (IndexKey<48>, IndexKey<48>)
+        ensures low { result.0 ≡ cut_number 48 0 (bytes_of_steps query.now.steps) }
+        ensures high { result.1 ≡ cut_number 48 255 (bytes_of_steps query.now.steps) }
+    {
+        range_of_steps(query)
+    }
+
+    fn test(query: &SomeSteps, text: &TuneText) -> bool {
+        finds_steps(12, query, text)
+    }
+
+    ghost rise = { λ text. incipit_rises 48 (incipit_of 12 (tune_notes text)) };
+
+    ghost law = { λ query text is.
+        incipit_found 48 (incipit_of 12 (tune_notes text)) query.steps query.some is };
+}
+
 /// Whether the incipit of the tune, by its first `notes` notes that count, begins with these steps.
 pub fn finds_steps(notes: usize, front: &SomeSteps, text: &TuneText) -> bool
     requires few { fewest_notes ≤ notes }
@@ -74,6 +120,13 @@ pub fn key_of_incipit(text: &TuneText) -> Option<IndexKey<32>>
     ensures { option_to_list result ≡ incipit_keys 8 text.now }
 {
     key_of_notes(8, text)
+}
+
+/// The key of a tune by the steps between its first twelve notes that count, where it has a step.
+pub fn key_of_twelve_notes(text: &TuneText) -> Option<IndexKey<48>>
+    ensures { option_to_list result ≡ incipit_keys 12 text.now }
+{
+    key_of_notes(12, text)
 }
 
 // The key of a tune by its first `notes` notes that count, where it has a step.

@@ -13,7 +13,9 @@ mod scales;
 mod some_steps;
 mod step_lists;
 
-pub use incipit_keys::{EightNoteKeys, finds_steps, key_of_incipit};
+pub use incipit_keys::{
+    EightNoteKeys, TwelveNoteKeys, finds_steps, key_of_incipit, key_of_twelve_notes,
+};
 pub use incipits::{BadQuery, FEWEST_NOTES, MOST_NOTES, begins, query_steps, steps};
 pub use scale_keys::{ScaleKeys, key_of_scale};
 pub use some_steps::SomeSteps;

@@ -14,7 +14,7 @@ use Rattle.tune_parts.proofs.Once.{EachFree, free_once, free_past, marked_put, o
 use Rattle.tune_parts.proofs.PartLemmas.{each_used, has_part}
 use Rattle.tune_parts.proofs.Staying.{trails_join}
 use Rattle.tune_search.specs.IndexParts.{HoldsIndexAmong, HoldsSomeIndex, IndexParts, IsLeafPart, entries_of_parts, parts_of_index}
-use Rattle.tune_search.specs.Searches.{HoldsSomeTexts, HoldsTexts, SearchParts, SearchShape, key_bytes, parts_of_search}
+use Rattle.tune_search.specs.Searches.{HoldsSomeTexts, HoldsTexts, SearchParts, SearchShape, incipit_bytes, key_bytes, parts_of_search}
 
 -- LEAVES ON THEIR PAGES
 -- what leaves are as parts they are on the pages of an index
@@ -175,7 +175,7 @@ module _ (s : Stand) (shape : SearchShape) (before after : List Part) (parts : S
   pub scales_among : HoldsIndexAmong key_bytes s shape.scales (before_scales before parts) (behind_scales parts after) parts.scales texts.scales.entries
   scales_among = record { holds = subst (HoldsParts s) (at_scales before after parts) texts.holds; keeps = texts.scales.keeps }
 
-  pub incipits_among : HoldsIndexAmong key_bytes s shape.incipits (before_incipits before parts) after parts.incipits texts.incipits.entries
+  pub incipits_among : HoldsIndexAmong (incipit_bytes shape.notes) s shape.incipits (before_incipits before parts) after parts.incipits texts.incipits.entries
   incipits_among = record { holds = subst (HoldsParts s) (at_incipits before after parts) texts.holds; keeps = texts.incipits.keeps }
 
 -- whatever tunes stand there
@@ -207,7 +207,7 @@ module _ (s : Stand) (shape : SearchShape) (some : HoldsSomeTexts s shape) where
     scales_among s shape some.0 some.1 some.2 some.3 some.4,
   )
 
-  pub some_incipits : HoldsSomeIndex key_bytes s shape.incipits
+  pub some_incipits : HoldsSomeIndex (incipit_bytes shape.notes) s shape.incipits
   some_incipits = (
     before_incipits some.0 some.2,
     some.1,

@@ -6,25 +6,26 @@ use Rattle.index_keys.specs.Entries.{Entry, IsRising, inserted_all}
 use Rattle.index_keys.specs.Holdings.{AreSmall, HoldsEntries}
 use Rattle.index_keys.proofs.Holding.{holds_more}
 use Rattle.index_keys.proofs.RisingEntries.{inserted_all_rises}
-use Rattle.tune_incipit.specs.SearchKeys.{scale_keys}
+use Rattle.tune_incipit.specs.SearchKeys.{incipit_keys, scale_keys}
 use Rattle.tune_index.specs.Indexes.{KeepsBalance, Shape}
 use Rattle.tune_parts.specs.Parts.{Part}
 use Rattle.tune_search.specs.IndexParts.{HoldsIndexAmong, IndexParts, LaysIndex}
 use Rattle.tune_search.specs.Inside.Four.{HoldsFour, entry_count, put_in}
 use Rattle.tune_search.specs.SearchPages.{leaves_of, most_entries}
 use Rattle.tune_search.specs.Searches.{AreRunsOf, HoldsKeys, HoldsTexts, IsRunOf, SearchParts, SearchRuns, SearchShape}
-use Rattle.tune_search.specs.Searches.{incipit_keys_of_text, key_bytes}
+use Rattle.tune_search.specs.Searches.{incipit_bytes, key_bytes}
 use Rattle.tune_search.proofs.FewEntries.{few_among, few_by_incipit, few_by_rhythm, few_by_scale, few_by_title}
 use Rattle.tune_search.proofs.Four.{changed, incipits_among, one_laid, rhythms_among, same_entries, scales_among, three_laid, titles_among, two_laid}
 use Rattle.tune_search.proofs.Four.{with_rhythms, with_scales, with_titles}
+use Rattle.tune_search.proofs.AsManyNotes.{notes_run}
 use Rattle.tune_search.proofs.Texts.{entries_of_texts, texts_four}
 use Rattle.tune_titles.specs.SearchKeys.{rhythm_keys, title_keys}
 
 -- WHERE THE FILE IS FULL
 -- for one index, and for four
-abbrev pub IsFullFor : Stand → Shape → (List Entry → List Entry) → Type 0
-IsFullFor s shape change = (before after : List Part) (parts : IndexParts) (entries : List Entry)
-    → HoldsIndexAmong key_bytes s shape before after parts entries → free_pages s.used + length shape.pages < length (change entries)
+abbrev pub IsFullFor : ℕ → Stand → Shape → (List Entry → List Entry) → Type 0
+IsFullFor width s shape change = (before after : List Part) (parts : IndexParts) (entries : List Entry)
+    → HoldsIndexAmong width s shape before after parts entries → free_pages s.used + length shape.pages < length (change entries)
 
 abbrev pub AreFullFor : Stand → SearchShape → (SearchRuns → SearchRuns) → Type 0
 AreFullFor s shape change = (before after : List Part) (parts : SearchParts) (entries : SearchRuns)
@@ -53,11 +54,11 @@ module _ (was : SearchShape) (titles rhythms scales : Shape) (t r c i : List Ent
   few_incipits : (s : Stand) (before after : List Part) (parts : SearchParts) (entries : SearchRuns) → HoldsFour s was before after parts entries
       → length was.incipits.pages ≤ length (i entries.incipits)
   few_incipits s before after parts entries h =
-      let few = few_among key_bytes s was.incipits _ _ parts.incipits entries.incipits (incipits_among s was before after parts entries h) in
+      let few = few_among (incipit_bytes was.notes) s was.incipits _ _ parts.incipits entries.incipits (incipits_among s was before after parts entries h) in
       let grown = more_i entries.incipits in
       omega arith
 
-  pub titles_full : (s0 : Stand) → IsFullFor s0 was.titles t → AreFullFor s0 was (changed t r c i)
+  pub titles_full : (s0 : Stand) → IsFullFor key_bytes s0 was.titles t → AreFullFor s0 was (changed t r c i)
   titles_full s0 full = λ before after parts entries h.
       let none = full _ _ parts.titles entries.titles (titles_among s0 was before after parts entries h) in
       let rest_r = few_rhythms s0 before after parts entries h in
@@ -66,7 +67,7 @@ module _ (was : SearchShape) (titles rhythms scales : Shape) (t r c i : List Ent
       omega arith
 
   pub rhythms_full : (s0 s1 : Stand) → LaysIndex key_bytes s0 s1 was.titles titles t → KeepsBalance s0 s1 was.titles.pages titles.pages
-      → IsFullFor s1 was.rhythms r → AreFullFor s0 was (changed t r c i)
+      → IsFullFor key_bytes s1 was.rhythms r → AreFullFor s0 was (changed t r c i)
   rhythms_full s0 s1 first one full = λ before after parts entries h.
       let is = with_titles titles was in
       let more = changed t same_entries same_entries same_entries entries in
@@ -79,7 +80,7 @@ module _ (was : SearchShape) (titles rhythms scales : Shape) (t r c i : List Ent
 
   pub scales_full : (s0 s1 s2 : Stand) → LaysIndex key_bytes s0 s1 was.titles titles t → LaysIndex key_bytes s1 s2 was.rhythms rhythms r
       → KeepsBalance s0 s1 was.titles.pages titles.pages → KeepsBalance s1 s2 was.rhythms.pages rhythms.pages
-      → IsFullFor s2 was.scales c → AreFullFor s0 was (changed t r c i)
+      → IsFullFor key_bytes s2 was.scales c → AreFullFor s0 was (changed t r c i)
   scales_full s0 s1 s2 first second one two full = λ before after parts entries h.
       let is = with_rhythms rhythms (with_titles titles was) in
       let more = changed t r same_entries same_entries entries in
@@ -93,7 +94,7 @@ module _ (was : SearchShape) (titles rhythms scales : Shape) (t r c i : List Ent
   pub incipits_full : (s0 s1 s2 s3 : Stand) → LaysIndex key_bytes s0 s1 was.titles titles t → LaysIndex key_bytes s1 s2 was.rhythms rhythms r
       → LaysIndex key_bytes s2 s3 was.scales scales c → KeepsBalance s0 s1 was.titles.pages titles.pages
       → KeepsBalance s1 s2 was.rhythms.pages rhythms.pages → KeepsBalance s2 s3 was.scales.pages scales.pages
-      → IsFullFor s3 was.incipits i → AreFullFor s0 was (changed t r c i)
+      → IsFullFor (incipit_bytes was.notes) s3 was.incipits i → AreFullFor s0 was (changed t r c i)
   incipits_full s0 s1 s2 s3 first second third one two three full = λ before after parts entries h.
       let is = with_scales scales (with_rhythms rhythms (with_titles titles was)) in
       let more = changed t r c same_entries entries in
@@ -106,8 +107,8 @@ module _ (was : SearchShape) (titles rhythms scales : Shape) (t r c i : List Ent
 
 -- HOW MANY ENTRIES MORE TUNES HAVE
 -- an index with a run put in
-module _ (keys_of : List ℕ → List ℕ) (tunes more : List (ℕ × List ℕ)) (was : Shape) (parts : IndexParts) (run : List Entry) (small : AreSmall tunes)
-    (also : AreSmall more) (are : IsRunOf keys_of more run) (h : HoldsKeys keys_of tunes was parts) where
+module _ (width : ℕ) (keys_of : List ℕ → List ℕ) (tunes more : List (ℕ × List ℕ)) (was : Shape) (parts : IndexParts) (run : List Entry)
+    (small : AreSmall tunes) (also : AreSmall more) (are : IsRunOf width keys_of more run) (h : HoldsKeys width keys_of tunes was parts) where
   rising_more : IsRising (inserted_all run h.entries)
   rising_more = inserted_all_rises run h.entries h.keeps.rising
 
@@ -115,32 +116,35 @@ module _ (keys_of : List ℕ → List ℕ) (tunes more : List (ℕ × List ℕ))
   exact_more = holds_more keys_of tunes more h.entries run small also h.exact are.exact
 
 pub few_more : (s : Stand) (shape : SearchShape) (runs : SearchRuns) (before after : List Part) (parts : SearchParts) (tunes more : List (ℕ × List ℕ))
-    → AreSmall tunes → AreSmall more → AreRunsOf more runs → (h : HoldsTexts s shape before after parts tunes)
+    → AreSmall tunes → AreSmall more → runs.notes ≡ shape.notes → AreRunsOf more runs → (h : HoldsTexts s shape before after parts tunes)
     → entry_count (put_in runs (entries_of_texts s shape before after parts tunes h)) ≤ most_entries * length (tunes ++ more)
-few_more s shape runs before after parts tunes more small also are h =
+few_more s shape runs before after parts tunes more small also same are h =
     let all = tunes ++ more in
     let titles = few_by_title all (inserted_all runs.titles h.titles.entries)
-    (rising_more title_keys tunes more shape.titles parts.titles runs.titles small also are.titles h.titles)
-    (exact_more title_keys tunes more shape.titles parts.titles runs.titles small also are.titles h.titles) in
+    (rising_more key_bytes title_keys tunes more shape.titles parts.titles runs.titles small also are.titles h.titles)
+    (exact_more key_bytes title_keys tunes more shape.titles parts.titles runs.titles small also are.titles h.titles) in
     let rhythms = few_by_rhythm all (inserted_all runs.rhythms h.rhythms.entries)
-    (rising_more rhythm_keys tunes more shape.rhythms parts.rhythms runs.rhythms small also are.rhythms h.rhythms)
-    (exact_more rhythm_keys tunes more shape.rhythms parts.rhythms runs.rhythms small also are.rhythms h.rhythms) in
+    (rising_more key_bytes rhythm_keys tunes more shape.rhythms parts.rhythms runs.rhythms small also are.rhythms h.rhythms)
+    (exact_more key_bytes rhythm_keys tunes more shape.rhythms parts.rhythms runs.rhythms small also are.rhythms h.rhythms) in
     let scales = few_by_scale all (inserted_all runs.scales h.scales.entries)
-    (rising_more scale_keys tunes more shape.scales parts.scales runs.scales small also are.scales h.scales)
-    (exact_more scale_keys tunes more shape.scales parts.scales runs.scales small also are.scales h.scales) in
-    let incipits = few_by_incipit all (inserted_all runs.incipits h.incipits.entries)
-    (rising_more incipit_keys_of_text tunes more shape.incipits parts.incipits runs.incipits small also are.incipits h.incipits)
-    (exact_more incipit_keys_of_text tunes more shape.incipits parts.incipits runs.incipits small also are.incipits h.incipits) in
+    (rising_more key_bytes scale_keys tunes more shape.scales parts.scales runs.scales small also are.scales h.scales)
+    (exact_more key_bytes scale_keys tunes more shape.scales parts.scales runs.scales small also are.scales h.scales) in
+    let width = incipit_bytes shape.notes in
+    let keys_of = incipit_keys shape.notes in
+    let run = notes_run runs.notes shape.notes more runs.incipits same are.incipits in
+    let incipits = few_by_incipit shape.notes all (inserted_all runs.incipits h.incipits.entries)
+    (rising_more width keys_of tunes more shape.incipits parts.incipits runs.incipits small also run h.incipits)
+    (exact_more width keys_of tunes more shape.incipits parts.incipits runs.incipits small also run h.incipits) in
     omega arith
 
 -- so many pages are free
-pub full_for_texts : (s : Stand) (shape : SearchShape) (runs : SearchRuns) → AreFullFor s shape (λ entries. put_in runs entries)
+pub full_for_texts : (s : Stand) (shape : SearchShape) (runs : SearchRuns) → runs.notes ≡ shape.notes → AreFullFor s shape (λ entries. put_in runs entries)
     → (before after : List Part) (parts : SearchParts) (tunes more : List (ℕ × List ℕ)) → AreSmall tunes → AreSmall more → AreRunsOf more runs
     → HoldsTexts s shape before after parts tunes → free_pages s.used + leaves_of shape < most_entries * length (tunes ++ more)
-full_for_texts s shape runs full before after parts tunes more small also are h =
+full_for_texts s shape runs same full before after parts tunes more small also are h =
     let entries = entries_of_texts s shape before after parts tunes h in
     let none = full before after parts entries (texts_four s shape before after parts tunes h) in
-    let few = few_more s shape runs before after parts tunes more small also are h in
+    let few = few_more s shape runs before after parts tunes more small also same are h in
     omega arith
 
 -- FOUR CALLS, ONE AFTER ANOTHER

@@ -18,14 +18,14 @@ use Rattle.index_keys.specs.Inside.Members.{contains_cases, contains_first, cont
 use Rattle.index_keys.specs.Keys.{rising_keys, with_key}
 use Rattle.tune_incipit.specs.Incipits.{incipit_of, tune_notes}
 use Rattle.tune_incipit.specs.Scales.{scale_of_text}
-use Rattle.tune_incipit.specs.SearchKeys.{incipit_keys_of, scale_keys, scale_keys_of}
+use Rattle.tune_incipit.specs.SearchKeys.{incipit_keys, incipit_keys_of, scale_keys, scale_keys_of}
 use Rattle.tune_index.proofs.Beside.{few_leaves}
 use Rattle.tune_index.specs.Indexes.{Shape}
 use Rattle.tune_parts.specs.Parts.{Part}
 use Rattle.tune_search.specs.IndexParts.{HoldsIndexAmong, IndexParts}
 use Rattle.tune_search.specs.Inside.TextEntries.{entries_at, entries_of_tunes}
 use Rattle.tune_search.specs.SearchPages.{HasFewLeaves}
-use Rattle.tune_search.specs.Searches.{HoldsTexts, SearchParts, SearchShape, incipit_keys_of_text, key_bytes, notes_of_incipit}
+use Rattle.tune_search.specs.Searches.{HoldsTexts, SearchParts, SearchShape, incipit_bytes, key_bytes}
 use Rattle.tune_search.proofs.AmongLemmas.{among_entries, among_index, incipits_among, rhythms_among, scales_among, titles_among}
 use Rattle.tune_search.proofs.TextRuns.{held_in}
 use Rattle.tune_titles.specs.SearchKeys.{rhythm_keys, rhythm_keys_of, title_keys}
@@ -153,11 +153,10 @@ pub few_by_scale : (tunes : List (ℕ × List ℕ)) (es : List Entry) → IsRisi
 few_by_scale tunes es up holds =
     let few = few_entries scale_keys 1 (λ text. one_scale (scale_of_text (key_text_of text))) tunes es up holds in omega arith
 
-pub few_by_incipit : (tunes : List (ℕ × List ℕ)) (es : List Entry) → IsRising es → HoldsEntries incipit_keys_of_text tunes es
+pub few_by_incipit : (notes : ℕ) (tunes : List (ℕ × List ℕ)) (es : List Entry) → IsRising es → HoldsEntries (incipit_keys notes) tunes es
     → length es ≤ length tunes
-few_by_incipit tunes es up holds =
-    let few = few_entries incipit_keys_of_text 1
-    (λ text. one_incipit (4 * notes_of_incipit) (incipit_of notes_of_incipit (tune_notes text))) tunes es up holds in omega arith
+few_by_incipit notes tunes es up holds =
+    let few = few_entries (incipit_keys notes) 1 (λ text. one_incipit (4 * notes) (incipit_of notes (tune_notes text))) tunes es up holds in omega arith
 
 -- LEAVES
 pub few_among : (width : ℕ) (s : Stand) (shape : Shape) (before after : List Part) (parts : IndexParts) (entries : List Entry)
@@ -190,6 +189,7 @@ few_for_texts s shape before after parts tunes h = record { titles = titles; rhy
 
     incipits : length shape.incipits.pages ≤ length tunes
     incipits =
-        let leaves = few_among key_bytes s shape.incipits _ _ parts.incipits h.incipits.entries (incipits_among s shape before after parts tunes h) in
-        let few = few_by_incipit tunes h.incipits.entries h.incipits.keeps.rising h.incipits.exact in
+        let leaves = few_among (incipit_bytes shape.notes) s shape.incipits _ _ parts.incipits h.incipits.entries
+        (incipits_among s shape before after parts tunes h) in
+        let few = few_by_incipit shape.notes tunes h.incipits.entries h.incipits.keeps.rising h.incipits.exact in
         omega arith

@@ -3,6 +3,7 @@ pub mod Laid
 pub mod Four
 pub mod Texts
 pub mod TextRuns
+pub mod AsManyNotes
 pub mod AmongLemmas
 pub mod FewEntries
 pub mod Balances

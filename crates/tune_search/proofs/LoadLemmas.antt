@@ -10,7 +10,7 @@ use Rattle.tune_index.specs.Indexes.{Shape}
 use Rattle.tune_index.specs.Listed.{IsStored, LoadsIndex, StoredIndex, listed_bytes, numbers_in}
 use Rattle.tune_index.proofs.Loading.{stored_bytes}
 use Rattle.tune_search.specs.Loaded.{AreStored, IsStoredThen}
-use Rattle.tune_search.specs.Searches.{key_bytes}
+use Rattle.tune_search.specs.Searches.{incipit_bytes, key_bytes}
 use Rattle.tune_search.specs.declared.loading.SearchFirsts.{SearchFirsts}
 
 -- what is stored there is one index, with one list and its leaves
@@ -33,9 +33,9 @@ stored_then most pages claimed after first shape entries Then few loads (trail, 
     ∙ ap (λ (ps : List ℕ). marked true ps (marked true trail claimed)) same.1)) then
 
 -- there are as many marks as before
-pub still_few : (most : ℕ) (pages : List (List ℕ)) (claimed after : List Bool) (first : ℕ) (shape : Shape) (entries : List Entry)
-    → LoadsIndex key_bytes most pages claimed after first shape entries → length claimed < 256 ^ 4 → length after < 256 ^ 4
-still_few most pages claimed after first shape entries loads few =
+pub still_few : (width most : ℕ) (pages : List (List ℕ)) (claimed after : List Bool) (first : ℕ) (shape : Shape) (entries : List Entry)
+    → LoadsIndex width most pages claimed after first shape entries → length claimed < 256 ^ 4 → length after < 256 ^ 4
+still_few width most pages claimed after first shape entries loads few =
     let marks = marked true loads.trail claimed in
     let same = ap (λ (m : List Bool). length m) loads.marks in
     omega (arith, same, length-marked true shape.pages marks, length-marked true loads.trail claimed, few)
@@ -55,14 +55,14 @@ fault_behind fault most pages claimed after first shape entries Then few loads n
     (λ all. stored_then most pages claimed after first shape entries Then few loads all) none
 
 -- what comes behind the titles, the rhythms and the scales
-abbrev Incipits : ℕ → List (List ℕ) → SearchFirsts → List Bool → Type 0
-Incipits most pages firsts marks = IsStored key_bytes most pages marks firsts.incipits
+abbrev Incipits : ℕ → ℕ → List (List ℕ) → SearchFirsts → List Bool → Type 0
+Incipits notes most pages firsts marks = IsStored (incipit_bytes notes) most pages marks firsts.incipits
 
-abbrev Scales : ℕ → List (List ℕ) → SearchFirsts → List Bool → Type 0
-Scales most pages firsts marks = IsStoredThen most pages marks firsts.scales (Incipits most pages firsts)
+abbrev Scales : ℕ → ℕ → List (List ℕ) → SearchFirsts → List Bool → Type 0
+Scales notes most pages firsts marks = IsStoredThen most pages marks firsts.scales (Incipits notes most pages firsts)
 
-abbrev Rhythms : ℕ → List (List ℕ) → SearchFirsts → List Bool → Type 0
-Rhythms most pages firsts marks = IsStoredThen most pages marks firsts.rhythms (Scales most pages firsts)
+abbrev Rhythms : ℕ → ℕ → List (List ℕ) → SearchFirsts → List Bool → Type 0
+Rhythms notes most pages firsts marks = IsStoredThen most pages marks firsts.rhythms (Scales notes most pages firsts)
 
 -- calls see the pages again, the same ones
 loads_here : (most : ℕ) (now pages : List (List ℕ)) (claimed after : List Bool) (first : ℕ) (shape : Shape) (entries : List Entry) → now ≡ pages
@@ -70,10 +70,10 @@ loads_here : (most : ℕ) (now pages : List (List ℕ)) (claimed after : List Bo
 loads_here most now pages claimed after first shape entries same loads =
     subst (λ (ps : List (List ℕ)). LoadsIndex key_bytes most ps claimed after first shape entries) same loads
 
-fault_here : (fault : ClaimFault) (most : ℕ) (now pages : List (List ℕ)) (claimed : List Bool) (first : ℕ) → now ≡ pages
-    → IsChainFault fault (IsStored key_bytes most now claimed first) → IsChainFault fault (IsStored key_bytes most pages claimed first)
-fault_here fault most now pages claimed first same none =
-    subst (λ (ps : List (List ℕ)). IsChainFault fault (IsStored key_bytes most ps claimed first)) same none
+fault_here : (fault : ClaimFault) (width most : ℕ) (now pages : List (List ℕ)) (claimed : List Bool) (first : ℕ) → now ≡ pages
+    → IsChainFault fault (IsStored width most now claimed first) → IsChainFault fault (IsStored width most pages claimed first)
+fault_here fault width most now pages claimed first same none =
+    subst (λ (ps : List (List ℕ)). IsChainFault fault (IsStored width most ps claimed first)) same none
 
 -- An index was loaded: the pages that the call saw, and the marks before and after it.
 pub record Loaded (most : ℕ) (pages : List (List ℕ)) (claimed after : List Bool) (first : ℕ) : Type 0 where
@@ -85,7 +85,7 @@ pub record Loaded (most : ℕ) (pages : List (List ℕ)) (claimed after : List B
 
 few_behind : (most : ℕ) (pages : List (List ℕ)) (claimed after : List Bool) (first : ℕ) → Loaded most pages claimed after first
     → length claimed < 256 ^ 4 → length after < 256 ^ 4
-few_behind most pages claimed after first one few = still_few most one.now claimed after first one.shape one.entries one.loads few
+few_behind most pages claimed after first one few = still_few key_bytes most one.now claimed after first one.shape one.entries one.loads few
 
 loaded_fault : (fault : ClaimFault) (most : ℕ) (pages : List (List ℕ)) (claimed after : List Bool) (first : ℕ) (Then : List Bool → Type 0)
     → Loaded most pages claimed after first → length claimed < 256 ^ 4 → IsChainFault fault (Then after)
@@ -94,37 +94,37 @@ loaded_fault fault most pages claimed after first Then one few none =
     fault_behind fault most pages claimed after first one.shape one.entries Then few
     (loads_here most one.now pages claimed after first one.shape one.entries one.same one.loads) none
 
-module _ (fault : ClaimFault) (most : ℕ) (now pages : List (List ℕ)) (claimed : List Bool) (firsts : SearchFirsts) (same : now ≡ pages)
+module _ (fault : ClaimFault) (notes most : ℕ) (now pages : List (List ℕ)) (claimed : List Bool) (firsts : SearchFirsts) (same : now ≡ pages)
     (few : length claimed < 256 ^ 4) where
-  pub no_titles : IsChainFault fault (IsStored key_bytes most now claimed firsts.titles) → IsChainFault fault (AreStored most pages claimed firsts)
-  no_titles none = fault_first fault most pages claimed firsts.titles (Rhythms most pages firsts)
-      (fault_here fault most now pages claimed firsts.titles same none)
+  pub no_titles : IsChainFault fault (IsStored key_bytes most now claimed firsts.titles) → IsChainFault fault (AreStored notes most pages claimed firsts)
+  no_titles none = fault_first fault most pages claimed firsts.titles (Rhythms notes most pages firsts)
+      (fault_here fault key_bytes most now pages claimed firsts.titles same none)
 
   pub no_rhythms : (with_titles : List Bool) → Loaded most pages claimed with_titles firsts.titles
       → IsChainFault fault (IsStored key_bytes most now with_titles firsts.rhythms)
-      → IsChainFault fault (AreStored most pages claimed firsts)
-  no_rhythms with_titles titles none = loaded_fault fault most pages claimed with_titles firsts.titles (Rhythms most pages firsts) titles few
-      (fault_first fault most pages with_titles firsts.rhythms (Scales most pages firsts)
-      (fault_here fault most now pages with_titles firsts.rhythms same none))
+      → IsChainFault fault (AreStored notes most pages claimed firsts)
+  no_rhythms with_titles titles none = loaded_fault fault most pages claimed with_titles firsts.titles (Rhythms notes most pages firsts) titles few
+      (fault_first fault most pages with_titles firsts.rhythms (Scales notes most pages firsts)
+      (fault_here fault key_bytes most now pages with_titles firsts.rhythms same none))
 
   pub no_scales : (with_titles with_rhythms : List Bool) → Loaded most pages claimed with_titles firsts.titles
       → Loaded most pages with_titles with_rhythms firsts.rhythms
-      → IsChainFault fault (IsStored key_bytes most now with_rhythms firsts.scales) → IsChainFault fault (AreStored most pages claimed firsts)
+      → IsChainFault fault (IsStored key_bytes most now with_rhythms firsts.scales) → IsChainFault fault (AreStored notes most pages claimed firsts)
   no_scales with_titles with_rhythms titles rhythms none =
       let few_then = few_behind most pages claimed with_titles firsts.titles titles few in
-      loaded_fault fault most pages claimed with_titles firsts.titles (Rhythms most pages firsts) titles few
-      (loaded_fault fault most pages with_titles with_rhythms firsts.rhythms (Scales most pages firsts) rhythms few_then
-      (fault_first fault most pages with_rhythms firsts.scales (Incipits most pages firsts)
-      (fault_here fault most now pages with_rhythms firsts.scales same none)))
+      loaded_fault fault most pages claimed with_titles firsts.titles (Rhythms notes most pages firsts) titles few
+      (loaded_fault fault most pages with_titles with_rhythms firsts.rhythms (Scales notes most pages firsts) rhythms few_then
+      (fault_first fault most pages with_rhythms firsts.scales (Incipits notes most pages firsts)
+      (fault_here fault key_bytes most now pages with_rhythms firsts.scales same none)))
 
   pub no_incipits : (with_titles with_rhythms with_scales : List Bool) → Loaded most pages claimed with_titles firsts.titles
       → Loaded most pages with_titles with_rhythms firsts.rhythms
-      → Loaded most pages with_rhythms with_scales firsts.scales → IsChainFault fault (IsStored key_bytes most now with_scales firsts.incipits)
-      → IsChainFault fault (AreStored most pages claimed firsts)
+      → Loaded most pages with_rhythms with_scales firsts.scales → IsChainFault fault (IsStored (incipit_bytes notes) most now with_scales firsts.incipits)
+      → IsChainFault fault (AreStored notes most pages claimed firsts)
   no_incipits with_titles with_rhythms with_scales titles rhythms scales none =
       let few_then = few_behind most pages claimed with_titles firsts.titles titles few in
       let few_later = few_behind most pages with_titles with_rhythms firsts.rhythms rhythms few_then in
-      loaded_fault fault most pages claimed with_titles firsts.titles (Rhythms most pages firsts) titles few
-      (loaded_fault fault most pages with_titles with_rhythms firsts.rhythms (Scales most pages firsts) rhythms few_then
-      (loaded_fault fault most pages with_rhythms with_scales firsts.scales (Incipits most pages firsts) scales few_later
-      (fault_here fault most now pages with_scales firsts.incipits same none)))
+      loaded_fault fault most pages claimed with_titles firsts.titles (Rhythms notes most pages firsts) titles few
+      (loaded_fault fault most pages with_titles with_rhythms firsts.rhythms (Scales notes most pages firsts) rhythms few_then
+      (loaded_fault fault most pages with_rhythms with_scales firsts.scales (Incipits notes most pages firsts) scales few_later
+      (fault_here fault (incipit_bytes notes) most now pages with_scales firsts.incipits same none)))

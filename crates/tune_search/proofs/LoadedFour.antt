@@ -8,7 +8,7 @@ use Rattle.tune_search.specs.Claiming.{ClaimsParts, HasClaimed, HoldEachAtMost, 
 use Rattle.tune_search.specs.Claiming.{search_loaded}
 use Rattle.tune_search.specs.IndexParts.{IndexParts, parts_of_index}
 use Rattle.tune_search.specs.Loaded.{AreStored, IsStoredThen, LoadsSearch}
-use Rattle.tune_search.specs.Searches.{SearchParts, SearchRuns, SearchShape, key_bytes, parts_of_search}
+use Rattle.tune_search.specs.Searches.{SearchParts, SearchRuns, SearchShape, incipit_bytes, key_bytes, parts_of_search}
 use Rattle.tune_search.specs.declared.loading.SearchFirsts.{SearchFirsts}
 use Rattle.tune_search.proofs.ClaimedParts.{parts_behind}
 use Rattle.tune_search.proofs.LoadedIndex.{claims_there, held_loaded, loaded_claims, pages_of, same_loaded, stored_there, there_stored}
@@ -31,10 +31,11 @@ held_four most pages claimed after firsts shape entries front has loads =
     titles.has loads.rhythms in
     let scales = held_loaded key_bytes most pages loads.with_rhythms loads.with_scales firsts.scales shape.scales entries.scales ((front ++ a) ++ b)
     rhythms.has loads.scales in
-    let incipits = held_loaded key_bytes most pages loads.with_scales after firsts.incipits shape.incipits entries.incipits (((front ++ a) ++ b) ++ c)
-    scales.has loads.incipits in
+    let incipits = held_loaded (incipit_bytes shape.notes) most pages loads.with_scales after firsts.incipits shape.incipits entries.incipits
+    (((front ++ a) ++ b) ++ c) scales.has loads.incipits in
     record {
       has = subst (λ (l : List Part). HasClaimed pages after l) (joined front a b c d) incipits.has;
+      notes = loads.notes;
       titles = titles.keeps;
       rhythms = rhythms.keeps;
       scales = scales.keeps;
@@ -65,7 +66,7 @@ there_then most pages claimed parts entries front more Then are marks holds then
 
 pub there_four : (most : ℕ) (pages : List (List ℕ)) (claimed : List Bool) (parts : SearchParts) (entries : SearchRuns) (front more : List Part)
     → AreParts pages (front ++ (parts_of_search parts ++ more)) → ClaimsParts pages claimed front → HoldEachAtMost most parts entries
-    → AreStored most pages claimed (firsts_of parts)
+    → AreStored entries.notes most pages claimed (firsts_of parts)
 there_four most pages claimed parts entries front more are marks hold =
     let a : List Part = parts_of_index parts.titles in
     let b : List Part = parts_of_index parts.rhythms in
@@ -77,7 +78,8 @@ there_four most pages claimed parts entries front more are marks hold =
     (next_there pages (front ++ a) b (c ++ d) more at_rhythms) marks_then hold.rhythms (λ with_rhythms at_scales marks_later.
     there_then most pages with_rhythms parts.scales entries.scales ((front ++ a) ++ b) (d ++ more) _
     (next_there pages ((front ++ a) ++ b) c d more at_scales) marks_later hold.scales (λ with_scales at_incipits marks_last.
-    there_stored key_bytes most pages with_scales parts.incipits entries.incipits (((front ++ a) ++ b) ++ c) more at_incipits marks_last hold.incipits)))
+    there_stored (incipit_bytes entries.notes) most pages with_scales parts.incipits entries.incipits (((front ++ a) ++ b) ++ c) more at_incipits
+    marks_last hold.incipits)))
 
 -- WHAT IS LOADED IS WHAT STANDS THERE
 -- One index is, and this is what stands behind it.
@@ -102,14 +104,14 @@ same_then most pages claimed after first shape entries loads other others front 
       entries_are = same.1;
       are = parts_behind pages front (parts_of_index other) more are;
       marks = subst (λ (p : IndexParts). ClaimsParts pages after (front ++ parts_of_index p)) (sym same.0) behind;
-      few = still_few most pages claimed after first shape entries loads few;
+      few = still_few key_bytes most pages claimed after first shape entries loads few;
     }
 
 pub same_four : (most : ℕ) (pages : List (List ℕ)) (claimed after : List Bool) (firsts : SearchFirsts) (shape : SearchShape) (entries : SearchRuns)
     (loads : LoadsSearch most pages claimed after firsts shape entries) (other : SearchParts) (others : SearchRuns) (front more : List Part)
     → length claimed < 256 ^ 4 → AreParts pages (front ++ (parts_of_search other ++ more)) → ClaimsParts pages claimed front
-    → HoldEachAtMost most other others → firsts_of other ≡ firsts → (other ≡ search_loaded loads) × (others ≡ entries)
-same_four most pages claimed after firsts shape entries loads other others front more few are marks hold begin =
+    → others.notes ≡ entries.notes → HoldEachAtMost most other others → firsts_of other ≡ firsts → (other ≡ search_loaded loads) × (others ≡ entries)
+same_four most pages claimed after firsts shape entries loads other others front more few are marks notes hold begin =
     let a : List Part = parts_of_index other.titles in
     let b : List Part = parts_of_index other.rhythms in
     let c : List Part = parts_of_index other.scales in
@@ -123,11 +125,14 @@ same_four most pages claimed after firsts shape entries loads other others front
     let scales = same_then most pages loads.with_rhythms loads.with_scales firsts.scales shape.scales entries.scales loads.scales
     other.scales others.scales ((front ++ a) ++ b) (d ++ more) rhythms.few (next_there pages ((front ++ a) ++ b) c d more rhythms.are) rhythms.marks
     hold.scales (ap (λ (f : SearchFirsts). f.scales) begin) in
-    let incipits = same_loaded key_bytes most pages loads.with_scales after firsts.incipits shape.incipits entries.incipits loads.incipits
-    other.incipits others.incipits (((front ++ a) ++ b) ++ c) more scales.few scales.are scales.marks hold.incipits
+    let its : HoldsAtMost (incipit_bytes shape.notes) most other.incipits others.incipits =
+    subst (λ (n : ℕ). HoldsAtMost (incipit_bytes n) most other.incipits others.incipits) (notes ∙ loads.notes) hold.incipits in
+    let incipits = same_loaded (incipit_bytes shape.notes) most pages loads.with_scales after firsts.incipits shape.incipits entries.incipits loads.incipits
+    other.incipits others.incipits (((front ++ a) ++ b) ++ c) more scales.few scales.are scales.marks its
     (ap (λ (f : SearchFirsts). f.incipits) begin) in (
       (λ i. record { titles = titles.parts i; rhythms = rhythms.parts i; scales = scales.parts i; incipits = incipits.0 i }),
       (λ i. record {
+        notes = notes i;
         titles = titles.entries_are i;
         rhythms = rhythms.entries_are i;
         scales = scales.entries_are i;

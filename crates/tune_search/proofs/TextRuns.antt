@@ -38,14 +38,14 @@ text_more keys_of first i texts text run next all l is added e =
     rw (added, append_assoc, n, add-one i) (rw more at e)
 
 -- the entries of the texts in front of a place came in, and all of them fit
-pub record Gathered (keys_of : List ℕ → List ℕ) (first place : ℕ) (texts : List (List ℕ)) (run : List Entry) : Type 0 where
+pub record Gathered (width : ℕ) (keys_of : List ℕ → List ℕ) (first place : ℕ) (texts : List (List ℕ)) (run : List Entry) : Type 0 where
   pub added : run ++ entries_of_tunes keys_of (numbered (first + place) (drop place texts)) ≡ entries_of_tunes keys_of (numbered first texts)
-  pub fit : AllFit 32 run
+  pub fit : AllFit width run
 
-pub gathered_more : (keys_of : List ℕ → List ℕ) (first i : ℕ) (texts : List (List ℕ)) (text keys : List ℕ) (run next : List Entry)
+pub gathered_more : (width : ℕ) (keys_of : List ℕ → List ℕ) (first i : ℕ) (texts : List (List ℕ)) (text keys : List ℕ) (run next : List Entry)
     → i < length texts → text ≡ get_or texts i text → keys ≡ keys_of text → next ≡ run ++ entries_at (first + i) keys
-    → (AllFit 32 run → AllFit 32 next) → Gathered keys_of first i texts run → Gathered keys_of first (i + 1) texts next
-gathered_more keys_of first i texts text keys run next l is own more fit so_far = record {
+    → (AllFit width run → AllFit width next) → Gathered width keys_of first i texts run → Gathered width keys_of first (i + 1) texts next
+gathered_more width keys_of first i texts text keys run next l is own more fit so_far = record {
   added = text_more keys_of first i texts text run next (entries_of_tunes keys_of (numbered first texts)) l is
       (more ∙ ap (λ (ks : List ℕ). run ++ entries_at (first + i) ks) own) so_far.added;
   fit = fit so_far.fit;
@@ -195,10 +195,10 @@ sorted_rises es sorted once =
     (λ i j d l m. less (get_or es i d) (get_or es j d) (sorted i j d (omega arith) m) (apart_from_distinct Same es i j d once l m))
 
 -- THE RUN
-pub is_run_of : (keys_of : List ℕ → List ℕ) (first i : ℕ) (texts : List (List ℕ)) (es run : List Entry)
-    → ((text : List ℕ) → KeysRise 0 (keys_of text)) → first + length texts ≤ 2 ^ 32 → length texts ≤ i → Gathered keys_of first i texts es
-    → IsPermutation es run → IsNonDecreasingBy rank run → IsRunOf keys_of (numbered first texts) run
-is_run_of keys_of first i texts es run rise l at_end gathered moved sorted =
+pub is_run_of : (width : ℕ) (keys_of : List ℕ → List ℕ) (first i : ℕ) (texts : List (List ℕ)) (es run : List Entry)
+    → ((text : List ℕ) → KeysRise 0 (keys_of text)) → first + length texts ≤ 2 ^ 32 → length texts ≤ i → Gathered width keys_of first i texts es
+    → IsPermutation es run → IsNonDecreasingBy rank run → IsRunOf width keys_of (numbered first texts) run
+is_run_of width keys_of first i texts es run rise l at_end gathered moved sorted =
     let tunes = numbered first texts in
     let is = text_none keys_of first i texts es (entries_of_tunes keys_of tunes) at_end gathered.added in
     let once : IsDistinct Same es = rw is (tunes_once keys_of first texts rise l) in
@@ -211,5 +211,5 @@ is_run_of keys_of first i texts es run rise l at_end gathered moved sorted =
             Contains-permutation es run (key, tune.0) moved came;
         only = λ e at. whose keys_of tunes e (rw is at (Contains-permutation run es e back at));
       };
-      fit = fit_each 32 run (λ e at. fits_at 32 es e gathered.fit (Contains-permutation run es e back at));
+      fit = fit_each width run (λ e at. fits_at width es e gathered.fit (Contains-permutation run es e back at));
     }

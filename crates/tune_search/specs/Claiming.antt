@@ -8,8 +8,8 @@ use Rattle.tune_pages.specs.Stand.{marked}
 use Rattle.tune_parts.specs.Parts.{AreParts, Part, chain_part, leaf_part, root_and_trails}
 use Rattle.tune_search.specs.IndexParts.{HoldsIndex, IndexParts, KeepsIndex, parts_of_index}
 use Rattle.tune_search.specs.Loaded.{LoadsSearch}
-use Rattle.tune_search.specs.Searches.{SearchParts, SearchRuns, SearchShape, key_bytes}
-use Rattle.tune_search.specs.Searches.{parts_of_search}
+use Rattle.tune_search.specs.Searches.{SearchParts, SearchRuns, SearchShape, incipit_bytes}
+use Rattle.tune_search.specs.Searches.{key_bytes, parts_of_search}
 use Rattle.tune_search.specs.declared.loading.SearchFirsts.{SearchFirsts}
 
 -- what is claimed where these parts are: the root and their pages
@@ -67,7 +67,7 @@ pub record HoldEachAtMost (most : ℕ) (parts : SearchParts) (entries : SearchRu
   pub titles : HoldsAtMost key_bytes most parts.titles entries.titles
   pub rhythms : HoldsAtMost key_bytes most parts.rhythms entries.rhythms
   pub scales : HoldsAtMost key_bytes most parts.scales entries.scales
-  pub incipits : HoldsAtMost key_bytes most parts.incipits entries.incipits
+  pub incipits : HoldsAtMost (incipit_bytes entries.notes) most parts.incipits entries.incipits
 
 -- the parts of four indexes that were loaded
 abbrev pub search_loaded : {most : ℕ} {pages : List (List ℕ)} {claimed after : List Bool}
@@ -85,8 +85,10 @@ pub record HoldsLoadedSearch (pages : List (List ℕ)) (claimed : List Bool) (fr
     (firsts : SearchFirsts) (shape : SearchShape) (parts : SearchParts) (entries : SearchRuns)
     : Type 0 where
   pub has : HasClaimed pages claimed (front ++ parts_of_search parts)
+  pub notes : entries.notes ≡ shape.notes
   pub titles : KeepsIndex key_bytes shape.titles parts.titles entries.titles
   pub rhythms : KeepsIndex key_bytes shape.rhythms parts.rhythms entries.rhythms
   pub scales : KeepsIndex key_bytes shape.scales parts.scales entries.scales
-  pub incipits : KeepsIndex key_bytes shape.incipits parts.incipits entries.incipits
+  pub incipits : KeepsIndex (incipit_bytes shape.notes) shape.incipits parts.incipits
+      entries.incipits
   pub begin : firsts_of parts ≡ firsts

@@ -3,8 +3,8 @@ use Rattle.std.specs.Prelude.{◌≡◌, ℕ, List, Contains}
 use Rattle.std.specs.List.{AllByRecursion}
 use Rattle.index_keys.specs.Entries.{Entry}
 use Rattle.index_keys.specs.Holdings.{HoldsByNumber, keys_at}
-use Rattle.tune_incipit.specs.SearchKeys.{scale_keys}
-use Rattle.tune_search.specs.Searches.{SearchRuns, incipit_keys_of_text}
+use Rattle.tune_incipit.specs.SearchKeys.{incipit_keys, scale_keys}
+use Rattle.tune_search.specs.Searches.{SearchRuns}
 use Rattle.tune_titles.specs.SearchKeys.{rhythm_keys, title_keys}
 
 -- the numbers of the tunes, and the entries of each index
@@ -13,8 +13,9 @@ pub record ClaimShape : Type 0 where
   pub runs : SearchRuns
 
 -- four runs as one
-abbrev pub runs_of : List Entry → List Entry → List Entry → List Entry → SearchRuns
-runs_of titles rhythms scales incipits = record {
+abbrev pub runs_of : ℕ → List Entry → List Entry → List Entry → List Entry → SearchRuns
+runs_of notes titles rhythms scales incipits = record {
+  notes = notes;
   titles = titles;
   rhythms = rhythms;
   scales = scales;
@@ -37,11 +38,11 @@ pub record StandsAtKeys (runs : SearchRuns) (number : ℕ) (text : List ℕ) : T
   pub titles : keys_at number runs.titles ≡ title_keys text
   pub rhythms : keys_at number runs.rhythms ≡ rhythm_keys text
   pub scales : keys_at number runs.scales ≡ scale_keys text
-  pub incipits : keys_at number runs.incipits ≡ incipit_keys_of_text text
+  pub incipits : keys_at number runs.incipits ≡ incipit_keys runs.notes text
 
 -- The entries of each index are those of the tunes, seen one tune after another.
 pub record HoldByNumber (tunes : List (ℕ × List ℕ)) (runs : SearchRuns) : Type 0 where
   pub titles : HoldsByNumber title_keys tunes runs.titles
   pub rhythms : HoldsByNumber rhythm_keys tunes runs.rhythms
   pub scales : HoldsByNumber scale_keys tunes runs.scales
-  pub incipits : HoldsByNumber incipit_keys_of_text tunes runs.incipits
+  pub incipits : HoldsByNumber (incipit_keys runs.notes) tunes runs.incipits

@@ -1,4 +1,5 @@
 pub mod Four
 pub mod EntryLinks
+pub mod IncipitLinks
 pub mod TextEntries
 pub mod TextKeys

@@ -1,5 +1,6 @@
 pub mod IndexParts
 pub mod Searches
+pub mod IncipitForms
 pub mod Claims
 pub mod Inside
 pub mod Empty

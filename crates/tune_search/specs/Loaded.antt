@@ -1,24 +1,27 @@
 -- Search indexes as an opening claims them, one after another.
-use Rattle.std.specs.Prelude.{ℕ, Bool, true, List}
+use Rattle.std.specs.Prelude.{◌≡◌, ℕ, Bool, true, List}
 use Rattle.tune_index.specs.Listed.{IsStored, LoadsIndex, StoredIndex}
 use Rattle.tune_pages.specs.Stand.{marked}
-use Rattle.tune_search.specs.Searches.{SearchRuns, SearchShape, key_bytes}
+use Rattle.tune_search.specs.IncipitForms.{entries_in, notes_of_entries}
+use Rattle.tune_search.specs.Searches.{SearchRuns, SearchShape, incipit_bytes, key_bytes}
 use Rattle.tune_search.specs.declared.loading.SearchEntries.{SearchEntries}
 use Rattle.tune_search.specs.declared.loading.SearchFirsts.{SearchFirsts}
 
 -- the entries, as contracts see them
 abbrev pub runs_in : SearchEntries → SearchRuns
 runs_in entries = record {
+  notes = notes_of_entries entries.incipits;
   titles = entries.titles.items;
   rhythms = entries.rhythms.items;
   scales = entries.scales.items;
-  incipits = entries.incipits.items;
+  incipits = entries_in entries.incipits;
 }
 
 -- What is loaded are the four indexes that are stored there, with their entries, and their pages
 -- are claimed: first those of the titles, then those of the rhythms, the scales and the incipits.
 pub record LoadsSearch (most : ℕ) (pages : List (List ℕ)) (claimed after : List Bool)
     (firsts : SearchFirsts) (shape : SearchShape) (entries : SearchRuns) : Type 0 where
+  pub notes : entries.notes ≡ shape.notes
   pub with_titles : List Bool
   pub with_rhythms : List Bool
   pub with_scales : List Bool
@@ -28,8 +31,8 @@ pub record LoadsSearch (most : ℕ) (pages : List (List ℕ)) (claimed after : L
       shape.rhythms entries.rhythms
   pub scales : LoadsIndex key_bytes most pages with_rhythms with_scales firsts.scales shape.scales
       entries.scales
-  pub incipits : LoadsIndex key_bytes most pages with_scales after firsts.incipits shape.incipits
-      entries.incipits
+  pub incipits : LoadsIndex (incipit_bytes shape.notes) most pages with_scales after
+      firsts.incipits shape.incipits entries.incipits
 
 -- An index is stored on pages that are still to be claimed, and once they are, this holds.
 abbrev pub IsStoredThen : ℕ → List (List ℕ) → List Bool → ℕ → (List Bool → Type 0) → Type 0
@@ -37,10 +40,11 @@ IsStoredThen most pages claimed first Then = (trail : List ℕ) × (leaves : Lis
     × StoredIndex key_bytes most pages claimed first trail leaves
     × Then (marked true leaves (marked true trail claimed))
 
--- Four indexes are stored there, each on pages that those before it leave.
-abbrev pub AreStored : ℕ → List (List ℕ) → List Bool → SearchFirsts → Type 0
-AreStored most pages claimed firsts =
+-- Four indexes are stored there, that of incipits by so many notes, each on pages that those before
+-- it leave.
+abbrev pub AreStored : ℕ → ℕ → List (List ℕ) → List Bool → SearchFirsts → Type 0
+AreStored notes most pages claimed firsts =
     IsStoredThen most pages claimed firsts.titles (λ with_titles.
     IsStoredThen most pages with_titles firsts.rhythms (λ with_rhythms.
     IsStoredThen most pages with_rhythms firsts.scales (λ with_scales.
-    IsStored key_bytes most pages with_scales firsts.incipits)))
+    IsStored (incipit_bytes notes) most pages with_scales firsts.incipits)))

@@ -32,6 +32,7 @@ fn put_runs<D: Disk>(
 ) -> Result<(), Fault>
     requires open { pages.old.closed ≡ false }
     requires fits { Fits pages.old work.old }
+    requires notes { runs.now.notes ≡ indexes.old.notes }
     requires holds { HonestAt D.honest pages.old.disk
         → HoldsSomeFour (stand pages.old work.old) indexes.old }
     requires titles { IsRising runs.now.titles }
@@ -39,6 +40,7 @@ fn put_runs<D: Disk>(
     requires scales { IsRising runs.now.scales }
     requires incipits { IsRising runs.now.incipits }
     ensures fits { OnOk result (Fits pages.new work.new) }
+    ensures notes { OnOk result (indexes.new.notes ≡ indexes.old.notes) }
     ensures lays { OnOk result (HonestAt D.honest pages.new.disk → LaysFour
         (stand pages.old work.old) (stand pages.new work.new) indexes.old indexes.new
         (λ entries. put_in runs.now entries)) }
@@ -64,7 +66,7 @@ fn put_runs<D: Disk>(
         Ok(()) => {}
         Err(fault) => return Err(fault),
     }
-    match put_run(alloc, pages, work, &mut indexes.incipits, &runs.incipits) {
+    match indexes.incipits.put(alloc, pages, work, &runs.incipits) {
         Ok(()) => {}
         Err(fault) => return Err(fault),
     }
@@ -81,9 +83,11 @@ fn take_runs<D: Disk>(
 ) -> Result<(), Fault>
     requires open { pages.old.closed ≡ false }
     requires fits { Fits pages.old work.old }
+    requires notes { runs.now.notes ≡ indexes.old.notes }
     requires holds { HonestAt D.honest pages.old.disk
         → HoldsSomeFour (stand pages.old work.old) indexes.old }
     ensures fits { OnOk result (Fits pages.new work.new) }
+    ensures notes { OnOk result (indexes.new.notes ≡ indexes.old.notes) }
     ensures lays { OnOk result (HonestAt D.honest pages.new.disk → LaysFour
         (stand pages.old work.old) (stand pages.new work.new) indexes.old indexes.new
         (λ entries. taken_out runs.now entries)) }
@@ -105,7 +109,7 @@ fn take_runs<D: Disk>(
         Ok(()) => {}
         Err(fault) => return Err(fault),
     }
-    match take_run(alloc, pages, work, &mut indexes.incipits, &runs.incipits) {
+    match indexes.incipits.take(alloc, pages, work, &runs.incipits) {
         Ok(()) => {}
         Err(fault) => return Err(fault),
     }
@@ -129,10 +133,12 @@ impl SearchIndexes {
     ) -> Result<(), Fault>
         requires open { pages.old.closed ≡ false }
         requires fits { Fits pages.old work.old }
+        requires notes { runs.now.notes ≡ self.old.notes }
         requires holds { HonestAt D.honest pages.old.disk
             → HoldsSomeTexts (stand pages.old work.old) self.old }
         requires runs { (more : List (ℕ × List ℕ)) × AreRunsOf more runs.now }
         ensures fits { OnOk result (Fits pages.new work.new) }
+        ensures notes { OnOk result (self.new.notes ≡ self.old.notes) }
         ensures holds { OnOk result (HonestAt D.honest pages.new.disk
             → (before after : List Part) (parts : SearchParts) (tunes more : List (ℕ × List ℕ))
             → AreSmall tunes → AreSmall more → AreRunsOf more runs.now
@@ -171,9 +177,11 @@ impl SearchIndexes {
     ) -> Result<(), Fault>
         requires open { pages.old.closed ≡ false }
         requires fits { Fits pages.old work.old }
+        requires notes { runs.now.notes ≡ self.old.notes }
         requires holds { HonestAt D.honest pages.old.disk
             → HoldsSomeTexts (stand pages.old work.old) self.old }
         ensures fits { OnOk result (Fits pages.new work.new) }
+        ensures notes { OnOk result (self.new.notes ≡ self.old.notes) }
         ensures holds { OnOk result (HonestAt D.honest pages.new.disk
             → (before after : List Part) (parts : SearchParts) (gone : ℕ × List ℕ)
             (tunes others : List (ℕ × List ℕ)) → gone.0 < 2 ^ 32 → AreSmall tunes

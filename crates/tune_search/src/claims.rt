@@ -1,142 +1,20 @@
 // What an opening compares: the entries of the search indexes are those of the tunes.
-ghost use Rattle.std.specs.Prelude.{◌≡◌, ◌↔◌, ◌^◌, ◌<◌, ℕ, List, length, map, replicate};
-ghost use Rattle.std.specs.Prelude.{slice_index, Contains, IfOk, IfSome, IsTrue, None};
+ghost use Rattle.std.specs.Prelude.{◌≡◌, ◌↔◌, ◌^◌, ◌<◌, ℕ, List, length, map, slice_index};
+ghost use Rattle.std.specs.Prelude.{Contains, IfOk, IfSome, IsTrue, None};
 ghost use Rattle.std.specs.List.{AllByRecursion};
 ghost use Rattle.std.specs.List.Sorted.{IsStrictlyIncreasing};
-ghost use Rattle.index_keys.specs.Holdings.{keys_at};
-ghost use Rattle.tune_search.specs.Inside.EntryLinks.{AreFirsts, AreNexts, place_from};
-ghost use Rattle.tune_search.specs.Claims.{AreAllKnown, AreKnown, HoldByNumber, StandsAtKeys};
-ghost use Rattle.tune_search.specs.Claims.{runs_of};
+ghost use Rattle.tune_search.specs.Claims.{AreAllKnown, HoldByNumber, StandsAtKeys, runs_of};
+ghost use Rattle.tune_search.specs.IncipitForms.{entries_in, notes_of_entries};
 ghost use Rattle.tune_search.specs.Searches.{SearchRuns};
 
+use crate::incipit_claims::{IncipitClaims, has_incipit, incipit_claims_of};
+use crate::incipit_entries::IncipitEntries;
+use crate::key_claims::{KeyClaims, claims_of, has_keys};
 use crate::text_keys::TextKeys;
 use abc_fields::TuneText;
 use index_keys::IndexKey;
 use std::alloc::{AllocError, Global};
 use std::marker::Model;
-
-// The entries of one index, those of each number linked in order. A place without an entry is how
-// many entries there are.
-#[derive(Drop)]
-struct KeyClaims {
-    entries: Vec<(IndexKey<32>, u32)>,
-    // for each number: where its first entry stands
-    firsts: Vec<u32>,
-    // for each entry: where the next one of its number stands
-    nexts: Vec<u32>,
-}
-
-// Where a number stands among numbers that rise, if it is one of them. Where none is left out
-// between the first and it, as is most often so, it is found at once.
-fn place_of(numbers: &[u32], number: u32) -> Option<usize>
-    requires { IsStrictlyIncreasing numbers.now }
-    ensures within { IfSome result (λ place. place < length numbers.now) }
-    ensures number { IfSome result (λ place. slice_index numbers.now place ≡ number) }
-    ensures none { result ≡ None → Contains numbers.now number → ⊥ }
-{
-    let guess = number.saturating_sub(*numbers.first()?) as usize;
-    if guess < numbers.len() && numbers[guess] == number {
-        return Some(guess);
-    }
-    match numbers.binary_search(&number) {
-        Ok(place) => Some(place),
-        Err(_) => None,
-    }
-}
-
-// Links the entries of each number, from the last entry to the first; false where the number of one
-// is none of the numbers.
-fn link(
-    numbers: &[u32],
-    entries: &[(IndexKey<32>, u32)],
-    firsts: &mut [u32],
-    nexts: &mut [u32],
-) -> bool
-    requires rising { IsStrictlyIncreasing numbers.now }
-    requires few { length entries.now < 2 ^ 32 }
-    requires none { firsts.old ≡ replicate (length numbers.now) (length entries.now) }
-    requires one_each { length nexts.old ≡ length entries.now }
-    ensures known { IsTrue result ↔ AreKnown numbers.now entries.now }
-    ensures firsts { IsTrue result → AreFirsts numbers.now entries.now firsts.new }
-    ensures nexts { IsTrue result → AreNexts entries.now nexts.new }
-{
-    let mut at = entries.len();
-    while at > 0 {
-        at -= 1;
-        let number = entries[at].1;
-        let Some(place) = place_of(numbers, number) else {
-            return false;
-        };
-        nexts[at] = firsts[place];
-        firsts[place] = at as u32;
-    }
-    true
-}
-
-// The entries with the places where those of each number stand, or nothing where the number of an
-// entry is none of the numbers.
-fn claims_of(
-    alloc: Global,
-    numbers: &[u32],
-    entries: Vec<(IndexKey<32>, u32)>,
-) -> Result<Option<KeyClaims>, AllocError>
-    requires rising { IsStrictlyIncreasing numbers.now }
-    requires few { length entries.items < 2 ^ 32 }
-    ensures same { IfOk result (λ made. IfSome made (λ claims.
-        claims.entries.items ≡ entries.items)) }
-    ensures known { IfOk result (λ made. IfSome made (λ _. AreKnown numbers.now entries.items)) }
-    ensures firsts { IfOk result (λ made. IfSome made (λ claims.
-        AreFirsts numbers.now entries.items claims.firsts.items)) }
-    ensures nexts { IfOk result (λ made. IfSome made (λ claims.
-        AreNexts entries.items claims.nexts.items)) }
-    ensures unknown { IfOk result (λ made. made ≡ None → AreKnown numbers.now entries.items → ⊥) }
-{
-    let count = entries.len() as u32;
-    let mut firsts = vec![in alloc; count; numbers.len()]?;
-    let mut nexts = vec![in alloc; count; entries.len()]?;
-    if !link(numbers, &entries, &mut firsts, &mut nexts) {
-        return Ok(None);
-    }
-    Ok(Some(KeyClaims {
-        entries,
-        firsts,
-        nexts,
-    }))
-}
-
-// Whether the number whose first entry stands at this place stands at exactly these keys.
-fn stands_at(
-    entries: &[(IndexKey<32>, u32)],
-    nexts: &[u32],
-    first: u32,
-    keys: &[IndexKey<32>],
-) -> bool
-    requires { AreNexts entries.now nexts.now }
-    ensures { (number : ℕ) → first ≡ place_from number 0 entries.now
-        → (IsTrue result ↔ (keys_at number entries.now ≡ keys.now)) }
-{
-    let mut at = first as usize;
-    for key in keys {
-        if at >= entries.len() || !entries[at].0.is_same(key) {
-            return false;
-        }
-        at = nexts[at] as usize;
-    }
-    at == entries.len()
-}
-
-// Whether the number at this place stands at exactly these keys.
-fn has_keys(claims: &KeyClaims, place: usize, keys: &[IndexKey<32>]) -> bool
-    requires place { place < length claims.now.firsts.items }
-    requires nexts { AreNexts claims.now.entries.items claims.now.nexts.items }
-    ensures { let entries = claims.now.entries.items in
-        let first = slice_index claims.now.firsts.items place in
-        (number : ℕ) → first ≡ place_from number 0 entries
-        → (IsTrue result ↔ (keys_at number entries ≡ keys.now)) }
-{
-    let first = claims.firsts[place];
-    stands_at(&claims.entries, &claims.nexts, first, keys)
-}
 
 /// The entries of the four search indexes as an opening compares them with the tunes, one tune
 /// after another. A clause sees the numbers of the tunes and the entries of each index.
@@ -146,32 +24,40 @@ fn has_keys(claims: &KeyClaims, place: usize, keys: &[IndexKey<32>]) -> bool
 pub struct SearchClaims {
     // clauses tell the tunes by it; once the entries are linked no call reads it
     numbers: Vec<u32>,
-    titles: KeyClaims,
-    rhythms: KeyClaims,
-    scales: KeyClaims,
-    incipits: KeyClaims,
+    titles: KeyClaims<32>,
+    rhythms: KeyClaims<32>,
+    scales: KeyClaims<32>,
+    incipits: IncipitClaims,
 }
 
 impl Model for SearchClaims {
     ghost use Rattle.tune_search.specs.Claims.{ClaimShape};
     ghost use Rattle.tune_search.specs.Inside.EntryLinks.{AreLinked};
+    ghost use Rattle.tune_search.specs.Inside.IncipitLinks.{entries_claimed, firsts_claimed};
+    ghost use Rattle.tune_search.specs.Inside.IncipitLinks.{nexts_claimed, notes_of_claims};
 
     ghost Value = { ClaimShape };
 
     ghost view = { λ claims. record {
       numbers = claims.numbers.items;
       runs = record {
+        notes = notes_of_claims claims.incipits;
         titles = claims.titles.entries.items;
         rhythms = claims.rhythms.entries.items;
         scales = claims.scales.entries.items;
-        incipits = claims.incipits.entries.items;
+        incipits = entries_claimed claims.incipits;
       };
     } };
 
-    ghost invariant = { λ claims. AreLinked claims.numbers.items claims.titles
-        × AreLinked claims.numbers.items claims.rhythms
-        × AreLinked claims.numbers.items claims.scales
-        × AreLinked claims.numbers.items claims.incipits };
+    ghost invariant = { λ claims.
+        AreLinked claims.numbers.items claims.titles.entries.items
+        claims.titles.firsts.items claims.titles.nexts.items
+        × AreLinked claims.numbers.items claims.rhythms.entries.items
+        claims.rhythms.firsts.items claims.rhythms.nexts.items
+        × AreLinked claims.numbers.items claims.scales.entries.items
+        claims.scales.firsts.items claims.scales.nexts.items
+        × AreLinked claims.numbers.items (entries_claimed claims.incipits)
+        (firsts_claimed claims.incipits) (nexts_claimed claims.incipits) };
 }
 
 impl SearchClaims {
@@ -188,21 +74,24 @@ impl SearchClaims {
         titles: Vec<(IndexKey<32>, u32)>,
         rhythms: Vec<(IndexKey<32>, u32)>,
         scales: Vec<(IndexKey<32>, u32)>,
-        incipits: Vec<(IndexKey<32>, u32)>,
+        incipits: IncipitEntries,
     ) -> Result<Option<SearchClaims>, AllocError>
         requires rising { IsStrictlyIncreasing numbers.items }
         requires titles { length titles.items < 2 ^ 32 }
         requires rhythms { length rhythms.items < 2 ^ 32 }
         requires scales { length scales.items < 2 ^ 32 }
-        requires incipits { length incipits.items < 2 ^ 32 }
+        requires incipits { length (entries_in incipits) < 2 ^ 32 }
         ensures numbers { IfOk result (λ made. IfSome made (λ claims.
             claims.numbers ≡ numbers.items)) }
         ensures runs { IfOk result (λ made. IfSome made (λ claims. claims.runs
-            ≡ runs_of titles.items rhythms.items scales.items incipits.items)) }
+            ≡ runs_of (notes_of_entries incipits) titles.items rhythms.items scales.items
+            (entries_in incipits))) }
         ensures known { IfOk result (λ made. IfSome made (λ _. AreAllKnown numbers.items
-            (runs_of titles.items rhythms.items scales.items incipits.items))) }
+            (runs_of (notes_of_entries incipits) titles.items rhythms.items scales.items
+            (entries_in incipits)))) }
         ensures unknown { IfOk result (λ made. made ≡ None → AreAllKnown numbers.items
-            (runs_of titles.items rhythms.items scales.items incipits.items) → ⊥) }
+            (runs_of (notes_of_entries incipits) titles.items rhythms.items scales.items
+            (entries_in incipits)) → ⊥) }
     {
         let Some(titles) = claims_of(alloc, &numbers, titles)? else {
             return Ok(None);
@@ -213,7 +102,7 @@ impl SearchClaims {
         let Some(scales) = claims_of(alloc, &numbers, scales)? else {
             return Ok(None);
         };
-        let Some(incipits) = claims_of(alloc, &numbers, incipits)? else {
+        let Some(incipits) = incipit_claims_of(alloc, &numbers, incipits)? else {
             return Ok(None);
         };
         Ok(Some(SearchClaims {
@@ -246,7 +135,7 @@ impl SearchClaims {
             has_keys(&self.titles, place, &keys.titles)
                 && has_keys(&self.rhythms, place, keys.rhythm.as_slice())
                 && has_keys(&self.scales, place, keys.scale.as_slice())
-                && has_keys(&self.incipits, place, keys.incipit.as_slice()),
+                && has_incipit(&self.incipits, place, text),
         )
     }
 }

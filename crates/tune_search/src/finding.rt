@@ -10,12 +10,12 @@ ghost use Rattle.tune_parts.specs.Parts.{Part};
 ghost use Rattle.tune_queries.specs.Queries.{finds};
 ghost use Rattle.tune_search.specs.IndexParts.{HoldsIndexAmong, HoldsSomeIndex, IndexParts};
 ghost use Rattle.tune_search.specs.Searches.{HoldsSomeTexts, HoldsTexts, SearchParts};
-ghost use Rattle.tune_search.specs.Searches.{key_bytes, notes_of_incipit};
+ghost use Rattle.tune_search.specs.Searches.{key_bytes};
 
 use crate::searches::SearchIndexes;
 use std::alloc::Global;
 use tune_disk::Disk;
-use tune_incipit::{EightNoteKeys, ScaleKeys};
+use tune_incipit::ScaleKeys;
 use tune_index::{Index, Keyed};
 use tune_pages::{Fault, Pages, Work};
 use tune_queries::Sought;
@@ -23,7 +23,7 @@ use tune_titles::{RhythmKeys, TitleKeys};
 
 // The numbers that stand at the keys of the query's range: that of each tune that the query finds
 // is among them.
-fn values_for<D: Disk, K: Keyed<32>>(
+pub(crate) fn values_for<D: Disk, K: Keyed<32>>(
     alloc: Global,
     pages: &mut Pages<D>,
     work: &Work,
@@ -73,7 +73,7 @@ impl SearchIndexes {
             → (before after : List Part) (parts : SearchParts) (tunes : List (ℕ × List ℕ))
             → HoldsTexts (stand pages.old work.now) self.now before after parts tunes
             → (tune : ℕ × List ℕ) → Contains tunes tune
-            → finds notes_of_incipit sought.now tune.1 ≡ true → Contains values.items tune.0) }
+            → finds self.now.notes sought.now tune.1 ≡ true → Contains values.items tune.0) }
         ensures fits { OnOk result (Fits pages.new work.now) }
         ensures stand { OnOk result (SameStand (HonestAt D.honest pages.new.disk)
             (stand pages.old work.now) (stand pages.new work.now)) }
@@ -90,9 +90,7 @@ impl SearchIndexes {
             Sought::Key(scale) => {
                 values_for::<D, ScaleKeys>(alloc, pages, work, &self.scales, scale)
             }
-            Sought::Notes(front) => {
-                values_for::<D, EightNoteKeys>(alloc, pages, work, &self.incipits, front)
-            }
+            Sought::Notes(front) => self.incipits.values_for(alloc, pages, work, front),
         }
     }
 }

@@ -6,6 +6,10 @@
 mod changing;
 mod claims;
 mod finding;
+mod incipit_claims;
+mod incipit_entries;
+mod incipit_index;
+mod key_claims;
 mod laws;
 mod laying;
 mod load_laws;
@@ -16,6 +20,7 @@ mod storing;
 mod text_keys;
 
 pub use claims::{SearchClaims, law_of_claims};
+pub use incipit_entries::{IncipitEntries, IncipitNotes};
 pub use laws::law_of_search_pages;
 pub use laying::{put_run, store_list, take_run};
 pub use load_laws::law_of_loads;

@@ -49,12 +49,13 @@ pub fn law_of_loads()
         (parts : SearchParts) (entries : SearchRuns) (front more : List Part)
         → AreParts pages (front ++ (parts_of_search parts ++ more))
         → ClaimsParts pages claimed front → HoldEachAtMost most parts entries
-        → AreStored most pages claimed (firsts_of parts) }
+        → AreStored entries.notes most pages claimed (firsts_of parts) }
     ensures same_search { (most : ℕ) (pages : List (List ℕ)) (claimed after : List Bool)
         (firsts : SearchFirsts) (shape : SearchShape) (entries : SearchRuns)
         (loads : LoadsSearch most pages claimed after firsts shape entries)
         (other : SearchParts) (others : SearchRuns) (front more : List Part)
         → length claimed < 256 ^ 4 → AreParts pages (front ++ (parts_of_search other ++ more))
-        → ClaimsParts pages claimed front → HoldEachAtMost most other others
-        → firsts_of other ≡ firsts → (other ≡ search_loaded loads) × (others ≡ entries) }
+        → ClaimsParts pages claimed front → others.notes ≡ entries.notes
+        → HoldEachAtMost most other others → firsts_of other ≡ firsts
+        → (other ≡ search_loaded loads) × (others ≡ entries) }
 {}

@@ -1,8 +1,11 @@
 // The search indexes as an opening claims them.
-ghost use Rattle.std.specs.Prelude.{IfErr, IfOk};
+ghost use Rattle.std.specs.Prelude.{◌≡◌, IfErr, IfOk};
 ghost use Rattle.tune_pages.specs.Claim.{IsChainFault, LooksOpening};
+ghost use Rattle.tune_search.specs.IncipitForms.{notes_in};
 ghost use Rattle.tune_search.specs.Loaded.{AreStored, LoadsSearch, runs_in};
 
+use crate::incipit_entries::{IncipitEntries, IncipitNotes};
+use crate::incipit_index::IncipitIndex;
 use crate::searches::SearchIndexes;
 use std::alloc::Global;
 use tune_disk::Disk;
@@ -24,13 +27,13 @@ pub struct SearchEntries {
     pub titles: Vec<(IndexKey<32>, u32)>,
     pub rhythms: Vec<(IndexKey<32>, u32)>,
     pub scales: Vec<(IndexKey<32>, u32)>,
-    pub incipits: Vec<(IndexKey<32>, u32)>,
+    pub incipits: IncipitEntries,
 }
 
 impl SearchIndexes {
-    /// Claims the pages of the four indexes, one index after another, and gives these with their
-    /// entries. Of an index of more than `most` entries it claims no more pages than one of so many
-    /// may have.
+    /// Claims the pages of the four indexes, that of incipits by so many notes, one index after
+    /// another, and gives these with their entries. Of an index of more than `most` entries it
+    /// claims no more pages than one of so many may have.
     ///
     /// # Errors
     ///
@@ -40,21 +43,29 @@ impl SearchIndexes {
     pub fn load<D: Disk>(
         alloc: Global,
         opening: &mut Opening<D>,
+        notes: IncipitNotes,
         firsts: SearchFirsts,
         most: u32,
     ) -> Result<(SearchIndexes, SearchEntries), ClaimFault>
+        ensures notes { IfOk result (λ loaded. loaded.0.notes ≡ notes_in notes) }
         ensures loads { IfOk result (λ loaded. D.honest opening.new.disk → LoadsSearch most
             opening.old.pages opening.old.claimed opening.new.claimed firsts loaded.0
             (runs_in loaded.1)) }
         ensures damaged { IfErr result (λ fault. D.honest opening.new.disk → IsChainFault fault
-            (AreStored most opening.old.pages opening.old.claimed firsts)) }
+            (AreStored (notes_in notes) most opening.old.pages opening.old.claimed firsts)) }
         ensures looks { LooksOpening D.honest D.failures D.state result opening.old opening.new }
     {
         let _count = opening.count();
         let (titles, title_entries) = Index::load(alloc, opening, firsts.titles, most)?;
         let (rhythms, rhythm_entries) = Index::load(alloc, opening, firsts.rhythms, most)?;
         let (scales, scale_entries) = Index::load(alloc, opening, firsts.scales, most)?;
-        let (incipits, incipit_entries) = Index::load(alloc, opening, firsts.incipits, most)?;
+        let (incipits, incipit_entries) = IncipitIndex::load(
+            alloc,
+            opening,
+            notes,
+            firsts.incipits,
+            most,
+        )?;
         let indexes = SearchIndexes {
             titles,
             rhythms,

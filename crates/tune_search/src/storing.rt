@@ -29,6 +29,7 @@ fn store_lists<D: Disk>(
     requires holds { HonestAt D.honest pages.old.disk
         → HoldsSomeFour (stand pages.old work.old) indexes.old }
     ensures fits { OnOk result (Fits pages.new work.new) }
+    ensures notes { OnOk result (indexes.new.notes ≡ indexes.old.notes) }
     ensures lays { OnOk result (HonestAt D.honest pages.new.disk → LaysFour
         (stand pages.old work.old) (stand pages.new work.new) indexes.old indexes.new
         (λ entries. entries)) }
@@ -52,7 +53,7 @@ fn store_lists<D: Disk>(
         Ok(first) => first,
         Err(fault) => return Err(fault),
     };
-    let incipits = match store_list(alloc, pages, work, &mut indexes.incipits) {
+    let incipits = match indexes.incipits.store(alloc, pages, work) {
         Ok(first) => first,
         Err(fault) => return Err(fault),
     };
@@ -83,6 +84,7 @@ impl SearchIndexes {
         requires holds { HonestAt D.honest pages.old.disk
             → HoldsSomeTexts (stand pages.old work.old) self.old }
         ensures fits { OnOk result (Fits pages.new work.new) }
+        ensures notes { OnOk result (self.new.notes ≡ self.old.notes) }
         ensures holds { OnOk result (HonestAt D.honest pages.new.disk
             → (before after : List Part) (parts : SearchParts) (tunes : List (ℕ × List ℕ))
             → HoldsTexts (stand pages.old work.old) self.old before after parts tunes

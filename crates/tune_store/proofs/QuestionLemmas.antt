@@ -3,6 +3,7 @@ use Rattle.std.proofs.Common.{◌≡◌, ℕ, ◌+◌, ◌<◌, ◌≤◌, ◌++
 use Rattle.std.proofs.Common.{refl, ap, sym, ◌∙◌, add-one, append_assoc, append-nil, codes, inl, inr, arith}
 use Rattle.std.proofs.Math.ListN.{drop_of_length-le}
 use Rattle.std.proofs.lemmas.Bool.{cases_Bool}
+use Rattle.std.proofs.lemmas.List.{map-append}
 use Rattle.std.specs.List.{AllByRecursion}
 use Rattle.std.specs.Str.{bytes_eq}
 use Rattle.abc_fields.specs.Fields.{titles_of}
@@ -13,11 +14,11 @@ use Rattle.tune_sets.specs.Sets.{IsTuneSet}
 use Rattle.tune_sets.specs.Calls.{places_of}
 use Rattle.tune_sets.specs.declared.set_lists.TuneSet.{TuneSet}
 use Rattle.tune_titles.specs.Order.{Row}
+use Rattle.tune_titles.specs.ShownRows.{Shown, shown_row}
 use Rattle.tune_store.specs.State.{tune_at}
 use Rattle.tune_store.specs.Labels.{labels_of}
-use Rattle.tune_store.specs.Questions.{first_shown, found, titles_from, all_titles, row_found, texts_at, set_exported}
-use Rattle.tune_store.specs.Inside.Questions.{title_rows}
-use Rattle.tune_store.specs.declared.questions.OwnTitle.{OwnTitle}
+use Rattle.tune_store.specs.Questions.{first_shown, found, titles_from, all_titles, row_found, texts_at, set_exported, title_row}
+use Rattle.tune_store.specs.Inside.Questions.{shown_title}
 use Rattle.tune_store.specs.declared.tune.Tune.{Tune}
 use Rattle.tune_store.specs.declared.rows.IndexRow.{IndexRow}
 use Rattle.tune_store.specs.declared.catalog.Label.{Label}
@@ -70,15 +71,16 @@ pub found_first : (notes : ℕ) (query : Query) (tune : Tune) (tunes : List Tune
 found_first notes query tune tunes = elim (cases_Bool (matches notes query tune.text)) [ inl same ↦ rw same refl | inr other ↦ rw other refl ]
 
 -- TITLES
--- the titles with those of the next tune
-pub titles_next : (tunes : List Tune) (place number : ℕ) (text : List ℕ) (rows new all : List Row)
-    → IsNext tunes place number text → new ≡ rows ++ titles_from number 1 (titles_of text)
-    → rows ++ all_titles (drop place tunes) ≡ all → new ++ all_titles (drop (place + 1) tunes) ≡ all
+-- the rows of titles with those of the next tune
+pub titles_next : (tunes : List Tune) (place number : ℕ) (text : List ℕ) (rows new all : List Shown)
+    → IsNext tunes place number text → new ≡ rows ++ map shown_row (titles_from number 1 (titles_of text))
+    → rows ++ map shown_row (all_titles (drop place tunes)) ≡ all → new ++ map shown_row (all_titles (drop (place + 1) tunes)) ≡ all
 titles_next tunes place number text rows new all is added before =
     let part = titles_from number 1 (titles_of text) in
     let rest = all_titles (drop (place + 1) tunes) in
     let splits : all_titles (drop place tunes) ≡ part ++ rest = rw (next-drop tunes place number text is, is.named, is.written) refl in
-    gathered rows part (all_titles (drop place tunes)) rest new all added splits before
+    gathered rows (map shown_row part) (map shown_row (all_titles (drop place tunes))) (map shown_row rest) new all added
+    (ap (map shown_row) splits ∙ map-append shown_row part rest) before
 
 -- one title more of a tune
 pub title_next : {A : Type 0} (bytes : A → List ℕ) (number place : ℕ) (items : List A) (i : ℕ) (d : A) → i < length items
@@ -86,24 +88,22 @@ pub title_next : {A : Type 0} (bytes : A → List ℕ) (number place : ℕ) (ite
     ≡ record { title = bytes (get_or items i d); number = number; place = place } ∷ titles_from number (place + 1) (map bytes (drop (i + 1) items))
 title_next bytes number place items i d l = ap (λ list. titles_from number place (map bytes list)) (drop-cons items i d l) ∙ (rw (add-one i) refl)
 
--- titles with one more
-title_push : (titles : List OwnTitle) (own : OwnTitle)
-    → title_rows (titles ++ own ∷ []) ≡ title_rows titles ++ record { title = own.title; number = own.number; place = own.place } ∷ []
-title_push [] own = refl
-title_push (first ∷ titles) own = ap (λ rows. record { title = first.title; number = first.number; place = first.place } ∷ rows) (title_push titles own)
+-- the rows of titles with the next one of a tune
+pub shown_next : {A : Type 0} (bytes : A → List ℕ) (number place : ℕ) (items : List A) (i : ℕ) (d : A) (rows new : List Shown) (row : Shown)
+    (all : List Shown) → i < length items
+    → row ≡ shown_row (record { title = bytes (get_or items i d); number = number; place = place }) → new ≡ rows ++ row ∷ []
+    → rows ++ map shown_row (titles_from number place (map bytes (drop i items))) ≡ all
+    → new ++ map shown_row (titles_from number (place + 1) (map bytes (drop (i + 1) items))) ≡ all
+shown_next bytes number place items i d rows new row all l is added before =
+    let rest = map shown_row (titles_from number (place + 1) (map bytes (drop (i + 1) items))) in
+    let left = map shown_row (titles_from number place (map bytes (drop i items))) in
+    let splits : left ≡ row ∷ rest = ap (map shown_row) (title_next bytes number place items i d l) ∙ ap (λ (r : Shown). r ∷ rest) (sym is) in
+    gathered rows (row ∷ []) left rest new all added splits before
 
--- the titles with the next one of a tune
-pub own_next : {A : Type 0} (bytes : A → List ℕ) (number place : ℕ) (items : List A) (i : ℕ) (d : A) (titles new : List OwnTitle) (title : List ℕ)
-    (all : List Row) → i < length items → title ≡ bytes (get_or items i d) → new ≡ titles ++ record { title = title; number = number; place = place } ∷ []
-    → title_rows titles ++ titles_from number place (map bytes (drop i items)) ≡ all
-    → title_rows new ++ titles_from number (place + 1) (map bytes (drop (i + 1) items)) ≡ all
-own_next bytes number place items i d titles new title all l is added before =
-    let part = record { title = title; number = number; place = place } ∷ [] in
-    let rest = titles_from number (place + 1) (map bytes (drop (i + 1) items)) in
-    let left = titles_from number place (map bytes (drop i items)) in
-    let splits : left ≡ part ++ rest = rw is (title_next bytes number place items i d l) in
-    let pushed = ap title_rows added ∙ title_push titles record { title = title; number = number; place = place } in
-    gathered (title_rows titles) part left rest (title_rows new) all pushed splits before
+-- the rows of titles, as a reply has them
+pub reply_rows : (titles : List Row) → map shown_title (map shown_row titles) ≡ map title_row titles
+reply_rows [] = refl
+reply_rows (title ∷ titles) = ap (λ rows. title_row title ∷ rows) (reply_rows titles)
 
 -- SETS
 -- the tune of a number, by its place

@@ -6,13 +6,13 @@ ghost use Rattle.abc_fields.specs.Fields.{titles_of};
 ghost use Rattle.tune_incipit.specs.Limits.{fewest_notes, most_notes};
 ghost use Rattle.tune_queries.specs.Queries.{finds};
 ghost use Rattle.tune_sets.specs.Calls.{places_of, rows_of};
-ghost use Rattle.tune_titles.specs.Order.{Row, row_order, in_order};
+ghost use Rattle.tune_titles.specs.ShownRows.{shown_row};
 ghost use Rattle.tune_store.specs.Limits.{notes_of};
 ghost use Rattle.tune_store.specs.State.{State, RisesFrom, tune_at};
-ghost use Rattle.tune_store.specs.Questions.{shown, find, first_shown, titles_from, title_row};
+ghost use Rattle.tune_store.specs.Questions.{shown, find, first_shown, titles_from};
 ghost use Rattle.tune_store.specs.Questions.{titled, row_found, set_shown, exported, set_exported};
 ghost use Rattle.tune_store.specs.Plans.{Decided, EndsFetch, IsRefusalOfPlan, IsRefusalOfFetch};
-ghost use Rattle.tune_store.specs.Inside.Questions.{title_rows};
+ghost use Rattle.tune_store.specs.Inside.Questions.{shown_title};
 ghost use Rattle.tune_store.specs.declared.command.Reply.TheVariants as reply;
 ghost use Rattle.tune_store.specs.declared.tune.Tune.{Tune};
 
@@ -22,11 +22,11 @@ use crate::plans::Plan;
 use crate::rows::{IndexRow, RowList};
 use crate::set_plans::held_name;
 use crate::tune::Tune;
-use abc_fields::{ByteText, TuneText, fields};
+use abc_fields::{TuneText, fields};
 use std::alloc::{AllocError, Global};
 use tune_books::BookWriter;
 use tune_queries::{Query, Sought};
-use tune_titles::{TitleRow, index_title, sort_rows};
+use tune_titles::{ShownRow, index_title, sort_shown};
 
 // A copy of the tune of a number.
 pub(crate) fn show<C: Catalog>(alloc: Global, catalog: &mut C, number: u32) -> Result<Plan, Refusal>
@@ -136,14 +136,6 @@ fn row_of(alloc: Global, number: u32, text: &TuneText) -> Result<IndexRow, Alloc
     Ok(IndexRow { number, title })
 }
 
-// A title of a tune, in memory of its own.
-#[derive(Debug, Drop)]
-struct OwnTitle {
-    title: ByteText,
-    number: u32,
-    place: u8,
-}
-
 // The titles of all tunes, in the order of an index.
 pub(crate) fn titles<C: Catalog>(alloc: Global, catalog: &mut C) -> Result<Plan, Refusal>
     ensures planned { let state = C.state catalog.old in C.honest catalog.new
@@ -153,67 +145,44 @@ pub(crate) fn titles<C: Catalog>(alloc: Global, catalog: &mut C) -> Result<Plan,
     ensures fetched { MatchResult result (λ _. C.fetched catalog.old catalog.new)
         (λ refusal. EndsFetch C.fetched C.failed catalog.old refusal catalog.new) }
 {
-    let mut titles = Vec::new(alloc);
+    let mut rows = Vec::new(alloc);
     for place in 0..catalog.len() {
         let number = catalog.label(place).number;
         catalog.fetch(place)?;
-        add_titles(alloc, &mut titles, number, catalog.text(place))?;
+        add_titles(alloc, &mut rows, number, catalog.text(place))?;
     }
-    Ok(Plan::answer(Reply::Titled(in_order(alloc, &titles)?)))
+    sort_shown(&mut rows)?;
+    Ok(Plan::answer(Reply::Titled(shown_rows(alloc, rows)?)))
 }
 
 // Puts the titles of a tune behind these.
 fn add_titles(
     alloc: Global,
-    titles: &mut Vec<OwnTitle>,
+    rows: &mut Vec<ShownRow>,
     number: u32,
     text: &TuneText,
 ) -> Result<(), AllocError>
-    ensures { OnOk result (title_rows titles.new.items
-        ≡ title_rows titles.old.items ++ titles_from number 1 (titles_of text.now)) }
+    ensures { OnOk result (rows.new.items
+        ≡ rows.old.items ++ map shown_row (titles_from number 1 (titles_of text.now))) }
 {
     let mut place = 1;
     for title in fields(text).titles.as_slice() {
-        titles.push(OwnTitle {
-            title: ByteText::copy_of(alloc, title)?,
-            number,
-            place,
-        })?;
+        rows.push(ShownRow::new(alloc, title, number, place)?)?;
         place += 1;
     }
     Ok(())
 }
 
-// The rows of titles, in the order of an index.
-fn in_order(alloc: Global, titles: &[OwnTitle]) -> Result<RowList, AllocError>
-    ensures { IfOk result (λ rows.
-        rows ≡ map title_row (in_order row_order (title_rows titles.now))) }
-{
-    let mut rows = rows_of_titles(alloc, titles)?;
-    sort_rows(&mut rows)?;
-    shown_rows(alloc, &rows)
-}
-
-// Titles as rows that are to be put in order.
-fn rows_of_titles(alloc: Global, titles: &[OwnTitle]) -> Result<Vec<TitleRow<'_>>, AllocError>
-    ensures { IfOk result (λ rows. rows.items ≡ title_rows titles.now) }
-{
-    let mut rows = Vec::with_capacity(alloc, titles.len())?;
-    for own in titles {
-        rows.push(TitleRow::new(own.title.as_slice(), own.number, own.place))?;
-    }
-    Ok(rows)
-}
-
-// Rows as an index shows them.
-fn shown_rows(alloc: Global, rows: &[TitleRow]) -> Result<RowList, AllocError>
-    ensures { IfOk result (λ shown. shown ≡ map title_row rows.now) }
+// The rows of titles, without what they were put in order by. The titles stay where they are in
+// memory.
+fn shown_rows(alloc: Global, rows: Vec<ShownRow>) -> Result<RowList, AllocError>
+    ensures { IfOk result (λ shown. shown ≡ map shown_title rows.items) }
 {
     let mut shown = Vec::with_capacity(alloc, rows.len())?;
     for row in rows {
         shown.push(IndexRow {
             number: row.number(),
-            title: Some(index_title(alloc, row.title())?),
+            title: Some(row.into_title()),
         })?;
     }
     Ok(RowList::from_vec(shown))

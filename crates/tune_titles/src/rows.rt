@@ -1,8 +1,9 @@
 // The titles of tunes in order.
-ghost use Rattle.std.specs.Prelude.{◌≡◌, ◌≤◌, OnOk, OnErr, length, take};
-ghost use Rattle.tune_titles.specs.Order.{row_order, small_order, in_order, LawOfOrder};
+ghost use Rattle.std.specs.Prelude.{◌≡◌, OnOk, OnErr};
+ghost use Rattle.tune_titles.specs.Order.{row_order, in_order, LawOfOrder};
 
 use crate::articles::rest_of;
+use crate::fronts::{front_of, order_by_fronts};
 use abc_fields::trim_blanks;
 use std::alloc::AllocError;
 use std::cmp::Ordering;
@@ -14,6 +15,7 @@ use std::marker::Model;
 pub struct TitleRow<'a> {
     title: &'a [u8],
     rest: &'a [u8],
+    front: u128,
     number: u32,
     place: u8,
 }
@@ -21,8 +23,10 @@ pub struct TitleRow<'a> {
 impl<'a> Model for TitleRow<'a> {
     ghost use Rattle.std.specs.Prelude.{◌≡◌};
     ghost use Rattle.abc_fields.specs.Words.{trimmed};
+    ghost use Rattle.index_keys.specs.Cuts.{cut_number};
     ghost use Rattle.tune_titles.specs.Articles.{title_rest};
     ghost use Rattle.tune_titles.specs.Order.{Row};
+    ghost use Rattle.tune_titles.specs.Titles.{sorting_title};
 
     ghost Value = { Row };
 
@@ -32,7 +36,8 @@ impl<'a> Model for TitleRow<'a> {
       place = row.place;
     } };
 
-    ghost invariant = { λ row. row.rest.now ≡ title_rest (trimmed row.title.now) };
+    ghost invariant = { λ row. (row.rest.now ≡ title_rest (trimmed row.title.now))
+        × (row.front ≡ cut_number 16 0 (sorting_title row.title.now)) };
 }
 
 impl<'a> TitleRow<'a> {
@@ -40,9 +45,11 @@ impl<'a> TitleRow<'a> {
     pub fn new(title: &'a [u8], number: u32, place: u8) -> TitleRow<'a>
         ensures { result ≡ record { title = title.now; number = number; place = place } }
     {
+        let rest = rest_of(trim_blanks(title));
         TitleRow {
             title,
-            rest: rest_of(trim_blanks(title)),
+            rest,
+            front: front_of(rest),
             number,
             place,
         }
@@ -73,7 +80,7 @@ impl<'a> TitleRow<'a> {
     fn order(&self, other: &TitleRow) -> Ordering
         ensures { result ≡ row_order self.now other.now }
     {
-        match small_order(self.rest, other.rest) {
+        match order_by_fronts(self.front, self.rest, other.front, other.rest) {
             Ordering::Equal => match self.number.cmp(&other.number) {
                 Ordering::Equal => self.place.cmp(&other.place),
                 unequal => unequal,
@@ -95,39 +102,4 @@ pub fn sort_rows(rows: &mut Vec<TitleRow>) -> Result<(), AllocError>
     ensures law { LawOfOrder rows.old.items }
 {
     rows.sort_by(|row, other| row.order(other))
-}
-
-// The order of two texts in small letters. What they have alike is passed over in blocks, so that
-// letters are made small only from about the first difference on.
-fn small_order(one: &[u8], other: &[u8]) -> Ordering
-    ensures { result ≡ small_order one.now other.now }
-{
-    let alike = alike_blocks(one, other);
-    let shorter = one.len().min(other.len());
-    for i in alike..shorter {
-        let first = one[i].to_ascii_lowercase();
-        let second = other[i].to_ascii_lowercase();
-        match first.cmp(&second) {
-            Ordering::Equal => {}
-            unequal => return unequal,
-        }
-    }
-    one.len().cmp(&other.len())
-}
-
-const BLOCK: usize = 128;
-
-// How many bytes two texts have alike at their fronts, in whole blocks. Most titles have no block.
-#[inline(always)]
-fn alike_blocks(one: &[u8], other: &[u8]) -> usize
-    ensures one { result ≤ length one.now }
-    ensures other { result ≤ length other.now }
-    ensures alike { take result one.now ≡ take result other.now }
-{
-    let shorter = one.len().min(other.len());
-    let mut at = 0;
-    while shorter - at >= BLOCK && one[at..at + BLOCK] == other[at..at + BLOCK] {
-        at += BLOCK;
-    }
-    at
 }

@@ -11,7 +11,6 @@ use Rattle.tune_pages.specs.Stand.{Stand}
 use Rattle.tune_pages.specs.declared.fault.Fault.{Fault}
 use Rattle.tune_pages.specs.declared.fault.Fault.TheVariants.{FileFull, OutOfMemory, Device}
 use Rattle.tune_pages.specs.declared.fault.Fault.TheVariants.{Closed}
-use Rattle.tune_store.specs.declared.layout.Layout.TheVariants.{One}
 use Rattle.tune_store.specs.Plans.{changed}
 use Rattle.tune_store.specs.State.{State, IsState}
 use Rattle.tune_store.specs.Stops.{HasFailed}
@@ -28,7 +27,6 @@ use Rattle.tune_archive.specs.Inside.Holding.{stand_of}
 pub record StaysWithin (s : Stand) (contents : Contents) (change : Change) : Type 0 where
   pub state : State
   pub holds : HoldsContents s contents state
-  pub first_layout : state.layout ≡ One
   pub within : IsState state
   pub next : IsState (changed change state)
 

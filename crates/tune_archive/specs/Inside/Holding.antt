@@ -6,8 +6,7 @@ use Rattle.tune_journal.specs.Image.{StandsFor}
 use Rattle.tune_pages.specs.Kept.{Kept, HonestAt, state_at}
 use Rattle.tune_pages.specs.Stand.{Stand}
 use Rattle.tune_store.specs.State.{IsState}
-use Rattle.tune_store.specs.declared.layout.Layout.TheVariants.{One}
-use Rattle.tune_format.specs.Layout.{most_pages_of_archive}
+use Rattle.tune_format.specs.Layout.{most_pages_of}
 use Rattle.tune_contents.specs.Claimed.{AreRows}
 use Rattle.tune_contents.specs.Holds.{HoldsContents}
 use Rattle.tune_contents.specs.declared.contents.Contents.{Contents}
@@ -17,14 +16,12 @@ use Rattle.tune_archive.specs.Shelf.{state_on}
 abbrev pub stand_of : {D : Type 0} → Kept D → Stand
 stand_of kept = record { pages = kept.pages; used = kept.used }
 
--- The pages hold the state of the disk, which is of layout 1 and within its limits; a stop now
--- leaves them alone.
+-- The pages hold the state of the disk, which is within the limits; a stop now leaves them alone.
 pub record HoldsState {D : Type 0} (state : D → DiskState) (kept : Kept D) (contents : Contents)
     : Type 0 where
   pub holds : HoldsContents (stand_of kept) contents (state_on state kept.disk)
-  pub first_layout : (state_on state kept.disk).layout ≡ One
   pub within : IsState (state_on state kept.disk)
-  pub few : length kept.pages ≤ most_pages_of_archive
+  pub few : length kept.pages ≤ most_pages_of (state_on state kept.disk).layout
   pub rest : LeavesOnly (state_at state kept.disk).now (StandsFor kept.pages)
 
 -- The rows rise, whatever the disk does. An open archive has open pages, with a mark for each page
@@ -32,6 +29,6 @@ pub record HoldsState {D : Type 0} (state : D → DiskState) (kept : Kept D) (co
 pub record IsShelf {D : Type 0} (honest : D → Type 0) (state : D → DiskState) (kept : Kept D)
     (contents : Contents) (closed : Bool) : Type 0 where
   pub rows : AreRows contents.layout contents.rows.items
-  pub marks : closed ≡ false → length kept.used ≡ most_pages_of_archive
+  pub marks : closed ≡ false → length kept.used ≡ most_pages_of contents.layout
   pub is_open : closed ≡ false → kept.closed ≡ false
   pub holds : HonestAt honest kept.disk → closed ≡ false → HoldsState state kept contents

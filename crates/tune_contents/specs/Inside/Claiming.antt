@@ -14,13 +14,12 @@ use Rattle.tune_search.specs.Claiming as loaded
 use Rattle.tune_search.specs.Claims.{AreAllKnown, StandsAtKeys}
 use Rattle.tune_search.specs.IndexParts.{IndexParts, KeepsIndex, parts_of_index}
 use Rattle.tune_search.specs.SearchPages.{AreListed}
-use Rattle.tune_search.specs.Searches.{SearchParts, SearchRuns, SearchShape, key_bytes}
-use Rattle.tune_search.specs.Searches.{parts_of_search}
+use Rattle.tune_search.specs.Searches.{SearchParts, SearchRuns, SearchShape, incipit_bytes}
+use Rattle.tune_search.specs.Searches.{key_bytes, parts_of_search}
 use Rattle.tune_search.specs.declared.loading.SearchFirsts.{SearchFirsts}
-use Rattle.tune_store.specs.Limits.{greatest_revision, longest_text}
+use Rattle.tune_store.specs.Limits.{greatest_revision, longest_text, notes_of}
 use Rattle.tune_store.specs.State.{State, IsTune}
 use Rattle.tune_store.specs.declared.layout.Layout.{Layout}
-use Rattle.tune_store.specs.declared.layout.Layout.TheVariants.{One}
 use Rattle.tune_store.specs.declared.tune.Tune.{Tune}
 use Rattle.tune_format.specs.Filed.{HoldTunes, archive_parts, firsts_of, rows_of}
 use Rattle.tune_format.specs.Searched.{AreSearchIndexes}
@@ -89,14 +88,15 @@ pub record ClaimsSearch (most : ℕ) (pages : List (List ℕ)) (front : List Par
   pub held : HoldsLoadedSearch pages now front firsts shape parts runs
   pub listed : AreListed shape
   pub only : (other : SearchParts) (others : SearchRuns) (more : List Part)
-      → AreParts pages (front ++ (parts_of_search other ++ more))
+      → AreParts pages (front ++ (parts_of_search other ++ more)) → others.notes ≡ runs.notes
       → HoldEachAtMost most other others → loaded.firsts_of other ≡ firsts
       → (other ≡ parts) × (others ≡ runs)
 
-pub record IsSearchThere (most : ℕ) (pages : List (List ℕ)) (front : List Part)
+pub record IsSearchThere (notes most : ℕ) (pages : List (List ℕ)) (front : List Part)
     (firsts : SearchFirsts) : Type 0 where
   pub parts : SearchParts
   pub runs : SearchRuns
+  pub same : runs.notes ≡ notes
   pub more : List Part
   pub are : AreParts pages (front ++ (parts_of_search parts ++ more))
   pub holds : HoldEachAtMost most parts runs
@@ -104,9 +104,10 @@ pub record IsSearchThere (most : ℕ) (pages : List (List ℕ)) (front : List Pa
 
 -- WHAT THE ROOT NAMES
 -- the entries of the four search indexes
-abbrev pub runs_filed : {tunes : List (ℕ × List ℕ)} {searches : SearchParts}
-    → AreSearchIndexes tunes searches → SearchRuns
-runs_filed are = record {
+abbrev pub runs_filed : {notes : ℕ} {tunes : List (ℕ × List ℕ)} {searches : SearchParts}
+    → AreSearchIndexes notes tunes searches → SearchRuns
+runs_filed {notes = notes} are = record {
+  notes = notes;
   titles = are.titles.entries;
   rhythms = are.rhythms.entries;
   scales = are.scales.entries;
@@ -123,24 +124,27 @@ pub record HasLists (pages : List (List ℕ)) (state : State) (is : IsStateOf pa
   pub are_entries : number_entries (rows_of state.tunes is.filed.texts) ≡ entries
   pub are_runs : runs_filed is.filed.are_searches ≡ runs
 
--- The root names the index of numbers, the search indexes and the set lists, and these were
--- claimed: memory has the indexes, with these entries, and the set lists are these bytes. Each
--- state that stands on the pages has them.
-pub record ClaimsLists (pages : List (List ℕ)) (now : List Bool) (firsts : Firsts)
-    (shape : Shape) (entries : List Entry) (shapes : SearchShape) (runs : SearchRuns)
-    (bytes : List ℕ) : Type 0 where
+-- The root says the layout, and names the index of numbers, the search indexes and the set lists,
+-- and these were claimed: memory has the indexes, with these entries, and the set lists are these
+-- bytes. Each state that stands on the pages has them.
+pub record ClaimsLists (layout : Layout) (pages : List (List ℕ)) (now : List Bool)
+    (firsts : Firsts) (shape : Shape) (entries : List Entry) (shapes : SearchShape)
+    (runs : SearchRuns) (bytes : List ℕ) : Type 0 where
   pub numbers : IndexParts
   pub searches : SearchParts
   pub set_lists : Part
   pub has : HasClaimed pages now (archive_parts numbers searches set_lists [])
-  pub root : IsRoot One (page_at pages 0) firsts
+  pub root : IsRoot layout (page_at pages 0) firsts
   pub firsts_are : firsts ≡ firsts_of numbers searches set_lists
   pub keeps : KeepsIndex key_bytes shape numbers entries
   pub listed : shape.listed ≡ true
+  pub notes : shapes.notes ≡ notes_of layout
+  pub of_runs : runs.notes ≡ shapes.notes
   pub titles : KeepsIndex key_bytes shapes.titles searches.titles runs.titles
   pub rhythms : KeepsIndex key_bytes shapes.rhythms searches.rhythms runs.rhythms
   pub scales : KeepsIndex key_bytes shapes.scales searches.scales runs.scales
-  pub incipits : KeepsIndex key_bytes shapes.incipits searches.incipits runs.incipits
+  pub incipits : KeepsIndex (incipit_bytes shapes.notes) shapes.incipits searches.incipits
+      runs.incipits
   pub all_listed : AreListed shapes
   pub sets_are_chain : set_lists.kind ≡ chain
   pub sets_hold : set_lists.bytes ≡ bytes
@@ -148,10 +152,10 @@ pub record ClaimsLists (pages : List (List ℕ)) (now : List Bool) (firsts : Fir
       → HasLists pages state is numbers searches set_lists entries runs
 
 -- where there is a page
-abbrev pub ListsClaimed : List (List ℕ) → List Bool → Firsts → Shape → List Entry → SearchShape
-    → SearchRuns → List ℕ → Type 0
-ListsClaimed pages now firsts shape entries shapes runs bytes = 0 < length pages
-    → ClaimsLists pages now firsts shape entries shapes runs bytes
+abbrev pub ListsClaimed : Layout → List (List ℕ) → List Bool → Firsts → Shape → List Entry
+    → SearchShape → SearchRuns → List ℕ → Type 0
+ListsClaimed layout pages now firsts shape entries shapes runs bytes = 0 < length pages
+    → ClaimsLists layout pages now firsts shape entries shapes runs bytes
 
 -- ONE TUNE
 -- these bytes are a revision and the text of one tune, within the limits

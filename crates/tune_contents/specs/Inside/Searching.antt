@@ -65,6 +65,11 @@ AreRunsOut None None = ⊤
 AreRunsOut (Some old) (Some run) = AreSmall (old ∷ []) × AreRunsOf (old ∷ []) run
 AreRunsOut old run = ⊥
 
+-- what goes or comes is by so many notes
+abbrev pub IsByNotes : ℕ → Option SearchRuns → Type 0
+IsByNotes notes None = ⊤
+IsByNotes notes (Some run) = run.notes ≡ notes
+
 -- What goes out of the search indexes: nothing, or the entries of one of the tunes.
 abbrev pub TakesOut : Option SearchRuns → List (ℕ × List ℕ) → List (ℕ × List ℕ) → Type 0
 TakesOut None tunes others = others ≡ tunes

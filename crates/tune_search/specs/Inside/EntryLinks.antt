@@ -3,7 +3,6 @@ use Rattle.std.specs.Prelude.{◌≡◌, ℕ, ◌+◌, ◌<◌, ◌==◌, List, 
 use Rattle.std.specs.Prelude.{if◌then◌else◌}
 use Rattle.index_keys.specs.Entries.{Entry}
 use Rattle.tune_index.specs.Leaves.{slice_entry}
-use Rattle.tune_search.specs.declared.claims.KeyClaims.{KeyClaims}
 
 -- the place of the first entry of a number, or how many entries there are
 abbrev pub first_place : ℕ → List Entry → ℕ
@@ -27,6 +26,6 @@ pub record AreNexts (es : List Entry) (nexts : List ℕ) : Type 0 where
       → slice_index nexts k ≡ place_from (slice_entry es k).1 (k + 1) es
 
 -- the entries of each of the numbers are linked
-pub record AreLinked (numbers : List ℕ) (claims : KeyClaims) : Type 0 where
-  pub firsts : AreFirsts numbers claims.entries.items claims.firsts.items
-  pub nexts : AreNexts claims.entries.items claims.nexts.items
+pub record AreLinked (numbers : List ℕ) (es : List Entry) (first next : List ℕ) : Type 0 where
+  pub firsts : AreFirsts numbers es first
+  pub nexts : AreNexts es next

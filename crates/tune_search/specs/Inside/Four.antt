@@ -4,8 +4,8 @@ use Rattle.index_keys.specs.Entries.{inserted_all, removed_all}
 use Rattle.tune_pages.specs.Stand.{Stand}
 use Rattle.tune_parts.specs.Parts.{HoldsParts, Part}
 use Rattle.tune_search.specs.IndexParts.{KeepsIndex}
-use Rattle.tune_search.specs.Searches.{SearchParts, SearchRuns, SearchShape, key_bytes}
-use Rattle.tune_search.specs.Searches.{parts_of_search}
+use Rattle.tune_search.specs.Searches.{SearchParts, SearchRuns, SearchShape, incipit_bytes}
+use Rattle.tune_search.specs.Searches.{key_bytes, parts_of_search}
 
 -- what memory has of the indexes is that of these parts, with these entries
 pub record KeepsFour (shape : SearchShape) (parts : SearchParts) (entries : SearchRuns)
@@ -13,7 +13,8 @@ pub record KeepsFour (shape : SearchShape) (parts : SearchParts) (entries : Sear
   pub titles : KeepsIndex key_bytes shape.titles parts.titles entries.titles
   pub rhythms : KeepsIndex key_bytes shape.rhythms parts.rhythms entries.rhythms
   pub scales : KeepsIndex key_bytes shape.scales parts.scales entries.scales
-  pub incipits : KeepsIndex key_bytes shape.incipits parts.incipits entries.incipits
+  pub incipits : KeepsIndex (incipit_bytes shape.notes) shape.incipits parts.incipits
+      entries.incipits
 
 -- they stand among any others
 pub record HoldsFour (s : Stand) (shape : SearchShape) (before after : List Part)
@@ -41,6 +42,7 @@ entry_count entries = length entries.titles + length entries.rhythms + length en
 -- the entries with these runs put in, or taken out
 abbrev pub put_in : SearchRuns → SearchRuns → SearchRuns
 put_in runs entries = record {
+  notes = entries.notes;
   titles = inserted_all runs.titles entries.titles;
   rhythms = inserted_all runs.rhythms entries.rhythms;
   scales = inserted_all runs.scales entries.scales;
@@ -49,6 +51,7 @@ put_in runs entries = record {
 
 abbrev pub taken_out : SearchRuns → SearchRuns → SearchRuns
 taken_out runs entries = record {
+  notes = entries.notes;
   titles = removed_all runs.titles entries.titles;
   rhythms = removed_all runs.rhythms entries.rhythms;
   scales = removed_all runs.scales entries.scales;

@@ -1,9 +1,8 @@
--- Titles in memory of their own.
-use Rattle.std.specs.Prelude.{List, map}
-use Rattle.tune_titles.specs.Order.{Row}
-use Rattle.tune_store.specs.declared.questions.OwnTitle.{OwnTitle}
+-- Rows of titles in order, as a reply has them.
+use Rattle.std.specs.Prelude.{Some}
+use Rattle.tune_titles.specs.ShownRows.{Shown}
+use Rattle.tune_store.specs.declared.rows.IndexRow.{IndexRow}
 
--- titles as rows of an index
-abbrev pub title_rows : List OwnTitle → List Row
-title_rows titles =
-    map (λ own. record { title = own.title; number = own.number; place = own.place }) titles
+-- the number and the title alone
+abbrev pub shown_title : Shown → IndexRow
+shown_title row = record { number = row.number; title = Some row.title }

@@ -1,6 +1,7 @@
-use Rattle.std.proofs.Common.{◌≡◌, List, ap, refl, subst, sym, arith}
+use Rattle.std.proofs.Common.{◌≡◌, List, ap, refl, ◌∙◌, subst, sym, arith}
 use Rattle.std.proofs.lemmas.Result.{err_from_is_err_and}
 use Rattle.tune_pages.specs.Work.{stand}
+use Rattle.tune_search.specs.Searches.{SearchShape}
 use Rattle.tune_sets.specs.declared.set_lists.TuneSet.{TuneSet}
 use Rattle.tune_store.specs.Plans.{CanChange}
 use Rattle.tune_format.specs.declared.rows.Row.{Row}
@@ -57,7 +58,8 @@ returns-clause-lays g c = λ h.
     let named = rw c.changes_sets-names.ensures at c.in_ok-sets_first.ensures.lays h2 in
     let lists = c.in_ok-numbers.ensures.lists in
     let says : SaysWhere left = record { numbers = lists.0; numbers_listed = lists.1; searches = lists.2; searches_listed = lists.3 } in
-    state_laid s mid late new old left c.args.change c.requires.possible lays named (c.in_ok-lay_root.ensures.root h) refl c.in_ok-sets.ensures.sets says)
+    state_laid s mid late new old left c.args.change c.requires.possible lays named (c.in_ok-lay_root.ensures.root h) refl
+    (c.in_ok-numbers.ensures.notes ∙ ap (λ (s : SearchShape). s.notes) c.in_ok-copy_searches.ensures.searches) c.in_ok-sets.ensures.sets says)
 
 pub returns-clause-rows : goal.returns-clause-rows
 returns-clause-rows g c =

@@ -6,6 +6,7 @@ use Rattle.tune_pages.specs.Work.{stand}
 use Rattle.tune_format.specs.declared.rows.Row.{Row}
 use Rattle.tune_contents.specs.Inside.Changes.{HoldsTunesWithin}
 use Rattle.tune_contents.specs.Inside.Laying.{HoldsSomeTunes}
+use Rattle.tune_contents.specs.Inside.Searching.{IsByNotes}
 use Rattle.tune_contents.proofs.IndexedLemmas.{LaidTunes, TextsChange, indexed_laid, laid_tunes, lays_from, numbers_take, searches_take}
 use Rattle.tune_contents.proofs.IndexedLemmas.{TakesFrom, some_numbers, some_searches, some_tunes, some_within}
 use Rattle.tune_contents.proofs.changes.lay_indexed.Goals as goal
@@ -56,6 +57,14 @@ change_searches-requires-clause-holds g c = λ h.
     (c.in_ok-texts.ensures.gone h1) in
     some_searches c.args.layout s was.numbers was.searches c.args.was.now (c.requires.holds (c.in_ok-texts.ensures.looks.was_honest h1)) mid late rows
     c.args.change.now c.change_numbers.new.numbers _ c.in_ok-texts.texts.gone lays (c.in_ok-numbers.ensures.lays h) takes)
+
+pub change_searches-requires-clause-gone_notes : goal.change_searches-requires-clause-gone_notes
+change_searches-requires-clause-gone_notes g c =
+    subst (λ (n : ℕ). IsByNotes n c.in_ok-texts.texts.gone) c.notes-notes.ensures c.in_ok-texts.ensures.gone_notes
+
+pub change_searches-requires-clause-come_notes : goal.change_searches-requires-clause-come_notes
+change_searches-requires-clause-come_notes g c =
+    subst (λ (n : ℕ). IsByNotes n c.in_ok-texts.texts.come) c.notes-notes.ensures c.in_ok-texts.ensures.come_notes
 
 pub returns-clause-lays : goal.returns-clause-lays
 returns-clause-lays g c = λ h.

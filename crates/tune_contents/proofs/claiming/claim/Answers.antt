@@ -2,7 +2,6 @@ use Rattle.std.proofs.Common.{refl, sym, subst}
 use Rattle.std.proofs.lemmas.Result.{err_from_is_err_and}
 use Rattle.tune_pages.specs.Claim.{IsChainFault}
 use Rattle.tune_pages.specs.declared.fault.ClaimFault.{ClaimFault}
-use Rattle.tune_store.specs.declared.layout.Layout.TheVariants.{One}
 use Rattle.tune_contents.specs.Claimed.{IsClaimed}
 use Rattle.tune_contents.specs.declared.contents.Contents.{Contents}
 use Rattle.tune_contents.specs.Inside.Claiming.{IsStateThere}
@@ -13,7 +12,7 @@ pub returns-in_err-rows-clause-damaged : goal.returns-in_err-rows-clause-damaged
 returns-in_err-rows-clause-damaged g c =
     let p = err_from_is_err_and c.from_residual-in_err-rows.result c.from_residual-in_err-rows.ensures.1 in
     let call = c.in_err-rows.ensures in
-    let lists = c.in_ok-firsts.ensures in
+    let lists = c.in_ok-layout.ensures in
     rw p.1 (λ h.
     let one = call.looks.was_honest h in
     let on = lists.looks.same_pages one in
@@ -24,12 +23,12 @@ returns-in_err-rows-clause-damaged g c =
 pub returns-clause-claimed : goal.returns-clause-claimed
 returns-clause-claimed g c = λ h some.
     let rows = c.in_ok-rows.ensures in
-    let lists = c.in_ok-firsts.ensures in
+    let lists = c.in_ok-layout.ensures in
     let one = rows.looks.was_honest h in
     let on = lists.looks.same_pages one in
-    let named = c.in_ok-firsts.field-0 in
+    let named = c.in_ok-layout.field-0 in
     let contents : Contents = record {
-      layout = One;
+      layout = named.layout;
       rows = c.in_ok-rows.rows;
       numbers = named.numbers;
       searches = named.searches;

@@ -3,25 +3,24 @@ use Rattle.std.proofs.lemmas.Result.{err_from_is_err_and}
 use Rattle.tune_pages.specs.Claim.{IsChainFault}
 use Rattle.tune_pages.specs.declared.fault.ClaimFault.{ClaimFault}
 use Rattle.tune_store.specs.Limits.{most_tunes}
-use Rattle.tune_store.specs.declared.layout.Layout.TheVariants.{One}
 use Rattle.tune_contents.specs.Inside.Claiming.{IsStateThere}
 use Rattle.tune_contents.proofs.ClaimListLemmas.{root_at, root_none, numbers_fault, searches_fault, sets_fault, numbers_claimed, both_claimed, lists_claimed}
 use Rattle.tune_contents.proofs.claiming.claim_lists.Goals as goal
 
 pub returns-in_default-clause-damaged : goal.returns-in_default-clause-damaged
-returns-in_default-clause-damaged g c = λ h. root_none _ _ _ c.requires.first (c.in_ok-root.ensures.image h) c.in_default.ensures.none
+returns-in_default-clause-damaged g c = λ h. root_none _ _ (c.in_ok-root.ensures.image h) c.in_default.ensures.none
 
 pub returns-in_err-numbers-clause-damaged : goal.returns-in_err-numbers-clause-damaged
 returns-in_err-numbers-clause-damaged g c =
     let p = err_from_is_err_and c.from_residual-in_err-numbers.result c.from_residual-in_err-numbers.ensures.1 in
     let call = c.in_err-numbers.ensures in
     let read = c.in_ok-root.ensures in
-    let same : c.most_tunes-most.result ≡ most_tunes One = c.most_tunes-most.ensures.most ∙ ap most_tunes c.requires.first in
+    let same : c.most_tunes-most.result ≡ most_tunes c.in-Some.layout = c.most_tunes-most.ensures.most in
     rw p.1 (λ h.
     let one = call.looks.was_honest h in
     subst (λ (f : ClaimFault). IsChainFault f (IsStateThere c.args.opening.now.pages)) (sym p.2)
     (numbers_fault c.in_err-numbers.field-0.0 _ _ _ c.in-Some.firsts _ (read.looks.same_pages one) (read.claimed ∙ c.requires.root)
-    (root_at _ _ c.args.opening.now.pages _ c.requires.first (read.image one) c.in-Some.ensures.some) (omega (arith, same)) (call.damaged h)))
+    (root_at _ c.args.opening.now.pages _ (read.image one) c.in-Some.ensures.some) (omega (arith, same)) (call.damaged h)))
 
 pub returns-in_err-searches-clause-damaged : goal.returns-in_err-searches-clause-damaged
 returns-in_err-searches-clause-damaged g c =
@@ -29,13 +28,14 @@ returns-in_err-searches-clause-damaged g c =
     let call = c.in_err-searches.ensures in
     let numbers = c.in_ok-numbers.ensures in
     let read = c.in_ok-root.ensures in
-    let same : c.most_tunes-most.result ≡ most_tunes One = c.most_tunes-most.ensures.most ∙ ap most_tunes c.requires.first in
+    let same : c.most_tunes-most.result ≡ most_tunes c.in-Some.layout = c.most_tunes-most.ensures.most in
     rw p.1 (λ h.
     let one = call.looks.was_honest h in
     let two = numbers.looks.was_honest one in
     subst (λ (f : ClaimFault). IsChainFault f (IsStateThere c.args.opening.now.pages)) (sym p.2)
-    (searches_fault c.in_err-searches.field-0.0 _ _ _ c.in-Some.firsts c.most_tunes-most.result _ _ _ (numbers.looks.same_pages one ∙ read.looks.same_pages two)
-    (root_at _ _ c.args.opening.now.pages _ c.requires.first (read.image two) c.in-Some.ensures.some) (omega (arith, same)) (omega (arith, same))
+    (searches_fault c.in_err-searches.field-0.0 _ _ _ c.in-Some.firsts c.most_tunes-most.result _ _ _ _ c.incipit_notes-notes.ensures
+    (numbers.looks.same_pages one ∙ read.looks.same_pages two)
+    (root_at _ c.args.opening.now.pages _ (read.image two) c.in-Some.ensures.some) (omega (arith, same)) (omega (arith, same))
     (λ some. numbers_claimed _ _ _ _ _ _ _ _ (read.looks.same_pages two) (read.claimed ∙ c.requires.root) some (numbers.claims one)) (call.damaged h)))
 
 pub returns-in_err-sets-clause-damaged : goal.returns-in_err-sets-clause-damaged
@@ -45,7 +45,7 @@ returns-in_err-sets-clause-damaged g c =
     let searches = c.in_ok-searches.ensures in
     let numbers = c.in_ok-numbers.ensures in
     let read = c.in_ok-root.ensures in
-    let same : c.most_tunes-most.result ≡ most_tunes One = c.most_tunes-most.ensures.most ∙ ap most_tunes c.requires.first in
+    let same : c.most_tunes-most.result ≡ most_tunes c.in-Some.layout = c.most_tunes-most.ensures.most in
     rw p.1 (λ h.
     let zero = call.looks.was_honest h in
     let one = searches.looks.was_honest zero in
@@ -53,8 +53,8 @@ returns-in_err-sets-clause-damaged g c =
     let on = numbers.looks.same_pages one ∙ read.looks.same_pages two in
     subst (λ (f : ClaimFault). IsChainFault f (IsStateThere c.args.opening.now.pages)) (sym p.2)
     (sets_fault c.in_err-sets.field-0.0 _ _ _ _ c.in-Some.firsts c.most_tunes-most.result (8 * c.most_tunes-most.result) _ _ _ _
-    (searches.looks.same_pages zero ∙ on) (root_at _ _ c.args.opening.now.pages _ c.requires.first (read.image two) c.in-Some.ensures.some)
-    (omega (arith, same)) (omega (arith, same)) (c.requires.sized (read.looks.was_honest two))
+    (searches.looks.same_pages zero ∙ on) (root_at _ c.args.opening.now.pages _ (read.image two) c.in-Some.ensures.some)
+    (omega (arith, same)) (omega (arith, same)) (c.requires.sized (read.looks.was_honest two)) (searches.notes ∙ c.incipit_notes-notes.ensures)
     (λ some. both_claimed _ _ _ _ _ _ c.in-Some.firsts c.most_tunes-most.result (8 * c.most_tunes-most.result) _ _ _ _ (read.looks.same_pages two) on
     (read.claimed ∙ c.requires.root) some (numbers.claims one) (searches.claims zero)) (call.damaged h)))
 
@@ -64,13 +64,13 @@ returns-clause-claims g c = λ h some.
     let searches = c.in_ok-searches.ensures in
     let numbers = c.in_ok-numbers.ensures in
     let read = c.in_ok-root.ensures in
-    let same : c.most_tunes-most.result ≡ most_tunes One = c.most_tunes-most.ensures.most ∙ ap most_tunes c.requires.first in
+    let same : c.most_tunes-most.result ≡ most_tunes c.in-Some.layout = c.most_tunes-most.ensures.most in
     let zero = sets.looks.was_honest h in
     let one = searches.looks.was_honest zero in
     let two = numbers.looks.was_honest one in
     let on = numbers.looks.same_pages one ∙ read.looks.same_pages two in
     lists_claimed _ _ _ _ _ c.in-Some.firsts c.most_tunes-most.result (8 * c.most_tunes-most.result) _ _ _ _ _
-    (searches.looks.same_pages zero ∙ on) (root_at _ _ c.args.opening.now.pages _ c.requires.first (read.image two) c.in-Some.ensures.some)
-    (omega (arith, same)) (omega (arith, same))
+    (searches.looks.same_pages zero ∙ on) (root_at _ c.args.opening.now.pages _ (read.image two) c.in-Some.ensures.some)
+    (omega (arith, same)) (omega (arith, same)) (searches.notes ∙ c.incipit_notes-notes.ensures)
     (both_claimed _ _ _ _ _ _ c.in-Some.firsts c.most_tunes-most.result (8 * c.most_tunes-most.result) _ _ _ _ (read.looks.same_pages two) on
     (read.claimed ∙ c.requires.root) some (numbers.claims one) (searches.claims zero)) (sets.claims h)

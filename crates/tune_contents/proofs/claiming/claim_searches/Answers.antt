@@ -10,4 +10,4 @@ returns-clause-claims g c = ok_as c.load.result _ _
 
 pub returns-clause-damaged : goal.returns-clause-damaged
 returns-clause-damaged g c = err_as c.load.result _ _
-    (λ fault none h front has. fault_as fault _ _ (search_stored _ _ _ _ front has) (none h)) c.load.ensures.damaged
+    (λ fault none h front has. fault_as fault _ _ (search_stored _ _ _ _ _ front has) (none h)) c.load.ensures.damaged

@@ -15,8 +15,7 @@ pub returns-in_err-listed-clause-damaged : goal.returns-in_err-listed-clause-dam
 returns-in_err-listed-clause-damaged g c =
     let p = err_from_is_err_and c.from_residual.result c.from_residual.ensures.1 in
     rw p.1 (λ h firsts shape shapes lists. subst (λ (f : ClaimFault). IsChainFault f (IsStateThere c.args.opening.now.pages)) (sym p.2)
-    (listed_fault c.in_err-listed.field-0.0 _ _ _ _ _ _ _ _ lists _ refl
-    (subst (λ layout. IsChainFault c.in_err-listed.field-0.0 (AreEntriesOfRows layout c.args.tunes.now)) c.requires.first c.in_err-listed.ensures.damaged)))
+    (listed_fault c.in_err-listed.field-0.0 _ _ _ _ _ _ _ _ _ lists _ refl c.in_err-listed.ensures.damaged))
 
 pub returns-in_err-rows-clause-damaged : goal.returns-in_err-rows-clause-damaged
 returns-in_err-rows-clause-damaged g c =
@@ -24,10 +23,9 @@ returns-in_err-rows-clause-damaged g c =
     let call = c.in_err-rows.ensures in
     let fault = c.in_err-rows.field-0.0 in
     rw p.1 (λ h firsts shape shapes lists. subst (λ (f : ClaimFault). IsChainFault f (IsStateThere c.args.opening.now.pages)) (sym p.2)
-    (rows_fault fault _ _ _ _ _ _ _ _ lists _ c.deref.result.now refl
+    (rows_fault fault _ _ _ _ _ _ _ _ _ lists _ c.deref.result.now refl
     (ap number_entries c.deref.ensures.value ∙ c.in_ok-listed.ensures.same) (c.requires.sized (call.looks.was_honest h))
-    (λ front has. subst (λ layout. IsChainFault fault
-    (AreRowsThere layout c.args.opening.now.pages front (runs_in c.args.entries) c.deref.result.now)) c.requires.first (call.damaged h front has))))
+    (λ front has. call.damaged h front has)))
 
 pub read_named_sets-requires : goal.read_named_sets-requires
 read_named_sets-requires g c =
@@ -42,7 +40,7 @@ returns-in_err-sets-clause-damaged g c =
     let p = err_from_is_err_and c.from_residual-in_err-sets.result c.from_residual-in_err-sets.ensures.1 in
     let rows = c.in_ok-rows.ensures in
     rw p.1 (λ h firsts shape shapes lists. subst (λ (f : ClaimFault). IsChainFault f (IsStateThere c.args.opening.now.pages)) (sym p.2)
-    (sets_fault c.in_err-sets.field-0.0 _ _ _ _ _ _ _ _ lists c.deref-2.result.now
+    (sets_fault c.in_err-sets.field-0.0 _ _ _ _ _ _ _ _ _ lists c.deref-2.result.now
     (ap number_entries c.deref-2.ensures.value ∙ rows.same ∙ ap number_entries c.deref.ensures.value ∙ c.in_ok-listed.ensures.same)
     c.in_err-sets.ensures.damaged))
 
@@ -51,7 +49,7 @@ returns-clause-claimed g c = λ h contents its its_rows its_sets lists.
     let sets = c.in_ok-sets.ensures in
     let rows = c.in_ok-rows.ensures in
     let listed = c.in_ok-listed.ensures in
-    texts_claimed {layout = c.args.layout} _ _ _ _ contents _ _ _ c.deref.result.now _ _ c.requires.first refl its its_rows its_sets lists
+    texts_claimed {layout = c.args.layout} _ _ _ _ contents _ _ _ c.deref.result.now _ _ refl its its_rows its_sets lists
     (subst (AreRows c.args.layout) (sym c.deref.ensures.value) listed.rows)
     (ap number_entries c.deref.ensures.value ∙ listed.same) rows.same rows.known sets.same.0 sets.same.1
     (subst (λ r. NameRows r c.in_ok-sets.sets) c.deref-2.ensures.value sets.named) (rows.claimed h)

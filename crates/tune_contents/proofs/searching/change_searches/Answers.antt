@@ -1,7 +1,12 @@
 use Rattle.std.proofs.Common.{◌++◌, length}
 use Rattle.tune_pages.specs.Work.{stand}
 use Rattle.tune_contents.proofs.SearchPageLemmas.{full_edit, full_for_come, full_for_lists, others_small, some_laid, some_left, takes_few, texts_laid}
+use Rattle.std.proofs.Common.{sym, subst}
+use Rattle.tune_contents.specs.Inside.Searching.{IsByNotes}
 use Rattle.tune_contents.proofs.searching.change_searches.Goals as goal
+
+pub put_runs-requires-clause-notes : goal.put_runs-requires-clause-notes
+put_runs-requires-clause-notes g c = subst (λ notes. IsByNotes notes c.args.runs.now.come) (sym c.in-Ok.ensures.notes) c.requires.come_notes
 
 pub put_runs-requires-clause-holds : goal.put_runs-requires-clause-holds
 put_runs-requires-clause-holds g c = λ h1.

@@ -1,9 +1,10 @@
 use Rattle.std.proofs.Common.{◌≡◌, ◌+◌, List, rules, sym, ap, subst, ◌∙◌}
 use Rattle.tune_pages.specs.Faults.{free_pages}
 use Rattle.tune_pages.specs.Work.{stand}
-use Rattle.index_keys.specs.Entries.{Entry, inserted_all}
+use Rattle.index_keys.specs.Entries.{Entry, IsRising, inserted_all}
 use Rattle.tune_index.proofs.Answering.{edit_more}
 use Rattle.tune_index.proofs.Balances.{front_least}
+use Rattle.tune_search.specs.IncipitForms.{entries_in, notes_of_entries, notes_of_index, shape_of}
 use Rattle.tune_search.specs.Inside.Four.{HoldsSomeFour, LaysFour, put_in}
 use Rattle.tune_search.specs.SearchPages.{leaves_of}
 use Rattle.tune_search.specs.Searches.{SearchRuns, SearchShape}
@@ -17,10 +18,11 @@ put_run-requires-2 g c =
     let s1 = stand c.put_run.new.pages c.put_run.new.work in
     let e1 = c.in-Ok.ensures in
     let was : SearchShape = record {
+      notes = notes_of_index c.indexes.inside.incipits;
       titles = c.indexes.inside.titles;
       rhythms = c.indexes.inside.rhythms;
       scales = c.indexes.inside.scales;
-      incipits = c.indexes.inside.incipits;
+      incipits = shape_of c.indexes.inside.incipits;
     } in
     let is1 = c.put_run.new.index in
     let f1 = λ (es : List Entry). inserted_all c.deref.result.now es in (
@@ -47,10 +49,11 @@ put_run-requires-3 g c =
     let s1 = stand c.put_run.new.pages c.put_run.new.work in
     let e1 = c.in-Ok.ensures in
     let was : SearchShape = record {
+      notes = notes_of_index c.indexes.inside.incipits;
       titles = c.indexes.inside.titles;
       rhythms = c.indexes.inside.rhythms;
       scales = c.indexes.inside.scales;
-      incipits = c.indexes.inside.incipits;
+      incipits = shape_of c.indexes.inside.incipits;
     } in
     let is1 = c.put_run.new.index in
     let f1 = λ (es : List Entry). inserted_all c.deref.result.now es in
@@ -75,55 +78,17 @@ put_run-requires-3 g c =
       ),
     )
 
-pub put_run-requires-4 : goal.put_run-requires-4
-put_run-requires-4 g c =
+pub put-requires : goal.put-requires
+put-requires g c =
     let s0 = stand c.args.pages.now c.args.work.now in
     let s1 = stand c.put_run.new.pages c.put_run.new.work in
     let e1 = c.in-Ok.ensures in
     let was : SearchShape = record {
+      notes = notes_of_index c.indexes.inside.incipits;
       titles = c.indexes.inside.titles;
       rhythms = c.indexes.inside.rhythms;
       scales = c.indexes.inside.scales;
-      incipits = c.indexes.inside.incipits;
-    } in
-    let is1 = c.put_run.new.index in
-    let f1 = λ (es : List Entry). inserted_all c.deref.result.now es in
-    let s2 = stand c.put_run-2.new.pages c.put_run-2.new.work in
-    let e2 = c.in-Ok-put_run.ensures in
-    let is2 = c.put_run-2.new.index in
-    let f2 = λ (es : List Entry). inserted_all c.deref-2.result.now es in
-    let s3 = stand c.put_run-3.new.pages c.put_run-3.new.work in
-    let e3 = c.in-Ok-put_run-2.ensures in
-    let is3 = c.put_run-3.new.index in
-    let f3 = λ (es : List Entry). inserted_all c.deref-3.result.now es in (
-      search rules,
-      (
-        search rules,
-        (
-          e3.answer,
-          (
-            e3.fits,
-            (
-              (λ h3. (let h2 = e3.looks.was_honest h3 in let h1 = e2.looks.was_honest h2 in
-                  incipits_next was is1 is2 is3 f1 f2 f3 s0 s1 s2 s3 (e1.lays h1) (e2.lays h2) (e3.lays h3)
-                  (subst (λ (shape : SearchShape). HoldsSomeFour s0 shape) (sym c.indexes.view_is) (c.requires.holds (e1.looks.was_honest h1))))),
-              search rules,
-            ),
-          ),
-        ),
-      ),
-    )
-
-pub returns-clause-lays : goal.returns-clause-lays
-returns-clause-lays g c = λ h4.
-    let s0 = stand c.args.pages.now c.args.work.now in
-    let s1 = stand c.put_run.new.pages c.put_run.new.work in
-    let e1 = c.in-Ok.ensures in
-    let was : SearchShape = record {
-      titles = c.indexes.inside.titles;
-      rhythms = c.indexes.inside.rhythms;
-      scales = c.indexes.inside.scales;
-      incipits = c.indexes.inside.incipits;
+      incipits = shape_of c.indexes.inside.incipits;
     } in
     let is1 = c.put_run.new.index in
     let f1 = λ (es : List Entry). inserted_all c.deref.result.now es in
@@ -135,29 +100,64 @@ returns-clause-lays g c = λ h4.
     let e3 = c.in-Ok-put_run-2.ensures in
     let is3 = c.put_run-3.new.index in
     let f3 = λ (es : List Entry). inserted_all c.deref-3.result.now es in
-    let s4 = stand c.put_run-4.new.pages c.put_run-4.new.work in
-    let e4 = c.in-Ok-put_run-3.ensures in
-    let is4 = c.put_run-4.new.index in
-    let f4 = λ (es : List Entry). inserted_all c.deref-4.result.now es in
+    let same = ap (λ (r : SearchRuns). r.notes) c.runs.view_is ∙ c.requires.notes
+    ∙ sym (ap (λ (shape : SearchShape). shape.notes) c.indexes.view_is) in record {
+      «open» = e3.answer;
+      fits = e3.fits;
+      notes = same;
+      index = λ h3. (let h2 = e3.looks.was_honest h3 in let h1 = e2.looks.was_honest h2 in
+          incipits_next was is1 is2 is3 f1 f2 f3 s0 s1 s2 s3 (e1.lays h1) (e2.lays h2) (e3.lays h3)
+          (subst (λ (shape : SearchShape). HoldsSomeFour s0 shape) (sym c.indexes.view_is) (c.requires.holds (e1.looks.was_honest h1))));
+      rising = subst (λ (r : SearchRuns). IsRising r.incipits) (sym c.runs.view_is) c.requires.incipits;
+    }
+
+pub returns-clause-lays : goal.returns-clause-lays
+returns-clause-lays g c = λ h4.
+    let s0 = stand c.args.pages.now c.args.work.now in
+    let s1 = stand c.put_run.new.pages c.put_run.new.work in
+    let e1 = c.in-Ok.ensures in
+    let was : SearchShape = record {
+      notes = notes_of_index c.indexes.inside.incipits;
+      titles = c.indexes.inside.titles;
+      rhythms = c.indexes.inside.rhythms;
+      scales = c.indexes.inside.scales;
+      incipits = shape_of c.indexes.inside.incipits;
+    } in
+    let is1 = c.put_run.new.index in
+    let f1 = λ (es : List Entry). inserted_all c.deref.result.now es in
+    let s2 = stand c.put_run-2.new.pages c.put_run-2.new.work in
+    let e2 = c.in-Ok-put_run.ensures in
+    let is2 = c.put_run-2.new.index in
+    let f2 = λ (es : List Entry). inserted_all c.deref-2.result.now es in
+    let s3 = stand c.put_run-3.new.pages c.put_run-3.new.work in
+    let e3 = c.in-Ok-put_run-2.ensures in
+    let is3 = c.put_run-3.new.index in
+    let f3 = λ (es : List Entry). inserted_all c.deref-3.result.now es in
+    let s4 = stand c.put.new.pages c.put.new.work in
+    let e4 = c.in-Ok-put.ensures in
+    let is4 = c.put.new.self in
+    let f4 = λ (es : List Entry). inserted_all (entries_in c.runs.inside.incipits) es in
     let h3 = e4.looks.was_honest h4 in
     let h2 = e3.looks.was_honest h3 in
     let h1 = e2.looks.was_honest h2 in
-    let is : SearchShape = record { titles = is1; rhythms = is2; scales = is3; incipits = is4 } in
+    let is : SearchShape = record { notes = notes_of_index is4; titles = is1; rhythms = is2; scales = is3; incipits = shape_of is4 } in
     let made : SearchRuns = record {
+      notes = notes_of_entries c.runs.inside.incipits;
       titles = c.deref.result.now;
       rhythms = c.deref-2.result.now;
       scales = c.deref-3.result.now;
-      incipits = c.deref-4.result.now;
+      incipits = entries_in c.runs.inside.incipits;
     } in
     let runs : made ≡ c.args.runs.now = (λ i. record {
+      notes = notes_of_entries c.runs.inside.incipits;
       titles = c.deref.ensures.value i;
       rhythms = c.deref-2.ensures.value i;
       scales = c.deref-3.ensures.value i;
-      incipits = c.deref-4.ensures.value i;
+      incipits = entries_in c.runs.inside.incipits;
     }) ∙ c.runs.view_is in
     subst (λ (shape : SearchShape). LaysFour s0 s4 shape is (λ entries. put_in c.args.runs.now entries)) c.indexes.view_is
     (subst (λ (r : SearchRuns). LaysFour s0 s4 was is (λ entries. put_in r entries)) runs
-    (four_laid was is1 is2 is3 is4 f1 f2 f3 f4 s0 s1 s2 s3 s4 (e1.lays h1) (e2.lays h2) (e3.lays h3) (e4.lays h4)))
+    (four_laid was is1 is2 is3 (shape_of is4) f1 f2 f3 f4 s0 s1 s2 s3 s4 (notes_of_index is4) e4.notes (e1.lays h1) (e2.lays h2) (e3.lays h3) (e4.lays h4)))
 
 pub returns-clause-balance : goal.returns-clause-balance
 returns-clause-balance g c =
@@ -165,36 +165,39 @@ returns-clause-balance g c =
     let s1 = stand c.put_run.new.pages c.put_run.new.work in
     let s2 = stand c.put_run-2.new.pages c.put_run-2.new.work in
     let s3 = stand c.put_run-3.new.pages c.put_run-3.new.work in
-    let s4 = stand c.put_run-4.new.pages c.put_run-4.new.work in
+    let s4 = stand c.put.new.pages c.put.new.work in
     let was : SearchShape = record {
+      notes = notes_of_index c.indexes.inside.incipits;
       titles = c.indexes.inside.titles;
       rhythms = c.indexes.inside.rhythms;
       scales = c.indexes.inside.scales;
-      incipits = c.indexes.inside.incipits;
+      incipits = shape_of c.indexes.inside.incipits;
     } in
     let is : SearchShape = record {
+      notes = notes_of_index c.put.new.self;
       titles = c.put_run.new.index;
       rhythms = c.put_run-2.new.index;
       scales = c.put_run-3.new.index;
-      incipits = c.put_run-4.new.index;
+      incipits = shape_of c.put.new.self;
     } in
     subst (λ (shape : SearchShape). free_pages s0.used + leaves_of shape ≡ free_pages s4.used + leaves_of is) c.indexes.view_is
     (four_balance s0 s1 s2 s3 s4 was is c.in-Ok.ensures.balance c.in-Ok-put_run.ensures.balance c.in-Ok-put_run-2.ensures.balance
-    c.in-Ok-put_run-3.ensures.balance)
+    c.in-Ok-put.ensures.balance)
 
 pub returns-in-Err-clause-answer : goal.returns-in-Err-clause-answer
 returns-in-Err-clause-answer g c =
     let s0 = stand c.args.pages.now c.args.work.now in
     let was : SearchShape = record {
+      notes = notes_of_index c.indexes.inside.incipits;
       titles = c.indexes.inside.titles;
       rhythms = c.indexes.inside.rhythms;
       scales = c.indexes.inside.scales;
-      incipits = c.indexes.inside.incipits;
+      incipits = shape_of c.indexes.inside.incipits;
     } in
     let all = c.args.runs.now in
     let r1 : c.deref.result.now ≡ all.titles = c.deref.ensures.value ∙ ap (λ (r : SearchRuns). r.titles) c.runs.view_is in
-    let made : SearchRuns = record { titles = c.deref.result.now; rhythms = all.rhythms; scales = all.scales; incipits = all.incipits } in
-    let runs : made ≡ all = (λ i. record { titles = r1 i; rhythms = all.rhythms; scales = all.scales; incipits = all.incipits }) in
+    let made : SearchRuns = record { notes = all.notes; titles = c.deref.result.now; rhythms = all.rhythms; scales = all.scales; incipits = all.incipits } in
+    let runs : made ≡ all = (λ i. record { notes = all.notes; titles = r1 i; rhythms = all.rhythms; scales = all.scales; incipits = all.incipits }) in
     edit_more c.in-Err.fault c.put_run.new.pages.closed
     (λ full h1.
     subst (λ (shape : SearchShape). AreFullFor s0 shape (λ entries. put_in all entries)) c.indexes.view_is
@@ -209,10 +212,11 @@ pub returns-in-Err-put_run-clause-answer : goal.returns-in-Err-put_run-clause-an
 returns-in-Err-put_run-clause-answer g c =
     let s0 = stand c.args.pages.now c.args.work.now in
     let was : SearchShape = record {
+      notes = notes_of_index c.indexes.inside.incipits;
       titles = c.indexes.inside.titles;
       rhythms = c.indexes.inside.rhythms;
       scales = c.indexes.inside.scales;
-      incipits = c.indexes.inside.incipits;
+      incipits = shape_of c.indexes.inside.incipits;
     } in
     let all = c.args.runs.now in
     let s1 = stand c.put_run.new.pages c.put_run.new.work in
@@ -220,8 +224,14 @@ returns-in-Err-put_run-clause-answer g c =
     let is1 = c.put_run.new.index in
     let r1 : c.deref.result.now ≡ all.titles = c.deref.ensures.value ∙ ap (λ (r : SearchRuns). r.titles) c.runs.view_is in
     let r2 : c.deref-2.result.now ≡ all.rhythms = c.deref-2.ensures.value ∙ ap (λ (r : SearchRuns). r.rhythms) c.runs.view_is in
-    let made : SearchRuns = record { titles = c.deref.result.now; rhythms = c.deref-2.result.now; scales = all.scales; incipits = all.incipits } in
-    let runs : made ≡ all = (λ i. record { titles = r1 i; rhythms = r2 i; scales = all.scales; incipits = all.incipits }) in
+    let made : SearchRuns = record {
+      notes = all.notes;
+      titles = c.deref.result.now;
+      rhythms = c.deref-2.result.now;
+      scales = all.scales;
+      incipits = all.incipits;
+    } in
+    let runs : made ≡ all = (λ i. record { notes = all.notes; titles = r1 i; rhythms = r2 i; scales = all.scales; incipits = all.incipits }) in
     edit_more c.in-Err-put_run.fault c.put_run-2.new.pages.closed
     (λ full h2.
     let h1 = c.in-Err-put_run.ensures.looks.was_honest h2 in
@@ -237,10 +247,11 @@ pub returns-in-Err-put_run-2-clause-answer : goal.returns-in-Err-put_run-2-claus
 returns-in-Err-put_run-2-clause-answer g c =
     let s0 = stand c.args.pages.now c.args.work.now in
     let was : SearchShape = record {
+      notes = notes_of_index c.indexes.inside.incipits;
       titles = c.indexes.inside.titles;
       rhythms = c.indexes.inside.rhythms;
       scales = c.indexes.inside.scales;
-      incipits = c.indexes.inside.incipits;
+      incipits = shape_of c.indexes.inside.incipits;
     } in
     let all = c.args.runs.now in
     let s1 = stand c.put_run.new.pages c.put_run.new.work in
@@ -252,8 +263,14 @@ returns-in-Err-put_run-2-clause-answer g c =
     let r1 : c.deref.result.now ≡ all.titles = c.deref.ensures.value ∙ ap (λ (r : SearchRuns). r.titles) c.runs.view_is in
     let r2 : c.deref-2.result.now ≡ all.rhythms = c.deref-2.ensures.value ∙ ap (λ (r : SearchRuns). r.rhythms) c.runs.view_is in
     let r3 : c.deref-3.result.now ≡ all.scales = c.deref-3.ensures.value ∙ ap (λ (r : SearchRuns). r.scales) c.runs.view_is in
-    let made : SearchRuns = record { titles = c.deref.result.now; rhythms = c.deref-2.result.now; scales = c.deref-3.result.now; incipits = all.incipits } in
-    let runs : made ≡ all = (λ i. record { titles = r1 i; rhythms = r2 i; scales = r3 i; incipits = all.incipits }) in
+    let made : SearchRuns = record {
+      notes = all.notes;
+      titles = c.deref.result.now;
+      rhythms = c.deref-2.result.now;
+      scales = c.deref-3.result.now;
+      incipits = all.incipits;
+    } in
+    let runs : made ≡ all = (λ i. record { notes = all.notes; titles = r1 i; rhythms = r2 i; scales = r3 i; incipits = all.incipits }) in
     edit_more c.in-Err-put_run-2.fault c.put_run-3.new.pages.closed
     (λ full h3.
     let h2 = c.in-Err-put_run-2.ensures.looks.was_honest h3 in
@@ -266,14 +283,15 @@ returns-in-Err-put_run-2-clause-answer g c =
     s0 s1 s2 (e1.lays h1) (e2.lays h2) e1.balance e2.balance (full h3))))
     c.in-Err-put_run-2.ensures.answer
 
-pub returns-in-Err-put_run-3-clause-answer : goal.returns-in-Err-put_run-3-clause-answer
-returns-in-Err-put_run-3-clause-answer g c =
+pub returns-in-Err-put-clause-answer : goal.returns-in-Err-put-clause-answer
+returns-in-Err-put-clause-answer g c =
     let s0 = stand c.args.pages.now c.args.work.now in
     let was : SearchShape = record {
+      notes = notes_of_index c.indexes.inside.incipits;
       titles = c.indexes.inside.titles;
       rhythms = c.indexes.inside.rhythms;
       scales = c.indexes.inside.scales;
-      incipits = c.indexes.inside.incipits;
+      incipits = shape_of c.indexes.inside.incipits;
     } in
     let all = c.args.runs.now in
     let s1 = stand c.put_run.new.pages c.put_run.new.work in
@@ -285,20 +303,22 @@ returns-in-Err-put_run-3-clause-answer g c =
     let s3 = stand c.put_run-3.new.pages c.put_run-3.new.work in
     let e3 = c.in-Ok-put_run-2.ensures in
     let is3 = c.put_run-3.new.index in
+    let r0 : notes_of_entries c.runs.inside.incipits ≡ all.notes = ap (λ (r : SearchRuns). r.notes) c.runs.view_is in
     let r1 : c.deref.result.now ≡ all.titles = c.deref.ensures.value ∙ ap (λ (r : SearchRuns). r.titles) c.runs.view_is in
     let r2 : c.deref-2.result.now ≡ all.rhythms = c.deref-2.ensures.value ∙ ap (λ (r : SearchRuns). r.rhythms) c.runs.view_is in
     let r3 : c.deref-3.result.now ≡ all.scales = c.deref-3.ensures.value ∙ ap (λ (r : SearchRuns). r.scales) c.runs.view_is in
-    let r4 : c.deref-4.result.now ≡ all.incipits = c.deref-4.ensures.value ∙ ap (λ (r : SearchRuns). r.incipits) c.runs.view_is in
+    let r4 : entries_in c.runs.inside.incipits ≡ all.incipits = ap (λ (r : SearchRuns). r.incipits) c.runs.view_is in
     let made : SearchRuns = record {
+      notes = notes_of_entries c.runs.inside.incipits;
       titles = c.deref.result.now;
       rhythms = c.deref-2.result.now;
       scales = c.deref-3.result.now;
-      incipits = c.deref-4.result.now;
+      incipits = entries_in c.runs.inside.incipits;
     } in
-    let runs : made ≡ all = (λ i. record { titles = r1 i; rhythms = r2 i; scales = r3 i; incipits = r4 i }) in
-    edit_more c.in-Err-put_run-3.fault c.put_run-4.new.pages.closed
+    let runs : made ≡ all = (λ i. record { notes = r0 i; titles = r1 i; rhythms = r2 i; scales = r3 i; incipits = r4 i }) in
+    edit_more c.in-Err-put.fault c.put.new.pages.closed
     (λ full h4.
-    let h3 = c.in-Err-put_run-3.ensures.looks.was_honest h4 in
+    let h3 = c.in-Err-put.ensures.looks.was_honest h4 in
     let h2 = e3.looks.was_honest h3 in
     let h1 = e2.looks.was_honest h2 in
     subst (λ (shape : SearchShape). AreFullFor s0 shape (λ entries. put_in all entries)) c.indexes.view_is
@@ -307,4 +327,4 @@ returns-in-Err-put_run-3-clause-answer g c =
     (inserted_all made.titles) (inserted_all made.rhythms) (inserted_all made.scales) (inserted_all made.incipits)
     (front_least 0 made.rhythms) (front_least 0 made.scales) (front_least 0 made.incipits)
     s0 s1 s2 s3 (e1.lays h1) (e2.lays h2) (e3.lays h3) e1.balance e2.balance e3.balance (full h4))))
-    c.in-Err-put_run-3.ensures.answer
+    c.in-Err-put.ensures.answer

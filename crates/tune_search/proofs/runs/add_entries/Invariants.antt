@@ -4,8 +4,8 @@ use Rattle.tune_search.specs.Inside.TextEntries.{entries_at}
 use Rattle.tune_search.proofs.runs.add_entries.Given as goal
 
 abbrev pub invariant-loop-key : goal.invariant-loop-key
-invariant-loop-key l = record {
+invariant-loop-key g l = record {
   added : l.run.items ++ entries_at l.number (drop l.key-index l.keys)
       ≡ l.initial.run.items ++ entries_at l.number l.keys;
-  fit : AllFit 32 l.initial.run.items → AllFit 32 l.run.items;
+  fit : AllFit g.row.W l.initial.run.items → AllFit g.row.W l.run.items;
 }

@@ -2,6 +2,7 @@ use Rattle.std.proofs.Common.{◌≡◌, ◌+◌, ◌<◌, ◌≤◌, rules, sym
 use Rattle.tune_pages.specs.Faults.{free_pages}
 use Rattle.tune_pages.specs.Work.{stand}
 use Rattle.tune_pages.specs.declared.fault.Fault.TheVariants.{FileFull}
+use Rattle.tune_search.specs.IncipitForms.{notes_of_index, shape_of}
 use Rattle.tune_search.specs.Inside.Four.{HoldsSomeFour, LaysFour}
 use Rattle.tune_search.specs.SearchPages.{lists_of}
 use Rattle.tune_search.specs.Searches.{SearchShape}
@@ -13,10 +14,11 @@ pub store_list-requires-2 : goal.store_list-requires-2
 store_list-requires-2 g c =
     let s0 = stand c.args.pages.now c.args.work.now in
     let was : SearchShape = record {
+      notes = notes_of_index c.indexes.inside.incipits;
       titles = c.indexes.inside.titles;
       rhythms = c.indexes.inside.rhythms;
       scales = c.indexes.inside.scales;
-      incipits = c.indexes.inside.incipits;
+      incipits = shape_of c.indexes.inside.incipits;
     } in
     let s1 = stand c.store_list.new.pages c.store_list.new.work in
     let e1 = c.in-Ok.ensures in
@@ -37,10 +39,11 @@ pub store_list-requires-3 : goal.store_list-requires-3
 store_list-requires-3 g c =
     let s0 = stand c.args.pages.now c.args.work.now in
     let was : SearchShape = record {
+      notes = notes_of_index c.indexes.inside.incipits;
       titles = c.indexes.inside.titles;
       rhythms = c.indexes.inside.rhythms;
       scales = c.indexes.inside.scales;
-      incipits = c.indexes.inside.incipits;
+      incipits = shape_of c.indexes.inside.incipits;
     } in
     let s1 = stand c.store_list.new.pages c.store_list.new.work in
     let e1 = c.in-Ok.ensures in
@@ -61,14 +64,15 @@ store_list-requires-3 g c =
       ),
     )
 
-pub store_list-requires-4 : goal.store_list-requires-4
-store_list-requires-4 g c =
+pub store-requires : goal.store-requires
+store-requires g c =
     let s0 = stand c.args.pages.now c.args.work.now in
     let was : SearchShape = record {
+      notes = notes_of_index c.indexes.inside.incipits;
       titles = c.indexes.inside.titles;
       rhythms = c.indexes.inside.rhythms;
       scales = c.indexes.inside.scales;
-      incipits = c.indexes.inside.incipits;
+      incipits = shape_of c.indexes.inside.incipits;
     } in
     let s1 = stand c.store_list.new.pages c.store_list.new.work in
     let e1 = c.in-Ok.ensures in
@@ -78,29 +82,25 @@ store_list-requires-4 g c =
     let is2 = c.store_list-2.new.index in
     let s3 = stand c.store_list-3.new.pages c.store_list-3.new.work in
     let e3 = c.in-Ok-store_list-2.ensures in
-    let is3 = c.store_list-3.new.index in (
-      search rules,
-      (
-        e3.answer,
-        (
-          e3.fits,
-          (λ h3.
-              let h2 = e3.looks.was_honest h3 in
-              let h1 = e2.looks.was_honest h2 in
-              incipits_next was is1 is2 is3 same_entries same_entries same_entries s0 s1 s2 s3 (e1.lays h1) (e2.lays h2) (e3.lays h3)
-              (subst (λ (shape : SearchShape). HoldsSomeFour s0 shape) (sym c.indexes.view_is) (c.requires.holds (e1.looks.was_honest h1)))),
-        ),
-      ),
-    )
+    let is3 = c.store_list-3.new.index in record {
+      «open» = e3.answer;
+      fits = e3.fits;
+      index = λ h3.
+          let h2 = e3.looks.was_honest h3 in
+          let h1 = e2.looks.was_honest h2 in
+          incipits_next was is1 is2 is3 same_entries same_entries same_entries s0 s1 s2 s3 (e1.lays h1) (e2.lays h2) (e3.lays h3)
+          (subst (λ (shape : SearchShape). HoldsSomeFour s0 shape) (sym c.indexes.view_is) (c.requires.holds (e1.looks.was_honest h1)));
+    }
 
 pub returns-clause-lays : goal.returns-clause-lays
 returns-clause-lays g c = λ h4.
     let s0 = stand c.args.pages.now c.args.work.now in
     let was : SearchShape = record {
+      notes = notes_of_index c.indexes.inside.incipits;
       titles = c.indexes.inside.titles;
       rhythms = c.indexes.inside.rhythms;
       scales = c.indexes.inside.scales;
-      incipits = c.indexes.inside.incipits;
+      incipits = shape_of c.indexes.inside.incipits;
     } in
     let s1 = stand c.store_list.new.pages c.store_list.new.work in
     let e1 = c.in-Ok.ensures in
@@ -111,24 +111,26 @@ returns-clause-lays g c = λ h4.
     let s3 = stand c.store_list-3.new.pages c.store_list-3.new.work in
     let e3 = c.in-Ok-store_list-2.ensures in
     let is3 = c.store_list-3.new.index in
-    let s4 = stand c.store_list-4.new.pages c.store_list-4.new.work in
-    let e4 = c.in-Ok-store_list-3.ensures in
-    let is4 = c.store_list-4.new.index in
+    let s4 = stand c.store.new.pages c.store.new.work in
+    let e4 = c.in-Ok-store.ensures in
+    let is4 = c.store.new.self in
     let h3 = e4.looks.was_honest h4 in
     let h2 = e3.looks.was_honest h3 in
     let h1 = e2.looks.was_honest h2 in
-    let is : SearchShape = record { titles = is1; rhythms = is2; scales = is3; incipits = is4 } in
+    let is : SearchShape = record { notes = notes_of_index is4; titles = is1; rhythms = is2; scales = is3; incipits = shape_of is4 } in
     subst (λ (shape : SearchShape). LaysFour s0 s4 shape is (λ entries. entries)) c.indexes.view_is
-    (four_laid was is1 is2 is3 is4 same_entries same_entries same_entries same_entries s0 s1 s2 s3 s4 (e1.lays h1) (e2.lays h2) (e3.lays h3) (e4.lays h4))
+    (four_laid was is1 is2 is3 (shape_of is4) same_entries same_entries same_entries same_entries s0 s1 s2 s3 s4 (notes_of_index is4)
+    e4.notes (e1.lays h1) (e2.lays h2) (e3.lays h3) (e4.lays h4))
 
 pub returns-clause-takes : goal.returns-clause-takes
 returns-clause-takes g c = λ h4.
     let s0 = stand c.args.pages.now c.args.work.now in
     let was : SearchShape = record {
+      notes = notes_of_index c.indexes.inside.incipits;
       titles = c.indexes.inside.titles;
       rhythms = c.indexes.inside.rhythms;
       scales = c.indexes.inside.scales;
-      incipits = c.indexes.inside.incipits;
+      incipits = shape_of c.indexes.inside.incipits;
     } in
     let s1 = stand c.store_list.new.pages c.store_list.new.work in
     let e1 = c.in-Ok.ensures in
@@ -136,8 +138,8 @@ returns-clause-takes g c = λ h4.
     let e2 = c.in-Ok-store_list.ensures in
     let s3 = stand c.store_list-3.new.pages c.store_list-3.new.work in
     let e3 = c.in-Ok-store_list-2.ensures in
-    let s4 = stand c.store_list-4.new.pages c.store_list-4.new.work in
-    let e4 = c.in-Ok-store_list-3.ensures in
+    let s4 = stand c.store.new.pages c.store.new.work in
+    let e4 = c.in-Ok-store.ensures in
     let h3 = e4.looks.was_honest h4 in
     let h2 = e3.looks.was_honest h3 in
     let h1 = e2.looks.was_honest h2 in
@@ -149,10 +151,11 @@ pub returns-in-Err-clause-takes : goal.returns-in-Err-clause-takes
 returns-in-Err-clause-takes g c = λ h1.
     let s0 = stand c.args.pages.now c.args.work.now in
     let was : SearchShape = record {
+      notes = notes_of_index c.indexes.inside.incipits;
       titles = c.indexes.inside.titles;
       rhythms = c.indexes.inside.rhythms;
       scales = c.indexes.inside.scales;
-      incipits = c.indexes.inside.incipits;
+      incipits = shape_of c.indexes.inside.incipits;
     } in
     let fault = c.in-Err.fault in
     subst (λ (shape : SearchShape). fault ≡ FileFull → free_pages s0.used < lists_of shape) c.indexes.view_is
@@ -162,10 +165,11 @@ pub returns-in-Err-store_list-clause-takes : goal.returns-in-Err-store_list-clau
 returns-in-Err-store_list-clause-takes g c = λ h2.
     let s0 = stand c.args.pages.now c.args.work.now in
     let was : SearchShape = record {
+      notes = notes_of_index c.indexes.inside.incipits;
       titles = c.indexes.inside.titles;
       rhythms = c.indexes.inside.rhythms;
       scales = c.indexes.inside.scales;
-      incipits = c.indexes.inside.incipits;
+      incipits = shape_of c.indexes.inside.incipits;
     } in
     let s1 = stand c.store_list.new.pages c.store_list.new.work in
     let e1 = c.in-Ok.ensures in
@@ -178,10 +182,11 @@ pub returns-in-Err-store_list-2-clause-takes : goal.returns-in-Err-store_list-2-
 returns-in-Err-store_list-2-clause-takes g c = λ h3.
     let s0 = stand c.args.pages.now c.args.work.now in
     let was : SearchShape = record {
+      notes = notes_of_index c.indexes.inside.incipits;
       titles = c.indexes.inside.titles;
       rhythms = c.indexes.inside.rhythms;
       scales = c.indexes.inside.scales;
-      incipits = c.indexes.inside.incipits;
+      incipits = shape_of c.indexes.inside.incipits;
     } in
     let s1 = stand c.store_list.new.pages c.store_list.new.work in
     let e1 = c.in-Ok.ensures in
@@ -193,14 +198,15 @@ returns-in-Err-store_list-2-clause-takes g c = λ h3.
     subst (λ (shape : SearchShape). fault ≡ FileFull → free_pages s0.used < lists_of shape) c.indexes.view_is
     (no_scales_take fault s0 was s1 s2 (e1.takes h1) (e2.takes h2) (c.in-Err-store_list-2.ensures.takes h3))
 
-pub returns-in-Err-store_list-3-clause-takes : goal.returns-in-Err-store_list-3-clause-takes
-returns-in-Err-store_list-3-clause-takes g c = λ h4.
+pub returns-in-Err-store-clause-takes : goal.returns-in-Err-store-clause-takes
+returns-in-Err-store-clause-takes g c = λ h4.
     let s0 = stand c.args.pages.now c.args.work.now in
     let was : SearchShape = record {
+      notes = notes_of_index c.indexes.inside.incipits;
       titles = c.indexes.inside.titles;
       rhythms = c.indexes.inside.rhythms;
       scales = c.indexes.inside.scales;
-      incipits = c.indexes.inside.incipits;
+      incipits = shape_of c.indexes.inside.incipits;
     } in
     let s1 = stand c.store_list.new.pages c.store_list.new.work in
     let e1 = c.in-Ok.ensures in
@@ -208,9 +214,9 @@ returns-in-Err-store_list-3-clause-takes g c = λ h4.
     let e2 = c.in-Ok-store_list.ensures in
     let s3 = stand c.store_list-3.new.pages c.store_list-3.new.work in
     let e3 = c.in-Ok-store_list-2.ensures in
-    let h3 = c.in-Err-store_list-3.ensures.looks.was_honest h4 in
+    let h3 = c.in-Err-store.ensures.looks.was_honest h4 in
     let h2 = e3.looks.was_honest h3 in
     let h1 = e2.looks.was_honest h2 in
-    let fault = c.in-Err-store_list-3.fault in
+    let fault = c.in-Err-store.fault in
     subst (λ (shape : SearchShape). fault ≡ FileFull → free_pages s0.used < lists_of shape) c.indexes.view_is
-    (no_incipits_take fault s0 was s1 s2 s3 (e1.takes h1) (e2.takes h2) (e3.takes h3) (c.in-Err-store_list-3.ensures.takes h4))
+    (no_incipits_take fault s0 was s1 s2 s3 (e1.takes h1) (e2.takes h2) (e3.takes h3) (c.in-Err-store.ensures.takes h4))

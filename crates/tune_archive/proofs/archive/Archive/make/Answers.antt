@@ -5,6 +5,7 @@ use Rattle.tune_journal.specs.Image.{StandsFor}
 use Rattle.tune_journal.specs.Making.{IsEmptyFile}
 use Rattle.tune_journal.specs.declared.open_fault.Refused.{Refused}
 use Rattle.tune_pages.specs.Kept.{Kept, HonestAt, state_at, failures_at}
+use Rattle.tune_pages.specs.Opened.{only_root}
 use Rattle.tune_store.specs.State.{empty_state}
 use Rattle.tune_archive.specs.Opened.{disk_of, StandsForNoneOrEmpty}
 use Rattle.tune_archive.specs.Shelf.{Shelf, state_on}
@@ -26,7 +27,8 @@ pub over-requires : goal.over-requires
 over-requires g c =
     let call = c.in_ok-pages.ensures in
     made_shelf g.D.Disk.honest g.D.Disk.state g.met.D.Disk.seen_may_stay c.in_ok-pages.pages c.write_root-root.result.bytes c.nothing.result
-    call.pages call.used call.limit.1 (root_of_none _ _ c.no_firsts.ensures c.write_root-root.ensures.root) call.rest
+    call.pages (call.used ∙ ap only_root c.most_pages-limit.ensures.most) call.limit.1
+    (root_of_none _ _ c.no_firsts.ensures c.write_root-root.ensures.root) call.rest
     (record {
       layout = c.nothing.ensures.layout;
       rows = c.nothing.ensures.rows;

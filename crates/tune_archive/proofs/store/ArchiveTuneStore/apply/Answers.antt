@@ -38,6 +38,11 @@ returns-in_err-change-clause-quiet g c =
 pub returns-in_err-change-clause-unchanged : goal.returns-in_err-change-clause-unchanged
 returns-in_err-change-clause-unchanged g c = stays_where g.D.Disk.honest g.D.Disk.failures g.D.Disk.state _ _ _ _ (refused g c)
 
+pub returns-in_err-change-clause-stops : goal.returns-in_err-change-clause-stops
+returns-in_err-change-clause-stops g c =
+    let answer : c.from_residual.result ≡ Err c.in_err-change.field-0.0 = search rules in
+    rw answer (passes g.D.Disk.honest g.D.Disk.failures g.D.Disk.state _ _ _ _ (refused g c) c.holds.ensures)
+
 -- WHERE A CHANGE IS ASKED FOR
 pub make_change-made-requires-clause-within : goal.make_change-made-requires-clause-within
 make_change-made-requires-clause-within g c =

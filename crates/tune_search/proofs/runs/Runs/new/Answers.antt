@@ -1,11 +1,13 @@
-use Rattle.std.proofs.Common.{◌∙◌}
+use Rattle.std.proofs.Common.{◌≡◌, ◌∙◌, sym}
 use Rattle.tune_incipit.specs.Incipits.{incipit_of, tune_notes}
 use Rattle.tune_incipit.specs.Inside.KeyLaws.{incipit_rises, scales_rise}
-use Rattle.tune_incipit.specs.SearchKeys.{scale_keys}
-use Rattle.tune_search.specs.Searches.{incipit_keys_of_text}
+use Rattle.tune_incipit.specs.SearchKeys.{incipit_keys, scale_keys}
+use Rattle.tune_search.specs.IncipitForms.{entries_in, notes_in, notes_of_entries}
+use Rattle.tune_search.specs.Searches.{incipit_bytes, key_bytes, numbered}
 use Rattle.tune_titles.specs.Inside.KindLaws.{rhythm_rises, titles_rise}
 use Rattle.tune_titles.specs.SearchKeys.{rhythm_keys, title_keys}
 use Rattle.tune_search.proofs.TextRuns.{gathered_more, is_run_of, shown_alone}
+use Rattle.tune_search.proofs.AsManyNotes.{notes_more, notes_run}
 use Rattle.tune_search.proofs.runs.Runs.new.Goals as goal
 
 pub loop-place-preserved : goal.loop-place-preserved
@@ -21,28 +23,27 @@ loop-place-preserved c =
     let slice = c.deref.result.now in
     let rhythm = c.as_slice.result.now in
     let scale = c.as_slice-in-loop-place.result.now in
-    let incipit = c.as_slice-in-loop-place-2.result.now in
     let own_title = c.deref.ensures.value ∙ keys.titles in
     let own_rhythm = shown_alone c.in_ok-keys.keys.rhythm rhythm c.as_slice.ensures ∙ keys.rhythm in
     let own_scale = shown_alone c.in_ok-keys.keys.scale scale c.as_slice-in-loop-place.ensures ∙ keys.scale in
-    let own_incipit = shown_alone c.in_ok-keys.keys.incipit incipit c.as_slice-in-loop-place-2.ensures ∙ keys.incipit in
     let titles = c.add_entries.new.run.items in
     let rhythms = c.add_entries-in-loop-place.new.run.items in
     let scales = c.add_entries-in-loop-place-2.new.run.items in
-    let incipits = c.add_entries-in-loop-place-3.new.run.items in
+    let incipits = c.add_text.new.self in
     let put_titles = c.in_ok-add_entries.ensures in
     let put_rhythms = c.in_ok-add_entries-2.ensures in
     let put_scales = c.in_ok-add_entries-3.ensures in
-    let put_incipits = c.in_ok-add_entries-4.ensures in
+    let put_incipits = c.in_ok-add_text.ensures in
     record {
-      titles = gathered_more title_keys first place texts text slice was.titles.items titles l is own_title put_titles.added put_titles.fit
+      titles = gathered_more key_bytes title_keys first place texts text slice was.titles.items titles l is own_title put_titles.added put_titles.fit
           was.invariant.titles;
-      rhythms = gathered_more rhythm_keys first place texts text rhythm was.rhythms.items rhythms l is own_rhythm put_rhythms.added put_rhythms.fit
+      rhythms = gathered_more key_bytes rhythm_keys first place texts text rhythm was.rhythms.items rhythms l is own_rhythm put_rhythms.added put_rhythms.fit
           was.invariant.rhythms;
-      scales = gathered_more scale_keys first place texts text scale was.scales.items scales l is own_scale put_scales.added put_scales.fit
+      scales = gathered_more key_bytes scale_keys first place texts text scale was.scales.items scales l is own_scale put_scales.added put_scales.fit
           was.invariant.scales;
-      incipits = gathered_more incipit_keys_of_text first place texts text incipit was.incipits.items incipits l is own_incipit
-          put_incipits.added put_incipits.fit was.invariant.incipits;
+      notes = put_incipits.notes ∙ was.invariant.notes;
+      incipits = notes_more first place texts text (notes_of_entries was.incipits) (notes_in c.args.notes) (entries_in was.incipits)
+          (entries_in incipits) l is was.invariant.notes put_incipits.added put_incipits.fit was.invariant.incipits;
     }
 
 -- the keys of a text rise, so each entry came once
@@ -59,13 +60,20 @@ returns c =
     let rhythms = c.in_order-2.ensures in
     let scales = c.in_order-3.ensures in
     let incipits = c.in_order-4.ensures in
+    let by = notes_in c.args.notes in
+    let run = c.in_order-4.result in
+    let notes : notes_of_entries run ≡ by = incipits.notes ∙ all.notes in
     record {
-      titles = is_run_of title_keys first place texts was.titles.items c.in_order.result.items titles_rise few end all.titles titles.same
-          titles.sorted;
-      rhythms = is_run_of rhythm_keys first place texts was.rhythms.items c.in_order-2.result.items rhythm_rises few end all.rhythms rhythms.same
-          rhythms.sorted;
-      scales = is_run_of scale_keys first place texts was.scales.items c.in_order-3.result.items scales_rise few end all.scales scales.same
-          scales.sorted;
-      incipits = is_run_of incipit_keys_of_text first place texts was.incipits.items c.in_order-4.result.items
-          (λ text. incipit_rises 32 (incipit_of 8 (tune_notes text))) few end all.incipits incipits.same incipits.sorted;
+      notes = notes;
+      runs = record {
+        titles = is_run_of key_bytes title_keys first place texts was.titles.items c.in_order.result.items titles_rise few end all.titles titles.same
+            titles.sorted;
+        rhythms = is_run_of key_bytes rhythm_keys first place texts was.rhythms.items c.in_order-2.result.items rhythm_rises few end all.rhythms rhythms.same
+            rhythms.sorted;
+        scales = is_run_of key_bytes scale_keys first place texts was.scales.items c.in_order-3.result.items scales_rise few end all.scales scales.same
+            scales.sorted;
+        incipits = notes_run by (notes_of_entries run) (numbered first texts) (entries_in run) (sym notes)
+            (is_run_of (incipit_bytes by) (incipit_keys by) first place texts (entries_in was.incipits) (entries_in run)
+            (λ text. incipit_rises (incipit_bytes by) (incipit_of by (tune_notes text))) few end all.incipits incipits.same incipits.sorted);
+      };
     }

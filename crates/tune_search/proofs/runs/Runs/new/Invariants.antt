@@ -1,13 +1,16 @@
-use Rattle.tune_incipit.specs.SearchKeys.{scale_keys}
-use Rattle.tune_search.specs.Searches.{incipit_keys_of_text}
+use Rattle.std.proofs.Common.{◌≡◌}
+use Rattle.tune_incipit.specs.SearchKeys.{incipit_keys, scale_keys}
+use Rattle.tune_search.specs.IncipitForms.{entries_in, notes_in, notes_of_entries}
+use Rattle.tune_search.specs.Searches.{incipit_bytes, key_bytes}
 use Rattle.tune_titles.specs.SearchKeys.{rhythm_keys, title_keys}
 use Rattle.tune_search.proofs.TextRuns.{Gathered}
 use Rattle.tune_search.proofs.runs.Runs.new.Given as goal
 
 abbrev pub invariant-loop-place : goal.invariant-loop-place
 invariant-loop-place l = record {
-  titles : Gathered title_keys l.first l.place l.texts l.titles.items;
-  rhythms : Gathered rhythm_keys l.first l.place l.texts l.rhythms.items;
-  scales : Gathered scale_keys l.first l.place l.texts l.scales.items;
-  incipits : Gathered incipit_keys_of_text l.first l.place l.texts l.incipits.items;
+  titles : Gathered key_bytes title_keys l.first l.place l.texts l.titles.items;
+  rhythms : Gathered key_bytes rhythm_keys l.first l.place l.texts l.rhythms.items;
+  scales : Gathered key_bytes scale_keys l.first l.place l.texts l.scales.items;
+  notes : notes_of_entries l.incipits ≡ notes_in l.fn.notes;
+  incipits : Gathered (incipit_bytes (notes_in l.fn.notes)) (incipit_keys (notes_in l.fn.notes)) l.first l.place l.texts (entries_in l.incipits);
 }

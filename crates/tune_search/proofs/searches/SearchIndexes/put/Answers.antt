@@ -10,10 +10,11 @@ put_runs-requires-clause-holds g c = λ h. some_texts_four (stand c.args.pages.n
 pub returns-in-Ok-clause-holds : goal.returns-in-Ok-clause-holds
 returns-in-Ok-clause-holds g c = λ honest before after parts tunes more small also are h.
     texts_more (stand c.args.pages.now c.args.work.now) (stand c.put_runs.new.pages c.put_runs.new.work) c.args.self.now c.put_runs.new.indexes c.args.runs.now
-    (c.in-Ok.ensures.lays honest) before after parts tunes more small also are h
+    c.requires.notes c.in-Ok.ensures.notes (c.in-Ok.ensures.lays honest) before after parts tunes more small also are h
 
 pub returns-in-Err-clause-answer : goal.returns-in-Err-clause-answer
 returns-in-Err-clause-answer g c = edit_more c.in-Err.fault c.put_runs.new.pages.closed
     (λ full honest before after parts tunes more small also are h.
-    full_for_texts (stand c.args.pages.now c.args.work.now) c.args.self.now c.args.runs.now (full honest) before after parts tunes more small also are h)
+    full_for_texts (stand c.args.pages.now c.args.work.now) c.args.self.now c.args.runs.now c.requires.notes (full honest) before after parts tunes more
+    small also are h)
     c.in-Err.ensures.answer

@@ -8,4 +8,4 @@ take_runs-requires-clause-holds g c = λ h. some_texts_four (stand c.args.pages.
 pub returns-in-Ok-clause-holds : goal.returns-in-Ok-clause-holds
 returns-in-Ok-clause-holds g c = λ honest before after parts gone tunes others low small without are h.
     texts_less (stand c.args.pages.now c.args.work.now) (stand c.take_runs.new.pages c.take_runs.new.work) c.args.self.now c.take_runs.new.indexes
-    c.args.runs.now (c.in-Ok.ensures.lays honest) before after parts gone tunes others low small without are h
+    c.args.runs.now c.requires.notes c.in-Ok.ensures.notes (c.in-Ok.ensures.lays honest) before after parts gone tunes others low small without are h

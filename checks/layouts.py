@@ -1,0 +1,411 @@
+#!/usr/bin/env python3
+"""Usage: checks/layouts.py
+
+Has files of each layout read by two: by the reader, examples/read_archive.py, and by the program,
+`tunes check` and `tunes run`. A file of version 1 is written by docs/FILE-FORMAT.md, and one of
+version 2 is made of it by hand: its index of incipits is written anew behind all pages, with keys
+of 48 bytes by twelve notes, and its version is put into the root. Which keys a tune has is told
+here and not read. What is whole both have to read, to the same book; what is damaged both have to
+call so, the reader for the reason that is told here, and no byte of it may be written. Files of
+each layout are changed by the program too, and searched; so are files that it wrote once, which
+are kept in checks/data/kept. The program is ./tunes, or the one that the variable TUNES names. A
+line is printed for each case, and the status is 1 where a case failed.
+
+The largest file has 210 MB; those that are longer have holes, and take no room.
+"""
+import io
+import os
+import struct
+import subprocess
+import sys
+import tempfile
+from typing import NamedTuple
+
+sys.dont_write_bytecode = True
+from archives import (COUNT, PAGES, Archive, Tune, Writer, first_of, four_bytes, key, leaf_of,
+                      number_at, opened, page_at, place_of, put, set_bytes)
+
+ROOT = os.path.dirname(os.path.dirname(os.path.abspath(__file__)))
+READER = os.path.join(ROOT, 'examples', 'read_archive.py')
+PROGRAM = os.path.abspath(os.environ.get('TUNES') or os.path.join(ROOT, 'tunes'))
+DAMAGED = (3, b'refused 41 Damaged\n')
+SESSION = os.path.join(ROOT, 'examples', 'session.abc')
+KEPT = os.path.join(ROOT, 'checks', 'data', 'kept')
+
+
+class Layout(NamedTuple):
+    """How wide the keys of incipits are, how many entries a leaf of them has at most, how many
+    steps a key has; how long a text may be; how many tunes and pages there may be."""
+    width: int
+    entries: int
+    steps: int
+    text: int
+    tunes: int
+    pages: int
+
+
+LAYOUTS = {1: Layout(32, 113, 7, 16000, 20000, 1000000),
+           2: Layout(48, 78, 11, 64000, 50000, 4000000)}
+
+# The first three tunes of the session, whose notes go on behind the twelfth: what is above their
+# keys, and the steps.
+OF_SESSION = [
+    ((b'kesh jig',), b'jig', b'G 0', (0, 2, 2, -2, 0, 2, 3, 2, -2, 0, 5)),
+    ((b'irish washerwoman',), b'jig', b'G 0', (-2, -1, -4, 0, -5, 5, 0, 4, -4, 4, 3)),
+    ((b'tripping up the stairs',), b'jig', b'D 0', (3, 0, -2, 4, 0, -5, 3, 5, 4, -2, -2)),
+]
+
+
+def tune_of(music, *steps):
+    return Tune(b'K:C\n' + music + b'\n', (), b'', b'C 0', steps)
+
+
+# Tunes of no note to thirteen, of which some are the same up to their eighth, ninth or twelfth.
+OF_NOTES = [
+    tune_of(b'z4'), tune_of(b'C'), tune_of(b'CD', 2), tune_of(b'CCCCCCCC', *[0] * 7),
+    tune_of(b'CCCCCCCCC', *[0] * 8), tune_of(b'CCCCCCCCD', *[0] * 7, 2),
+    tune_of(b'CCCC CCCC|C,CCD', *[0] * 7, -12, 12, 0, 2),
+    tune_of(b'CCCC CCCC|C,CC', *[0] * 7, -12, 12, 0),
+    tune_of(b'CCCC CCCC|C,CCD|E', *[0] * 7, -12, 12, 0, 2),
+    tune_of(b'CCCC|CCCC|C^C_CC|', *[0] * 7, 0, 1, -2, 0),
+    tune_of(b'CDEF GAB|[K:D]cdef|C', 2, 2, 1, 2, 2, 2, 2, 1, 2, 2, -17),
+    tune_of(b"C,,c''C,,c''|C,,c''C,,c''|C,,c''C,,c''", *[60, -60] * 5, 60),
+]
+EIGHT_TITLES = Tune(b''.join(b'T:%d\n' % n for n in range(8)) + b'R:jig\nK:C\nCDEFGABcdefg|\n',
+                    tuple(b'%d' % n for n in range(8)), b'jig', b'C 0',
+                    (2, 2, 1, 2, 2, 2, 1, 2, 2, 1, 2))
+FRIDAY = set_bytes(b'friday', 2, 3, 2)
+
+
+def session():
+    """The tunes of the session by their numbers, and those of notes behind them."""
+    with open(SESSION, 'rb') as file:
+        texts = [tune.partition(b'\n')[2] + b'\n' for tune in file.read().split(b'\n\n')]
+    tunes = [Tune(text, *keys) for text, keys in zip(texts, OF_SESSION)]
+    return dict(enumerate(tunes + OF_NOTES, 1))
+
+
+def twins(count):
+    """So many tunes that differ in their last notes alone, of twelve."""
+    return dict.fromkeys(range(1, count + 1), OF_NOTES[6])
+
+
+def book_of(tunes):
+    rows = sorted(tunes.items())
+    return b'%abc-2.1\n' + b''.join(b'\nX:%d\n%b' % (number, tune.text) for number, tune in rows)
+
+
+# FILES
+
+def in_layout(version, tunes, sets=b''):
+    """A file of these tunes."""
+    layout = LAYOUTS[version]
+    cut = {number: tune._replace(steps=tune.steps[:7]) for number, tune in tunes.items()}
+    file = io.BytesIO()
+    Archive(cut, sets).write(file)
+    if version == 2:
+        put_incipits(file, tunes, layout)
+        put(file, PAGES, version)
+    return file.getvalue()
+
+
+def put_incipits(file, tunes, layout, most=None):
+    """Writes the index of incipits anew, behind all pages; those of the old one are free then."""
+    rows = sorted((incipit_key(tune.steps[:layout.steps], layout.width), number)
+                  for number, tune in tunes.items() if tune.steps)
+    pages = Writer(file, number_at(file, COUNT))
+    put(file, first_of('incipits'), pages.index(rows, most or layout.entries))
+    put(file, COUNT, pages.count)
+
+
+def incipit_key(steps, width):
+    return four_bytes(*[step + 2 ** 31 for step in steps]).ljust(width, b'\x00')
+
+
+def with_version(data, version):
+    return data[:PAGES] + four_bytes(version) + data[PAGES + 4:]
+
+
+def program(word, path, script=b''):
+    """The status of the program, and what it writes."""
+    ended = subprocess.run([PROGRAM, word, path], input=script, stdout=subprocess.PIPE, check=False)
+    return ended.returncode, ended.stdout
+
+
+def exported(book):
+    return b'ok export %d\n%b' % (len(book), book)
+
+
+def kept(name):
+    """A file that is kept: its length, and bytes that are not all 0, with their offset."""
+    data = bytearray()
+    with open(os.path.join(KEPT, name + '.hex'), encoding='ascii') as file:
+        for word, value in (line.split() for line in file if not line.startswith('#')):
+            if word == 'length':
+                data = bytearray(int(value, 16))
+            else:
+                part = bytes.fromhex(value)
+                data[int(word, 16):int(word, 16) + len(part)] = part
+    return bytes(data)
+
+
+def changed(data, change):
+    """A file after a change."""
+    file = io.BytesIO(data)
+    change(file)
+    return file.getvalue()
+
+
+def many_tunes(path, count, tune):
+    """Writes so many tunes of one text in layout 2, each with all its keys."""
+    layout = LAYOUTS[2]
+    with open(path, 'w+b') as file:
+        pages = Writer(file)
+        chains = [pages.chain(b'\x00\x01' + tune.text) for _ in range(count)]
+        rows = ((key(four_bytes(number)), chain) for number, chain in enumerate(chains, 1))
+        firsts = [pages.index(rows)]
+        for words in (tune.titles, (tune.rhythm,), (tune.scale,)):
+            rows = ((key(word), number) for word in sorted(words) if word
+                    for number in range(1, count + 1))
+            firsts.append(pages.index(rows))
+        rows = ((incipit_key(tune.steps, layout.width), number)
+                for number in range(1, count + 1) if tune.steps)
+        firsts.append(pages.index(rows, layout.entries))
+        pages.end(four_bytes(2, *firsts, 0))
+
+
+# CASES
+
+class Cases:
+    """Cases over files, and how many of them failed."""
+
+    def __init__(self, folder):
+        self.failures = 0
+        self.path = os.path.join(folder, 'layouts.abcx')
+
+    def end(self, name, wrong):
+        self.failures += bool(wrong)
+        print(f'{"FAILED" if wrong else "ok":7} {name}{wrong and ": "}{wrong}', flush=True)
+
+    def write(self, data):
+        with open(self.path, 'wb') as file:
+            file.write(data)
+
+    def read(self, *words):
+        """The status of the reader, what it writes, and the last line of what it says."""
+        reader = subprocess.run([sys.executable, READER, words[0], self.path, *words[1:]],
+                                capture_output=True, check=False)
+        lines = reader.stderr.decode().splitlines()
+        return reader.returncode, reader.stdout, lines[-1] if lines else ''
+
+    def whole(self, name, data, wanted, lines):
+        """The file is whole, and has this book; these are lines of what `check` says of it."""
+        self.write(data)
+        status, book, reason = self.read('book')
+        wrong = reason
+        if not wrong and (status, book) != (0, wanted):
+            wrong = f'its status is {status}, or its book another'
+        said = self.read('check')[1].decode().splitlines()
+        missing = [line for line in lines if line not in said]
+        wrong = wrong or (f'it does not say {missing[0]}' if missing else '')
+        self.end(name, wrong or self.wrong_program(wanted, said[0]))
+
+    def wrong_program(self, wanted, line):
+        """What is wrong with the answers of the program; the line is the reader's first."""
+        word, layout, tunes, _, sets, *_ = line.replace(':', '').split()
+        counts = b'%b %b tunes %b sets %b\n' % tuple(
+            part.encode() for part in (word, layout, tunes, sets))
+        if program('check', self.path) != (0, counts):
+            return f'the program says {program("check", self.path)}'
+        if program('run', self.path, b'export\n') != (0, exported(wanted)):
+            return 'the program exports another book'
+        return ''
+
+    def damaged(self, name, data, reason):
+        """The file is damaged, for a reason that has these words."""
+        self.write(data)
+        self.refused(name, reason)
+
+    def refused(self, name, reason):
+        (status, book, said), (status_of_where, faults, _) = self.read('book'), self.read('where')
+        fault = faults.decode().split('\n')[0]
+        wrong = ''
+        if (status, status_of_where, book) != (1, 1, b''):
+            wrong = f'its status is {status}, or it writes something'
+        elif reason not in fault or not said.endswith(': ' + fault):
+            wrong = f'it says {fault}, and not {reason}'
+        before = os.stat(self.path).st_mtime_ns
+        if not wrong and program('check', self.path) != DAMAGED:
+            wrong = f'the program answers {program("check", self.path)}'
+        self.end(name, wrong or ('' if os.stat(self.path).st_mtime_ns == before
+                                 else 'the program wrote the file'))
+
+    def check_session(self):
+        tunes = session()
+        first, second = (in_layout(version, tunes, FRIDAY) for version in LAYOUTS)
+        for version, data, leaves in ((1, first, 1), (2, second, 1)):
+            self.whole(f'tunes of the session and others, of version {version}', data,
+                       book_of(tunes),
+                       [f'layout {version}: {len(tunes)} tunes, 1 set lists',
+                        f'index of incipits: {len(tunes) - 2} entries in {leaves} leaves'])
+        answer = self.read('sets')
+        self.end('its set list', '' if answer == (0, b'friday 3 2 3 2\n', '') else f'{answer}')
+        page = str(page_at(leaf_of(io.BytesIO(second), 'incipits')))
+        where = self.read('where', page)[1].decode()
+        self.end('the leaf of its incipits',
+                 '' if where.endswith(': leaf 1 of the incipits\n') else where)
+        self.whole('a commit from version 1 to 2, stopped behind its open gate',
+                   opened(first, second), book_of(tunes), [f'layout 2: {len(tunes)} tunes, '
+                                                           '1 set lists'])
+        self.whole('the same, stopped while its gate is closed',
+                   first + second[len(first):], book_of(tunes),
+                   [f'layout 1: {len(tunes)} tunes, 1 set lists'])
+        self.whole('no tune, of version 2', in_layout(2, {}), book_of({}),
+                   ['layout 2: 0 tunes, 0 set lists', 'index of incipits: 0 entries in 0 leaves'])
+        self.whole('incipits in leaves of one entry', changed(second, lambda file: put_incipits(
+            file, tunes, LAYOUTS[2], 1)), book_of(tunes),
+                   [f'index of incipits: {len(tunes) - 2} entries in {len(tunes) - 2} leaves'])
+
+    def check_kept(self):
+        """Files of layout 1 are opened for ever, and tell openings apart by eight notes."""
+        self.whole('a file of layout 1 that was made', kept('layout-1-empty'), book_of({}),
+                   ['layout 1: 0 tunes, 0 set lists'])
+        twins_by_eight = {1: Tune(b'K:C\nCDEFGABcdefg\n'), 2: Tune(b'K:C\nCDEFGABcBAGF\n')}
+        self.whole('a file of layout 1 with two tunes', kept('layout-1-two-tunes'),
+                   book_of(twins_by_eight), ['layout 1: 2 tunes, 1 set lists'])
+        answer = program('run', self.path, b'find notes CDEFGABcde\nset-show friday\n')
+        wanted = b'ok find 2\n1\n2\nok set-show friday 2\n1 2\n2 1\n'
+        self.end('what is found in it', '' if answer == (0, wanted) else f'{answer}')
+
+    def check_changes(self):
+        """Commands of the program over a file of each layout, which stays in it."""
+        late = tune_of(b'CCCC CCCC|C,CC^D', *[0] * 7, -12, 12, 0, 3)
+        for version in LAYOUTS:
+            tunes = session()
+            self.write(in_layout(version, tunes, FRIDAY))
+            script = b'import %d\nX:1\n%bdelete 6\n' % (len(late.text) + 4, late.text)
+            count = len(tunes)
+            answer = program('run', self.path, script)
+            tunes[count + 1] = late
+            del tunes[6]
+            book = book_of(tunes)
+            wrong = '' if answer == (0, b'ok import %d %d\nok delete 6\n' % (count + 1, count + 1)
+                                     ) else f'{answer}'
+            if not wrong and self.read('book') != (0, book, ''):
+                wrong = f'the reader says {self.read("book")[2]}, or its book is another'
+            said = self.read('check')[1].decode().splitlines()
+            if not wrong and said[:1] != [f'layout {version}: {count} tunes, 1 set lists']:
+                wrong = f'{said[:1]}'
+            self.end(f'a tune put in and one taken out, of version {version}', wrong)
+            self.check_finds(version, tunes)
+
+    def check_finds(self, version, tunes):
+        """Each opening is found, by as many notes as the layout has."""
+        steps = LAYOUTS[version].steps
+        wrong = ''
+        for asked in tunes.values():
+            music = asked.text.partition(b'K:C\n')[2].strip()
+            sought = asked.steps[:steps]
+            if not music or not sought:
+                continue
+            found = [number for number, tune in sorted(tunes.items())
+                     if tune.steps[:steps][:len(sought)] == sought]
+            _, output = program('run', self.path, b'find notes %b\n' % music)
+            first, *rows = output.decode().splitlines()
+            if (first, [int(row.split()[0]) for row in rows]) != (f'ok find {len(found)}', found):
+                wrong = wrong or f'{music}: {output}, and not {found}'
+        self.end(f'finds by notes, of version {version}', wrong)
+
+    def check_versions(self):
+        """Each version with the incipits of the other, and versions that are none."""
+        tunes = session()
+        first, second = (in_layout(version, tunes, FRIDAY) for version in LAYOUTS)
+        self.damaged('keys of 32 bytes in version 2', with_version(first, 2), 'of the incipits')
+        self.damaged('keys of 48 bytes in version 1', with_version(second, 1), 'of the incipits')
+        for version in (0, 3, 102):
+            self.damaged(f'version {version}', with_version(second, version),
+                         f'it is of version {version}, and not of 1 or 2')
+        for steps, what in ((7, 'eight'), (10, 'eleven')):
+            data = changed(second, lambda file, n=steps: put_incipits(
+                file, tunes, LAYOUTS[2]._replace(steps=n)))
+            self.damaged(f'keys of {what} notes in version 2', data, 'the incipits have no key')
+        long = {1: tunes[1], 2: tunes[12]}
+        data = changed(in_layout(2, long), lambda file: put_incipits(
+            file, {**long, 2: long[2]._replace(steps=long[2].steps + (4,))},
+            LAYOUTS[2]._replace(steps=12)))
+        self.damaged('a key of thirteen notes in version 2', data, 'the incipits have no key')
+
+    def check_leaves(self):
+        for version, entries in ((1, 113), (2, 78)):
+            for count, leaves in ((entries, 1), (entries + 1, 2)):
+                tunes = twins(count)
+                self.whole(f'{count} incipits in version {version}', in_layout(version, tunes),
+                           book_of(tunes),
+                           [f'index of incipits: {count} entries in {leaves} leaves'])
+
+            def overfill(file, more=entries + 1):
+                file.seek(leaf_of(file, 'incipits'))
+                file.write(struct.pack('>H', more))
+            data = changed(in_layout(version, twins(entries)), overfill)
+            self.damaged(f'a leaf of {entries + 1} incipits in version {version}', data,
+                         f'has {entries + 1} entries')
+
+    def check_texts(self):
+        for version, layout in LAYOUTS.items():
+            other = LAYOUTS[3 - version]
+            for length in sorted({16000, 16001, layout.text, layout.text + 1, other.text}):
+                line = b'w:' + b'a' * 9 + b'\n'
+                text = b'K:\n' + line * ((length - 3) // len(line))
+                text = text[:-1] + b'b' * (length - len(text)) + b'\n'
+                tunes = {1: Tune(text), 2: OF_NOTES[6]}
+                data, name = in_layout(version, tunes), f'{length:,} bytes in version {version}'
+                if length <= layout.text:
+                    self.whole(name, data, book_of(tunes), [f'layout {version}: 2 tunes, '
+                                                            '0 set lists'])
+                else:
+                    self.damaged(name, data, f'tune 1 has more than {layout.text + 2} bytes')
+
+    def check_counts(self):
+        for version, layout in LAYOUTS.items():
+            data = in_layout(version, session(), FRIDAY)
+            for count in sorted({1000000, 1000001, 4000000, 4000001}):
+                self.write(changed(data, lambda file, n=count: put(file, COUNT, n)))
+                os.truncate(self.path, place_of(count))
+                name = f'{count:,} pages in version {version}'
+                if count <= layout.pages:
+                    answer = self.read('check')
+                    (status, said) = program('check', self.path)
+                    good = status == 0 and said.startswith(b'layout %d tunes ' % version)
+                    self.end(name, answer[2] or ('' if good else f'the program says {said}'))
+                else:
+                    self.refused(name, f'{count} pages')
+        many_tunes(self.path, 50000, EIGHT_TITLES)
+        status, said, reason = self.read('check')
+        good = status == 0 and b'\nindex of titles: 400000 entries' in said
+        wrong = '' if good else reason or f'{said}'
+        if not wrong and program('check', self.path) != (0, b'layout 2 tunes 50000 sets 0\n'):
+            wrong = f'the program says {program("check", self.path)}'
+        full = b'import 8\nX:1\nK:C\n'
+        if not wrong and program('run', self.path, full) != (0, b'refused 9 ArchiveFull\n'):
+            wrong = f'the program takes one more: {program("run", self.path, full)}'
+        self.end('50,000 tunes of eight titles in version 2', wrong)
+        many_tunes(self.path, 50001, Tune(b'K:\n'))
+        self.refused('50,001 tunes in version 2', 'there are more than 50000 numbers')
+
+
+def main():
+    room = '/dev/shm' if os.access('/dev/shm', os.W_OK) else None
+    with tempfile.TemporaryDirectory(dir=room) as folder:
+        cases = Cases(folder)
+        cases.check_session()
+        cases.check_kept()
+        cases.check_changes()
+        cases.check_versions()
+        cases.check_leaves()
+        cases.check_texts()
+        cases.check_counts()
+    sys.exit(1 if cases.failures else 0)
+
+
+if __name__ == '__main__':
+    main()
