@@ -1,5 +1,5 @@
 // Archives that are put on pages by hand, and what is claimed of them.
-ghost use Rattle.std.specs.Prelude.{OnSome};
+ghost use Rattle.std.specs.Prelude.{◌≤◌, OnSome};
 ghost use Rattle.tune_pages.specs.Work.{Fits};
 
 use crate::calls::{key, page, show_firsts};
@@ -87,7 +87,9 @@ fn put_leaf(pages: &Pages<MemoryDisk>, work: &mut Work, bytes: &[u8]) -> Option<
 
 // The bytes of a leaf of these entries, each a key of so many bytes and a value: how many there
 // are, and each of them.
-fn leaf_of<const W: usize>(alloc: Global, entries: &str) -> Option<Vec<u8>> {
+fn leaf_of<const W: usize>(alloc: Global, entries: &str) -> Option<Vec<u8>>
+    requires { W ≤ 48 }
+{
     let count = entries.split(", ").count();
     let mut bytes = Vec::new(alloc);
     bytes.push(0).ok()?;
