@@ -24,9 +24,8 @@
 //     status, status-reader-fails, status-writer-fails CALLS
 //                          the status of the program's `list`; a reader that fails does so behind
 //                          the script
-//     file-status make, file-status run, file-status check
-//                          the status of the program's action on a file that cannot be opened, and
-//                          what it writes
+//     file-status ACTION   the status of the program's action make, run, check or upgrade on a file
+//                          that cannot be opened, and what it writes
 //     tune NUMBER          a tune's number, revision and text, and those of its copy
 //     wear                 the number of the last tune, when the archive was filled over and over
 //
@@ -299,6 +298,7 @@ impl Scripts {
             "make" => Action::Make(file),
             "run" => Action::Run(file),
             "check" => Action::Check(file),
+            "upgrade" => Action::Upgrade(file),
             _ => return Err(no_data()),
         };
         let mut text = self.script.as_slice();
@@ -352,7 +352,7 @@ fn end_of(has_failed: bool) -> RunEnd {
 }
 
 // Says where the replies differ from what is wanted, if they do.
-fn say_difference(written: &[u8], wanted: &[u8], answer: &mut Answer) -> io::Result<()> {
+pub(crate) fn say_difference(written: &[u8], wanted: &[u8], answer: &mut Answer) -> io::Result<()> {
     if written == wanted {
         return Ok(());
     }

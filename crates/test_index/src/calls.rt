@@ -57,6 +57,7 @@ pub(crate) enum KeepCall {
     Copy,
     CopyFrom,
     Swap,
+    InPlace,
 }
 
 impl<'a> Call<'a> {
@@ -70,6 +71,7 @@ impl<'a> Call<'a> {
             "copy" => return Some(Call::Keep(KeepCall::Copy)),
             "copy-from" => return Some(Call::Keep(KeepCall::CopyFrom)),
             "swap" => return Some(Call::Keep(KeepCall::Swap)),
+            "in-place" => return Some(Call::Keep(KeepCall::InPlace)),
             _ => {}
         }
         if let Some(call) = DiskCall::read(word, rest, at) {

@@ -157,9 +157,18 @@ fn keep<const W: usize>(
         KeepCall::Copy => other = index.copy(alloc)?,
         KeepCall::CopyFrom => other.copy_from(&index)?,
         KeepCall::Swap => mem::swap(&mut index, &mut other),
+        KeepCall::InPlace => index = in_place_of(alloc, &index),
     }
     answer.push_str("done")?;
     Ok((index, other))
+}
+
+// An index in the place of another, by way of one of keys of seven bytes.
+fn in_place_of<const W: usize>(alloc: Global, index: &Index<W>) -> Index<W>
+    requires { W ≤ 4090 }
+{
+    let between: Index<7> = Index::in_place_of(alloc, index);
+    Index::in_place_of(alloc, &between)
 }
 
 fn begin(pages: Pages<InMemory>, answer: &mut String) -> Result<File, AllocError> {

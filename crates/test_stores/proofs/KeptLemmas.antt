@@ -21,7 +21,7 @@ accepted _ _ _ _ (is_closed old command) reply is = cc
 
 -- so a command that may change something does
 pub changes : (old new : State) (command : Command) (reply : Reply) → Answers (open_at old) command (Ok reply) (open_at new)
-    → changes_nothing command ≡ false → (step old command).0 ≡ old → ⊥
+    → changes_nothing old.layout command ≡ false → (step old command).0 ≡ old → ⊥
 changes old new command reply answers other same =
     let kept = only_kept old command (accepted _ _ command _ answers reply refl) same in
     cc

@@ -10,7 +10,7 @@ ghost use Rattle.test_stores.specs.Inside.Marks.{is_mark, LeavesMarks};
 use crate::keeping::changes_nothing;
 use std::alloc::Global;
 use tune_disk::{DeviceFault, Disk};
-use tune_store::{Command, ListArchive, Refusal, Reply, TuneStore};
+use tune_store::{Catalog, Command, ListArchive, Refusal, Reply, TuneStore};
 
 /// A fake store over any disk: an archive in memory, which writes a mark of one byte on the disk at
 /// each accepted command that changes something. Any file of at most one byte stands for any state:
@@ -69,8 +69,9 @@ impl<D: Disk> TuneStore for DiskStore<D> {
         if self.closed {
             return Err(Refusal::Closed);
         }
+        let layout = self.archive.layout();
         let reply = self.archive.apply(command)?;
-        if changes_nothing(command) {
+        if changes_nothing(layout, command) {
             return Ok(reply);
         }
         match mark(&mut self.disk) {

@@ -8,7 +8,7 @@ ghost use Rattle.test_stores.specs.Inside.Settling.{settles, left_earlier};
 use crate::asking::asks;
 use crate::keeping::changes_nothing;
 use std::alloc::{AllocError, Global};
-use tune_store::{Command, ListArchive, Refusal, Reply, TuneStore};
+use tune_store::{Catalog, Command, ListArchive, Refusal, Reply, TuneStore};
 
 /// A fake store: an archive in memory, and the record of a device that holds one number, how many
 /// tunes there are. Each accepted change writes it, and each entry is a file that a stop may have
@@ -71,8 +71,9 @@ impl TuneStore for RecordedStore {
             return Err(Refusal::OutOfMemory);
         }
         self.entries.reserve(1)?;
+        let layout = self.archive.layout();
         let reply = self.archive.apply(command)?;
-        if changes_nothing(command) {
+        if changes_nothing(layout, command) {
             return Ok(reply);
         }
         add_entry(&mut self.entries, self.archive.len());

@@ -1,5 +1,5 @@
 -- What a change that is laid on pages makes of them.
-use Rattle.std.proofs.Common.{◌≡◌, inr, ℕ, ◌≤◌, List, Bool, length, sym, ◌∙◌, ap, subst, arith}
+use Rattle.std.proofs.Common.{◌≡◌, inr, ℕ, ◌≤◌, List, Bool, false, ◌++◌, length, replicate, sym, ◌∙◌, ap, subst, arith}
 use Rattle.tune_disk.specs.Disk.{DiskState}
 use Rattle.tune_disk.specs.Stops.{LeavesOnly, SinceThen}
 use Rattle.tune_journal.specs.Image.{StandsFor, StandsForEither}
@@ -10,10 +10,12 @@ use Rattle.tune_pages.specs.Work.{stand, Fits}
 use Rattle.tune_pages.specs.declared.work.Work.{Work}
 use Rattle.tune_pages.proofs.Looking.{stand_count, stand_marks}
 use Rattle.tune_store.specs.declared.plans.Change.{Change}
-use Rattle.tune_contents.specs.Holds.{LaysState}
+use Rattle.tune_store.specs.Plans.{changed}
+use Rattle.tune_contents.specs.Holds.{HoldsContents, LaysState}
 use Rattle.tune_contents.specs.declared.contents.Contents.{Contents}
 use Rattle.tune_archive.specs.Inside.Changing.{PassesChange, HasLaid}
 use Rattle.tune_archive.specs.Inside.Holding.{stand_of}
+use Rattle.tune_archive.proofs.MorePages.{contents_more}
 
 -- a work has no more pages than there may be
 few_pages : {D : Type 0} (honest : D → Type 0) (old mid : Kept D) (work : Work) → Fits mid work → SameKept honest old mid
@@ -54,3 +56,16 @@ module _ {D : Type 0} (honest : D → Type 0) (state : D → DiskState) (old mid
     few = omega (arith, few_pages honest old mid work fits same few, ap (λ (l : List (List ℕ)). length l) pages);
     rest = subst (λ pages. LeavesOnly (state_at state new.disk).now (StandsFor pages)) (sym pages) rest;
   }
+
+-- A change that was laid stays so where there may be more pages then.
+pub has_more : {D : Type 0} (state : D → DiskState) (old mid new : Kept D) (contents left : Contents) (change : Change) (more : ℕ)
+    → new.disk ≡ mid.disk → new.pages ≡ mid.pages → new.used ≡ mid.used ++ replicate more false → length mid.used ≡ length old.used
+    → HasLaid state old mid contents left change → HasLaid state old new contents left change
+has_more state old mid new contents left change more disk pages used count laid = record {
+  lays = λ st within held. (
+      let then = contents_more (stand_of mid) more left (changed change st) (omega (arith, laid.few, count)) (laid.lays st within held) in
+      subst (λ (s : Stand). HoldsContents s left (changed change st)) (λ i. record { pages = sym pages i; used = sym used i }) then);
+  few = omega (arith, laid.few, ap (λ (l : List (List ℕ)). length l) pages);
+  rest = subst (λ at. LeavesOnly (state_at state at).now (StandsFor new.pages)) (sym disk)
+      (subst (λ all. LeavesOnly (state_at state mid.disk).now (StandsFor all)) (sym pages) laid.rest);
+}

@@ -5,4 +5,5 @@ pub mod FoundPlaces
 pub mod LaidChanges
 pub mod MadeChanges
 pub mod NeverFull
+pub mod MorePages
 pub mod OpenedArchives

@@ -24,6 +24,7 @@ use Rattle.tune_archive.specs.Shelf.{Shelf, state_on, state_of, StandsForOneOf}
 use Rattle.tune_archive.specs.Inside.Changing.{CallsWhere, PassesChange, PassesLaid, HasLaid, StaysKept, StaysWithin}
 use Rattle.tune_archive.specs.Inside.Changing.{IsUnmadeChange, MakesChange, refusal_of, closes}
 use Rattle.tune_archive.specs.Inside.Holding.{stand_of, HoldsState, IsShelf}
+use Rattle.tune_archive.proofs.MorePages.{no_fewer}
 
 -- a count that rises tells of a failure
 pub has_failed : (old new : ℕ) → CountsUp old new → HasFailed old new
@@ -59,7 +60,10 @@ module _ {D : Type 0} (honest : D → Type 0) (state : D → DiskState) (may_sta
       module _ (change : Change) (within : IsState (changed change (state_on state old.disk))) where
         after_is : (next : Stand) (left : Contents) → HoldsContents next left (changed change (state_on state old.disk))
             → length next.pages ≤ length old.used → IsStateOf next.pages (changed change (state_on state old.disk))
-        after_is next left held few = record { filed = held.filed; within = within; few = omega (arith, few, marks, ap most_pages_of holds.holds.layout) }
+        after_is next left held few =
+            let allowed = ap most_pages_of holds.holds.layout in
+            let more = no_fewer change (state_on state old.disk).layout in
+            record { filed = held.filed; within = within; few = omega (arith, few, marks, allowed, more) }
 
         -- a stop at any moment leaves the state before or the one after
         passes_laid_states : (new : DiskState) → PassesLaid (state_at state old.disk) new (stand_of old) contents change
@@ -161,11 +165,11 @@ module _ {D : Type 0} (honest : D → Type 0) (failures : D → ℕ) (state : D 
   -- what was laid
   module _ (left : Contents) (calls : CallsWhere honest failures (Ok left) old.pages.disk new.pages.disk)
       (laid : HonestAt honest new.pages.disk → HasLaid state old.pages new.pages old.contents left change) where
-    pub made_shelf : AreRows left.layout left.rows.items → left.layout ≡ old.contents.layout → length new.pages.used ≡ length old.pages.used
-        → new.pages.closed ≡ false → IsShelf honest state new.pages left old.closed
-    made_shelf rows its marks opened = record {
+    pub made_shelf : AreRows left.layout left.rows.items → length new.pages.used ≡ most_pages_of left.layout → new.pages.closed ≡ false
+        → IsShelf honest state new.pages left old.closed
+    made_shelf rows marks opened = record {
       rows = rows;
-      marks = λ _. marks ∙ shelf.marks is_open ∙ ap most_pages_of (sym its);
+      marks = λ _. marks;
       is_open = λ _. opened;
       holds = λ h _. (let was = calls.was_honest h in
           made_holds honest state may_stay old.pages old.contents (shelf.holds was is_open) (shelf.marks is_open) change (within was) new.pages left h

@@ -28,8 +28,8 @@ use Rattle.tune_search.specs.Empty.{no_indexes, no_leaves}
 use Rattle.tune_search.specs.IndexParts.{HoldsIndex, IndexParts, KeepsIndex}
 use Rattle.tune_search.specs.SearchPages.{AreListed}
 use Rattle.tune_search.specs.Searches.{HoldsKeys, SearchParts, SearchShape, key_bytes}
-use Rattle.tune_store.specs.State.{State, IsState, empty_state}
-use Rattle.tune_store.specs.declared.layout.Layout.TheVariants.{One}
+use Rattle.tune_store.specs.State.{State, IsState, empty_of}
+use Rattle.tune_store.specs.declared.layout.Layout.TheVariants.{Two}
 use Rattle.tune_format.specs.Filed.{archive_parts}
 use Rattle.tune_format.specs.Layout.{most_pages_of}
 use Rattle.tune_format.specs.Searched.{IsSearchIndex}
@@ -118,17 +118,17 @@ none_searched width keys_of = record { entries = []; holds = none_in_index width
 
 -- contents of memory in which nothing is yet
 pub record IsNothing (contents : Contents) : Type 0 where
-  pub layout : contents.layout ≡ One
+  pub layout : contents.layout ≡ Two
   pub rows : contents.rows.items ≡ []
   pub sets : contents.sets ≡ []
   pub numbers : contents.numbers ≡ no_leaves
-  pub searches : contents.searches ≡ no_indexes 8
+  pub searches : contents.searches ≡ no_indexes 12
   pub firsts : contents.firsts ≡ no_firsts
 
-none_listed : AreListed (no_indexes 8)
+none_listed : AreListed (no_indexes 12)
 none_listed = record { titles = refl; rhythms = refl; scales = refl; incipits = refl }
 
-none_kept_texts : KeepsTexts (no_indexes 8) no_searches []
+none_kept_texts : KeepsTexts (no_indexes 12) no_searches []
 none_kept_texts = record {
   titles = none_held_there _ _;
   rhythms = none_held_there _ _;
@@ -137,12 +137,12 @@ none_kept_texts = record {
 }
 
 -- a root that says where nothing begins
-pub root_of_none : (image : List ℕ) (firsts : Firsts) → firsts ≡ no_firsts → IsRoot One image firsts → IsRoot One image no_firsts
-root_of_none image firsts same root = subst (IsRoot One image) same root
+pub root_of_none : (image : List ℕ) (firsts : Firsts) → firsts ≡ no_firsts → IsRoot Two image firsts → IsRoot Two image no_firsts
+root_of_none image firsts same root = subst (IsRoot Two image) same root
 
 -- a root alone that names no chain holds no tunes and no sets
-pub root_holds : (image : List ℕ) (limit : ℕ) (contents : Contents) → IsRoot One image no_firsts → 1 ≤ limit → IsNothing contents
-    → HoldsContents (record { pages = image ∷ []; used = only_root limit }) contents empty_state
+pub root_holds : (image : List ℕ) (limit : ℕ) (contents : Contents) → IsRoot Two image no_firsts → 1 ≤ limit → IsNothing contents
+    → HoldsContents (record { pages = image ∷ []; used = only_root limit }) contents (empty_of Two)
 root_holds image limit contents root some is = record {
   layout = is.layout;
   notes = ap (λ (shape : SearchShape). shape.notes) is.searches;
@@ -223,13 +223,13 @@ opening_keeps_states old new stays since = λ a b leaves. since_weaker (LeftOrSa
     one a b leaves file (inr it) = either a b it.0 file it.1 it.2 (leaves old.seen stays)
 
 -- A file that is being made stands for no archive, or for an empty one.
-pub making_keeps : (image : List ℕ) (old new : DiskState) → IsRoot One image no_firsts → SinceThen old new (StandsForNoneOr image)
+pub making_keeps : (image : List ℕ) (old new : DiskState) → IsRoot Two image no_firsts → SinceThen old new (StandsForNoneOr image)
     → SinceThen old new StandsForNoneOrEmpty
 making_keeps image old new root since = since_weaker (StandsForNoneOr image) StandsForNoneOrEmpty one old new since
   where
     one : (file : List ℕ) → StandsForNoneOr image file → StandsForNoneOrEmpty file
     one file (inl none) = inl none
-    one file (inr stands) = inr (record { pages = image ∷ []; stands = stands; is = empty_state_of One image root })
+    one file (inr stands) = inr (record { pages = image ∷ []; stands = stands; is = empty_state_of Two image root })
 
 -- REFUSALS
 -- why pages are not opened, of an archive
@@ -364,44 +364,44 @@ opened_sound {D} honest state kept contents archive shelf same = record {
 -- of the root alone
 pub made_shelf : {D : Type 0} (honest : D → Type 0) (state : D → DiskState) → ((disk : D) → honest disk → MayLeave (state disk).now (state disk).seen)
     → (kept : Kept D) (image : List ℕ) (contents : Contents) → (HonestAt honest kept.disk → kept.pages ≡ image ∷ [])
-    → kept.used ≡ only_root 1000000 → kept.closed ≡ false → IsRoot One image no_firsts
+    → kept.used ≡ only_root 4000000 → kept.closed ≡ false → IsRoot Two image no_firsts
     → (HonestAt honest kept.disk → LeavesOnly (state_at state kept.disk).now (StandsFor (image ∷ [])))
     → IsNothing contents → IsShelf honest state kept contents false
 made_shelf honest state stays kept image contents pages used is_open root rest is = record {
   rows = subst (AreRows contents.layout) (sym is.rows) (record { rise = tt; numbers = tt; few = omega arith });
   marks = λ e.
-      ap (λ (l : List Bool). length l) used ∙ length-marked true (0 ∷ []) (replicate 1000000 false) ∙ length-replicate 1000000 false
+      ap (λ (l : List Bool). length l) used ∙ length-marked true (0 ∷ []) (replicate 4000000 false) ∙ length-replicate 4000000 false
       ∙ ap most_pages_of (sym is.layout);
   is_open = λ e. is_open;
   holds = λ h e.
-      disk_holds state kept contents empty_state (shown_stays honest state stays kept.disk h)
+      disk_holds state kept contents (empty_of Two) (shown_stays honest state stays kept.disk h)
       (subst (λ (l : List (List ℕ)). LeavesOnly (state_at state kept.disk).now (StandsFor l)) (sym (pages h)) (rest h))
-      (subst (λ (l : List (List ℕ)). length l ≤ most_pages_of One) (sym (pages h)) (omega arith)) (empty_within One)
-      (subst (λ (st : Stand). HoldsContents st contents empty_state)
+      (subst (λ (l : List (List ℕ)). length l ≤ most_pages_of Two) (sym (pages h)) (omega arith)) (empty_within Two)
+      (subst (λ (st : Stand). HoldsContents st contents (empty_of Two))
       (λ i. record { pages = sym (pages h) i; used = sym used i })
-      (root_holds image 1000000 contents root (omega arith) is));
+      (root_holds image 4000000 contents root (omega arith) is));
 }
 
 -- A root alone is read as the state in which nothing is yet.
 pub made_state : {D : Type 0} (honest : D → Type 0) (state : D → DiskState) → ((disk : D) → honest disk → MayLeave (state disk).now (state disk).seen)
-    → (held : Option D) (image : List ℕ) → IsRoot One image no_firsts → HonestAt honest held
-    → LeavesOnly (state_at state held).now (StandsFor (image ∷ [])) → state_on state held ≡ empty_state
+    → (held : Option D) (image : List ℕ) → IsRoot Two image no_firsts → HonestAt honest held
+    → LeavesOnly (state_at state held).now (StandsFor (image ∷ [])) → state_on state held ≡ empty_of Two
 made_state honest state stays held image root h rest =
     let file = (state_at state held).seen in
-    file_read file empty_state (record {
+    file_read file (empty_of Two) (record {
       pages = image ∷ [];
       stands = rest file (shown_stays honest state stays held h);
-      is = empty_state_of One image root;
+      is = empty_state_of Two image root;
     })
 
 pub made_sound : {D : Type 0} (honest : D → Type 0) (state : D → DiskState) → ((disk : D) → honest disk → MayLeave (state disk).now (state disk).seen)
-    → (archive : Shelf D) (image : List ℕ) → IsRoot One image no_firsts
+    → (archive : Shelf D) (image : List ℕ) → IsRoot Two image no_firsts
     → (HonestAt honest archive.pages.disk → LeavesOnly (state_at state archive.pages.disk).now (StandsFor (image ∷ []))) → IsSound honest state archive
 made_sound honest state stays archive image root rest = record {
-  within = λ h. subst IsState (sym (made_state honest state stays archive.pages.disk image root h (rest h))) (empty_within One);
+  within = λ h. subst IsState (sym (made_state honest state stays archive.pages.disk image root h (rest h))) (empty_within Two);
   rest = λ h e file left.
       subst (StandsForState file) (sym (made_state honest state stays archive.pages.disk image root h (rest h)))
-      (record { pages = image ∷ []; stands = rest h file left; is = empty_state_of One image root });
+      (record { pages = image ∷ []; stands = rest h file left; is = empty_state_of Two image root });
 }
 
 -- Pages that could not be claimed are those that the disk shows, so they tell of its file.

@@ -11,7 +11,8 @@ use Rattle.tune_journal.specs.declared.open_fault.OpenFault.TheVariants.{NotEmpt
 use Rattle.tune_journal.specs.declared.open_fault.OpenFault.TheVariants.{Device}
 use Rattle.tune_journal.specs.declared.open_fault.Refused.{Refused}
 use Rattle.tune_pages.specs.Opened.{LeavesSame}
-use Rattle.tune_store.specs.State.{State, empty_state}
+use Rattle.tune_store.specs.State.{State, empty_of}
+use Rattle.tune_store.specs.declared.layout.Layout.TheVariants.{Two}
 use Rattle.tune_format.specs.States.{StandsForState}
 use Rattle.tune_archive.specs.Shelf.{Shelf, StandsForOneOf}
 
@@ -22,7 +23,7 @@ disk_of (Err refused) = Some refused.disk
 
 -- no archive, or an empty one
 abbrev pub StandsForNoneOrEmpty : List ℕ → Type 0
-StandsForNoneOrEmpty file = StandsForNone file ⊎ StandsForState file empty_state
+StandsForNoneOrEmpty file = StandsForNone file ⊎ StandsForState file (empty_of Two)
 
 -- Where each file that a stop may leave at first stands for one of two states, so does each since
 -- then.

@@ -1,5 +1,6 @@
 // A change of an archive, made on its pages.
-ghost use Rattle.std.specs.Prelude.{◌≡◌, ◌≢◌, ◌≤◌, false, length, IfOk, IfErr, OnOk};
+ghost use Rattle.std.specs.Prelude.{◌≡◌, ◌≢◌, ◌≤◌, ◌-◌, ◌++◌, false, length, replicate, IfOk};
+ghost use Rattle.std.specs.Prelude.{IfErr};
 ghost use Rattle.tune_contents.specs.Answers.{AnswersLay};
 ghost use Rattle.tune_contents.specs.Claimed.{AreRows};
 ghost use Rattle.tune_contents.specs.Holds.{labels_in, HoldsSomeState};
@@ -17,8 +18,9 @@ use crate::archive::Archive;
 use std::mem;
 use tune_contents::{Contents, Room, law_of_state_pages, lay};
 use tune_disk::Disk;
+use tune_format::most_pages;
 use tune_pages::{Fault, Pages};
-use tune_store::{Change, Refusal};
+use tune_store::{Change, Layout, Refusal};
 
 // The refusal that tells of a fault of pages. No archive that a device keeps as it was written
 // comes to have too few pages.
@@ -37,6 +39,21 @@ fn closes(fault: Fault) -> bool
     ensures { result ≡ closes fault }
 {
     matches!(fault, Fault::Device | Fault::FileFull)
+}
+
+// Lets there be as many pages as an archive of this layout may have, where there were no more.
+fn give_pages<D: Disk>(pages: &mut Pages<D>, layout: Layout)
+    requires open { pages.old.closed ≡ false }
+    requires marks { length pages.old.used ≤ most_pages_of layout }
+    ensures marks { length pages.new.used ≡ most_pages_of layout }
+    ensures more { pages.new.used ≡ pages.old.used
+        ++ replicate (most_pages_of layout - length pages.old.used) false }
+    ensures same { (pages.new.disk ≡ pages.old.disk) × (pages.new.pages ≡ pages.old.pages)
+        × (pages.new.closed ≡ false) }
+{
+    // Its contract says that there are no more pages than there may be.
+    let _limit = pages.limit();
+    pages.set_limit(most_pages(layout));
 }
 
 // Makes a change in one work, whole or not at all, and gives what is to be kept in memory then.
@@ -64,8 +81,7 @@ fn change_pages<D: Disk>(
     ensures laid { IfOk result (λ left. HonestAt D.honest pages.new.disk
         → HasLaid D.state pages.old pages.new contents.now left change) }
     ensures rows { IfOk result (λ left. AreRows left.layout left.rows.items) }
-    ensures layout { IfOk result (λ left. left.layout ≡ contents.now.layout) }
-    ensures marks { OnOk result (length pages.new.used ≡ length pages.old.used) }
+    ensures marks { IfOk result (λ left. length pages.new.used ≡ most_pages_of left.layout) }
     ensures stays { IfErr result (λ fault. fault ≢ Device
         → StaysKept D.honest D.state pages.old pages.new) }
     ensures answer { AnswersLay result pages.new.closed }
@@ -78,6 +94,7 @@ fn change_pages<D: Disk>(
     let mut work = pages.begin()?;
     let left = lay(room, pages, &mut work, contents, change)?;
     pages.finish(work)?;
+    give_pages(pages, left.layout);
     Ok(left)
 }
 

@@ -7,8 +7,8 @@ ghost use Rattle.tune_journal.specs.Refusal.{CountsFailureIf, CountsFailureWhere
 ghost use Rattle.tune_pages.specs.Kept.{HonestAt, state_at, failures_at};
 ghost use Rattle.tune_pages.specs.Opened.{only_root, IsUnmadePagesFor, IsPagesMakeReason};
 ghost use Rattle.tune_pages.specs.Opened.{IsPagesOpenReason, IsUndoneFor};
-ghost use Rattle.tune_store.specs.State.{empty_state};
-ghost use Rattle.tune_store.specs.declared.layout.Layout.TheVariants.{One};
+ghost use Rattle.tune_store.specs.State.{empty_of};
+ghost use Rattle.tune_store.specs.declared.layout.Layout.TheVariants.{Two};
 ghost use Rattle.tune_format.specs.Layout.{most_pages_of};
 ghost use Rattle.tune_search.specs.Empty.{no_indexes, no_leaves};
 ghost use Rattle.tune_format.specs.States.{IsStateOf, StandsForState};
@@ -33,18 +33,18 @@ use tune_store::Layout;
 
 // The contents of an archive in which nothing is yet.
 fn nothing(alloc: Global) -> Contents
-    ensures layout { result.layout ≡ One }
+    ensures layout { result.layout ≡ Two }
     ensures rows { result.rows.items ≡ [] }
     ensures sets { result.sets ≡ [] }
     ensures numbers { result.numbers ≡ no_leaves }
-    ensures searches { result.searches ≡ no_indexes 8 }
+    ensures searches { result.searches ≡ no_indexes 12 }
     ensures firsts { result.firsts ≡ no_firsts }
 {
     Contents {
-        layout: Layout::One,
+        layout: Layout::Two,
         rows: Vec::new(alloc),
         numbers: Index::new(alloc),
-        searches: SearchIndexes::new(alloc, IncipitNotes::Eight),
+        searches: SearchIndexes::new(alloc, IncipitNotes::Twelve),
         sets: SetLists::new(alloc),
         firsts: no_firsts(),
     }
@@ -78,7 +78,7 @@ fn reason_of(fault: ClaimFault) -> OpenFault
 }
 
 impl<D: Disk> Archive<D> {
-    /// Makes an archive in which nothing is yet, on a disk without a byte.
+    /// Makes an archive in which nothing is yet, in layout 2, on a disk without a byte.
     ///
     /// - `moments`: where each file that a stop may leave at the start has no byte, a stop during
     ///   the call leaves no archive or an empty one.
@@ -93,7 +93,7 @@ impl<D: Disk> Archive<D> {
             HonestAt D.honest (disk_of result) → LeavesOnly (D.state disk).now IsEmptyFile
             → SinceThen (D.state disk) new StandsForNoneOrEmpty }
         ensures state { IfOk result (λ archive. HonestAt D.honest archive.pages.disk
-            → state_of D.state archive ≡ empty_state) }
+            → state_of D.state archive ≡ empty_of Two) }
         ensures sound { IfOk result (λ archive. IsSound D.honest D.state archive) }
         ensures is_open { IfOk result (λ archive. archive.closed ≡ false) }
         ensures empty { IfOk result (λ archive. HonestAt D.honest archive.pages.disk
@@ -105,8 +105,8 @@ impl<D: Disk> Archive<D> {
             (λ archive. failures_at D.failures archive.pages.disk ≡ D.failures disk)
             (λ refused. CountsFailureIf refused.why (D.failures disk) (D.failures refused.disk)) }
     {
-        let root = write_root(Layout::One, no_firsts());
-        let limit = most_pages(Layout::One);
+        let root = write_root(Layout::Two, no_firsts());
+        let limit = most_pages(Layout::Two);
         let pages = Pages::make(alloc, disk, &root, limit)?;
         Ok(Archive::over(alloc, pages, nothing(alloc)))
     }

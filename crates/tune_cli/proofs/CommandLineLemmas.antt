@@ -32,12 +32,12 @@ found P test (s ∷ rest) each = go (test s) (find test rest) (found P test rest
 abbrev HasKnownName : Shape → Type 0
 HasKnownName s = IsSubcommand s.name
 
-four : EachIs HasKnownName (built tunes_app).subs
-four = (inl refl, (inr (inl refl), (inr (inr (inl refl)), (inr (inr (inr refl)), tt))))
+five : EachIs HasKnownName (built tunes_app).subs
+five = (inl refl, (inr (inl refl), (inr (inr (inl refl)), (inr (inr (inr (inl refl))), (inr (inr (inr (inr refl))), tt)))))
 
--- a subcommand in the words is one of the four
-pub one_of_four : (words : List Text) → IfSome (subcommand_in words) IsSubcommand
-one_of_four words = at (stop_after (built tunes_app).top.rules (names_of (built tunes_app)) (argument_words tunes_app words))
+-- a subcommand in the words is one of the five
+pub one_of_five : (words : List Text) → IfSome (subcommand_in words) IsSubcommand
+one_of_five words = at (stop_after (built tunes_app).top.rules (names_of (built tunes_app)) (argument_words tunes_app words))
   where
     named : (o : Option Shape) (rest : List Text) → IfSome o HasKnownName → IfSome (option_map (λ p. p.0) (option_map (λ s. rows_at s rest) o)) IsSubcommand
     named None rest is = tt
@@ -47,4 +47,4 @@ one_of_four words = at (stop_after (built tunes_app).top.rules (names_of (built 
     at None = tt
     at (Some p) =
         let test : Shape → Bool = λ s. answers_to p.0 (label_of s) in
-        named (find test (built tunes_app).subs) p.1 (found HasKnownName test (built tunes_app).subs four)
+        named (find test (built tunes_app).subs) p.1 (found HasKnownName test (built tunes_app).subs five)

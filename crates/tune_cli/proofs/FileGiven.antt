@@ -219,7 +219,7 @@ abbrev IsKnown : Shape → Type 0
 IsKnown s = (s.name ≡ codes "list") ⊎ ((name : Text) × (s ≡ leaf name))
 
 known : EachIs IsKnown (built tunes_app).subs
-known = (inl refl, (inr (_, refl), (inr (_, refl), (inr (_, refl), tt))))
+known = (inl refl, (inr (_, refl), (inr (_, refl), (inr (_, refl), (inr (_, refl), tt)))))
 
 abbrev file_at : Option (Text × List Row) → Option Text
 file_at = option_and_then (λ p. first_of (codes "FILE") p.1)

@@ -2,3 +2,4 @@ pub mod CommandLineLemmas
 mod Examples
 pub mod FileGiven
 pub mod ParseLemmas
+pub mod FileStates

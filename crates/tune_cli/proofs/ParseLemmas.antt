@@ -13,7 +13,7 @@ use Rattle.tune_cli.specs.CommandLine.{tunes_app, faults_in, subcommand_in, file
 use Rattle.tune_cli.specs.declared.command_line.WordsFault.{WordsFault}
 use Rattle.tune_cli.specs.declared.command_line.WordsFault.TheVariants.{Clap, Missing}
 use Rattle.tune_cli.specs.Inside.Subcommands.{IsSubcommand}
-use Rattle.tune_cli.proofs.CommandLineLemmas.{one_of_four}
+use Rattle.tune_cli.proofs.CommandLineLemmas.{one_of_five}
 use Rattle.tune_cli.proofs.FileGiven.{has_a_file}
 
 -- the matches are those of the words
@@ -46,7 +46,7 @@ subcommand_named words m name p is = ap (option_map (λ q. q.0)) (sym p.rows) �
 pub subcommand_is_known : (words : List Text) (m : ArgMatches) (name : Text) → Parses words m → Some name ≡ subcommand_name_of m → IsSubcommand name
 subcommand_is_known words m name p is =
     let Known : Option Text → Type 0 = λ o. IfSome o IsSubcommand in
-    subst Known (subcommand_named words m name p is) (one_of_four words)
+    subst Known (subcommand_named words m name p is) (one_of_five words)
 
 first_in : (o : Option (Text × List Row)) (rows : List Row) (id : Text) → Some rows ≡ option_map (λ p. p.1) o
     → option_and_then (λ p. first_of id p.1) o ≡ first_of id rows

@@ -11,7 +11,7 @@ use Rattle.tune_archive.specs.Shelf.{Shelf}
 use Rattle.tune_scripts.specs.Limits.{most_lines}
 use Rattle.tune_scripts.specs.ScriptRuns.{Work, TellsScript, IsOtherEnd}
 use Rattle.tune_scripts.specs.declared.runs.RunEnd.{RunEnd}
-use Rattle.tune_cli.specs.FileActs.{Makes, Checks, RunsOn}
+use Rattle.tune_cli.specs.FileActs.{Makes, Checks, RunsOn, Upgrades}
 use Rattle.tune_cli.specs.Lines.{WritesLine, reason_bytes, status_of}
 use Rattle.tune_cli.specs.declared.command_line.Action.{Action}
 use Rattle.tune_cli.specs.declared.command_line.Action.TheVariants as action
@@ -67,3 +67,7 @@ Acts opened created closed kept honest failures state (action.Run file) input le
 Acts opened created closed kept honest failures state (action.Check file) input left was now
     status =
     OnFile opened closed (Checks honest failures state was now) (string_bytes file) was now status
+Acts opened created closed kept honest failures state (action.Upgrade file) input left was now
+    status =
+    OnFile opened closed (Upgrades kept honest failures state was now) (string_bytes file) was now
+    status

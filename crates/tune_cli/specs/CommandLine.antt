@@ -26,10 +26,10 @@ file_rule = record (new_rule (codes "FILE")) { required = true }
 abbrev pub file_app : List ℕ → App
 file_app name = with_rule (new_app name) file_rule
 
--- the subcommands: `list`, with no arguments, and three on a file
+-- the subcommands: `list`, with no arguments, and four on a file
 abbrev pub subcommands : List App
 subcommands = new_app (codes "list") ∷ file_app (codes "make") ∷ file_app (codes "run")
-    ∷ file_app (codes "check") ∷ []
+    ∷ file_app (codes "check") ∷ file_app (codes "upgrade") ∷ []
 
 -- the program's command line
 abbrev pub tunes_app : App
@@ -52,6 +52,7 @@ name_of action.List = codes "list"
 name_of (action.Make file) = codes "make"
 name_of (action.Run file) = codes "run"
 name_of (action.Check file) = codes "check"
+name_of (action.Upgrade file) = codes "upgrade"
 
 -- the file of an action, by the bytes of its path
 abbrev pub file_of : Action → Option (List ℕ)
@@ -59,6 +60,7 @@ file_of action.List = None
 file_of (action.Make file) = Some (string_bytes file)
 file_of (action.Run file) = Some (string_bytes file)
 file_of (action.Check file) = Some (string_bytes file)
+file_of (action.Upgrade file) = Some (string_bytes file)
 
 -- The error is one that the parser finds in the words, or out of memory; or they parse and have no
 -- subcommand. That a FILE is not there, where one is asked for, is an error of the parser.

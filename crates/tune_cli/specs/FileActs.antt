@@ -1,5 +1,5 @@
 -- What the program does with an archive in a file, over any disk.
-use Rattle.std.specs.Prelude.{◌≡◌, ◌⊎◌, ℕ, List, [], codes, Option, Some}
+use Rattle.std.specs.Prelude.{◌≡◌, ◌⊎◌, ℕ, List, [], ◌∷◌, codes, Option, Some}
 use Rattle.tune_disk.specs.Disk.{DiskState}
 use Rattle.tune_disk.specs.Stops.{LeavesOnly, SinceThen}
 use Rattle.tune_journal.specs.Making.{IsEmptyFile}
@@ -8,19 +8,22 @@ use Rattle.tune_journal.specs.Refusal.{CountsFailureIf, CountsFailureWhere}
 use Rattle.tune_journal.specs.declared.open_fault.OpenFault.{OpenFault}
 use Rattle.tune_pages.specs.Kept.{state_at}
 use Rattle.tune_pages.specs.Opened.{IsUnmadePagesFor}
-use Rattle.tune_store.specs.State.{State, empty_state}
+use Rattle.tune_store.specs.State.{State, empty_of}
+use Rattle.tune_store.specs.declared.layout.Layout.TheVariants.{Two}
+use Rattle.tune_store.specs.declared.command.Command.TheVariants.{Upgrade}
 use Rattle.tune_store.specs.declared.tune_store.TuneStore as store
 use Rattle.tune_format.specs.States.{StandsForState}
 use Rattle.tune_archive.specs.Opened.{IsUnopenedArchiveFor, StandsForNoneOrEmpty, KeepsStates}
 use Rattle.tune_archive.specs.Media.{moment_of, LeftFrom}
 use Rattle.tune_archive.specs.Shelf.{Shelf}
-use Rattle.tune_scripts.specs.Carried.{LeftByRun, run_of}
+use Rattle.tune_scripts.specs.Carried.{Carried, IsCarried, LeftByRun, run_of}
 use Rattle.tune_scripts.specs.Limits.{most_lines}
 use Rattle.tune_scripts.specs.Prefixes.{StandsForPrefix}
+use Rattle.tune_scripts.specs.Replies.{answer_bytes}
 use Rattle.tune_scripts.specs.ScriptRuns.{RunsScript}
 use Rattle.tune_scripts.specs.declared.runs.RunEnd.{RunEnd}
 use Rattle.tune_cli.specs.Lines.{WritesLine, reason_bytes, status_of, status_of_opening}
-use Rattle.tune_cli.specs.Lines.{counts_bytes}
+use Rattle.tune_cli.specs.Lines.{counts_bytes, status_of_answer}
 
 -- MAKE
 -- An archive was made: a stop now leaves the empty one, and no call of the disk failed.
@@ -28,7 +31,8 @@ pub record HasMade {D : Type 0} (honest : D → Type 0) (failures : D → ℕ) (
     (was now : Option (List ℕ)) (old new : D) (status : ℕ) : Type 0 where
   pub line : WritesLine was now (codes "made\n") 0 status
   pub empty : honest new → (state old).seen ≡ []
-  pub rest : honest new → LeavesOnly (state new).now (λ file. StandsForState file empty_state)
+  pub rest : honest new → LeavesOnly (state new).now
+      (λ file. StandsForState file (empty_of Two))
   pub counted : failures new ≡ failures old
 
 -- It was not, and why.
@@ -120,4 +124,40 @@ abbrev pub RunsOn : {D : Type 0} → store.Ghosts (Shelf D) → (D → Type 0) �
     → D → D → ℕ → Type 0
 RunsOn kept honest failures state input left was now old new status =
     HasRun kept honest state input left was now old new status
+    ⊎ HasNotOpened honest failures state was now old new status
+
+-- UPGRADE
+-- The archive of a disk was brought to layout 2, from its opening on.
+pub record Upgraded {D : Type 0} (kept : store.Ghosts (Shelf D)) (state : D → DiskState)
+    (was now : Option (List ℕ)) (old new : D) (status : ℕ) : Type 0 where
+  -- the archive as it was opened, the command with its answer, and the archive after it
+  pub before : Shelf D
+  pub carried : Carried (Shelf D)
+  pub asked : carried.command ≡ Upgrade
+  -- it was opened with the state that the disk stood for; meanwhile a stop leaves what it might
+  -- have left before, or the same pages as the disk showed
+  pub opened : StandsForState (state old).seen (kept.state before)
+  pub opening : SinceThen (state old) (state_at state before.pages.disk) (LeftOrSame (state old))
+  -- then that one command was carried out, and its answer written
+  pub carries_out : IsCarried kept before carried
+  pub line : WritesLine was now (answer_bytes carried.answer) (status_of_answer carried.answer)
+      status
+  -- where each file that a stop may leave at the start stands for one state, a stop at any moment,
+  -- while the archive was opened too, leaves that state, or the one after the command
+  pub since_start : (start : State) → LeavesOnly (state old).now (λ file. StandsForState file start)
+      → (file : List ℕ) → LeftFrom (state new) (moment_of (state old)) file
+      → StandsForPrefix StandsForState start [] (run_of (carried ∷ [])) file
+  -- the disk that is handed back is that of the archive
+  pub held : carried.after.pages.disk ≡ Some new
+
+-- The archive was opened and the command carried out.
+pub record HasUpgraded {D : Type 0} (kept : store.Ghosts (Shelf D)) (honest : D → Type 0)
+    (state : D → DiskState) (was now : Option (List ℕ)) (old new : D) (status : ℕ) : Type 0 where
+  pub upgraded : honest new → Upgraded kept state was now old new status
+
+-- It was, or it was not opened.
+abbrev pub Upgrades : {D : Type 0} → store.Ghosts (Shelf D) → (D → Type 0) → (D → ℕ)
+    → (D → DiskState) → Option (List ℕ) → Option (List ℕ) → D → D → ℕ → Type 0
+Upgrades kept honest failures state was now old new status =
+    HasUpgraded kept honest state was now old new status
     ⊎ HasNotOpened honest failures state was now old new status

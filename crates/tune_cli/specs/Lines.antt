@@ -1,5 +1,6 @@
 -- What the program writes beside replies, and its statuses.
 use Rattle.std.specs.Prelude.{◌≡◌, ◌⊎◌, ℕ, List, ◌++◌, codes, length, Option}
+use Rattle.std.specs.Prelude.{Result, Ok, Err}
 use Rattle.std.specs.Fmt.{decimal}
 use Rattle.std.specs.Io.KnownBytes.{Appends}
 use Rattle.tune_journal.specs.declared.open_fault.OpenFault.{OpenFault}
@@ -8,6 +9,8 @@ use Rattle.tune_journal.specs.declared.open_fault.OpenFault.TheVariants.{NotEmpt
 use Rattle.tune_journal.specs.declared.open_fault.OpenFault.TheVariants.{Device}
 use Rattle.tune_store.specs.Limits.{layout_number}
 use Rattle.tune_store.specs.State.{State}
+use Rattle.tune_store.specs.declared.command.Refusal.{Refusal}
+use Rattle.tune_store.specs.declared.command.Reply.{Reply}
 use Rattle.tune_scripts.specs.declared.runs.RunEnd.{RunEnd}
 use Rattle.tune_scripts.specs.declared.runs.RunEnd.TheVariants.{Ended}
 
@@ -15,6 +18,11 @@ use Rattle.tune_scripts.specs.declared.runs.RunEnd.TheVariants.{Ended}
 abbrev pub status_of : RunEnd → ℕ
 status_of Ended = 0
 status_of _ = 1
+
+-- 0 where the command was carried out
+abbrev pub status_of_answer : Result Reply Refusal → ℕ
+status_of_answer (Ok reply) = 0
+status_of_answer (Err refusal) = 1
 
 -- A line was written, and the status is this one; or it could not be written, and the status is 1.
 abbrev pub WritesLine : Option (List ℕ) → Option (List ℕ) → List ℕ → ℕ → ℕ → Type 0

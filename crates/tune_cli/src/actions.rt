@@ -12,7 +12,7 @@ ghost use Rattle.tune_cli.specs.declared.command_line.WordsFault.TheVariants.{Mi
 ghost use Rattle.tune_cli.specs.CommandLine.{faults_in, FaultFits, status_of_fault};
 
 use crate::command_line::{Action, VERSION, WordsFault};
-use crate::file_actions::{check, make, run_file};
+use crate::file_actions::{check, make, run_file, upgrade};
 use clap::error::ErrorKind;
 use clap::{Arg, Command};
 use std::alloc::{AllocError, Global};
@@ -60,6 +60,7 @@ fn asked(alloc: Global, name: &str, file: Option<&str>) -> Result<Action, WordsF
         ("make", Some(file)) => Ok(Action::Make(String::from_str(alloc, file)?)),
         ("run", Some(file)) => Ok(Action::Run(String::from_str(alloc, file)?)),
         ("check", Some(file)) => Ok(Action::Check(String::from_str(alloc, file)?)),
+        ("upgrade", Some(file)) => Ok(Action::Upgrade(String::from_str(alloc, file)?)),
         _ => Err(WordsFault::Missing),
     }
 }
@@ -78,6 +79,7 @@ fn command_line<'a>(alloc: Global) -> Result<Command<'a>, AllocError>
         "Runs the script of standard input on the archive in FILE",
     )?;
     let check = file_command(alloc, "check", "Tells how much the archive in FILE holds")?;
+    let upgrade = file_command(alloc, "upgrade", "Brings the archive in FILE to layout 2")?;
     Command::new(alloc, "tunes")
         .about("An archive of tunes in ABC notation")
         .version(VERSION)
@@ -85,7 +87,8 @@ fn command_line<'a>(alloc: Global) -> Result<Command<'a>, AllocError>
         .subcommand(list)?
         .subcommand(make)?
         .subcommand(run)?
-        .subcommand(check)
+        .subcommand(check)?
+        .subcommand(upgrade)
 }
 
 // A subcommand on a file.
@@ -132,9 +135,9 @@ pub fn report<T: Print + Eprint>(rt: &T, fault: &WordsFault) -> io::Result<u8>
 ///
 /// What the clause says of the commands that are carried out, of the device and of the status holds
 /// of every reader. That they are those of the input, and what is written, is said of a reader that
-/// tells its bytes. Standard input tells none. Of a file it says what `make_on`, `run_on` and
-/// `check_on` say of the disk that `rt`, as a drive, gave for the file's path, and that the disk
-/// that came of it was closed. `make` alone asks for a file that may have to be made.
+/// tells its bytes. Standard input tells none. Of a file it says what `make_on`, `run_on`,
+/// `check_on` and `upgrade_on` say of the disk that `rt`, as a drive, gave for the file's path, and
+/// that the disk that came of it was closed. `make` alone asks for a file that may have to be made.
 pub fn act<R: BufRead, W: Write, D: Disk, T: AllocGlobal + Drive<Disk = D>>(
     rt: &T,
     action: &Action,
@@ -150,6 +153,7 @@ pub fn act<R: BufRead, W: Write, D: Disk, T: AllocGlobal + Drive<Disk = D>>(
         Action::Make(file) => make(rt, file.as_str(), writer),
         Action::Run(file) => run_file(rt, file.as_str(), reader, writer),
         Action::Check(file) => check(rt, file.as_str(), writer),
+        Action::Upgrade(file) => upgrade(rt, file.as_str(), writer),
     }
 }
 

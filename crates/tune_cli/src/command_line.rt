@@ -16,6 +16,8 @@ pub enum Action {
     Run(String),
     /// Open the archive in this file, and tell how much it holds.
     Check(String),
+    /// Bring the archive in this file to layout 2.
+    Upgrade(String),
 }
 
 /// Why words ask for nothing.

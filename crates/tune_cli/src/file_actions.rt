@@ -4,9 +4,10 @@ ghost use Rattle.std.specs.Io.KnownBytes.{Appends};
 ghost use Rattle.tune_pages.specs.Kept.{HonestAt};
 ghost use Rattle.tune_archive.specs.Shelf.{state_of};
 ghost use Rattle.tune_cli.specs.Acts.{OnFile};
-ghost use Rattle.tune_cli.specs.FileActs.{Makes, Checks, RunsOn};
+ghost use Rattle.tune_scripts.specs.Replies.{answer_bytes};
+ghost use Rattle.tune_cli.specs.FileActs.{Makes, Checks, RunsOn, Upgrades};
 ghost use Rattle.tune_cli.specs.Lines.{WritesLine, reason_bytes, line_of, status_of_opening};
-ghost use Rattle.tune_cli.specs.Lines.{counts_bytes};
+ghost use Rattle.tune_cli.specs.Lines.{counts_bytes, status_of_answer};
 
 use crate::actions::status;
 use std::alloc::Global;
@@ -15,7 +16,8 @@ use std::io::{BufRead, Write};
 use tune_archive::{Archive, Counts, TuneStore};
 use tune_disk::{DeviceFault, Disk, Drive};
 use tune_journal::OpenFault;
-use tune_scripts::run;
+use tune_scripts::{run, write_answer};
+use tune_store::{Command, Refusal, Reply};
 
 const DONE: u8 = 0;
 
@@ -107,6 +109,31 @@ pub fn run_on<R: BufRead, W: Write, D: Disk>(
     }
 }
 
+/// Brings the archive of a disk to layout 2, by the one command `Upgrade`, and writes its answer;
+/// or writes why the archive was not opened. The status is 0 where it is of layout 2 then; 3 where
+/// no archive stands there; and else 1.
+///
+/// A stop at any moment of the call leaves the archive as it was, or the same tunes and set lists
+/// in layout 2. An archive of layout 2 is not written to.
+pub fn upgrade_on<W: Write, D: Disk>(alloc: Global, writer: &mut W, disk: D) -> Done<D>
+    ensures honest { D.honest result.disk → D.honest disk }
+    ensures upgrades { Upgrades ⟦<Archive<D> as TuneStore>⟧ D.honest D.failures D.state
+        (W.contents writer.old) (W.contents writer.new) disk result.disk result.status }
+{
+    match Archive::open(alloc, disk) {
+        Ok(mut opened) => {
+            let answer = opened.apply(&Command::Upgrade);
+            let status = say_answer(writer, &answer);
+            let disk = opened.into_disk();
+            Done { status, disk }
+        }
+        Err(refused) => Done {
+            status: say_reason(writer, refused.why),
+            disk: refused.disk,
+        },
+    }
+}
+
 // Makes an archive in the file at a path.
 pub(crate) fn make<W: Write, D: Disk, T: AllocGlobal + Drive<Disk = D>>(
     rt: &T,
@@ -147,6 +174,27 @@ pub(crate) fn check<W: Write, D: Disk, T: AllocGlobal + Drive<Disk = D>>(
     }
 }
 
+// Brings the archive in the file at a path to layout 2.
+pub(crate) fn upgrade<W: Write, D: Disk, T: AllocGlobal + Drive<Disk = D>>(
+    rt: &T,
+    path: &str,
+    writer: &mut W,
+) -> u8
+    ensures { OnFile T.opened T.closed
+        (Upgrades ⟦<Archive<D> as TuneStore>⟧ D.honest D.failures D.state
+        (W.contents writer.old) (W.contents writer.new))
+        path.now (W.contents writer.old) (W.contents writer.new) result }
+{
+    match rt.open(path) {
+        Ok(disk) => {
+            let Done { status, disk } = upgrade_on(rt.alloc(), writer, disk);
+            rt.close(path, disk);
+            status
+        }
+        Err(DeviceFault) => say_reason(writer, OpenFault::Device),
+    }
+}
+
 // Runs a script on the archive in the file at a path.
 pub(crate) fn run_file<R: BufRead, W: Write, D: Disk, T: AllocGlobal + Drive<Disk = D>>(
     rt: &T,
@@ -176,6 +224,21 @@ fn say_made<W: Write>(writer: &mut W) -> u8
 {
     match write_out(writer, b"made\n") {
         Ok(()) => DONE,
+        Err(_) => FAILED,
+    }
+}
+
+// Writes the answer to a command.
+fn say_answer<W: Write>(writer: &mut W, answer: &Result<Reply, Refusal>) -> u8
+    ensures { WritesLine (W.contents writer.old) (W.contents writer.new) (answer_bytes answer.now)
+        (status_of_answer answer.now) result }
+{
+    let status = match answer {
+        Ok(_) => DONE,
+        Err(_) => FAILED,
+    };
+    match write_answer(writer, answer) {
+        Ok(()) => status,
         Err(_) => FAILED,
     }
 }

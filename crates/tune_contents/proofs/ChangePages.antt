@@ -1,5 +1,5 @@
 -- How many pages a change takes that leads to a state within the limits.
-use Rattle.std.proofs.Common.{◌≡◌, ℕ, zero, suc, ◌+◌, ◌*◌, ◌<◌, ◌≤◌, List, [], ◌∷◌, length, slice_set, ap, sym, subst, ◌∙◌, arith, length-append}
+use Rattle.std.proofs.Common.{◌≡◌, ◌≢◌, ℕ, zero, suc, ◌+◌, ◌*◌, ◌<◌, ◌≤◌, List, [], ◌∷◌, length, slice_set, ap, sym, subst, ◌∙◌, arith, length-append}
 use Rattle.std.specs.List.{AllByRecursion}
 use Rattle.std.proofs.lemmas.List.{length-set}
 use Rattle.tune_pages.specs.Stand.{Stand}
@@ -12,7 +12,7 @@ use Rattle.tune_store.specs.TuneSteps.{numbered}
 use Rattle.tune_store.specs.declared.tune.Tune.{Tune}
 use Rattle.tune_store.specs.declared.plans.Change.{Change}
 use Rattle.tune_store.specs.declared.plans.Change.TheVariants.{Add, Put, Take, Move, NewSet}
-use Rattle.tune_store.specs.declared.plans.Change.TheVariants.{AddPlace, CutPlace, DropSet}
+use Rattle.tune_store.specs.declared.plans.Change.TheVariants.{AddPlace, CutPlace, DropSet, Upgrade}
 use Rattle.tune_store.proofs.StateLemmas.{length-numbered}
 use Rattle.tune_format.specs.declared.rows.Row.{Row}
 use Rattle.tune_format.proofs.TextLemmas.{rows_count}
@@ -23,7 +23,7 @@ use Rattle.tune_contents.specs.Inside.Changes.{RowsAccept}
 use Rattle.tune_contents.specs.Inside.Indexed.{index_pages}
 use Rattle.tune_contents.specs.Inside.Searching.{search_pages}
 use Rattle.tune_contents.specs.Inside.Takes.{change_pages, sets_pages, text_pages}
-use Rattle.tune_contents.proofs.ContentsLemmas.{rows_accept}
+use Rattle.tune_contents.proofs.ContentsLemmas.{changed_is, changed_within, rows_accept}
 use Rattle.tune_contents.proofs.StatePages.{numbers_most, searches_most, sets_count, text_count, times_count}
 
 texts_count : (layout : Layout) (first : ℕ) (texts : List (List ℕ)) → AllByRecursion (IsTune layout) (numbered first texts)
@@ -42,7 +42,7 @@ put_there layout (one ∷ tunes) zero tune lt are = are.0
 put_there layout (one ∷ tunes) (suc place) tune lt are = put_there layout tunes place tune (omega (arith, lt)) are.1
 
 tunes_count : (change : Change) (state : State) (rows : List Row) → length rows ≡ length state.tunes → RowsAccept change rows
-    → IsState (changed change state) → change_pages change ≤ most_tunes state.layout * most_tune_pages state.layout
+    → IsState (changed_within change state) → change_pages change ≤ most_tunes state.layout * most_tune_pages state.layout
 tunes_count (Add first texts) state rows same accept is =
     let all = texts_count state.layout first texts.items (all_right (IsTune state.layout) state.tunes (numbered first texts.items) is.tunes.each) in
     let few = is.tunes.count in
@@ -58,13 +58,16 @@ tunes_count (NewSet name) state rows same accept is = omega arith
 tunes_count (AddPlace name number) state rows same accept is = omega arith
 tunes_count (CutPlace name place) state rows same accept is = omega arith
 tunes_count (DropSet name) state rows same accept is = omega arith
+tunes_count Upgrade state rows same accept is = omega arith
 
 -- Where it leads to a state within the limits, a change puts no more pages of tunes, of indexes and of set lists than such a state has.
 pub change_count : (s : Stand) (contents : Contents) (change : Change) (state : State) → HoldsContents s contents state
     → CanChange change contents.layout (labels_in contents.rows.items) contents.sets → IsState (changed change state)
+    → change ≢ Upgrade
     → change_pages change + (index_pages (length (changed_tunes change state.tunes)) + search_pages (length (changed_tunes change state.tunes)))
     + sets_pages (changed_sets change contents.sets) ≤ most_part_pages contents.layout
-change_count s contents change state holds can is =
+change_count s contents change state holds can after other =
+    let is = subst IsState (changed_is change state other) after in
     let count = length (changed_tunes change state.tunes) in
     let tunes = tunes_count change state contents.rows.items
     (ap (λ (rows : List Row). length rows) holds.listed ∙ rows_count state.tunes holds.filed.texts holds.filed.are_tunes)

@@ -27,11 +27,11 @@ use Rattle.tune_sets.specs.Sets.{AreSetLists}
 use Rattle.tune_sets.specs.SetBytes.{written_sets}
 use Rattle.tune_sets.specs.declared.set_lists.TuneSet.{TuneSet}
 use Rattle.tune_store.specs.Limits.{greatest_number, most_tunes, notes_of}
-use Rattle.tune_store.specs.State.{State, IsTune, RisesFrom, greatest, tune_at, AreHeld, NameTunes}
+use Rattle.tune_store.specs.State.{State, RisesFrom, greatest, tune_at, AreHeld, NameTunes}
 use Rattle.tune_store.specs.declared.layout.Layout.{Layout}
 use Rattle.tune_store.specs.declared.layout.Layout.TheVariants.{One, Two}
 use Rattle.tune_store.specs.declared.tune.Tune.{Tune}
-use Rattle.tune_format.specs.Filed.{HoldTunes, archive_parts, firsts_of, numbered_texts, rows_of}
+use Rattle.tune_format.specs.Filed.{HoldTunes, archive_parts, numbered_texts, rows_of}
 use Rattle.tune_format.specs.States.{IsStateOf}
 use Rattle.tune_format.specs.Written.{IsRoot, number_entries}
 use Rattle.tune_format.specs.declared.root.Firsts.{Firsts}

@@ -1,5 +1,5 @@
 -- What the contents of an archive hold, through a change.
-use Rattle.std.proofs.Common.{◌≡◌, ℕ, true, false, List, ◌∷◌, ◌++◌, Option, Some, None, is_some, refl, sym, ◌∙◌, ap, subst, arith, append_assoc}
+use Rattle.std.proofs.Common.{◌≡◌, ◌≢◌, ℕ, true, false, List, ◌∷◌, ◌++◌, Option, Some, None, is_some, refl, sym, ◌∙◌, ap, subst, arith, append_assoc}
 use Rattle.std.proofs.lemmas.List.{length-map}
 use Rattle.index_keys.specs.Entries.{Entry}
 use Rattle.tune_incipit.specs.SearchKeys.{incipit_keys, scale_keys}
@@ -18,12 +18,12 @@ use Rattle.tune_sets.specs.declared.set_lists.TuneSet.{TuneSet}
 use Rattle.tune_sets.proofs.PlaceLemmas.{unheld_renumbered}
 use Rattle.tune_store.specs.declared.layout.Layout.{Layout}
 use Rattle.tune_store.specs.Limits.{notes_of}
-use Rattle.tune_store.specs.Plans.{CanChange, changed_sets, changed_tunes}
+use Rattle.tune_store.specs.Plans.{CanChange, changed, changed_layout, changed_sets, changed_tunes}
 use Rattle.tune_store.specs.State.{State, IsState, IsTunes}
 use Rattle.tune_store.specs.declared.tune.Tune.{Tune}
 use Rattle.tune_store.specs.declared.plans.Change.{Change}
 use Rattle.tune_store.specs.declared.plans.Change.TheVariants.{Add, Put, Take, Move, NewSet}
-use Rattle.tune_store.specs.declared.plans.Change.TheVariants.{AddPlace, CutPlace, DropSet}
+use Rattle.tune_store.specs.declared.plans.Change.TheVariants.{AddPlace, CutPlace, DropSet, Upgrade}
 use Rattle.tune_titles.specs.SearchKeys.{rhythm_keys, title_keys}
 use Rattle.tune_format.specs.Filed.{archive_parts, firsts_of, numbered_texts, rows_of}
 use Rattle.tune_format.specs.Searched.{AreSearchIndexes, IsSearchIndex}
@@ -47,6 +47,7 @@ rows_accept layout (NewSet name) rows sets can = tt
 rows_accept layout (AddPlace name number) rows sets can = tt
 rows_accept layout (CutPlace name place) rows sets can = tt
 rows_accept layout (DropSet name) rows sets can = tt
+rows_accept layout Upgrade rows sets can = tt
 
 pub sets_accept : (layout : Layout) (change : Change) (rows : List Row) (sets : List TuneSet) → CanChange change layout (labels_in rows) sets
     → SetsAccept change sets
@@ -58,6 +59,7 @@ sets_accept layout (NewSet name) rows sets can = can
 sets_accept layout (AddPlace name number) rows sets can = can
 sets_accept layout (CutPlace name place) rows sets can = can
 sets_accept layout (DropSet name) rows sets can = can
+sets_accept layout Upgrade rows sets can = tt
 
 is_none : (found : Option (List ℕ)) → is_some found ≡ false → found ≡ None
 is_none None h = refl
@@ -73,6 +75,32 @@ sets_stay (NewSet name) sets h = cc
 sets_stay (AddPlace name number) sets h = cc
 sets_stay (CutPlace name place) sets h = cc
 sets_stay (DropSet name) sets h = cc
+sets_stay Upgrade sets h = refl
+
+-- a change that is no upgrade leaves the layout
+pub layout_stays : (change : Change) (layout : Layout) → change ≢ Upgrade → changed_layout change layout ≡ layout
+layout_stays (Add first texts) layout other = refl
+layout_stays (Put place tune) layout other = refl
+layout_stays (Take place) layout other = refl
+layout_stays (Move number to) layout other = refl
+layout_stays (NewSet name) layout other = refl
+layout_stays (AddPlace name number) layout other = refl
+layout_stays (CutPlace name place) layout other = refl
+layout_stays (DropSet name) layout other = refl
+layout_stays Upgrade layout other = absurd (other refl)
+
+-- the state after such a change, in the same layout
+abbrev pub changed_within : Change → State → State
+changed_within change state =
+    record { layout = state.layout; tunes = changed_tunes change state.tunes; sets = changed_sets change state.sets }
+
+-- is that after it
+pub changed_is : (change : Change) (state : State) → change ≢ Upgrade → changed change state ≡ changed_within change state
+changed_is change state other = ap (λ (l : Layout). record {
+  layout = l;
+  tunes = changed_tunes change state.tunes;
+  sets = changed_sets change state.sets;
+}) (layout_stays change state.layout other)
 
 -- INDEXES
 -- where its list names the leaves, memory has an index as it stands
@@ -104,7 +132,7 @@ searches_held shape parts tunes listed k = record {
 abbrev pub keeps_in : Contents → Keeps
 keeps_in c = keeps_of c.numbers c.searches c.rows.items
 
-abbrev around_of : (s : Stand) (c : Contents) (state : State) → (h : HoldsContents s c state) → StandsAround s (keeps_in c) state.tunes h.filed.set_lists
+abbrev pub around_of : (s : Stand) (c : Contents) (state : State) → (h : HoldsContents s c state) → StandsAround s (keeps_in c) state.tunes h.filed.set_lists
 around_of s c state h = record {
   numbers = h.filed.numbers;
   searches = h.filed.searches;
@@ -156,7 +184,7 @@ firsts_are c numbers searches set_lists entries tunes says index texts sets =
     let last : c.firsts.sets ≡ set_lists.first = sym sets in
     λ i. record { numbers = one i; searches = four i; sets = last i }
 
-contents_of : (s : Stand) (c : Contents) (layout : Layout) (tunes : List Tune) (sets : List TuneSet) (set_lists : Part) → c.layout ≡ layout
+pub contents_of : (s : Stand) (c : Contents) (layout : Layout) (tunes : List Tune) (sets : List TuneSet) (set_lists : Part) → c.layout ≡ layout
     → c.searches.notes ≡ notes_of layout → c.sets ≡ sets → SaysWhere c → StandsAround s (keeps_in c) tunes set_lists
     → set_lists.kind ≡ chain → set_lists.first ≡ c.firsts.sets
     → set_lists.bytes ≡ written_sets c.sets → IsRoot c.layout (page_at s.pages 0) c.firsts
@@ -253,6 +281,7 @@ sets_there s mid c is change can lays (state, within, h) = chain_then s mid c is
 pub state_laid : (s mid late new : Stand) (c left : Contents) (change : Change) → CanChange change c.layout (labels_in c.rows.items) c.sets
     → LaysIndexed c.layout s mid (keeps_in c) (keeps_in left) change
     → LaysSets mid late c.firsts.sets left.firsts.sets (changes_sets change c.sets) left.sets → LaysRoot c.layout late new left.firsts → left.layout ≡ c.layout
-    → left.searches.notes ≡ c.searches.notes → left.sets ≡ changed_sets change c.sets → SaysWhere left → LaysState s new c left change
-state_laid s mid late new c left change can lays named root known notes sets says =
-    λ state within h. laid_then s mid c (keeps_in left) change can lays state within.tunes h late new left refl named root known notes sets says
+    → left.searches.notes ≡ c.searches.notes → left.sets ≡ changed_sets change c.sets → SaysWhere left → change ≢ Upgrade → LaysState s new c left change
+state_laid s mid late new c left change can lays named root known notes sets says other =
+    λ state within h. subst (λ (next : State). HoldsContents new left next) (sym (changed_is change state other))
+    (laid_then s mid c (keeps_in left) change can lays state within.tunes h late new left refl named root known notes sets says)

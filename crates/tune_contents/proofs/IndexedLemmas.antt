@@ -87,7 +87,7 @@ same_texts shape parts held others same k = record {
 
 -- PARTS
 -- all but the tunes
-abbrev ahead_of : IndexParts → SearchParts → Part → List Part
+abbrev pub ahead_of : IndexParts → SearchParts → Part → List Part
 ahead_of numbers searches set_lists = parts_of_index numbers ++ (parts_of_search searches ++ set_lists ∷ [])
 
 with_texts : (numbers : IndexParts) (searches : SearchParts) (set_lists : Part) (texts : List Part)

@@ -20,3 +20,4 @@ pub mod SearchPageLemmas
 pub mod SearchingLemmas
 pub mod StatePages
 pub mod TakesLemmas
+pub mod UpgradeLemmas

@@ -7,7 +7,7 @@ use Rattle.tune_parts.specs.Parts.{Part}
 use Rattle.tune_store.specs.State.{IsTune, IsTunes}
 use Rattle.tune_store.specs.declared.layout.Layout.{Layout}
 use Rattle.tune_store.specs.declared.plans.Change.{Change}
-use Rattle.tune_store.specs.declared.plans.Change.TheVariants.{Add, Put, Take, Move, NewSet, AddPlace, CutPlace, DropSet}
+use Rattle.tune_store.specs.declared.plans.Change.TheVariants.{Add, Put, Take, Move, NewSet, AddPlace, CutPlace, DropSet, Upgrade}
 use Rattle.tune_store.specs.declared.tune.Tune.{Tune}
 use Rattle.tune_format.specs.Filed.{HoldsTuneAt, row_of, rows_of}
 use Rattle.tune_format.specs.declared.rows.Row.{Row}
@@ -111,6 +111,7 @@ old_read (NewSet name) rows tunes place old is number its = (let no : ⊥ = cc i
 old_read (AddPlace name n) rows tunes place old is number its = (let no : ⊥ = cc in absurd no)
 old_read (CutPlace name n) rows tunes place old is number its = (let no : ⊥ = cc in absurd no)
 old_read (DropSet name) rows tunes place old is number its = (let no : ⊥ = cc in absurd no)
+old_read Upgrade rows tunes place old is number its = (let no : ⊥ = cc in absurd no)
 
 -- the change has none
 pub none_read : (layout : Layout) (s : Stand) (ahead : List Part) (tunes : List Tune) (rows : List Row) (change : Change) → IsOldPlace change rows None

@@ -13,7 +13,7 @@ use Rattle.tune_store.specs.Plans.{changed_tunes}
 use Rattle.tune_store.specs.State.{RisesFrom, tune_at}
 use Rattle.tune_store.specs.TuneSteps.{inserted, moved, moved_if, numbered, without}
 use Rattle.tune_store.specs.declared.plans.Change.{Change}
-use Rattle.tune_store.specs.declared.plans.Change.TheVariants.{Add, Put, Take, Move, NewSet, AddPlace, CutPlace, DropSet}
+use Rattle.tune_store.specs.declared.plans.Change.TheVariants.{Add, Put, Take, Move, NewSet, AddPlace, CutPlace, DropSet, Upgrade}
 use Rattle.tune_store.specs.declared.tune.Tune.{Tune}
 use Rattle.tune_store.proofs.PlaceLemmas.{above, tune_at-none, tune_at-place, without-place}
 use Rattle.tune_format.specs.Filed.{numbered_texts}
@@ -171,6 +171,7 @@ takes_some (NewSet name) tunes (Some old) away rises is out = (let no : ⊥ = cc
 takes_some (AddPlace name number) tunes (Some old) away rises is out = (let no : ⊥ = cc in absurd no)
 takes_some (CutPlace name place) tunes (Some old) away rises is out = (let no : ⊥ = cc in absurd no)
 takes_some (DropSet name) tunes (Some old) away rises is out = (let no : ⊥ = cc in absurd no)
+takes_some Upgrade tunes (Some old) away rises is out = (let no : ⊥ = cc in absurd no)
 
 -- WHAT COMES
 pub some_run : (come : Option SearchRuns) (more : List Text) → PutsIn come more → IsSomeRun come
@@ -296,3 +297,4 @@ changes_texts (NewSet name) tunes (Some old) away come rises is out puts = (let 
 changes_texts (AddPlace name number) tunes (Some old) away come rises is out puts = (let no : ⊥ = cc in absurd no)
 changes_texts (CutPlace name place) tunes (Some old) away come rises is out puts = (let no : ⊥ = cc in absurd no)
 changes_texts (DropSet name) tunes (Some old) away come rises is out puts = (let no : ⊥ = cc in absurd no)
+changes_texts Upgrade tunes (Some old) away come rises is out puts = (let no : ⊥ = cc in absurd no)

@@ -7,3 +7,4 @@ pub mod Numbers
 pub mod Rows
 pub mod Searching
 pub mod Takes
+pub mod Upgrading

@@ -1,5 +1,6 @@
 // A change of an archive, laid on its pages.
-ghost use Rattle.std.specs.Prelude.{◌≡◌, ◌+◌, List, false, true, length, IfOk, IfErr, OnOk};
+ghost use Rattle.std.specs.Prelude.{◌≡◌, ◌≢◌, ◌+◌, List, false, true, length};
+ghost use Rattle.std.specs.Prelude.{IfOk, IfErr, OnOk};
 ghost use Rattle.tune_pages.specs.FreePages.{TakesAtMost};
 ghost use Rattle.tune_pages.specs.Kept.{HonestAt};
 ghost use Rattle.tune_pages.specs.Reading.{LooksAt};
@@ -8,8 +9,10 @@ ghost use Rattle.tune_pages.specs.declared.fault.Fault.TheVariants.{OutOfMemory}
 ghost use Rattle.tune_search.specs.SearchPages.{AreListed, firsts_in};
 ghost use Rattle.tune_sets.specs.declared.faults.SetFault.TheVariants as set_fault;
 ghost use Rattle.tune_sets.specs.declared.set_lists.TuneSet.{TuneSet};
-ghost use Rattle.tune_store.specs.Plans.{changed, changed_sets, changed_tunes, CanChange};
+ghost use Rattle.tune_store.specs.Plans.{changed, changed_layout, changed_sets, changed_tunes};
+ghost use Rattle.tune_store.specs.Plans.{CanChange};
 ghost use Rattle.tune_store.specs.State.{State, IsState};
+ghost use Rattle.tune_store.specs.declared.plans.Change.TheVariants.{Upgrade};
 ghost use Rattle.tune_store.specs.declared.tune.Tune.{Tune};
 ghost use Rattle.tune_contents.specs.Answers.{AnswersLay};
 ghost use Rattle.tune_contents.specs.Claimed.{AreRows};
@@ -30,6 +33,7 @@ use crate::numbers::{change_numbers, number_runs};
 use crate::room::Room;
 use crate::rows::move_row;
 use crate::searching::{change_searches, text_runs};
+use crate::upgrading::upgrade;
 use std::alloc::Global;
 use tune_disk::Disk;
 use tune_format::{Firsts, Row};
@@ -44,9 +48,10 @@ fn changes_sets(change: &Change, sets: &SetLists) -> bool
     ensures { result ≡ changes_sets change.now sets.now }
 {
     match change {
-        Change::Add { .. } | Change::Put { .. } | Change::Take { .. } => false,
+        Change::Add { .. } | Change::Put { .. } | Change::Take { .. } | Change::Upgrade => false,
         Change::Move { number, .. } => sets.holds(*number).is_some(),
-        _ => true,
+        Change::NewSet { .. } | Change::AddPlace { .. } => true,
+        Change::CutPlace { .. } | Change::DropSet { .. } => true,
     }
 }
 
@@ -64,7 +69,7 @@ fn change_sets(sets: &mut SetLists, change: &Change) -> Result<(), SetFault>
         }
         Change::CutPlace { name, place } => sets.cut(name.as_slice(), *place as usize)?,
         Change::DropSet { name } => sets.drop_set(name.as_slice())?,
-        _ => {}
+        Change::Add { .. } | Change::Put { .. } | Change::Take { .. } | Change::Upgrade => {}
     }
     Ok(())
 }
@@ -101,7 +106,8 @@ fn lay_tunes<D: Disk>(
             move_row(rows, *number, *to);
             Ok(())
         }
-        _ => Ok(()),
+        Change::NewSet { .. } | Change::AddPlace { .. } => Ok(()),
+        Change::CutPlace { .. } | Change::DropSet { .. } | Change::Upgrade => Ok(()),
     }
 }
 
@@ -177,17 +183,82 @@ fn sets_after(sets: &SetLists, change: &Change) -> Result<SetLists, Fault>
     }
 }
 
+// Lays a change that leaves the layout.
+fn lay_change<D: Disk>(
+    room: &mut Room,
+    pages: &mut Pages<D>,
+    work: &mut Work,
+    contents: &Contents,
+    change: &Change,
+) -> Result<Contents, Fault>
+    requires open { pages.old.closed ≡ false }
+    requires fits { Fits pages.old work.old }
+    requires stays { change.now ≢ Upgrade }
+    requires possible { CanChange change.now contents.now.layout
+        (labels_in contents.now.rows.items) contents.now.sets }
+    requires holds { HonestAt D.honest pages.old.disk
+        → HoldsSomeState (stand pages.old work.old) contents.now }
+    ensures lays { IfOk result (λ left. HonestAt D.honest pages.new.disk → LaysState
+        (stand pages.old work.old) (stand pages.new work.new) contents.now left change.now) }
+    ensures rows { AreRows contents.now.layout contents.now.rows.items
+        → IfOk result (λ left. AreRows left.layout left.rows.items) }
+    ensures layout { IfOk result (λ left. left.layout ≡ contents.now.layout) }
+    ensures fits { OnOk result (Fits pages.new work.new) }
+    ensures looks { LooksAt D.honest D.failures D.state result pages.old pages.new }
+    ensures answer { AnswersLay result pages.new.closed }
+    ensures takes { HonestAt D.honest pages.new.disk → (state : State)
+        → HoldsContents (stand pages.old work.old) contents.now state → IsState state
+        → IsState (changed change.now state) → TakesAtMost (most_part_pages contents.now.layout)
+        result (stand pages.old work.old) (stand pages.new work.new) }
+{
+    let mut rows = room.copy_rows(&contents.rows)?;
+    let mut indexes = Indexes {
+        numbers: room.copy_numbers(&contents.numbers)?,
+        searches: room.copy_searches(&contents.searches)?,
+    };
+    let sets = sets_after(&contents.sets, change)?;
+    let names = changes_sets(change, &contents.sets);
+    let layout = contents.layout;
+    let was = contents.firsts;
+    let (numbers, searches) = lay_indexed(
+        room.alloc,
+        pages,
+        work,
+        layout,
+        &contents.rows,
+        &mut rows,
+        &mut indexes,
+        change,
+    )?;
+    let sets_first = lay_sets_where(pages, work, was.sets, &sets, names)?;
+    let firsts = Firsts {
+        numbers,
+        searches,
+        sets: sets_first,
+    };
+    lay_root(pages, work, layout, was, firsts)?;
+    Ok(Contents {
+        layout,
+        rows,
+        numbers: indexes.numbers,
+        searches: indexes.searches,
+        sets,
+        firsts,
+    })
+}
+
 /// Lays a change of an archive on its pages, in a work that was begun on them, and gives what is to
 /// be kept in memory once the work is finished. `contents` stays as it is: where the work is
 /// dropped, or not finished, nothing was changed.
 ///
 /// Chains that go are freed before others are put, so that these may take their pages. The leaves
 /// of the indexes change that the change concerns; the lists of leaves, where leaves come or go;
-/// the set lists, where they change; and the root, where one of these begins elsewhere.
+/// the set lists, where they change; and the root, where one of these begins elsewhere. `upgrade`
+/// says what changes where the archive comes to layout 2.
 ///
 /// - `lays`: where the pages held a state within the limits, they hold the state after the change.
 /// - `rows`, `layout`, of every disk: rows by rising number, within the limits, stay so, and the
-///   layout stays.
+///   layout is that after the change.
 /// - `looks`: no page of the disk changes.
 /// - `fits`: the work may be changed further, or finished.
 /// - `takes`: where the state after the change is within the limits, it takes no more free pages
@@ -210,13 +281,15 @@ pub fn lay<D: Disk>(
     requires fits { Fits pages.old work.old }
     requires possible { CanChange change contents.now.layout
         (labels_in contents.now.rows.items) contents.now.sets }
+    requires rises { change ≡ Upgrade → AreRows contents.now.layout contents.now.rows.items }
     requires holds { HonestAt D.honest pages.old.disk
         → HoldsSomeState (stand pages.old work.old) contents.now }
     ensures lays { IfOk result (λ left. HonestAt D.honest pages.new.disk → LaysState
         (stand pages.old work.old) (stand pages.new work.new) contents.now left change) }
     ensures rows { AreRows contents.now.layout contents.now.rows.items
         → IfOk result (λ left. AreRows left.layout left.rows.items) }
-    ensures layout { IfOk result (λ left. left.layout ≡ contents.now.layout) }
+    ensures layout { IfOk result (λ left. left.layout
+        ≡ changed_layout change contents.now.layout) }
     ensures fits { OnOk result (Fits pages.new work.new) }
     ensures looks { LooksAt D.honest D.failures D.state result pages.old pages.new }
     ensures answer { AnswersLay result pages.new.closed }
@@ -225,38 +298,8 @@ pub fn lay<D: Disk>(
         → IsState (changed change state) → TakesAtMost (most_part_pages contents.now.layout)
         result (stand pages.old work.old) (stand pages.new work.new) }
 {
-    let mut rows = room.copy_rows(&contents.rows)?;
-    let mut indexes = Indexes {
-        numbers: room.copy_numbers(&contents.numbers)?,
-        searches: room.copy_searches(&contents.searches)?,
-    };
-    let sets = sets_after(&contents.sets, &change)?;
-    let names = changes_sets(&change, &contents.sets);
-    let layout = contents.layout;
-    let was = contents.firsts;
-    let (numbers, searches) = lay_indexed(
-        room.alloc,
-        pages,
-        work,
-        layout,
-        &contents.rows,
-        &mut rows,
-        &mut indexes,
-        &change,
-    )?;
-    let sets_first = lay_sets_where(pages, work, was.sets, &sets, names)?;
-    let firsts = Firsts {
-        numbers,
-        searches,
-        sets: sets_first,
-    };
-    lay_root(pages, work, layout, was, firsts)?;
-    Ok(Contents {
-        layout,
-        rows,
-        numbers: indexes.numbers,
-        searches: indexes.searches,
-        sets,
-        firsts,
-    })
+    if let Change::Upgrade = &change {
+        return upgrade(room, pages, work, contents);
+    }
+    lay_change(room, pages, work, contents, &change)
 }

@@ -13,6 +13,7 @@ mod room;
 mod rows;
 mod searching;
 mod texts;
+mod upgrading;
 
 pub use changes::lay;
 pub use claiming::claim;
@@ -21,3 +22,4 @@ pub use laws::law_of_state_pages;
 pub use layout_notes::incipit_notes;
 pub use room::Room;
 pub use texts::read_tune;
+pub use upgrading::upgrade;

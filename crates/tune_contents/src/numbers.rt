@@ -118,7 +118,9 @@ pub(crate) fn number_runs(
             Some(place) => moved_runs(alloc, &was[place], *to),
             None => runs_of(alloc, &[], &[]),
         },
-        _ => runs_of(alloc, &[], &[]),
+        Change::NewSet { .. } | Change::AddPlace { .. } => runs_of(alloc, &[], &[]),
+        Change::CutPlace { .. } | Change::DropSet { .. } => runs_of(alloc, &[], &[]),
+        Change::Upgrade => runs_of(alloc, &[], &[]),
     }
 }
 

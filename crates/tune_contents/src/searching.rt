@@ -58,7 +58,8 @@ fn old_place(rows: &[Row], change: &Change) -> Option<usize>
         Change::Put { place, .. } => Some(*place),
         Change::Take { place } => Some(*place),
         Change::Move { number, .. } => place_of(rows, *number),
-        _ => None,
+        Change::Add { .. } | Change::NewSet { .. } | Change::AddPlace { .. } => None,
+        Change::CutPlace { .. } | Change::DropSet { .. } | Change::Upgrade => None,
     }
 }
 
@@ -183,7 +184,9 @@ fn runs_in(
         (Change::Move { to, .. }, Some((_, text))) => {
             runs_of(alloc, notes, *to, slice::from_ref(text))
         }
-        _ => Ok(None),
+        (Change::Take { .. } | Change::Move { .. }, _) => Ok(None),
+        (Change::NewSet { .. } | Change::AddPlace { .. }, _) => Ok(None),
+        (Change::CutPlace { .. } | Change::DropSet { .. } | Change::Upgrade, _) => Ok(None),
     }
 }
 

@@ -49,6 +49,22 @@ impl<const W: usize> Index<W> {
         Index::at(alloc, 0)
     }
 
+    /// An index without an entry in the place of one whose leaves are gone, of keys of any other
+    /// length: the chain that lists the leaves is that of the other until it is stored. It takes no
+    /// memory.
+    pub fn in_place_of<const V: usize>(alloc: Global, other: &Index<V>) -> Index<W>
+        requires { W ≤ 4090 }
+        ensures leaves { (result.pages ≡ []) × (result.heads ≡ []) }
+        ensures list { (result.first ≡ other.now.first) × (result.listed ≡ other.now.listed) }
+    {
+        Index {
+            pages: Vec::new(alloc),
+            heads: Vec::new(alloc),
+            first: other.first,
+            listed: other.listed,
+        }
+    }
+
     // An index without a leaf, whose list begins there.
     pub(crate) fn at(alloc: Global, first: u32) -> Index<W>
         requires { W ≤ 4090 }

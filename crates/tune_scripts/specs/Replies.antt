@@ -13,6 +13,7 @@ use Rattle.tune_store.specs.declared.command.Reply.TheVariants.{Imported, Replac
 use Rattle.tune_store.specs.declared.command.Reply.TheVariants.{Renumbered, Found, Titled, Exported}
 use Rattle.tune_store.specs.declared.command.Reply.TheVariants.{SetMade, SetAdded, SetCut}
 use Rattle.tune_store.specs.declared.command.Reply.TheVariants.{SetDropped, Sets, SetShown}
+use Rattle.tune_store.specs.declared.command.Reply.TheVariants.{Upgraded}
 use Rattle.tune_store.specs.declared.command.Reply.TheVariants.{SetExported}
 use Rattle.tune_store.specs.declared.command.Refusal.{Refusal}
 use Rattle.tune_store.specs.declared.command.Refusal.TheVariants.{BookTooLong, NoTune}
@@ -98,6 +99,7 @@ reply_bytes (SetShown name rows) =
 reply_bytes (Exported book) = exported_bytes book
 reply_bytes (SetExported name book) =
     with_name_number (codes "ok export-set ") name (length book) ++ book
+reply_bytes Upgraded = codes "ok upgrade 2\n"
 
 -- REFUSED COMMANDS
 abbrev pub fault_name : TuneFault → List ℕ

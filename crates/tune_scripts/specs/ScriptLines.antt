@@ -45,6 +45,7 @@ meaning_of_name name =
     if bytes_eq name (codes "export") then Whole of.ExportAll
     else if bytes_eq name (codes "titles") then Whole of.Titles
     else if bytes_eq name (codes "sets") then Whole of.Sets
+    else if bytes_eq name (codes "upgrade") then Whole of.Upgrade
     else Bad
 
 -- a command of a word and a number: `import LENGTH`, `show NUMBER`, `delete NUMBER`

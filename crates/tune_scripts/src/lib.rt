@@ -10,5 +10,6 @@ mod runs;
 mod script_lines;
 
 pub use laws::law_of_prefixes;
+pub use replies::write_answer;
 pub use runs::{MOST_LINES, RunEnd, run};
 pub use script_lines::LONGEST_LINE;

@@ -13,11 +13,12 @@ use std::io::Write;
 use tune_sets::{SetName, SetRowList};
 use tune_store::{Refusal, Reply, RowList, Tune};
 
-// Writes an answer, and flushes it.
-pub(crate) fn write_answer<W: Write>(
-    writer: &mut W,
-    answer: &Result<Reply, Refusal>,
-) -> io::Result<()>
+/// Writes an answer to a command as a script is told it, and flushes it.
+///
+/// # Errors
+///
+/// Those of the writer.
+pub fn write_answer<W: Write>(writer: &mut W, answer: &Result<Reply, Refusal>) -> io::Result<()>
     ensures { let bytes = answer_bytes answer.now in
         OnOk result (Appends (W.contents writer.old) (W.contents writer.new) bytes) }
 {
@@ -62,6 +63,7 @@ fn write_reply<W: Write>(writer: &mut W, reply: &Reply) -> io::Result<()>
         Reply::SetShown { name, rows } => write_set_shown(writer, name, rows),
         Reply::Exported(book) => write_exported(writer, book.as_slice()),
         Reply::SetExported { name, book } => write_set_exported(writer, name, book),
+        Reply::Upgraded => writer.write_all(b"ok upgrade 2\n"),
     }
 }
 

@@ -188,6 +188,8 @@ fn one_word(name: &[u8]) -> ScriptLine
         ScriptLine::Whole(Command::Titles)
     } else if name == b"sets".as_slice() {
         ScriptLine::Whole(Command::Sets)
+    } else if name == b"upgrade".as_slice() {
+        ScriptLine::Whole(Command::Upgrade)
     } else {
         ScriptLine::Bad
     }

@@ -19,7 +19,7 @@ module _ (before a b c d after : List Part) where
   third_of : before ++ ((a ++ (b ++ (c ++ d))) ++ after) ≡ ((before ++ a) ++ b) ++ (c ++ (d ++ after))
   third_of = second_of ∙ sym (append_assoc (before ++ a) b ((c ++ d) ++ after)) ∙ ap (λ (l : List Part). ((before ++ a) ++ b) ++ l) (append_assoc c d after)
 
-  fourth_of : before ++ ((a ++ (b ++ (c ++ d))) ++ after) ≡ (((before ++ a) ++ b) ++ c) ++ (d ++ after)
+  pub fourth_of : before ++ ((a ++ (b ++ (c ++ d))) ++ after) ≡ (((before ++ a) ++ b) ++ c) ++ (d ++ after)
   fourth_of = third_of ∙ sym (append_assoc ((before ++ a) ++ b) c (d ++ after))
 
 -- EACH INDEX AMONG ALL OTHERS

@@ -2,6 +2,7 @@ pub mod LeafParts
 pub mod Laid
 pub mod Four
 pub mod Texts
+pub mod Lengthened
 pub mod TextRuns
 pub mod AsManyNotes
 pub mod AmongLemmas

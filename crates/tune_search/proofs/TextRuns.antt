@@ -1,6 +1,6 @@
 -- The entries of texts, as they come, and in order.
 use Rattle.std.proofs.Common.{◌≡◌, ℕ, suc, ◌+◌, ◌^◌, ◌<◌, ◌≤◌, Bool, false, List, [], ◌∷◌, ◌++◌, length, get_or, drop}
-use Rattle.std.proofs.Common.{arith, inl, inr, subst, sym, ap, ◌∙◌, append-nil, append_assoc, add-one, drop-cons}
+use Rattle.std.proofs.Common.{arith, inl, inr, refl, subst, sym, ap, ◌∙◌, append-nil, append_assoc, add-one, drop-cons}
 use Rattle.std.specs.Option.{MatchOption, option_to_list}
 use Rattle.std.specs.Prelude.{◌==◌, None, Option, Some}
 use Rattle.std.specs.List.{AllByRecursion, Contains, IsDistinct}
@@ -10,10 +10,12 @@ use Rattle.std.proofs.lemmas.List.{drop_all}
 use Rattle.std.proofs.lemmas.List.Sorted.{Contains-permutation, IsPermutation-sym}
 use Rattle.std.proofs.lemmas.Map.Keys.{IsDistinct-cons, IsDistinct-head, IsDistinct-tail, IsDistinct-IsPermutation, IsDistinct-from_apart, apart_from_distinct}
 use Rattle.index_keys.specs.Entries.{AllFit, Entry, FitsLeaf, IsRising, rank, RisesFrom}
+use Rattle.index_keys.specs.Holdings.{AreSmall}
 use Rattle.index_keys.specs.Keys.{KeysRise}
 use Rattle.index_keys.specs.Inside.Members.{contains_cases, contains_either, contains_first, contains_later, contains_left, contains_map, contains_none}
 use Rattle.index_keys.specs.Inside.Members.{contains_right, for_each}
 use Rattle.tune_index.proofs.Codec.{AllFit-push}
+use Rattle.tune_search.specs.IncipitRuns.{NumbersRise}
 use Rattle.tune_search.specs.Inside.TextEntries.{entries_at, entries_of_tunes}
 use Rattle.tune_search.specs.Searches.{IsRunOf, numbered}
 
@@ -51,6 +53,20 @@ gathered_more width keys_of first i texts text keys run next l is own more fit s
   fit = fit so_far.fit;
 }
 
+-- the entries of tunes and of one behind them
+pub tune_more : (keys_of : List ℕ → List ℕ) (tunes : List (ℕ × List ℕ)) (number : ℕ) (text : List ℕ)
+    → entries_of_tunes keys_of (tunes ++ (number, text) ∷ []) ≡ entries_of_tunes keys_of tunes ++ entries_at number (keys_of text)
+tune_more keys_of [] number text = append-nil (entries_at number (keys_of text))
+tune_more keys_of (tune ∷ tunes) number text = rw (tune_more keys_of tunes number text, append_assoc) refl
+
+-- so the entries of one tune more lie behind those of the others
+pub gathered_one : (keys_of : List ℕ → List ℕ) (tunes : List (ℕ × List ℕ)) (number : ℕ) (text keys : List ℕ) (run next : List Entry)
+    → keys ≡ keys_of text → next ≡ run ++ entries_at number keys → run ≡ entries_of_tunes keys_of tunes
+    → next ≡ entries_of_tunes keys_of (tunes ++ (number, text) ∷ [])
+gathered_one keys_of tunes number text keys run next own more so_far =
+    more ∙ ap (λ (ks : List ℕ). run ++ entries_at number ks) own ∙ ap (λ (es : List Entry). es ++ entries_at number (keys_of text)) so_far
+    ∙ sym (tune_more keys_of tunes number text)
+
 -- what a slice of an option shows
 pub shown_alone : (key : Option ℕ) (keys : List ℕ) → MatchOption key (keys ≡ []) (λ one. keys ≡ one ∷ []) → keys ≡ option_to_list key
 shown_alone None keys is = is
@@ -69,7 +85,7 @@ pub fit_more : (width : ℕ) (entry : Entry) (run next : List Entry) → next �
     → AllFit width next
 fit_more width entry run next pushed all one = rw pushed (AllFit-push width run entry all one)
 
-fits_at : (width : ℕ) (es : List Entry) (e : Entry) → AllFit width es → Contains es e → FitsLeaf width e
+pub fits_at : (width : ℕ) (es : List Entry) (e : Entry) → AllFit width es → Contains es e → FitsLeaf width e
 fits_at width [] e fit at = absurd (contains_none e at)
 fits_at width (x ∷ xs) e fit at = elim (contains_cases x xs e at) [
   | inl here ↦ subst (λ (z : Entry). FitsLeaf width z) here fit.0
@@ -150,31 +166,43 @@ once_end_to_end (x ∷ xs) ys a b apart =
     (for_each (λ e. Same x e ≡ false) ys (λ e at. apart x e (contains_first x xs) at)))
     (once_end_to_end xs ys (IsDistinct-tail Same x xs a) b (λ z y at there. apart z y (contains_later x xs z at) there))
 
--- the numbers of texts
-numbers_from : (first : ℕ) (texts : List (List ℕ)) (tune : ℕ × List ℕ) → Contains (numbered first texts) tune
-    → (first ≤ tune.0) × (tune.0 < first + length texts)
-numbers_from first [] tune at = absurd (contains_none tune at)
-numbers_from first (text ∷ texts) tune at = elim (contains_cases (first, text) (numbered (first + 1) texts) tune at) [
-  | inl here ↦ let n : first ≡ tune.0 = ap (λ (t : ℕ × List ℕ). t.0) here in (omega arith, omega arith)
-  | inr later ↦ let r = numbers_from (first + 1) texts tune later in (let b = r.0 in omega arith, let b = r.1 in omega arith)
+-- the numbers of tunes
+numbers_from : (low : ℕ) (tunes : List (ℕ × List ℕ)) (tune : ℕ × List ℕ) → NumbersRise low tunes → Contains tunes tune → low ≤ tune.0
+numbers_from low [] tune rise at = absurd (contains_none tune at)
+numbers_from low (one ∷ tunes) tune rise at = elim (contains_cases one tunes tune at) [
+  | inl here ↦ let b : low ≤ one.0 = rise.0 in let n : one.0 ≡ tune.0 = ap (λ (t : ℕ × List ℕ). t.0) here in omega arith
+  | inr later ↦ let b : low ≤ one.0 = rise.0 in let n : one.0 + 1 ≤ tune.0 = numbers_from (one.0 + 1) tunes tune rise.1 later in omega arith
 ]
 
-tunes_once : (keys_of : List ℕ → List ℕ) (first : ℕ) (texts : List (List ℕ)) → ((text : List ℕ) → KeysRise 0 (keys_of text))
-    → first + length texts ≤ 2 ^ 32 → IsDistinct Same (entries_of_tunes keys_of (numbered first texts))
-tunes_once keys_of first [] rise l = IsDistinct-from_apart Same [] (λ i j d l m. absurd (omega arith))
-tunes_once keys_of first (text ∷ texts) rise l =
-    let own = entries_at first (keys_of text) in
-    let rest = entries_of_tunes keys_of (numbered (first + 1) texts) in
-    once_end_to_end own rest (keys_once first 0 (keys_of text) (rise text)) (tunes_once keys_of (first + 1) texts rise (omega arith))
+-- no entry comes twice where the numbers of tunes rise, since the keys of each tune do
+tunes_once : (keys_of : List ℕ → List ℕ) (low : ℕ) (tunes : List (ℕ × List ℕ)) → ((text : List ℕ) → KeysRise 0 (keys_of text))
+    → NumbersRise low tunes → AreSmall tunes → IsDistinct Same (entries_of_tunes keys_of tunes)
+tunes_once keys_of low [] rise numbers small = IsDistinct-from_apart Same [] (λ i j d l m. absurd (omega arith))
+tunes_once keys_of low (one ∷ tunes) rise numbers small =
+    let own = entries_at one.0 (keys_of one.1) in
+    let rest = entries_of_tunes keys_of tunes in
+    let fewer : AreSmall tunes = λ tune at. small tune (contains_later one tunes tune at) in
+    once_end_to_end own rest (keys_once one.0 0 (keys_of one.1) (rise one.1)) (tunes_once keys_of (one.0 + 1) tunes rise numbers.1 fewer)
     (λ x y at there.
-    let here = at_each first (keys_of text) x at in
-    let tune = whose keys_of (numbered (first + 1) texts) y there in
-    let within = numbers_from (first + 1) texts tune.0 tune.1 in
+    let here = at_each one.0 (keys_of one.1) x at in
+    let tune = whose keys_of tunes y there in
     let same : tune.0.0 ≡ y.1 = tune.2 in
-    let own : first ≡ x.1 = here.0 in
-    let low : first + 1 ≤ tune.0.0 = within.0 in
-    let high : tune.0.0 < first + 1 + length texts = within.1 in
+    let own : one.0 ≡ x.1 = here.0 in
+    let above : one.0 + 1 ≤ tune.0.0 = numbers_from (one.0 + 1) tunes tune.0 numbers.1 tune.1 in
+    let high : tune.0.0 < 2 ^ 32 = fewer tune.0 tune.1 in
     other_number x y (omega arith) (omega arith))
+
+-- the numbers of texts rise, and are small where the last one is
+texts_rise : (first : ℕ) (texts : List (List ℕ)) → NumbersRise first (numbered first texts)
+texts_rise first [] = tt
+texts_rise first (text ∷ texts) = (omega arith, texts_rise (first + 1) texts)
+
+texts_small : (first : ℕ) (texts : List (List ℕ)) → first + length texts ≤ 2 ^ 32 → AreSmall (numbered first texts)
+texts_small first [] l tune at = absurd (contains_none tune at)
+texts_small first (text ∷ texts) l tune at = elim (contains_cases (first, text) (numbered (first + 1) texts) tune at) [
+  | inl here ↦ let n : first ≡ tune.0 = ap (λ (t : ℕ × List ℕ). t.0) here in omega arith
+  | inr later ↦ texts_small (first + 1) texts (omega arith) tune later
+]
 
 -- IN ORDER
 rises_by_places : (low : ℕ) (es : List Entry) → ((d : Entry) → 0 < length es → low ≤ rank (get_or es 0 d))
@@ -195,13 +223,12 @@ sorted_rises es sorted once =
     (λ i j d l m. less (get_or es i d) (get_or es j d) (sorted i j d (omega arith) m) (apart_from_distinct Same es i j d once l m))
 
 -- THE RUN
-pub is_run_of : (width : ℕ) (keys_of : List ℕ → List ℕ) (first i : ℕ) (texts : List (List ℕ)) (es run : List Entry)
-    → ((text : List ℕ) → KeysRise 0 (keys_of text)) → first + length texts ≤ 2 ^ 32 → length texts ≤ i → Gathered width keys_of first i texts es
-    → IsPermutation es run → IsNonDecreasingBy rank run → IsRunOf width keys_of (numbered first texts) run
-is_run_of width keys_of first i texts es run rise l at_end gathered moved sorted =
-    let tunes = numbered first texts in
-    let is = text_none keys_of first i texts es (entries_of_tunes keys_of tunes) at_end gathered.added in
-    let once : IsDistinct Same es = rw is (tunes_once keys_of first texts rise l) in
+-- the entries of tunes by rising number, sorted
+pub run_of_tunes : (width : ℕ) (keys_of : List ℕ → List ℕ) (low : ℕ) (tunes : List (ℕ × List ℕ)) (es run : List Entry)
+    → ((text : List ℕ) → KeysRise 0 (keys_of text)) → NumbersRise low tunes → AreSmall tunes → es ≡ entries_of_tunes keys_of tunes
+    → AllFit width es → IsPermutation es run → IsNonDecreasingBy rank run → IsRunOf width keys_of tunes run
+run_of_tunes width keys_of low tunes es run rise numbers small is fit moved sorted =
+    let once : IsDistinct Same es = rw is (tunes_once keys_of low tunes rise numbers small) in
     let back = IsPermutation-sym es run moved in
     record {
       rising = sorted_rises run sorted (IsDistinct-IsPermutation Same same_flips es run moved once);
@@ -211,5 +238,14 @@ is_run_of width keys_of first i texts es run rise l at_end gathered moved sorted
             Contains-permutation es run (key, tune.0) moved came;
         only = λ e at. whose keys_of tunes e (rw is at (Contains-permutation run es e back at));
       };
-      fit = fit_each width run (λ e at. fits_at width es e gathered.fit (Contains-permutation run es e back at));
+      fit = fit_each width run (λ e at. fits_at width es e fit (Contains-permutation run es e back at));
     }
+
+-- the entries of texts, sorted
+pub is_run_of : (width : ℕ) (keys_of : List ℕ → List ℕ) (first i : ℕ) (texts : List (List ℕ)) (es run : List Entry)
+    → ((text : List ℕ) → KeysRise 0 (keys_of text)) → first + length texts ≤ 2 ^ 32 → length texts ≤ i → Gathered width keys_of first i texts es
+    → IsPermutation es run → IsNonDecreasingBy rank run → IsRunOf width keys_of (numbered first texts) run
+is_run_of width keys_of first i texts es run rise l at_end gathered moved sorted =
+    let tunes = numbered first texts in
+    run_of_tunes width keys_of first tunes es run rise (texts_rise first texts) (texts_small first texts l)
+    (text_none keys_of first i texts es (entries_of_tunes keys_of tunes) at_end gathered.added) gathered.fit moved sorted

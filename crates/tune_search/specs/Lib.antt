@@ -1,6 +1,7 @@
 pub mod IndexParts
 pub mod Searches
 pub mod IncipitForms
+pub mod IncipitRuns
 pub mod Claims
 pub mod Inside
 pub mod Empty

@@ -19,13 +19,14 @@ use Rattle.tune_sets.specs.declared.set_lists.TuneSet.{TuneSet}
 use Rattle.tune_store.specs.State.{State, RisesFrom, tune_at}
 use Rattle.tune_store.specs.TuneSteps.{Outcome, numbered, moved}
 use Rattle.tune_store.specs.Labels.{labels_of, numbers_of}
-use Rattle.tune_store.specs.Plans.{Decided, CanChange, CanChangeTo, changed_tunes, changed_sets, after}
+use Rattle.tune_store.specs.Plans.{Decided, CanChange, CanChangeTo, changed_layout, changed_tunes, changed_sets, after}
 use Rattle.tune_store.specs.Inside.Plans.{Alters}
 use Rattle.tune_store.specs.declared.layout.Layout.{Layout}
+use Rattle.tune_store.specs.declared.layout.Layout.TheVariants.{One, Two}
 use Rattle.tune_store.specs.declared.tune.Tune.{Tune}
 use Rattle.tune_store.specs.declared.catalog.Label.{Label}
 use Rattle.tune_store.specs.declared.plans.Change.{Change}
-use Rattle.tune_store.specs.declared.plans.Change.TheVariants.{Add, Put, Take, Move, NewSet, AddPlace, CutPlace, DropSet}
+use Rattle.tune_store.specs.declared.plans.Change.TheVariants.{Add, Put, Take, Move, NewSet, AddPlace, CutPlace, DropSet, Upgrade}
 use Rattle.tune_store.specs.declared.plans.Plan.{Plan}
 use Rattle.tune_store.specs.declared.command.Refusal.{Refusal}
 use Rattle.tune_store.proofs.StateLemmas.{length-numbered}
@@ -184,43 +185,49 @@ move_alters number to tunes labels rises same has none stays =
     cc
 
 -- CHANGES
--- the labels and the sets of a state
-pub record AreOf (labels : List Label) (sets : List TuneSet) (state : State) : Type 0 where
+-- the layout, the labels and the sets of a state
+pub record AreOf (layout : Layout) (labels : List Label) (sets : List TuneSet) (state : State) : Type 0 where
+  pub laid : layout ≡ state.layout
   pub rises : RisesFrom 0 state.tunes
   pub labelled : labels_of state.tunes ≡ labels
   pub listed : sets ≡ state.sets
 
-changes : (change : Change) (state : State) (layout : Layout) (labels : List Label) (sets : List TuneSet) → AreOf labels sets state
+two_is_not_one : Two ≡ One → ⊥
+two_is_not_one same = cc
+
+changes : (change : Change) (state : State) (layout : Layout) (labels : List Label) (sets : List TuneSet) → AreOf layout labels sets state
     → CanChange change layout labels sets → Alters (Some change) labels → changed_tunes change state.tunes ≡ state.tunes
-    → changed_sets change state.sets ≡ state.sets → ⊥
-changes (Add first texts) state layout labels sets are can alters tunes_stay sets_stay =
+    → changed_sets change state.sets ≡ state.sets → changed_layout change state.layout ≡ state.layout → ⊥
+changes (Add first texts) state layout labels sets are can alters tunes_stay sets_stay layout_stays =
     omega (arith, ap length tunes_stay, length-append state.tunes (numbered first texts.items), length-numbered first texts.items)
-changes (Put place tune) state layout labels sets are can alters tunes_stay sets_stay =
+changes (Put place tune) state layout labels sets are can alters tunes_stay sets_stay layout_stays =
     put_alters place tune state.tunes labels are.labelled can.0 (alters no_label) tunes_stay
-changes (Take place) state layout labels sets are can alters tunes_stay sets_stay =
+changes (Take place) state layout labels sets are can alters tunes_stay sets_stay layout_stays =
     let many = labels_long state.tunes labels are.labelled in
     omega (arith, ap length tunes_stay, length-remove state.tunes place (omega arith))
-changes (Move number to) state layout labels sets are can alters tunes_stay sets_stay =
+changes (Move number to) state layout labels sets are can alters tunes_stay sets_stay layout_stays =
     move_alters number to state.tunes labels are.rises are.labelled can.0 can.1 tunes_stay
-changes (NewSet name) state layout labels sets are can alters tunes_stay sets_stay =
+changes (NewSet name) state layout labels sets are can alters tunes_stay sets_stay layout_stays =
     new_alters name state.sets (rw are.listed at can) sets_stay
-changes (AddPlace name number) state layout labels sets are can alters tunes_stay sets_stay =
+changes (AddPlace name number) state layout labels sets are can alters tunes_stay sets_stay layout_stays =
     add_alters name number state.sets (set_at name state.sets) refl (rw are.listed at can) sets_stay
-changes (CutPlace name place) state layout labels sets are can alters tunes_stay sets_stay =
+changes (CutPlace name place) state layout labels sets are can alters tunes_stay sets_stay layout_stays =
     cut_alters name place state.sets (set_at name state.sets) refl (rw are.listed at can) sets_stay
-changes (DropSet name) state layout labels sets are can alters tunes_stay sets_stay =
+changes (DropSet name) state layout labels sets are can alters tunes_stay sets_stay layout_stays =
     drop_alters name state.sets (set_at name state.sets) refl (rw are.listed at can) sets_stay
+changes Upgrade state layout labels sets are can alters tunes_stay sets_stay layout_stays = two_is_not_one (layout_stays ∙ sym are.laid ∙ can)
 
 -- so a change that leaves the state as it is was none
-none_or_changes : (change : Option Change) (state : State) (layout : Layout) (labels : List Label) (sets : List TuneSet) → AreOf labels sets state
+none_or_changes : (change : Option Change) (state : State) (layout : Layout) (labels : List Label) (sets : List TuneSet) → AreOf layout labels sets state
     → CanChangeTo change layout labels sets → Alters change labels → after change state ≡ state → change ≡ None
 none_or_changes None state layout labels sets are can alters stays = refl
 none_or_changes (Some change) state layout labels sets are can alters stays =
-    absurd (changes change state layout labels sets are can alters (ap (λ (s : State). s.tunes) stays) (ap (λ (s : State). s.sets) stays))
+    absurd (changes change state layout labels sets are can alters (ap (λ (s : State). s.tunes) stays) (ap (λ (s : State). s.sets) stays)
+    (ap (λ (s : State). s.layout) stays))
 
 -- and so of a plan for an outcome
 pub no_change : (result : Result Plan Refusal) (state : State) (outcome : Outcome) (layout : Layout) (labels : List Label) (sets : List TuneSet)
-    → AreOf labels sets state → Decided state result outcome → IfOk result (λ plan. CanChangeTo plan.change layout labels sets)
+    → AreOf layout labels sets state → Decided state result outcome → IfOk result (λ plan. CanChangeTo plan.change layout labels sets)
     → IfOk result (λ plan. Alters plan.change labels) → outcome.0 ≡ state → IfOk result (λ plan. plan.change ≡ None)
 no_change (Err refusal) state outcome layout labels sets are decided can alters stays = tt
 no_change (Ok plan) state outcome layout labels sets are decided can alters stays =

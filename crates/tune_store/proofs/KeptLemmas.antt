@@ -1,5 +1,5 @@
 -- Which accepted commands leave the state as it is.
-use Rattle.std.proofs.Common.{◌≡◌, ℕ, ◌+◌, ◌<◌, true, not, eqb, ltb, List, [], ◌∷◌, length, Option, Some, None, Result, Ok, Err, refl, ap, ◌∙◌}
+use Rattle.std.proofs.Common.{◌≡◌, ℕ, ◌+◌, ◌<◌, true, not, eqb, ltb, List, [], ◌∷◌, length, Option, Some, None, Result, Ok, Err, refl, ap, sym, ◌∙◌}
 use Rattle.std.proofs.Common.{inl, inr, arith, length-append, IsTrue, IsOk}
 use Rattle.std.specs.Prelude.{IsSome}
 use Rattle.std.proofs.lemmas.Bool.{cases_Bool, eqb-true}
@@ -10,15 +10,16 @@ use Rattle.tune_store.specs.Limits.{longest_text, most_tunes, greatest_number, g
 use Rattle.tune_store.specs.State.{State, greatest, tune_at}
 use Rattle.tune_store.specs.Step.{step}
 use Rattle.tune_store.specs.TuneSteps.{TunesOutcome, tunes_step, numbered, import_texts, import_book, revised, replace_tune, replace_texts, replace_book}
-use Rattle.tune_store.specs.TuneSteps.{delete_tune, is_number, renumber, renumber_found, renumber_unless}
+use Rattle.tune_store.specs.TuneSteps.{delete_tune, is_number, renumber, renumber_found, renumber_unless, upgraded_state}
 use Rattle.tune_store.specs.SetSteps.{sets_step, set_add_found}
-use Rattle.tune_store.specs.Answers.{changes_nothing}
+use Rattle.tune_store.specs.Answers.{changes_nothing, is_two}
 use Rattle.tune_store.specs.Revisions.{accepts}
 use Rattle.tune_store.specs.declared.layout.Layout.{Layout}
+use Rattle.tune_store.specs.declared.layout.Layout.TheVariants.{One, Two}
 use Rattle.tune_store.specs.declared.tune.Tune.{Tune}
 use Rattle.tune_store.specs.declared.command.Command.{Command}
 use Rattle.tune_store.specs.declared.command.Command.TheVariants.{Import, Replace, Delete, Renumber, Show, Find, Titles, SetNew, SetAdd, SetCut}
-use Rattle.tune_store.specs.declared.command.Command.TheVariants.{SetDrop, Sets, SetShow, ExportAll, ExportSet}
+use Rattle.tune_store.specs.declared.command.Command.TheVariants.{SetDrop, Sets, SetShow, ExportAll, ExportSet, Upgrade}
 use Rattle.tune_store.specs.declared.command.Reply.{Reply}
 use Rattle.tune_store.specs.declared.command.Refusal.{Refusal}
 use Rattle.tune_store.proofs.StateLemmas.{length-numbered}
@@ -139,7 +140,8 @@ place_alters state name number (Some tune) ok same =
     sets_alter _ state (add_number name number state.sets) (add_alters name number state.sets (set_at name state.sets) refl) ok same
 
 -- COMMANDS
-pub only_kept : (state : State) (command : Command) → IsTrue (accepts state command) → (step state command).0 ≡ state → changes_nothing command ≡ true
+pub only_kept : (state : State) (command : Command) → IsTrue (accepts state command) → (step state command).0 ≡ state
+    → changes_nothing state.layout command ≡ true
 only_kept state (Import book) ok same =
     absurd (tunes_alter state _ (book_alters state.layout state.tunes _ (some_texts (longest_text state.layout) book)) ok same)
 only_kept state (Replace number revision book) ok same =
@@ -160,8 +162,13 @@ only_kept state Sets ok same = refl
 only_kept state (SetShow name) ok same = refl
 only_kept state ExportAll ok same = refl
 only_kept state (ExportSet name) ok same = refl
+only_kept state Upgrade ok same = ap is_two (sym (ap (λ (s : State). s.layout) same))
 
-pub kept : (state : State) (command : Command) → changes_nothing command ≡ true → (step state command).0 ≡ state
+upgrade_kept : (state : State) (layout : Layout) → state.layout ≡ layout → is_two layout ≡ true → upgraded_state state ≡ state
+upgrade_kept state One is own = cc
+upgrade_kept state Two is own = λ i. record state { layout = sym is i }
+
+pub kept : (state : State) (command : Command) → changes_nothing state.layout command ≡ true → (step state command).0 ≡ state
 kept state (Renumber number to) own = own_stays state number to own
 kept state (Show number) own = refl
 kept state (Find query) own = refl
@@ -170,4 +177,5 @@ kept state Sets own = refl
 kept state (SetShow name) own = refl
 kept state ExportAll own = refl
 kept state (ExportSet name) own = refl
+kept state Upgrade own = upgrade_kept state state.layout refl own
 kept state command own = cc

@@ -10,7 +10,8 @@ use Rattle.abc_fields.proofs.BookLemmas.{TextsWithin, book_within}
 use Rattle.tune_sets.specs.Sets.{holder}
 use Rattle.tune_sets.proofs.LimitLemmas.{create_keeps, add_keeps, cut_keeps, drop_keeps}
 use Rattle.tune_sets.proofs.ChangeLemmas.{are_renumbered}
-use Rattle.tune_store.specs.State.{State, IsState, IsTunes, greatest, tune_at, NameTunes}
+use Rattle.tune_store.specs.declared.layout.Layout.TheVariants.{One, Two}
+use Rattle.tune_store.specs.State.{State, IsState, IsTune, IsTunes, greatest, tune_at, NameTunes}
 use Rattle.tune_store.specs.Step.{step}
 use Rattle.tune_store.specs.TuneSteps.{TunesOutcome, with_texts, with_tune, revised, import_book, replace_tune, replace_book, delete_tune, is_number}
 use Rattle.tune_store.specs.TuneSteps.{renumber, renumber_found, renumber_unless}
@@ -18,7 +19,7 @@ use Rattle.tune_store.specs.SetSteps.{set_add_found}
 use Rattle.tune_store.specs.declared.tune.Tune.{Tune}
 use Rattle.tune_store.specs.Limits.{longest_text, most_tunes, greatest_number, greatest_revision}
 use Rattle.tune_store.specs.declared.command.Command.{Command}
-use Rattle.tune_store.specs.declared.command.Command.TheVariants.{Import, Replace, Delete, Renumber, SetNew, SetAdd, SetCut, SetDrop}
+use Rattle.tune_store.specs.declared.command.Command.TheVariants.{Import, Replace, Delete, Renumber, SetNew, SetAdd, SetCut, SetDrop, Upgrade}
 use Rattle.tune_store.specs.declared.command.Reply.{Reply}
 use Rattle.tune_store.specs.declared.command.Refusal.{Refusal}
 use Rattle.tune_store.specs.declared.command.Refusal.TheVariants.{ArchiveFull, NumbersSpent}
@@ -141,6 +142,25 @@ add_limits state name number (Some tune) is e =
       named = named_add state.tunes name number state.sets is.named (ap is_some e);
     }
 
+-- LAYOUT 2
+-- its limits are no less
+roomier : (layout : Layout) → (longest_text layout ≤ longest_text Two) × (most_tunes layout ≤ most_tunes Two)
+roomier One = (omega arith, omega arith)
+roomier Two = (omega arith, omega arith)
+
+each_upgraded : (layout : Layout) (tunes : List Tune) → AllByRecursion (IsTune layout) tunes → AllByRecursion (IsTune Two) tunes
+each_upgraded layout [] each = tt
+each_upgraded layout (tune ∷ tunes) each =
+    let more = (roomier layout).0 in
+    let fits = each.0.fits in
+    (record { revised = each.0.revised; revision = each.0.revision; text = each.0.text; fits = omega arith }, each_upgraded layout tunes each.1)
+
+upgrade_limits : (layout : Layout) (tunes : List Tune) → IsTunes layout tunes → IsTunes Two tunes
+upgrade_limits layout tunes is =
+    let more = (roomier layout).1 in
+    let few = is.count in
+    record { rises = is.rises; numbers = is.numbers; each = each_upgraded layout tunes is.each; count = omega arith }
+
 -- EACH COMMAND
 -- a state within the limits stays within them
 pub step_keeps_limits : (state : State) (command : Command) → IsState state → IsState (step state command).0
@@ -179,5 +199,10 @@ step_keeps_limits state (SetDrop name) is = record {
   tunes = is.tunes;
   sets = drop_keeps name state.sets is.sets;
   named = named_drop state.tunes name state.sets is.named;
+}
+step_keeps_limits state Upgrade is = record {
+  tunes = upgrade_limits state.layout state.tunes is.tunes;
+  sets = is.sets;
+  named = is.named;
 }
 step_keeps_limits state command is = is

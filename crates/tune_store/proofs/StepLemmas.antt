@@ -27,7 +27,7 @@ use Rattle.tune_store.specs.declared.tune.Tune.{Tune}
 use Rattle.tune_store.specs.Limits.{longest_text, most_tunes, greatest_number, greatest_revision}
 use Rattle.tune_store.specs.declared.command.Command.{Command}
 use Rattle.tune_store.specs.declared.command.Command.TheVariants.{Import, Replace, Delete, Renumber, Show, Find, Titles, SetNew, SetAdd, SetCut}
-use Rattle.tune_store.specs.declared.command.Command.TheVariants.{SetDrop, Sets, SetShow, ExportAll, ExportSet}
+use Rattle.tune_store.specs.declared.command.Command.TheVariants.{SetDrop, Sets, SetShow, ExportAll, ExportSet, Upgrade}
 use Rattle.tune_store.specs.declared.command.Reply.{Reply}
 use Rattle.tune_store.specs.declared.command.Reply.TheVariants.{Renumbered}
 use Rattle.tune_store.specs.declared.command.Refusal.{Refusal}
@@ -196,6 +196,7 @@ refused_keeps old Sets = λ refusal h. refl
 refused_keeps old (SetShow name) = λ refusal h. refl
 refused_keeps old ExportAll = λ refusal h. refl
 refused_keeps old (ExportSet name) = λ refusal h. refl
+refused_keeps old Upgrade = λ refusal h. cc
 
 -- WHICH REFUSALS A COMMAND IS GIVEN
 -- where the answer is a refusal, it is one of these
@@ -330,6 +331,7 @@ step_refuses old Sets = λ refusal h. cc
 step_refuses old (SetShow name) = look_refuses (IsOwnOrMemory (SetShow name)) _ (set_at name old.sets) (inl tt)
 step_refuses old ExportAll = λ refusal h. cc
 step_refuses old (ExportSet name) = look_refuses (IsOwnOrMemory (ExportSet name)) _ (set_at name old.sets) (inl tt)
+step_refuses old Upgrade = λ refusal h. cc
 
 -- NO COMMAND ANSWERS FOR THE DEVICE
 -- the refusals that a state's own step does not give
@@ -353,6 +355,7 @@ own_not_device Sets own = own
 own_not_device (SetShow name) own = own
 own_not_device ExportAll own = own
 own_not_device (ExportSet name) own = own
+own_not_device Upgrade own = own
 
 -- or that it failed before
 own_not_closed : (command : Command) → IsRefusalOfOwn command Closed → ⊥
@@ -371,6 +374,7 @@ own_not_closed Sets own = own
 own_not_closed (SetShow name) own = own
 own_not_closed ExportAll own = own
 own_not_closed (ExportSet name) own = own
+own_not_closed Upgrade own = own
 
 -- no command is refused for the device
 step_not_of_device : (old : State) (command : Command) (refusal : Refusal) → (step old command).1 ≡ Err refusal → IsOfDevice refusal → ⊥

@@ -3,12 +3,14 @@ use Rattle.std.specs.Prelude.{◌≡◌, ◌⊎◌, List, [], ◌∷◌, Bool, t
 use Rattle.std.specs.Prelude.{⊤, ◌==◌}
 use Rattle.tune_store.specs.State.{State, Standing}
 use Rattle.tune_store.specs.Step.{step}
+use Rattle.tune_store.specs.declared.layout.Layout.{Layout}
+use Rattle.tune_store.specs.declared.layout.Layout.TheVariants.{One, Two}
 use Rattle.tune_store.specs.declared.command.Command.{Command}
 use Rattle.tune_store.specs.declared.command.Command.TheVariants.{Import, Replace, Delete, Show}
 use Rattle.tune_store.specs.declared.command.Command.TheVariants.{Renumber, Find, SetNew, SetAdd}
 use Rattle.tune_store.specs.declared.command.Command.TheVariants.{SetCut, SetDrop, SetShow}
 use Rattle.tune_store.specs.declared.command.Command.TheVariants.{Titles, Sets, ExportAll}
-use Rattle.tune_store.specs.declared.command.Command.TheVariants.{ExportSet}
+use Rattle.tune_store.specs.declared.command.Command.TheVariants.{ExportSet, Upgrade}
 use Rattle.tune_store.specs.declared.command.Reply.{Reply}
 use Rattle.tune_store.specs.declared.command.Refusal.{Refusal}
 use Rattle.tune_store.specs.declared.command.Refusal.TheVariants.{BookTooLong, NoTune}
@@ -76,11 +78,17 @@ may_write command (Ok reply) = not (asks command)
 may_write command (Err Device) = not (asks command)
 may_write command (Err refusal) = false
 
--- whether a command, though it is accepted, leaves the state as it is: a question, and another
--- number for a tune that is its own
-abbrev pub changes_nothing : Command → Bool
-changes_nothing (Renumber number to) = number == to
-changes_nothing command = asks command
+-- whether the layout is 2
+abbrev pub is_two : Layout → Bool
+is_two One = false
+is_two Two = true
+
+-- whether a command, though it is accepted, leaves a state of this layout as it is: a question,
+-- another number for a tune that is its own, and an upgrade of layout 2
+abbrev pub changes_nothing : Layout → Command → Bool
+changes_nothing layout (Renumber number to) = number == to
+changes_nothing layout Upgrade = is_two layout
+changes_nothing layout command = asks command
 
 -- WHICH REFUSALS MAY COME TO WHICH COMMAND
 -- the refusals of a book that has no tunes to give
@@ -137,4 +145,5 @@ takes_memory (Delete number) = false
 takes_memory (Renumber number to) = false
 takes_memory (SetCut name place) = false
 takes_memory (SetDrop name) = false
+takes_memory Upgrade = false
 takes_memory command = true

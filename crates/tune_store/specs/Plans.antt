@@ -7,6 +7,7 @@ use Rattle.tune_sets.specs.Sets.{renumbered_sets}
 use Rattle.tune_sets.specs.Calls.{create_set, add_number, cut_place, drop_set}
 use Rattle.tune_sets.specs.declared.set_lists.TuneSet.{TuneSet}
 use Rattle.tune_store.specs.declared.layout.Layout.{Layout}
+use Rattle.tune_store.specs.declared.layout.Layout.TheVariants.{One, Two}
 use Rattle.tune_store.specs.declared.tune.Tune.{Tune}
 use Rattle.tune_store.specs.declared.catalog.Label.{Label}
 use Rattle.tune_store.specs.Limits.{most_tunes, greatest_number}
@@ -20,7 +21,7 @@ use Rattle.tune_store.specs.declared.command.Refusal.{Refusal}
 use Rattle.tune_store.specs.declared.command.Refusal.TheVariants.{OutOfMemory, Device}
 use Rattle.tune_store.specs.declared.plans.Change.{Change}
 use Rattle.tune_store.specs.declared.plans.Change.TheVariants.{Add, Put, Take, Move, NewSet}
-use Rattle.tune_store.specs.declared.plans.Change.TheVariants.{AddPlace, CutPlace, DropSet}
+use Rattle.tune_store.specs.declared.plans.Change.TheVariants.{AddPlace, CutPlace, DropSet, Upgrade}
 use Rattle.tune_store.specs.declared.plans.Plan.{Plan}
 
 -- CHANGES
@@ -41,9 +42,15 @@ changed_sets (CutPlace name place) sets = (cut_place name place sets).0
 changed_sets (DropSet name) sets = (drop_set name sets).0
 changed_sets change sets = sets
 
+-- the layout after it
+abbrev pub changed_layout : Change → Layout → Layout
+changed_layout Upgrade layout = Two
+changed_layout change layout = layout
+
 -- the state after it
 abbrev pub changed : Change → State → State
-changed change state = record state {
+changed change state = record {
+  layout = changed_layout change state.layout;
   tunes = changed_tunes change state.tunes;
   sets = changed_sets change state.sets;
 }
@@ -69,6 +76,7 @@ CanChange (NewSet name) layout labels sets = IsOk (create_set name sets).1
 CanChange (AddPlace name number) layout labels sets = IsOk (add_number name number sets).1
 CanChange (CutPlace name place) layout labels sets = IsOk (cut_place name place sets).1
 CanChange (DropSet name) layout labels sets = IsOk (drop_set name sets).1
+CanChange Upgrade layout labels sets = layout ≡ One
 
 -- the same of a change, if there is one
 abbrev pub CanChangeTo : Option Change → Layout → List Label → List TuneSet → Type 0

@@ -6,7 +6,7 @@ use Rattle.tune_sets.specs.Calls.{places_of, rows_of}
 use Rattle.tune_store.specs.Limits.{longest_text, notes_of}
 use Rattle.tune_store.specs.State.{State, tune_at}
 use Rattle.tune_store.specs.TuneSteps.{Outcome, tunes_step, import_book, replace_book}
-use Rattle.tune_store.specs.TuneSteps.{delete_tune, renumber}
+use Rattle.tune_store.specs.TuneSteps.{delete_tune, renumber, upgraded_state}
 use Rattle.tune_store.specs.SetSteps.{set_new, set_add, set_cut, set_drop}
 use Rattle.tune_store.specs.Questions.{shown, find, titled, set_shown, exported, set_exported}
 use Rattle.tune_store.specs.declared.command.Command.{Command}
@@ -14,6 +14,7 @@ use Rattle.tune_store.specs.declared.command.Command.TheVariants.{Import, Replac
 use Rattle.tune_store.specs.declared.command.Command.TheVariants.{Renumber, Find, Titles, Sets}
 use Rattle.tune_store.specs.declared.command.Command.TheVariants.{SetNew, SetAdd, SetCut, SetDrop}
 use Rattle.tune_store.specs.declared.command.Command.TheVariants.{SetShow, ExportAll, ExportSet}
+use Rattle.tune_store.specs.declared.command.Command.TheVariants.{Upgrade}
 use Rattle.tune_store.specs.declared.command.Reply.TheVariants as reply
 
 -- the state after a command, and its answer
@@ -39,3 +40,4 @@ step state Sets = (state, Ok (reply.Sets (rows_of state.sets)))
 step state (SetShow name) = (state, set_shown name state.tunes (places_of name state.sets))
 step state ExportAll = (state, Ok (reply.Exported (exported state.tunes)))
 step state (ExportSet name) = (state, set_exported name state.tunes (places_of name state.sets))
+step state Upgrade = (upgraded_state state, Ok reply.Upgraded)

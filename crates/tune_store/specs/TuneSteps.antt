@@ -6,6 +6,7 @@ use Rattle.abc_fields.specs.declared.book.BookFault.{BookFault}
 use Rattle.abc_fields.specs.declared.book.BookFault.TheVariants as fault
 use Rattle.tune_sets.specs.Sets.{renumbered_sets}
 use Rattle.tune_store.specs.declared.layout.Layout.{Layout}
+use Rattle.tune_store.specs.declared.layout.Layout.TheVariants.{Two}
 use Rattle.tune_store.specs.declared.tune.Tune.{Tune}
 use Rattle.tune_store.specs.Limits.{most_tunes, greatest_number, greatest_revision}
 use Rattle.tune_store.specs.State.{State, greatest, tune_at}
@@ -163,3 +164,8 @@ abbrev pub renumber : State → ℕ → ℕ → Outcome
 renumber state number to =
     if is_number to then renumber_found state number to (tune_at number state.tunes)
     else (state, Err BadNumber)
+
+-- UPGRADE
+-- the same tunes and sets in layout 2
+abbrev pub upgraded_state : State → State
+upgraded_state state = record state { layout = Two }

@@ -55,6 +55,8 @@ pub enum Command {
     ExportAll,
     /// Asks for the written set of this name.
     ExportSet(ByteText),
+    /// Brings the archive to layout 2, where it is not of it.
+    Upgrade,
 }
 
 /// The answer to a command that is accepted.
@@ -90,6 +92,8 @@ pub enum Reply {
     Exported(ByteText),
     /// The written set of this name.
     SetExported { name: SetName, book: ByteText },
+    /// The archive is of layout 2.
+    Upgraded,
 }
 
 /// Why a command is refused. After each refusal but `Device` the archive is as it was.

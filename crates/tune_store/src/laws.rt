@@ -74,11 +74,11 @@ pub fn law_of_places()
 
 /// The law of changes: which accepted commands leave a plain list of tunes and set lists as it is.
 ///
-/// - `kept`: questions do, and a `Renumber` to the tune's own number.
+/// - `kept`: questions do, a `Renumber` to the tune's own number, and an `Upgrade` of layout 2.
 /// - `changed`: no other does.
 pub fn law_of_changes()
     ensures kept { (state : State) (command : Command)
-        → changes_nothing command ≡ true → (step state command).0 ≡ state }
+        → changes_nothing state.layout command ≡ true → (step state command).0 ≡ state }
     ensures changed { (state : State) (command : Command) → IsTrue (accepts state command)
-        → (step state command).0 ≡ state → changes_nothing command ≡ true }
+        → (step state command).0 ≡ state → changes_nothing state.layout command ≡ true }
 {}

@@ -187,32 +187,40 @@ impl TuneStore for ListArchive {
             self.old self.new (passed self.old command.now result) }
     {
         let plan = decide(self.alloc, self, command)?;
-        carry_out(&mut self.tunes, &mut self.sets, plan)
+        carry_out(&mut self.layout, &mut self.tunes, &mut self.sets, plan)
     }
 }
 
 // Makes the change of a plan, and gives its reply. The one refusal is out of memory.
-fn carry_out(tunes: &mut Vec<Tune>, sets: &mut SetLists, plan: Plan) -> Result<Reply, Refusal>
+fn carry_out(
+    layout: &mut Layout,
+    tunes: &mut Vec<Tune>,
+    sets: &mut SetLists,
+    plan: Plan,
+) -> Result<Reply, Refusal>
     requires rises { RisesFrom 0 tunes.old.items }
-    requires possible { (layout : Layout)
-        × CanChangeTo plan.change layout (labels_of tunes.old.items) sets.old }
-    ensures { (layout : Layout) → CarriedOut (state_with layout tunes.old.items sets.old) plan
-        result (state_with layout tunes.new.items sets.new) }
+    requires possible { CanChangeTo plan.change layout.old (labels_of tunes.old.items) sets.old }
+    ensures { CarriedOut (state_with layout.old tunes.old.items sets.old) plan result
+        (state_with layout.new tunes.new.items sets.new) }
 {
     let Plan { change, reply } = plan;
     if let Some(change) = change {
-        make(tunes, sets, change)?;
+        make(layout, tunes, sets, change)?;
     }
     Ok(reply)
 }
 
 // Makes a change. The error is out of memory, and everything stays then.
-fn make(tunes: &mut Vec<Tune>, sets: &mut SetLists, change: Change) -> Result<(), Refusal>
+fn make(
+    layout: &mut Layout,
+    tunes: &mut Vec<Tune>,
+    sets: &mut SetLists,
+    change: Change,
+) -> Result<(), Refusal>
     requires rises { RisesFrom 0 tunes.old.items }
-    requires possible { (layout : Layout)
-        × CanChange change layout (labels_of tunes.old.items) sets.old }
-    ensures { (layout : Layout) → Made (state_with layout tunes.old.items sets.old) change result
-        (state_with layout tunes.new.items sets.new) }
+    requires possible { CanChange change layout.old (labels_of tunes.old.items) sets.old }
+    ensures { Made (state_with layout.old tunes.old.items sets.old) change result
+        (state_with layout.new tunes.new.items sets.new) }
 {
     match change {
         Change::Add { first, texts } => {
@@ -233,6 +241,7 @@ fn make(tunes: &mut Vec<Tune>, sets: &mut SetLists, change: Change) -> Result<()
         }
         Change::CutPlace { name, place } => sets.cut(name.as_slice(), place as usize)?,
         Change::DropSet { name } => sets.drop_set(name.as_slice())?,
+        Change::Upgrade => *layout = Layout::Two,
     }
     Ok(())
 }

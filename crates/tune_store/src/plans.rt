@@ -10,7 +10,7 @@ use crate::command::{Command, Refusal, Reply};
 use crate::questions::{export, export_set, find, set_show, sets, show, titles};
 use crate::set_plans::{set_add, set_cut, set_drop, set_new};
 use crate::tune::Tune;
-use crate::tune_plans::{delete, import, renumber, replace};
+use crate::tune_plans::{delete, import, renumber, replace, upgrade};
 use abc_fields::TuneText;
 use std::alloc::Global;
 use tune_sets::SetName;
@@ -36,6 +36,8 @@ pub enum Change {
     CutPlace { name: SetName, place: u32 },
     /// The set list of this name is taken out.
     DropSet { name: SetName },
+    /// The archive comes to layout 2.
+    Upgrade,
 }
 
 /// What a command that is accepted is to change, and what it is answered.
@@ -80,7 +82,7 @@ impl Plan {
 ///
 /// - `decided`: the plan, or the refusal, is that of the plain list (`step`).
 /// - `changes`: a command that leaves the plain list as it is, as a `Renumber` to the tune's own
-///   number, has no change. So each change changes something.
+///   number or an `Upgrade` of layout 2, has no change. So each change changes something.
 /// - `names`, of every device: which refusals may come.
 /// - `memory`, of every device: some commands are never refused for memory, and their changes ask
 ///   for none.
@@ -128,5 +130,6 @@ pub fn decide<C: Catalog>(
         Command::SetShow(name) => set_show(alloc, catalog, name.as_slice()),
         Command::ExportAll => export(alloc, catalog),
         Command::ExportSet(name) => export_set(alloc, catalog, name.as_slice()),
+        Command::Upgrade => Ok(upgrade(catalog)),
     }
 }

@@ -1,5 +1,5 @@
 // Decides commands on tunes.
-ghost use Rattle.std.specs.Prelude.{◌≡◌, ◌≢◌, ◌+◌, ◌<◌, ℕ, ◌∷◌, [], List, vec_len, false};
+ghost use Rattle.std.specs.Prelude.{◌≡◌, ◌≢◌, ◌+◌, ◌<◌, ℕ, ◌∷◌, [], List, vec_len, false, Ok};
 ghost use Rattle.std.specs.Prelude.{IfOk, IfErr};
 ghost use Rattle.std.specs.List.{AllByRecursion};
 ghost use Rattle.abc_fields.specs.Books.{book_answer};
@@ -8,7 +8,7 @@ ghost use Rattle.tune_store.specs.declared.tune.Tune.{Tune};
 ghost use Rattle.tune_store.specs.Limits.{longest_text};
 ghost use Rattle.tune_store.specs.State.{State, IsTunes, RisesFrom, greatest, tune_at};
 ghost use Rattle.tune_store.specs.TuneSteps.{tunes_step, import_book, replace_book, replace_tune};
-ghost use Rattle.tune_store.specs.TuneSteps.{delete_tune, renumber};
+ghost use Rattle.tune_store.specs.TuneSteps.{delete_tune, renumber, upgraded_state};
 ghost use Rattle.tune_store.specs.Labels.{labels_of};
 ghost use Rattle.tune_store.specs.Answers.{IsRefusalOfOwn};
 ghost use Rattle.tune_store.specs.Plans.{Decided, CanChangeTo, grows};
@@ -16,6 +16,7 @@ ghost use Rattle.tune_store.specs.Inside.Plans.{Alters, IsOwnOrMemory};
 
 use crate::catalog::Catalog;
 use crate::command::{Command, Refusal, Reply};
+use crate::layout::Layout;
 use crate::plans::{Change, Plan};
 use crate::tune::{GREATEST_NUMBER, GREATEST_REVISION, Tune};
 use abc_fields::{TuneText, judge_book, split_book};
@@ -188,4 +189,19 @@ pub(crate) fn renumber<C: Catalog>(catalog: &C, number: u32, to: u32) -> Result<
     }
     let moves = Change::Move { number, to };
     Ok(Plan::change(moves, Reply::Renumbered { number, to }))
+}
+
+// What layout 2 asks for.
+pub(crate) fn upgrade<C: Catalog>(catalog: &C) -> Plan
+    ensures planned { (state : State) → C.layout catalog.now ≡ state.layout
+        → Decided state (Ok result) (upgraded_state state, Ok Reply.Upgraded) }
+    ensures possible { CanChangeTo result.change
+        (C.layout catalog.now) (C.labels catalog.now) (C.sets catalog.now) }
+    ensures alters { Alters result.change (C.labels catalog.now) }
+    ensures takes { grows result.change ≡ false }
+{
+    match catalog.layout() {
+        Layout::One => Plan::change(Change::Upgrade, Reply::Upgraded),
+        Layout::Two => Plan::answer(Reply::Upgraded),
+    }
 }

@@ -12,7 +12,7 @@ use Rattle.tune_store.specs.declared.tune.Tune.{Tune}
 use Rattle.tune_store.specs.declared.layout.Layout.{Layout}
 use Rattle.tune_store.specs.declared.plans.Change.{Change}
 use Rattle.tune_store.specs.declared.plans.Change.TheVariants.{Add, Put, Take, Move, NewSet}
-use Rattle.tune_store.specs.declared.plans.Change.TheVariants.{AddPlace, CutPlace, DropSet}
+use Rattle.tune_store.specs.declared.plans.Change.TheVariants.{AddPlace, CutPlace, DropSet, Upgrade}
 use Rattle.tune_format.specs.declared.rows.Row.{Row}
 use Rattle.tune_contents.specs.Claimed.{AreRows}
 use Rattle.tune_contents.specs.Holds.{labels_in}
@@ -39,6 +39,7 @@ changes_sets (Add first texts) sets = false
 changes_sets (Put place tune) sets = false
 changes_sets (Take place) sets = false
 changes_sets (Move number to) sets = is_some (holder number sets)
+changes_sets Upgrade sets = false
 changes_sets change sets = true
 
 -- Whatever tunes stand there by rising number, the change is made of them, and all other parts

@@ -9,3 +9,6 @@ returns-in-Run g c = rw (c.in-Run.is, sym c.as_str-in-Run.ensures.value) c.run_f
 
 pub returns-in-Check : goal.returns-in-Check
 returns-in-Check g c = rw (c.in-Check.is, sym c.as_str-in-Check.ensures.value) c.check.ensures
+
+pub returns-in-Upgrade : goal.returns-in-Upgrade
+returns-in-Upgrade g c = rw (c.in-Upgrade.is, sym c.as_str-in-Upgrade.ensures.value) c.upgrade.ensures

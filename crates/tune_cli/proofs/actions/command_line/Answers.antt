@@ -25,5 +25,6 @@ returns c =
     let listed = app_of_more _ _ _ _ _ top list local c.in_ok-subcommand.ensures in
     let made = app_of_more _ _ _ _ _ listed c.in_ok-make.ensures.app c.in_ok-make.ensures.local c.in_ok-subcommand-2.ensures in
     let runs = app_of_more _ _ _ _ _ made c.in_ok-run.ensures.app c.in_ok-run.ensures.local c.in_ok-subcommand-3.ensures in
-    IfOk-weaker c.subcommand-4.result _ _ (λ command adds.
-    app_of_more _ _ command _ _ runs c.in_ok-check.ensures.app c.in_ok-check.ensures.local adds) c.subcommand-4.ensures
+    let checks = app_of_more _ _ _ _ _ runs c.in_ok-check.ensures.app c.in_ok-check.ensures.local c.in_ok-subcommand-4.ensures in
+    IfOk-weaker c.subcommand-5.result _ _ (λ command adds.
+    app_of_more _ _ command _ _ checks c.in_ok-upgrade.ensures.app c.in_ok-upgrade.ensures.local adds) c.subcommand-5.ensures

@@ -1,4 +1,4 @@
-use Rattle.std.proofs.Common.{ℕ, List, inl, inr, sym, subst, []}
+use Rattle.std.proofs.Common.{ℕ, List, inl, sym, subst, []}
 use Rattle.tune_pages.specs.Kept.{HonestAt, state_at}
 use Rattle.tune_store.specs.State.{State}
 use Rattle.tune_format.specs.States.{StandsForState}
@@ -9,12 +9,8 @@ use Rattle.tune_archive.proofs.DiskMoments.{left_of_kind, moment_rises}
 use Rattle.tune_scripts.specs.Carried.{run_of}
 use Rattle.tune_scripts.specs.Prefixes.{StandsForPrefix}
 use Rattle.tune_scripts.proofs.CarriedLemmas.{honest_before, left_since_earlier}
+use Rattle.tune_cli.proofs.FileStates.{one_of_same}
 use Rattle.tune_cli.proofs.file_actions.run_on.Goals as goal
-
--- one of two states that are one
-one_of_same : (s : State) (file : List ℕ) → StandsForOneOf s s file → StandsForState file s
-one_of_same s file (inl stands) = stands
-one_of_same s file (inr stands) = stands
 
 pub returns-in-Ok-clause-honest : goal.returns-in-Ok-clause-honest
 returns-in-Ok-clause-honest g c = λ h.

@@ -2,11 +2,10 @@ use Rattle.std.proofs.Common.{refl, ap, sym, ◌∙◌, subst}
 use Rattle.std.proofs.lemmas.Result.{err_from_is_err_and}
 use Rattle.tune_pages.specs.Claim.{IsChainFault}
 use Rattle.tune_pages.specs.declared.fault.ClaimFault.{ClaimFault}
-use Rattle.tune_search.specs.Loaded.{runs_in}
 use Rattle.tune_format.specs.Written.{number_entries}
 use Rattle.tune_contents.specs.Claimed.{AreRows, RowsRise}
-use Rattle.tune_contents.specs.Inside.Claiming.{AreRowsThere, IsStateThere}
-use Rattle.tune_contents.specs.Inside.ClaimedRows.{AreEntriesOfRows, NameRows}
+use Rattle.tune_contents.specs.Inside.Claiming.{IsStateThere}
+use Rattle.tune_contents.specs.Inside.ClaimedRows.{NameRows}
 use Rattle.tune_contents.proofs.ClaimedRowLemmas.{rows_as}
 use Rattle.tune_contents.proofs.ClaimStateLemmas.{listed_fault, rows_fault, sets_fault, texts_claimed}
 use Rattle.tune_contents.proofs.claiming.claim_texts.Goals as goal

@@ -1,5 +1,7 @@
 -- Each change changes something.
-use Rattle.std.proofs.Common.{sym, rules}
+use Rattle.std.proofs.Common.{◌≡◌, sym, rules, subst, Ok}
+use Rattle.tune_store.specs.declared.command.Command.{Command}
+use Rattle.tune_store.specs.declared.command.Command.TheVariants.{Upgrade}
 use Rattle.tune_store.specs.Step.{step}
 use Rattle.tune_store.specs.Plans.{Decides}
 use Rattle.tune_store.specs.State.{State}
@@ -9,7 +11,8 @@ use Rattle.tune_store.proofs.plans.decide.Goals as goal
 pub returns-in-Import-clause-changes : goal.returns-in-Import-clause-changes
 returns-in-Import-clause-changes g c = λ honest is stays.
     let state : State = g.C.Catalog.state c.args.catalog.now in
-    let are : AreOf (g.C.Catalog.labels c.args.catalog.now) (g.C.Catalog.sets c.args.catalog.now) state = record {
+    let are : AreOf (g.C.Catalog.layout c.args.catalog.now) (g.C.Catalog.labels c.args.catalog.now) (g.C.Catalog.sets c.args.catalog.now) state = record {
+      laid = g.met.C.Catalog.layout_is c.args.catalog.now honest;
       rises = is.tunes.rises;
       labelled = sym (g.met.C.Catalog.labels_are c.args.catalog.now honest);
       listed = g.met.C.Catalog.sets_are c.args.catalog.now honest;
@@ -21,7 +24,8 @@ returns-in-Import-clause-changes g c = λ honest is stays.
 pub returns-in-Replace-clause-changes : goal.returns-in-Replace-clause-changes
 returns-in-Replace-clause-changes g c = λ honest is stays.
     let state : State = g.C.Catalog.state c.args.catalog.now in
-    let are : AreOf (g.C.Catalog.labels c.args.catalog.now) (g.C.Catalog.sets c.args.catalog.now) state = record {
+    let are : AreOf (g.C.Catalog.layout c.args.catalog.now) (g.C.Catalog.labels c.args.catalog.now) (g.C.Catalog.sets c.args.catalog.now) state = record {
+      laid = g.met.C.Catalog.layout_is c.args.catalog.now honest;
       rises = is.tunes.rises;
       labelled = sym (g.met.C.Catalog.labels_are c.args.catalog.now honest);
       listed = g.met.C.Catalog.sets_are c.args.catalog.now honest;
@@ -33,7 +37,8 @@ returns-in-Replace-clause-changes g c = λ honest is stays.
 pub returns-in-Delete-clause-changes : goal.returns-in-Delete-clause-changes
 returns-in-Delete-clause-changes g c = λ honest is stays.
     let state : State = g.C.Catalog.state c.args.catalog.now in
-    let are : AreOf (g.C.Catalog.labels c.args.catalog.now) (g.C.Catalog.sets c.args.catalog.now) state = record {
+    let are : AreOf (g.C.Catalog.layout c.args.catalog.now) (g.C.Catalog.labels c.args.catalog.now) (g.C.Catalog.sets c.args.catalog.now) state = record {
+      laid = g.met.C.Catalog.layout_is c.args.catalog.now honest;
       rises = is.tunes.rises;
       labelled = sym (g.met.C.Catalog.labels_are c.args.catalog.now honest);
       listed = g.met.C.Catalog.sets_are c.args.catalog.now honest;
@@ -44,7 +49,8 @@ returns-in-Delete-clause-changes g c = λ honest is stays.
 pub returns-in-Renumber-clause-changes : goal.returns-in-Renumber-clause-changes
 returns-in-Renumber-clause-changes g c = λ honest is stays.
     let state : State = g.C.Catalog.state c.args.catalog.now in
-    let are : AreOf (g.C.Catalog.labels c.args.catalog.now) (g.C.Catalog.sets c.args.catalog.now) state = record {
+    let are : AreOf (g.C.Catalog.layout c.args.catalog.now) (g.C.Catalog.labels c.args.catalog.now) (g.C.Catalog.sets c.args.catalog.now) state = record {
+      laid = g.met.C.Catalog.layout_is c.args.catalog.now honest;
       rises = is.tunes.rises;
       labelled = sym (g.met.C.Catalog.labels_are c.args.catalog.now honest);
       listed = g.met.C.Catalog.sets_are c.args.catalog.now honest;
@@ -55,7 +61,8 @@ returns-in-Renumber-clause-changes g c = λ honest is stays.
 pub returns-in-SetNew-clause-changes : goal.returns-in-SetNew-clause-changes
 returns-in-SetNew-clause-changes g c = λ honest is stays.
     let state : State = g.C.Catalog.state c.args.catalog.now in
-    let are : AreOf (g.C.Catalog.labels c.args.catalog.now) (g.C.Catalog.sets c.args.catalog.now) state = record {
+    let are : AreOf (g.C.Catalog.layout c.args.catalog.now) (g.C.Catalog.labels c.args.catalog.now) (g.C.Catalog.sets c.args.catalog.now) state = record {
+      laid = g.met.C.Catalog.layout_is c.args.catalog.now honest;
       rises = is.tunes.rises;
       labelled = sym (g.met.C.Catalog.labels_are c.args.catalog.now honest);
       listed = g.met.C.Catalog.sets_are c.args.catalog.now honest;
@@ -66,7 +73,8 @@ returns-in-SetNew-clause-changes g c = λ honest is stays.
 pub returns-in-SetAdd-clause-changes : goal.returns-in-SetAdd-clause-changes
 returns-in-SetAdd-clause-changes g c = λ honest is stays.
     let state : State = g.C.Catalog.state c.args.catalog.now in
-    let are : AreOf (g.C.Catalog.labels c.args.catalog.now) (g.C.Catalog.sets c.args.catalog.now) state = record {
+    let are : AreOf (g.C.Catalog.layout c.args.catalog.now) (g.C.Catalog.labels c.args.catalog.now) (g.C.Catalog.sets c.args.catalog.now) state = record {
+      laid = g.met.C.Catalog.layout_is c.args.catalog.now honest;
       rises = is.tunes.rises;
       labelled = sym (g.met.C.Catalog.labels_are c.args.catalog.now honest);
       listed = g.met.C.Catalog.sets_are c.args.catalog.now honest;
@@ -77,7 +85,8 @@ returns-in-SetAdd-clause-changes g c = λ honest is stays.
 pub returns-in-SetCut-clause-changes : goal.returns-in-SetCut-clause-changes
 returns-in-SetCut-clause-changes g c = λ honest is stays.
     let state : State = g.C.Catalog.state c.args.catalog.now in
-    let are : AreOf (g.C.Catalog.labels c.args.catalog.now) (g.C.Catalog.sets c.args.catalog.now) state = record {
+    let are : AreOf (g.C.Catalog.layout c.args.catalog.now) (g.C.Catalog.labels c.args.catalog.now) (g.C.Catalog.sets c.args.catalog.now) state = record {
+      laid = g.met.C.Catalog.layout_is c.args.catalog.now honest;
       rises = is.tunes.rises;
       labelled = sym (g.met.C.Catalog.labels_are c.args.catalog.now honest);
       listed = g.met.C.Catalog.sets_are c.args.catalog.now honest;
@@ -88,10 +97,26 @@ returns-in-SetCut-clause-changes g c = λ honest is stays.
 pub returns-in-SetDrop-clause-changes : goal.returns-in-SetDrop-clause-changes
 returns-in-SetDrop-clause-changes g c = λ honest is stays.
     let state : State = g.C.Catalog.state c.args.catalog.now in
-    let are : AreOf (g.C.Catalog.labels c.args.catalog.now) (g.C.Catalog.sets c.args.catalog.now) state = record {
+    let are : AreOf (g.C.Catalog.layout c.args.catalog.now) (g.C.Catalog.labels c.args.catalog.now) (g.C.Catalog.sets c.args.catalog.now) state = record {
+      laid = g.met.C.Catalog.layout_is c.args.catalog.now honest;
       rises = is.tunes.rises;
       labelled = sym (g.met.C.Catalog.labels_are c.args.catalog.now honest);
       listed = g.met.C.Catalog.sets_are c.args.catalog.now honest;
     } in
     let decided : Decides state c.args.command.now c.set_drop.result = search rules in
     no_change c.set_drop.result state (step state c.args.command.now) _ _ _ are decided c.set_drop.ensures.possible c.set_drop.ensures.alters stays
+
+pub returns-in-Upgrade-clause-changes : goal.returns-in-Upgrade-clause-changes
+returns-in-Upgrade-clause-changes g c = λ honest is stays.
+    let state : State = g.C.Catalog.state c.args.catalog.now in
+    let laid = g.met.C.Catalog.layout_is c.args.catalog.now honest in
+    let are : AreOf (g.C.Catalog.layout c.args.catalog.now) (g.C.Catalog.labels c.args.catalog.now) (g.C.Catalog.sets c.args.catalog.now) state = record {
+      laid = laid;
+      rises = is.tunes.rises;
+      labelled = sym (g.met.C.Catalog.labels_are c.args.catalog.now honest);
+      listed = g.met.C.Catalog.sets_are c.args.catalog.now honest;
+    } in
+    let it : c.args.command.now ≡ Upgrade = search rules in
+    let same = subst (λ (command : Command). (step state command).0 ≡ state) it stays in
+    no_change (Ok c.upgrade.result) state (step state Upgrade) _ _ _ are (c.upgrade.ensures.planned state laid) c.upgrade.ensures.possible
+    c.upgrade.ensures.alters same

@@ -28,10 +28,10 @@ returns-in-Err-clause-stops g c =
 
 pub returns-in-Ok-clause-unchanged : goal.returns-in-Ok-clause-unchanged
 returns-in-Ok-clause-unchanged g c = λ same honest.
-    let other : changes_nothing c.args.command.now ≡ false = search rules in
+    let other : changes_nothing c.args.self.now.archive.layout c.args.command.now ≡ false = search rules in
     absurd (changes c.args.self.now.archive c.apply.new.self c.args.command.now _ c.in_ok-reply.ensures.answer other same)
 
 pub returns-in-Err-clause-unchanged : goal.returns-in-Err-clause-unchanged
 returns-in-Err-clause-unchanged g c = λ same honest.
-    let other : changes_nothing c.args.command.now ≡ false = search rules in
+    let other : changes_nothing c.args.self.now.archive.layout c.args.command.now ≡ false = search rules in
     absurd (changes c.args.self.now.archive c.apply.new.self c.args.command.now _ c.in_ok-reply.ensures.answer other same)

@@ -30,5 +30,5 @@ returns-clause-stops c =
 
 pub returns-clause-unchanged : goal.returns-clause-unchanged
 returns-clause-unchanged c = λ same honest.
-    let other : changes_nothing c.args.command.now ≡ false = search rules in
+    let other : changes_nothing c.args.self.now.archive.layout c.args.command.now ≡ false = search rules in
     absurd (changes c.args.self.now.archive c.apply.new.self c.args.command.now _ c.in_ok-reply.ensures.answer other same)

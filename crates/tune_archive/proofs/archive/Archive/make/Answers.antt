@@ -6,7 +6,8 @@ use Rattle.tune_journal.specs.Making.{IsEmptyFile}
 use Rattle.tune_journal.specs.declared.open_fault.Refused.{Refused}
 use Rattle.tune_pages.specs.Kept.{Kept, HonestAt, state_at, failures_at}
 use Rattle.tune_pages.specs.Opened.{only_root}
-use Rattle.tune_store.specs.State.{empty_state}
+use Rattle.tune_store.specs.State.{empty_of}
+use Rattle.tune_store.specs.declared.layout.Layout.TheVariants.{Two}
 use Rattle.tune_archive.specs.Opened.{disk_of, StandsForNoneOrEmpty}
 use Rattle.tune_archive.specs.Shelf.{Shelf, state_on}
 use Rattle.tune_archive.proofs.OpenedArchives.{making_keeps, made_shelf, made_state, made_sound, root_of_none}
@@ -54,7 +55,7 @@ returns-clause-moments g c =
 
 pub returns-clause-state : goal.returns-clause-state
 returns-clause-state g c =
-    subst (λ (k : Kept g.row.D.Denot). HonestAt g.D.Disk.honest k.disk → state_on g.D.Disk.state k.disk ≡ empty_state) (sym c.over.ensures.pages)
+    subst (λ (k : Kept g.row.D.Denot). HonestAt g.D.Disk.honest k.disk → state_on g.D.Disk.state k.disk ≡ empty_of Two) (sym c.over.ensures.pages)
     (λ h. made_state g.D.Disk.honest g.D.Disk.state g.met.D.Disk.seen_may_stay c.in_ok-pages.pages.disk c.write_root-root.result.bytes
     (root_of_none _ _ c.no_firsts.ensures c.write_root-root.ensures.root) h (c.in_ok-pages.ensures.rest h))
 

@@ -24,7 +24,7 @@ invariant_of-self g c =
     let done = c.in-Ok.ensures in
     rw c.replace.ensures.after
     (made_shelf g.D.Disk.honest g.D.Disk.failures g.D.Disk.state g.met.D.Disk.seen_may_stay _ c.args.self.now c.self.view_is c.self.invariant
-    c.requires.open c.args.change c.requires.within new done.moments c.in-Ok.contents done.calls done.laid done.rows done.layout done.marks done.answer)
+    c.requires.open c.args.change c.requires.within new done.moments c.in-Ok.contents done.calls done.laid done.rows done.marks done.answer)
 
 pub invariant_of-self-in-Err : goal.invariant_of-self-in-Err
 invariant_of-self-in-Err g c =

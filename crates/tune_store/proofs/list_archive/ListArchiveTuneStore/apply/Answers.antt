@@ -24,7 +24,7 @@ held c = subst IsState c.self.view_is c.self.invariant
 
 -- what it holds then
 abbrev new_state : goal.After-carry_out → State
-new_state c = state_with c.self-2.inside.layout c.carry_out.new.tunes.items c.carry_out.new.sets
+new_state c = state_with c.carry_out.new.layout c.carry_out.new.tunes.items c.carry_out.new.sets
 
 -- a plan for the state that was there
 carried : (c : goal.After-carry_out)
@@ -33,7 +33,7 @@ carried c =
     let old : State = state_with c.self-2.inside.layout c.self-2.inside.tunes.items c.self-2.inside.sets in
     let same : old ≡ c.args.self.now = c.self-2.view_is ∙ c.in_ok-plan.ensures.fetched in
     let P : State → Type 0 = λ state. CarriedOut state c.in_ok-plan.plan c.carry_out.result (new_state c) in
-    subst P same (c.carry_out.ensures c.self-2.inside.layout)
+    subst P same c.carry_out.ensures
 
 planned : (c : goal.After-carry_out)
     → Answers (open_at c.args.self.now) c.args.command.now c.carry_out.result (open_at (new_state c))

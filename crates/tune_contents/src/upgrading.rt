@@ -1,0 +1,184 @@
+// Layout 2, laid on the pages of an archive of layout 1.
+ghost use Rattle.std.specs.Prelude.{◌≡◌, ℕ, List, false, length, IfOk, OnOk};
+ghost use Rattle.tune_pages.specs.Faults.{AnswersRead};
+ghost use Rattle.tune_pages.specs.FreePages.{TakesAtMost};
+ghost use Rattle.tune_pages.specs.Kept.{HonestAt};
+ghost use Rattle.tune_pages.specs.Reading.{LooksAt, SameStand};
+ghost use Rattle.tune_pages.specs.Work.{stand, Fits};
+ghost use Rattle.tune_parts.specs.Parts.{Part};
+ghost use Rattle.tune_search.specs.IncipitRuns.{AreIncipitsOf, HoldsIncipits};
+ghost use Rattle.tune_search.specs.SearchPages.{AreListed, firsts_in};
+ghost use Rattle.tune_search.specs.Searches.{HoldsTexts, SearchParts};
+ghost use Rattle.tune_store.specs.State.{State, IsState};
+ghost use Rattle.tune_store.specs.TuneSteps.{upgraded_state};
+ghost use Rattle.tune_store.specs.declared.layout.Layout.TheVariants.{One, Two};
+ghost use Rattle.tune_contents.specs.Answers.{AnswersLay};
+ghost use Rattle.tune_contents.specs.Claimed.{AreRows};
+ghost use Rattle.tune_contents.specs.Holds.{HoldsContents, HoldsSomeState};
+ghost use Rattle.tune_contents.specs.Most.{most_part_pages};
+ghost use Rattle.tune_contents.specs.Inside.Changes.{HoldsTunesWithin};
+ghost use Rattle.tune_contents.specs.Inside.Searching.{search_pages};
+ghost use Rattle.tune_contents.specs.Inside.Upgrading.{AreOfTunes, LengthensTexts};
+
+use crate::contents::Contents;
+use crate::laying::lay_root;
+use crate::room::Room;
+use crate::texts::read_tune;
+use std::alloc::Global;
+use tune_disk::Disk;
+use tune_format::{Firsts, Row};
+use tune_pages::{Fault, Pages, Work};
+use tune_search::{IncipitNotes, IncipitRuns, SearchFirsts, SearchIndexes, law_of_search_pages};
+use tune_store::Layout;
+
+// The incipits of the tunes of these rows. Their texts are read one at a time; nothing is written.
+fn incipits_of<D: Disk>(
+    alloc: Global,
+    pages: &mut Pages<D>,
+    work: &Work,
+    layout: Layout,
+    rows: &[Row],
+) -> Result<IncipitRuns, Fault>
+    requires open { pages.old.closed ≡ false }
+    requires fits { Fits pages.old work.now }
+    requires rows { AreRows layout rows.now }
+    requires holds { HonestAt D.honest pages.old.disk
+        → HoldsTunesWithin layout (stand pages.old work.now) rows.now }
+    ensures some { IfOk result (λ runs. (tunes : List (ℕ × List ℕ)) × AreIncipitsOf tunes runs) }
+    ensures runs { IfOk result (λ runs. HonestAt D.honest pages.new.disk
+        → AreOfTunes layout (stand pages.old work.now) rows.now runs) }
+    ensures fits { OnOk result (Fits pages.new work.now) }
+    ensures stand { OnOk result (SameStand (HonestAt D.honest pages.new.disk)
+        (stand pages.old work.now) (stand pages.new work.now)) }
+    ensures looks { LooksAt D.honest D.failures D.state result pages.old pages.new }
+    ensures answer { AnswersRead result pages.old.closed pages.new.closed }
+{
+    let Ok(mut runs) = IncipitRuns::with_capacity(alloc, rows.len()) else {
+        return Err(Fault::OutOfMemory);
+    };
+    for row in rows {
+        let text = match read_tune(alloc, pages, work, layout, row.first) {
+            Ok(text) => text,
+            Err(fault) => return Err(fault),
+        };
+        if runs.add(row.number, &text).is_err() {
+            return Err(Fault::OutOfMemory);
+        }
+    }
+    Ok(runs.in_order())
+}
+
+// Brings the search indexes to incipits by twelve notes, stores their lists, and gives where these
+// begin.
+fn lengthen<D: Disk>(
+    alloc: Global,
+    pages: &mut Pages<D>,
+    work: &mut Work,
+    searches: &mut SearchIndexes,
+    runs: &IncipitRuns,
+) -> Result<SearchFirsts, Fault>
+    requires open { pages.old.closed ≡ false }
+    requires fits { Fits pages.old work.old }
+    requires notes { searches.old.notes ≡ 8 }
+    requires runs { (tunes : List (ℕ × List ℕ)) × AreIncipitsOf tunes runs.now }
+    requires holds { HonestAt D.honest pages.old.disk
+        → HoldsIncipits (stand pages.old work.old) searches.old runs.now }
+    ensures fits { OnOk result (Fits pages.new work.new) }
+    ensures notes { OnOk result (searches.new.notes ≡ 12) }
+    ensures lays { OnOk result (HonestAt D.honest pages.new.disk → LengthensTexts
+        (stand pages.old work.old) (stand pages.new work.new) searches.old searches.new
+        runs.now) }
+    ensures firsts { IfOk result (λ firsts. firsts ≡ firsts_in searches.new) }
+    ensures listed { OnOk result (AreListed searches.new) }
+    ensures takes { HonestAt D.honest pages.new.disk
+        → (before after : List Part) (parts : SearchParts) (tunes : List (ℕ × List ℕ))
+        → AreIncipitsOf tunes runs.now
+        → HoldsTexts (stand pages.old work.old) searches.old before after parts tunes
+        → TakesAtMost (search_pages (length tunes)) result
+        (stand pages.old work.old) (stand pages.new work.new) }
+    ensures looks { LooksAt D.honest D.failures D.state result pages.old pages.new }
+    ensures answer { AnswersLay result pages.new.closed }
+{
+    match searches.lengthen_incipits(alloc, pages, work, runs) {
+        Ok(()) => {}
+        Err(fault) => return Err(fault),
+    }
+    law_of_search_pages();
+    match searches.store(alloc, pages, work) {
+        Ok(firsts) => Ok(firsts),
+        Err(fault) => Err(fault),
+    }
+}
+
+/// Lays layout 2 on the pages of an archive of layout 1, in a work that was begun on them, and
+/// gives what is to be kept in memory once the work is finished. `contents` stays as it is: where
+/// the work is dropped, or not finished, nothing was changed.
+///
+/// The text of each tune is read. The index of incipits by eight notes is taken out, its pages are
+/// free then, and that by twelve comes in; the root says the new layout and where that begins.
+///
+/// - `lays`: where the pages held a state within the limits, they hold it in layout 2.
+/// - `rows`, of every disk: rows by rising number, within the limits of layout 2.
+/// - `looks`: no page of the disk changes.
+/// - `fits`: the work may be changed further, or finished.
+/// - `takes`: it takes no more free pages than the chains and leaves of a state of layout 1 have at
+///   most; the file is full only where fewer are free.
+///
+/// # Errors
+///
+/// `FileFull`, where there is no page for a chain or a leaf; `OutOfMemory`; the pages stay open.
+/// `Device`, where the device failed: the pages are closed then. A work that was refused is to be
+/// dropped.
+pub fn upgrade<D: Disk>(
+    room: &mut Room,
+    pages: &mut Pages<D>,
+    work: &mut Work,
+    contents: &Contents,
+) -> Result<Contents, Fault>
+    requires open { pages.old.closed ≡ false }
+    requires fits { Fits pages.old work.old }
+    requires layout { contents.now.layout ≡ One }
+    requires rows { AreRows One contents.now.rows.items }
+    requires holds { HonestAt D.honest pages.old.disk
+        → HoldsSomeState (stand pages.old work.old) contents.now }
+    ensures lays { IfOk result (λ left. HonestAt D.honest pages.new.disk → (state : State)
+        → IsState state → HoldsContents (stand pages.old work.old) contents.now state
+        → HoldsContents (stand pages.new work.new) left (upgraded_state state)) }
+    ensures rows { IfOk result (λ left. AreRows Two left.rows.items) }
+    ensures layout { IfOk result (λ left. left.layout ≡ Two) }
+    ensures fits { OnOk result (Fits pages.new work.new) }
+    ensures looks { LooksAt D.honest D.failures D.state result pages.old pages.new }
+    ensures answer { AnswersLay result pages.new.closed }
+    ensures takes { HonestAt D.honest pages.new.disk → (state : State)
+        → HoldsContents (stand pages.old work.old) contents.now state → IsState state
+        → TakesAtMost (most_part_pages One) result (stand pages.old work.old)
+        (stand pages.new work.new) }
+{
+    let rows = room.copy_rows(&contents.rows)?;
+    let numbers = room.copy_numbers(&contents.numbers)?;
+    let mut searches = room.copy_searches(&contents.searches)?;
+    let Ok(sets) = contents.sets.copy() else {
+        return Err(Fault::OutOfMemory);
+    };
+    match contents.searches.notes() {
+        IncipitNotes::Eight => {}
+        // An honest disk has no others in layout 1.
+        IncipitNotes::Twelve => return Err(pages.close()),
+    }
+    let runs = incipits_of(room.alloc, pages, work, Layout::One, &contents.rows)?;
+    let was = contents.firsts;
+    let firsts = Firsts {
+        numbers: was.numbers,
+        searches: lengthen(room.alloc, pages, work, &mut searches, &runs)?,
+        sets: was.sets,
+    };
+    lay_root(pages, work, Layout::Two, was, firsts)?;
+    Ok(Contents {
+        layout: Layout::Two,
+        rows,
+        numbers,
+        searches,
+        sets,
+        firsts,
+    })
+}
