@@ -53,7 +53,7 @@ wrong() {
 run() {
     ran="$ran$1 "
     if blocks recipe "$1" | sed "s/mine\.abc/${2:-mine.abc}/g" > "$work/recipe"; then
-        sh "$work/recipe" > "$work/out" 2> "$work/err"
+        sh "$work/recipe" < /dev/null > "$work/out" 2> "$work/err"
         status=$?
     fi
     [ -s "$work/recipe" ] || wrong "no page has the recipe $1"
@@ -613,6 +613,7 @@ contents tunes.abcx > "$work/wanted"
 cp tunes.abcx "$work/old"
 run upgrade
 ends_with 0
+says 'it is of layout 2 now'
 holds 'layout 2 tunes 15 sets 1'
 contents tunes.abcx > "$work/found"
 same "$work/found" "$work/wanted"
