@@ -20,11 +20,11 @@ import struct
 import subprocess
 import sys
 import tempfile
-from typing import NamedTuple
 
 sys.dont_write_bytecode = True
-from archives import (COUNT, PAGES, Archive, Tune, Writer, first_of, four_bytes, key, leaf_of,
-                      number_at, opened, page_at, place_of, put, set_bytes)
+from archives import (COUNT, LAYOUTS, PAGES, Archive, Tune, Writer, first_of, four_bytes, key,
+                      keys_of, leaf_of, most_of, number_at, opened, page_at, place_of, put,
+                      set_bytes)
 
 ROOT = os.path.dirname(os.path.dirname(os.path.abspath(__file__)))
 READER = os.path.join(ROOT, 'examples', 'read_archive.py')
@@ -32,21 +32,6 @@ PROGRAM = os.path.abspath(os.environ.get('TUNES') or os.path.join(ROOT, 'tunes')
 DAMAGED = (3, b'refused 41 Damaged\n')
 SESSION = os.path.join(ROOT, 'examples', 'session.abc')
 KEPT = os.path.join(ROOT, 'checks', 'data', 'kept')
-
-
-class Layout(NamedTuple):
-    """How wide the keys of incipits are, how many entries a leaf of them has at most, how many
-    steps a key has; how long a text may be; how many tunes and pages there may be."""
-    width: int
-    entries: int
-    steps: int
-    text: int
-    tunes: int
-    pages: int
-
-
-LAYOUTS = {1: Layout(32, 113, 7, 16000, 20000, 1000000),
-           2: Layout(48, 78, 11, 64000, 50000, 4000000)}
 
 # The first three tunes of the session, whose notes go on behind the twelfth: what is above their
 # keys, and the steps.
@@ -110,12 +95,10 @@ def book_of(tunes):
 
 def in_layout(version, tunes, sets=b''):
     """A file of these tunes."""
-    layout = LAYOUTS[version]
-    cut = {number: tune._replace(steps=tune.steps[:7]) for number, tune in tunes.items()}
     file = io.BytesIO()
-    Archive(cut, sets).write(file)
+    Archive(tunes, sets).write(file)
     if version == 2:
-        put_incipits(file, tunes, layout)
+        put_incipits(file, tunes, LAYOUTS[version])
         put(file, PAGES, version)
     return file.getvalue()
 
@@ -180,19 +163,14 @@ def changed(data, change):
 
 def many_tunes(path, count, tune):
     """Writes so many tunes of one text in layout 2, each with all its keys."""
-    layout = LAYOUTS[2]
     with open(path, 'w+b') as file:
         pages = Writer(file)
         chains = [pages.chain(b'\x00\x01' + tune.text) for _ in range(count)]
         rows = ((key(four_bytes(number)), chain) for number, chain in enumerate(chains, 1))
         firsts = [pages.index(rows)]
-        for words in (tune.titles, (tune.rhythm,), (tune.scale,)):
-            rows = ((key(word), number) for word in sorted(words) if word
-                    for number in range(1, count + 1))
-            firsts.append(pages.index(rows))
-        rows = ((incipit_key(tune.steps, layout.width), number)
-                for number in range(1, count + 1) if tune.steps)
-        firsts.append(pages.index(rows, layout.entries))
+        for name, words in keys_of(tune, 2).items():
+            rows = ((word, number) for word in sorted(words) for number in range(1, count + 1))
+            firsts.append(pages.index(rows, most_of(name, 2)))
         pages.end(four_bytes(2, *firsts, 0))
 
 
