@@ -65,9 +65,9 @@ FRIDAY, FRIDAY_LINE = set_bytes(b'friday', 2, 3, 2), b'friday 3 2 3 2\n'
 KEPT_TUNES = {1: tune_of(b'CDEFGABcdefg', 2, 2, 1, 2, 2, 2, 1, 2, 2, 1, 2),
               2: tune_of(b'CDEFGABcBAGF', 2, 2, 1, 2, 2, 2, 1, -1, -2, -2, -2)}
 KEPT_LINE = b'friday 2 2 1\n'
-# How the program brings a file to layout 2: its word, and what it reads then.
-UPGRADES = {'the word upgrade': ('upgrade', b''), 'a line of a script': ('run', b'upgrade\n')}
-UPGRADED = (0, b'ok upgrade 2\n')
+# How the program brings a file to layout 2: by its word, or by a line that it reads.
+UPGRADING = b'upgrade\n', b'ok upgrade 2\n'
+UPGRADES, UPGRADED = (('upgrade', b''), ('run', UPGRADING[0])), (0, UPGRADING[1])
 # A tune without a note.
 BARE = b'X:1\nK:C\n'
 TOO_LONG, FULL = b'refused 2 BadTune 1 TooLong\n', b'refused 9 ArchiveFull\n'
@@ -286,7 +286,7 @@ class Cases:
             self.stands(f'a file of layout {version} with two tunes', version, KEPT_TUNES,
                         KEPT_LINE)
             self.check_change(f'a file of layout {version} that is kept', version, KEPT_TUNES,
-                              KEPT_LINE)
+                              KEPT_LINE, 3)
 
     def check_changes(self):
         """Commands of the program over a file of each layout, which stays in it, and over one that
@@ -296,19 +296,20 @@ class Cases:
             if upgrade:
                 program('upgrade', self.path)
             self.check_change(f'a file of version {version}{upgrade}', 2 if upgrade else version,
-                              session(), FRIDAY_LINE)
+                              session(), FRIDAY_LINE, 6)
 
-    def check_change(self, name, version, tunes, sets):
-        """A tune is put in and another taken out, of the file of these tunes."""
+    def check_change(self, name, version, tunes, sets, gone):
+        """Two tunes are put in and one taken out, of the file of these tunes."""
         late, number = tune_of(b'CCCC CCCC|C,CC^D', *[0] * 7, -12, 12, 0, 3), len(tunes) + 1
-        script = importing(b'X:1\n' + late.text) + importing(b'X:1\n' + OF_NOTES[5].text)
-        answer = program('run', self.path, script + b'delete %d\n' % (number + 1))
-        if answer != (0, b'ok import %d %d\n' % (number, number)
-                      + b'ok import %d %d\n' % (number + 1, number + 1)
-                      + b'ok delete %d\n' % (number + 1)):
-            self.end(f'{name}, changed', f'{answer}')
+        both = {number: late, number + 1: OF_NOTES[5]}
+        script = importing(b''.join(b'X:1\n' + tune.text for tune in both.values()))
+        answer = program('run', self.path, script + b'delete %d\n' % gone)
+        name = f'{name}, changed'
+        if answer != (0, b'ok import %d %d\nok delete %d\n' % (number, number + 1, gone)):
+            self.end(name, f'{answer}')
         else:
-            self.stands(f'{name}, changed', version, {**tunes, number: late}, sets)
+            left = {other: tune for other, tune in {**tunes, **both}.items() if other != gone}
+            self.stands(name, version, left, sets)
 
     def check_upgrades(self):
         """Files of each layout go on in layout 2; where they have that, no byte is another."""
@@ -326,19 +327,17 @@ class Cases:
 
     def check_upgrade(self, name, data, tunes, sets):
         """The file is the same, however it is brought to layout 2, and stays so."""
-        files = []
-        for words in UPGRADES.values():
+        files, answers = [], set()
+        for words in UPGRADES:
             self.write(data)
-            for again in (words, *UPGRADES.values()):
-                if program(again[0], self.path, again[1]) != UPGRADED:
-                    self.end(name, f'{again} is answered otherwise')
+            for word, script in (words, *UPGRADES):
+                answers.add(program(word, self.path, script))
                 with open(self.path, 'rb') as file:
                     files.append(file.read())
-        wrong = '' if files == files[:1] * len(files) else 'its bytes are others the second time'
-        if not wrong and files[0][PAGES:PAGES + 4] != four_bytes(2):
-            wrong = 'its version is another'
-        if wrong:
-            self.end(name, wrong)
+        if answers != {UPGRADED}:
+            self.end(name, f'the answers are {answers}')
+        elif files != files[:1] * len(files) or files[0][PAGES:PAGES + 4] != four_bytes(2):
+            self.end(name, 'its bytes are others the second time, or its version is another')
         else:
             self.stands(name, 2, tunes, sets)
 
@@ -408,10 +407,12 @@ class Cases:
 
     def check_longest(self):
         """Texts of these lengths are taken in by layout 1, by layout 2, and after an upgrade."""
-        for name, version, longest, script, answers in (
-                ('version 1', 1, 16000, b'', b''), ('version 2', 2, 64000, b'', b''),
-                ('version 1, upgraded', 1, 64000, b'upgrade\n', b'ok upgrade 2\n')):
-            tunes = {}
+        for name, data, tunes, longest, script, answers in (
+                ('version 1', in_layout(1, {}), {}, 16000, b'', b''),
+                ('version 1, upgraded', in_layout(1, {}), {}, 64000, *UPGRADING),
+                ('a kept file of layout 2', kept('layout-2-two-tunes'), KEPT_TUNES, 64000, b'',
+                 b'')):
+            tunes = dict(tunes)
             for length in (16000, 16001, 64000, 64001):
                 script += importing(b'X:1\n' + text_of(length))
                 if length <= longest:
@@ -419,7 +420,7 @@ class Cases:
                     answers += b'ok import %d %d\n' % (len(tunes), len(tunes))
                 else:
                     answers += TOO_LONG
-            self.write(in_layout(version, {}))
+            self.write(data)
             wrong = '' if program('run', self.path, script) == (0, answers) else 'other answers'
             if not wrong and self.read('book') != (0, book_of(tunes), ''):
                 wrong = 'its book is another'
@@ -427,21 +428,20 @@ class Cases:
 
     def check_full(self):
         """As many tunes are taken in as the layout allows, and more after an upgrade."""
-        upgrade = importing(BARE * 20000) + b'upgrade\n', b'ok import 1 20000\nok upgrade 2\n'
-        for name, data, has, layout, (script, answers) in (
-                ('version 1', in_layout(1, {}), 0, 1, (b'', b'')),
-                ('version 2', in_layout(2, {}), 0, 2, (b'', b'')),
-                ('a kept file of layout 2', kept('layout-2-two-tunes'), 2, 2, (b'', b'')),
-                ('version 1, upgraded', in_layout(1, {}), 20000, 2, upgrade)):
+        upgrade = (importing(BARE * 20000) + UPGRADING[0], b'ok import 1 20000\n' + UPGRADING[1])
+        for name, data, has, layout, script, answers in (
+                ('version 1', in_layout(1, {}), 0, 1, b'', b''),
+                ('version 1, upgraded', in_layout(1, {}), 20000, 2, *upgrade),
+                ('a kept file of layout 2', kept('layout-2-two-tunes'), 2, 2, b'', b'')):
             most = LAYOUTS[layout].tunes
             script += b''.join(importing(BARE * more) for more in (most - has + 1, most - has, 1))
             answers += FULL + b'ok import %d %d\n' % (has + 1, most) + FULL
             self.write(data)
             answer = program('run', self.path, script)
             wrong = '' if answer == (0, answers) else f'{answer}'
-            said = self.read('check')[1]
-            if not wrong and not said.startswith(b'layout %d: %d tunes, ' % (layout, most)):
-                wrong = f'the reader says {said}'
+            _, said = program('check', self.path)
+            if not wrong and not said.startswith(b'layout %d tunes %d sets ' % (layout, most)):
+                wrong = f'the program says {said}'
             self.end(f'tunes up to {most:,} in {name}', wrong)
 
     def check_counts(self):
