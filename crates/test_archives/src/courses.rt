@@ -64,6 +64,11 @@ impl Course {
         Ok(())
     }
 
+    /// What is held at the start.
+    pub fn at_start(&self) -> &[Vec<u8>] {
+        &self.states[..self.states.len().min(1)]
+    }
+
     /// What may be held after so many steps, or after one more.
     pub fn in_progress(&self, step: usize) -> &[Vec<u8>] {
         let from = step.min(self.states.len());

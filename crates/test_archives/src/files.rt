@@ -50,8 +50,8 @@ fn bytes_of(alloc: Global, digits: &str) -> io::Result<Vec<u8>> {
     Ok(bytes)
 }
 
-// Writes at an offset of a file.
-fn write_bytes(disk: &mut MemoryDisk, at: u32, bytes: &[u8]) -> io::Result<()> {
+/// Writes at an offset of a file.
+pub fn write_bytes(disk: &mut MemoryDisk, at: u32, bytes: &[u8]) -> io::Result<()> {
     if bytes.len() > MOST_BYTES {
         return Err(bad_line());
     }

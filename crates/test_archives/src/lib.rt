@@ -8,6 +8,6 @@ mod left_files;
 mod scripts;
 
 pub use courses::{Course, Stopped};
-pub use files::{bad_line, change_file, kept_file, made_file, number_at, part};
+pub use files::{bad_line, change_file, kept_file, made_file, number_at, part, write_bytes};
 pub use left_files::{LeftFile, LeftFiles, is_among};
 pub use scripts::{file_after, held, replies_of};

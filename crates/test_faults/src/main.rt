@@ -50,3 +50,17 @@ fn main(rt: HostRuntime) -> io::Result<ExitCode> {
         Ok(ExitCode::FAILURE)
     }
 }
+
+// Has each call of the disk fail once over the steps of a course, and in openings, and says whether
+// all is well.
+fn fail_once<R: Print + AllocGlobal>(rt: &R, name: &str, course: &Course) -> io::Result<bool> {
+    let steps = fault_steps(rt.alloc(), course)?;
+    let openings = fault_openings(rt.alloc(), course)?;
+    match steps.or(openings) {
+        None => {
+            println!(rt; "faults in {name}: each is told, and leaves the state before or after")?
+        }
+        Some(at) => println!(rt; "faults in {name}: one at {at} is not as it should be")?,
+    }
+    Ok(steps.or(openings).is_none())
+}

@@ -1,16 +1,17 @@
 // Archives of whose disk one call fails, and works again.
-use crate::stops::{CHOICES, MOST_CALLS, MOST_CALLS_OF_OPENING, Outcome, carry_out, open_left};
-use crate::texts::{Texts, replies_of};
 use std::alloc::Global;
 use std::io;
+use test_archives::{Course, LeftFiles, held, replies_of};
 use tune_archive::{Archive, TuneStore};
 use tune_disk::{Disk, FuseDisk, MemoryDisk, OneFault};
 use tune_journal::OpenFault;
 use tune_scripts::{RunEnd, run};
-use tune_store::ListArchive;
 
-/// Fewer calls than these are no script of every command.
-const FEWEST_CALLS: u64 = 100;
+/// How many calls of the disk are tried at most.
+const MOST_CALLS: u64 = 5_000;
+
+/// Fewer calls than these are no steps of an archive.
+const FEWEST_CALLS: u64 = 30;
 
 /// Fewer openings than these, of the files that stops leave, write something.
 const FEWEST_RECOVERIES: u32 = 10;
@@ -24,18 +25,8 @@ const BAD_LINE: &[u8] = b"refused 30 BadLine\n";
 /// A disk of which one call fails, over one that is called once more at most than before that.
 type Faulty = OneFault<FuseDisk<MemoryDisk>>;
 
-/// What came of a sweep of faults.
-#[derive(Clone, Copy, Debug, PartialEq, Eq)]
-pub(crate) enum Sweep {
-    AsTold,
-    /// It came to its end after a handful of calls.
-    TooFew,
-    /// A fault at this call was answered in another way, or left another state.
-    Otherwise(u64),
-}
-
 /// What came of one run, or one opening.
-#[derive(Clone, Copy, Debug, PartialEq, Eq)]
+#[derive(Clone, Copy)]
 enum Fault {
     /// It came to its end before the call that would have failed.
     DidNotCome,
@@ -43,118 +34,105 @@ enum Fault {
     Otherwise,
 }
 
-/// What an archive in memory answers each step.
-#[derive(Drop)]
-struct Told {
-    /// All steps as one script.
-    script: Vec<u8>,
-    replies: Vec<Vec<u8>>,
+/// What came of a run of all steps.
+#[derive(Clone, Copy)]
+enum Ran {
+    /// Each was answered as told.
+    Whole,
+    /// So many were, the next one that the device failed, and all others as by a closed archive.
+    Until(usize),
+    Otherwise,
 }
 
-impl Told {
-    fn new(alloc: Global, texts: &Texts) -> io::Result<Told> {
-        let mut archive = ListArchive::new(alloc);
-        let mut script = Vec::new(alloc);
-        let mut replies = Vec::new(alloc);
-        for step in &texts.steps {
-            script.extend_from_slice(step)?;
-            replies.push(replies_of(alloc, step, &mut archive)?)?;
-        }
-        Ok(Told { script, replies })
-    }
-
-    // How many steps these replies answer, the rest of them being that the device failed, or
-    // nothing.
-    fn answered(&self, mut replies: &[u8], rest: &[u8]) -> Option<usize> {
-        let mut answered: usize = 0;
-        for reply in &self.replies {
-            let Some(others) = replies.strip_prefix(reply.as_slice()) else {
-                break;
-            };
-            replies = others;
-            answered = answered.saturating_add(1);
-        }
-        if replies == rest {
-            Some(answered)
-        } else {
-            None
+// The call, if there is one, whose fault is not told, or leaves another state than that before the
+// step or after it: each call of the disk fails once under a run of all steps, those of the opening
+// too.
+pub(crate) fn fault_steps(alloc: Global, course: &Course) -> io::Result<Option<u64>> {
+    for call in 0..MOST_CALLS {
+        match fault_at(alloc, course, call)? {
+            Fault::AsTold => {}
+            Fault::DidNotCome if call >= FEWEST_CALLS => return Ok(None),
+            _ => return Ok(Some(call)),
         }
     }
+    Ok(Some(MOST_CALLS))
+}
 
-    // Whether each step behind this one is answered by an archive as where its disk has failed.
-    fn is_closed_behind<S: TuneStore>(
-        &self,
-        alloc: Global,
-        texts: &Texts,
-        step: usize,
-        archive: &mut S,
-    ) -> io::Result<bool> {
-        let steps = texts.steps.iter().zip(&self.replies);
-        for (step, told) in steps.skip(step.saturating_add(1)) {
-            let replies = replies_of(alloc, step, archive)?;
-            if replies.as_slice() != behind_a_fault(told) {
-                return Ok(false);
+// Runs all steps on a disk of which this call fails.
+fn fault_at(alloc: Global, course: &Course, call: u64) -> io::Result<Fault> {
+    match Archive::open(
+        alloc,
+        with_fault(MemoryDisk::from_bytes(alloc, &course.start)?, call),
+    ) {
+        Ok(mut archive) => {
+            let ran = run_steps(alloc, course, &mut archive)?;
+            let disk = archive.into_disk();
+            match ran {
+                Ran::Whole => Ok(judge_whole(disk)),
+                Ran::Until(step) => judge_disk(alloc, disk, course.in_progress(step)),
+                Ran::Otherwise => Ok(Fault::Otherwise),
             }
         }
-        Ok(true)
-    }
-}
-
-// Has each call of the disk fail once under a run of all steps, that of the opening before too.
-pub(crate) fn fault_steps(alloc: Global, texts: &Texts, states: &[Vec<u8>]) -> io::Result<Sweep> {
-    let told = Told::new(alloc, texts)?;
-    for call in 0..MOST_CALLS {
-        match fault_at(alloc, texts, states, &told, call)? {
-            Fault::AsTold => {}
-            Fault::Otherwise => return Ok(Sweep::Otherwise(call)),
-            Fault::DidNotCome if call < FEWEST_CALLS => return Ok(Sweep::TooFew),
-            Fault::DidNotCome => return Ok(Sweep::AsTold),
-        }
-    }
-    Ok(Sweep::TooFew)
-}
-
-// Runs all steps on a new archive, of whose disk this call fails.
-fn fault_at(
-    alloc: Global,
-    texts: &Texts,
-    states: &[Vec<u8>],
-    told: &Told,
-    call: u64,
-) -> io::Result<Fault> {
-    let Ok(made) = Archive::make(alloc, MemoryDisk::new(alloc)) else {
-        return Err(io::ErrorKind::Other.into());
-    };
-    let mut archive = match Archive::open(alloc, with_fault(made.into_disk(), call)) {
-        Ok(archive) => archive,
         Err(refused) if refused.why == OpenFault::Device => {
-            return judge_disk(
-                alloc,
-                texts,
-                refused.disk,
-                &states[..states.len().min(1)],
-                call,
-            );
+            judge_disk(alloc, refused.disk, course.at_start())
         }
-        Err(_) => return Ok(Fault::Otherwise),
-    };
-    let mut reader = told.script.as_slice();
+        Err(_) => Ok(Fault::Otherwise),
+    }
+}
+
+// Runs all steps as one script, and those behind a fault once more, each by itself.
+fn run_steps<S: TuneStore>(alloc: Global, course: &Course, archive: &mut S) -> io::Result<Ran> {
+    let script = course.steps.concat(alloc)?;
+    let mut reader = script.as_slice();
     let mut replies = Vec::new(alloc);
-    let end = run(alloc, &mut reader, &mut replies, &mut archive);
-    if end == RunEnd::Ended {
-        let all = told.answered(&replies, b"") == Some(texts.steps.len());
-        return Ok(judge_whole(all, archive.into_disk()));
+    let end = run(alloc, &mut reader, &mut replies, archive);
+    let (answered, rest) = answered_of(course, &replies);
+    if end == RunEnd::Ended && answered == course.steps.len() && rest.is_empty() {
+        return Ok(Ran::Whole);
     }
-    let Some(answered) = told.answered(&replies, DEVICE) else {
-        return Ok(Fault::Otherwise);
-    };
-    let ended = end == RunEnd::DeviceFault && reader.len() == texts.bytes_behind(answered);
-    if !ended || !told.is_closed_behind(alloc, texts, answered, &mut archive)? {
-        return Ok(Fault::Otherwise);
+    let behind = answered.saturating_add(1).min(course.steps.len());
+    let unread = course.steps[behind..].concat(alloc)?;
+    let as_told = end == RunEnd::DeviceFault && rest == DEVICE && reader == unread.as_slice();
+    if as_told && is_closed_behind(alloc, course, behind, archive)? {
+        Ok(Ran::Until(answered))
+    } else {
+        Ok(Ran::Otherwise)
     }
-    let from = answered.min(states.len());
-    let to = from.saturating_add(2).min(states.len());
-    judge_disk(alloc, texts, archive.into_disk(), &states[from..to], call)
+}
+
+// How many steps these replies answer, and what else there is of them.
+fn answered_of<'a>(course: &Course, mut replies: &'a [u8]) -> (usize, &'a [u8]) {
+    let mut answered: usize = 0;
+    for reply in &course.replies {
+        let Some(others) = replies.strip_prefix(reply.as_slice()) else {
+            break;
+        };
+        replies = others;
+        answered = answered.saturating_add(1);
+    }
+    (answered, replies)
+}
+
+// Whether each step from this one on is answered by an archive as where its disk has failed: a bad
+// line never reaches the archive, and every other one does.
+fn is_closed_behind<S: TuneStore>(
+    alloc: Global,
+    course: &Course,
+    step: usize,
+    archive: &mut S,
+) -> io::Result<bool> {
+    for (step, told) in course.steps.iter().zip(&course.replies).skip(step) {
+        let replies = replies_of(alloc, step, archive)?;
+        let wanted = if told.as_slice() == BAD_LINE {
+            BAD_LINE
+        } else {
+            CLOSED
+        };
+        if replies.as_slice() != wanted {
+            return Ok(false);
+        }
+    }
+    Ok(true)
 }
 
 // A disk of which this call fails. It has room for one call more than come before.
@@ -162,15 +140,9 @@ fn with_fault(disk: MemoryDisk, call: u64) -> Faulty {
     OneFault::new(FuseDisk::new(disk, call.saturating_add(1)), call)
 }
 
-// What a line is answered behind a fault, where this would be its reply: a bad line never reaches
-// the archive, and every other one does.
-fn behind_a_fault(told: &[u8]) -> &[u8] {
-    if told == BAD_LINE { BAD_LINE } else { CLOSED }
-}
-
 // What came of a run in which nothing failed: the next call of its disk does.
-fn judge_whole(all: bool, mut disk: Faulty) -> Fault {
-    if all && disk.len().is_err() {
+fn judge_whole(mut disk: Faulty) -> Fault {
+    if disk.len().is_err() {
         Fault::DidNotCome
     } else {
         Fault::Otherwise
@@ -179,77 +151,103 @@ fn judge_whole(all: bool, mut disk: Faulty) -> Fault {
 
 // Whether a disk of which a call failed was not called since, and opens as one of these states, as
 // it is and as a stop leaves it.
-fn judge_disk(
-    alloc: Global,
-    texts: &Texts,
-    disk: Faulty,
-    states: &[Vec<u8>],
-    call: u64,
-) -> io::Result<Fault> {
+fn judge_disk(alloc: Global, disk: Faulty, states: &[Vec<u8>]) -> io::Result<Fault> {
+    let mut left = LeftFiles::new(alloc);
+    if add_uncalled(&mut left, disk)? && left.all_hold(alloc, states, false)? {
+        Ok(Fault::AsTold)
+    } else {
+        Ok(Fault::Otherwise)
+    }
+}
+
+// Lists what a stop leaves of a disk of which a call failed, and says whether it was not called
+// since.
+fn add_uncalled(left: &mut LeftFiles, disk: Faulty) -> io::Result<bool> {
     let mut within = disk.into_inner();
     if within.len().is_err() || within.len().is_ok() {
-        return Ok(Fault::Otherwise);
+        return Ok(false);
     }
-    let disk = within.into_inner();
-    for choice in CHOICES {
-        let stopped = disk.stopped(choice)?;
-        if open_left(alloc, texts, stopped, states, call)? != Outcome::AsBeforeOrAfter {
-            return Ok(Fault::Otherwise);
-        }
-    }
-    if open_left(alloc, texts, disk, states, call)? != Outcome::AsBeforeOrAfter {
-        return Ok(Fault::Otherwise);
-    }
-    Ok(Fault::AsTold)
+    left.add_left(&within.into_inner(), false, 0)?;
+    Ok(true)
 }
 
-// Has each call of an opening fail once: of the archive as it was made, and of all that a stop
-// leaves at any call of the steps.
-pub(crate) fn fault_openings(alloc: Global, texts: &Texts) -> io::Result<Sweep> {
+// The number of the file, if there is one, of which an opening with a fault is not as told. Each
+// call fails once of the openings of all files that a stop leaves at any call of the steps.
+pub(crate) fn fault_openings(alloc: Global, course: &Course) -> io::Result<Option<u64>> {
+    let left = stopped_steps(alloc, course)?;
     let mut recoveries: u32 = 0;
-    for calls in 0..MOST_CALLS {
-        let stopped = carry_out(alloc, texts, calls)?;
-        for choice in CHOICES {
-            match fault_opening(alloc, texts, stopped.disk.stopped(choice)?)? {
-                None => return Ok(Sweep::Otherwise(calls)),
-                Some(false) => {}
-                Some(true) => recoveries = recoveries.saturating_add(1),
-            }
-        }
-        if stopped.answered >= texts.steps.len() {
+    for number in 0..MOST_CALLS {
+        let Some(file) = left.file(number as usize)? else {
             return Ok(if recoveries < FEWEST_RECOVERIES {
-                Sweep::TooFew
+                Some(number)
             } else {
-                Sweep::AsTold
+                None
             });
+        };
+        match fault_opening(alloc, &file.bytes)? {
+            None => return Ok(Some(number)),
+            Some(false) => {}
+            Some(true) => recoveries = recoveries.saturating_add(1),
         }
     }
-    Ok(Sweep::TooFew)
+    Ok(Some(MOST_CALLS))
 }
 
-// Opens a disk again and again, with one call failing each time, then another. Each time the disk
+// The files that a stop leaves at any call of the steps.
+fn stopped_steps(alloc: Global, course: &Course) -> io::Result<LeftFiles> {
+    let mut left = LeftFiles::new(alloc);
+    for calls in 0..MOST_CALLS {
+        let stopped = course.carry_out(alloc, course.steps.len(), calls)?;
+        left.add_left(&stopped.disk, false, 0)?;
+        if stopped.answered >= course.steps.len() {
+            break;
+        }
+    }
+    Ok(left)
+}
+
+// Opens a file again and again, with one call failing each time, then another. Each time the disk
 // is handed back, and then opens as it does where none fails. Says whether an opening writes, which
-// it does where a stop came within a commit.
-fn fault_opening(alloc: Global, texts: &Texts, left: MemoryDisk) -> io::Result<Option<bool>> {
-    let Ok(mut archive) = Archive::open(alloc, left.stopped(CHOICES[1])?) else {
+// it does where a stop came within a commit; nothing where it is not as told.
+fn fault_opening(alloc: Global, file: &[u8]) -> io::Result<Option<bool>> {
+    let Some(state) = held(alloc, MemoryDisk::from_bytes(alloc, file)?)? else {
         return Ok(None);
     };
-    let mut state = Vec::new(alloc);
-    state.push(replies_of(alloc, &texts.questions, &mut archive)?)?;
-    let writes = archive.into_disk().bytes() != left.bytes();
-    for call in 0..MOST_CALLS_OF_OPENING {
-        let fault = match Archive::open(alloc, with_fault(left.stopped(CHOICES[1])?, call)) {
-            Ok(archive) => judge_whole(true, archive.into_disk()),
-            Err(refused) if refused.why == OpenFault::Device => {
-                judge_disk(alloc, texts, refused.disk, &state, call)?
-            }
-            Err(_) => Fault::Otherwise,
-        };
-        match fault {
+    let mut states = Vec::new(alloc);
+    states.push(state)?;
+    let mut left = LeftFiles::new(alloc);
+    for call in 0..MOST_CALLS {
+        match fault_in_opening(alloc, file, &mut left, call)? {
             Fault::AsTold => {}
-            Fault::DidNotCome => return Ok(Some(writes)),
+            Fault::DidNotCome => {
+                let all = left.all_hold(alloc, &states, false)?;
+                return Ok(if all { Some(left.has_several()) } else { None });
+            }
             Fault::Otherwise => return Ok(None),
         }
     }
     Ok(None)
+}
+
+// Opens a file on a disk of which this call fails, and lists what is left.
+fn fault_in_opening(
+    alloc: Global,
+    file: &[u8],
+    left: &mut LeftFiles,
+    call: u64,
+) -> io::Result<Fault> {
+    match Archive::open(
+        alloc,
+        with_fault(MemoryDisk::from_bytes(alloc, file)?, call),
+    ) {
+        Ok(archive) => Ok(judge_whole(archive.into_disk())),
+        Err(refused) if refused.why == OpenFault::Device => {
+            if add_uncalled(left, refused.disk)? {
+                Ok(Fault::AsTold)
+            } else {
+                Ok(Fault::Otherwise)
+            }
+        }
+        Err(_) => Ok(Fault::Otherwise),
+    }
 }

@@ -18,14 +18,13 @@ const FEWEST_CALLS: u64 = 3;
 // The call, if there is one, at which a stop while an archive is made leaves one that is opened and
 // is not as at the start of a course.
 pub(crate) fn stop_making(alloc: Global, course: &Course) -> io::Result<Option<u64>> {
-    let first = &course.states[..course.states.len().min(1)];
     for calls in 0..MOST_CALLS {
         let Err(refused) = Archive::make(alloc, FuseDisk::new(MemoryDisk::new(alloc), calls)) else {
             return Ok(unless_few(calls));
         };
         let mut left = LeftFiles::new(alloc);
         left.add_left(&refused.disk.into_inner(), true, 0)?;
-        if !left.all_hold(alloc, first, true)? {
+        if !left.all_hold(alloc, course.at_start(), true)? {
             return Ok(Some(calls));
         }
     }
