@@ -10,6 +10,9 @@ use tune_scripts::{RunEnd, run};
 /// How many calls of the disk are tried at most.
 const MOST_CALLS: u64 = 5_000;
 
+/// How many files that stops leave are opened at most.
+const MOST_FILES: usize = 100_000;
+
 /// Fewer calls than these are no steps of an archive.
 const FEWEST_CALLS: u64 = 30;
 
@@ -176,16 +179,16 @@ fn add_uncalled(left: &mut LeftFiles, disk: Faulty) -> io::Result<bool> {
 pub(crate) fn fault_openings(alloc: Global, course: &Course) -> io::Result<Option<u64>> {
     let left = stopped_steps(alloc, course)?;
     let mut recoveries: u32 = 0;
-    for number in 0..MOST_CALLS {
-        let Some(file) = left.file(number as usize)? else {
+    for number in 0..MOST_FILES {
+        let Some(file) = left.file(number)? else {
             return Ok(if recoveries < FEWEST_RECOVERIES {
-                Some(number)
+                Some(number as u64)
             } else {
                 None
             });
         };
         match fault_opening(alloc, &file.bytes)? {
-            None => return Ok(Some(number)),
+            None => return Ok(Some(number as u64)),
             Some(false) => {}
             Some(true) => recoveries = recoveries.saturating_add(1),
         }

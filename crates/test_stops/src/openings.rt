@@ -13,8 +13,10 @@ const MOST_CALLS_OF_OPENING: u64 = 1_000;
 /// the next. It has no factor in common with the numbers of calls of a commit.
 const SPREAD: u64 = 31;
 
-/// An opening is stopped at each of so many calls at least.
+/// An opening of many calls is stopped at each of the first so many, and then at each of so many.
 const FIRST_CALLS: u64 = 64;
+
+const CALLS_APART: u64 = 61;
 
 /// How many files that stops of one command leave are opened at most.
 const MOST_FILES: usize = 100_000;
@@ -32,8 +34,9 @@ pub(crate) struct Way {
     openings: usize,
     /// Where a log has no more entries, they are stopped until nothing new is left.
     few_entries: usize,
-    /// Behind the first 64 calls an opening is stopped at each of so many.
-    apart: u64,
+    /// Whether an opening is stopped at each of its calls, and not only at its first ones, and some
+    /// far apart.
+    at_each: bool,
 }
 
 impl Way {
@@ -42,7 +45,7 @@ impl Way {
         fills_again: false,
         openings: 1,
         few_entries: 0,
-        apart: 1,
+        at_each: true,
     };
 
     pub(crate) const AGAIN: Way = Way {
@@ -50,7 +53,7 @@ impl Way {
         fills_again: true,
         openings: 2,
         few_entries: 3,
-        apart: 1,
+        at_each: true,
     };
 
     pub(crate) const APART: Way = Way {
@@ -58,7 +61,7 @@ impl Way {
         fills_again: false,
         openings: 1,
         few_entries: 0,
-        apart: 61,
+        at_each: false,
     };
 
     // Whether the opening of a file is stopped.
@@ -69,7 +72,7 @@ impl Way {
 
     // Whether an opening is stopped at this call.
     fn stops_at(&self, call: u64) -> bool {
-        call < FIRST_CALLS || call % self.apart == 0
+        self.at_each || call < FIRST_CALLS || call % CALLS_APART == 0
     }
 }
 
