@@ -1,142 +1,99 @@
 //! The program `test_stops`: stops an archive in a file (a crash or power loss) at each call of its
 //! disk, and opens what is left.
 //!
-//! `data/steps` has the steps, between which a line `--` stands: each is a script of one command.
-//! `data/leaves` has others, by which a leaf of the index of titles becomes two, and one of them
-//! goes again; over these the steps and the ends are tried too. `data/questions.script` asks for
-//! all that an archive holds. What an archive in memory answers it after so many of the steps is
-//! what a stop may leave.
+//! A file of data has steps, between which a line `--` stands: each is a script of one command.
+//! What an archive in memory answers after so many of them, when it is asked for all that it holds,
+//! is what a stop may leave. Over a disk in memory the steps are carried out again and again, each
+//! time with one more call of the disk before it fails for good: that of the opening, too. Then the
+//! archive has to be closed. What a stop leaves goes on a list of files, each once: where all that
+//! was written since the last sync is lost, or kept, or each byte of it is A7, or 0. So does what
+//! it leaves where the program ends and the system runs on, and another one is ended while it opens
+//! the disk, and one opens it whole. Each file has to be opened, and to hold the state after the
+//! steps that were answered, or that after one more. Its opening is stopped at each call, and goes
+//! on where it was stopped; what is left then goes on the list, too. Between two steps a stop has
+//! to leave one state alone.
 //!
-//! Over an archive on a disk in memory the steps are carried out again and again, each time with
-//! one more call of the disk before it fails for good. What a stop then leaves, whether all that
-//! was written since the last sync is lost or kept, is opened. It has to hold the state after the
-//! steps that were answered, or that after one more. Each opening is stopped at each of its calls
-//! too. Then a program is ended at each call, while the system runs on: a disk that was not made
-//! stable is opened, whole and until a call fails. The file that is left at the end is cut at many
-//! places: it is then no archive, a damaged one, or still holds the last state.
+//! `data/steps` has commands of every kind, `data/leaves` those by which a leaf of the index of
+//! titles becomes two, and one of them goes again: over these all is lost or kept. Over the 15 of
+//! `data/commands` a stop also fills, and openings that follow on a stopped one are stopped.
 //!
-//! Over the steps of `data/faults` each call of the disk fails once, and no other does: the command
-//! is answered so, every one behind it is refused without a call, and the file opens as before or
-//! after it. Each call of an opening fails once too: the disk comes back, and opens as it would.
-//!
-//! `data/commands` has 15 steps more. Over these a stop also fills with one byte, A7 or 0, what was
-//! not stable. What stops of one command leave is a list of files, each of which is opened, and
-//! opened until a call fails, at each call; what a stop then leaves is put on the list. After a
-//! fault the archive has to be closed; between two commands a stop leaves one state alone.
-//!
-//! `data/forged` is a table: changes of a made file, as `OFFSET=BYTES`, and how it is answered:
-//! `NotArchive`, `Damaged`, or `empty`, where it opens as an archive without a tune. `data/jig` has
-//! the one step of an archive that has each kind of page but set lists. Each page of it, and of the
-//! archive that the first 30 steps make, is changed so that it has not its form; and each cut of
-//! the made file, and of that of `data/jig`, inside its pages is opened. All have to be refused.
+//! `data/upgrade` has the one step of an archive of layout 1. It begins with a file of two tunes
+//! that a program wrote which made no other layout: `data/kept` has the bytes of it that are not 0,
+//! as `OFFSET=BYTES`, and `data/kept.script` the commands. `data/many.script` makes 300 tunes of
+//! them. There each call of the upgrade is stopped by each choice, and of an opening each of the
+//! first 64 calls, those of a recovery among them, and then each 61st, since an opening reads a
+//! page of each tune; by which it is all lost or kept.
 #![tactic(auto)]
 
-mod cuts;
-mod forged;
-mod left_files;
-mod numbers;
-mod reopened;
-mod single_faults;
+mod openings;
 mod stops;
-mod texts;
 
-use cuts::{cut_left, cut_made};
-use forged::forge_all;
-use reopened::{reopen_steps, stop_between};
-use single_faults::{Sweep, fault_openings, fault_steps};
+use openings::Way;
 use std::fs::Files;
-use std::io;
 use std::process::ExitCode;
-use stops::{Outcome, end_steps, stop_making, stop_steps};
-use texts::{Texts, states_after};
+use std::{fs, io};
+use stops::{stop_between, stop_making, stop_steps};
+use test_archives::{Course, file_after, kept_file, made_file};
+
+/// By this an archive in memory comes to the layout of a made file.
+const TO_LAYOUT_2: &[u8] = b"upgrade\n";
 
 fn main(rt: HostRuntime) -> io::Result<ExitCode> {
-    let texts = Texts::read(&rt, "steps")?;
-    let states = states_after(rt.alloc(), &texts)?;
-    let making = stop_making(rt.alloc(), &texts, states.as_slice())?;
-    say(&rt, "make", making)?;
-    let steps = stop_steps(rt.alloc(), &texts, states.as_slice())?;
-    say(&rt, "steps", steps)?;
-    let ends = end_steps(rt.alloc(), &texts, states.as_slice())?;
-    say(&rt, "ends", ends)?;
-    let cuts = cut_made(rt.alloc())? && cut_left(rt.alloc(), &texts, states.as_slice())?;
-    if cuts {
-        println!(&rt; "cuts: each leaves no archive, a damaged one, or the last state")?;
-    } else {
-        println!(&rt; "cuts: one leaves another state, or is refused otherwise")?;
-    }
-    let leaves = stop_leaves(&rt)?;
-    let faults = fail_once(&rt)?;
-    let commands = stop_commands(&rt)?;
-    let forged = forge_all(&rt)?;
-    let good = Outcome::AsBeforeOrAfter;
-    let stops = making == good && steps == good && ends == good && leaves && commands;
-    if stops && cuts && faults && forged {
+    let made = stop_made(&rt)?;
+    let upgraded = stop_upgrades(&rt)?;
+    if made && upgraded {
         Ok(ExitCode::SUCCESS)
     } else {
         Ok(ExitCode::FAILURE)
     }
 }
 
-// Stops an archive at the steps by which leaves come and go, and says whether all is well.
-fn stop_leaves<R: Files + Print + AllocGlobal>(rt: &R) -> io::Result<bool> {
-    let texts = Texts::read(rt, "leaves")?;
-    let states = states_after(rt.alloc(), &texts)?;
-    let steps = stop_steps(rt.alloc(), &texts, states.as_slice())?;
-    say(rt, "steps on leaves", steps)?;
-    let ends = end_steps(rt.alloc(), &texts, states.as_slice())?;
-    say(rt, "ends on leaves", ends)?;
-    Ok(steps == Outcome::AsBeforeOrAfter && ends == Outcome::AsBeforeOrAfter)
+// Stops archives that are made, and those that begin with a made file, and says whether all is
+// well.
+fn stop_made<R: Files + Print + AllocGlobal>(rt: &R) -> io::Result<bool> {
+    let file = made_file(rt.alloc())?;
+    let course = Course::read(rt, "steps", &file, TO_LAYOUT_2)?;
+    let making = stop_making(rt.alloc(), &course)?;
+    let making = say(rt, "make", making)?;
+    let steps = stop_course(rt, "steps", &course, &Way::ONCE)?;
+    let course = Course::read(rt, "leaves", &file, TO_LAYOUT_2)?;
+    let leaves = stop_course(rt, "steps on leaves", &course, &Way::ONCE)?;
+    let course = Course::read(rt, "commands", &file, TO_LAYOUT_2)?;
+    let commands = stop_course(rt, "commands", &course, &Way::AGAIN)?;
+    Ok(making && steps && leaves && commands)
 }
 
-// Stops an archive at the commands by each choice, and the openings of what is left, and says
-// whether all is well.
-fn stop_commands<R: Files + Print + AllocGlobal>(rt: &R) -> io::Result<bool> {
-    let texts = Texts::read(rt, "commands")?;
-    let states = states_after(rt.alloc(), &texts)?;
-    let reopened = reopen_steps(rt.alloc(), &texts, states.as_slice())?;
-    say(rt, "commands, and openings of what is left", reopened)?;
-    let between = stop_between(rt.alloc(), &texts, states.as_slice())?;
-    say(rt, "between commands", between)?;
-    Ok(reopened == Outcome::AsBeforeOrAfter && between == Outcome::AsBeforeOrAfter)
+// Stops archives of layout 1 in an upgrade, and says whether all is well.
+fn stop_upgrades<R: Files + Print + AllocGlobal>(rt: &R) -> io::Result<bool> {
+    let file = kept_file(rt, "kept")?;
+    let mut script = fs::read(rt, "kept.script")?;
+    let course = Course::read(rt, "upgrade", &file, &script)?;
+    let two = stop_course(rt, "upgrade of 2 tunes", &course, &Way::AGAIN)?;
+    let more = fs::read(rt, "many.script")?;
+    let file = file_after(rt.alloc(), &file, &more)?;
+    script.extend_from_slice(&more)?;
+    let course = Course::read(rt, "upgrade", &file, &script)?;
+    let many = stop_course(rt, "upgrade of 300 tunes", &course, &Way::APART)?;
+    Ok(two && many)
 }
 
-// Has each call of the disk fail once, and says whether all is well.
-fn fail_once<R: Files + Print + AllocGlobal>(rt: &R) -> io::Result<bool> {
-    let texts = Texts::read(rt, "faults")?;
-    let states = states_after(rt.alloc(), &texts)?;
-    let steps = fault_steps(rt.alloc(), &texts, states.as_slice())?;
-    say_faults(rt, "faults in steps", steps)?;
-    let openings = fault_openings(rt.alloc(), &texts)?;
-    say_faults(rt, "faults in openings", openings)?;
-    Ok(steps == Sweep::AsTold && openings == Sweep::AsTold)
+// Stops an archive at the steps of a course, and between them, and says whether all is well.
+fn stop_course<R: Print + AllocGlobal>(
+    rt: &R,
+    name: &str,
+    course: &Course,
+    way: &Way,
+) -> io::Result<bool> {
+    let steps = stop_steps(rt.alloc(), course, way)?;
+    let between = stop_between(rt.alloc(), course)?;
+    say(rt, name, steps.or(between))
 }
 
-// Prints what came of a sweep of faults.
-fn say_faults<R: Print>(rt: &R, name: &str, sweep: Sweep) -> io::Result<()> {
-    match sweep {
-        Sweep::AsTold => println!(rt; "{name}: each is told, and leaves the state before or after"),
-        Sweep::TooFew => println!(rt; "{name}: the disk was hardly called"),
-        Sweep::Otherwise(calls) => println!(rt; "{name}: one at call {calls} is not as told"),
+// Prints what came of a sweep of stops: the call, or the step, at which it was not as it should be.
+fn say<R: Print>(rt: &R, name: &str, wrong: Option<u64>) -> io::Result<bool> {
+    match wrong {
+        None => println!(rt; "{name}: each stop leaves the state before a command or after it")?,
+        Some(at) => println!(rt; "{name}: what a stop at {at} leaves is not as it should be")?,
     }
-}
-
-// Prints what came of a sweep of stops.
-fn say<R: Print>(rt: &R, name: &str, outcome: Outcome) -> io::Result<()> {
-    match outcome {
-        Outcome::AsBeforeOrAfter => {
-            println!(rt; "{name}: each stop leaves the state before a command or after it")
-        }
-        Outcome::TooFew => println!(rt; "{name}: the disk was hardly called"),
-        Outcome::Unlike(calls) => {
-            println!(rt; "{name}: a stop at call {calls} leaves another state")
-        }
-        Outcome::NotOpened(calls) => {
-            println!(rt; "{name}: what a stop at call {calls} leaves is not opened")
-        }
-        Outcome::StaysOpen(calls) => {
-            println!(rt; "{name}: after a fault at call {calls} the archive is not closed")
-        }
-        Outcome::TooMany => println!(rt; "{name}: ever more files are left"),
-    }
+    Ok(wrong.is_none())
 }
