@@ -77,6 +77,7 @@ impl<D: Disk> Catalog for Archive<D> {
         Label {
             number: row.number,
             revision: row.revision,
+            length: row.length,
         }
     }
 

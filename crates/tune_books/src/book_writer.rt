@@ -35,6 +35,16 @@ impl BookWriter {
         Ok(BookWriter { bytes })
     }
 
+    /// A book without tunes, with room for so many bytes: up to these it takes no more memory. The
+    /// error is out of memory.
+    pub fn with_room(alloc: Global, room: usize) -> Result<BookWriter, AllocError>
+        ensures { IfOk result (λ writer. writer ≡ book_header) }
+    {
+        let mut bytes = Vec::with_capacity(alloc, room)?;
+        bytes.extend_from_slice(b"%abc-2.1\n")?;
+        Ok(BookWriter { bytes })
+    }
+
     /// A set without tunes: the first line of a book, and a comment that names the set (this
     /// archive's profile). The error is out of memory.
     pub fn of_set(alloc: Global, name: &[u8]) -> Result<BookWriter, AllocError>

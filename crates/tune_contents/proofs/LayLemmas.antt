@@ -53,7 +53,7 @@ some_chain s rows place first l is (ahead, tunes, holds) =
 
 pub puts_tune : (s new : Stand) (rows : List Row) (place first next : ℕ) (tune : Tune) → place < length rows → IsFirstAt rows place first
     → SwapsChain s new first next (written_tune tune)
-    → LaysTunes s new rows (slice_set rows place (record { number = tune.number; revision = tune.revision; first = next }))
+    → LaysTunes s new rows (slice_set rows place (record { number = tune.number; revision = tune.revision; first = next; length = length tune.text }))
     (λ tunes. slice_set tunes place tune)
 puts_tune s new rows place first next tune l is swap = λ ahead tunes holds.
     (let at = there s ahead tunes rows place first l is holds in
@@ -81,7 +81,7 @@ takes_tune s new rows place first l is freed = λ ahead tunes holds.
     subst (λ (t : Stand). HoldsTunes t ahead (remove tunes place) (remove rows place)) (sym gone) left)
 
 pub adds_tune : (s new : Stand) (rows : List Row) (next : ℕ) (tune : Tune) (along : List ℕ) → PutsChain s new next along (written_tune tune)
-    → LaysTunes s new rows (rows ++ record { number = tune.number; revision = tune.revision; first = next } ∷ []) (λ tunes. tunes ++ tune ∷ [])
+    → LaysTunes s new rows (rows ++ record { number = tune.number; revision = tune.revision; first = next; length = length tune.text } ∷ []) (λ tunes. tunes ++ tune ∷ [])
 adds_tune s new rows next tune along put = λ ahead tunes holds.
     (let part : Part = chain_part next along (written_tune tune) in
     record {

@@ -202,7 +202,7 @@ ranged_rise first (suc count) from (row ∷ rows) above is fit =
     )
 
 abbrev some_row : Row
-some_row = record { number = 0; revision = 0; first = 0 }
+some_row = record { number = 0; revision = 0; first = 0; length = 0 }
 
 module _ (was is more : List Row) (come : List Entry) (joined : is ≡ was ++ more)
     (comes : come ≡ number_entries (take (length is - length was) (drop (length was) is))) (own : AllFit key_bytes come) where
@@ -252,13 +252,13 @@ module _ (was is : List Row) (place : ℕ) (d : Row) (gone come : List Entry) (l
   moved_entries number to (inr (same, none)) found goes comes = absurd (none rise place d l (found d))
   moved_entries number to (inl moves) found goes comes =
       let row = moves.row in
-      let new : Row = record { number = to; revision = row.revision; first = row.first } in
+      let new : Row = record { number = to; revision = row.revision; first = row.first; length = row.length } in
       let at : place ≡ moves.place = same_place was place moves.place d rise l moves.within
       (found d ∙ sym (ap (λ (r : Row). r.number) (moves.found d) ∙ moves.numbered)) in
       let there : get_or was place d ≡ row = ap (λ (n : ℕ). get_or was n d) at ∙ moves.found d in
       let go : gone ≡ row_entry row ∷ [] = goes ∙ ap (λ (r : Row). row_entry r ∷ []) there in
       let come_new : come ≡ row_entry new ∷ [] =
-      comes ∙ ap (λ (r : Row). row_entry (record { number = to; revision = r.revision; first = r.first }) ∷ []) there in
+      comes ∙ ap (λ (r : Row). row_entry (record { number = to; revision = r.revision; first = r.first; length = r.length }) ∷ []) there in
       let own_new : AllFit key_bytes (row_entry new ∷ []) = subst (AllFit key_bytes) come_new own in
       let left = remove was moves.place in
       let es = number_entries was in

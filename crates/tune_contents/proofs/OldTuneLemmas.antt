@@ -21,7 +21,7 @@ use Rattle.tune_contents.specs.Texts.{HoldsSomeText, HoldsText}
 use Rattle.tune_contents.proofs.RowLemmas.{rows_rise}
 
 abbrev pub some_row : Row
-some_row = record { number = 0; revision = 0; first = 0 }
+some_row = record { number = 0; revision = 0; first = 0; length = 0 }
 
 abbrev pub some_tune : Tune
 some_tune = record { number = 0; revision = 0; text = [] }

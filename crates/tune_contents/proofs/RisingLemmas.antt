@@ -62,7 +62,7 @@ are_rows rows are = record {
 
 -- A TUNE IN THE PLACE OF ANOTHER
 abbrev some_row : Row
-some_row = record { number = 0; revision = 0; first = 0 }
+some_row = record { number = 0; revision = 0; first = 0; length = 0 }
 
 -- the number at a place is that of the label there
 number_there : (rows : List Row) (place number : ℕ) → ((d : Label) → (get_or (labels_in rows) place d).number ≡ number)

@@ -96,7 +96,7 @@ rows_rise low (tune ∷ tunes) [] holds rises = tt
 rows_rise low (tune ∷ tunes) (part ∷ texts) holds rises = (rises.0, rows_rise tune.number tunes texts (later_held part texts tune tunes holds) rises.1)
 
 abbrev some_row : Row
-some_row = record { number = 0; revision = 0; first = 0 }
+some_row = record { number = 0; revision = 0; first = 0; length = 0 }
 
 abbrev some_tune : Tune
 some_tune = record { number = 0; revision = 0; text = [] }
@@ -181,10 +181,10 @@ module _ (rows : List Row) (number to place at : ℕ) (row : Row) (l : place < l
   new = record { number = to; revision = there.tune.revision; text = there.tune.text }
 
   abbrev new_row : Row
-  new_row = record { number = to; revision = row.revision; first = row.first }
+  new_row = record { number = to; revision = row.revision; first = row.first; length = row.length }
 
   new_row_is : new_row ≡ row_of new there.part
-  new_row_is = ap (λ (r : Row). record { number = to; revision = r.revision; first = r.first }) is_row
+  new_row_is = ap (λ (r : Row). record { number = to; revision = r.revision; first = r.first; length = r.length }) is_row
 
   left_is : insert (remove rows place) at new_row ≡ rows_of (insert (remove tunes place) at new) (insert (remove texts place) at there.part)
   left_is =
@@ -206,6 +206,6 @@ module _ (rows : List Row) (number to place at : ℕ) (row : Row) (l : place < l
 -- the row of a number is taken out, and put in where its new number belongs
 pub moves_row : (rows : List Row) (number to place at : ℕ) (row : Row) → place < length rows → ((d : Row) → (get_or rows place d).number ≡ number)
     → row ≡ get_or rows place row → at ≤ length (remove rows place) → (RowsRise 0 (remove rows place) → IsRowAfter to (remove rows place) at)
-    → MovesTunes rows (insert (remove rows place) at (record { number = to; revision = row.revision; first = row.first })) number to
+    → MovesTunes rows (insert (remove rows place) at (record { number = to; revision = row.revision; first = row.first; length = row.length })) number to
 moves_row rows number to place at row l named is within after = λ s ahead tunes rises holds.
     moves_this rows number to place at row l named is within after s ahead tunes rises holds

@@ -21,7 +21,8 @@ use Rattle.tune_contents.specs.declared.contents.Contents.{Contents}
 
 -- the label of the tune of a row
 abbrev pub label_in : Row → Label
-label_in row = record { number = row.number; revision = row.revision }
+label_in row =
+    record { number = row.number; revision = row.revision; length = row.length }
 
 -- the labels of the tunes of rows
 abbrev pub labels_in : List Row → List Label

@@ -232,7 +232,7 @@ fn claim_part<D: Disk>(
     opening.claim_chain_within(first, most)
 }
 
-// The rows of the entries of the index of numbers, with no revision yet. Their numbers have to rise
+// The rows of the entries of the index of numbers, with no revision and no length yet. Their numbers have to rise
 // and to be within the limits.
 fn listed_rows(
     alloc: Global,
@@ -279,6 +279,7 @@ fn listed_row(entry: &(IndexKey<32>, u32), low: u32) -> Option<Row>
         number,
         revision: 0,
         first: entry.1,
+        length: 0,
     })
 }
 
@@ -344,7 +345,8 @@ fn numbers_of(alloc: Global, rows: &[Row]) -> Result<Vec<u32>, AllocError>
 }
 
 // Claims the tune of each of these rows, whose number has to stand at the keys of its text in the
-// search indexes, and no other number at any; gives the rows with their revisions.
+// search indexes, and no other number at any; gives the rows with their revisions
+// and lengths.
 fn claim_rows<D: Disk>(
     alloc: Global,
     opening: &mut Opening<D>,
@@ -368,7 +370,7 @@ fn claim_rows<D: Disk>(
     claim_tunes(alloc, opening, layout, listed, &claims)
 }
 
-// Claims the tune of each of these rows, and gives them with their revisions.
+// Claims the tune of each of these rows, and gives them with their revisions and lengths.
 fn claim_tunes<D: Disk>(
     alloc: Global,
     opening: &mut Opening<D>,
@@ -422,11 +424,13 @@ fn claim_tune<D: Disk>(
     let most = pages_for(layout.longest_text() + REVISION_BYTES);
     let bytes = claim_part(opening, row.first, most)?;
     let (revision, text) = text_of(alloc, layout, &bytes)?;
+    let length = text.bytes().len() as u32;
     match claims.claim_tune(alloc, place, &text) {
         Ok(true) => Ok(Row {
             number: row.number,
             revision,
             first: row.first,
+            length,
         }),
         Ok(false) => Err(ClaimFault::Damaged),
         Err(_) => Err(ClaimFault::OutOfMemory),

@@ -97,6 +97,7 @@ pub(crate) fn put_tune<D: Disk>(
         number: tune.number,
         revision: tune.revision,
         first,
+        length: tune.text.bytes().len() as u32,
     };
     Ok(())
 }
@@ -155,6 +156,7 @@ fn add_tune<D: Disk>(
         number,
         revision: 1,
         first,
+        length: text.bytes().len() as u32,
     };
     if rows.push(row).is_err() {
         return Err(Fault::OutOfMemory);

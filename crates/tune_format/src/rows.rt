@@ -14,6 +14,8 @@ pub struct Row {
     pub revision: u16,
     /// The first page of its chain.
     pub first: u32,
+    /// How many bytes its text has.
+    pub length: u32,
 }
 
 /// The entry of a tune in the index of numbers: at the key of its number the first page of its

@@ -29,7 +29,7 @@ abbrev pub no_tune : Tune
 no_tune = record { number = 0; revision = 0; text = [] }
 
 abbrev pub no_label : Label
-no_label = record { number = 0; revision = 0 }
+no_label = record { number = 0; revision = 0; length = 0 }
 
 -- there are as many labels as tunes
 pub labels_long : (tunes : List Tune) (labels : List Label) → labels_of tunes ≡ labels → length tunes ≡ length labels

@@ -1,11 +1,12 @@
 -- What is known of tunes without their texts.
-use Rattle.std.specs.Prelude.{ℕ, ◌<◌, List, [], ◌∷◌, map, ⊤}
+use Rattle.std.specs.Prelude.{ℕ, ◌<◌, List, [], ◌∷◌, length, map, ⊤}
 use Rattle.tune_store.specs.declared.tune.Tune.{Tune}
 use Rattle.tune_store.specs.declared.catalog.Label.{Label}
 
 -- the label of a tune
 abbrev pub label_of : Tune → Label
-label_of tune = record { number = tune.number; revision = tune.revision }
+label_of tune =
+    record { number = tune.number; revision = tune.revision; length = length tune.text }
 
 -- the labels of tunes
 abbrev pub labels_of : List Tune → List Label

@@ -26,6 +26,8 @@ pub struct Label {
     pub number: u32,
     /// Its revision.
     pub revision: u16,
+    /// How many bytes its text has.
+    pub length: u32,
 }
 
 /// What a store tells of what it holds: the label of each tune and the set lists, which it knows at

@@ -120,6 +120,7 @@ impl Catalog for ListArchive {
         Label {
             number: tune.number,
             revision: tune.revision,
+            length: tune.text.bytes().len() as u32,
         }
     }
 

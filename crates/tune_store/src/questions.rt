@@ -28,6 +28,12 @@ use tune_books::BookWriter;
 use tune_queries::{Query, Sought};
 use tune_titles::{ShownRow, index_title, sort_shown};
 
+// How many bytes a written book has ahead of its first tune, and ahead of a text at most: an empty
+// line, and the line `X:` with a number of ten digits.
+const HEADER_BYTES: usize = 9;
+
+const FRONT_BYTES: usize = 14;
+
 // A copy of the tune of a number.
 pub(crate) fn show<C: Catalog>(alloc: Global, catalog: &mut C, number: u32) -> Result<Plan, Refusal>
     ensures planned { let state = C.state catalog.old in
@@ -243,7 +249,17 @@ fn row_at<C: Catalog>(alloc: Global, catalog: &mut C, number: u32) -> Result<Ind
     Ok(row_of(alloc, number, catalog.text(place))?)
 }
 
-// The written book of all tunes.
+// How many bytes the written book of all tunes has at most.
+fn room_for_book<C: Catalog>(catalog: &C) -> usize {
+    let mut room = HEADER_BYTES;
+    for place in 0..catalog.len() {
+        let text = catalog.label(place).length as usize;
+        room = room.saturating_add(FRONT_BYTES + text);
+    }
+    room
+}
+
+// The written book of all tunes. Room for all of it is asked for before a text is fetched.
 pub(crate) fn export<C: Catalog>(alloc: Global, catalog: &mut C) -> Result<Plan, Refusal>
     ensures planned { let state = C.state catalog.old in C.honest catalog.new
         → Decided state result (state, Ok (reply.Exported (exported state.tunes))) }
@@ -252,7 +268,7 @@ pub(crate) fn export<C: Catalog>(alloc: Global, catalog: &mut C) -> Result<Plan,
     ensures fetched { MatchResult result (λ _. C.fetched catalog.old catalog.new)
         (λ refusal. EndsFetch C.fetched C.failed catalog.old refusal catalog.new) }
 {
-    let mut book = BookWriter::new(alloc)?;
+    let mut book = BookWriter::with_room(alloc, room_for_book(catalog))?;
     for place in 0..catalog.len() {
         let number = catalog.label(place).number;
         catalog.fetch(place)?;

@@ -173,6 +173,7 @@ pub record ClaimsTune (layout : Layout) (pages : List (List ℕ)) (front : List 
   pub claims : ClaimsPart pages front now row.first bytes
   pub text : List ℕ
   pub tune : IsTuneChain layout bytes row.revision text
+  pub measured : row.length ≡ length text
   pub keys : StandsAtKeys runs row.number text
 
 -- Behind these parts some tune stands there at whose keys this number stands, and more parts

@@ -20,7 +20,7 @@ pub record MovesRow (number to : ℕ) (was is : List Row) : Type 0 where
   pub numbered : row.number ≡ number
   pub there : next ≤ length (remove was place)
   pub moved : is ≡ insert (remove was place) next
-      (record { number = to; revision = row.revision; first = row.first })
+      (record { number = to; revision = row.revision; first = row.first; length = row.length })
 
 -- no row has this number
 abbrev pub HasNoRow : ℕ → List Row → Type 0

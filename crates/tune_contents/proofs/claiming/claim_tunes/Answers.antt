@@ -27,7 +27,7 @@ returns-in_err-row-clause-damaged g c =
     let p = err_from_is_err_and c.from_residual.result c.from_residual.ensures.1 in
     let list : List Row = c.args.listed.now in
     let place : ℕ = c.loop-place.place in
-    let d : Row = record { number = 0; revision = 0; first = 0 } in
+    let d : Row = record { number = 0; revision = 0; first = 0; length = 0 } in
     let at : drop place list ≡ get_or list place d ∷ drop (place + 1) list = list_at list place d c.loop-place-test.true in
     rw p.1 (λ h front has.
     let one = call.looks.was_honest h in
@@ -41,7 +41,7 @@ loop-place-preserved g c =
     let r = c.in_ok-row.row in
     let list : List Row = c.args.listed.now in
     let place : ℕ = c.loop-place.place in
-    let d : Row = record { number = 0; revision = 0; first = 0 } in
+    let d : Row = record { number = 0; revision = 0; first = 0; length = 0 } in
     let at : drop place list ≡ get_or list place d ∷ drop (place + 1) list = list_at list place d c.loop-place-test.true in
     let pushed : c.push.new.self.items ≡ c.loop-place.rows.items ++ r ∷ [] = grind (arith, c.push.ensures.items, c.is_err.ensures) in
     record {

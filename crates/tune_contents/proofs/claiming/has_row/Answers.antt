@@ -9,7 +9,7 @@ use Rattle.tune_contents.proofs.claiming.has_row.Goals as goal
 pub returns-in-Ok : goal.returns-in-Ok
 returns-in-Ok c =
     let key : Row → ℕ = λ row. row.number in
-    let d : Row = record { number = 0; revision = 0; first = 0 } in
+    let d : Row = record { number = 0; revision = 0; first = 0; length = 0 } in
     let equal = c.in-Ok.ensures.position key (always_returns_same _ _ _ (λ a r f' k. (search rules, search rules))) in
     ((λ yes. has_at c.args.number c.args.rows.now c.in-Ok.field-0 d c.in-Ok.ensures.bound (ranked _ _ _ (sym (equal d)))), (λ has. refl))
 

@@ -9,6 +9,6 @@ pub loop-row-preserved : goal.loop-row-preserved
 loop-row-preserved c =
     let rows : List Row = c.args.rows.now in
     let i : ℕ = c.loop-row.row-index in
-    let d : Row = record { number = 0; revision = 0; first = 0 } in
+    let d : Row = record { number = 0; revision = 0; first = 0; length = 0 } in
     let lt : i < length (numbers_in rows) = omega (arith, c.loop-row-test.true, length-map rows (λ (row : Row). row.number)) in
     c.in_ok-push.ensures.items ∙ (λ j. c.loop-row.invariant j ++ sym (number_at_row rows i d refl) j ∷ []) ∙ sym (take_more (numbers_in rows) i 0 lt)

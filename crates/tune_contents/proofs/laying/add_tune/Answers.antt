@@ -13,7 +13,7 @@ use Rattle.tune_contents.proofs.laying.add_tune.Goals as goal
 pub returns-clause-lays : goal.returns-clause-lays
 returns-clause-lays g c =
     let tune : Tune = record { number = c.args.number; revision = 1; text = c.args.text.now } in
-    let row : Row = record { number = c.args.number; revision = 1; first = c.in_ok-first.first } in
+    let row : Row = record { number = c.args.number; revision = 1; first = c.in_ok-first.first; length = length c.args.text.now } in
     let bytes : c.deref.result.now ≡ written_tune tune = c.deref.ensures.value ∙ c.in-Ok.ensures
     ∙ ap (λ (text : List ℕ). written_text 1 text) c.bytes.ensures.value in
     let pushed : c.push.new.self.items ≡ c.args.rows.now.items ++ row ∷ [] = search rules in
@@ -26,7 +26,7 @@ returns-clause-lays g c =
 
 pub returns-clause-row : goal.returns-clause-row
 returns-clause-row g c =
-    let row : Row = record { number = c.args.number; revision = 1; first = c.in_ok-first.first } in
+    let row : Row = record { number = c.args.number; revision = 1; first = c.in_ok-first.first; length = length c.args.text.now } in
     let pushed : c.push.new.self.items ≡ c.args.rows.now.items ++ row ∷ [] = search rules in
     (row, pushed, refl)
 

@@ -24,4 +24,4 @@ returns-clause-lays g c = λ h.
 pub returns-clause-row : goal.returns-clause-row
 returns-clause-row g c =
     let tune = c.args.tune.now in
-    (record { number = tune.number; revision = tune.revision; first = c.in_ok-first.first }, c.requires.place, refl, refl)
+    (record { number = tune.number; revision = tune.revision; first = c.in_ok-first.first; length = _ }, c.requires.place, refl, refl)

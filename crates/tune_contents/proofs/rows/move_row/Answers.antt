@@ -15,7 +15,7 @@ returns-in-Some-clause-moves c =
     let within : c.in-Some.place < length rows = rw c.deref.ensures.value at c.in-Some.ensures.within in
     let found = rw c.deref.ensures.value at c.in-Some.ensures.found in
     let left : c.deref-in-Some.result.now ≡ remove rows c.in-Some.place = c.deref-in-Some.ensures.value ∙ c.remove-row.ensures.items in
-    let new : Row = record { number = c.args.to; revision = row.revision; first = row.first } in
+    let new : Row = record { number = c.args.to; revision = row.revision; first = row.first; length = row.length } in
     let put : c.insert.new.self.items ≡ insert c.remove-row.new.self.items c.place_after-place.result new = search rules in
     subst (λ (r : List Row). MovesTunes rows r c.args.number c.args.to)
     (sym (put ∙ ap (λ (r : List Row). insert r c.place_after-place.result new) c.remove-row.ensures.items))
@@ -29,7 +29,7 @@ returns-in-Some-clause-rows c = λ layout are none some most.
     let row = c.remove-row.result in
     let within : c.in-Some.place < length rows = rw c.deref.ensures.value at c.in-Some.ensures.within in
     let left : c.deref-in-Some.result.now ≡ remove rows c.in-Some.place = c.deref-in-Some.ensures.value ∙ c.remove-row.ensures.items in
-    let new : Row = record { number = c.args.to; revision = row.revision; first = row.first } in
+    let new : Row = record { number = c.args.to; revision = row.revision; first = row.first; length = row.length } in
     let put : c.insert.new.self.items ≡ insert c.remove-row.new.self.items c.place_after-place.result new = search rules in
     subst (AreRows layout) (sym (put ∙ ap (λ (r : List Row). insert r c.place_after-place.result new) c.remove-row.ensures.items))
     (rows_moved rows c.args.to c.in-Some.place c.place_after-place.result new within
@@ -49,7 +49,7 @@ returns-in-Some-clause-row c =
     let within : c.in-Some.place < length rows = rw c.deref.ensures.value at c.in-Some.ensures.within in
     let found = rw c.deref.ensures.value at c.in-Some.ensures.found in
     let left : c.deref-in-Some.result.now ≡ remove rows c.in-Some.place = c.deref-in-Some.ensures.value ∙ c.remove-row.ensures.items in
-    let new : Row = record { number = c.args.to; revision = row.revision; first = row.first } in
+    let new : Row = record { number = c.args.to; revision = row.revision; first = row.first; length = row.length } in
     let put : c.insert.new.self.items ≡ insert c.remove-row.new.self.items c.place_after-place.result new = search rules in
     let there : row ≡ get_or rows c.in-Some.place row = c.remove-row.ensures.value in
     inl (record {
