@@ -74,8 +74,8 @@ def importing(book):
 # All these tunes begin with the notes D F A d f a of the key of D, in the same steps.
 NOTES = b'find notes D^FAd^fa\n'
 ONE_MORE = b'X:1\nT:Tune 9\nR:reel\nK:D\nDFA dfa|\n'
-LEAVES = [importing(FULL_LEAF), importing(TWO_MORE), b'find title tune 7\n', b'delete 57\n', UPGRADE,
-          NOTES, importing(ONE_MORE), b'delete 58\n', b'find rhythm jig\n', b'export\n']
+LEAVES = [importing(FULL_LEAF), importing(TWO_MORE), b'find title tune 7\n', b'delete 57\n',
+          UPGRADE, NOTES, importing(ONE_MORE), b'delete 58\n', b'find rhythm jig\n', b'export\n']
 OLD_LEAVES = [UPGRADE, NOTES, importing(ONE_MORE), b'delete 58\n', UPGRADE, b'export\n']
 OLD_TUNES = {number: Tune(b'T:Tune %d\nR:reel\nK:D\nDFA dfa|\n' % number, (b'tune %d' % number,),
                           b'reel', b'D 0', (4, 3, 5, 4, 3)) for number in range(1, 114)}
@@ -351,8 +351,8 @@ def main():
 
 def counts(answers):
     numbers = [answer if answer in (None, 'not told') else answer[0] for answer in answers]
-    return (f'{len(answers)} refusals, {numbers.count(21)} answered 21, {numbers.count(22)} '
-            f'answered 22, {numbers.count(None)} not answered, {numbers.count("not told")} not told')
+    return (f'{len(answers)} refusals, {numbers.count(21)} answered 21, {numbers.count(22)} answered '
+            f'22, {numbers.count(None)} not answered, {numbers.count("not told")} not told')
 
 
 if __name__ == '__main__':

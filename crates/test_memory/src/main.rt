@@ -4,23 +4,23 @@
 //! ```sh
 //! test_memory list                        # over an archive in memory
 //! test_memory make                        # over one that is made in a file, on a disk in memory
-//! test_memory open FILE CALLS lost|kept   # over that of a file, on a disk that so many calls stop
+//! test_memory open FILE CALLS lost|kept   # over that of a file, up to a stop after so many calls
 //! ```
 //!
 //! The input has pieces, each of one command and a line `--` behind it, and behind a line `==`
-//! others, which ask. Each piece is a script of its own; its line `--` is a bad one, and is answered
-//! so where the text before it was read. Room for all that is told is taken first. Then come the
-//! pieces in front. What they leave in a file is then opened, once more where that is refused; and
-//! then come those that ask.
+//! others, which ask. Each piece is a script of its own; its line `--` is a bad one, and is
+//! answered so where the text before it was read. Room for all that is told is taken first. Then
+//! come the pieces in front. What they leave in a file is then opened, once more where that is
+//! refused; and then come those that ask.
 //!
 //! The replies to a piece are told, and a line `== END LEFT`: how its run ended, and how many bytes
 //! of it are left. `== refused WHY` stands where an archive was not made, or not opened; behind the
 //! pieces in front with how many bytes the file has, and `== layout N` where it was opened.
 //!
 //! All is printed at the end, with the status 0. The status is 1 where memory was refused for what
-//! this program itself does, and 4 where the words name nothing. No allocation is refused by itself:
-//! `checks/refuse_memory.py` runs it again and again, with another one refused each time, and judges
-//! what it tells.
+//! this program itself does, and 4 where the words name nothing. No allocation is refused by
+//! itself: `checks/refuse_memory.py` runs it again and again, with another one refused each time,
+//! and judges what it tells.
 #![tactic(auto)]
 
 mod archives;

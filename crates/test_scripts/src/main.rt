@@ -1,12 +1,12 @@
-//! The program `test_scripts`: runs each script of `data/` over an empty archive in memory, over one
-//! in a file of layout 1, and over one in a file that is made, and compares what it comes to with
-//! what is written beside it.
+//! The program `test_scripts`: runs each script of `data/` over an empty archive in memory, over
+//! one in a file of layout 1, and over one in a file that is made, and compares what it comes to
+//! with what is written beside it.
 //!
 //! `data/cases` has a line for each script: its NAME, and how its run ends. NAME.script is the
 //! script, and NAME.replies has the bytes of its replies. Those of `cases-of-layout-1` run over an
-//! archive that begins in that layout, in memory or in a file, and those of `cases-of-layout-2` over
-//! a made one. The program prints a line for each, and how many came out as written; where one did
-//! not, it ends with status 1.
+//! archive that begins in that layout, in memory or in a file, and those of `cases-of-layout-2`
+//! over a made one. The program prints a line for each, and how many came out as written; where one
+//! did not, it ends with status 1.
 #![tactic(auto)]
 
 mod cases;
