@@ -351,8 +351,9 @@ def main():
 
 def counts(answers):
     numbers = [answer if answer in (None, 'not told') else answer[0] for answer in answers]
-    return (f'{len(answers)} refusals, {numbers.count(21)} answered 21, {numbers.count(22)} answered '
-            f'22, {numbers.count(None)} not answered, {numbers.count("not told")} not told')
+    return (f'{len(answers)} refusals, {numbers.count(21)} answered 21, {numbers.count(22)} '
+            f'answered 22, {numbers.count(None)} not answered, '
+            f'{numbers.count("not told")} not told')
 
 
 if __name__ == '__main__':
