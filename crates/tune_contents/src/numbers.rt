@@ -85,6 +85,7 @@ fn moved_runs(alloc: Global, row: &Row, to: u32) -> Result<NumberRuns, AllocErro
           number = to;
           revision = row.now.revision;
           first = row.now.first;
+          length = row.now.length;
         } ∷ []))) }
     ensures fit { IfOk result (λ runs. AllFit key_bytes runs.come.items) }
 {

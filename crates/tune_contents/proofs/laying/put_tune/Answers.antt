@@ -11,7 +11,7 @@ swap_chain-requires-clause-chain g c = λ h.
     (rw c.deref.ensures.value at c.first_at.ensures) (c.requires.holds h)
 
 pub returns-clause-lays : goal.returns-clause-lays
-returns-clause-lays g c = λ h.
+returns-clause-lays g c = λ h. rw c.bytes-2.ensures.value
     (let tune = c.args.tune.now in
     let bytes : c.deref-2.result.now ≡ written_tune tune = c.deref-2.ensures.value ∙ c.in-Ok.ensures
     ∙ ap (λ (text : List ℕ). written_text tune.revision text) c.bytes.ensures.value in
