@@ -16,6 +16,7 @@ returns-clause-ok c =
     let words_3 = c.split_word-3.ensures.some some_3 ∙ ap (λ (ws : List (List ℕ)). c.split_word-3.result.0.now ∷ ws) (c.split_word-4.ensures.some some_4) in
     let words_2 = c.split_word-2.ensures.some some_2 ∙ ap (λ (ws : List (List ℕ)). c.split_word-2.result.0.now ∷ ws) words_3 in
     let words = c.split_word.ensures.some some ∙ ap (λ (ws : List (List ℕ)). c.split_word.result.0.now ∷ ws) words_2 in
-    let bad : meaning_of (words_of c.args.line.now) ≡ Bad = ap meaning_of words ∙ many_words c.split_word.result.0.now c.split_word-2.result.0.now c.split_word-3.result.0.now
-    c.split_word-4.result.0.now c.split_word-4.result.1.now later in
+    let many = many_words c.split_word.result.0.now c.split_word-2.result.0.now c.split_word-3.result.0.now c.split_word-4.result.0.now
+    c.split_word-4.result.1.now later in
+    let bad : meaning_of (words_of c.args.line.now) ≡ Bad = ap meaning_of words ∙ many in
     search (rules, bad)

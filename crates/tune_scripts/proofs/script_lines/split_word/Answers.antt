@@ -31,7 +31,8 @@ pub returns-in-Some-clause-none : goal.returns-in-Some-clause-none
 returns-in-Some-clause-none c = no_word c.args.line.now c.split_at.result.0.now (returns-in-Some-clause-word c)
 
 pub returns-in-Some-clause-some : goal.returns-in-Some-clause-some
-returns-in-Some-clause-some c = next_word c.args.line.now c.split_at.result.0.now c.trim_blanks.result.now (returns-in-Some-clause-word c) (returns-in-Some-clause-rest c)
+returns-in-Some-clause-some c =
+    next_word c.args.line.now c.split_at.result.0.now c.trim_blanks.result.now (returns-in-Some-clause-word c) (returns-in-Some-clause-rest c)
 
 pub returns-in-Some-clause-more : goal.returns-in-Some-clause-more
 returns-in-Some-clause-more c = later_word c.args.line.now c.trim_blanks.result.now (word_of c.trim_blanks.result.now) (returns-in-Some-clause-rest c) refl
