@@ -136,7 +136,7 @@ in_memory() { "$program" list < "$work/archive_memory"; }
 compare() {
     local skipped=2
     if [ "$1" = check ]; then
-        echo "layout 1 tunes $tunes sets 0" > "$work/archive_wanted"
+        echo "layout 2 tunes $tunes sets 0" > "$work/archive_wanted"
     else
         [ "$1" = import ] && skipped=1
         put_script "$1"

@@ -1,4 +1,4 @@
-"""Writes archives into files, of layout 1 by docs/FILE-FORMAT.md and not by the code.
+"""Writes archives into files, of each layout by docs/FILE-FORMAT.md and not by the code.
 
 No text is read here: who gives a tune says which keys it has.
 """
@@ -16,8 +16,24 @@ INDEXES = 'numbers', 'titles', 'rhythms', 'scales', 'incipits'
 SEARCHES = INDEXES[1:]
 
 
+class Layout(NamedTuple):
+    """How wide the keys of incipits are, how many entries a leaf of them has at most, how many
+    steps a key has; how long a text may be; how many tunes and pages there may be."""
+    width: int
+    entries: int
+    steps: int
+    text: int
+    tunes: int
+    pages: int
+
+
+LAYOUTS = {1: Layout(32, 113, 7, 16000, 20000, 1000000),
+           2: Layout(48, 78, 11, 64000, 50000, 4000000)}
+
+
 class Tune(NamedTuple):
-    """A text with its sorting titles, its rhythm, its scale as three bytes, and its steps."""
+    """A text with its sorting titles, its rhythm, its scale as three bytes, and its steps, as many
+    as any layout has in a key."""
     text: bytes
     titles: tuple = ()
     rhythm: bytes = b''
@@ -25,8 +41,18 @@ class Tune(NamedTuple):
     steps: tuple = ()
 
 
-def key(data):
-    return data[:KEY_BYTES].ljust(KEY_BYTES, b'\x00')
+def key(data, width=KEY_BYTES):
+    return data[:width].ljust(width, b'\x00')
+
+
+def width_of(name, version):
+    """How wide the keys of an index are."""
+    return LAYOUTS[version].width if name == 'incipits' else KEY_BYTES
+
+
+def most_of(name, version):
+    """How many entries a leaf of an index has at most."""
+    return LAYOUTS[version].entries if name == 'incipits' else LEAF_ENTRIES
 
 
 def four_bytes(*values):
@@ -34,11 +60,12 @@ def four_bytes(*values):
     return struct.pack(f'>{len(values)}I', *values)
 
 
-def keys_of(tune):
+def keys_of(tune, version):
     """The keys of a tune in each of the search indexes."""
-    steps = [four_bytes(step + 2 ** 31) for step in tune.steps]
+    steps = [four_bytes(step + 2 ** 31) for step in tune.steps[:LAYOUTS[version].steps]]
     words = tune.titles, (tune.rhythm,), (tune.scale,), (b''.join(steps),)
-    return {name: {key(word) for word in some if word} for name, some in zip(SEARCHES, words)}
+    return {name: {key(word, width_of(name, version)) for word in some if word}
+            for name, some in zip(SEARCHES, words)}
 
 
 def set_bytes(name, *places):
@@ -48,20 +75,22 @@ def set_bytes(name, *places):
 class Archive:
     """What an archive has on its pages, for a case to damage before it is written."""
 
-    def __init__(self, tunes, sets=b'', revision=1):
+    def __init__(self, tunes, sets=b'', revision=1, version=1):
         """Tunes by their numbers."""
-        self.version, self.sets = 1, sets
+        self.version, self.sets = version, sets
         self.tunes = [(key(four_bytes(number)), struct.pack('>H', revision) + tune.text)
                       for number, tune in sorted(tunes.items())]
         self.entries = {name: sorted((word, number) for number, tune in tunes.items()
-                                     for word in keys_of(tune)[name]) for name in SEARCHES}
+                                     for word in keys_of(tune, version)[name])
+                        for name in SEARCHES}
 
     def write(self, file, most=LEAF_ENTRIES):
         """Writes it on pages from 1 on, with so many entries in a leaf at most."""
         pages = Writer(file)
         entries = [(word, pages.chain(data)) for word, data in self.tunes]
         firsts = [pages.index(entries, most)]
-        firsts += [pages.index(self.entries[name], most) for name in SEARCHES]
+        firsts += [pages.index(self.entries[name], min(most, most_of(name, self.version)))
+                   for name in SEARCHES]
         pages.end(four_bytes(self.version, *firsts, pages.chain(self.sets)))
 
 

@@ -3,10 +3,11 @@
 
 Has each call of the system that `tunes` makes fail once, by each usual error, or move one byte
 alone; and each call that takes memory be refused once. So it makes an archive, runs a script with
-every command, puts tunes where leaves split, and checks an archive, for each call anew. What comes
-of it has to be an answer and a status that docs/USING.md and docs/SCRIPTS.md tell, never a signal;
-and the archive then opens by itself, as before a command of the script or after it, and as after
-each that was answered. A call that moves one byte alone is seen by nobody.
+every command, puts tunes where leaves split, checks an archive, and upgrades a kept file of layout
+1, for each call anew. What comes of it has to be an answer and a status that docs/USING.md and
+docs/SCRIPTS.md tell, never a signal; and the archive then opens by itself, as before a command of
+the script or after it, and as after each that was answered. A call that moves one byte alone is
+seen by nobody.
 
 The program is the one that ./tunes has built, and not that script, or the one that the variable
 TUNES names. The calls fail by a library, checks/fail_once.c, that is built for this by `cc`. Where
@@ -22,6 +23,9 @@ import tempfile
 import threading
 from concurrent.futures import ThreadPoolExecutor
 
+sys.dont_write_bytecode = True
+from layouts import kept
+
 ROOT = os.path.dirname(os.path.dirname(os.path.abspath(__file__)))
 BUILT = os.path.join(ROOT, 'crates', 'tunes', 'out', 'tunes')
 PROGRAM = os.path.abspath(os.environ.get('TUNES') or BUILT)
@@ -31,6 +35,7 @@ ONE_BYTE = 0
 # Statuses of the program: done; it was not; the file is no archive, damaged, or not empty.
 DONE, NOT_DONE, NO_ARCHIVE = 0, 1, 3
 DEVICE, MEMORY = b'refused 22 Device\n', b'refused 21 OutOfMemory\n'
+UPGRADED = b'ok upgrade 2\n'
 
 # Every command, each with what it reads; the last lines look at what stands there.
 KESH = b'X:1\nT:The Kesh Jig\nK:G\nGAG GAB|\nX:2\nT:Kesh Jig, The\nT:The Kesh\nR:jig\nK:G\n'
@@ -38,7 +43,7 @@ OTHER = b'X:1\nT:March\nK:D\nDFA\n'
 CHANGES = [b'import %d\n%b' % (len(KESH), KESH), b'replace 1 1 %d\n%b' % (len(OTHER), OTHER),
            b'set-new friday\n', b'set-add friday 2\n', b'set-add friday 1\n',
            b'renumber 2 40\n', b'set-cut friday 2\n', b'delete 1\n', b'set-new monday\n',
-           b'set-drop friday\n']
+           b'set-drop friday\n', b'upgrade\n']
 QUESTIONS = [b'show 40\n', b'find title kesh\n', b'find rhythm jig\n', b'find key G\n',
              b'find notes GAGGAB\n', b'titles\n', b'sets\n', b'set-show monday\n',
              b'export-set monday\n', b'export\n']
@@ -215,6 +220,45 @@ class CheckSweep:
         return '' if good else f'status {ended.status}, output {ended.output!r}', ended
 
 
+class UpgradeSweep:
+    """An archive of layout 1 that is upgraded: it stays as it is, or has the same in layout 2, as
+    it does where that was answered."""
+
+    def __init__(self, folder, name, before):
+        self.folder, self.name, self.before = folder, name, before
+        path = os.path.join(folder, 'whole')
+        with open(path, 'wb') as file:
+            file.write(before)
+        self.states = [self.look(path)]
+        assert run(['upgrade', path]) == (DONE, UPGRADED)
+        self.states.append(self.look(path))
+        assert self.states[0][0] == self.states[1][0]
+        assert [state[1][1].split()[1] for state in self.states] == [b'1', b'2']
+
+    @staticmethod
+    def look(path):
+        return run(['run', path], LOOK), run(['check', path])
+
+    def once(self, work, kind, at, how):
+        path = os.path.join(work, 'archive')
+        with open(path, 'wb') as file:
+            file.write(self.before)
+        ended = Ended(work, ['upgrade', path], b'', kind, at, how)
+        opened = self.look(path)
+        fails = ended.failed and not (kind == 'system' and how == ONE_BYTE)
+        wanted = self.states
+        if ended.output == UPGRADED:
+            wanted = self.states[1:]
+        elif ended.output == MEMORY:
+            wanted = self.states[:1]
+        elif ended.output not in (b'', DEVICE) or ended.status == DONE:
+            wanted = []
+        if opened not in wanted:
+            return f'behind {ended.output!r} it opens as another state', ended
+        good = ended.status == DONE or fails and ended.status == NOT_DONE
+        return '' if good else f'status {ended.status}, output {ended.output!r}', ended
+
+
 def sweep_all(folder, sweep, kind, how):
     """Each call in turn until a run has no such call; how many there were, and what was wrong."""
     last = sweep.once(folder_of(folder, 'count'), kind, 0, how)
@@ -280,6 +324,7 @@ def sweeps_in(work):
     yield Sweep(work, 'a script of every command', made, CHANGES, QUESTIONS)
     yield Sweep(work, 'leaves that split', full_leaf, SPLITS, [b'find title tune 7\n'])
     yield CheckSweep(work, 'an archive that is checked', full_leaf)
+    yield UpgradeSweep(work, 'a file of layout 1 that is upgraded', kept('layout-1-two-tunes'))
 
 
 if __name__ == '__main__':

@@ -9,6 +9,9 @@ the same book. Where one chain is broken the reader salvages all other tunes. Th
 65,536 kilobytes of memory for each file. It is ./tunes, or the one that the variable TUNES names. A
 line is printed for each case, and the status is 1 where a case failed.
 
+The files are of layout 2, and of layout 1 too where the layouts differ: in the index of incipits,
+and in how much there may be.
+
 The largest files have 250 MB, one at a time; those that are longer have holes, and take no room.
 """
 import os
@@ -20,10 +23,10 @@ import sys
 import tempfile
 
 sys.dont_write_bytecode = True
-from archives import (COUNT, DESCRIPTOR, ENTRY_BYTES, GATE, INDEXES, KEY_BYTES, LEAF_ENTRIES,
-                      LEAF_HEAD, LINK_BYTES, OPEN, PAGE_BYTES, PAGES, SEARCHES, Archive, Tune,
-                      Writer, first_of, four_bytes, key, keys_of, leaf_of, number_at, page_at,
-                      place_of, put, set_bytes)
+from archives import (COUNT, DESCRIPTOR, ENTRY_BYTES, GATE, INDEXES, KEY_BYTES, LAYOUTS,
+                      LEAF_ENTRIES, LEAF_HEAD, LINK_BYTES, OPEN, PAGE_BYTES, PAGES, SEARCHES,
+                      Archive, Tune, Writer, first_of, four_bytes, key, keys_of, leaf_of, most_of,
+                      number_at, page_at, place_of, put, set_bytes, width_of)
 
 ROOT = os.path.dirname(os.path.dirname(os.path.abspath(__file__)))
 READER = os.path.join(ROOT, 'examples', 'read_archive.py')
@@ -44,10 +47,9 @@ LONG_WORD = b'abcdefghijklmnopqrstuvwxyz-012345'
 LONG = Tune(b'T:The %b6\nT:%b7 %%8\nR:%b\nK:Bbm\n' % ((LONG_WORD,) * 3),
             (LONG_WORD,), LONG_WORD, b'Bb5')
 BARE = Tune(b'T:\nK:\n')
-# One with the most bytes that it may have: 3, 1,999 times 8, and 5.
-MOST_TEXT = b'K:\n' + b'w:words\n' * 1999 + b'w:on\n'
-# Above the keys of all of these.
-LAST_KEY = key(b'\xff')
+# By the version a text with the most bytes that it may have: 3, 1,999 or 7,999 times 8, and 5.
+MOST_TEXTS = {version: b'K:\n' + b'w:words\n' * (layout.text // 8 - 1) + b'w:on\n'
+              for version, layout in LAYOUTS.items()}
 
 # What changes leave on pages: the first pages of the indexes and of the set lists, the tunes with
 # their pages, and chains of one page. Two tunes stand on the pages 1 and 2, the leaf of the numbers
@@ -79,7 +81,7 @@ CHANGES = [
 TUNE = b'T:Long\nK:C\n'
 LINE = b'GABc dedB\n'
 STEPS = 2, 2, 1, 2, 2, -2, -3
-THREE_PAGES = Tune(TUNE + LINE * 1225, (b'long',), b'', b'C 0', STEPS)
+THREE_PAGES = Tune(TUNE + LINE * 1225, (b'long',), b'', b'C 0', STEPS + (-4, 2, 2, 1))
 EIGHT_TITLES = Tune(b''.join(b'T:%d\n' % n for n in range(8)) + b'R:jig\nK:C\n' + LINE,
                     tuple(b'%d' % n for n in range(8)), b'jig', b'C 0', STEPS)
 # Nothing but their number is wrong with the bytes of this tune.
@@ -150,17 +152,17 @@ def put_archive(file, archive, most=LEAF_ENTRIES):
     archive.write(file, most)
 
 
-def put_tunes(file, count, tune, most=LEAF_ENTRIES):
+def put_tunes(file, version, count, tune, most=LEAF_ENTRIES):
     """An archive of so many tunes of one text, with so many entries in a leaf at most."""
     file.truncate(0)
     pages = Writer(file)
     chains = [pages.chain(b'\x00\x01' + tune.text) for _ in range(count)]
     rows = ((key(four_bytes(number)), chain) for number, chain in enumerate(chains, 1))
     firsts = [pages.index(rows, most)]
-    for words in keys_of(tune).values():
+    for name, words in keys_of(tune, version).items():
         rows = ((word, number) for word in sorted(words) for number in range(1, count + 1))
-        firsts.append(pages.index(rows, most))
-    pages.end(four_bytes(1, *firsts, 0))
+        firsts.append(pages.index(rows, min(most, most_of(name, version))))
+    pages.end(four_bytes(version, *firsts, 0))
 
 
 def put_version_102(file):
@@ -239,25 +241,30 @@ def add_leaf(file, name, page):
 
 # DAMAGE
 
-def two_of_one_number():
+def last_key(name, version):
+    """Above the keys of all tunes."""
+    return key(b'\xff', width_of(name, version))
+
+
+def two_of_one_number(version):
     """An archive in which both tunes have the number 7; nothing else is wrong with it."""
-    first, second = Archive({7: ONE}), Archive({7: TWO})
+    first, second = (Archive({7: tune}, version=version) for tune in (ONE, TWO))
     first.tunes += second.tunes
     for name in SEARCHES:
         first.entries[name] = sorted(first.entries[name] + second.entries[name])
     return first
 
 
-def with_entries(name, change):
+def with_entries(version, name, change):
     """The archive of two tunes, and of one without keys, with other entries in a search index."""
-    archive = Archive({1: ONE, 2: TWO, 3: BARE}, FRIDAY)
+    archive = Archive({1: ONE, 2: TWO, 3: BARE}, FRIDAY, version=version)
     archive.entries[name] = change(archive.entries[name])
     return archive
 
 
-def with_row(word=None, data=None):
+def with_row(version, word=None, data=None):
     """The archive of two tunes, with another key of the first in the numbers, or another chain."""
-    archive = Archive({1: ONE, 2: TWO}, FRIDAY)
+    archive = Archive({1: ONE, 2: TWO}, FRIDAY, version=version)
     old_word, old_data = archive.tunes[0]
     archive.tunes[0] = (word or old_word, old_data if data is None else data)
     return archive
@@ -335,12 +342,13 @@ def damages_of_chains():
     yield 'a chain that goes on behind a page that is not full', go_on
 
 
-def damages_of_leaves():
-    for name in INDEXES:
+def damages_of_leaves(version, names):
+    for name in names:
+        most, size = most_of(name, version), width_of(name, version) + 4
         yield (f'a list of 5 bytes in the {name}',
                lambda file, n=name: put_short(file, list_of(file, n) + 4, 5))
-        yield (f'a leaf of 114 entries in the {name}',
-               lambda file, n=name: put_short(file, leaf_of(file, n), LEAF_ENTRIES + 1))
+        yield (f'a leaf of {most + 1} entries in the {name}',
+               lambda file, n=name, more=most + 1: put_short(file, leaf_of(file, n), more))
         yield f'the root as a leaf of the {name}', lambda file, n=name: add_leaf(file, n, 0)
         yield (f'a leaf of the {name} that is not there',
                lambda file, n=name: add_leaf(file, n, number_at(file, COUNT)))
@@ -351,18 +359,18 @@ def damages_of_leaves():
             put_count(file, count + 1)
         yield f'a leaf without an entry beside the one of the {name}', add_empty
 
-        def swap_entries(file, n=name):
+        def swap_entries(file, n=name, size=size):
             place = leaf_of(file, n) + LEAF_HEAD
             file.seek(place)
-            first, second = file.read(ENTRY_BYTES), file.read(ENTRY_BYTES)
+            first, second = file.read(size), file.read(size)
             file.seek(place)
             file.write(second + first)
         yield f'entries of the {name} that do not rise', swap_entries
 
-        def repeat_entry(file, n=name):
+        def repeat_entry(file, n=name, size=size):
             place = leaf_of(file, n) + LEAF_HEAD
             file.seek(place)
-            first = file.read(ENTRY_BYTES)
+            first = file.read(size)
             file.write(first)
         yield f'an entry of the {name} twice', repeat_entry
 
@@ -392,39 +400,40 @@ def damages_of_a_chain(number):
             file, leaf_of(file, 'numbers') + LEAF_HEAD + ENTRY_BYTES * (number - 1) + KEY_BYTES, v))
 
 
-def share_leaf(file):
+def share_leaf(file, version):
     """The leaf of the titles is that of the rhythms too, whose entry is the same."""
-    put_archive(file, Archive({1: JIG}))
+    put_archive(file, Archive({1: JIG}, version=version))
     put_list(file, 'rhythms', page_at(leaf_of(file, 'titles')))
 
 
-def swap_leaves(file):
+def swap_leaves(file, version):
     """Two leaves of the titles change their places in the list."""
-    put_archive(file, Archive({1: ONE, 2: TWO}, FRIDAY), 1)
+    put_archive(file, Archive({1: ONE, 2: TWO}, FRIDAY, version=version), 1)
     put_list(file, 'titles', *[page_at(leaf_of(file, 'titles', place)) for place in (1, 0, 2)])
 
 
-def damaged_archives():
+def damaged_archives(version):
     """Damage by its name, as an archive that has it."""
-    yield 'two tunes of one number', two_of_one_number()
-    yield 'a byte behind a number in its key', with_row(key(four_bytes(1))[:-1] + b'\x01')
+    yield 'two tunes of one number', two_of_one_number(version)
+    yield ('a byte behind a number in its key',
+           with_row(version, key(four_bytes(1))[:-1] + b'\x01'))
     for number in (0, 1000000):
-        yield f'a tune of the number {number:,}', Archive({number: ONE})
+        yield f'a tune of the number {number:,}', Archive({number: ONE}, version=version)
     for revision in (0, 10000):
-        yield f'a tune at revision {revision:,}', Archive({1: ONE}, b'', revision)
-    yield 'a tune without a chain', with_row(data=b'')
-    yield 'a tune of one byte', with_row(data=b'\x00')
+        yield f'a tune at revision {revision:,}', Archive({1: ONE}, b'', revision, version)
+    yield 'a tune without a chain', with_row(version, data=b'')
+    yield 'a tune of one byte', with_row(version, data=b'\x00')
     for name in SEARCHES:
-        yield (f'an entry of the {name} for a tune that is not there',
-               with_entries(name, lambda rows: rows + [(LAST_KEY, 4)]))
+        yield (f'an entry of the {name} for a tune that is not there', with_entries(
+            version, name, lambda rows, last=last_key(name, version): rows + [(last, 4)]))
     for what, text in (
             ('no text', b''), ('a text without a key', b'T:\n'),
             ('a text without its last line feed', b'K:\nA'),
             ('a text with an X: line', b'K:\nX:\n'),
             ('a text with an empty line', b'K:\n \t\nA\n'),
             ('a text with a carriage return', b'K:\nA\r\n'),
-            ('a text of 16,001 bytes', MOST_TEXT + b'\n')):
-        yield what, Archive({1: Tune(text)})
+            ('a text of a byte too many', MOST_TEXTS[version] + b'\n')):
+        yield what, Archive({1: Tune(text)}, version=version)
     for what, sets in (
             ('a place that names no tune', set_bytes(b'friday', 3)),
             ('two sets of one name', set_bytes(b'a') + set_bytes(b'a')),
@@ -434,33 +443,35 @@ def damaged_archives():
             ('a byte behind the sets', FRIDAY + b'\x00'),
             ('a set of 201 places', set_bytes(b'friday', *[1] * 201)),
             ('501 sets', b''.join(set_bytes(b'%03d' % number) for number in range(501)))):
-        yield what, Archive({1: ONE, 2: TWO}, sets)
+        yield what, Archive({1: ONE, 2: TWO}, sets, version=version)
 
 
-def other_keys():
+def other_keys(version, names):
     """Archives in which a search index has entries other than those of the tunes."""
-    for name in SEARCHES:
-        yield f'an entry of the {name} taken out', with_entries(name, lambda rows: rows[:-1])
-        yield (f'an entry of the {name} put in',
-               with_entries(name, lambda rows: rows + [(LAST_KEY, 3)]))
-        yield (f'an entry of the {name} under another number',
-               with_entries(name, lambda rows: rows[:-1] + [(rows[-1][0], 3)]))
-        yield (f'another key in the {name}',
-               with_entries(name, lambda rows: rows[:-1] + [(LAST_KEY, rows[-1][1])]))
-        yield (f'a byte behind a key of the {name}', with_entries(
-            name, lambda rows: rows[:-1] + [(rows[-1][0][:-1] + b'\x01', rows[-1][1])]))
+    for name in names:
+        last = last_key(name, version)
+        for what, change in (
+                (f'an entry of the {name} taken out', lambda rows: rows[:-1]),
+                (f'an entry of the {name} put in', lambda rows, it=last: rows + [(it, 3)]),
+                (f'an entry of the {name} under another number',
+                 lambda rows: rows[:-1] + [(rows[-1][0], 3)]),
+                (f'another key in the {name}',
+                 lambda rows, it=last: rows[:-1] + [(it, rows[-1][1])]),
+                (f'a byte behind a key of the {name}',
+                 lambda rows: rows[:-1] + [(rows[-1][0][:-1] + b'\x01', rows[-1][1])])):
+            yield what, with_entries(version, name, change)
 
 
 # CASES
 
 class Cases:
-    """Cases over files that begin as a small archive, and how many of them failed."""
+    """Cases over files that begin as a small archive of a version, and how many of them failed."""
 
-    def __init__(self, folder):
-        self.failures = 0
+    def __init__(self, folder, version):
+        self.failures, self.version = 0, version
         self.path = os.path.join(folder, 'forged.abcx')
         with open(self.path, 'w+b') as file:
-            put_archive(file, Archive({1: ONE, 2: TWO}, FRIDAY))
+            put_archive(file, Archive({1: ONE, 2: TWO}, FRIDAY, version=version))
             file.seek(0)
             self.small = file.read()
 
@@ -470,7 +481,8 @@ class Cases:
     def end(self, name, wrong, kilobytes):
         """Ends a case, of which this is wrong, if anything is."""
         self.failures += bool(wrong)
-        print(f'{"FAILED" if wrong else "ok":7} {name}: {wrong or f"{kilobytes} kB"}', flush=True)
+        print(f'{"FAILED" if wrong else "ok":7} {name}, of version {self.version}: '
+              f'{wrong or f"{kilobytes} kB"}', flush=True)
 
     def measure(self):
         """Whether a program that takes too much would be seen."""
@@ -520,8 +532,10 @@ class Cases:
 
     def wrong_opened(self, whole, recovers, refusal):
         """What is wrong with the answer of the program, and how much memory it took."""
+        with open(self.path, 'rb') as file:
+            layout = number_at(file, PAGES) if whole else None
         answer, kilobytes = run([PROGRAM, 'check', self.path])
-        good = (answer[0] == 0 and answer[1].startswith(b'layout 1 tunes ') if whole
+        good = (answer[0] == 0 and answer[1].startswith(b'layout %d tunes ' % layout) if whole
                 else answer == refusal)
         wrong = ''
         if not good:
@@ -541,21 +555,17 @@ class Cases:
 
     def check_whole(self):
         """Archives as programs may write them, and some whose keys alone are wrong."""
-        two = Archive({1: ONE, 2: TWO}, FRIDAY)
-        odd = Archive({5: LONG, 9: BARE, 77: Tune(MOST_TEXT), 999999: JIG},
-                      set_bytes(b'a' * 40, *[9] * 200) + set_bytes(b'b'), 9999)
-        self.check('the archive of one tune that the page shows', put_the_one_of_the_page, True)
+        two = Archive({1: ONE, 2: TWO}, FRIDAY, version=self.version)
+        odd = Archive({5: LONG, 9: BARE, 77: Tune(MOST_TEXTS[self.version]), 999999: JIG},
+                      set_bytes(b'a' * 40, *[9] * 200) + set_bytes(b'b'), 9999, self.version)
         self.check('two tunes and a set', lambda file: put_archive(file, two), True)
         self.check('leaves of one entry', lambda file: put_archive(file, two, 1), True)
         self.check('odd keys, numbers, revisions and sets', lambda file: put_archive(file, odd),
                    True)
-        self.check('20,000 tunes on 60,713 pages',
-                   lambda file: put_tunes(file, 20000, THREE_PAGES), True)
+        self.check('20,000 tunes of three pages',
+                   lambda file: put_tunes(file, self.version, 20000, THREE_PAGES), True)
         self.check('160,000 titles in 20,000 leaves',
-                   lambda file: put_tunes(file, 20000, EIGHT_TITLES, 8), True)
-        for name, archive in other_keys():
-            self.check(f'{name}, which the texts tell',
-                       lambda file, it=archive: put_archive(file, it), False)
+                   lambda file: put_tunes(file, self.version, 20000, EIGHT_TITLES, 8), True)
 
     def check_written(self):
         """Files that the program writes, on as few pages as their tunes want."""
@@ -586,15 +596,27 @@ class Cases:
     def check_damage(self):
         for name, forge in fronts_of_no_archive():
             self.check(name, forge, False, refusal=NOT_ARCHIVE)
-        for name, forge in [*damages_of_the_front(), *damages_of_the_root(), *damages_of_chains(),
-                            *damages_of_leaves()]:
+        for name, forge in [*damages_of_the_front(), *damages_of_the_root(), *damages_of_chains()]:
             self.check(name, forge, False)
         self.check('an archive of version 102', put_version_102, False)
-        self.check('one leaf for two indexes', share_leaf, False)
-        self.check('leaves that do not rise', swap_leaves, False)
-        for name, archive in damaged_archives():
+        self.check('one leaf for two indexes', lambda file: share_leaf(file, self.version), False)
+        self.check('leaves that do not rise', lambda file: swap_leaves(file, self.version), False)
+        for name, archive in damaged_archives(self.version):
             self.check(name, lambda file, it=archive: put_archive(file, it), False)
-        self.check('20,001 tunes', lambda file: put_tunes(file, 20001, BARE), False)
+
+    def check_indexes(self, leaves, searches):
+        """Damage of the leaves of these indexes, and entries of these that the texts do not tell.
+        """
+        for name, forge in damages_of_leaves(self.version, leaves):
+            self.check(name, forge, False)
+        for name, archive in other_keys(self.version, searches):
+            self.check(f'{name}, which the texts tell',
+                       lambda file, it=archive: put_archive(file, it), False)
+
+    def check_tunes(self):
+        most = LAYOUTS[self.version].tunes
+        self.check(f'{most + 1:,} tunes',
+                   lambda file: put_tunes(file, self.version, most + 1, BARE), False)
 
     def check_salvage(self):
         """Tunes of which one has a broken chain; the first is that one, and a short one, and so on.
@@ -606,7 +628,7 @@ class Cases:
             wanted = b'%abc-2.1\n' + b''.join(b'\nX:%d\n%b' % row for row in books)
             for name, break_chain in damages_of_a_chain(number):
                 def forge(file, damage=break_chain):
-                    put_archive(file, Archive(tunes, FRIDAY))
+                    put_archive(file, Archive(tunes, FRIDAY, version=self.version))
                     damage(file)
                 name = f'{name} of tune {number}'
                 self.check(name, forge, False)
@@ -636,7 +658,7 @@ class Cases:
     def check_counts(self):
         for count in (999999, 1000000, 1000001, 4000000, 4000001):
             self.check(f'{count:,} pages', lambda file, n=count: put_count(file, n),
-                       count <= 1000000)
+                       count <= LAYOUTS[self.version].pages)
         self.check('4,294,967,295 pages, which are not there',
                    lambda file: put(file, COUNT, 4294967295), False)
 
@@ -646,8 +668,9 @@ class Cases:
         many = images + [bytes(PAGE_BYTES)] * (30000 - len(images))
         self.check('a log of 30,000 pages', lambda file: put_log(file, 30000, many), True,
                    recovers=True)
-        self.check('a log behind 999,999 pages',
-                   lambda file: put_log(file, 999999, images), True, recovers=True)
+        most = LAYOUTS[self.version].pages
+        self.check(f'a log behind {most - 1:,} pages',
+                   lambda file: put_log(file, most - 1, images), True, recovers=True)
         self.check('a log that names page 0 for 4,000,000 times',
                    lambda file: put_log_of_zeros(file, 4000000), False)
 
@@ -656,17 +679,25 @@ def main():
     for number in (signal.SIGHUP, signal.SIGTERM):
         signal.signal(number, lambda *_: sys.exit(1))
     with tempfile.TemporaryDirectory() as folder:
-        cases = Cases(folder)
+        cases = Cases(folder, 2)
         cases.measure()
         cases.check('an archive as it was made', lambda file: None, True)
+        cases.check('the archive of one tune that the page shows', put_the_one_of_the_page, True)
         cases.check_written()
         cases.check_whole()
         cases.check_damage()
+        cases.check_indexes(INDEXES, SEARCHES)
+        cases.check_tunes()
         cases.check_salvage()
         cases.check_chains()
         cases.check_counts()
         cases.check_logs()
-    sys.exit(1 if cases.failures else 0)
+        older = Cases(folder, 1)
+        older.check_whole()
+        older.check_indexes(['incipits'], ['incipits'])
+        older.check_tunes()
+        older.check_counts()
+    sys.exit(1 if cases.failures + older.failures else 0)
 
 
 if __name__ == '__main__':

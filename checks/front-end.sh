@@ -37,7 +37,8 @@ export TMPDIR TUNES
 mkdir "$TMPDIR" && chmod 755 "$work" && chmod 1777 "$TMPDIR"
 { printf '%%abc-2.1\n\n' && cat "$book"; } > "$work/session-book"
 
-# Begins a case: a new folder, with an archive of the fifteen tunes where the second word says so.
+# Begins a case: a new folder; with an archive of the fifteen tunes, or a file of layout 1 that is
+# kept, where the second word says so.
 begin() {
     cases=$((cases + 1))
     title=$1
@@ -49,7 +50,10 @@ begin() {
     unset VISUAL
     EDITOR='sh ./editor'
     export EDITOR
-    [ "${2-}" != session ] || cp "$work/session.abcx" tunes.abcx
+    case ${2-} in
+    session) cp "$work/session.abcx" tunes.abcx ;;
+    one) cp "$work/one.abcx" tunes.abcx ;;
+    esac
 }
 
 # Keeps what is wrong in this case; the first counts.
@@ -155,10 +159,10 @@ cases_of_words() {
     run --version
     done_with "$("$program" --version)"
     for line in 'count' '-x find a' '-f' 'show' 'show 1 2' 'show one' 'show 1234567890' 'new a' \
-        'cut friday' 'cut friday x' 'put friday' 'put fri/day 1' 'set a.b' 'find' 'find key' \
-        'find --within' 'find --split a' 'add' 'add absent.abc' '--json show 1' 'move a 1' \
-        'undo 1' 'export' 'hear 1' 'backup' 'restore' 'dump' 'load absent' 'titles x' \
-        'add --within x'; do
+        'upgrade x' '--json upgrade' 'cut friday' 'cut friday x' 'put friday' 'put fri/day 1' \
+        'set a.b' 'find' 'find key' 'find --within' 'find --split a' 'add' 'add absent.abc' \
+        '--json show 1' 'move a 1' 'undo 1' 'export' 'hear 1' 'backup' 'restore' 'dump' \
+        'load absent' 'titles x' 'add --within x'; do
         run $line
         refused 2 ''
         [ ! -s "$work/out" ] || wrong "'$line' prints something"
@@ -175,7 +179,7 @@ cases_of_words() {
     run new
     done_with ''
     run check
-    done_with 'layout 1 tunes 0 sets 0'
+    done_with 'layout 2 tunes 0 sets 0'
     for word in titles sets; do
         run "$word"
         done_with ''
@@ -205,7 +209,7 @@ cases_of_words() {
     rmdir tunes.abcx
     cp "$book" tunes.abcx
     for line in 'titles' 'show 1' 'edit 1' 'delete 1' 'put a 1' 'export b.abc' 'dump b' 'check' \
-        'backup b' "add $book"; do
+        'backup b' 'upgrade' "add --dry $book" "add $book"; do
         run $line
         refused 3 'no archive'
     done
@@ -259,7 +263,7 @@ delete 1'
     echo titles | "$program" run tunes.abcx | sed 1d > "$work/wanted"
     same "$work/out" "$work/wanted"
     run check
-    done_with 'layout 1 tunes 15 sets 0'
+    done_with 'layout 2 tunes 15 sets 0'
     run export all.abc
     done_with ''
     same all.abc "$work/session-book"
@@ -340,7 +344,7 @@ x,2'
     run add 'fol der' absent.abc
     refused 2 'absent.abc: there is no such file'
     run check
-    done_with 'layout 1 tunes 0 sets 0'
+    done_with 'layout 2 tunes 0 sets 0'
     run add 'fol der'
     refused 1 'a.abc: its tune number 1 has no K: line'
     says 'fol der/B.abc: tune 1
@@ -352,7 +356,7 @@ fol der/b.abc: 1 tune'
     run add --dry "$book"
     done_with "$book: 15 tunes"
     run check
-    done_with 'layout 1 tunes 2 sets 0'
+    done_with 'layout 2 tunes 2 sets 0'
     echo 'a remark' > remark.abc
     run import-check remark.abc
     refused 1 'no line begins with X:'
@@ -384,7 +388,7 @@ of "all"'
     run -f "$odd" dump "script $odd"
     done_with ''
     run -f -new.abcx load "script $odd"
-    done_with 'layout 1 tunes 2 sets 0'
+    done_with 'layout 2 tunes 2 sets 0'
     [ -s -new.abcx ] || wrong 'an archive with a dash in front is not there'
     EDITOR='sed -i s/T:a/T:b/'
     run -f "$odd" edit 1
@@ -834,7 +838,7 @@ cases_of_copies() {
     run delete 3
     cp tunes.abcx later
     run restore copy.abcx
-    done_with 'layout 1 tunes 15 sets 1
+    done_with 'layout 2 tunes 15 sets 1
 the archive that was there is tunes.abcx.1.old now'
     contents tunes.abcx > found
     same found wanted
@@ -853,7 +857,7 @@ the archive that was there is tunes.abcx.1.old now'
     same tunes.abcx.2.old cut.abcx
     rm tunes.abcx
     run restore copy.abcx
-    done_with 'layout 1 tunes 15 sets 1'
+    done_with 'layout 2 tunes 15 sets 1'
     has "before copy.abcx cut.abcx found later tunes.abcx tunes.abcx.1.old tunes.abcx.2.old \
 tunes.abcx.old.abc wanted"
     end
@@ -866,7 +870,7 @@ tunes.abcx.old.abc wanted"
     run dump all.script
     done_with ''
     run -f new.abcx load all.script
-    done_with 'layout 1 tunes 14 sets 3'
+    done_with 'layout 2 tunes 14 sets 3'
     contents tunes.abcx > wanted
     contents new.abcx > found
     same found wanted
@@ -884,12 +888,172 @@ tunes.abcx.old.abc wanted"
     run -f empty.abcx dump empty.script
     done_with ''
     run -f other.abcx load empty.script
-    done_with 'layout 1 tunes 0 sets 0'
+    done_with 'layout 2 tunes 0 sets 0'
     # the same from replies of `tunes` alone
     "$program" make by-hand.abcx > told
     "$program" run by-hand.abcx < all.script > told
     contents by-hand.abcx > found
     same found wanted
+    end
+}
+
+# Runs ./tunes-book at a terminal, where the first word is answered to what it asks.
+at_terminal() {
+    words="$*, at a terminal"
+    python3 -c 'import os, pty, sys
+answer, *words = sys.argv[1:]
+child, terminal = pty.fork()
+if child == 0:
+    os.execvp(words[0], words)
+said = b""
+try:
+    while not said.endswith(b"y or n: "):
+        said += os.read(terminal, 1000)
+    os.write(terminal, answer.encode() + b"\n")
+    while True:
+        said += os.read(terminal, 1000)
+except OSError:
+    pass
+sys.stdout.buffer.write(said.replace(b"\r", b""))
+sys.exit(os.waitstatus_to_exitcode(os.waitpid(child, 0)[1]))' \
+        "$1" $shell "$root/tunes-book" upgrade > "$work/out" 2> "$work/err"
+    status=$?
+}
+
+cases_of_layouts() {
+    begin 'an upgrade' one
+    cp tunes.abcx before
+    contents tunes.abcx > wanted
+    run check
+    done_with 'layout 1 tunes 2 sets 1'
+    run find notes CDEFGABcde
+    done_with '1
+2'
+    run upgrade
+    ends_with 0
+    says 'it is of layout 2 now'
+    complains 'no way back from layout 2 but a copy'
+    complains '`tunes-book backup COPY` makes a copy'
+    run check
+    done_with 'layout 2 tunes 2 sets 1'
+    run find notes CDEFGABcde
+    done_with 1
+    contents tunes.abcx > found
+    same found wanted
+    cp tunes.abcx upgraded
+    run upgrade
+    done_with 'it is of layout 2 already, and stays as it is'
+    same tunes.abcx upgraded
+    # the way back is a copy
+    cp before tunes.abcx
+    run backup copy
+    done_with ''
+    run upgrade
+    run restore copy
+    done_with 'layout 1 tunes 2 sets 1
+the archive that was there is tunes.abcx.1.old now'
+    same tunes.abcx before
+    has 'before copy found tunes.abcx tunes.abcx.1.old upgraded wanted'
+    end
+
+    begin 'an upgrade at a terminal' one
+    cp tunes.abcx before
+    for answer in n '' never; do
+        at_terminal "$answer"
+        ends_with 1
+        grep -q 'no way back from layout 2 but a copy' "$work/out" || wrong 'it does not say so'
+        grep -q 'it stays in layout 1, as it is' "$work/out" || wrong "it goes on by '$answer'"
+        same tunes.abcx before
+    done
+    at_terminal y
+    ends_with 0
+    grep -q 'it is of layout 2 now' "$work/out" || wrong 'it does not go on'
+    run check
+    done_with 'layout 2 tunes 2 sets 1'
+    end
+
+    begin 'tunes by layout' one
+    awk 'BEGIN { printf "X:1\nK:C\n"; for (i = 0; i < 63995; i++) printf "A"; print "" }' > long.abc
+    { cat long.abc; echo; cat "$book"; } > both.abc
+    sed 's/AAA$/&A/' long.abc > longer.abc
+    for line in 'add long.abc' 'add --dry long.abc' 'add --new both.abc' 'import-check longer.abc'
+    do
+        run $line
+        refused 1 'its tune number 1 is too long'
+        complains '`tunes-book upgrade`'
+    done
+    run import-check long.abc
+    done_with 'long.abc: 1 tune'
+    EDITOR='cp long.abc'
+    run edit 1
+    refused 1 'its tune number 1 is too long'
+    same tune-1.abc long.abc
+    rm tune-1.abc
+    run upgrade
+    ends_with 0
+    for line in 'add longer.abc' 'add --dry longer.abc' 'add --new longer.abc'; do
+        run $line
+        refused 1 'its tune number 1 is too long'
+    done
+    run add --dry long.abc
+    done_with 'long.abc: 1 tune'
+    run add long.abc
+    done_with 'long.abc: tune 3'
+    run add --new both.abc
+    done_with 'both.abc: tunes 4 to 18; 1 of its tunes are there already'
+    run edit 1
+    done_with 'tune 1 has revision 2 now'
+    run show 1
+    same "$work/out" long.abc
+    run undo
+    done_with 'tune 1 has revision 3 now'
+    end
+
+    begin 'upgrades that fail' one
+    cp tunes.abcx before
+    contents tunes.abcx > wanted
+    # No byte can be written from 32,768 on, where the log has to stand.
+    (
+        trap '' XFSZ
+        ulimit -f 64
+        run upgrade
+        echo "$status" > ended
+    )
+    status=$(cat ended)
+    words='upgrade, without room'
+    refused 1 'the device failed'
+    complains 'all of it is there, in layout 1 or 2; `tunes-book check` tells in which'
+    run check
+    done_with 'layout 1 tunes 2 sets 1'
+    contents tunes.abcx > found
+    same found wanted
+    head -c 50000 before > tunes.abcx
+    cp tunes.abcx cut
+    run upgrade
+    refused 3 'the archive is damaged; `tunes-book restore COPY`'
+    same tunes.abcx cut
+    rm tunes.abcx
+    run upgrade
+    refused 1 'there is no such file'
+    for half in upgrade check; do
+        cp before tunes.abcx
+        fake << END
+case \$1 in
+$half) "\$real" "\$@" | head -c 7 ;;
+*) exec "\$real" "\$@" ;;
+esac
+END
+        run upgrade
+        refused 1 'the answer of the program tunes is not whole'
+        [ ! -s "$work/out" ] || wrong "half of $half is taken for its answer"
+    done
+    same tunes.abcx before
+    fake << 'END'
+case $1 in upgrade) exit 1 ;; *) exec "$real" "$@" ;; esac
+END
+    run upgrade
+    refused 1 'no answer came from the program tunes'
+    complains '`tunes-book check` tells in which'
     end
 }
 
@@ -901,7 +1065,7 @@ cases_of_devices() {
         flock tunes.abcx sh -c 'echo > locked; while [ ! -e over ]; do sleep 0.05; done' &
         while [ ! -e locked ]; do sleep 0.05; done
         for line in titles 'show 1' 'edit 1' 'delete 1' 'put a 1' 'cut a 1' 'export b.abc' \
-            'dump b' 'check' 'backup b' 'add mine.abc' 'restore before'; do
+            'dump b' 'check' 'upgrade' 'backup b' 'add mine.abc' 'restore before'; do
                 run $line
             refused 1 'another program has it open'
         done
@@ -929,7 +1093,7 @@ cases_of_devices() {
         run backup copy
         refused 1 'could not be written'
         [ ! -e copy ] || wrong 'there is a copy'
-        for line in titles 'show 1' 'find kesh' '--json titles' '--csv sets' check help; do
+        for line in titles 'show 1' 'find kesh' '--json titles' '--csv sets' check upgrade help; do
             $shell "$root/tunes-book" $line > /dev/full 2> "$work/err"
             status=$?
             words=$line
@@ -1188,15 +1352,19 @@ completion() {
     cp tunes.abcx "my archive's"
     cat > lines << 'END'
 tunes ma|tunes make
-tunes |tunes --help --version check list make run
+tunes |tunes --help --version check list make run upgrade
 tunes make a|tunes make a\ b all.abc
 tunes check bi|tunes check bin
+tunes up|tunes upgrade
+tunes upgrade bi|tunes upgrade bin
 tunes run "a b/|tunes run "a b/c.abc"
 tunes list |tunes list
 tunes-book ex|tunes-book export
 tunes-book --|tunes-book --csv --help --json --version
 tunes-book -f a|tunes-book -f a\ b all.abc
 tunes-book -f tunes.abcx fi|tunes-book -f tunes.abcx find
+tunes-book u|tunes-book undo upgrade
+tunes-book upgrade |tunes-book upgrade
 tunes-book find r|tunes-book find rhythm
 tunes-book --json find --w|tunes-book --json find --within
 tunes-book find kesh |tunes-book find kesh
@@ -1245,7 +1413,7 @@ cases_of_pages() {
         fi
     done
     commands > "$work/commands"
-    [ "$(($(wc -l < "$work/commands")))" -ge 23 ] || wrong 'the commands of --help are not read'
+    [ "$(($(wc -l < "$work/commands")))" -ge 24 ] || wrong 'the commands of --help are not read'
     while read -r word; do
         case $word in import-check) plain='import\\-check' ;; *) plain=$word ;; esac
         grep -q "^\.BI\{0,1\} \"\{0,1\}$plain\>" "$root/docs/tunes-book.1" ||
@@ -1297,7 +1465,7 @@ cases_of_pages() {
     ./book -f a.abcx check > "$work/out" 2> "$work/err"
     status=$?
     words='check, by a link'
-    done_with 'layout 1 tunes 15 sets 0'
+    done_with 'layout 2 tunes 15 sets 0'
     mkdir one two
     top/release one > "$work/out" 2> "$work/err"
     status=$?
@@ -1323,6 +1491,10 @@ cases_of_pages() {
 "$program" make "$work/session.abcx" > "$work/told" || exit 1
 { printf 'import %d\n' "$(($(wc -c < "$book")))"; cat "$book"; } |
     "$program" run "$work/session.abcx" > "$work/told" || exit 1
+python3 -B -c 'import sys
+sys.path.append(sys.argv[1])
+from layouts import kept
+sys.stdout.buffer.write(kept("layout-1-two-tunes"))' "$root/checks" > "$work/one.abcx" || exit 1
 bash=$(command -v bash)
 busybox=$(command -v busybox)
 for shell in ${SHELLS:-sh bash busybox}; do
@@ -1331,7 +1503,7 @@ for shell in ${SHELLS:-sh bash busybox}; do
     bash) shell='bash --posix' ;;
     busybox) shell='busybox sh' ;;
     esac
-    for part in ${PARTS:-words books sets edits undo copies devices programs tools}; do
+    for part in ${PARTS:-words books sets edits undo copies layouts devices programs tools}; do
         "cases_of_$part"
     done
 done

@@ -2,10 +2,11 @@
 """Usage: checks/generated.py [--seed N] [--files N] [--keep FOLDER] [--reasons]
 
 Forges 10,000 files, or so many, and has each opened by the program and read by the reader of
-examples/read_archive.py, which goes by docs/FILE-FORMAT.md alone. Each is an archive that the
-program wrote, or one of tunes that are made up, and then most are changed, in one place or several:
-numbers that are set to the ends of what they may be, bytes, pages that change places or are copied,
-ends that are cut off or put on, gates and logs that lie. Some of them are archives still.
+examples/read_archive.py, which goes by docs/FILE-FORMAT.md alone. Each is an archive of layout 1 or
+2, one that the program wrote or one of tunes that are made up, and then most are changed, in one
+place or several: numbers that are set to the ends of what they may be, bytes, pages that change
+places or are copied, ends that are cut off or put on, gates and logs that lie. Some of them are
+archives still.
 
 Both have to say the same of each file: that it is no archive, that it is damaged, or which tunes
 and set lists it has. The program may take 65,536 kilobytes of memory and a second of processor for
@@ -37,8 +38,9 @@ ROOT = os.path.dirname(os.path.dirname(os.path.abspath(__file__)))
 sys.path.append(os.path.join(ROOT, 'examples'))
 import archives
 import read_archive
-from archives import (COUNT, DESCRIPTOR, ENTRY_BYTES, GATE, KEY_BYTES, LEAF_ENTRIES, LEAF_HEAD,
-                      LINK_BYTES, MAGIC, OPEN, PAGE_BYTES, PAGES, four_bytes, place_of, set_bytes)
+import layouts
+from archives import (COUNT, DESCRIPTOR, GATE, LEAF_HEAD, LINK_BYTES, MAGIC, OPEN, PAGE_BYTES,
+                      PAGES, four_bytes, place_of, set_bytes, width_of)
 from search_keys import keys_of
 
 BUILT = os.path.join(ROOT, 'crates', 'tunes', 'out', 'tunes')
@@ -53,8 +55,8 @@ BEHIND_THE_FRONT, LEAST_BEHIND = 'damaged behind the front', 25
 FRONT = re.compile('it says |the file |the log |it does not ')
 LINK_HEAD = PAGE_BYTES - LINK_BYTES
 EDGES = {1: (0, 1, 40, 41, 200, 201, 255),
-         2: (0, 1, 2, 4, 112, 113, 114, 4089, 4090, 4091, 9999, 10000, 32768, 65535),
-         4: (0, 1, 2, 3, 19999, 20000, 999999, 1000000, 1000001, 4000000, 4000001,
+         2: (0, 1, 2, 4, 77, 78, 79, 112, 113, 114, 4089, 4090, 4091, 9999, 10000, 32768, 65535),
+         4: (0, 1, 2, 3, 19999, 20000, 50000, 999999, 1000000, 1000001, 4000000, 4000001,
              2 ** 31 - 1, 2 ** 31, 2 ** 32 - 1)}
 
 
@@ -76,14 +78,14 @@ class Forged:
         # How long the file is, where a hole stands behind its bytes.
         self.length = 0
         archive = read_archive.Archive(io.BytesIO(data))
-        pages = archive.pages
+        pages, version = archive.pages, archive.version
         self.count, self.images = pages.count, pages.images
         self.place = {page: pages.images.get(page, place_of(page)) for page in pages.owners}
         self.fields = [Field(GATE, 1), Field(DESCRIPTOR, 4), Field(DESCRIPTOR + 4, 4),
                        Field(COUNT, 4)]
         self.fields += [Field(at - 4, 4, True) for at in pages.images.values()]
         for page, owner in pages.owners.items():
-            self.find_fields(self.place[page], owner)
+            self.find_fields(self.place[page], owner, version)
         # Where the bytes of texts are, in a file that has any.
         self.texts = [range(self.place[page] + LINK_HEAD + 2 * (page == trail[0]),
                             self.place[page] + LINK_HEAD + self.number(self.place[page] + 4, 2))
@@ -102,16 +104,17 @@ class Forged:
         if at + size <= len(self.data):
             self.data[at:at + size] = (value % 256 ** size).to_bytes(size, 'big')
 
-    def find_fields(self, place, owner):
+    def find_fields(self, place, owner, version):
         """Adds the numbers on a page that somebody has."""
         if owner == 'the root':
             self.fields += [Field(place + 4 * word, 4, word > 0) for word in range(7)]
         elif owner.startswith('leaf'):
             self.fields.append(Field(place, 2))
+            width = width_of(owner.split()[-1], version)
             for entry in range(self.number(place, 2)):
-                at = place + LEAF_HEAD + ENTRY_BYTES * entry
+                at = place + LEAF_HEAD + (width + 4) * entry
                 self.fields.append(Field(at, 4))
-                self.fields.append(Field(at + KEY_BYTES, 4, owner.endswith('numbers')))
+                self.fields.append(Field(at + width, 4, owner.endswith('numbers')))
         else:
             self.fields += [Field(place, 4, True), Field(place + 4, 2)]
             begin, end = place + LINK_HEAD, place + LINK_HEAD + self.number(place + 4, 2)
@@ -329,8 +332,8 @@ def made_up(choice):
 
 
 def tune_of(text):
-    """A text with the keys that it has."""
-    titles, rhythms, scales, incipits = keys_of(text, 8)
+    """A text with the keys that it has in layout 2."""
+    titles, rhythms, scales, incipits = keys_of(text, 12)
     steps = b''.join(incipits)
     return archives.Tune(text, tuple(titles), b''.join(rhythms), b''.join(scales),
                          tuple(int.from_bytes(steps[at:at + 4], 'big') - 2 ** 31
@@ -345,7 +348,8 @@ def made_up_archive(choice):
     sets = b''.join(set_bytes(name, *choice.choices(numbers, k=choice.randrange(4)))
                     for name in names)
     file = io.BytesIO()
-    archives.Archive(tunes, sets, choice.choice([1, 9999])).write(file, choice.randrange(1, 6))
+    archive = archives.Archive(tunes, sets, choice.choice([1, 9999]), choice.choice([1, 2]))
+    archive.write(file, choice.randrange(1, 6))
     return file.getvalue()
 
 
@@ -369,8 +373,19 @@ def written(folder, *scripts):
     return files
 
 
+def upgraded(folder, data):
+    """A file of layout 1 after it was brought to layout 2."""
+    path = os.path.join(folder, 'upgraded.abcx')
+    with open(path, 'wb') as file:
+        file.write(data)
+    subprocess.run([PROGRAM, 'upgrade', path], check=True, stdout=subprocess.DEVNULL)
+    with open(path, 'rb') as file:
+        return file.read()
+
+
 def written_by_program(folder):
-    """Archives, each with how often it is taken."""
+    """Archives, each with how often it is taken; those of layout 1 it wrote, or may have written.
+    """
     with open(os.path.join(ROOT, 'examples', 'session.abc'), 'rb') as file:
         session = file.read()
     sets = b'set-new friday\nset-add friday 3\nset-add friday 1\nset-new 0_-z\n'
@@ -383,9 +398,13 @@ def written_by_program(folder):
     before, after, longer = written(folder, importing(session) + sets, changes,
                                     importing(long_tune) + b'set-new monday\nset-add monday 16\n')
     full, split = written(folder, importing(many), importing(b'X:1\nT:Reel 7\nK:G\nGAB\n' * 4))
+    older = layouts.in_layout(1, layouts.session(), layouts.FRIDAY)
+    newer = upgraded(folder, older)
     return {made: 1, before: 6, after: 6, longer: 3, split: 1,
             archives.opened(made, before): 1, archives.opened(before, after): 4,
-            archives.opened(after, longer): 2, archives.opened(full, split): 1}
+            archives.opened(after, longer): 2, archives.opened(full, split): 1,
+            layouts.kept('layout-1-two-tunes'): 1, older: 4, newer: 1,
+            archives.opened(older, newer): 3}
 
 
 # JUDGING

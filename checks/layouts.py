@@ -7,9 +7,10 @@ version 2 is made of it by hand: its index of incipits is written anew behind al
 of 48 bytes by twelve notes, and its version is put into the root. Which keys a tune has is told
 here and not read. What is whole both have to read, to the same book; what is damaged both have to
 call so, the reader for the reason that is told here, and no byte of it may be written. Files of
-each layout are changed by the program too, and searched; so are files that it wrote once, which
-are kept in checks/data/kept. The program is ./tunes, or the one that the variable TUNES names. A
-line is printed for each case, and the status is 1 where a case failed.
+each layout are changed by the program too, searched, filled up to their limits, and upgraded; so
+are files that it wrote once, which are kept in checks/data/kept. The program is ./tunes, or the one
+that the variable TUNES names. A line is printed for each case, and the status is 1 where a case
+failed.
 
 The largest file has 210 MB; those that are longer have holes, and take no room.
 """
@@ -19,11 +20,11 @@ import struct
 import subprocess
 import sys
 import tempfile
-from typing import NamedTuple
 
 sys.dont_write_bytecode = True
-from archives import (COUNT, PAGES, Archive, Tune, Writer, first_of, four_bytes, key, leaf_of,
-                      number_at, opened, page_at, place_of, put, set_bytes)
+from archives import (COUNT, LAYOUTS, PAGES, Archive, Tune, Writer, first_of, four_bytes, key,
+                      keys_of, leaf_of, most_of, number_at, opened, page_at, place_of, put,
+                      set_bytes)
 
 ROOT = os.path.dirname(os.path.dirname(os.path.abspath(__file__)))
 READER = os.path.join(ROOT, 'examples', 'read_archive.py')
@@ -31,21 +32,6 @@ PROGRAM = os.path.abspath(os.environ.get('TUNES') or os.path.join(ROOT, 'tunes')
 DAMAGED = (3, b'refused 41 Damaged\n')
 SESSION = os.path.join(ROOT, 'examples', 'session.abc')
 KEPT = os.path.join(ROOT, 'checks', 'data', 'kept')
-
-
-class Layout(NamedTuple):
-    """How wide the keys of incipits are, how many entries a leaf of them has at most, how many
-    steps a key has; how long a text may be; how many tunes and pages there may be."""
-    width: int
-    entries: int
-    steps: int
-    text: int
-    tunes: int
-    pages: int
-
-
-LAYOUTS = {1: Layout(32, 113, 7, 16000, 20000, 1000000),
-           2: Layout(48, 78, 11, 64000, 50000, 4000000)}
 
 # The first three tunes of the session, whose notes go on behind the twelfth: what is above their
 # keys, and the steps.
@@ -74,7 +60,17 @@ OF_NOTES = [
 EIGHT_TITLES = Tune(b''.join(b'T:%d\n' % n for n in range(8)) + b'R:jig\nK:C\nCDEFGABcdefg|\n',
                     tuple(b'%d' % n for n in range(8)), b'jig', b'C 0',
                     (2, 2, 1, 2, 2, 2, 1, 2, 2, 1, 2))
-FRIDAY = set_bytes(b'friday', 2, 3, 2)
+FRIDAY, FRIDAY_LINE = set_bytes(b'friday', 2, 3, 2), b'friday 3 2 3 2\n'
+# What the files have that are kept with two tunes: these are the same up to their eighth note.
+KEPT_TUNES = {1: tune_of(b'CDEFGABcdefg', 2, 2, 1, 2, 2, 2, 1, 2, 2, 1, 2),
+              2: tune_of(b'CDEFGABcBAGF', 2, 2, 1, 2, 2, 2, 1, -1, -2, -2, -2)}
+KEPT_LINE = b'friday 2 2 1\n'
+# How the program brings a file to layout 2: by its word, or by a line that it reads.
+UPGRADING = b'upgrade\n', b'ok upgrade 2\n'
+UPGRADES, UPGRADED = (('upgrade', b''), ('run', UPGRADING[0])), (0, UPGRADING[1])
+# A tune without a note.
+BARE = b'X:1\nK:C\n'
+TOO_LONG, FULL = b'refused 2 BadTune 1 TooLong\n', b'refused 9 ArchiveFull\n'
 
 
 def session():
@@ -99,12 +95,10 @@ def book_of(tunes):
 
 def in_layout(version, tunes, sets=b''):
     """A file of these tunes."""
-    layout = LAYOUTS[version]
-    cut = {number: tune._replace(steps=tune.steps[:7]) for number, tune in tunes.items()}
     file = io.BytesIO()
-    Archive(cut, sets).write(file)
+    Archive(tunes, sets).write(file)
     if version == 2:
-        put_incipits(file, tunes, layout)
+        put_incipits(file, tunes, LAYOUTS[version])
         put(file, PAGES, version)
     return file.getvalue()
 
@@ -136,6 +130,17 @@ def exported(book):
     return b'ok export %d\n%b' % (len(book), book)
 
 
+def importing(book):
+    return b'import %d\n%b' % (len(book), book)
+
+
+def text_of(length):
+    """A text of so many bytes, without a note."""
+    line = b'w:' + b'a' * 9 + b'\n'
+    text = b'K:\n' + line * ((length - 3) // len(line))
+    return text[:-1] + b'b' * (length - len(text)) + b'\n'
+
+
 def kept(name):
     """A file that is kept: its length, and bytes that are not all 0, with their offset."""
     data = bytearray()
@@ -158,19 +163,14 @@ def changed(data, change):
 
 def many_tunes(path, count, tune):
     """Writes so many tunes of one text in layout 2, each with all its keys."""
-    layout = LAYOUTS[2]
     with open(path, 'w+b') as file:
         pages = Writer(file)
         chains = [pages.chain(b'\x00\x01' + tune.text) for _ in range(count)]
         rows = ((key(four_bytes(number)), chain) for number, chain in enumerate(chains, 1))
         firsts = [pages.index(rows)]
-        for words in (tune.titles, (tune.rhythm,), (tune.scale,)):
-            rows = ((key(word), number) for word in sorted(words) if word
-                    for number in range(1, count + 1))
-            firsts.append(pages.index(rows))
-        rows = ((incipit_key(tune.steps, layout.width), number)
-                for number in range(1, count + 1) if tune.steps)
-        firsts.append(pages.index(rows, layout.entries))
+        for name, words in keys_of(tune, 2).items():
+            rows = ((word, number) for word in sorted(words) for number in range(1, count + 1))
+            firsts.append(pages.index(rows, most_of(name, 2)))
         pages.end(four_bytes(2, *firsts, 0))
 
 
@@ -201,6 +201,9 @@ class Cases:
     def whole(self, name, data, wanted, lines):
         """The file is whole, and has this book; these are lines of what `check` says of it."""
         self.write(data)
+        self.end(name, self.wrong_whole(wanted, lines))
+
+    def wrong_whole(self, wanted, lines):
         status, book, reason = self.read('book')
         wrong = reason
         if not wrong and (status, book) != (0, wanted):
@@ -208,7 +211,15 @@ class Cases:
         said = self.read('check')[1].decode().splitlines()
         missing = [line for line in lines if line not in said]
         wrong = wrong or (f'it does not say {missing[0]}' if missing else '')
-        self.end(name, wrong or self.wrong_program(wanted, said[0]))
+        return wrong or self.wrong_program(wanted, said[0])
+
+    def stands(self, name, version, tunes, sets):
+        """The file is whole, has these tunes and set lists, and tells its tunes apart by notes."""
+        wrong = self.wrong_whole(book_of(tunes), [f'layout {version}: {len(tunes)} tunes, '
+                                                  f'{len(sets.splitlines())} set lists'])
+        if not wrong and self.read('sets') != (0, sets, ''):
+            wrong = f'its set lists are {self.read("sets")}'
+        self.end(name, wrong or self.wrong_finds(version, tunes))
 
     def wrong_program(self, wanted, line):
         """What is wrong with the answers of the program; the line is the reader's first."""
@@ -267,54 +278,86 @@ class Cases:
                    [f'index of incipits: {len(tunes) - 2} entries in {len(tunes) - 2} leaves'])
 
     def check_kept(self):
-        """Files of layout 1 are opened for ever, and tell openings apart by eight notes."""
-        self.whole('a file of layout 1 that was made', kept('layout-1-empty'), book_of({}),
-                   ['layout 1: 0 tunes, 0 set lists'])
-        twins_by_eight = {1: Tune(b'K:C\nCDEFGABcdefg\n'), 2: Tune(b'K:C\nCDEFGABcBAGF\n')}
-        self.whole('a file of layout 1 with two tunes', kept('layout-1-two-tunes'),
-                   book_of(twins_by_eight), ['layout 1: 2 tunes, 1 set lists'])
-        answer = program('run', self.path, b'find notes CDEFGABcde\nset-show friday\n')
-        wanted = b'ok find 2\n1\n2\nok set-show friday 2\n1 2\n2 1\n'
-        self.end('what is found in it', '' if answer == (0, wanted) else f'{answer}')
+        """Files that were written once are opened for ever, and go on in their layout."""
+        self.write(kept('layout-1-empty'))
+        self.stands('a file of layout 1 that was made', 1, {}, b'')
+        for version in LAYOUTS:
+            self.write(kept(f'layout-{version}-two-tunes'))
+            self.stands(f'a file of layout {version} with two tunes', version, KEPT_TUNES,
+                        KEPT_LINE)
+            self.check_change(f'a file of layout {version} that is kept', version, KEPT_TUNES,
+                              KEPT_LINE, 3)
 
     def check_changes(self):
-        """Commands of the program over a file of each layout, which stays in it."""
-        late = tune_of(b'CCCC CCCC|C,CC^D', *[0] * 7, -12, 12, 0, 3)
-        for version in LAYOUTS:
-            tunes = session()
-            self.write(in_layout(version, tunes, FRIDAY))
-            script = b'import %d\nX:1\n%bdelete 6\n' % (len(late.text) + 4, late.text)
-            count = len(tunes)
-            answer = program('run', self.path, script)
-            tunes[count + 1] = late
-            del tunes[6]
-            book = book_of(tunes)
-            wrong = '' if answer == (0, b'ok import %d %d\nok delete 6\n' % (count + 1, count + 1)
-                                     ) else f'{answer}'
-            if not wrong and self.read('book') != (0, book, ''):
-                wrong = f'the reader says {self.read("book")[2]}, or its book is another'
-            said = self.read('check')[1].decode().splitlines()
-            if not wrong and said[:1] != [f'layout {version}: {count} tunes, 1 set lists']:
-                wrong = f'{said[:1]}'
-            self.end(f'a tune put in and one taken out, of version {version}', wrong)
-            self.check_finds(version, tunes)
+        """Commands of the program over a file of each layout, which stays in it, and over one that
+        was upgraded."""
+        for version, upgrade in ((1, ''), (2, ''), (1, ', upgraded')):
+            self.write(in_layout(version, session(), FRIDAY))
+            if upgrade:
+                program('upgrade', self.path)
+            self.check_change(f'a file of version {version}{upgrade}', 2 if upgrade else version,
+                              session(), FRIDAY_LINE, 6)
 
-    def check_finds(self, version, tunes):
+    def check_change(self, name, version, tunes, sets, gone):
+        """Two tunes are put in and one taken out, of the file of these tunes."""
+        late, number = tune_of(b'CCCC CCCC|C,CC^D', *[0] * 7, -12, 12, 0, 3), len(tunes) + 1
+        both = {number: late, number + 1: OF_NOTES[5]}
+        script = importing(b''.join(b'X:1\n' + tune.text for tune in both.values()))
+        answer = program('run', self.path, script + b'delete %d\n' % gone)
+        name = f'{name}, changed'
+        if answer != (0, b'ok import %d %d\nok delete %d\n' % (number, number + 1, gone)):
+            self.end(name, f'{answer}')
+        else:
+            left = {other: tune for other, tune in {**tunes, **both}.items() if other != gone}
+            self.stands(name, version, left, sets)
+
+    def check_upgrades(self):
+        """Files of each layout go on in layout 2; where they have that, no byte is another."""
+        tunes, many = session(), twins(300)
+        files = [('no tune', in_layout(1, {}), {}, b''),
+                 ('300 incipits', in_layout(1, many), many, b''),
+                 ('what was made', kept('layout-1-empty'), {}, b'')]
+        for version in LAYOUTS:
+            files += [(f'a file of version {version}', in_layout(version, tunes, FRIDAY), tunes,
+                       FRIDAY_LINE),
+                      (f'a file of layout {version} that is kept',
+                       kept(f'layout-{version}-two-tunes'), KEPT_TUNES, KEPT_LINE)]
+        for what, data, of_file, sets in files:
+            self.check_upgrade(f'{what}, upgraded', data, of_file, sets)
+
+    def check_upgrade(self, name, data, tunes, sets):
+        """The file is the same, however it is brought to layout 2, and stays so."""
+        files, answers = [], set()
+        for words in UPGRADES:
+            self.write(data)
+            for word, script in (words, *UPGRADES):
+                answers.add(program(word, self.path, script))
+                with open(self.path, 'rb') as file:
+                    files.append(file.read())
+        if answers != {UPGRADED}:
+            self.end(name, f'the answers are {answers}')
+        elif files != files[:1] * len(files) or files[0][PAGES:PAGES + 4] != four_bytes(2):
+            self.end(name, 'its bytes are others the second time, or its version is another')
+        else:
+            self.stands(name, 2, tunes, sets)
+
+    def wrong_finds(self, version, tunes):
         """Each opening is found, by as many notes as the layout has."""
         steps = LAYOUTS[version].steps
-        wrong = ''
+        script, wanted = b'', []
         for asked in tunes.values():
-            music = asked.text.partition(b'K:C\n')[2].strip()
-            sought = asked.steps[:steps]
-            if not music or not sought:
+            music, sought = asked.text.partition(b'K:C\n')[2].strip(), asked.steps[:steps]
+            if not music or not sought or b'find notes %b\n' % music in script:
                 continue
+            script += b'find notes %b\n' % music
             found = [number for number, tune in sorted(tunes.items())
                      if tune.steps[:steps][:len(sought)] == sought]
-            _, output = program('run', self.path, b'find notes %b\n' % music)
-            first, *rows = output.decode().splitlines()
-            if (first, [int(row.split()[0]) for row in rows]) != (f'ok find {len(found)}', found):
-                wrong = wrong or f'{music}: {output}, and not {found}'
-        self.end(f'finds by notes, of version {version}', wrong)
+            wanted += [f'ok find {len(found)}', *map(str, found)]
+        _, output = program('run', self.path, script)
+        # A row may go on with a title.
+        lines = [line if line.startswith('ok ') else line.split()[0]
+                 for line in output.decode().splitlines()]
+        return '' if lines == wanted else f'it finds {lines}, and not {wanted}'
 
     def check_versions(self):
         """Each version with the incipits of the other, and versions that are none."""
@@ -354,16 +397,52 @@ class Cases:
         for version, layout in LAYOUTS.items():
             other = LAYOUTS[3 - version]
             for length in sorted({16000, 16001, layout.text, layout.text + 1, other.text}):
-                line = b'w:' + b'a' * 9 + b'\n'
-                text = b'K:\n' + line * ((length - 3) // len(line))
-                text = text[:-1] + b'b' * (length - len(text)) + b'\n'
-                tunes = {1: Tune(text), 2: OF_NOTES[6]}
+                tunes = {1: Tune(text_of(length)), 2: OF_NOTES[6]}
                 data, name = in_layout(version, tunes), f'{length:,} bytes in version {version}'
                 if length <= layout.text:
                     self.whole(name, data, book_of(tunes), [f'layout {version}: 2 tunes, '
                                                             '0 set lists'])
                 else:
                     self.damaged(name, data, f'tune 1 has more than {layout.text + 2} bytes')
+
+    def check_longest(self):
+        """Texts of these lengths are taken in by layout 1, by layout 2, and after an upgrade."""
+        for name, data, tunes, longest, script, answers in (
+                ('version 1', in_layout(1, {}), {}, 16000, b'', b''),
+                ('version 1, upgraded', in_layout(1, {}), {}, 64000, *UPGRADING),
+                ('a kept file of layout 2', kept('layout-2-two-tunes'), KEPT_TUNES, 64000, b'',
+                 b'')):
+            tunes = dict(tunes)
+            for length in (16000, 16001, 64000, 64001):
+                script += importing(b'X:1\n' + text_of(length))
+                if length <= longest:
+                    tunes[len(tunes) + 1] = Tune(text_of(length))
+                    answers += b'ok import %d %d\n' % (len(tunes), len(tunes))
+                else:
+                    answers += TOO_LONG
+            self.write(data)
+            wrong = '' if program('run', self.path, script) == (0, answers) else 'other answers'
+            if not wrong and self.read('book') != (0, book_of(tunes), ''):
+                wrong = 'its book is another'
+            self.end(f'texts that are taken in by {name}', wrong)
+
+    def check_full(self):
+        """As many tunes are taken in as the layout allows, and more after an upgrade."""
+        upgrade = (importing(BARE * 20000) + UPGRADING[0], b'ok import 1 20000\n' + UPGRADING[1])
+        for name, data, has, layout, script, answers in (
+                ('version 1', in_layout(1, {}), 0, 1, b'', b''),
+                ('version 1, upgraded', in_layout(1, {}), 20000, 2, *upgrade),
+                ('a kept file of layout 2', kept('layout-2-two-tunes'), 2, 2, b'', b'')):
+            most = LAYOUTS[layout].tunes
+            script += b''.join(importing(BARE * more) for more in (most - has + 1, most - has, 1))
+            answers += FULL + b'ok import %d %d\n' % (has + 1, most) + FULL
+            self.write(data)
+            answer = program('run', self.path, script)
+            wrong = '' if answer == (0, answers) else f'{answer}'
+            _, said = program('check', self.path)
+            if not wrong and not said.startswith(b'layout %d tunes %d sets ' % (layout, most)):
+                wrong = f'the program says {said}'
+            self.end(f'tunes up to {most:,} in {name}', wrong)
 
     def check_counts(self):
         for version, layout in LAYOUTS.items():
@@ -385,9 +464,8 @@ class Cases:
         wrong = '' if good else reason or f'{said}'
         if not wrong and program('check', self.path) != (0, b'layout 2 tunes 50000 sets 0\n'):
             wrong = f'the program says {program("check", self.path)}'
-        full = b'import 8\nX:1\nK:C\n'
-        if not wrong and program('run', self.path, full) != (0, b'refused 9 ArchiveFull\n'):
-            wrong = f'the program takes one more: {program("run", self.path, full)}'
+        if not wrong and program('run', self.path, importing(BARE)) != (0, FULL):
+            wrong = f'the program takes one more: {program("run", self.path, importing(BARE))}'
         self.end('50,000 tunes of eight titles in version 2', wrong)
         many_tunes(self.path, 50001, Tune(b'K:\n'))
         self.refused('50,001 tunes in version 2', 'there are more than 50000 numbers')
@@ -400,9 +478,12 @@ def main():
         cases.check_session()
         cases.check_kept()
         cases.check_changes()
+        cases.check_upgrades()
         cases.check_versions()
         cases.check_leaves()
         cases.check_texts()
+        cases.check_longest()
+        cases.check_full()
         cases.check_counts()
     sys.exit(1 if cases.failures else 0)
 

@@ -53,7 +53,7 @@ wrong() {
 run() {
     ran="$ran$1 "
     if blocks recipe "$1" | sed "s/mine\.abc/${2:-mine.abc}/g" > "$work/recipe"; then
-        sh "$work/recipe" > "$work/out" 2> "$work/err"
+        sh "$work/recipe" < /dev/null > "$work/out" 2> "$work/err"
         status=$?
     fi
     [ -s "$work/recipe" ] || wrong "no page has the recipe $1"
@@ -289,7 +289,7 @@ ends_with 0
 # behind them.
 [ "$(wc -c < tunes.abcx)" -eq 114736 ] || wrong 'the file is not as long as it should be'
 root_front=$(od -An -tx1 -j16384 -N4 tunes.abcx)
-[ "$root_front" = ' 00 00 00 01' ] || wrong "page 0 begins with$root_front"
+[ "$root_front" = ' 00 00 00 02' ] || wrong "page 0 begins with$root_front"
 end
 
 begin 'a file that is no archive'
@@ -382,7 +382,7 @@ fi
 says 'books/mine.abc: tunes 16 to 30
 1 Kesh Jig, The
 16 Kesh Jig, The'
-holds 'layout 1 tunes 30 sets 1'
+holds 'layout 2 tunes 30 sets 1'
 end
 
 begin 'making an archive'
@@ -393,7 +393,7 @@ says ''
 run_again make
 ends_with 3
 grep -q 'the file is not empty' "$work/err" || wrong 'it does not say why'
-holds 'layout 1 tunes 0 sets 0'
+holds 'layout 2 tunes 0 sets 0'
 end
 
 go_on 'adding a book'
@@ -405,7 +405,7 @@ run_again add
 ends_with 0
 says 'mine.abc: tunes 16 to 30'
 mv once.abcx tunes.abcx
-holds 'layout 1 tunes 15 sets 0'
+holds 'layout 2 tunes 15 sets 0'
 echo export | ./tunes run tunes.abcx | sed 1d > "$work/found"
 same "$work/found" "$export"
 end
@@ -444,7 +444,7 @@ ends_with 0
 says 'tune 3 is not changed'
 echo show 3 | ./tunes run tunes.abcx | sed 1d > "$work/found"
 same "$work/found" "$work/wanted"
-holds 'layout 1 tunes 15 sets 0'
+holds 'layout 2 tunes 15 sets 0'
 has 'mine.abc tunes.abcx tunes.abcx.old.abc'
 end
 
@@ -466,7 +466,7 @@ says '1 5 Blarney Pilgrim, The
 2 3 Tripping Up the Stairs'
 run_again set
 ends_with 0
-holds 'layout 1 tunes 15 sets 1'
+holds 'layout 2 tunes 15 sets 1'
 end
 
 if command -v abcm2ps > "$work/out" && command -v ps2pdf > "$work/out"; then
@@ -525,7 +525,7 @@ ends_with 1
 exec 9>&-
 wait
 rm script
-holds 'layout 1 tunes 14 sets 1'
+holds 'layout 2 tunes 14 sets 1'
 has 'backup mine.abc tunes.abcx'
 mv "$work/copy.abcx" "$copy"
 end
@@ -535,12 +535,12 @@ head -c 20000 tunes.abcx > front && mv front tunes.abcx
 holds 'refused 41 Damaged'
 run restore
 ends_with 0
-says 'layout 1 tunes 15 sets 1
+says 'layout 2 tunes 15 sets 1
 the archive that was there is tunes.abcx.1.old now'
 same tunes.abcx "$copy"
 run_again restore
 ends_with 0
-says 'layout 1 tunes 15 sets 1
+says 'layout 2 tunes 15 sets 1
 the archive that was there is tunes.abcx.2.old now'
 same tunes.abcx "$copy"
 same tunes.abcx.2.old "$copy"
@@ -601,6 +601,32 @@ same new.abcx "$work/new"
 same again.script "$work/script"
 end
 
+begin 'going over to layout 2'
+cp "$book" mine.abc
+./tunes make tunes.abcx > "$work/out"
+# the version of the root, as a file of layout 1 without a tune has it
+printf '\001' | dd of=tunes.abcx bs=1 seek=16387 conv=notrunc 2> "$work/err"
+./tunes-book -f tunes.abcx add mine.abc > "$work/out"
+./tunes-book -f tunes.abcx put friday 3 1 > "$work/out"
+holds 'layout 1 tunes 15 sets 1'
+contents tunes.abcx > "$work/wanted"
+cp tunes.abcx "$work/old"
+run upgrade
+ends_with 0
+says 'it is of layout 2 now'
+holds 'layout 2 tunes 15 sets 1'
+contents tunes.abcx > "$work/found"
+same "$work/found" "$work/wanted"
+same copy.abcx "$work/old"
+cp tunes.abcx "$work/new"
+run_again upgrade
+ends_with 0
+same tunes.abcx "$work/new"
+same copy.abcx "$work/old"
+./tunes-book -f tunes.abcx restore copy.abcx > "$work/out"
+holds 'layout 1 tunes 15 sets 1'
+end
+
 # SCRIPTS ON AN ARCHIVE IN A FILE
 
 begin 'asking by a script'
@@ -620,7 +646,7 @@ mine.abc: all its tunes are there already, 15
 ok find 1
 1 Kesh Jig, The
 $(cat "$work/shown")"
-holds 'layout 1 tunes 15 sets 0'
+holds 'layout 2 tunes 15 sets 0'
 has 'mine.abc tunes.abcx'
 end
 
@@ -637,7 +663,7 @@ ends_with 0
 says 'ok replace 3 3'
 echo show 3 | ./tunes run tunes.abcx | sed 1d > "$work/found"
 same "$work/found" "$work/wanted"
-holds 'layout 1 tunes 15 sets 0'
+holds 'layout 2 tunes 15 sets 0'
 end
 
 go_on 'replacing a tune that somebody else changes meanwhile'
@@ -668,7 +694,7 @@ run_again set-script
 ends_with 0
 says "ok set-drop friday
 $places"
-holds 'layout 1 tunes 15 sets 1'
+holds 'layout 2 tunes 15 sets 1'
 end
 
 go_on 'a book that is saved whole, or not at all'
@@ -824,7 +850,7 @@ says 'refused 22 Device'
 rm -f tunes.abcx
 run make
 ends_with 0
-holds 'layout 1 tunes 0 sets 0'
+holds 'layout 2 tunes 0 sets 0'
 end
 
 # STREAMS THAT ARE CLOSED OR FULL
@@ -874,7 +900,7 @@ cp tunes.abcx "$work/wanted"
 for closed in $every; do
     closing "$closed" check tunes.abcx
     ends_unless_closed 0
-    [ "$status" -ne 0 ] || says 'layout 1 tunes 1 sets 0'
+    [ "$status" -ne 0 ] || says 'layout 2 tunes 1 sets 0'
     same tunes.abcx "$work/wanted"
     closing "$closed" check absent.abcx
     ends_with 1
@@ -911,7 +937,7 @@ for closed in 1 12; do
     cat script script > twice && mv twice script
     closing "$closed" run tunes.abcx
     ends_with 1
-    holds 'layout 1 tunes 2 sets 0'
+    holds 'layout 2 tunes 2 sets 0'
 done
 end
 
@@ -933,7 +959,7 @@ if [ -e /dev/full ]; then
     ./tunes make tunes.abcx > /dev/full 2> "$work/err"
     status=$?
     ends_with 1
-    holds 'layout 1 tunes 0 sets 0'
+    holds 'layout 2 tunes 0 sets 0'
     for words in 'make tunes.abcx' 'check tunes.abcx' 'check absent.abcx'; do
         ./tunes $words > /dev/full 2> "$work/err"
         status=$?
@@ -944,7 +970,7 @@ if [ -e /dev/full ]; then
         status=$?
         ends_with 1
     done
-    holds 'layout 1 tunes 1 sets 0'
+    holds 'layout 2 tunes 1 sets 0'
     end
 fi
 

@@ -4,8 +4,10 @@ _tunes() {
     local word=${COMP_WORDS[COMP_CWORD]}
     COMPREPLY=()
     case $COMP_CWORD.${COMP_WORDS[1]} in
-    1.*) mapfile -t COMPREPLY < <(compgen -W 'list make run check --help --version' -- "$word") ;;
-    2.make | 2.run | 2.check) _tunes_files "$word" ;;
+    1.*)
+        mapfile -t COMPREPLY < <(compgen -W 'list make run check upgrade --help --version' \
+            -- "$word") ;;
+    2.make | 2.run | 2.check | 2.upgrade) _tunes_files "$word" ;;
     esac
 }
 
@@ -40,7 +42,8 @@ _tunes_book() {
     fi
     case $((COMP_CWORD - at)).$command.$word in
     0.*) names='new add import-check find titles sets show edit delete undo set put cut drop move
-        export print hear backup restore dump load check help -f --json --csv --help --version' ;;
+        export print hear backup restore dump load check upgrade help -f --json --csv --help
+        --version' ;;
     1.find.*) names='title rhythm key notes --within --json --csv' ;;
     1.set.* | 1.put.* | 1.cut.* | 1.move.* | 1.drop.* | 2.export.* | 2.print.*)
         names=$("${COMP_WORDS[0]}" -f "$file" sets 2> /dev/null | cut -d ' ' -f 1) ;;

@@ -4,8 +4,8 @@
 //! `data/` has a file of cases for each of them. A case is a block of lines: its name, and then
 //! calls that are made in turn, one a line: the name of the call, its words, and ` = ` with the
 //! answer that is wanted, where there is one. Which calls there are is said where they are made:
-//! in books.rt, sets.rt, command_lines.rt, scripts.rt and files.rt. Bytes stand for themselves, but for `\n`,
-//! `\r`, `\s`, a blank, `\xNN`, the byte of two hexadecimal digits, and `\e`, nothing.
+//! in books.rt, sets.rt, command_lines.rt, scripts.rt and files.rt. Bytes stand for themselves, but
+//! for `\n`, `\r`, `\s`, a blank, `\xNN`, the byte of two hexadecimal digits, and `\e`, nothing.
 //!
 //! The program prints a line for each case, or each call that answers otherwise, and how many
 //! cases came out as written; where one did not, it ends with status 1.

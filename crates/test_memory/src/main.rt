@@ -1,106 +1,88 @@
 //! The program `test_memory`: carries out the commands of standard input where memory may be
-//! refused, and judges by itself whether all came out as it has to.
+//! refused, and tells what came of them.
 //!
 //! ```sh
-//! test_memory list                     # over an archive in memory
-//! test_memory file                     # over an archive in a file, on a disk in memory
-//! test_memory open CALLS lost|kept     # the opening of what a stop after so many calls leaves
+//! test_memory list                        # over an archive in memory
+//! test_memory make                        # over one that is made in a file, on a disk in memory
+//! test_memory open FILE CALLS lost|kept   # over that of a file, up to a stop after so many calls
 //! ```
 //!
-//! The input has pieces, each of one command and a line `--` behind it. Each piece is a script of
-//! its own; its line `--` is a bad one, and is answered so where the text before it was read. Room
-//! for all replies is taken first. Then come the commands, or the opening; and then the judgement:
+//! The input has pieces, each of one command and a line `--` behind it, and behind a line `==`
+//! others, which ask. Each piece is a script of its own; its line `--` is a bad one, and is
+//! answered so where the text before it was read. Room for all that is told is taken first. Then
+//! come the pieces in front. What they leave in a file is then opened, once more where that is
+//! refused; and then come those that ask.
 //!
-//! - a piece that is answered 21 changed nothing: the others are answered as an archive in memory
-//!   answers that is handed these alone;
-//! - where a growth is refused within the disk in memory, which is a fault of the device, a piece
-//!   is answered 22, and each one behind it 23;
-//! - the file then opens as before the piece that was answered 22 or after it, and else with the
-//!   state of all that were not answered 21;
-//! - an opening that is refused memory hands the disk back, and it opens as it would have.
+//! The replies to a piece are told, and a line `== END LEFT`: how its run ended, and how many bytes
+//! of it are left. `== refused WHY` stands where an archive was not made, or not opened; behind the
+//! pieces in front with how many bytes the file has, and `== layout N` where it was opened.
 //!
-//! It prints what was refused, and its status is 0 where nothing was, 2 where something was and all
-//! came out as it has to, 3 where it did not, and 1 where memory was refused before or behind what
-//! is tried, so that nothing is judged. No allocation is refused by itself:
-//! `checks/refuse_memory.py` runs it again and again, with another one refused each time.
+//! All is printed at the end, with the status 0. The status is 1 where memory was refused for what
+//! this program itself does, and 4 where the words name nothing. No allocation is refused by
+//! itself: `checks/refuse_memory.py` runs it again and again, with another one refused each time,
+//! and judges what it tells.
 #![tactic(auto)]
 
-mod judging;
-mod openings;
-mod pieces;
-mod verdict;
+mod archives;
 
-use judging::{over_file, over_list};
-use openings::over_opening;
-use std::io::Read;
+use archives::{Script, Stop, over_file, over_list, over_made};
+use std::fs::Files;
+use std::io::{Read, Write};
 use std::process::ExitCode;
-use std::{env, io};
+use std::{env, fs, io};
 use tune_disk::StopChoice;
-use verdict::Verdict;
+
+/// Room for all that is told.
+const ROOM: usize = 1_000_000;
 
 /// The status where the words of the command name nothing.
 const BAD_WORDS: u8 = 4;
 
 fn main(rt: HostRuntime) -> io::Result<ExitCode> {
     let words: Vec<String> = env::args(&rt)?.collect(rt.alloc())?;
-    let mut script = String::new(rt.alloc());
-    rt.reader().read_to_string(&mut script)?;
-    match meaning_of(words.as_slice()) {
-        Some(asked) => {
-            let verdict = try_out(&rt, asked, &script)?;
-            Ok(ExitCode::from(verdict.status()))
-        }
-        None => {
-            eprintln!(&rt; "usage: test_memory list | file | open CALLS lost|kept")?;
-            Ok(ExitCode::from(BAD_WORDS))
-        }
+    let mut input = String::new(rt.alloc());
+    rt.reader().read_to_string(&mut input)?;
+    let mut told = Vec::new(rt.alloc());
+    told.reserve(ROOM)?;
+    if carry_out(&rt, words.as_slice(), Script::of(&input), &mut told)? {
+        io::writer(&rt).write_all(&told)?;
+        return Ok(ExitCode::SUCCESS);
     }
+    eprintln!(&rt; "usage: test_memory list | make | open FILE CALLS lost|kept")?;
+    Ok(ExitCode::from(BAD_WORDS))
 }
 
-/// What is tried.
-#[derive(Clone, Copy)]
-enum Asked {
-    List,
-    File,
-    /// The opening after a stop that came behind so many calls.
-    Opening(u64, StopChoice),
-}
-
-// What the words ask for.
-fn meaning_of(words: &[String]) -> Option<Asked> {
+// Carries a script out over the archive that the words name. The answer is whether they name one.
+fn carry_out<R: Files + AllocGlobal>(
+    rt: &R,
+    words: &[String],
+    script: Script<'_>,
+    told: &mut Vec<u8>,
+) -> io::Result<bool> {
     match words {
-        [_, what] if what.as_str() == "list" => Some(Asked::List),
-        [_, what] if what.as_str() == "file" => Some(Asked::File),
-        [_, what, calls, choice] if what.as_str() == "open" => {
-            let choice = match choice.as_str() {
-                "lost" => StopChoice::Lost,
-                "kept" => StopChoice::Kept,
-                _ => return None,
+        [_, what] if what.as_str() == "list" => over_list(rt.alloc(), script, told)?,
+        [_, what] if what.as_str() == "make" => over_made(rt.alloc(), script, told)?,
+        [_, what, path, calls, choice] if what.as_str() == "open" => {
+            let Some(stop) = stop(calls, choice) else {
+                return Ok(false);
             };
-            Some(Asked::Opening(calls.as_str().parse::<u64>().ok()?, choice))
+            let file = fs::read(rt, path.as_str())?;
+            over_file(rt.alloc(), script, &file, stop, told)?;
         }
-        _ => None,
+        _ => return Ok(false),
     }
+    Ok(true)
 }
 
-// Tries it, and says what came of it.
-fn try_out<R: Print + AllocGlobal>(rt: &R, asked: Asked, script: &str) -> io::Result<Verdict> {
-    let verdict = match asked {
-        Asked::List => over_list(rt.alloc(), script)?,
-        Asked::File => over_file(rt.alloc(), script)?,
-        Asked::Opening(calls, choice) => {
-            let (verdict, writes) = over_opening(rt.alloc(), script, calls, choice)?;
-            if writes {
-                println!(rt; "the opening writes")?;
-            }
-            verdict
-        }
+// The stop that two words name.
+fn stop(calls: &str, choice: &str) -> Option<Stop> {
+    let choice = match choice {
+        "lost" => StopChoice::Lost,
+        "kept" => StopChoice::Kept,
+        _ => return None,
     };
-    match verdict {
-        Verdict::NoneRefused => println!(rt; "nothing was refused")?,
-        Verdict::OutOfMemory(piece) => println!(rt; "21 at {piece}")?,
-        Verdict::Device(piece) => println!(rt; "22 at {piece}")?,
-        Verdict::Otherwise(piece) => println!(rt; "otherwise at {piece}")?,
-    }
-    Ok(verdict)
+    Some(Stop {
+        calls: calls.parse().ok()?,
+        choice,
+    })
 }

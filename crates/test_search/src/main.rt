@@ -5,8 +5,9 @@
 //! where N ends in 0, else `reel`; the 20 tunes from 1,000 on are in the key of D, all others in G,
 //! and each begins with notes of its own. `data/cases` has a line for each script, `NAME: READS
 //! PAGES`: how many times it may read a page, and how many pages its commits may write; NAME.script
-//! is the script, and NAME.replies has the bytes of its replies. What an opening reads is not
-//! counted: it is read once with the script, and once without.
+//! is the script, and NAME.replies has the bytes of its replies. The archive is a made one; those
+//! of `data/cases-of-layout-1` run over one of layout 1. What an opening reads is not counted: it
+//! is read once with the script, and once without.
 //!
 //! Then the archive is exported twice, as one in memory is. Last, an archive of 2,000 reels is
 //! opened on a disk that fails 500 calls after the opening: a find of one of them is answered, and
@@ -29,7 +30,7 @@ use std::{fs, io};
 use tune_archive::Archive;
 use tune_disk::MemoryDisk;
 use tune_scripts::run;
-use tunes::file_of_tunes;
+use tunes::{file_of_tunes, old_file_of_tunes};
 
 /// How many writes a commit makes beside those of its pages, each of which it writes twice: the
 /// descriptor, the gate, the number of pages, and the gate again.
@@ -57,28 +58,40 @@ impl<'a> Case<'a> {
 }
 
 fn main(rt: HostRuntime) -> io::Result<ExitCode> {
+    let old_file = old_file_of_tunes(rt.alloc())?;
+    let of_layout_1 = are_as_written(&rt, &old_file, "cases-of-layout-1")?;
     let file = file_of_tunes(rt.alloc())?;
-    let opening = calls_of(rt.alloc(), &file, b"", b"")?;
-    let list = fs::read_to_string(&rt, "cases")?;
+    let of_made = are_as_written(&rt, &file, "cases")?;
+    let exports = exports_as_in_memory(rt.alloc(), &file)?;
+    say(&rt, "exports-twice-as-in-memory", exports)?;
+    let finds = finds_without_reading_all(rt.alloc())?;
+    say(&rt, "finds-within-500-calls-and-exports-with-more", finds)?;
+    if of_layout_1 && of_made && exports && finds {
+        Ok(ExitCode::SUCCESS)
+    } else {
+        Ok(ExitCode::FAILURE)
+    }
+}
+
+// Runs the cases of a list over an archive, and says whether each came out as written.
+fn are_as_written<R: Files + Print + AllocGlobal>(
+    rt: &R,
+    file: &MemoryDisk,
+    list: &str,
+) -> io::Result<bool> {
+    let opening = calls_of(rt.alloc(), file, b"", b"")?;
+    let list = fs::read_to_string(rt, list)?;
     let mut all: u32 = 0;
     let mut as_written: u32 = 0;
     for line in list.lines() {
         let case = Case::of_line(line).ok_or(no_data())?;
         all = all.saturating_add(1);
-        if is_as_written(&rt, &file, opening, case)? {
+        if is_as_written(rt, file, opening, case)? {
             as_written = as_written.saturating_add(1);
         }
     }
-    println!(&rt; "{as_written} of {all} scripts as written")?;
-    let exports = exports_as_in_memory(rt.alloc(), &file)?;
-    say(&rt, "exports-twice-as-in-memory", exports)?;
-    let finds = finds_without_reading_all(rt.alloc())?;
-    say(&rt, "finds-within-500-calls-and-exports-with-more", finds)?;
-    if all == as_written && exports && finds {
-        Ok(ExitCode::SUCCESS)
-    } else {
-        Ok(ExitCode::FAILURE)
-    }
+    println!(rt; "{as_written} of {all} scripts as written")?;
+    Ok(all == as_written)
 }
 
 // Prints whether replies are as they should be.

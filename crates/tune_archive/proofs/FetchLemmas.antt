@@ -140,7 +140,7 @@ pub label_found : (rows : List Row) (number : ℕ) (found : Option ℕ) → IfSo
     → IfSome found (λ place. (d : Label) → (get_or (labels_in rows) place d).number ≡ number)
 label_found rows number None inside named = tt
 label_found rows number (Some place) inside named = λ e.
-    (let d : Row = record { number = 0; revision = 0; first = 0 } in
+    (let d : Row = record { number = 0; revision = 0; first = 0; length = 0 } in
     ap (λ (label : Label). label.number) (label_at rows place d e inside) ∙ named d)
 
 -- where no row has a number, no label does
@@ -149,7 +149,7 @@ pub label_none : (rows : List Row) (number : ℕ) (found : Option ℕ)
     → IfNone found ((place : ℕ) (d : Label) → place < length (labels_in rows) → (get_or (labels_in rows) place d).number ≡ number → ⊥)
 label_none rows number (Some place) none = tt
 label_none rows number None none = λ place e l is.
-    (let d : Row = record { number = 0; revision = 0; first = 0 } in
+    (let d : Row = record { number = 0; revision = 0; first = 0; length = 0 } in
     let inside : place < length rows = omega (arith, l, labels_count rows) in
     none place d inside (sym (ap (λ (label : Label). label.number) (label_at rows place d e inside)) ∙ is))
 

@@ -131,7 +131,7 @@ claims_more {layout} pages front runs list claimed now rows next later row so sa
     let listing : (front ++ s.texts) ++ part ∷ [] ≡ front ++ (s.texts ++ part ∷ []) = append_assoc front s.texts (part ∷ []) in
     let holds : part.bytes ≡ claims.bytes = claims.claims.holds in
     let its = one_held part tune claims.claims.is_chain (holds ∙ sym claims.tune.written) in
-    let its_row : row_of tune part ≡ row = 
+    let its_row : row_of tune part ≡ row =
     (λ i. record { number = row.number; revision = row.revision; first = claims.claims.is_first i; length = sym claims.measured i }) in
     record {
       so_far = record {

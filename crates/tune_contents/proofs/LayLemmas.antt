@@ -81,7 +81,8 @@ takes_tune s new rows place first l is freed = λ ahead tunes holds.
     subst (λ (t : Stand). HoldsTunes t ahead (remove tunes place) (remove rows place)) (sym gone) left)
 
 pub adds_tune : (s new : Stand) (rows : List Row) (next : ℕ) (tune : Tune) (along : List ℕ) → PutsChain s new next along (written_tune tune)
-    → LaysTunes s new rows (rows ++ record { number = tune.number; revision = tune.revision; first = next; length = length tune.text } ∷ []) (λ tunes. tunes ++ tune ∷ [])
+    → LaysTunes s new rows (rows ++ record { number = tune.number; revision = tune.revision; first = next; length = length tune.text } ∷ [])
+    (λ tunes. tunes ++ tune ∷ [])
 adds_tune s new rows next tune along put = λ ahead tunes holds.
     (let part : Part = chain_part next along (written_tune tune) in
     record {

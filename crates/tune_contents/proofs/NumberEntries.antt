@@ -247,7 +247,9 @@ module _ (was is : List Row) (place : ℕ) (d : Row) (gone come : List Entry) (l
 
   pub moved_entries : (number to : ℕ) → MovesRow number to was is ⊎ ((is ≡ was) × (RowsRise 0 was → HasNoRow number was))
       → ((e : Row) → (get_or was place e).number ≡ number) → gone ≡ number_entries (get_or was place d ∷ [])
-      → come ≡ number_entries (record { number = to; revision = (get_or was place d).revision; first = (get_or was place d).first } ∷ [])
+      → come ≡ number_entries (
+      record { number = to; revision = (get_or was place d).revision; first = (get_or was place d).first; length = (get_or was place d).length } ∷ []
+      )
       → inserted_all come (removed_all gone (number_entries was)) ≡ number_entries is
   moved_entries number to (inr (same, none)) found goes comes = absurd (none rise place d l (found d))
   moved_entries number to (inl moves) found goes comes =

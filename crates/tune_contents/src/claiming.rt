@@ -232,8 +232,8 @@ fn claim_part<D: Disk>(
     opening.claim_chain_within(first, most)
 }
 
-// The rows of the entries of the index of numbers, with no revision and no length yet. Their numbers have to rise
-// and to be within the limits.
+// The rows of the entries of the index of numbers, with no revision and no length yet. Their
+// numbers have to rise and to be within the limits.
 fn listed_rows(
     alloc: Global,
     layout: Layout,
@@ -345,8 +345,7 @@ fn numbers_of(alloc: Global, rows: &[Row]) -> Result<Vec<u32>, AllocError>
 }
 
 // Claims the tune of each of these rows, whose number has to stand at the keys of its text in the
-// search indexes, and no other number at any; gives the rows with their revisions
-// and lengths.
+// search indexes, and no other number at any; gives the rows with their revisions and lengths.
 fn claim_rows<D: Disk>(
     alloc: Global,
     opening: &mut Opening<D>,

@@ -20,8 +20,12 @@ use Rattle.tune_format.specs.declared.rows.Row.{Row}
 -- a tune, and where its chain begins
 abbrev pub row_of : Tune → Part → Row
 row_of tune part =
-    record { number = tune.number; revision = tune.revision; first = part.first;
-      length = length tune.text }
+    record {
+      number = tune.number;
+      revision = tune.revision;
+      first = part.first;
+      length = length tune.text;
+    }
 
 -- the rows of tunes that stand in these parts, one after another
 abbrev pub rows_of : List Tune → List Part → List Row

@@ -1,7 +1,6 @@
 pub mod Decimals
 pub mod ReadLemmas
 pub mod AppendLemmas
-pub mod TakenFields
 pub mod WordLemmas
 pub mod CarriedLemmas
 pub mod TurnLemmas

@@ -1,3 +1,2 @@
-pub mod FirstWords
 pub mod Reads
 pub mod Turns

@@ -3,6 +3,7 @@
 #![tactic(auto)]
 
 mod laws;
+mod numbered_words;
 mod reading;
 mod replies;
 mod rows;

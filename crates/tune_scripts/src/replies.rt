@@ -1,11 +1,11 @@
 // Writes replies.
-ghost use Rattle.std.specs.Prelude.{◌≡◌, ◌≤◌, OnOk, length};
-ghost use Rattle.std.specs.Fmt.{decimal};
+ghost use Rattle.std.specs.Prelude.{OnOk};
 ghost use Rattle.std.specs.Io.KnownBytes.{Appends};
 ghost use Rattle.tune_scripts.specs.Replies.{reply_bytes, shown_bytes, exported_bytes};
 ghost use Rattle.tune_scripts.specs.Replies.{refusal_bytes, answer_bytes, bad_line_bytes};
 ghost use Rattle.tune_store.specs.declared.command.Reply.TheVariants as reply;
 
+use crate::numbered_words::{NumberedWords, write_number, write_numbers};
 use crate::rows::{write_name, write_name_number, write_places, write_rows, write_set_rows};
 use abc_fields::{ByteText, TuneFault};
 use std::io;
@@ -42,12 +42,21 @@ fn write_reply<W: Write>(writer: &mut W, reply: &Reply) -> io::Result<()>
         OnOk result (Appends (W.contents writer.old) (W.contents writer.new) bytes) }
 {
     match reply {
-        Reply::Imported { first, last } => write!(writer, "ok import {first} {last}\n"),
+        Reply::Imported { first, last } => {
+            write_numbers(writer, b"ok import ", u64::from(*first), u64::from(*last))
+        },
         Reply::Replaced { number, revision } => {
-            write!(writer, "ok replace {number} {revision}\n")
+            write_numbers(
+                writer,
+                b"ok replace ",
+                u64::from(*number),
+                u64::from(*revision),
+            )
         }
-        Reply::Deleted { number } => write!(writer, "ok delete {number}\n"),
-        Reply::Renumbered { number, to } => write!(writer, "ok renumber {number} {to}\n"),
+        Reply::Deleted { number } => write_number(writer, b"ok delete ", u64::from(*number)),
+        Reply::Renumbered { number, to } => {
+            write_numbers(writer, b"ok renumber ", u64::from(*number), u64::from(*to))
+        },
         Reply::Shown(tune) => write_shown(writer, tune),
         Reply::Found(rows) => write_found(writer, rows),
         Reply::Titled(rows) => write_titled(writer, rows),
@@ -71,11 +80,21 @@ fn write_shown<W: Write>(writer: &mut W, tune: &Tune) -> io::Result<()>
     ensures { let bytes = shown_bytes tune.now in
         OnOk result (Appends (W.contents writer.old) (W.contents writer.new) bytes) }
 {
-    let number = tune.number;
-    let revision = tune.revision;
+    let number = u64::from(tune.number);
     let text = tune.text.bytes();
-    let len = text.len() as u64 + digits_of(number) + "X:\n".len() as u64;
-    write!(writer, "ok show {number} {revision} {len}\nX:{number}\n")?;
+    let mut words = NumberedWords::new();
+    words.put(b"\n");
+    words.put_number(number);
+    words.put(b"X:");
+    let len = words.as_slice().len() + text.len();
+    words.put(b"\n");
+    words.put_number(len as u64);
+    words.put(b" ");
+    words.put_number(u64::from(tune.revision));
+    words.put(b" ");
+    words.put_number(number);
+    words.put(b"ok show ");
+    writer.write_all(words.as_slice())?;
     writer.write_all(text)
 }
 
@@ -84,7 +103,7 @@ fn write_exported<W: Write>(writer: &mut W, book: &[u8]) -> io::Result<()>
         OnOk result (Appends (W.contents writer.old) (W.contents writer.new) bytes) }
 {
     let len = book.len();
-    write!(writer, "ok export {len}\n")?;
+    write_number(writer, b"ok export ", len as u64)?;
     writer.write_all(book)
 }
 
@@ -94,7 +113,7 @@ fn write_found<W: Write>(writer: &mut W, rows: &RowList) -> io::Result<()>
 {
     let rows = rows.as_slice();
     let count = rows.len();
-    write!(writer, "ok find {count}\n")?;
+    write_number(writer, b"ok find ", count as u64)?;
     write_rows(writer, rows)
 }
 
@@ -104,7 +123,7 @@ fn write_titled<W: Write>(writer: &mut W, rows: &RowList) -> io::Result<()>
 {
     let rows = rows.as_slice();
     let count = rows.len();
-    write!(writer, "ok titles {count}\n")?;
+    write_number(writer, b"ok titles ", count as u64)?;
     write_rows(writer, rows)
 }
 
@@ -114,7 +133,7 @@ fn write_sets<W: Write>(writer: &mut W, rows: &SetRowList) -> io::Result<()>
 {
     let rows = rows.as_slice();
     let count = rows.len();
-    write!(writer, "ok sets {count}\n")?;
+    write_number(writer, b"ok sets ", count as u64)?;
     write_set_rows(writer, rows)
 }
 
@@ -136,20 +155,6 @@ fn write_set_exported<W: Write>(writer: &mut W, name: &SetName, book: &ByteText)
     writer.write_all(book)
 }
 
-// How many digits a number has.
-fn digits_of(number: u32) -> u64
-    ensures value { result ≡ length (decimal number) }
-    ensures bound { result ≤ 10 }
-{
-    let mut rest = number;
-    let mut digits = 1;
-    while rest >= 10 {
-        rest /= 10;
-        digits += 1;
-    }
-    digits
-}
-
 fn write_refusal<W: Write>(writer: &mut W, refusal: &Refusal) -> io::Result<()>
     ensures { let bytes = refusal_bytes refusal.now in
         OnOk result (Appends (W.contents writer.old) (W.contents writer.new) bytes) }
@@ -157,11 +162,15 @@ fn write_refusal<W: Write>(writer: &mut W, refusal: &Refusal) -> io::Result<()>
     match refusal {
         Refusal::NoTune => writer.write_all(b"refused 1 NoTune\n"),
         Refusal::BadTune { place, fault } => write_bad_tune(writer, *place, *fault),
-        Refusal::NotOne { count } => write!(writer, "refused 3 NotOne {count}\n"),
-        Refusal::Unknown { number } => write!(writer, "refused 4 Unknown {number}\n"),
-        Refusal::Stale { revision } => write!(writer, "refused 5 Stale {revision}\n"),
+        Refusal::NotOne { count } => write_number(writer, b"refused 3 NotOne ", *count as u64),
+        Refusal::Unknown { number } => {
+            write_number(writer, b"refused 4 Unknown ", *number as u64)
+        },
+        Refusal::Stale { revision } => {
+            write_number(writer, b"refused 5 Stale ", *revision as u64)
+        },
         Refusal::Worn => writer.write_all(b"refused 6 Worn\n"),
-        Refusal::Taken { number } => write!(writer, "refused 7 Taken {number}\n"),
+        Refusal::Taken { number } => { write_number(writer, b"refused 7 Taken ", *number as u64) },
         Refusal::InSet { name } => write_name(writer, b"refused 8 InSet ", name),
         Refusal::ArchiveFull => writer.write_all(b"refused 9 ArchiveFull\n"),
         Refusal::NumbersSpent => writer.write_all(b"refused 10 NumbersSpent\n"),

@@ -1,16 +1,13 @@
 // The words of a script line, and what they ask for.
-ghost use Rattle.std.specs.Prelude.{◌≡◌, ◌≤◌, ◌∷◌, [], length, true, IfOk, IfSome, OnErr};
-ghost use Rattle.abc_fields.specs.Bytes.{is_blank};
+ghost use Rattle.std.specs.Prelude.{◌≡◌, ◌<◌, ◌≤◌, ◌∷◌, [], length, true, IfOk, OnErr};
 ghost use Rattle.abc_fields.specs.Words.{words_of};
-ghost use Rattle.tune_scripts.specs.Inside.FirstWords.{AreFirstFive};
 ghost use Rattle.tune_scripts.specs.Limits.{longest_line};
 ghost use Rattle.tune_scripts.specs.ScriptLines.{meaning_of, meaning_of_line, meaning_of_find};
 ghost use Rattle.tune_scripts.specs.ScriptLines.{meaning_of_number, renumber_of, number_of};
 ghost use Rattle.tune_scripts.specs.ScriptLines.{command_of, kind_of, query_of, word_of, rest_of};
 ghost use Rattle.tune_scripts.specs.ScriptLines.{line_holds_text};
 
-use abc_fields::{ByteText, is_blank, trim_blanks};
-use bstr::ByteSlice;
+use abc_fields::{ByteText, trim_blanks};
 use memchr::memchr2;
 use std::alloc::{AllocError, Global};
 use tune_queries::{Query, QueryText};
@@ -106,18 +103,25 @@ pub(crate) fn meaning(alloc: Global, line: &[u8]) -> Result<ScriptLine, AllocErr
     if name == b"find".as_slice() {
         return find(alloc, rest);
     }
-    match first_words(line) {
-        (None, _, _, _, _) => Ok(ScriptLine::Blank),
-        (Some(name), None, _, _, _) => Ok(one_word(name)),
-        (Some(name), Some(word), None, _, _) => two_words(alloc, name, word),
-        (Some(name), Some(first), Some(second), None, _) => {
-            three_words(alloc, name, first, second)
-        }
-        (Some(name), Some(number), Some(revision), Some(length), None) => {
-            Ok(four_words(name, number, revision, length))
-        }
-        _ => Ok(ScriptLine::Bad),
+    if name.is_empty() {
+        return Ok(ScriptLine::Blank);
     }
+    if rest.is_empty() {
+        return Ok(one_word(name));
+    }
+    let (first, rest) = split_word(rest);
+    if rest.is_empty() {
+        return two_words(alloc, name, first);
+    }
+    let (second, rest) = split_word(rest);
+    if rest.is_empty() {
+        return three_words(alloc, name, first, second);
+    }
+    let (third, rest) = split_word(rest);
+    if rest.is_empty() {
+        return Ok(four_words(name, first, second, third));
+    }
+    Ok(ScriptLine::Bad)
 }
 
 // The first word of a line, and the line after it, without blanks at its ends.
@@ -125,6 +129,10 @@ fn split_word(line: &[u8]) -> (&[u8], &[u8])
     ensures word { result.0.now ≡ word_of line.now }
     ensures rest { result.1.now ≡ rest_of line.now }
     ensures size { length result.1.now ≤ length line.now }
+    ensures none { length result.0.now ≡ 0 → words_of line.now ≡ [] }
+    ensures some { 0 < length result.0.now
+        → words_of line.now ≡ result.0.now ∷ words_of result.1.now }
+    ensures more { 0 < length result.1.now → 0 < length (word_of result.1.now) }
 {
     let text = trim_blanks(line);
     match memchr2(b' ', b'\t', text) {
@@ -151,32 +159,6 @@ fn find(alloc: Global, rest: &[u8]) -> Result<ScriptLine, AllocError>
         Some(text) => Ok(ScriptLine::Whole(Command::Find(kind.query(text)))),
         None => Ok(ScriptLine::Bad),
     }
-}
-
-// The first five words of a line: no command has more than four.
-fn first_words(
-    line: &[u8],
-) -> (
-    Option<&[u8]>,
-    Option<&[u8]>,
-    Option<&[u8]>,
-    Option<&[u8]>,
-    Option<&[u8]>,
-)
-    ensures { AreFirstFive (words_of line.now) result }
-{
-    let mut words = line.fields_with(
-        |c: char| -> bool
-            ensures { result ≡ is_blank c }
-        { is_blank(c) },
-    );
-    (
-        words.next(),
-        words.next(),
-        words.next(),
-        words.next(),
-        words.next(),
-    )
 }
 
 fn one_word(name: &[u8]) -> ScriptLine

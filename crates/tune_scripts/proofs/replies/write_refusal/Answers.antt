@@ -1,10 +1,10 @@
 use Rattle.tune_scripts.proofs.replies.write_refusal.Goals as goal
 
 pub returns-in-NotOne : goal.returns-in-NotOne
-returns-in-NotOne g c = rw c.in-NotOne.is c.write.ensures.bytes
+returns-in-NotOne g c = rw c.in-NotOne.is c.write_number.ensures
 
 pub returns-in-Unknown : goal.returns-in-Unknown
-returns-in-Unknown g c = rw c.in-Unknown.is c.write-in-Unknown.ensures.bytes
+returns-in-Unknown g c = rw c.in-Unknown.is c.write_number-in-Unknown.ensures
 
 pub returns-in-ArchiveFull : goal.returns-in-ArchiveFull
 returns-in-ArchiveFull g c = rw c.in-ArchiveFull.is c.write_all-in-ArchiveFull.ensures.bytes
@@ -23,3 +23,15 @@ returns-in-Device g c = rw c.in-Device.is c.write_all-in-Device.ensures.bytes
 
 pub returns-in-Closed : goal.returns-in-Closed
 returns-in-Closed g c = rw c.in-Closed.is c.write_all-in-Closed.ensures.bytes
+
+pub returns-in-Stale : goal.returns-in-Stale
+returns-in-Stale g c = rw c.in-Stale.is c.write_number-in-Stale.ensures
+
+pub returns-in-Worn : goal.returns-in-Worn
+returns-in-Worn g c = rw c.in-Worn.is c.write_all-in-Worn.ensures.bytes
+
+pub returns-in-Taken : goal.returns-in-Taken
+returns-in-Taken g c = rw c.in-Taken.is c.write_number-in-Taken.ensures
+
+pub returns-in-InSet : goal.returns-in-InSet
+returns-in-InSet g c = rw c.in-InSet.is c.write_name.ensures
