@@ -1,12 +1,15 @@
 #!/usr/bin/env bash
 # Usage: bench/thin-path.sh [EXECUTABLE]
 # Times `tunes list` on large scripts, and compares every byte of its replies with what is wanted.
-# Each script comes at half and at full size, so that the seconds show whether they grow in
-# proportion.
+# Each script comes at half and at full size: where the full size takes more than 2.1 times the
+# half, the cost is not linear. On a machine that does other work the seconds do not tell: with
+# COUNT=yes, valgrind counts the instructions, in millions, in place of the seconds, and the script
+# ends with 1 where they are not linear. That takes minutes.
 set -u
 root=$(CDPATH='' cd -- "$(dirname -- "$0")/.." && pwd) || exit 1
 program=${1:-$root/crates/tunes/out/tunes}
 work=$root/bench/work
+count=${COUNT:-no}
 [ -x "$program" ] || {
     echo "no program at $program: build it by ./tunes list < /dev/null" >&2
     exit 1
@@ -82,42 +85,64 @@ make() {
         }'
 }
 
-# Runs the program on a script, leaves its seconds in `seconds`, and ends with its status.
+# Runs the program on a script, leaves its seconds or its instructions in `spent`, and ends with its
+# status.
 run() {
     local TIMEFORMAT=%3R status
+    if [ "$count" = yes ]; then
+        valgrind --tool=callgrind --callgrind-out-file=/dev/null "$program" list \
+            < "$work/script" > "$work/replies" 2> "$work/errors"
+        status=$?
+        spent=$(awk '/Collected/ { printf "%.3f", $4 / 1000000 }' "$work/errors")
+        return "$status"
+    fi
     {
         time "$program" list < "$work/script" > "$work/replies" 2> "$work/errors"
     } 2> "$work/seconds"
     status=$?
-    seconds=$(cat "$work/seconds")
+    spent=$(cat "$work/seconds")
     return "$status"
 }
 
-# Times one script of this size, whose run is to end with this status: the best of three runs. It
-# may come after an import of this many tunes.
+# Measures one script of this size, whose run is to end with this status: the best of three runs, or
+# one whose instructions are counted. It may come after an import of this many tunes.
 measure() {
-    local name=$1 what=$2 count=$3 wanted_status=$4 before=${5:-0} best=999999 status
+    local name=$1 what=$2 size=$3 wanted_status=$4 before=${5:-0} best=999999 status
+    local rounds=3 ratio=""
+    [ "$count" = yes ] && rounds=1
     : > "$work/script"
     : > "$work/wanted"
     if [ "$before" -gt 0 ]; then
         make one-import "$before" > "$work/script"
         make one-import-wanted "$before" > "$work/wanted"
     fi
-    make "$what" "$count" >> "$work/script"
-    make "$what-wanted" "$count" >> "$work/wanted"
-    for _ in 1 2 3; do
+    make "$what" "$size" >> "$work/script"
+    make "$what-wanted" "$size" >> "$work/wanted"
+    for ((round = 0; round < rounds; round++)); do
         run
         status=$?
         if [ "$status" -ne "$wanted_status" ] || ! cmp "$work/replies" "$work/wanted" >&2; then
             echo "$name: the replies differ, or the status is $status and not $wanted_status" >&2
             exit 1
         fi
-        best=$(printf '%s\n' "$best" "$seconds" | sort -n | head -n 1)
+        best=$(printf '%s\n' "$best" "$spent" | sort -n | head -n 1)
     done
-    printf '%-42s %10d %8.3f\n' "$name" "$(wc -c < "$work/script")" "$best"
+    if [ -n "$half" ]; then
+        ratio=$(awk -v half="$half" -v all="$best" 'BEGIN { printf "%.2f", all / half }')
+        half=""
+    else
+        half=$best
+    fi
+    printf '%-42s %10d %10.3f %6s\n' "$name" "$(wc -c < "$work/script")" "$best" "$ratio"
+    if [ "$count" = yes ] && awk -v ratio="${ratio:-0}" 'BEGIN { exit ratio <= 2.1 }'; then
+        echo "$name: more than 2.1 times the half" >&2
+        failed=1
+    fi
 }
 
-printf '%-42s %10s %8s\n' "script" "bytes" "seconds"
+half="" failed=0
+if [ "$count" = yes ]; then unit=millions; else unit=seconds; fi
+printf '%-42s %10s %10s %6s\n' "script" "bytes" "$unit" "ratio"
 measure "10,000 imports" imports 10000 0
 measure "20,000 imports" imports 20000 0
 measure "10,000 imports, 10,000 shows" shows 10000 0
@@ -136,6 +161,7 @@ measure "500,000 lines of show 1" lines 500000 0
 # A script of a million lines ends at the bound on lines, so with status 1.
 measure "1,000,000 lines of show 1" lines 1000000 1
 
+[ "$failed" -eq 0 ] || exit 1
 command -v strace > /dev/null || exit 0
 make shows 20000 > "$work/script"
 strace -c -f -o "$work/calls" "$program" list < "$work/script" > "$work/replies" || exit 1

@@ -24,7 +24,6 @@ mod forged;
 mod page_numbers;
 mod single_faults;
 
-use cuts::is_cut_whole;
 use forged::forge_all;
 use single_faults::{fault_openings, fault_steps};
 use std::fs::Files;
@@ -38,11 +37,11 @@ const TO_LAYOUT_2: &[u8] = b"upgrade\n";
 fn main(rt: HostRuntime) -> io::Result<ExitCode> {
     let made = made_file(rt.alloc())?;
     let course = Course::read(&rt, "faults", &made, TO_LAYOUT_2)?;
-    let faults = fail_once(&rt, "commands", &course)?;
+    let faults = fail_once(&rt, "commands", &course, 10)?;
     let kept = kept_file(&rt, "kept")?;
     let script = fs::read(&rt, "kept.script")?;
     let course = Course::read(&rt, "upgrade", &kept, &script)?;
-    let upgrade = fail_once(&rt, "an upgrade", &course)?;
+    let upgrade = fail_once(&rt, "an upgrade", &course, 3)?;
     let forged = forge_all(&rt, &made)?;
     if faults && upgrade && forged {
         Ok(ExitCode::SUCCESS)
@@ -53,9 +52,14 @@ fn main(rt: HostRuntime) -> io::Result<ExitCode> {
 
 // Has each call of the disk fail once over the steps of a course, and in openings, and says whether
 // all is well.
-fn fail_once<R: Print + AllocGlobal>(rt: &R, name: &str, course: &Course) -> io::Result<bool> {
+fn fail_once<R: Print + AllocGlobal>(
+    rt: &R,
+    name: &str,
+    course: &Course,
+    fewest: u32,
+) -> io::Result<bool> {
     let steps = fault_steps(rt.alloc(), course)?;
-    let openings = fault_openings(rt.alloc(), course)?;
+    let openings = fault_openings(rt.alloc(), course, fewest)?;
     match steps.or(openings) {
         None => {
             println!(rt; "faults in {name}: each is told, and leaves the state before or after")?

@@ -16,9 +16,6 @@ const MOST_FILES: usize = 100_000;
 /// Fewer calls than these are no steps of an archive.
 const FEWEST_CALLS: u64 = 30;
 
-/// Fewer openings than these, of the files that stops leave, write something.
-const FEWEST_RECOVERIES: u32 = 10;
-
 const DEVICE: &[u8] = b"refused 22 Device\n";
 
 const CLOSED: &[u8] = b"refused 23 Closed\n";
@@ -175,13 +172,18 @@ fn add_uncalled(left: &mut LeftFiles, disk: Faulty) -> io::Result<bool> {
 }
 
 // The number of the file, if there is one, of which an opening with a fault is not as told. Each
-// call fails once of the openings of all files that a stop leaves at any call of the steps.
-pub(crate) fn fault_openings(alloc: Global, course: &Course) -> io::Result<Option<u64>> {
+// call fails once of the openings of all files that a stop leaves at any call of the steps; so many
+// of these openings at least have to write something.
+pub(crate) fn fault_openings(
+    alloc: Global,
+    course: &Course,
+    fewest: u32,
+) -> io::Result<Option<u64>> {
     let left = stopped_steps(alloc, course)?;
     let mut recoveries: u32 = 0;
     for number in 0..MOST_FILES {
         let Some(file) = left.file(number)? else {
-            return Ok(if recoveries < FEWEST_RECOVERIES {
+            return Ok(if recoveries < fewest {
                 Some(number as u64)
             } else {
                 None

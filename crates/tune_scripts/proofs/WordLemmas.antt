@@ -1,9 +1,9 @@
 -- The words of a line, taken one after another.
-use Rattle.std.proofs.Common.{◌≡◌, ℕ, suc, ◌<◌, Bool, true, false, List, [], ◌∷◌, length, get_or, refl, ap, sym, ◌∙◌, ⊎_elim, arith}
+use Rattle.std.proofs.Common.{◌≡◌, ℕ, suc, ◌<◌, true, false, List, [], ◌∷◌, length, get_or, refl, ap, sym, ◌∙◌, ⊎_elim, arith}
 use Rattle.std.specs.List.{list_all, onto_first}
 use Rattle.std.proofs.lemmas.Bool.{false_from_ne_true, cases_Bool, cases_lt, cond-true, cond-false, and_parts}
 use Rattle.abc_fields.specs.Bytes.{is_blank}
-use Rattle.abc_fields.specs.Words.{ends_part, parts_by, words_of, trimmed, trimmed_front, trimmed_back}
+use Rattle.abc_fields.specs.Words.{ends_part, words_of, trimmed, trimmed_front, trimmed_back}
 use Rattle.abc_fields.proofs.TrimLaw.{is_trimmed}
 use Rattle.tune_titles.specs.Articles.{first_word, from_blank}
 use Rattle.tune_titles.proofs.ArticleLaw.{trimmed_again}

@@ -1,4 +1,4 @@
-use Rattle.std.proofs.Common.{refl, ◌++◌, arith, sym, ◌∙◌, ap}
+use Rattle.std.proofs.Common.{◌++◌, arith, ◌∙◌, ap}
 use Rattle.std.proofs.lemmas.List.{length-append}
 use Rattle.tune_scripts.proofs.ReadLemmas.{consumes_more}
 use Rattle.tune_scripts.proofs.reading.read_book.Goals as goal

@@ -1,4 +1,4 @@
-use Rattle.std.proofs.Common.{◌≡◌, ◌+◌, ◌-◌, ◌++◌, ◌<◌, ◌≤◌, take, length, subst, sym, ap, ◌∙◌, arith, true, false}
+use Rattle.std.proofs.Common.{◌-◌, take, length, subst, sym, ap, ◌∙◌, arith, true, false}
 use Rattle.std.specs.List.{list_all}
 use Rattle.std.specs.Io.KnownBytes.{Consumes}
 use Rattle.std.proofs.lemmas.List.{length-take-le}

@@ -1,4 +1,4 @@
-use Rattle.std.proofs.Common.{◌≡◌, ◌<◌, ◌++◌, take, subst, sym, ◌∙◌, arith, rules, length, true, refl, ap}
+use Rattle.std.proofs.Common.{◌≡◌, ◌<◌, take, subst, sym, ◌∙◌, arith, rules, length, refl, ap}
 use Rattle.std.proofs.lemmas.Bool.{true≢false}
 use Rattle.std.proofs.lemmas.List.{length-take-le}
 use Rattle.std.proofs.BufReadLemmas.{Consumes_shown}

@@ -1,4 +1,4 @@
-use Rattle.std.proofs.Common.{◌≡◌, ◌+◌, ◌++◌, ◌<◌, take, drop, subst, sym, ap, ◌∙◌, arith, length, [], ◌∷◌, true}
+use Rattle.std.proofs.Common.{◌+◌, ◌++◌, ◌<◌, drop, subst, sym, ap, ◌∙◌, arith, length, [], ◌∷◌}
 use Rattle.std.proofs.lemmas.List.{length-take-le, length-append, length-drop}
 use Rattle.std.proofs.BufReadLemmas.{Consumes_shown}
 use Rattle.std.specs.List.{list_all}
