@@ -62,6 +62,8 @@ NAME_ALONE = {b'set-cut', b'set-drop'}
 NO_ROWS = b'sets\n'
 # It is refused before a tune is read, so its text alone takes memory.
 NO_TUNE = b'import 8\nno tune\n'
+# Room for a whole book is asked for once.
+EXPORT = b'export\n'
 MOST_CALLS = 100
 NO_STOP = ('1000000', 'kept')
 
@@ -283,7 +285,7 @@ def takings(store, layout, piece):
         return 0, 0
     if piece == UPGRADE and layout == 2:
         return 0, 0
-    if piece == NO_TUNE or (store == 'list' and word in NAME_ALONE):
+    if piece == NO_TUNE or (store == 'list' and (piece == EXPORT or word in NAME_ALONE)):
         return 1, 1
     return 1, MOST_CALLS ** 2
 
