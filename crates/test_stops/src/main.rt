@@ -13,16 +13,17 @@
 //! on where it was stopped; what is left then goes on the list, too. Between two steps a stop has
 //! to leave one state alone.
 //!
-//! `data/steps` has commands of every kind, `data/leaves` those by which a leaf of the index of
-//! titles becomes two, and one of them goes again: over these all is lost or kept. Over the 15 of
-//! `data/commands` a stop also fills, and openings that follow on a stopped one are stopped.
+//! `data/steps` has commands of every kind, an upgrade in their midst, and `data/leaves` those by
+//! which a leaf of the index of titles becomes two, and one of them goes again: over these all is
+//! lost or kept. Over the 15 of `data/commands` a stop also fills, and openings that follow on a
+//! stopped one are stopped. All begin in layout 1, whose openings take a quarter of the time.
 //!
-//! `data/upgrade` has the one step of an archive of layout 1. It begins with a file of two tunes
-//! that a program wrote which made no other layout: `data/kept` has the bytes of it that are not 0,
-//! as `OFFSET=BYTES`, and `data/kept.script` the commands. `data/many.script` makes 300 tunes of
-//! them. There each call of the upgrade is stopped by each choice, and of an opening each of the
-//! first 64 calls, those of a recovery among them, and then each 61st, since an opening reads a
-//! page of each tune; by which it is all lost or kept.
+//! The file at the start had two tunes, which went; it is one that a program wrote which made no
+//! other layout: `data/kept` has the bytes of it that are not 0, as `OFFSET=BYTES`, and
+//! `data/kept.script` the commands. `data/upgrade` has the one step over it as it is kept, and over
+//! 300 tunes that `data/many.script` makes of them. There each call of the upgrade is stopped by
+//! each choice, and of an opening each of the first 64 calls, those of a recovery among them, and
+//! then each 61st, since an opening reads a page of each tune; by which it is all lost or kept.
 #![tactic(auto)]
 
 mod openings;
@@ -33,32 +34,33 @@ use std::fs::Files;
 use std::process::ExitCode;
 use std::{fs, io};
 use stops::{stop_between, stop_making, stop_steps};
-use test_archives::{Course, file_after, kept_file, made_file};
+use test_archives::{Course, file_after, kept_file};
 
-/// By this an archive in memory comes to the layout of a made file.
-const TO_LAYOUT_2: &[u8] = b"upgrade\n";
+/// By this the kept file comes to hold nothing.
+const EMPTIES: &[u8] = b"set-drop friday\ndelete 1\ndelete 2\n";
 
 fn main(rt: HostRuntime) -> io::Result<ExitCode> {
-    let made = stop_made(&rt)?;
-    let upgraded = stop_upgrades(&rt)?;
-    if made && upgraded {
+    let commands = stop_commands(&rt)?;
+    let upgrades = stop_upgrades(&rt)?;
+    if commands && upgrades {
         Ok(ExitCode::SUCCESS)
     } else {
         Ok(ExitCode::FAILURE)
     }
 }
 
-// Stops archives that are made, and those that begin with a made file, and says whether all is
-// well.
-fn stop_made<R: Files + Print + AllocGlobal>(rt: &R) -> io::Result<bool> {
-    let file = made_file(rt.alloc())?;
-    let course = Course::read(rt, "steps", &file, TO_LAYOUT_2)?;
+// Stops archives that are made, and those that begin without a tune, and says whether all is well.
+fn stop_commands<R: Files + Print + AllocGlobal>(rt: &R) -> io::Result<bool> {
+    let file = file_after(rt.alloc(), &kept_file(rt, "kept")?, EMPTIES)?;
+    let mut script = fs::read(rt, "kept.script")?;
+    script.extend_from_slice(EMPTIES)?;
+    let course = Course::read(rt, "steps", &file, &script)?;
     let making = stop_making(rt.alloc(), &course)?;
     let making = say(rt, "make", making)?;
     let steps = stop_course(rt, "steps", &course, &Way::ONCE)?;
-    let course = Course::read(rt, "leaves", &file, TO_LAYOUT_2)?;
+    let course = Course::read(rt, "leaves", &file, &script)?;
     let leaves = stop_course(rt, "steps on leaves", &course, &Way::ONCE)?;
-    let course = Course::read(rt, "commands", &file, TO_LAYOUT_2)?;
+    let course = Course::read(rt, "commands", &file, &script)?;
     let commands = stop_course(rt, "commands", &course, &Way::AGAIN)?;
     Ok(making && steps && leaves && commands)
 }

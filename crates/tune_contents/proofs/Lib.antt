@@ -16,6 +16,7 @@ pub mod OkLemmas
 pub mod OldTuneLemmas
 pub mod RisingLemmas
 pub mod RowLemmas
+pub mod RowTests
 pub mod SearchPageLemmas
 pub mod SearchingLemmas
 pub mod StatePages

@@ -31,7 +31,7 @@ use crate::contents::Contents;
 use crate::laying::{add_tunes, lay_root, lay_sets_where, put_tune, take_tune};
 use crate::numbers::{change_numbers, number_runs};
 use crate::room::Room;
-use crate::rows::move_row;
+use crate::rows::{are_rows, move_row};
 use crate::searching::{change_searches, text_runs};
 use crate::upgrading::upgrade;
 use std::alloc::Global;
@@ -281,7 +281,6 @@ pub fn lay<D: Disk>(
     requires fits { Fits pages.old work.old }
     requires possible { CanChange change contents.now.layout
         (labels_in contents.now.rows.items) contents.now.sets }
-    requires rises { change ≡ Upgrade → AreRows contents.now.layout contents.now.rows.items }
     requires holds { HonestAt D.honest pages.old.disk
         → HoldsSomeState (stand pages.old work.old) contents.now }
     ensures lays { IfOk result (λ left. HonestAt D.honest pages.new.disk → LaysState
@@ -299,6 +298,10 @@ pub fn lay<D: Disk>(
         result (stand pages.old work.old) (stand pages.new work.new) }
 {
     if let Change::Upgrade = &change {
+        // An honest disk has no others.
+        if !are_rows(contents.layout, &contents.rows) {
+            return Err(pages.close());
+        }
         return upgrade(room, pages, work, contents);
     }
     lay_change(room, pages, work, contents, &change)

@@ -1,6 +1,6 @@
 // Rows of tunes, found by number, and one under another number.
-ghost use Rattle.std.specs.Prelude.{◌≡◌, ◌≢◌, ◌⊎◌, ◌<◌, ◌≤◌, ℕ, length, slice_index_or};
-ghost use Rattle.std.specs.Prelude.{IfSome, IfNone};
+ghost use Rattle.std.specs.Prelude.{◌≡◌, ◌≢◌, ◌⊎◌, ◌↔◌, ◌<◌, ◌≤◌, ℕ, length, slice_index_or};
+ghost use Rattle.std.specs.Prelude.{IfSome, IfNone, IsTrue};
 ghost use Rattle.std.specs.List.{Contains};
 ghost use Rattle.tune_store.specs.Limits.{greatest_number};
 ghost use Rattle.tune_format.specs.declared.rows.Row.{Row};
@@ -10,6 +10,21 @@ ghost use Rattle.tune_contents.specs.Inside.Numbers.{HasNoRow, MovesRow};
 ghost use Rattle.tune_contents.specs.Claimed.{AreRows, RowsRise};
 
 use tune_format::Row;
+use tune_store::{GREATEST_NUMBER, Layout};
+
+// Whether these are rows by rising number, within the limits.
+pub(crate) fn are_rows(layout: Layout, rows: &[Row]) -> bool
+    ensures { IsTrue result ↔ AreRows layout rows.now }
+{
+    let mut low = 0;
+    for row in rows {
+        if row.number <= low || row.number > GREATEST_NUMBER {
+            return false;
+        }
+        low = row.number;
+    }
+    rows.len() <= layout.most_tunes()
+}
 
 // The place of the row of a number.
 pub(crate) fn place_of(rows: &[Row], number: u32) -> Option<usize>
