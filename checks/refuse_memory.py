@@ -13,7 +13,7 @@ A run is judged by what an archive in memory answers that is refused nothing:
 - a piece that is answered 21 changed nothing, and is read to its end: the others are answered as an
   archive is that is handed these alone;
 - where a growth is refused within the disk in memory, which is a fault of the device, or a stop
-  comes, a piece is answered 22, and each one behind it 23;
+  comes, a piece is answered 22, and each one behind it 23, but where its text finds no memory;
 - the file then opens as before the piece that was answered 22 or after it, and else with the state
   of all that were not answered 21, in layout 1 where an upgrade was not carried out;
 - an opening that is refused memory hands the disk back, and it opens as it would have;
@@ -154,20 +154,23 @@ class Case:
         front = len(self.pieces)
         refusals, done, stopped = [], [], None
         for number, (piece, answer) in enumerate(zip(self.pieces, run.answers), 1):
-            if stopped:
+            if answer == MEMORY:
+                refusals.append((21, number))
+            elif stopped:
                 self.see(answer == CLOSED, f'piece {number} is answered {answer}')
             elif answer == DEVICE:
                 refusals, stopped = refusals + [(22, number)], piece
-            elif answer == MEMORY:
-                refusals.append((21, number))
             else:
                 done.append((piece, answer))
         carried_out = [piece for piece, _ in done]
         answers, state = self.model(carried_out)
         self.see([answer for _, answer in done] == answers, 'replies are others')
         states = [state] + ([self.model(carried_out + [stopped])[1]] if stopped else [])
-        # What is told as without a refusal leaves what it leaves then.
-        if run is not self.whole and run.answers[:front] == self.whole.answers[:front]:
+        # Where memory is refused behind the pieces in front, they leave what they leave without. A
+        # stop and a refusal within the disk are both answered 22, and may leave other states.
+        behind = run.unopened or MEMORY in run.answers[front:]
+        if behind or not stopped and run.answers[:front] == self.whole.answers[:front]:
+            self.see(run.answers[:front] == self.whole.answers[:front], 'it was refused twice')
             states = [(self.whole.layout, self.whole.answers[front:])]
         return refusals + self.refusals_behind(run, run.answers[front:], states)
 
