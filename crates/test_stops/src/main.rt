@@ -15,8 +15,10 @@
 //!
 //! `data/steps` has commands of every kind, an upgrade in their midst, and `data/leaves` those by
 //! which a leaf of the index of titles becomes two, and one of them goes again: over these all is
-//! lost or kept. Over the 15 of `data/commands` a stop also fills, and openings that follow on a
-//! stopped one are stopped. All begin in layout 1, whose openings take a quarter of the time.
+//! lost or kept. Over the 15 of `data/commands` a stop also fills. There openings are stopped until
+//! nothing new is left, by which all is lost or kept; and once more so that it is filled, too, until
+//! nothing new is left where the log has at most 3 entries, and else twice in a row: k entries make
+//! more than 3^k files. All begin in layout 1, whose openings take a quarter of the time.
 //!
 //! The file at the start had two tunes, which went; it is one that a program wrote which made no
 //! other layout: `data/kept` has the bytes of it that are not 0, as `OFFSET=BYTES`, and
@@ -61,8 +63,9 @@ fn stop_commands<R: Files + Print + AllocGlobal>(rt: &R) -> io::Result<bool> {
     let course = Course::read(rt, "leaves", &file, &script)?;
     let leaves = stop_course(rt, "steps on leaves", &course, &Way::ONCE)?;
     let course = Course::read(rt, "commands", &file, &script)?;
-    let commands = stop_course(rt, "commands", &course, &Way::AGAIN)?;
-    Ok(making && steps && leaves && commands)
+    let commands = stop_course(rt, "commands", &course, &Way::TO_THE_END)?;
+    let filled = stop_course(rt, "commands, filled", &course, &Way::AGAIN)?;
+    Ok(making && steps && leaves && commands && filled)
 }
 
 // Stops archives of layout 1 in an upgrade, and says whether all is well.

@@ -48,6 +48,14 @@ impl Way {
         at_each: true,
     };
 
+    pub(crate) const TO_THE_END: Way = Way {
+        fills: true,
+        fills_again: false,
+        openings: usize::MAX,
+        few_entries: 0,
+        at_each: true,
+    };
+
     pub(crate) const AGAIN: Way = Way {
         fills: true,
         fills_again: true,
