@@ -16,9 +16,10 @@
 //! `data/steps` has commands of every kind, an upgrade in their midst, and `data/leaves` those by
 //! which a leaf of the index of titles becomes two, and one of them goes again: over these all is
 //! lost or kept. Over the 15 of `data/commands` a stop also fills. There openings are stopped until
-//! nothing new is left, by which all is lost or kept; and once more so that it is filled, too, until
-//! nothing new is left where the log has at most 3 entries, and else twice in a row: k entries make
-//! more than 3^k files. All begin in layout 1, whose openings take a quarter of the time.
+//! nothing new is left, by which all is lost or kept; and once more so that it is filled, too,
+//! until nothing new is left where the log has at most 3 entries, and else twice in a row: k
+//! entries make more than 3^k files. All begin in layout 1, whose openings take a quarter of the
+//! time.
 //!
 //! The file at the start had two tunes, which went; it is one that a program wrote which made no
 //! other layout: `data/kept` has the bytes of it that are not 0, as `OFFSET=BYTES`, and
