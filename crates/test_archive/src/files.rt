@@ -24,6 +24,9 @@ use tune_disk::MemoryDisk;
 /// A file has no more bytes than this.
 const MOST_BYTES: usize = 1_000_000;
 
+/// And is told in fewer parts than these.
+const MOST_PARTS: usize = 1_000;
+
 /// A file, the bytes that it had, a script, and the replies that it has to give.
 #[derive(Drop)]
 pub(crate) struct Files {
@@ -80,13 +83,16 @@ impl Files {
     fn put(&mut self, mut given: Arguments) -> io::Result<()> {
         let len = given.size()?;
         let mut file = Vec::new(self.alloc);
-        while !given.rest().is_empty() {
+        for _ in 0..MOST_PARTS {
+            if given.rest().is_empty() {
+                fill(&mut file, len)?;
+                self.disk = MemoryDisk::from_bytes(self.alloc, &file)?;
+                return Ok(());
+            }
             fill(&mut file, given.size()?)?;
             file.extend_from_slice(&given.bytes(self.alloc)?)?;
         }
-        fill(&mut file, len)?;
-        self.disk = MemoryDisk::from_bytes(self.alloc, &file)?;
-        Ok(())
+        Err(no_data())
     }
 
     // Does what the program does on the file, and says its status and what it writes.
