@@ -15,7 +15,7 @@ use Rattle.abc_fields.specs.FileHeaders.{block_of, first_block, file_header, is_
 use Rattle.abc_fields.specs.FileHeaders.{with_header}
 use Rattle.abc_fields.specs.Books.{Texts, before_texts, tune_answer, runs_answer, book_answer, book_of_runs, whole_runs, book_runs, without_mark}
 use Rattle.abc_fields.specs.Inside.LinesLeft.{contents_of, IsRestAfter}
-use Rattle.abc_fields.specs.Inside.HeaderRows.{Row, header_rows, with_rows, runs_with, texts_with}
+use Rattle.abc_fields.specs.Inside.HeaderRows.{HeaderRow, header_rows, with_rows, runs_with, texts_with}
 use Rattle.abc_fields.specs.Limits.{longest_book}
 use Rattle.abc_fields.specs.declared.book.BookFault.{BookFault}
 use Rattle.abc_fields.specs.declared.book.BookFault.TheVariants.{BookTooLong, BadTune, NoTune}
@@ -266,7 +266,7 @@ before_none (Err fault) = refl
 
 -- READING TUNES
 -- the tunes of a book by the rows of its file header
-pub book_by_rows : (book : List ℕ) (rows : List Row) (front all : List Span) → front ≡ spans_of (without_mark book) → all ≡ spans_of (without_mark book)
+pub book_by_rows : (book : List ℕ) (rows : List HeaderRow) (front all : List Span) → front ≡ spans_of (without_mark book) → all ≡ spans_of (without_mark book)
     → rows ≡ header_rows (contents_of front) → runs_with rows (tune_runs (contents_of all)) ≡ book_runs book
 book_by_rows book rows front all at_front at_all is =
     let lines : contents_of (spans_of (without_mark book)) ≡ lines_of (without_mark book) = spans_have_lines (without_mark book) in
@@ -276,17 +276,17 @@ book_by_rows book rows front all at_front at_all is =
     ∙ whole_by_rows (lines_of (without_mark book))
 
 -- so many texts are done, and the rest of the answer is that of the tunes left
-pub record IsJudged (longest : ℕ) (rows : List Row) (whole : Texts) (count : ℕ) (left : List (List ℕ)) : Type 0 where
+pub record IsJudged (longest : ℕ) (rows : List HeaderRow) (whole : Texts) (count : ℕ) (left : List (List ℕ)) : Type 0 where
   pub done : List (List ℕ)
   pub counted : length done ≡ count
   pub answer : whole ≡ before_texts done (runs_answer longest (count + 1) (runs_with rows (tune_runs left)))
 
-pub judged_start : (longest : ℕ) (rows : List Row) (lines : List (List ℕ))
+pub judged_start : (longest : ℕ) (rows : List HeaderRow) (lines : List (List ℕ))
     → IsJudged longest rows (runs_answer longest 1 (runs_with rows (tune_runs lines))) 0 lines
 judged_start longest rows lines = record { done = []; counted = refl; answer = before_none _ }
 
 -- a line that starts no tune
-pub judged_other : (longest : ℕ) (rows : List Row) (whole : Texts) (count : ℕ) (old : List (List ℕ)) (line : List ℕ) (new : List (List ℕ))
+pub judged_other : (longest : ℕ) (rows : List HeaderRow) (whole : Texts) (count : ℕ) (old : List (List ℕ)) (line : List ℕ) (new : List (List ℕ))
     → IsJudged longest rows whole count old
     → old ≡ line ∷ new → is_tune_start line ≡ false → IsJudged longest rows whole count new
 judged_other longest rows whole count old line new is step other =
@@ -299,7 +299,7 @@ judged_other longest rows whole count old line new is step other =
     }
 
 -- a good tune
-pub judged_more : (longest : ℕ) (rows : List Row) (whole : Texts) (count : ℕ) (old : List (List ℕ)) (line : List ℕ) (next new : List (List ℕ))
+pub judged_more : (longest : ℕ) (rows : List HeaderRow) (whole : Texts) (count : ℕ) (old : List (List ℕ)) (line : List ℕ) (next new : List (List ℕ))
     → IsJudged longest rows whole count old
     → old ≡ line ∷ next → is_tune_start line ≡ true → IsRestAfter next new → has_key (with_rows rows (tune_run next)) ≡ true
     → length (joined (with_rows rows (tune_run next))) ≤ longest → IsJudged longest rows whole (count + 1) new
@@ -316,8 +316,8 @@ judged_more longest rows whole count old line next new is step starts rest keyed
     }
 
 -- a tune that is refused is the first
-pub judged_bad : (longest : ℕ) (rows : List Row) (whole : Texts) (count : ℕ) (old : List (List ℕ)) (line : List ℕ) (next : List (List ℕ)) (fault : BookFault)
-    → IsJudged longest rows whole count old → old ≡ line ∷ next → is_tune_start line ≡ true
+pub judged_bad : (longest : ℕ) (rows : List HeaderRow) (whole : Texts) (count : ℕ) (old : List (List ℕ)) (line : List ℕ) (next : List (List ℕ))
+    (fault : BookFault) → IsJudged longest rows whole count old → old ≡ line ∷ next → is_tune_start line ≡ true
     → ((later : Texts) → tune_answer longest (count + 1) (has_key (with_rows rows (tune_run next))) (joined (with_rows rows (tune_run next))) later ≡ Err fault)
     → whole ≡ Err fault
 judged_bad longest rows whole count old line next fault is step starts refused =
@@ -326,7 +326,7 @@ judged_bad longest rows whole count old line next fault is step starts refused =
     ∙ ap (before_texts is.done) (refused (runs_answer longest (count + 1 + 1) (runs_with rows (tune_runs next))))
 
 -- no line is left
-pub judged_end : (longest : ℕ) (rows : List Row) (runs : List (List (List ℕ))) (count : ℕ) (left : List (List ℕ))
+pub judged_end : (longest : ℕ) (rows : List HeaderRow) (runs : List (List (List ℕ))) (count : ℕ) (left : List (List ℕ))
     → IsJudged longest rows (runs_answer longest 1 runs) count left → left ≡ []
     → (runs_answer longest 1 runs ≡ Ok (map joined runs)) × (count ≡ length runs)
 judged_end longest rows runs count left is none =
@@ -342,8 +342,8 @@ pub record IsGoodBook (longest : ℕ) (book : List ℕ) (count : ℕ) (texts : L
   pub counted : count ≡ length texts
   pub within : AllByRecursion (IsTextWithin longest) texts
 
-pub good_book : (longest : ℕ) (book : List ℕ) (rows : List Row) (front all whole : List Span) (count : ℕ) → front ≡ spans_of (without_mark book) → all ≡ whole
-    → whole ≡ spans_of (without_mark book) → rows ≡ header_rows (contents_of front) → length book ≤ longest_book
+pub good_book : (longest : ℕ) (book : List ℕ) (rows : List HeaderRow) (front all whole : List Span) (count : ℕ) → front ≡ spans_of (without_mark book)
+    → all ≡ whole → whole ≡ spans_of (without_mark book) → rows ≡ header_rows (contents_of front) → length book ≤ longest_book
     → (runs_answer longest 1 (runs_with rows (tune_runs (contents_of all))) ≡ Ok (map joined (runs_with rows (tune_runs (contents_of all)))))
     × (count ≡ length (runs_with rows (tune_runs (contents_of all)))) → (count ≡ 0 → ⊥)
     → IsGoodBook longest book count (texts_with rows (tune_runs (contents_of whole)))

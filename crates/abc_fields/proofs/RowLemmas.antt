@@ -5,7 +5,7 @@ use Rattle.abc_fields.specs.Fields.{header_of}
 use Rattle.abc_fields.specs.Tunes.{tune_runs}
 use Rattle.abc_fields.specs.Books.{whole_runs}
 use Rattle.abc_fields.specs.FileHeaders.{first_block, file_header, is_header_line, rule_of, rule_below, carries, carried, has_letter, before_key, with_header}
-use Rattle.abc_fields.specs.Inside.HeaderRows.{Row, rows_with, rows_after, header_rows, taken, runs_with, in_table, IsTableOf, IsByteRule}
+use Rattle.abc_fields.specs.Inside.HeaderRows.{HeaderRow, rows_with, rows_after, header_rows, taken, runs_with, in_table, IsTableOf, IsByteRule}
 use Rattle.abc_fields.specs.Inside.HeaderRows.{AreByteRows}
 use Rattle.abc_fields.specs.declared.carry_rules.CarryRule.{CarryRule}
 use Rattle.abc_fields.specs.declared.carry_rules.CarryRule.TheVariants.{Never, Always, Unless}
@@ -15,7 +15,7 @@ taken_step : (is : Bool) (line : List ℕ) (rest : List (List ℕ)) → one_if i
 taken_step true line rest = refl
 taken_step false line rest = refl
 
-taken-after : (owns : ℕ → Bool) (rows : List Row) (above : CarryRule) (block : List (List ℕ))
+taken-after : (owns : ℕ → Bool) (rows : List HeaderRow) (above : CarryRule) (block : List (List ℕ))
     → taken owns (rows_after rows above block) ≡ taken owns rows ++ carried owns above block
 taken-after owns rows above [] = sym (append-nil (taken owns rows))
 taken-after owns rows above (line ∷ block) =
@@ -53,7 +53,7 @@ same_rule table own Always is byte = refl
 same_rule table own (Unless letter) is byte = ap not (is letter byte)
 
 -- a table of the letters of a header tells the same of rows as the header
-pub taken_by_table : (table : List Bool) (own : List (List ℕ)) (rows : List Row) → IsTableOf table own → AreByteRows rows
+pub taken_by_table : (table : List Bool) (own : List (List ℕ)) (rows : List HeaderRow) → IsTableOf table own → AreByteRows rows
     → taken (in_table table) rows ≡ taken (has_letter own) rows
 taken_by_table table own [] is each = refl
 taken_by_table table own (row ∷ rows) is each = rw (same_rule table own row.rule is each.0, taken_by_table table own rows is each.1) refl

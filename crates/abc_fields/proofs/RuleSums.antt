@@ -7,7 +7,7 @@ use Rattle.abc_fields.specs.Bytes.{line_feed}
 use Rattle.abc_fields.specs.Limits.{longest_book}
 use Rattle.abc_fields.specs.Tunes.{joined}
 use Rattle.abc_fields.specs.FileHeaders.{carries}
-use Rattle.abc_fields.specs.Inside.HeaderRows.{Row, row_list, rows_with, taken, AreSums, AreByteRows, IsByteRule, sum_carried, sum_all}
+use Rattle.abc_fields.specs.Inside.HeaderRows.{HeaderRow, row_list, rows_with, taken, AreSums, AreByteRows, IsByteRule, sum_carried, sum_all}
 use Rattle.abc_fields.specs.declared.carry_rules.CarryRule.{CarryRule}
 use Rattle.abc_fields.specs.declared.carry_rules.CarryRule.TheVariants.{Never, Always, Unless}
 use Rattle.abc_fields.specs.declared.file_header.RuleSum.{RuleSum}
@@ -69,7 +69,8 @@ carried_within owns (sum ∷ sums) = omega (arith, bytes_at_most (carries owns s
 abbrev pub one_if : Bool → List ℕ → List (List ℕ)
 one_if is line = cond is (line ∷ []) []
 
-taken-push : (owns : ℕ → Bool) (rows : List Row) (row : Row) → taken owns (rows ++ row ∷ []) ≡ taken owns rows ++ one_if (carries owns row.rule) row.text
+taken-push : (owns : ℕ → Bool) (rows : List HeaderRow) (row : HeaderRow)
+    → taken owns (rows ++ row ∷ []) ≡ taken owns rows ++ one_if (carries owns row.rule) row.text
 taken-push owns [] row = refl
 taken-push owns (first ∷ rows) row =
     cond_both (carries owns first.rule) (first.text ∷ taken owns (rows ++ row ∷ [])) (taken owns (rows ++ row ∷ []))
@@ -78,7 +79,7 @@ taken-push owns (first ∷ rows) row =
     (λ no. rw no (taken-push owns rows row))
 
 -- one more row, unless no tune carries it
-pub taken-with : (owns : ℕ → Bool) (rows : List Row) (rule : CarryRule) (line : List ℕ)
+pub taken-with : (owns : ℕ → Bool) (rows : List HeaderRow) (rule : CarryRule) (line : List ℕ)
     → taken owns (rows_with rows rule line) ≡ taken owns rows ++ one_if (carries owns rule) line
 taken-with owns rows Never line = sym (append-nil (taken owns rows))
 taken-with owns rows Always line = taken-push owns rows (record { rule = Always; text = line })
@@ -96,7 +97,7 @@ one_length : (is : Bool) (line : List ℕ) → length (joined (one_if is line)) 
 one_length true line = omega (arith, joined-length line [])
 one_length false line = refl
 
-taken_length : (owns : ℕ → Bool) (rows : List Row) (rule : CarryRule) (line : List ℕ)
+taken_length : (owns : ℕ → Bool) (rows : List HeaderRow) (rule : CarryRule) (line : List ℕ)
     → length (joined (taken owns (rows_with rows rule line))) ≡ length (joined (taken owns rows)) + bytes_if owns rule (length line + 1)
 taken_length owns rows rule line =
     ap (λ ls. length (joined ls)) (taken-with owns rows rule line)
@@ -104,17 +105,17 @@ taken_length owns rows rule line =
     ∙ length-append (joined (taken owns rows)) (joined (one_if (carries owns rule) line))
     ∙ ap (λ n. length (joined (taken owns rows)) + n) (one_length (carries owns rule) line)
 
-each_row-push : (rows : List Row) (row : Row) → AreByteRows rows → IsByteRule row.rule → AreByteRows (rows ++ row ∷ [])
+each_row-push : (rows : List HeaderRow) (row : HeaderRow) → AreByteRows rows → IsByteRule row.rule → AreByteRows (rows ++ row ∷ [])
 each_row-push [] row each is = (is, tt)
 each_row-push (first ∷ rows) row each is = (each.0, each_row-push rows row each.1 is)
 
-bytes_with : (rows : List Row) (rule : CarryRule) (line : List ℕ) → AreByteRows rows → IsByteRule rule → AreByteRows (rows_with rows rule line)
+bytes_with : (rows : List HeaderRow) (rule : CarryRule) (line : List ℕ) → AreByteRows rows → IsByteRule rule → AreByteRows (rows_with rows rule line)
 bytes_with rows Never line each is = each
 bytes_with rows Always line each is = each_row-push rows (record { rule = Always; text = line }) each is
 bytes_with rows (Unless letter) line each is = each_row-push rows (record { rule = Unless letter; text = line }) each is
 
 -- the sums of rows and of one more
-pub sums_more : (rows : List Row) (old new : List RuleSum) (rule : CarryRule) (line : List ℕ) → AreSums rows old → IsByteRule rule
+pub sums_more : (rows : List HeaderRow) (old new : List RuleSum) (rule : CarryRule) (line : List ℕ) → AreSums rows old → IsByteRule rule
     → ((owns : ℕ → Bool) → sum_carried owns new ≡ sum_carried owns old + bytes_if owns rule (length line + 1)) → sum_all new ≤ longest_book + 1
     → AreSums (rows_with rows rule line) new
 sums_more rows old new rule line are is more few = record {
@@ -132,7 +133,7 @@ pub carried_at : (owns : ℕ → Bool) (sums : List RuleSum) (i : ℕ) (d : Rule
     → sum_carried owns (drop i sums) ≡ bytes_if owns (get_or sums i d).rule (get_or sums i d).length + sum_carried owns (drop (i + 1) sums)
 carried_at owns sums i d within = at_drop_more (sum_carried owns) sums i d within
 
-row_case : (rows : List Row) (rule : CarryRule) (text : List ℕ) → (rule ≡ Never → ⊥)
+row_case : (rows : List HeaderRow) (rule : CarryRule) (text : List ℕ) → (rule ≡ Never → ⊥)
     → rows ++ record { rule = rule; text = text } ∷ [] ≡ rows_with rows rule text
 row_case rows Never text some = absurd (some refl)
 row_case rows Always text some = refl

@@ -12,7 +12,7 @@ use Rattle.std.proofs.Math.Seq.{take-append-add, drop-append-add}
 use Rattle.abc_fields.specs.Bytes.{line_feed}
 use Rattle.abc_fields.specs.Tunes.{joined}
 use Rattle.abc_fields.specs.FileHeaders.{carries}
-use Rattle.abc_fields.specs.Inside.HeaderRows.{Row, row_list, taken}
+use Rattle.abc_fields.specs.Inside.HeaderRows.{HeaderRow, row_list, taken}
 use Rattle.abc_fields.specs.Inside.Shares.{RuleLines, with_line, same_rule, texts_by, marks_by, AreOf, AreApart, rules_of, AreShares}
 use Rattle.abc_fields.specs.Inside.Shares.{run_count, run_length, lines_from, StartFrom, StartAt, IsFirstAt, IsFirst}
 use Rattle.abc_fields.specs.declared.carry_rules.CarryRule.{CarryRule}
@@ -47,28 +47,30 @@ rule_back first second differ = rule_differs second first
     (λ same. true≢false (sym (rule_itself first) ∙ ap (same_rule first) (sym same) ∙ differ))
 
 -- ROWS OF A RULE AND OTHERS
-pub marks_same : (rule : CarryRule) (place : ℕ) (row : Row) (rows : List Row) → same_rule rule row.rule ≡ true
+pub marks_same : (rule : CarryRule) (place : ℕ) (row : HeaderRow) (rows : List HeaderRow) → same_rule rule row.rule ≡ true
     → marks_by rule place (row ∷ rows) ≡ record { place = place; length = length row.text + 1 } ∷ marks_by rule (place + 1) rows
 marks_same rule place row rows is = rw is refl
 
-pub marks_other : (rule : CarryRule) (place : ℕ) (row : Row) (rows : List Row) → same_rule rule row.rule ≡ false
+pub marks_other : (rule : CarryRule) (place : ℕ) (row : HeaderRow) (rows : List HeaderRow) → same_rule rule row.rule ≡ false
     → marks_by rule place (row ∷ rows) ≡ marks_by rule (place + 1) rows
 marks_other rule place row rows is = rw is refl
 
-pub texts_same : (rule : CarryRule) (row : Row) (rows : List Row) → same_rule rule row.rule ≡ true → texts_by rule (row ∷ rows) ≡ row.text ∷ texts_by rule rows
+pub texts_same : (rule : CarryRule) (row : HeaderRow) (rows : List HeaderRow) → same_rule rule row.rule ≡ true
+    → texts_by rule (row ∷ rows) ≡ row.text ∷ texts_by rule rows
 texts_same rule row rows is = rw is refl
 
-pub texts_other : (rule : CarryRule) (row : Row) (rows : List Row) → same_rule rule row.rule ≡ false → texts_by rule (row ∷ rows) ≡ texts_by rule rows
+pub texts_other : (rule : CarryRule) (row : HeaderRow) (rows : List HeaderRow) → same_rule rule row.rule ≡ false
+    → texts_by rule (row ∷ rows) ≡ texts_by rule rows
 texts_other rule row rows is = rw is refl
 
-taken_is : (owns : ℕ → Bool) (row : Row) (rows : List Row) → carries owns row.rule ≡ true → taken owns (row ∷ rows) ≡ row.text ∷ taken owns rows
+taken_is : (owns : ℕ → Bool) (row : HeaderRow) (rows : List HeaderRow) → carries owns row.rule ≡ true → taken owns (row ∷ rows) ≡ row.text ∷ taken owns rows
 taken_is owns row rows is = rw is refl
 
-taken_not : (owns : ℕ → Bool) (row : Row) (rows : List Row) → carries owns row.rule ≡ false → taken owns (row ∷ rows) ≡ taken owns rows
+taken_not : (owns : ℕ → Bool) (row : HeaderRow) (rows : List HeaderRow) → carries owns row.rule ≡ false → taken owns (row ∷ rows) ≡ taken owns rows
 taken_not owns row rows is = rw is refl
 
 -- marks from a place on, where no row before it has the rule
-pub StartFrom-marks : (rule : CarryRule) (limit place : ℕ) (rows : List Row) → limit ≤ place → StartFrom limit (marks_by rule place rows)
+pub StartFrom-marks : (rule : CarryRule) (limit place : ℕ) (rows : List HeaderRow) → limit ≤ place → StartFrom limit (marks_by rule place rows)
 StartFrom-marks rule limit place [] high = tt
 StartFrom-marks rule limit place (row ∷ rows) high = elim (cases_Bool (same_rule rule row.rule)) [
   | inl is ↦ subst (StartFrom limit) (sym (marks_same rule place row rows is)) high
@@ -85,9 +87,9 @@ run_more limit mark marks below = let before = lt-ltb mark.place limit below in 
 
 -- ONE TURN
 -- the rows that are left after the lines of a rule that stand before a place
-pub record IsAdvanced (owns : ℕ → Bool) (rule : CarryRule) (limit place : ℕ) (rows : List Row) : Type 0 where
+pub record IsAdvanced (owns : ℕ → Bool) (rule : CarryRule) (limit place : ℕ) (rows : List HeaderRow) : Type 0 where
   pub at : ℕ
-  pub later : List Row
+  pub later : List HeaderRow
   pub bytes : take (run_length limit (marks_by rule place rows)) (joined (texts_by rule rows)) ++ joined (taken owns later) ≡ joined (taken owns rows)
   pub own_marks : drop (run_count limit (marks_by rule place rows)) (marks_by rule place rows) ≡ marks_by rule at later
   pub own_bytes : drop (run_length limit (marks_by rule place rows)) (joined (texts_by rule rows)) ≡ joined (texts_by rule later)
@@ -95,12 +97,12 @@ pub record IsAdvanced (owns : ℕ → Bool) (rule : CarryRule) (limit place : �
   pub other_texts : (other : CarryRule) → carries owns other ≡ true → same_rule rule other ≡ false → texts_by other rows ≡ texts_by other later
 
 -- no other rule that the tune carries has a line before this place
-abbrev pub NoOther : (ℕ → Bool) → CarryRule → ℕ → ℕ → List Row → Type 0
+abbrev pub NoOther : (ℕ → Bool) → CarryRule → ℕ → ℕ → List HeaderRow → Type 0
 NoOther owns rule limit place rows = (other : CarryRule) → carries owns other ≡ true → same_rule rule other ≡ false
     → StartFrom limit (marks_by other place rows)
 
 -- nothing is written
-advance_none : (owns : ℕ → Bool) (rule : CarryRule) (limit place : ℕ) (rows : List Row) → StartFrom limit (marks_by rule place rows)
+advance_none : (owns : ℕ → Bool) (rule : CarryRule) (limit place : ℕ) (rows : List HeaderRow) → StartFrom limit (marks_by rule place rows)
     → IsAdvanced owns rule limit place rows
 advance_none owns rule limit place rows from =
     let none = no_run limit (marks_by rule place rows) from in
@@ -115,7 +117,7 @@ advance_none owns rule limit place rows from =
     }
 
 -- a row of the rule
-advance_same : (owns : ℕ → Bool) (rule : CarryRule) (limit place : ℕ) (row : Row) (rows : List Row) → same_rule rule row.rule ≡ true
+advance_same : (owns : ℕ → Bool) (rule : CarryRule) (limit place : ℕ) (row : HeaderRow) (rows : List HeaderRow) → same_rule rule row.rule ≡ true
     → carries owns rule ≡ true → place < limit → IsAdvanced owns rule limit (place + 1) rows → IsAdvanced owns rule limit place (row ∷ rows)
 advance_same owns rule limit place row rows is carried below to =
     let mark : Mark = record { place = place; length = length row.text + 1 } in
@@ -143,7 +145,7 @@ advance_same owns rule limit place row rows is carried below to =
     }
 
 -- a row of a rule that the tune does not carry
-advance_not : (owns : ℕ → Bool) (rule : CarryRule) (limit place : ℕ) (row : Row) (rows : List Row) → same_rule rule row.rule ≡ false
+advance_not : (owns : ℕ → Bool) (rule : CarryRule) (limit place : ℕ) (row : HeaderRow) (rows : List HeaderRow) → same_rule rule row.rule ≡ false
     → carries owns row.rule ≡ false → IsAdvanced owns rule limit (place + 1) rows → IsAdvanced owns rule limit place (row ∷ rows)
 advance_not owns rule limit place row rows is carried to =
     let own = marks_other rule place row rows is in
@@ -161,20 +163,20 @@ advance_not owns rule limit place row rows is carried to =
     }
 
 -- no row before the limit has another rule that the tune carries
-not_carried : (owns : ℕ → Bool) (rule : CarryRule) (limit place : ℕ) (row : Row) (rows : List Row) → NoOther owns rule limit place (row ∷ rows)
+not_carried : (owns : ℕ → Bool) (rule : CarryRule) (limit place : ℕ) (row : HeaderRow) (rows : List HeaderRow) → NoOther owns rule limit place (row ∷ rows)
     → same_rule rule row.rule ≡ false → place < limit → carries owns row.rule ≡ false
 not_carried owns rule limit place row rows none is below = false_from_ne_true (carries owns row.rule) (λ on.
     let from : limit ≤ place = subst (StartFrom limit) (marks_same row.rule place row rows (rule_itself row.rule)) (none row.rule on is) in
     omega arith)
 
-no_other_later : (owns : ℕ → Bool) (rule : CarryRule) (limit place : ℕ) (row : Row) (rows : List Row) → NoOther owns rule limit place (row ∷ rows)
+no_other_later : (owns : ℕ → Bool) (rule : CarryRule) (limit place : ℕ) (row : HeaderRow) (rows : List HeaderRow) → NoOther owns rule limit place (row ∷ rows)
     → place < limit → NoOther owns rule limit (place + 1) rows
 no_other_later owns rule limit place row rows none below = λ other on differ. elim (cases_Bool (same_rule other row.rule)) [
   | inl is ↦ let from : limit ≤ place = subst (StartFrom limit) (marks_same other place row rows is) (none other on differ) in absurd (omega arith)
   | inr is ↦ subst (StartFrom limit) (marks_other other place row rows is) (none other on differ)
 ]
 
-pub advance : (owns : ℕ → Bool) (rule : CarryRule) (limit place : ℕ) (rows : List Row) → carries owns rule ≡ true → NoOther owns rule limit place rows
+pub advance : (owns : ℕ → Bool) (rule : CarryRule) (limit place : ℕ) (rows : List HeaderRow) → carries owns rule ≡ true → NoOther owns rule limit place rows
     → IsAdvanced owns rule limit place rows
 advance owns rule limit place [] carried none = advance_none owns rule limit place [] tt
 advance owns rule limit place (row ∷ rows) carried none = elim (cases_Bool (ltb place limit)) [
@@ -189,7 +191,8 @@ advance owns rule limit place (row ∷ rows) carried none = elim (cases_Bool (lt
 ]
 
 -- the lines that stand before a place are lines of the rule
-pub run_within : (rule : CarryRule) (limit place : ℕ) (rows : List Row) → run_length limit (marks_by rule place rows) ≤ length (joined (texts_by rule rows))
+pub run_within : (rule : CarryRule) (limit place : ℕ) (rows : List HeaderRow)
+    → run_length limit (marks_by rule place rows) ≤ length (joined (texts_by rule rows))
 run_within rule limit place [] = omega arith
 run_within rule limit place (row ∷ rows) = elim (cases_Bool (same_rule rule row.rule)) [
   | inl is ↦ elim (cases_Bool (ltb place limit)) [
@@ -218,13 +221,13 @@ later_marks [] at limit from one below = one
 later_marks (mark ∷ marks) at limit from one below = omega arith
 
 -- a line of later rows stands at a later place
-late : (rule : CarryRule) (at place : ℕ) (rows : List Row) → at ≡ place → StartAt at (marks_by rule (place + 1) rows) → ⊥
+late : (rule : CarryRule) (at place : ℕ) (rows : List HeaderRow) → at ≡ place → StartAt at (marks_by rule (place + 1) rows) → ⊥
 late rule at place rows here one =
     let from = StartFrom-marks rule (place + 1) (place + 1) rows (omega arith) in
     later_marks (marks_by rule (place + 1) rows) at (place + 1) from one (omega arith)
 
 -- two rules have no line at one place
-pub starts_apart : (first second : CarryRule) (at place : ℕ) (rows : List Row) → same_rule first second ≡ false
+pub starts_apart : (first second : CarryRule) (at place : ℕ) (rows : List HeaderRow) → same_rule first second ≡ false
     → StartAt at (marks_by first place rows) → StartAt at (marks_by second place rows) → ⊥
 starts_apart first second at place [] differ one two = one
 starts_apart first second at place (row ∷ rows) differ one two = elim (cases_Bool (same_rule first row.rule)) [
@@ -410,14 +413,14 @@ apart_push [] rule apart each = (tt, tt)
 apart_push (first ∷ rules) rule apart each =
     (all_push (λ other. same_rule first other ≡ false) rules rule apart.0 each.0, apart_push rules rule apart.1 each.1)
 
-no_texts : (rule : CarryRule) (place : ℕ) (rows : List Row) → marks_by rule place rows ≡ [] → texts_by rule rows ≡ []
+no_texts : (rule : CarryRule) (place : ℕ) (rows : List HeaderRow) → marks_by rule place rows ≡ [] → texts_by rule rows ≡ []
 no_texts rule place [] empty = refl
 no_texts rule place (row ∷ rows) empty = elim (cases_Bool (same_rule rule row.rule)) [
   | inl is ↦ let full = ap length (sym (marks_same rule place row rows is) ∙ empty) in absurd (omega (arith, full))
   | inr is ↦ texts_other rule row rows is ∙ no_texts rule (place + 1) rows (sym (marks_other rule place row rows is) ∙ empty)
 ]
 
-pub add_empty : (rows : List Row) (shares : List RuleLines) (rule : CarryRule)
+pub add_empty : (rows : List HeaderRow) (shares : List RuleLines) (rule : CarryRule)
     → ((index : ℕ) (none : RuleLines) → index < length shares → (get_or shares index none).rule ≡ rule → ⊥) → AreShares (λ _. true) 0 rows shares
     → AreShares (λ _. true) 0 rows (shares ++ record { rule = rule; bytes = []; marks = [] } ∷ [])
 add_empty rows shares rule none are =
@@ -442,7 +445,7 @@ add_empty rows shares rule none are =
     }
 
 -- A LINE MORE
-marks_push_other : (rule : CarryRule) (place : ℕ) (rows : List Row) (row : Row) → same_rule rule row.rule ≡ false
+marks_push_other : (rule : CarryRule) (place : ℕ) (rows : List HeaderRow) (row : HeaderRow) → same_rule rule row.rule ≡ false
     → marks_by rule place (rows ++ row ∷ []) ≡ marks_by rule place rows
 marks_push_other rule place [] row differ = marks_other rule place row [] differ
 marks_push_other rule place (first ∷ rows) row differ = elim (cases_Bool (same_rule rule first.rule)) [
@@ -453,7 +456,7 @@ marks_push_other rule place (first ∷ rows) row differ = elim (cases_Bool (same
       ∙ sym (marks_other rule place first rows is)
 ]
 
-marks_push_same : (rule : CarryRule) (place at : ℕ) (rows : List Row) (row : Row) → same_rule rule row.rule ≡ true → at ≡ place + length rows
+marks_push_same : (rule : CarryRule) (place at : ℕ) (rows : List HeaderRow) (row : HeaderRow) → same_rule rule row.rule ≡ true → at ≡ place + length rows
     → marks_by rule place (rows ++ row ∷ []) ≡ marks_by rule place rows ++ record { place = at; length = length row.text + 1 } ∷ []
 marks_push_same rule place at [] row same here =
     let is : at ≡ place = omega (arith, here) in
@@ -468,7 +471,8 @@ marks_push_same rule place at (first ∷ rows) row same here =
           ∙ ap (λ ms. ms ++ record { place = at; length = length row.text + 1 } ∷ []) (sym (marks_other rule place first rows is))
     ]
 
-texts_push_other : (rule : CarryRule) (rows : List Row) (row : Row) → same_rule rule row.rule ≡ false → texts_by rule (rows ++ row ∷ []) ≡ texts_by rule rows
+texts_push_other : (rule : CarryRule) (rows : List HeaderRow) (row : HeaderRow) → same_rule rule row.rule ≡ false
+    → texts_by rule (rows ++ row ∷ []) ≡ texts_by rule rows
 texts_push_other rule [] row differ = texts_other rule row [] differ
 texts_push_other rule (first ∷ rows) row differ = elim (cases_Bool (same_rule rule first.rule)) [
   | inl is ↦ texts_same rule first (rows ++ row ∷ []) is ∙ ap (λ ls. first.text ∷ ls) (texts_push_other rule rows row differ)
@@ -476,7 +480,7 @@ texts_push_other rule (first ∷ rows) row differ = elim (cases_Bool (same_rule 
   | inr is ↦ texts_other rule first (rows ++ row ∷ []) is ∙ texts_push_other rule rows row differ ∙ sym (texts_other rule first rows is)
 ]
 
-texts_push_same : (rule : CarryRule) (rows : List Row) (row : Row) → same_rule rule row.rule ≡ true
+texts_push_same : (rule : CarryRule) (rows : List HeaderRow) (row : HeaderRow) → same_rule rule row.rule ≡ true
     → texts_by rule (rows ++ row ∷ []) ≡ texts_by rule rows ++ row.text ∷ []
 texts_push_same rule [] row same = texts_same rule row [] same
 texts_push_same rule (first ∷ rows) row same = elim (cases_Bool (same_rule rule first.rule)) [
@@ -490,7 +494,7 @@ joined_push : (lines : List (List ℕ)) (line : List ℕ) → joined (lines ++ l
 joined_push lines line = joined-append lines (line ∷ []) ∙ ap (λ t. joined lines ++ t) (append-nil (line ++ line_feed ∷ []))
 
 -- one more line, at the share of its rule
-pub add_row : (rows : List Row) (row : Row) (shares : List RuleLines) (index place : ℕ) (none : RuleLines) → index < length shares
+pub add_row : (rows : List HeaderRow) (row : HeaderRow) (shares : List RuleLines) (index place : ℕ) (none : RuleLines) → index < length shares
     → (get_or shares index none).rule ≡ row.rule → place ≡ length rows → AreShares (λ _. true) 0 rows shares
     → AreShares (λ _. true) 0 (rows ++ row ∷ []) (set shares index (with_line (get_or shares index none) place row.text))
 add_row rows row shares index place none within same here are =
@@ -582,7 +586,7 @@ any_chosen test rule (lines ∷ shares) on = elim (cases_Bool (test lines.rule))
       (sym (rule_differs rule lines.rule (λ same. true≢false (sym on ∙ ap test same ∙ is))))
 ]
 
-pub chosen_shares : (test : CarryRule → Bool) (rows : List Row) (shares : List RuleLines) → AreShares (λ _. true) 0 rows shares
+pub chosen_shares : (test : CarryRule → Bool) (rows : List HeaderRow) (shares : List RuleLines) → AreShares (λ _. true) 0 rows shares
     → AreShares test 0 rows (chosen test shares)
 chosen_shares test rows shares are = record {
   each = each_chosen (AreOf 0 rows) test shares are.each;
@@ -606,12 +610,12 @@ rows_more lines place none within =
 -- these shares have the lines that are left to write, and these are their bytes
 pub record AreLeft (owns : ℕ → Bool) (shares : List RuleLines) (bytes : List ℕ) : Type 0 where
   pub at : ℕ
-  pub rows : List Row
+  pub rows : List HeaderRow
   pub are : AreShares (carries owns) at rows shares
   pub whole : joined (taken owns rows) ≡ bytes
 
 -- each line that is left has the rule, or no line has another that the tune carries
-taken_alone : (owns : ℕ → Bool) (rule : CarryRule) (place : ℕ) (rows : List Row) → carries owns rule ≡ true
+taken_alone : (owns : ℕ → Bool) (rule : CarryRule) (place : ℕ) (rows : List HeaderRow) → carries owns rule ≡ true
     → ((other : CarryRule) → carries owns other ≡ true → same_rule rule other ≡ false → marks_by other place rows ≡ [])
     → taken owns rows ≡ texts_by rule rows
 taken_alone owns rule place [] carried none = refl
@@ -630,7 +634,7 @@ taken_alone owns rule place (row ∷ rows) carried none =
           taken_not owns row rows away ∙ later ∙ sym (texts_other rule row rows is)
     ]
 
-taken_none : (owns : ℕ → Bool) (place : ℕ) (rows : List Row) → ((other : CarryRule) → carries owns other ≡ true → marks_by other place rows ≡ [])
+taken_none : (owns : ℕ → Bool) (place : ℕ) (rows : List HeaderRow) → ((other : CarryRule) → carries owns other ≡ true → marks_by other place rows ≡ [])
     → taken owns rows ≡ []
 taken_none owns place [] none = refl
 taken_none owns place (row ∷ rows) none =
@@ -644,7 +648,7 @@ taken_none owns place (row ∷ rows) none =
     taken_not owns row rows away ∙ later
 
 -- what holds of the marks of each of the shares holds of the marks of each rule that the tune carries
-by_rule : (P : List Mark → Type 0) (owns : ℕ → Bool) (at : ℕ) (rows : List Row) (shares : List RuleLines) (rule : CarryRule)
+by_rule : (P : List Mark → Type 0) (owns : ℕ → Bool) (at : ℕ) (rows : List HeaderRow) (shares : List RuleLines) (rule : CarryRule)
     → AreShares (carries owns) at rows shares → carries owns rule ≡ true → P []
     → ((index : ℕ) (none : RuleLines) → index < length shares → (get_or shares index none).rule ≡ rule → P (marks_at shares index none))
     → P (marks_by rule at rows)
@@ -803,7 +807,7 @@ run_fits owns shares bytes index limit none left within =
     rw (of.marks, of.bytes) (run_within (get_or shares index none).rule limit left.at left.rows)
 
 -- at first all lines are left
-pub all_left : (owns : ℕ → Bool) (rows : List Row) (shares : List RuleLines) → AreShares (carries owns) 0 rows shares
+pub all_left : (owns : ℕ → Bool) (rows : List HeaderRow) (shares : List RuleLines) → AreShares (carries owns) 0 rows shares
     → AreLeft owns shares (joined (taken owns rows))
 all_left owns rows shares are = record { at = 0; rows = rows; are = are; whole = refl }
 

@@ -5,10 +5,10 @@ ghost use Rattle.abc_fields.specs.Fields.{header_of};
 ghost use Rattle.abc_fields.specs.FileHeaders.{has_letter};
 ghost use Rattle.abc_fields.specs.Inside.LinesLeft.{contents_of};
 ghost use Rattle.abc_fields.specs.Inside.HeaderRows.{taken};
-ghost use Rattle.abc_fields.specs.Inside.CarriedBytes.{IsKept, IsCarried};
+ghost use Rattle.abc_fields.specs.Inside.CarriedBytes.{IsKept, KeepsCarried};
 
 use crate::file_header::FileHeader;
-use crate::letters::Letters;
+use crate::header_letters::Letters;
 use crate::lines::Lines;
 use crate::shares::Shares;
 use std::alloc::{AllocError, Global};
@@ -47,7 +47,7 @@ impl<'h, 'a> Carried<'h, 'a> {
         alloc: Global,
         header: &'h FileHeader<'a>,
     ) -> Result<Carried<'h, 'a>, AllocError>
-        ensures { IfOk result (λ c. IsCarried header.now c) }
+        ensures { IfOk result (λ c. KeepsCarried header.now c) }
     {
         let shares = Shares::of_header(alloc, header)?;
         let last = Kept::new(alloc, &shares)?;
@@ -67,8 +67,8 @@ impl<'h, 'a> Carried<'h, 'a> {
         header: &FileHeader,
         lines: Lines,
     ) -> Result<(), AllocError>
-        requires { IsCarried header.now self.old }
-        ensures kept { OnOk result (IsCarried header.now self.new) }
+        requires { KeepsCarried header.now self.old }
+        ensures kept { OnOk result (KeepsCarried header.now self.new) }
         ensures bytes { OnOk result (self.new.last.bytes.items ≡ joined (taken
             (has_letter (header_of (tune_run (contents_of lines.entry)))) header.now)) }
     {

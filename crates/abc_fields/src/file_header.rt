@@ -7,12 +7,13 @@ ghost use Rattle.abc_fields.specs.Limits.{longest_book};
 ghost use Rattle.abc_fields.specs.Inside.LinesLeft.{contents_of};
 ghost use Rattle.abc_fields.specs.Tunes.{joined};
 ghost use Rattle.abc_fields.specs.FileHeaders.{carries};
-ghost use Rattle.abc_fields.specs.Inside.HeaderRows.{Row, row_list, rows_with, header_rows, taken};
+ghost use Rattle.abc_fields.specs.Inside.HeaderRows.{HeaderRow, row_list, rows_with, header_rows};
+ghost use Rattle.abc_fields.specs.Inside.HeaderRows.{taken};
 ghost use Rattle.abc_fields.specs.Inside.HeaderRows.{in_table, AreByteRows, AreSums, sum_carried};
 ghost use Rattle.abc_fields.specs.Inside.HeaderRows.{sum_all, IsByteRule};
 
 use crate::carry_rules::{CarryRule, is_header_line, rule_below, rule_of};
-use crate::letters::Letters;
+use crate::header_letters::Letters;
 use crate::lines::Lines;
 use crate::tune_lines::{is_empty, push_line};
 use std::alloc::{AllocError, Global};
@@ -41,7 +42,7 @@ pub(crate) struct FileHeader<'a> {
 }
 
 impl<'a> Model for FileHeader<'a> {
-    ghost Value = { List Row };
+    ghost Value = { List HeaderRow };
 
     ghost view = { λ header. row_list header.lines.items };
 

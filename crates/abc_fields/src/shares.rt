@@ -3,14 +3,14 @@ ghost use Rattle.std.specs.Prelude.{◌≡◌, ℕ, ◌+◌, ◌<◌, ◌≤◌,
 ghost use Rattle.std.specs.Prelude.{slice_index_or, IfOk, OnOk, MatchOption, IfNone, IfSome, true};
 ghost use Rattle.abc_fields.specs.Tunes.{joined};
 ghost use Rattle.abc_fields.specs.FileHeaders.{carries};
-ghost use Rattle.abc_fields.specs.Inside.HeaderRows.{Row, taken, in_table, rows_with};
+ghost use Rattle.abc_fields.specs.Inside.HeaderRows.{HeaderRow, taken, in_table, rows_with};
 ghost use Rattle.abc_fields.specs.Inside.Shares.{RuleLines, with_line, AreShares};
 ghost use Rattle.abc_fields.specs.Inside.Shares.{run_count, run_length, lines_from, StartAt};
 ghost use Rattle.abc_fields.specs.Inside.Shares.{IsFirst};
 
 use crate::carry_rules::CarryRule;
 use crate::file_header::{FileHeader, HeaderLine};
-use crate::letters::Letters;
+use crate::header_letters::Letters;
 use crate::tune_lines::push_line;
 use std::alloc::{AllocError, Global};
 use std::marker::Model;
@@ -89,7 +89,7 @@ pub(crate) struct Shares<'h, 'a> {
 }
 
 impl<'h, 'a> Model for Shares<'h, 'a> {
-    ghost Value = { List Row };
+    ghost Value = { List HeaderRow };
 
     ghost view = { λ shares. shares.header.now };
 
@@ -177,8 +177,8 @@ fn add_to_share(
     place: usize,
     line: HeaderLine,
 ) -> Result<(), AllocError>
-    ensures { let row : Row = record { rule = line.entry.rule; text = line.entry.text.now } in
-        OnOk result ((rows : List Row) → place ≡ length rows
+    ensures { let row : HeaderRow = record { rule = line.entry.rule; text = line.entry.text.now } in
+        OnOk result ((rows : List HeaderRow) → place ≡ length rows
         → AreShares (λ _. true) 0 rows shares.old.items
         → AreShares (λ _. true) 0 (rows ++ row ∷ []) shares.new.items) }
 {
@@ -191,7 +191,7 @@ fn add_to_share(
 fn share_of(alloc: Global, shares: &mut Vec<Share>, rule: CarryRule) -> Result<usize, AllocError>
     ensures found { IfOk result (λ index. (index < length shares.new.items)
         × ((none : RuleLines) → (slice_index_or shares.new.items index none).rule ≡ rule)) }
-    ensures shares { OnOk result ((rows : List Row)
+    ensures shares { OnOk result ((rows : List HeaderRow)
         → AreShares (λ _. true) 0 rows shares.old.items
         → AreShares (λ _. true) 0 rows shares.new.items) }
 {

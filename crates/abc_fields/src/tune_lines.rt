@@ -9,14 +9,14 @@ ghost use Rattle.abc_fields.specs.Tunes.{tune_runs, joined, has_key, IsTextWithi
 ghost use Rattle.abc_fields.specs.FileHeaders.{before_key, has_letter};
 ghost use Rattle.abc_fields.specs.Books.{Texts, tune_answer};
 ghost use Rattle.abc_fields.specs.Inside.HeaderRows.{with_rows, taken, in_table};
-ghost use Rattle.abc_fields.specs.Inside.CarriedBytes.{IsCarried};
+ghost use Rattle.abc_fields.specs.Inside.CarriedBytes.{KeepsCarried};
 ghost use Rattle.abc_fields.specs.Inside.LinesLeft.{IsRestAfter};
 ghost use Rattle.abc_fields.specs.Fields.{header_of};
 
 use crate::book::{BookFault, TuneFault};
 use crate::carried::Carried;
 use crate::file_header::FileHeader;
-use crate::letters::Letters;
+use crate::header_letters::Letters;
 use crate::line_kinds::is_key_line;
 use crate::lines::{Line, Lines};
 use crate::texts::TuneText;
@@ -140,10 +140,10 @@ pub(crate) fn text_of_tune(
 ) -> Result<TuneText, AllocError>
     requires good { IsTextWithin longest_tune
         (joined (with_rows header.now (tune_run (contents_of lines.old)))) }
-    requires carried { IsCarried header.now carried.old }
+    requires carried { KeepsCarried header.now carried.old }
     ensures text { IfOk result (λ text.
         text ≡ joined (with_rows header.now (tune_run (contents_of lines.old)))) }
-    ensures carried { OnOk result (IsCarried header.now carried.new) }
+    ensures carried { OnOk result (KeepsCarried header.now carried.new) }
     ensures rest { OnOk result (IsRestAfter (contents_of lines.old) (contents_of lines.new)) }
 {
     carried.change_to(alloc, header, lines.again())?;

@@ -8,9 +8,9 @@ use Rattle.std.proofs.lemmas.List.{length-take-le, append_assoc, length-append}
 use Rattle.std.proofs.lemmas.List.Sums.{prefix_len-le-length}
 use Rattle.abc_fields.specs.Bytes.{colon, begins}
 use Rattle.abc_items.specs.Marks.{closing_bracket, is_chord_byte, is_closing_bracket, has_no, opening_bracket}
-use Rattle.abc_keys.specs.Runs.{IsRun}
+use Rattle.abc_keys.specs.ByteRuns.{IsRun}
 use Rattle.abc_items.specs.Grammar.{IsEnclosed, IsInlineField, IsChord}
-use Rattle.abc_items.specs.Rows.{up_to, longer, enclosed, inline_field, chord}
+use Rattle.abc_items.specs.ItemRows.{up_to, longer, enclosed, inline_field, chord}
 use Rattle.abc_keys.proofs.ByteRuns.{front_is_run, run_is_longest}
 use Rattle.abc_items.proofs.ClosingMarks.{FindsMark, search_finds, search_passes}
 use Rattle.abc_items.proofs.RowLengths.{IsOfRow, GivesEach, closed_line, closed_length}

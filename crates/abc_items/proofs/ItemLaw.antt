@@ -2,7 +2,7 @@
 use Rattle.std.proofs.Common.{◌≡◌, ℕ, zero, suc, ◌+◌, ◌-◌, ◌<◌, List, [], ◌∷◌, ◌++◌, length, take, drop, refl, ap, sym, ◌∙◌, arith, subst}
 use Rattle.std.proofs.lemmas.List.{append_cancel_left, length-append, take-append-drop}
 use Rattle.abc_items.specs.Grammar.{ItemText, text_of_items, IsItem, EachIsItem, AreItems}
-use Rattle.abc_items.specs.Rows.{first_item, items_after, items_of}
+use Rattle.abc_items.specs.ItemRows.{first_item, items_after, items_of}
 use Rattle.abc_items.proofs.FirstItem.{first_item_is, item_has_byte, one_item}
 
 -- THE ITEMS OF A TEXT

@@ -13,9 +13,9 @@ use Rattle.abc_fields.specs.Bytes.{is_one_of}
 use Rattle.abc_keys.specs.Letters.{accidental_of, doubled, letter_of}
 use Rattle.abc_fields.specs.Bytes.{begins}
 use Rattle.abc_items.specs.Marks.{is_octave_mark, flat_sign, natural_sign, sharp_sign}
-use Rattle.abc_keys.specs.Runs.{IsRun}
+use Rattle.abc_keys.specs.ByteRuns.{IsRun}
 use Rattle.abc_items.specs.Grammar.{IsNote, spelling_of}
-use Rattle.abc_items.specs.Rows.{own_accidental, is_note_name, note}
+use Rattle.abc_items.specs.ItemRows.{own_accidental, is_note_name, note}
 use Rattle.abc_keys.proofs.ByteRuns.{front_is_run, run_is_longest}
 use Rattle.abc_items.proofs.RowLengths.{IsOfRow, GivesEach}
 

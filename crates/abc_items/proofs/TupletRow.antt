@@ -9,9 +9,9 @@ use Rattle.std.proofs.lemmas.List.Sums.{prefix_len-le-length}
 use Rattle.std.proofs.Math.Seq.{take-add, drop-append_seam}
 use Rattle.abc_fields.specs.Bytes.{colon, begins}
 use Rattle.abc_items.specs.Marks.{is_colon, opening_parenthesis}
-use Rattle.abc_keys.specs.Runs.{IsRun}
+use Rattle.abc_keys.specs.ByteRuns.{IsRun}
 use Rattle.abc_items.specs.Grammar.{AreColonParts, IsTuplet}
-use Rattle.abc_items.specs.Rows.{colon_part, colon_parts, tuplet}
+use Rattle.abc_items.specs.ItemRows.{colon_part, colon_parts, tuplet}
 use Rattle.abc_keys.proofs.ByteRuns.{front_is_run, run_is_longest, run_before}
 use Rattle.abc_items.proofs.RowLengths.{IsOfRow, GivesEach}
 

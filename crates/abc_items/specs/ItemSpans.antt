@@ -2,7 +2,7 @@
 use Rattle.std.specs.Prelude.{◌≡◌, ℕ, ◌+◌, ◌<◌, ◌≤◌, List, [], ◌∷◌, length, drop, slice_range}
 use Rattle.abc_items.specs.declared.kinds.Kind.{Kind}
 use Rattle.abc_items.specs.Grammar.{ItemText, IsItem, Fits}
-use Rattle.abc_items.specs.Rows.{items_of}
+use Rattle.abc_items.specs.ItemRows.{items_of}
 
 -- an item, and where it begins and ends in its text, as indices of bytes from 0
 pub record ItemSpan : Type 0 where

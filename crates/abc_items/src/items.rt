@@ -3,15 +3,15 @@ ghost use Rattle.std.specs.Prelude.{◌≡◌, ℕ, ◌+◌, ◌^◌, ◌<◌, �
 ghost use Rattle.std.specs.Iterator.{YieldsFirstBy, item_count};
 ghost use Rattle.std.specs.List.{All};
 ghost use Rattle.abc_items.specs.Grammar.{ItemText, AreItems};
-ghost use Rattle.abc_items.specs.Rows.{items_of};
+ghost use Rattle.abc_items.specs.ItemRows.{items_of};
 ghost use Rattle.abc_items.specs.ItemSpans.{ItemSpan, item_spans_from, item_spans_of};
 ghost use Rattle.abc_items.specs.ItemSpans.{item_text_of, ItemSpansFill, FitsItsRow};
 ghost use Rattle.abc_items.specs.Inside.Misses.{AreMissing};
 ghost use Rattle.abc_items.specs.ItemView.{item_span};
 ghost use Rattle.abc_items.specs.Plain.{begin_plain, item_spans_in, is_aside, past_asides};
 
+use crate::item_rows::{Misses, first_item, plain_kind};
 use crate::kinds::Kind;
-use crate::rows::{Misses, first_item, plain_kind};
 use std::marker::Model;
 
 /// An item of a music line.

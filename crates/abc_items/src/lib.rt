@@ -6,10 +6,10 @@
 //! and digits are ASCII. No call takes memory or refuses.
 #![tactic(auto)]
 
+mod item_rows;
 mod items;
 mod kinds;
-mod rows;
 
+pub use item_rows::{own_accidental, spelling_length};
 pub use items::{Item, Items};
 pub use kinds::Kind;
-pub use rows::{own_accidental, spelling_length};

@@ -4,7 +4,7 @@ use Rattle.std.specs.List.{prefix_len, list_all}
 use Rattle.std.proofs.lemmas.Bool.{and_parts, and_from}
 use Rattle.std.proofs.lemmas.List.{take-append-drop, take_at, drop_at}
 use Rattle.abc_fields.specs.Bytes.{begins}
-use Rattle.abc_keys.specs.Runs.{IsRun}
+use Rattle.abc_keys.specs.ByteRuns.{IsRun}
 
 -- one byte more, or none
 front_step : (p : ℕ → Bool) (byte n : ℕ) (text : List ℕ) (c : Bool) → p byte ≡ c → list_all p (take n text) ≡ true

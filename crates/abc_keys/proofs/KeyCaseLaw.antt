@@ -26,7 +26,7 @@ use Rattle.abc_keys.specs.Signatures.{no_accidentals, of_count}
 use Rattle.abc_keys.specs.ScaleTable.{listed_count}
 use Rattle.abc_keys.specs.Accidentals.{with_words}
 use Rattle.abc_keys.specs.ModeWords.{is_word}
-use Rattle.abc_keys.specs.Runs.{IsRun}
+use Rattle.abc_keys.specs.ByteRuns.{IsRun}
 use Rattle.abc_keys.specs.Keys.{is_ink, past, pipes_signature, is_none, key_of_scale, key_after_tonic, key_with_tonic, key_of_trimmed, key_of_text}
 use Rattle.abc_keys.specs.KeyCases.{tonic_text, sign_text, HasTonic, SaysMode, SaysKey, empty, none_first, pipes, pipes_with_sharps, modal, explicit}
 use Rattle.abc_keys.specs.KeyCases.{ReadsAs, by_case, unread, IsKeyText}

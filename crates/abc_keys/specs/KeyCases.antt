@@ -16,7 +16,7 @@ use Rattle.abc_keys.specs.declared.mode_words.ModeWord.{ModeWord}
 use Rattle.abc_keys.specs.declared.mode_words.ModeWord.TheVariants.{Mode as AsMode, Explicit}
 use Rattle.abc_keys.specs.declared.keys.Key.{Key}
 use Rattle.abc_keys.specs.declared.keys.Key.TheVariants as key
-use Rattle.abc_keys.specs.Runs.{IsRun}
+use Rattle.abc_keys.specs.ByteRuns.{IsRun}
 use Rattle.abc_keys.specs.Signatures.{no_accidentals, of_count}
 use Rattle.abc_keys.specs.ScaleTable.{listed_count}
 use Rattle.abc_keys.specs.Accidentals.{with_words}

@@ -1,4 +1,4 @@
-pub mod Runs
+pub mod ByteRuns
 pub mod Letters
 pub mod Signatures
 pub mod ScaleTable

@@ -13,19 +13,19 @@ use Rattle.abc_keys.specs.declared.scales.Mode.TheVariants.{Minor, Phrygian, Loc
 use Rattle.abc_keys.specs.declared.scales.Scale.{Scale}
 
 -- a scale, and its count of sharps, or of flats below zero
-pub record Row : Type 0 where
+pub record ScaleRow : Type 0 where
   pub scale : Scale
   pub count : ℤ
 
 -- a row of the table
-abbrev pub row : Letter → Sign → Mode → ℤ → Row
+abbrev pub row : Letter → Sign → Mode → ℤ → ScaleRow
 row tonic sign mode count = record {
   scale = record { tonic = tonic; sign = sign; mode = mode };
   count = count;
 }
 
 -- by mode, from seven flats to seven sharps
-abbrev pub table : List Row
+abbrev pub table : List ScaleRow
 table =
     row C Flat Major (negsuc 6) ∷
     row G Flat Major (negsuc 5) ∷
@@ -166,7 +166,7 @@ same_scale a b =
     && mode_number a.mode == mode_number b.mode
 
 -- the count that stands beside the scale in a list of rows
-abbrev pub count_in : List Row → Scale → Option ℤ
+abbrev pub count_in : List ScaleRow → Scale → Option ℤ
 count_in [] scale = None
 count_in (r ∷ rows) scale = if same_scale r.scale scale then Some r.count else count_in rows scale
 

@@ -2,7 +2,7 @@
 use Rattle.std.proofs.Common.{◌≡◌, ℕ, zero, suc, ◌+◌, List, [], ◌∷◌, ◌++◌, take, drop, reverse, refl, ap, ◌∙◌, arith, append_assoc, append-nil}
 use Rattle.std.proofs.lemmas.List.{reverse-append}
 use Rattle.abc_notes.specs.Events.{Event}
-use Rattle.abc_notes.specs.Inside.Kept.{past_of}
+use Rattle.abc_notes.specs.Inside.KeptBar.{past_of}
 
 -- one more event of a list that leads to the rest
 take_one : (n : ℕ) (all : List Event) (e : Event) (rest : List Event) → drop n all ≡ e ∷ rest → take (n + 1) all ≡ take n all ++ e ∷ []

@@ -5,13 +5,13 @@ use Rattle.abc_fields.specs.Limits.{longest_book}
 use Rattle.abc_keys.specs.declared.signatures.Signature.{Signature}
 use Rattle.abc_notes.specs.declared.bar.Bar.{Bar}
 use Rattle.abc_notes.specs.Events.{WrittenNote, Event, note, bar, change}
-use Rattle.abc_notes.specs.Inside.Kept.{past_of, notes_left, asked_of, IsKept}
+use Rattle.abc_notes.specs.Inside.KeptBar.{past_of, notes_left, asked_of, IsKeptBar}
 use Rattle.abc_notes.specs.Pitches.{SoundedNote, accidental_of_note, sounded, sounded_notes, counting}
 use Rattle.abc_notes.specs.Inside.BarTables.{IsBarAfter}
 use Rattle.abc_notes.proofs.BarLemmas.{drop_one, past_one, past_none}
 use Rattle.abc_notes.proofs.PastLemmas.{notes_bar, notes_end}
 
-module _ (old new : Bar) (bar_events events rest : List Event) (e : Event) (kept : IsKept old bar_events events) (is : events ≡ e ∷ rest)
+module _ (old new : Bar) (bar_events events rest : List Event) (e : Event) (kept : IsKeptBar old bar_events events) (is : events ≡ e ∷ rest)
     (after : IsBarAfter (e ∷ past_of old.since bar_events) new) where
   one_more : new.since ≡ old.since + 1
   one_more = omega (arith, after.count, kept.after.count)
@@ -19,7 +19,7 @@ module _ (old new : Bar) (bar_events events rest : List Event) (e : Event) (kept
   pub past_on : past_of new.since bar_events ≡ e ∷ past_of old.since bar_events
   past_on = ap (λ n. past_of n bar_events) one_more ∙ past_one old.since bar_events e rest (kept.follows ∙ is)
 
-  pub kept_on : IsKept new bar_events rest
+  pub kept_on : IsKeptBar new bar_events rest
   kept_on = record {
     follows = ap (λ n. drop n bar_events) one_more ∙ drop_one old.since bar_events e rest (kept.follows ∙ is);
     after = subst (λ (past : List Event). IsBarAfter past new) (sym past_on) after;
@@ -27,7 +27,7 @@ module _ (old new : Bar) (bar_events events rest : List Event) (e : Event) (kept
   }
 
 -- a note
-pub notes_note : (old new : Bar) (bar_events events rest : List Event) (n : WrittenNote) → IsKept old bar_events events → events ≡ note n ∷ rest
+pub notes_note : (old new : Bar) (bar_events events rest : List Event) (n : WrittenNote) → IsKeptBar old bar_events events → events ≡ note n ∷ rest
     → IsBarAfter (note n ∷ past_of old.since bar_events) new → new.start ≡ old.start
     → notes_left old bar_events events ≡ sounded n (accidental_of_note old.start (past_of old.since bar_events) n) ∷ notes_left new bar_events rest
 unfolding sounded_notes
@@ -37,7 +37,7 @@ notes_note old new bar_events events rest n kept is after start =
     ∷ sounded_notes (sym start i) (sym (past_on old new bar_events events rest (note n) kept is after) i) rest)
 
 -- a change of key
-pub notes_change : (old new : Bar) (bar_events events rest : List Event) (s : Signature) → IsKept old bar_events events → events ≡ change s ∷ rest
+pub notes_change : (old new : Bar) (bar_events events rest : List Event) (s : Signature) → IsKeptBar old bar_events events → events ≡ change s ∷ rest
     → IsBarAfter (change s ∷ past_of old.since bar_events) new → new.start ≡ old.start
     → notes_left old bar_events events ≡ notes_left new bar_events rest
 unfolding sounded_notes
@@ -46,7 +46,7 @@ notes_change old new bar_events events rest s kept is after start =
     ∙ (λ i. sounded_notes (sym start i) (sym (past_on old new bar_events events rest (change s) kept is after) i) rest)
 
 -- a bar line, after which the same reader serves
-pub notes_over_bar : (old new : Bar) (bar_events events rest : List Event) → IsKept old bar_events events → events ≡ bar ∷ rest
+pub notes_over_bar : (old new : Bar) (bar_events events rest : List Event) → IsKeptBar old bar_events events → events ≡ bar ∷ rest
     → IsBarAfter (bar ∷ past_of old.since bar_events) new → new.start ≡ old.start
     → notes_left old bar_events events ≡ notes_left new bar_events rest
 unfolding sounded_notes
@@ -68,7 +68,7 @@ is_asked n notes left true wanted is = is
 is_asked n notes left false wanted is = ap counting is ∙ (λ i. cond (wanted i) (n ∷ counting left) (counting left))
 
 -- a bar that begins
-pub kept_new : (new : Bar) (events : List Event) → IsBarAfter [] new → length events ≤ longest_book → IsKept new events events
+pub kept_new : (new : Bar) (events : List Event) → IsBarAfter [] new → length events ≤ longest_book → IsKeptBar new events events
 kept_new new events after few =
     let none : new.since ≡ 0 = after.count in
     record {
@@ -81,7 +81,7 @@ pub notes_new : (new : Bar) (events : List Event) (start : Signature) → IsBarA
     → notes_left new events events ≡ sounded_notes start [] events
 notes_new new events start after is = (λ i. sounded_notes (is i) (past_none new.since events after.count i) events)
 
-pub notes_at_bar : (old new : Bar) (bar_events events rest : List Event) → IsKept old bar_events events → events ≡ bar ∷ rest → IsBarAfter [] new
+pub notes_at_bar : (old new : Bar) (bar_events events rest : List Event) → IsKeptBar old bar_events events → events ≡ bar ∷ rest → IsBarAfter [] new
     → new.start ≡ old.signature
     → notes_left old bar_events events ≡ notes_left new rest rest
 notes_at_bar old new bar_events events rest kept is after start =

@@ -9,7 +9,7 @@ use Rattle.abc_fields.specs.LineKinds.{begins_part, ends_part_line, in_part_afte
 use Rattle.abc_fields.specs.Tunes.{is_key_line}
 use Rattle.abc_notes.specs.Events.{Event}
 use Rattle.abc_notes.specs.Music.{line_meaning, body_events, events_after_header}
-use Rattle.abc_notes.specs.Parts.{LiesInPart, have_key, Gives, AreGiven}
+use Rattle.abc_notes.specs.HeardLines.{LiesInPart, have_key, Gives, AreGiven}
 
 -- WHERE PARTS BEGIN AND END
 -- no line both begins a part and ends one

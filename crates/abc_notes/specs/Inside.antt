@@ -1,6 +1,6 @@
 pub mod EventView
 pub mod BarTables
 pub mod Bounds
-pub mod Kept
+pub mod KeptBar
 pub mod LineKeys
 pub mod LateSignatures

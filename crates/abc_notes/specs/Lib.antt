@@ -4,5 +4,5 @@ pub mod Pitches
 pub mod Music
 pub mod NoteParts
 pub mod Tokens
-pub mod Parts
+pub mod HeardLines
 pub mod Inside

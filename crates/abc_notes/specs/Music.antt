@@ -16,7 +16,7 @@ use Rattle.abc_keys.specs.Keys.{key_of_text, signature_of}
 use Rattle.abc_items.specs.declared.kinds.Kind.{Kind}
 use Rattle.abc_items.specs.declared.kinds.Kind.TheVariants as kind
 use Rattle.abc_items.specs.Grammar.{spelling_of}
-use Rattle.abc_items.specs.Rows.{own_accidental}
+use Rattle.abc_items.specs.ItemRows.{own_accidental}
 use Rattle.abc_items.specs.ItemSpans.{ItemSpan, item_spans_of}
 use Rattle.abc_notes.specs.Events.{WrittenNote, Event, note, bar, change}
 

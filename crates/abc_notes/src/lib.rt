@@ -5,8 +5,8 @@
 //! refuses.
 #![tactic(auto)]
 
-mod accidentals;
 mod bar;
+mod borne_accidentals;
 mod chord_events;
 mod events;
 mod item_events;

@@ -15,14 +15,14 @@ ghost use Rattle.abc_notes.specs.Inside.EventView.{event_of, notes_in, written_n
 ghost use Rattle.abc_notes.specs.Music.{line_events, music_events, tune_events, tune_signature};
 ghost use Rattle.abc_notes.specs.Pitches.{SoundedNote, sounded, sounded_notes, counting};
 ghost use Rattle.abc_notes.specs.Pitches.{FollowsTheRule};
-ghost use Rattle.abc_notes.specs.Inside.Kept.{past_of, notes_left, asked_of, IsKept};
+ghost use Rattle.abc_notes.specs.Inside.KeptBar.{past_of, notes_left, asked_of, IsKeptBar};
 ghost use Rattle.abc_notes.specs.NoteParts.{AreNoteParts, NotesRise};
-ghost use Rattle.abc_notes.specs.Parts.{AreGiven};
+ghost use Rattle.abc_notes.specs.HeardLines.{AreGiven};
 ghost use Rattle.abc_notes.specs.Inside.BarTables.{IsBarAfter};
 ghost use Rattle.abc_notes.specs.Tokens.{token_note};
 
-use crate::accidentals::accidental_in_force;
 use crate::bar::Bar;
+use crate::borne_accidentals::accidental_in_force;
 use crate::events::{Event, WrittenNote};
 use crate::key_signatures::KeySignature;
 use crate::note_tokens::NoteToken;
@@ -50,7 +50,7 @@ impl<'a> Model for Notes<'a> {
 
     ghost view = { λ notes. notes_left notes.bar notes.bar_events notes.events };
 
-    ghost invariant = { λ notes. IsKept notes.bar notes.bar_events notes.events };
+    ghost invariant = { λ notes. IsKeptBar notes.bar notes.bar_events notes.events };
 }
 
 impl<'a> Notes<'a> {
@@ -201,8 +201,8 @@ fn plain_note<'a>(
     events: &mut TuneEvents<'a>,
     all: bool,
 ) -> Option<NoteToken<'a>>
-    requires { IsKept bar.old bar_events.old events.old }
-    ensures kept { IsKept bar.new bar_events.new events.new }
+    requires { IsKeptBar bar.old bar_events.old events.old }
+    ensures kept { IsKeptBar bar.new bar_events.new events.new }
     ensures notes { asked_of all (notes_left bar.old bar_events.old events.old)
         ≡ notes_in result ++ asked_of all (notes_left bar.new bar_events.new events.new) }
     ensures shorter { length events.new ≤ length events.old }
@@ -228,8 +228,8 @@ fn heard<'a>(
     events: &TuneEvents<'a>,
     all: bool,
 ) -> Option<NoteToken<'a>>
-    requires { IsKept bar.old bar_events.old (event_of event ∷ events.now) }
-    ensures kept { IsKept bar.new bar_events.new events.now }
+    requires { IsKeptBar bar.old bar_events.old (event_of event ∷ events.now) }
+    ensures kept { IsKeptBar bar.new bar_events.new events.now }
     ensures notes { asked_of all (notes_left bar.old bar_events.old
         (event_of event.entry ∷ events.now))
         ≡ notes_in result ++ asked_of all (notes_left bar.new bar_events.new events.now) }
@@ -261,8 +261,8 @@ const LONG_BAR: usize = 16;
 
 // Takes a bar line, after which these are the events.
 fn end_bar<'a>(bar: &mut Bar, bar_events: &mut TuneEvents<'a>, events: &TuneEvents<'a>)
-    requires { IsKept bar.old bar_events.old (bar_line ∷ events.now) }
-    ensures kept { IsKept bar.new bar_events.new events.now }
+    requires { IsKeptBar bar.old bar_events.old (bar_line ∷ events.now) }
+    ensures kept { IsKeptBar bar.new bar_events.new events.now }
     ensures notes { notes_left bar.old bar_events.old (bar_line ∷ events.now)
         ≡ notes_left bar.new bar_events.new events.now }
 {

@@ -3,7 +3,7 @@ use Rattle.std.proofs.Common.{◌≡◌, ◌⊎◌, ℕ, ◌+◌, ◌≤◌, Lis
 use Rattle.std.specs.List.{Contains}
 use Rattle.std.proofs.lemmas.Bool.{cases_lt}
 use Rattle.index_keys.specs.Holdings.{SameMembers}
-use Rattle.index_keys.specs.Keys.{KeysRise, with_key, rising_keys}
+use Rattle.index_keys.specs.KeyLists.{KeysRise, with_key, rising_keys}
 use Rattle.index_keys.specs.Inside.KeyOrder.{with_front, with_later, with_there, with_new, with_old}
 use Rattle.index_keys.specs.Inside.Members.{contains_first, contains_later, contains_cases, contains_none}
 

@@ -1,5 +1,5 @@
 pub mod Entries
 pub mod Cuts
-pub mod Keys
+pub mod KeyLists
 pub mod Holdings
 pub mod Inside

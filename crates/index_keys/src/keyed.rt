@@ -1,6 +1,6 @@
 // Texts that have keys, and queries that look for them.
 ghost use Rattle.std.specs.Prelude.{◌≡◌, ℕ, List, Bool, true, IfOk};
-ghost use Rattle.index_keys.specs.Keys.{HasKeyWithin, KeysRise};
+ghost use Rattle.index_keys.specs.KeyLists.{HasKeyWithin, KeysRise};
 
 use crate::index_key::IndexKey;
 use std::alloc::{AllocError, Global};

@@ -5,7 +5,7 @@ ghost use Rattle.index_keys.specs.Entries.{AllFit, Entry, IsRising, inserted_all
 ghost use Rattle.index_keys.specs.Entries.{values_within};
 ghost use Rattle.index_keys.specs.Holdings.{AreSmall, HaveOwnNumbers, HoldsByNumber};
 ghost use Rattle.index_keys.specs.Holdings.{HoldsEntries, IsWithout, SameMembers};
-ghost use Rattle.index_keys.specs.Keys.{HasKeyWithin, KeysRise, rising_keys};
+ghost use Rattle.index_keys.specs.KeyLists.{HasKeyWithin, KeysRise, rising_keys};
 
 /// The law of cut keys: what begins with a front has its key in the range of the front, from the
 /// front filled with zeros to the front filled with 255.

@@ -1,7 +1,7 @@
 // Keys in rising order, each once.
 ghost use Rattle.std.specs.Prelude.{◌≡◌, ◌≤◌, ◌<◌, length, IfErr, OnOk, IsTrue, false};
 ghost use Rattle.std.specs.List.{HoldsAt};
-ghost use Rattle.index_keys.specs.Keys.{KeysRise, with_key};
+ghost use Rattle.index_keys.specs.KeyLists.{KeysRise, with_key};
 ghost use Rattle.index_keys.specs.Inside.KeyPlaces.{IsKeyPlace};
 
 use crate::index_key::IndexKey;

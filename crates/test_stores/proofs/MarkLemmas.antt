@@ -7,7 +7,7 @@ use Rattle.tune_store.specs.Answers.{Answers, open_at, closed_at}
 use Rattle.tune_store.specs.declared.command.Command.{Command}
 use Rattle.tune_store.specs.declared.command.Reply.{Reply}
 use Rattle.tune_store.specs.declared.command.Refusal.TheVariants.{Device}
-use Rattle.tune_store.specs.Stops.{Among, Passes}
+use Rattle.tune_store.specs.StoreStops.{Among, Passes}
 use Rattle.tune_store.proofs.StepLemmas.{answers_reach}
 use Rattle.tune_archive.specs.Media.{moment_of, LeftFrom}
 use Rattle.tune_archive.proofs.Called.{failed}

@@ -3,7 +3,7 @@ use Rattle.std.proofs.Common.{◌≡◌, ℕ, ◌≤◌, List, [], ◌∷◌, �
 use Rattle.std.proofs.lemmas.Bool.{cases_lt}
 use Rattle.std.proofs.lemmas.List.{get_or_append_left, get_or_push}
 use Rattle.tune_store.specs.State.{State, IsState}
-use Rattle.tune_store.specs.Stops.{Among, StandsForOne}
+use Rattle.tune_store.specs.StoreStops.{Among, StandsForOne}
 use Rattle.tune_store.proofs.StopLemmas.{stands_among}
 use Rattle.test_stores.specs.Record.{LeftSince, IsOfCount, EndsAt, IsRecorded, last_place}
 

@@ -2,7 +2,7 @@
 ghost use Rattle.std.specs.Prelude.{◌≡◌, ◌≤◌, List, [], ◌∷◌, false, ℕ, IsErrOf};
 ghost use Rattle.tune_store.specs.Answers.{Answers, passed};
 ghost use Rattle.tune_store.specs.Step.{step};
-ghost use Rattle.tune_store.specs.Stops.{StandsForOne};
+ghost use Rattle.tune_store.specs.StoreStops.{StandsForOne};
 ghost use Rattle.tune_store.specs.Stores.{standing_of};
 
 use tune_store::{Command, Refusal, Reply, TuneStore};

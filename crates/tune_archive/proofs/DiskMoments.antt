@@ -3,7 +3,7 @@ use Rattle.std.proofs.Common.{◌≡◌, ◌⊎◌, inl, inr, ℕ, ◌≤◌, Li
 use Rattle.tune_disk.specs.Disk.{Medium, DiskState}
 use Rattle.tune_disk.specs.Stops.{SinceThen, LeavesOnly, EachLeavesOnly}
 use Rattle.tune_store.specs.State.{State}
-use Rattle.tune_store.specs.Stops.{Among, Passes, StandsForOne}
+use Rattle.tune_store.specs.StoreStops.{Among, Passes, StandsForOne}
 use Rattle.tune_archive.specs.Media.{moment_of, LeftFrom}
 use Rattle.tune_archive.specs.Inside.Media.{left_now}
 

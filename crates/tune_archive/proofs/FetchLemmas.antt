@@ -8,7 +8,7 @@ use Rattle.tune_disk.specs.Disk.{DiskState}
 use Rattle.tune_disk.specs.Stops.{LeavesOnly}
 use Rattle.tune_journal.specs.Image.{StandsFor}
 use Rattle.tune_pages.specs.Kept.{Kept, HonestAt, state_at}
-use Rattle.tune_pages.specs.Reading.{LooksAt, SameKept}
+use Rattle.tune_pages.specs.PageLooks.{LooksAt, SameKept}
 use Rattle.tune_pages.specs.Stand.{Stand, HasChain}
 use Rattle.tune_pages.specs.declared.fault.Fault.{Fault}
 use Rattle.tune_parts.specs.Parts.{Part, HoldsParts}
@@ -19,7 +19,7 @@ use Rattle.tune_store.specs.State.{State, IsState, IsTune, IsTunes}
 use Rattle.tune_store.specs.declared.catalog.Label.{Label}
 use Rattle.tune_store.specs.declared.tune.Tune.{Tune}
 use Rattle.tune_format.specs.Filed.{row_of, rows_of, archive_parts, HoldTunes, HoldsTuneAt}
-use Rattle.tune_format.specs.Layout.{most_pages_of}
+use Rattle.tune_format.specs.RootOffsets.{most_pages_of}
 use Rattle.tune_format.specs.States.{state_in}
 use Rattle.tune_format.specs.declared.rows.Row.{Row}
 use Rattle.tune_format.proofs.ChangeLemmas.{row_at_place, has_text}

@@ -4,7 +4,7 @@ use Rattle.tune_disk.specs.Disk.{DiskState}
 use Rattle.tune_disk.specs.Stops.{LeavesOnly, SinceThen}
 use Rattle.tune_journal.specs.Image.{StandsFor, StandsForEither}
 use Rattle.tune_pages.specs.Kept.{Kept, HonestAt, state_at}
-use Rattle.tune_pages.specs.Reading.{SameKept}
+use Rattle.tune_pages.specs.PageLooks.{SameKept}
 use Rattle.tune_pages.specs.Stand.{Stand}
 use Rattle.tune_pages.specs.Work.{stand, Fits}
 use Rattle.tune_pages.specs.declared.work.Work.{Work}

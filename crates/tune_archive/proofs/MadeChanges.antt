@@ -10,13 +10,13 @@ use Rattle.tune_pages.specs.declared.fault.Fault.{Fault}
 use Rattle.tune_pages.specs.declared.fault.Fault.TheVariants.{FileFull, OutOfMemory, Device, Closed}
 use Rattle.tune_store.specs.Plans.{changed}
 use Rattle.tune_store.specs.State.{State, IsState}
-use Rattle.tune_store.specs.Stops.{HasFailed}
+use Rattle.tune_store.specs.StoreStops.{HasFailed}
 use Rattle.tune_store.specs.declared.command.Refusal.{Refusal}
 use Rattle.tune_store.specs.declared.plans.Change.{Change}
-use Rattle.tune_format.specs.Layout.{most_pages_of}
+use Rattle.tune_format.specs.RootOffsets.{most_pages_of}
 use Rattle.tune_format.specs.States.{IsStateOf, StandsForState, state_in}
 use Rattle.tune_format.proofs.StateLemmas.{file_read, either_state}
-use Rattle.tune_contents.specs.Answers.{IsLayFault}
+use Rattle.tune_contents.specs.LayAnswers.{IsLayFault}
 use Rattle.tune_contents.specs.Claimed.{AreRows}
 use Rattle.tune_contents.specs.Holds.{HoldsContents}
 use Rattle.tune_contents.specs.declared.contents.Contents.{Contents}

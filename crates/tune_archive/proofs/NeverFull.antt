@@ -1,6 +1,6 @@
 -- An archive never has too few pages for a change.
 use Rattle.std.proofs.Common.{◌≡◌, ◌≢◌, ℕ, ◌+◌, ◌<◌, ◌≤◌, All, ap, length, ◌∙◌, subst, sym, arith}
-use Rattle.tune_journal.specs.Layout.{block_bytes}
+use Rattle.tune_journal.specs.FileOffsets.{block_bytes}
 use Rattle.tune_pages.specs.Faults.{free_pages}
 use Rattle.tune_pages.specs.Stand.{Stand}
 use Rattle.tune_pages.specs.declared.fault.Fault.{Fault}
@@ -10,7 +10,7 @@ use Rattle.tune_store.specs.State.{State, IsState}
 use Rattle.tune_store.specs.declared.layout.Layout.{Layout}
 use Rattle.tune_store.specs.declared.layout.Layout.TheVariants.{One, Two}
 use Rattle.tune_store.specs.declared.plans.Change.{Change}
-use Rattle.tune_format.specs.Layout.{most_pages_of}
+use Rattle.tune_format.specs.RootOffsets.{most_pages_of}
 use Rattle.tune_contents.specs.Holds.{HoldsContents}
 use Rattle.tune_contents.specs.Most.{most_part_pages, most_used}
 use Rattle.tune_contents.specs.declared.contents.Contents.{Contents}

@@ -7,7 +7,7 @@ use Rattle.tune_disk.specs.Disk.{DiskState, MayLeave}
 use Rattle.tune_disk.specs.Stops.{LeavesOnly, SinceThen}
 use Rattle.tune_disk.proofs.Moments.{since_weaker}
 use Rattle.tune_journal.specs.Image.{StandsFor, gate_of}
-use Rattle.tune_journal.specs.Layout.{gate_open}
+use Rattle.tune_journal.specs.FileOffsets.{gate_open}
 use Rattle.tune_journal.specs.Making.{StandsForNoneOr}
 use Rattle.tune_journal.specs.Moments.{LeftOrSame}
 use Rattle.tune_journal.specs.Refusal.{IsSynced}
@@ -18,7 +18,7 @@ use Rattle.tune_journal.specs.declared.open_fault.OpenFault.TheVariants.{Device}
 use Rattle.tune_journal.specs.declared.open_fault.Refused.{Refused}
 use Rattle.tune_journal.proofs.Above.{stands_once}
 use Rattle.tune_pages.specs.Kept.{Kept, HonestAt, state_at}
-use Rattle.tune_pages.specs.Opened.{only_root, IsUndoneFor, IsUnopenedFor, LeavesSame}
+use Rattle.tune_pages.specs.OpenedPages.{only_root, IsUndoneFor, IsUnopenedFor, LeavesSame}
 use Rattle.tune_pages.specs.Stand.{Stand}
 use Rattle.tune_pages.proofs.Chains.{length-marked}
 use Rattle.tune_index.specs.Indexes.{Shape}
@@ -31,7 +31,7 @@ use Rattle.tune_search.specs.Searches.{HoldsKeys, SearchParts, SearchShape, key_
 use Rattle.tune_store.specs.State.{State, IsState, empty_of}
 use Rattle.tune_store.specs.declared.layout.Layout.TheVariants.{Two}
 use Rattle.tune_format.specs.Filed.{archive_parts}
-use Rattle.tune_format.specs.Layout.{most_pages_of}
+use Rattle.tune_format.specs.RootOffsets.{most_pages_of}
 use Rattle.tune_format.specs.Searched.{IsSearchIndex}
 use Rattle.tune_format.specs.States.{IsStateOf, StandsForState}
 use Rattle.tune_format.specs.Written.{IsRoot, no_firsts}
@@ -44,7 +44,7 @@ use Rattle.tune_contents.specs.declared.contents.Contents.{Contents}
 use Rattle.tune_contents.proofs.ClaimListLemmas.{state_some}
 use Rattle.tune_archive.specs.Inside.Holding.{stand_of, HoldsState, IsShelf}
 use Rattle.tune_archive.specs.Inside.Opening.{IsUnclaimedFor}
-use Rattle.tune_archive.specs.Opened.{disk_of, StandsForNoneOrEmpty, KeepsStates, IsUnopenedArchiveFor}
+use Rattle.tune_archive.specs.OpenedArchive.{disk_of, StandsForNoneOrEmpty, KeepsStates, IsUnopenedArchiveFor}
 use Rattle.tune_archive.specs.Shelf.{Shelf, IsSound, state_on, StandsForOneOf}
 
 -- WHAT PAGES HOLD

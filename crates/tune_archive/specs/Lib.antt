@@ -1,4 +1,4 @@
 pub mod Inside
 pub mod Media
-pub mod Opened
+pub mod OpenedArchive
 pub mod Shelf

@@ -3,11 +3,11 @@
 #![tactic(auto)]
 
 mod archive;
-mod changes;
-mod fetching;
-mod opening;
+mod archive_catalog;
+mod archive_store;
+mod made_changes;
+mod opened_archives;
 mod places;
-mod store;
 
 pub use archive::{Archive, Closed, Counts};
 pub use tune_store::{Command, IndexRow, Refusal, Reply, RowList, TuneStore};

@@ -10,9 +10,9 @@ use Rattle.tune_store.specs.declared.tune_store.TuneStore as store
 use Rattle.tune_archive.specs.Shelf.{Shelf}
 use Rattle.tune_scripts.specs.Limits.{most_lines}
 use Rattle.tune_scripts.specs.ScriptRuns.{Work, TellsScript, IsOtherEnd}
-use Rattle.tune_scripts.specs.declared.runs.RunEnd.{RunEnd}
+use Rattle.tune_scripts.specs.declared.script_runs.RunEnd.{RunEnd}
 use Rattle.tune_cli.specs.FileActs.{Makes, Checks, RunsOn, Upgrades}
-use Rattle.tune_cli.specs.Lines.{WritesLine, reason_bytes, status_of}
+use Rattle.tune_cli.specs.ProgramLines.{WritesLine, reason_bytes, status_of}
 use Rattle.tune_cli.specs.declared.command_line.Action.{Action}
 use Rattle.tune_cli.specs.declared.command_line.Action.TheVariants as action
 

@@ -7,13 +7,14 @@ use Rattle.tune_journal.specs.Moments.{LeftOrSame}
 use Rattle.tune_journal.specs.Refusal.{CountsFailureIf, CountsFailureWhere}
 use Rattle.tune_journal.specs.declared.open_fault.OpenFault.{OpenFault}
 use Rattle.tune_pages.specs.Kept.{state_at}
-use Rattle.tune_pages.specs.Opened.{IsUnmadePagesFor}
+use Rattle.tune_pages.specs.OpenedPages.{IsUnmadePagesFor}
 use Rattle.tune_store.specs.State.{State, empty_of}
 use Rattle.tune_store.specs.declared.layout.Layout.TheVariants.{Two}
 use Rattle.tune_store.specs.declared.command.Command.TheVariants.{Upgrade}
 use Rattle.tune_store.specs.declared.tune_store.TuneStore as store
 use Rattle.tune_format.specs.States.{StandsForState}
-use Rattle.tune_archive.specs.Opened.{IsUnopenedArchiveFor, StandsForNoneOrEmpty, KeepsStates}
+use Rattle.tune_archive.specs.OpenedArchive.{IsUnopenedArchiveFor, StandsForNoneOrEmpty}
+use Rattle.tune_archive.specs.OpenedArchive.{KeepsStates}
 use Rattle.tune_archive.specs.Media.{moment_of, LeftFrom}
 use Rattle.tune_archive.specs.Shelf.{Shelf}
 use Rattle.tune_scripts.specs.Carried.{Carried, IsCarried, LeftByRun, run_of}
@@ -21,9 +22,9 @@ use Rattle.tune_scripts.specs.Limits.{most_lines}
 use Rattle.tune_scripts.specs.Prefixes.{StandsForPrefix}
 use Rattle.tune_scripts.specs.Replies.{answer_bytes}
 use Rattle.tune_scripts.specs.ScriptRuns.{RunsScript}
-use Rattle.tune_scripts.specs.declared.runs.RunEnd.{RunEnd}
-use Rattle.tune_cli.specs.Lines.{WritesLine, reason_bytes, status_of, status_of_opening}
-use Rattle.tune_cli.specs.Lines.{counts_bytes, status_of_answer}
+use Rattle.tune_scripts.specs.declared.script_runs.RunEnd.{RunEnd}
+use Rattle.tune_cli.specs.ProgramLines.{WritesLine, reason_bytes, status_of, status_of_opening}
+use Rattle.tune_cli.specs.ProgramLines.{counts_bytes, status_of_answer}
 
 -- MAKE
 -- An archive was made: a stop now leaves the empty one, and no call of the disk failed.

@@ -2,4 +2,4 @@ pub mod Acts
 pub mod CommandLine
 pub mod FileActs
 pub mod Inside
-pub mod Lines
+pub mod ProgramLines

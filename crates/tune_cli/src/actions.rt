@@ -7,7 +7,7 @@ ghost use Rattle.tune_cli.specs.CommandLine.{tunes_app, file_app, subcommand_in,
 ghost use Rattle.tune_cli.specs.CommandLine.{file_in, file_of, IsOutOfMemory};
 ghost use Rattle.tune_cli.specs.Inside.Subcommands.{IsSubcommand};
 ghost use Rattle.tune_cli.specs.Acts.{Acts, ListsScript};
-ghost use Rattle.tune_cli.specs.Lines.{status_of};
+ghost use Rattle.tune_cli.specs.ProgramLines.{status_of};
 ghost use Rattle.tune_cli.specs.declared.command_line.WordsFault.TheVariants.{Missing};
 ghost use Rattle.tune_cli.specs.CommandLine.{faults_in, FaultFits, status_of_fault};
 

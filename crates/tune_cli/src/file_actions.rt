@@ -6,8 +6,8 @@ ghost use Rattle.tune_archive.specs.Shelf.{state_of};
 ghost use Rattle.tune_cli.specs.Acts.{OnFile};
 ghost use Rattle.tune_scripts.specs.Replies.{answer_bytes};
 ghost use Rattle.tune_cli.specs.FileActs.{Makes, Checks, RunsOn, Upgrades};
-ghost use Rattle.tune_cli.specs.Lines.{WritesLine, reason_bytes, line_of, status_of_opening};
-ghost use Rattle.tune_cli.specs.Lines.{counts_bytes, status_of_answer};
+ghost use Rattle.tune_cli.specs.ProgramLines.{WritesLine, reason_bytes, line_of, status_of_opening};
+ghost use Rattle.tune_cli.specs.ProgramLines.{counts_bytes, status_of_answer};
 
 use crate::actions::status;
 use std::alloc::Global;

@@ -2,15 +2,15 @@
 use Rattle.std.proofs.Common.{ℕ, ◌^◌, ◌<◌, List, length, Bool, subst}
 use Rattle.index_keys.specs.Entries.{Entry}
 use Rattle.tune_index.specs.Indexes.{Shape}
-use Rattle.tune_index.specs.Listed.{IsStored, LoadsIndex}
+use Rattle.tune_index.specs.ListedLeaves.{IsStored, LoadsIndex}
 use Rattle.tune_parts.specs.Parts.{Part}
-use Rattle.tune_search.specs.Claiming.{HasClaimed, firsts_of, parts_loaded, search_loaded}
+use Rattle.tune_search.specs.LoadedParts.{HasClaimed, firsts_of, parts_loaded, search_loaded}
 use Rattle.tune_search.specs.Loaded.{AreStored, LoadsSearch}
 use Rattle.tune_search.specs.Searches.{SearchRuns, SearchShape, key_bytes}
 use Rattle.tune_search.specs.declared.loading.SearchFirsts.{SearchFirsts}
 use Rattle.tune_search.proofs.LoadedFour.{held_four, same_four, there_four}
 use Rattle.tune_search.proofs.LoadedIndex.{held_loaded, same_loaded, there_stored}
-use Rattle.tune_contents.specs.Inside.Claiming.{ClaimsIndex, ClaimsSearch, IsIndexThere, IsSearchThere}
+use Rattle.tune_contents.specs.Inside.ClaimedParts.{ClaimsIndex, ClaimsSearch, IsIndexThere, IsSearchThere}
 
 pub index_claimed : (most : ℕ) (pages : List (List ℕ)) (claimed now : List Bool) (first : ℕ) (shape : Shape) (entries : List Entry) (front : List Part)
     → length claimed < 256 ^ 4 → HasClaimed pages claimed front → LoadsIndex key_bytes most pages claimed now first shape entries

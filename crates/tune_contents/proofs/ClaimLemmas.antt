@@ -10,10 +10,10 @@ use Rattle.tune_parts.specs.Parts.PartKind.{chain}
 use Rattle.tune_parts.proofs.Lists.{all_right}
 use Rattle.tune_parts.proofs.PartLemmas.{claim_part, can_claim, its_chain}
 use Rattle.tune_store.specs.declared.layout.Layout.{Layout}
-use Rattle.tune_search.specs.Claiming.{HasClaimed}
-use Rattle.tune_search.specs.Claims.{StandsAtKeys}
+use Rattle.tune_search.specs.LoadedParts.{HasClaimed}
+use Rattle.tune_search.specs.SearchClaims.{StandsAtKeys}
 use Rattle.tune_search.specs.Searches.{SearchRuns}
-use Rattle.tune_contents.specs.Inside.Claiming.{ClaimsPart, IsPartThere, IsTuneChain, IsTuneThere}
+use Rattle.tune_contents.specs.Inside.ClaimedParts.{ClaimsPart, IsPartThere, IsTuneChain, IsTuneThere}
 
 pub ok_as : {T E : Type 0} (r : Result T E) (P Q : T → Type 0) → ((x : T) → P x → Q x) → IfOk r P → IfOk r Q
 ok_as (Ok x) P Q as_q p = as_q x p

@@ -5,15 +5,15 @@ use Rattle.index_keys.specs.Entries.{Entry}
 use Rattle.tune_index.specs.Indexes.{Shape}
 use Rattle.tune_journal.specs.Pages.{page_at}
 use Rattle.tune_pages.specs.Claim.{IsChainFault}
-use Rattle.tune_pages.specs.Opened.{only_root}
+use Rattle.tune_pages.specs.OpenedPages.{only_root}
 use Rattle.tune_pages.specs.declared.fault.ClaimFault.{ClaimFault}
 use Rattle.tune_pages.specs.declared.fault.ClaimFault.TheVariants.{Damaged, OutOfMemory, Device}
 use Rattle.tune_pages.proofs.Claiming.{fault_as}
 use Rattle.tune_parts.specs.Parts.{AreParts, Part}
 use Rattle.tune_parts.proofs.Once.{none_free}
 use Rattle.tune_parts.proofs.PartLemmas.{no_parts}
-use Rattle.tune_search.specs.Claiming.{HasClaimed, HoldEachAtMost, HoldsAtMost}
-use Rattle.tune_search.specs.Claiming as loaded
+use Rattle.tune_search.specs.LoadedParts.{HasClaimed, HoldEachAtMost, HoldsAtMost}
+use Rattle.tune_search.specs.LoadedParts as loaded
 use Rattle.tune_search.specs.IndexParts.{IndexParts, parts_of_index}
 use Rattle.tune_search.specs.Searches.{SearchParts, SearchRuns, SearchShape, key_bytes, parts_of_search}
 use Rattle.tune_search.specs.declared.loading.SearchFirsts.{SearchFirsts}
@@ -24,14 +24,14 @@ use Rattle.tune_store.specs.declared.layout.Layout.{Layout}
 use Rattle.tune_store.specs.declared.tune.Tune.{Tune}
 use Rattle.tune_format.specs.Filed.{numbered_texts, rows_of}
 use Rattle.tune_format.specs.States.{IsStateOf}
-use Rattle.tune_format.specs.Layout.{version_offset}
+use Rattle.tune_format.specs.RootOffsets.{version_offset}
 use Rattle.tune_format.specs.Written.{IsRoot, number_at, number_entries, row_entry}
 use Rattle.tune_format.specs.declared.root.Firsts.{Firsts}
 use Rattle.tune_format.proofs.StateLemmas.{same_layout}
 use Rattle.tune_format.proofs.TextLemmas.{rows_count}
 use Rattle.tune_contents.specs.Most.{most_sets_pages}
-use Rattle.tune_contents.specs.Inside.Claiming.{AreBlocks, ClaimsIndex, ClaimsLists, ClaimsPart, ClaimsSearch, IsIndexThere, IsPartThere, IsSearchThere}
-use Rattle.tune_contents.specs.Inside.Claiming.{IsStateThere, runs_filed}
+use Rattle.tune_contents.specs.Inside.ClaimedParts.{AreBlocks, ClaimsIndex, ClaimsLists, ClaimsPart, ClaimsSearch, IsIndexThere, IsPartThere, IsSearchThere}
+use Rattle.tune_contents.specs.Inside.ClaimedParts.{IsStateThere, runs_filed}
 use Rattle.tune_contents.proofs.ClaimLemmas.{at_pages, its_part}
 use Rattle.tune_contents.proofs.ClaimSizes.{sets_few}
 

@@ -6,7 +6,7 @@ use Rattle.std.specs.List.{AllByRecursion}
 use Rattle.std.proofs.lemmas.Bool.Decides.{nat_tests}
 use Rattle.std.proofs.lemmas.Grind.{div_ceil_times}
 use Rattle.tune_pages.specs.Faults.{pages_for}
-use Rattle.tune_pages.specs.Layout.{piece_room}
+use Rattle.tune_pages.specs.LinkOffsets.{piece_room}
 use Rattle.tune_pages.proofs.FreePages.{AreSized, chain_count}
 use Rattle.tune_parts.specs.Parts.{Part, IsPart}
 use Rattle.tune_parts.specs.Parts.PartKind.{chain}
@@ -19,7 +19,7 @@ use Rattle.tune_sets.proofs.ByteLemmas.{length-written_numbers}
 use Rattle.tune_store.specs.Limits.{longest_text}
 use Rattle.tune_store.specs.declared.layout.Layout.{Layout}
 use Rattle.tune_store.specs.declared.tune.Tune.{Tune}
-use Rattle.tune_format.specs.Layout.{revision_bytes}
+use Rattle.tune_format.specs.RootOffsets.{revision_bytes}
 use Rattle.tune_format.specs.Written.{written_tune}
 use Rattle.tune_contents.specs.Most.{most_tune_pages, most_sets_pages}
 

@@ -9,18 +9,18 @@ use Rattle.index_keys.specs.Holdings.{HaveOwnNumbers, HoldsEntries, keys_at}
 use Rattle.index_keys.specs.Inside.Members.{contains_cases, contains_none}
 use Rattle.index_keys.proofs.ByNumber.{by_number_held, held_by_number}
 use Rattle.tune_incipit.specs.Incipits.{incipit_of, tune_notes}
-use Rattle.tune_incipit.specs.SearchKeys.{incipit_keys, scale_keys}
+use Rattle.tune_incipit.specs.ScaleAndIncipitKeys.{incipit_keys, scale_keys}
 use Rattle.tune_incipit.specs.Inside.KeyLaws.{incipit_rises, scales_rise}
 use Rattle.tune_index.specs.Indexes.{Shape}
-use Rattle.tune_index.specs.Listed.{listed_bytes}
+use Rattle.tune_index.specs.ListedLeaves.{listed_bytes}
 use Rattle.tune_journal.specs.Pages.{page_at}
 use Rattle.tune_parts.specs.Parts.{AreParts, Part}
 use Rattle.tune_parts.proofs.Lists.{all_map}
 use Rattle.tune_pages.specs.Claim.{IsChainFault}
 use Rattle.tune_pages.specs.declared.fault.ClaimFault.{ClaimFault}
 use Rattle.tune_pages.proofs.Claiming.{fault_as}
-use Rattle.tune_search.specs.Claiming.{HasClaimed, HoldEachAtMost}
-use Rattle.tune_search.specs.Claims.{AreAllKnown, HoldByNumber, StandsAtKeys}
+use Rattle.tune_search.specs.LoadedParts.{HasClaimed, HoldEachAtMost}
+use Rattle.tune_search.specs.SearchClaims.{AreAllKnown, HoldByNumber, StandsAtKeys}
 use Rattle.tune_search.specs.IndexParts.{HoldsIndex, IndexParts, KeepsIndex, parts_of_index}
 use Rattle.tune_search.specs.Searches.{SearchParts, SearchRuns, SearchShape, key_bytes, parts_of_search}
 use Rattle.tune_sets.specs.Sets.{AreSetLists}
@@ -37,14 +37,14 @@ use Rattle.tune_format.specs.Written.{IsRoot, number_entries}
 use Rattle.tune_format.specs.declared.root.Firsts.{Firsts}
 use Rattle.tune_format.specs.declared.rows.Row.{Row}
 use Rattle.tune_format.proofs.TextLemmas.{later_held, rows_count, tune_without}
-use Rattle.tune_titles.specs.SearchKeys.{rhythm_keys, title_keys}
+use Rattle.tune_titles.specs.TitleAndRhythmKeys.{rhythm_keys, title_keys}
 use Rattle.tune_titles.specs.Inside.KindLaws.{rhythm_rises, titles_rise}
 use Rattle.tune_contents.specs.Claimed.{AreRows, IsClaimed, RowsRise}
 use Rattle.tune_contents.specs.declared.contents.Contents.{Contents}
-use Rattle.tune_contents.specs.Inside.Claiming.{AreBlocks, AreRowsThere, AreTunesThere, ClaimsLists, HasLists, IsStateThere, ListsClaimed, StandAtKeys}
-use Rattle.tune_contents.specs.Inside.Claiming.{TunesClaimed, runs_filed}
+use Rattle.tune_contents.specs.Inside.ClaimedParts.{AreBlocks, AreRowsThere, AreTunesThere, ClaimsLists, HasLists, IsStateThere, ListsClaimed, StandAtKeys}
+use Rattle.tune_contents.specs.Inside.ClaimedParts.{TunesClaimed, runs_filed}
 use Rattle.tune_contents.specs.Inside.ClaimedRows.{AreEntriesOfRows, HasNumber, HaveFew, NumberRows, NameRows}
-use Rattle.tune_contents.specs.Inside.Rows.{numbers_in}
+use Rattle.tune_contents.specs.Inside.TuneRows.{numbers_in}
 use Rattle.tune_contents.proofs.ClaimLemmas.{at_pages, claimed_as}
 use Rattle.tune_contents.proofs.ClaimListLemmas.{fault_where, layout_there, searches_few, state_some}
 use Rattle.tune_contents.proofs.ClaimedRowLemmas.{all_each, each_all, rows_as, same_numbers}

@@ -7,8 +7,8 @@ use Rattle.tune_pages.specs.declared.fault.ClaimFault.{ClaimFault}
 use Rattle.tune_pages.proofs.Claiming.{fault_as}
 use Rattle.tune_parts.specs.Parts.{Part, AreParts}
 use Rattle.tune_parts.proofs.Lists.{all_join}
-use Rattle.tune_search.specs.Claiming.{HasClaimed}
-use Rattle.tune_search.specs.Claims.{StandsAtKeys}
+use Rattle.tune_search.specs.LoadedParts.{HasClaimed}
+use Rattle.tune_search.specs.SearchClaims.{StandsAtKeys}
 use Rattle.tune_search.specs.Searches.{SearchRuns}
 use Rattle.tune_store.specs.declared.layout.Layout.{Layout}
 use Rattle.tune_store.specs.State.{IsTune}
@@ -17,7 +17,7 @@ use Rattle.tune_format.specs.Filed.{row_of}
 use Rattle.tune_format.specs.Written.{number_entries, row_entry}
 use Rattle.tune_format.specs.declared.rows.Row.{Row}
 use Rattle.tune_format.proofs.TextLemmas.{none_held, one_held, first_held, later_held, texts_join, rows_join}
-use Rattle.tune_contents.specs.Inside.Claiming.{AreTunesThere, ClaimsPart, ClaimsSoFar, ClaimsTune, IsTuneThere, TunesStand}
+use Rattle.tune_contents.specs.Inside.ClaimedParts.{AreTunesThere, ClaimsPart, ClaimsSoFar, ClaimsTune, IsTuneThere, TunesStand}
 use Rattle.tune_contents.proofs.ClaimLemmas.{at_pages, claimed_as, its_part}
 use Rattle.tune_contents.proofs.ClaimSizes.{tune_few}
 use Rattle.tune_contents.proofs.ClaimedRowLemmas.{entry_first, entry_number, first_entry, later_entries, none_behind}

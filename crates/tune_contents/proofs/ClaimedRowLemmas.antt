@@ -16,7 +16,7 @@ use Rattle.tune_store.specs.declared.layout.Layout.{Layout}
 use Rattle.tune_format.specs.Written.{number_entries, number_key, row_entry}
 use Rattle.tune_format.specs.declared.rows.Row.{Row}
 use Rattle.tune_contents.specs.Inside.ClaimedRows.{AreEntriesFrom, AreEntriesOfRows, HasNumber, RowsSoFar}
-use Rattle.tune_contents.specs.Inside.Rows.{numbers_in}
+use Rattle.tune_contents.specs.Inside.TuneRows.{numbers_in}
 use Rattle.tune_contents.specs.Claimed.{AreRows, RowsRise}
 
 -- each number is above what the rows rise from

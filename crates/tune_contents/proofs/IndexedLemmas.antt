@@ -7,7 +7,7 @@ use Rattle.index_keys.specs.Entries.{AllFit, Entry, inserted_all, removed_all}
 use Rattle.index_keys.specs.Holdings.{AreSmall, SameMembers}
 use Rattle.index_keys.specs.Inside.Members.{contains_cases, contains_none}
 use Rattle.index_keys.proofs.Holding.{holds_same}
-use Rattle.tune_incipit.specs.SearchKeys.{incipit_keys, scale_keys}
+use Rattle.tune_incipit.specs.ScaleAndIncipitKeys.{incipit_keys, scale_keys}
 use Rattle.tune_index.specs.Indexes.{Shape}
 use Rattle.tune_pages.specs.Faults.{pages_for}
 use Rattle.tune_pages.specs.FreePages.{TakesAtMost}
@@ -24,9 +24,9 @@ use Rattle.tune_store.specs.State.{IsTunes, RisesFrom, greatest}
 use Rattle.tune_store.specs.declared.layout.Layout.{Layout}
 use Rattle.tune_store.specs.declared.plans.Change.{Change}
 use Rattle.tune_store.specs.declared.tune.Tune.{Tune}
-use Rattle.tune_titles.specs.SearchKeys.{rhythm_keys, title_keys}
+use Rattle.tune_titles.specs.TitleAndRhythmKeys.{rhythm_keys, title_keys}
 use Rattle.tune_format.specs.Filed.{HoldTunes, archive_parts, numbered_texts, rows_of}
-use Rattle.tune_format.specs.Layout.{number_bytes}
+use Rattle.tune_format.specs.RootOffsets.{number_bytes}
 use Rattle.tune_format.specs.Written.{number_entries}
 use Rattle.tune_format.specs.declared.rows.Row.{Row}
 use Rattle.tune_format.proofs.TextLemmas.{rows_count}

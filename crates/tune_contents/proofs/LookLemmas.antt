@@ -2,7 +2,7 @@
 use Rattle.std.proofs.Common.{ℕ, Ok, Err}
 use Rattle.tune_disk.specs.Disk.{DiskState}
 use Rattle.tune_pages.specs.Kept.{Kept}
-use Rattle.tune_pages.specs.Reading.{LooksAt}
+use Rattle.tune_pages.specs.PageLooks.{LooksAt}
 use Rattle.tune_pages.specs.declared.fault.Fault.{Fault}
 use Rattle.tune_pages.proofs.Looking.{look_next}
 

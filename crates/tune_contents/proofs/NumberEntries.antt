@@ -11,8 +11,8 @@ use Rattle.tune_format.specs.Written.{number_entries, number_key, row_entry}
 use Rattle.tune_format.specs.declared.rows.Row.{Row}
 use Rattle.tune_search.specs.Searches.{key_bytes}
 use Rattle.tune_contents.specs.Claimed.{RowsRise}
-use Rattle.tune_contents.specs.Inside.Numbers.{HasNoRow, MovesRow, PutsRuns}
-use Rattle.tune_contents.specs.Inside.Rows.{numbers_in}
+use Rattle.tune_contents.specs.Inside.ChangedRows.{HasNoRow, MovesRow, PutsRuns}
+use Rattle.tune_contents.specs.Inside.TuneRows.{numbers_in}
 use Rattle.tune_contents.proofs.RowLemmas.{same_place}
 
 -- ENTRIES AT A PLACE

@@ -13,8 +13,8 @@ use Rattle.tune_store.specs.declared.catalog.Label.{Label}
 use Rattle.tune_format.specs.declared.rows.Row.{Row}
 use Rattle.tune_contents.specs.Claimed.{AreRows, RowsRise}
 use Rattle.tune_contents.specs.Holds.{label_in, labels_in}
-use Rattle.tune_contents.specs.Inside.Numbers.{AddsRow, AddsRows, PutsRow}
-use Rattle.tune_contents.specs.Inside.Rows.{IsRowAfter, numbers_in}
+use Rattle.tune_contents.specs.Inside.ChangedRows.{AddsRow, AddsRows, PutsRow}
+use Rattle.tune_contents.specs.Inside.TuneRows.{IsRowAfter, numbers_in}
 
 -- NUMBERS
 -- numbers rise strictly, and are above this one

@@ -19,7 +19,7 @@ use Rattle.tune_format.specs.declared.rows.Row.{Row}
 use Rattle.tune_format.proofs.ChangeLemmas.{row_at_place, move_text}
 use Rattle.tune_format.proofs.TextLemmas.{tune_without, later_held, text_at, texts_cut, texts_inserted, rows_count, rows_cut, rows_inserted}
 use Rattle.tune_contents.specs.Inside.Laying.{HoldsTunes}
-use Rattle.tune_contents.specs.Inside.Rows.{IsRowAfter, MovesTunes}
+use Rattle.tune_contents.specs.Inside.TuneRows.{IsRowAfter, MovesTunes}
 use Rattle.tune_contents.specs.Claimed.{RowsRise}
 
 -- ORDER

@@ -4,16 +4,16 @@ use Rattle.std.specs.List.{Contains}
 use Rattle.std.proofs.lemmas.Grind.{div_ceil_times}
 use Rattle.abc_fields.specs.Limits.{most_titles}
 use Rattle.index_keys.specs.Holdings.{AreSmall}
-use Rattle.tune_index.specs.Faults.{IsEditFault}
+use Rattle.tune_index.specs.IndexAnswers.{IsEditFault}
 use Rattle.tune_pages.specs.Faults.{free_pages, pages_for}
-use Rattle.tune_pages.specs.Layout.{piece_room}
+use Rattle.tune_pages.specs.LinkOffsets.{piece_room}
 use Rattle.tune_pages.specs.Stand.{Stand}
 use Rattle.tune_pages.specs.declared.fault.Fault.{Fault}
 use Rattle.tune_pages.specs.declared.fault.Fault.TheVariants.{FileFull}
 use Rattle.tune_parts.specs.Parts.{Part}
 use Rattle.tune_search.specs.SearchPages.{HasFewLeaves, leaves_of, lists_of, most_entries}
 use Rattle.tune_search.specs.Searches.{HoldsSomeTexts, HoldsTexts, SearchParts, SearchRuns, SearchShape}
-use Rattle.tune_format.specs.Layout.{number_bytes}
+use Rattle.tune_format.specs.RootOffsets.{number_bytes}
 use Rattle.tune_contents.specs.Inside.Searching.{HoldsTextsWith, IsSomeRun, PutsIn, PutsTexts, TakesOut, TakesTexts, search_pages}
 use Rattle.tune_contents.proofs.SearchingLemmas.{Text}
 

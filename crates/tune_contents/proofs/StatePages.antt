@@ -6,7 +6,7 @@ use Rattle.std.specs.Int.{bytes_high_first}
 use Rattle.std.specs.List.{AllByRecursion}
 use Rattle.std.proofs.lemmas.Grind.{div_ceil_times}
 use Rattle.tune_pages.specs.Faults.{free_pages, pages_for}
-use Rattle.tune_pages.specs.Layout.{piece_room}
+use Rattle.tune_pages.specs.LinkOffsets.{piece_room}
 use Rattle.tune_pages.specs.Stand.{Stand}
 use Rattle.tune_pages.proofs.Counting.{worth, marked_less}
 use Rattle.tune_pages.proofs.FreePages.{AreSized, chain_count}
@@ -36,7 +36,7 @@ use Rattle.tune_store.specs.State.{State, IsTune, IsState}
 use Rattle.tune_store.specs.declared.layout.Layout.{Layout}
 use Rattle.tune_store.specs.declared.tune.Tune.{Tune}
 use Rattle.tune_format.specs.Filed.{AreChains, HoldTunes, archive_parts, numbered_texts, rows_of}
-use Rattle.tune_format.specs.Layout.{number_bytes, revision_bytes}
+use Rattle.tune_format.specs.RootOffsets.{number_bytes, revision_bytes}
 use Rattle.tune_format.specs.Written.{number_entries, written_tune}
 use Rattle.tune_contents.specs.Holds.{HoldsContents, KeepsTexts}
 use Rattle.tune_contents.specs.Inside.Indexed.{index_pages}

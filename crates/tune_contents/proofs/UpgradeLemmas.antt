@@ -34,7 +34,7 @@ use Rattle.tune_contents.specs.Holds.{HoldsContents, HoldsSomeState}
 use Rattle.tune_contents.specs.Inside.Changes.{HoldsTunesWithin}
 use Rattle.tune_contents.specs.Inside.Indexed.{StandsAround}
 use Rattle.tune_contents.specs.Inside.Laying.{HoldsTunes, LaysRoot}
-use Rattle.tune_contents.specs.Inside.Rows.{numbers_in}
+use Rattle.tune_contents.specs.Inside.TuneRows.{numbers_in}
 use Rattle.tune_contents.specs.Inside.Searching.{IsTuneAt, search_pages}
 use Rattle.tune_contents.specs.Inside.Upgrading.{AreOfTunes, GathersTo, LengthensTexts}
 use Rattle.tune_contents.specs.Most.{most_part_pages}

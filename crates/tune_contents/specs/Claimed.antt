@@ -1,7 +1,7 @@
 -- What opening claims of an archive, and what is kept of it in memory.
 use Rattle.std.specs.Prelude.{◌≡◌, ℕ, ◌<◌, ◌≤◌, List, [], ◌∷◌, Bool, true, length, ⊤}
 use Rattle.std.specs.List.{AllByRecursion}
-use Rattle.tune_search.specs.Claiming.{ClaimsParts}
+use Rattle.tune_search.specs.LoadedParts.{ClaimsParts}
 use Rattle.tune_search.specs.IndexParts.{KeepsIndex}
 use Rattle.tune_search.specs.SearchPages.{AreListed}
 use Rattle.tune_search.specs.Searches.{key_bytes}

@@ -1,6 +1,6 @@
 -- What an archive holds on its pages.
 use Rattle.std.specs.Prelude.{◌≡◌, ℕ, List, true, map}
-use Rattle.tune_incipit.specs.SearchKeys.{incipit_keys, scale_keys}
+use Rattle.tune_incipit.specs.ScaleAndIncipitKeys.{incipit_keys, scale_keys}
 use Rattle.tune_pages.specs.Stand.{Stand}
 use Rattle.tune_parts.specs.Parts.{HoldsParts}
 use Rattle.tune_search.specs.IndexParts.{KeepsIndex}
@@ -12,7 +12,7 @@ use Rattle.tune_store.specs.State.{State, IsState}
 use Rattle.tune_store.specs.declared.catalog.Label.{Label}
 use Rattle.tune_store.specs.declared.plans.Change.{Change}
 use Rattle.tune_store.specs.Plans.{changed}
-use Rattle.tune_titles.specs.SearchKeys.{rhythm_keys, title_keys}
+use Rattle.tune_titles.specs.TitleAndRhythmKeys.{rhythm_keys, title_keys}
 use Rattle.tune_format.specs.Filed.{Filed, archive_parts, firsts_of, numbered_texts}
 use Rattle.tune_format.specs.Filed.{rows_of}
 use Rattle.tune_format.specs.Written.{number_entries}

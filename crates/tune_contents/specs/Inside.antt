@@ -1,10 +1,10 @@
+pub mod ChangedRows
 pub mod Changes
-pub mod Claiming
+pub mod ClaimedParts
 pub mod ClaimedRows
 pub mod Indexed
 pub mod Laying
-pub mod Numbers
-pub mod Rows
 pub mod Searching
 pub mod Takes
+pub mod TuneRows
 pub mod Upgrading

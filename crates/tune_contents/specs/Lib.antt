@@ -1,6 +1,6 @@
-pub mod Answers
 pub mod Claimed
 pub mod Holds
 pub mod Inside
+pub mod LayAnswers
 pub mod Most
 pub mod Texts

@@ -5,7 +5,7 @@ use Rattle.tune_pages.specs.Faults.{pages_for}
 use Rattle.tune_search.specs.SearchPages.{most_entries}
 use Rattle.tune_store.specs.Limits.{longest_text, most_tunes}
 use Rattle.tune_store.specs.declared.layout.Layout.{Layout}
-use Rattle.tune_format.specs.Layout.{number_bytes, revision_bytes}
+use Rattle.tune_format.specs.RootOffsets.{number_bytes, revision_bytes}
 
 -- the chain of a tune: 4 pages in layout 1
 abbrev pub most_tune_pages : Layout → ℕ

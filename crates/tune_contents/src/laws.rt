@@ -1,6 +1,6 @@
 // How many pages an archive uses.
 ghost use Rattle.std.specs.Prelude.{◌≡◌, ◌+◌, ◌≤◌, All, length};
-ghost use Rattle.tune_journal.specs.Layout.{block_bytes};
+ghost use Rattle.tune_journal.specs.FileOffsets.{block_bytes};
 ghost use Rattle.tune_pages.specs.Faults.{free_pages};
 ghost use Rattle.tune_pages.specs.Stand.{Stand};
 ghost use Rattle.tune_store.specs.State.{State, IsState};

@@ -2,24 +2,24 @@
 //! laid on them in a work.
 #![tactic(auto)]
 
-mod changes;
 mod claiming;
 mod contents;
+mod laid_chains;
+mod laid_changes;
 mod laws;
-mod laying;
 mod layout_notes;
-mod numbers;
+mod number_index;
 mod room;
-mod rows;
 mod searching;
-mod texts;
+mod tune_reading;
+mod tune_rows;
 mod upgrading;
 
-pub use changes::lay;
 pub use claiming::claim;
 pub use contents::Contents;
+pub use laid_changes::lay;
 pub use laws::law_of_state_pages;
 pub use layout_notes::incipit_notes;
 pub use room::Room;
-pub use texts::read_tune;
+pub use tune_reading::read_tune;
 pub use upgrading::upgrade;

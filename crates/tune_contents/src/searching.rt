@@ -2,11 +2,11 @@
 ghost use Rattle.std.specs.Prelude.{◌≡◌, ◌≤◌, ◌<◌, ◌^◌, ◌+◌, ◌++◌, ℕ, false, length, List};
 ghost use Rattle.std.specs.Prelude.{slice_index_or, IfErr, IfOk, IfSome, IsSome, OnOk, Some};
 ghost use Rattle.index_keys.specs.Holdings.{AreSmall};
-ghost use Rattle.tune_index.specs.Faults.{AnswersEdit};
+ghost use Rattle.tune_index.specs.IndexAnswers.{AnswersEdit};
 ghost use Rattle.tune_pages.specs.Faults.{AnswersRead, free_pages};
 ghost use Rattle.tune_pages.specs.FreePages.{TakesAtMost};
 ghost use Rattle.tune_pages.specs.Kept.{HonestAt};
-ghost use Rattle.tune_pages.specs.Reading.{LooksAt, SameStand};
+ghost use Rattle.tune_pages.specs.PageLooks.{LooksAt, SameStand};
 ghost use Rattle.tune_pages.specs.Work.{stand, Fits};
 ghost use Rattle.tune_pages.specs.declared.fault.Fault.TheVariants.{OutOfMemory};
 ghost use Rattle.tune_parts.specs.Parts.{Part};
@@ -19,7 +19,7 @@ ghost use Rattle.tune_store.specs.State.{IsTunes};
 ghost use Rattle.tune_store.specs.declared.tune.Tune.{Tune};
 ghost use Rattle.tune_sets.specs.declared.set_lists.TuneSet.{TuneSet};
 ghost use Rattle.tune_format.specs.Filed.{numbered_texts};
-ghost use Rattle.tune_contents.specs.Answers.{AnswersLay};
+ghost use Rattle.tune_contents.specs.LayAnswers.{AnswersLay};
 ghost use Rattle.tune_contents.specs.Holds.{labels_in};
 ghost use Rattle.tune_contents.specs.Inside.Changes.{HoldsTunesWithin, RowsAccept};
 ghost use Rattle.tune_contents.specs.Inside.Laying.{HoldsTunes};
@@ -30,8 +30,8 @@ ghost use Rattle.tune_contents.specs.Inside.Searching.{IsOldTune, IsSomeRun, IsT
 ghost use Rattle.tune_contents.specs.Inside.Searching.{PutsIn, PutsTexts, TakesOut, TakesSome};
 ghost use Rattle.tune_contents.specs.Inside.Searching.{TakesTexts, coming, search_pages};
 
-use crate::rows::place_of;
-use crate::texts::read_tune;
+use crate::tune_reading::read_tune;
+use crate::tune_rows::place_of;
 use abc_fields::TuneText;
 use std::alloc::Global;
 use std::slice;

@@ -2,7 +2,7 @@
 use Rattle.std.proofs.Common.{◌≡◌, inl, ℕ, List, [], ◌∷◌, ◌++◌, length, take, get_or, refl, sym, ◌∙◌, ap, subst, Result, Ok, Err, is_ok, IfOk, OnOk, OnErr, Vec}
 use Rattle.std.proofs.Common.{Global, ◌<◌, ◌+◌, arith}
 use Rattle.std.proofs.lemmas.List.{take_more}
-use Rattle.tune_disk.specs.Bytes.{put}
+use Rattle.tune_disk.specs.ByteWrites.{put}
 use Rattle.tune_disk.specs.Disk.{Medium, DiskState, MayLeave, Written, GoesTo, Writes, Syncs, fresh, touched}
 use Rattle.tune_disk.specs.Inside.Overwrites.{put_written}
 use Rattle.tune_disk.specs.Records.{record_to, replayed, state_of}

@@ -3,7 +3,7 @@ use Rattle.std.proofs.Common.{◌≡◌, ◌⊎◌, inl, inr, ℕ, ◌+◌, ◌-
 use Rattle.std.proofs.Common.{IfOk, OnOk, OnErr, IsErr, MatchResult, is_ok}
 use Rattle.std.proofs.lemmas.Bool.{cases_lt}
 use Rattle.std.proofs.lemmas.List.{get_or_past, append-nil, append_assoc}
-use Rattle.tune_disk.specs.Bytes.{put}
+use Rattle.tune_disk.specs.ByteWrites.{put}
 use Rattle.tune_disk.specs.Disk.{DiskState, Written, Torn, GoesTo, Writes, Syncs, touched}
 use Rattle.tune_disk.specs.FileTold.{History, Course, told, course, AnswerFits, AnswersFit, after_write, after_sync}
 use Rattle.tune_disk.specs.Inside.Overwrites.{put_written}

@@ -1,6 +1,6 @@
 -- What a file of the operating system told, one answer after another, and what it then stands for.
 use Rattle.std.specs.Prelude.{◌≡◌, ℕ, ◌+◌, ◌≤◌, List, [], ◌∷◌, ◌++◌, length, slice_index, get_or}
-use Rattle.tune_disk.specs.Bytes.{put}
+use Rattle.tune_disk.specs.ByteWrites.{put}
 use Rattle.tune_disk.specs.Disk.{DiskState, Torn, touched, settled, fresh}
 use Rattle.tune_disk.specs.declared.file.told.Told.{Told}
 use Rattle.tune_disk.specs.declared.file.told.Told.TheVariants.{Length, Byte, Ended, Begun, Put}

@@ -1,4 +1,4 @@
-pub mod Bytes
+pub mod ByteWrites
 pub mod Disk
 pub mod FileDisk
 pub mod FileTold

@@ -17,7 +17,7 @@ pub struct FuseDisk<D: Disk> {
 }
 
 impl<D: Disk> Model for FuseDisk<D> {
-    ghost use Rattle.tune_disk.specs.Inside.Codes.{fused_code};
+    ghost use Rattle.tune_disk.specs.Inside.WrappedCodes.{fused_code};
     ghost use Rattle.tune_disk.specs.Wrapped.{Fused};
 
     ghost Value = { Fused D };

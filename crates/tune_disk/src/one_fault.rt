@@ -17,7 +17,7 @@ pub struct OneFault<D: Disk> {
 }
 
 impl<D: Disk> Model for OneFault<D> {
-    ghost use Rattle.tune_disk.specs.Inside.Codes.{faulted_code};
+    ghost use Rattle.tune_disk.specs.Inside.WrappedCodes.{faulted_code};
     ghost use Rattle.tune_disk.specs.Wrapped.{Faulted};
 
     ghost Value = { Faulted D };

@@ -12,7 +12,7 @@ use Rattle.byteorder.specs.Endian.{big_bytes, big_number}
 use Rattle.byteorder.specs.Numbers.{big_number-reads_back}
 use Rattle.index_keys.specs.Entries.{Entry}
 use Rattle.tune_index.specs.Leaves.{leaf_in, value_bytes, value_in}
-use Rattle.tune_index.specs.Listed.{listed_bytes, numbers_in}
+use Rattle.tune_index.specs.ListedLeaves.{listed_bytes, numbers_in}
 use Rattle.tune_journal.specs.Image.{StandsFor, gate_of, count_of, new_count_of, log_of, pages_of}
 use Rattle.tune_journal.specs.Pages.{page_at, changed}
 use Rattle.tune_pages.specs.Chain.{Leads, bytes_along, next_of, piece_of}

@@ -2,7 +2,7 @@
 use Rattle.std.proofs.Common.{◌≡◌, ℕ, List, [], ◌∷◌, ◌++◌, length, refl, subst, sym, ap, zero, suc, codes, arith}
 use Rattle.std.specs.List.{Contains}
 use Rattle.byteorder.specs.Endian.{big_bytes}
-use Rattle.abc_items.specs.Rows as Rows
+use Rattle.abc_items.specs.ItemRows as Rows
 use Rattle.abc_keys.specs.Keys as Keys
 use Rattle.abc_keys.specs.ScaleTable as ScaleTable
 use Rattle.abc_notes.specs.Music as Music
@@ -11,7 +11,7 @@ use Rattle.index_keys.specs.Cuts.{cut_number}
 use Rattle.index_keys.specs.Entries.{Entry}
 use Rattle.index_keys.specs.Holdings.{HoldsEntries}
 use Rattle.tune_incipit.specs.Incipits as Incipits
-use Rattle.tune_incipit.specs.SearchKeys.{incipit_keys, scale_keys}
+use Rattle.tune_incipit.specs.ScaleAndIncipitKeys.{incipit_keys, scale_keys}
 use Rattle.tune_index.specs.Leaves as Leaves
 use Rattle.tune_pages.specs.Chain as Chain
 use Rattle.tune_parts.specs.Parts.{chain_part, leaf_part}
@@ -19,7 +19,7 @@ use Rattle.tune_search.specs.IndexParts.{IndexParts}
 use Rattle.tune_search.specs.Searches.{SearchParts}
 use Rattle.tune_store.specs.declared.layout.Layout.TheVariants.{One}
 use Rattle.tune_store.specs.declared.tune.Tune.{Tune}
-use Rattle.tune_titles.specs.SearchKeys.{rhythm_keys, title_keys}
+use Rattle.tune_titles.specs.TitleAndRhythmKeys.{rhythm_keys, title_keys}
 use Rattle.tune_format.specs.Filed.{Filed}
 use Rattle.tune_format.specs.Written.{number_key}
 

@@ -8,16 +8,16 @@ use Rattle.tune_format.specs.Filed.{Filed}
 use Rattle.tune_parts.specs.Parts.{Part, chain_part}
 use Rattle.tune_format.specs.States.{IsStateOf, StandsForState, state_of_pages, state_in}
 use Rattle.tune_format.specs.Searched.{IsSearchIndex}
-use Rattle.tune_format.specs.Layout.{most_pages_of, version_offset}
+use Rattle.tune_format.specs.RootOffsets.{most_pages_of, version_offset}
 use Rattle.tune_format.specs.Reading.{layout_in}
 use Rattle.tune_format.specs.Written.{IsRoot, no_firsts, number_at}
 use Rattle.tune_journal.specs.Pages.{page_at}
-use Rattle.tune_incipit.specs.SearchKeys.{incipit_keys, scale_keys}
+use Rattle.tune_incipit.specs.ScaleAndIncipitKeys.{incipit_keys, scale_keys}
 use Rattle.tune_search.specs.IndexParts.{HoldsIndex, IndexParts}
 use Rattle.tune_search.specs.Searches.{key_bytes}
 use Rattle.tune_store.specs.declared.layout.Layout.{Layout}
 use Rattle.tune_store.specs.declared.layout.Layout.TheVariants.{One, Two}
-use Rattle.tune_titles.specs.SearchKeys.{rhythm_keys, title_keys}
+use Rattle.tune_titles.specs.TitleAndRhythmKeys.{rhythm_keys, title_keys}
 use Rattle.tune_format.proofs.FileLemmas.{pages_read, tunes_filed, sets_filed}
 use Rattle.tune_format.proofs.TextLemmas.{none_held}
 

@@ -1,6 +1,6 @@
 pub mod Searched
 pub mod Filed
-pub mod Layout
+pub mod RootOffsets
 pub mod Reading
 pub mod States
 pub mod Written

@@ -5,9 +5,9 @@ use Rattle.std.specs.List.{flat_map}
 use Rattle.byteorder.specs.Endian.{big_number}
 use Rattle.index_keys.specs.Entries.{Entry}
 use Rattle.tune_index.specs.Leaves.{leaf_in}
-use Rattle.tune_index.specs.Listed.{numbers_in}
+use Rattle.tune_index.specs.ListedLeaves.{numbers_in}
 use Rattle.tune_journal.specs.Image.{gate_of, count_of, new_count_of, log_of, pages_of}
-use Rattle.tune_journal.specs.Layout.{gate_open}
+use Rattle.tune_journal.specs.FileOffsets.{gate_open}
 use Rattle.tune_journal.specs.Pages.{page_at, changed}
 use Rattle.tune_pages.specs.Chain.{next_of, piece_of}
 use Rattle.tune_search.specs.Searches.{key_bytes}
@@ -16,8 +16,8 @@ use Rattle.tune_store.specs.Limits.{layout_number}
 use Rattle.tune_store.specs.declared.layout.Layout.{Layout}
 use Rattle.tune_store.specs.declared.layout.Layout.TheVariants.{One, Two}
 use Rattle.tune_store.specs.declared.tune.Tune.{Tune}
-use Rattle.tune_format.specs.Layout.{numbers_offset, sets_offset, number_bytes, revision_bytes}
-use Rattle.tune_format.specs.Layout.{version_offset, zeros_of_key}
+use Rattle.tune_format.specs.RootOffsets.{numbers_offset, sets_offset, number_bytes, revision_bytes}
+use Rattle.tune_format.specs.RootOffsets.{version_offset, zeros_of_key}
 use Rattle.tune_format.specs.Written.{number_at}
 
 -- CHAINS

@@ -4,8 +4,8 @@ use Rattle.index_keys.specs.Entries.{Entry}
 use Rattle.index_keys.specs.Holdings.{HoldsEntries}
 use Rattle.tune_search.specs.IndexParts.{HoldsIndex, IndexParts}
 use Rattle.tune_search.specs.Searches.{SearchParts, key_bytes}
-use Rattle.tune_incipit.specs.SearchKeys.{incipit_keys, scale_keys}
-use Rattle.tune_titles.specs.SearchKeys.{rhythm_keys, title_keys}
+use Rattle.tune_incipit.specs.ScaleAndIncipitKeys.{incipit_keys, scale_keys}
+use Rattle.tune_titles.specs.TitleAndRhythmKeys.{rhythm_keys, title_keys}
 
 -- The parts of an index with keys of so many bytes hold exactly the entries of the tunes, each a
 -- number and a text.

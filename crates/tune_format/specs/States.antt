@@ -3,7 +3,7 @@ use Rattle.std.specs.Prelude.{ℕ, ◌≤◌, List, length}
 use Rattle.tune_journal.specs.Image.{StandsFor}
 use Rattle.tune_store.specs.State.{State, IsState}
 use Rattle.tune_format.specs.Filed.{Filed}
-use Rattle.tune_format.specs.Layout.{most_pages_of}
+use Rattle.tune_format.specs.RootOffsets.{most_pages_of}
 use Rattle.tune_format.specs.Reading.{layout_in, tunes_in, sets_in, pages_in}
 
 -- The pages stand for a state: they hold its tunes and its sets in its layout, and it is within

@@ -1,15 +1,16 @@
 -- What the pages of an archive hold, as bytes and as entries. Numbers have the highest byte first.
--- Layout.antt says where they stand.
+-- RootOffsets.antt says where they stand.
 use Rattle.std.specs.Prelude.{◌≡◌, ℕ, ◌-◌, ◌*◌, ◌^◌, List, ◌++◌, drop, map, replicate}
 use Rattle.byteorder.specs.Endian.{big_bytes, big_number}
 use Rattle.index_keys.specs.Entries.{Entry}
-use Rattle.tune_journal.specs.Layout.{block_bytes}
+use Rattle.tune_journal.specs.FileOffsets.{block_bytes}
 use Rattle.tune_store.specs.Limits.{layout_number}
 use Rattle.tune_store.specs.declared.layout.Layout.{Layout}
 use Rattle.tune_store.specs.declared.tune.Tune.{Tune}
-use Rattle.tune_format.specs.Layout.{version_offset, numbers_offset, titles_offset}
-use Rattle.tune_format.specs.Layout.{rhythms_offset, scales_offset, incipits_offset, sets_offset}
-use Rattle.tune_format.specs.Layout.{number_bytes, revision_bytes, zeros_of_key}
+use Rattle.tune_format.specs.RootOffsets.{version_offset, numbers_offset, titles_offset}
+use Rattle.tune_format.specs.RootOffsets.{rhythms_offset, scales_offset, incipits_offset}
+use Rattle.tune_format.specs.RootOffsets.{sets_offset}
+use Rattle.tune_format.specs.RootOffsets.{number_bytes, revision_bytes, zeros_of_key}
 use Rattle.tune_format.specs.declared.root.Firsts.{Firsts}
 use Rattle.tune_format.specs.declared.rows.Row.{Row}
 

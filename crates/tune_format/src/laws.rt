@@ -19,7 +19,7 @@ ghost use Rattle.tune_store.specs.declared.tune.Tune.{Tune};
 ghost use Rattle.tune_format.specs.Filed.{row_of, rows_of, HoldTunes, HoldsTuneAt, Filed};
 ghost use Rattle.tune_format.specs.Filed.{archive_parts, firsts_of, numbered_texts};
 ghost use Rattle.tune_format.specs.Searched.{AreSearchIndexes};
-ghost use Rattle.tune_format.specs.Layout.{most_pages_of};
+ghost use Rattle.tune_format.specs.RootOffsets.{most_pages_of};
 ghost use Rattle.tune_format.specs.Reading.{tunes_in, sets_in, pages_in};
 ghost use Rattle.tune_format.specs.States.{IsStateOf, StandsForState, state_of_pages};
 ghost use Rattle.tune_format.specs.States.{state_in};

@@ -1,11 +1,11 @@
 // The root of an archive.
 ghost use Rattle.std.specs.Prelude.{◌≡◌, ◌≢◌, ◌-◌, ◌≤◌, ◌++◌, length, replicate, IfSome, IfNone};
-ghost use Rattle.tune_format.specs.Layout.{most_pages_of, version_offset};
+ghost use Rattle.tune_format.specs.RootOffsets.{most_pages_of, version_offset};
 ghost use Rattle.tune_format.specs.Written.{IsRoot, head_of_root, number_at, root_bytes};
 ghost use Rattle.tune_store.specs.Limits.{layout_number};
 ghost use Rattle.tune_store.specs.declared.layout.Layout.{Layout};
 
-use crate::numbers::number_at;
+use crate::stored_numbers::number_at;
 use byteorder::{BigEndian, ByteOrder};
 use tune_journal::PageImage;
 use tune_search::SearchFirsts;

@@ -1,6 +1,6 @@
 -- Keys of tunes, computed by the definitions, as they were written out by hand.
 use Rattle.std.proofs.Common.{◌≡◌, List, ℕ, pos, negsuc, [], ◌∷◌, refl, codes}
-use Rattle.abc_items.specs.Rows as Rows
+use Rattle.abc_items.specs.ItemRows as Rows
 use Rattle.abc_keys.specs.declared.letters.Letter.TheVariants as letter
 use Rattle.abc_keys.specs.declared.scales.Mode.TheVariants as mode
 use Rattle.abc_keys.specs.declared.scales.Sign.TheVariants as sign
@@ -10,7 +10,7 @@ use Rattle.abc_notes.specs.Music as Music
 use Rattle.abc_notes.specs.Pitches as Pitches
 use Rattle.index_keys.specs.Cuts.{cut_number}
 use Rattle.tune_incipit.specs.Incipits as Incipits
-use Rattle.tune_incipit.specs.SearchKeys.{scale_key, scale_keys, incipit_keys, incipit_keys_of}
+use Rattle.tune_incipit.specs.ScaleAndIncipitKeys.{scale_key, scale_keys, incipit_keys, incipit_keys_of}
 
 -- the steps of the Kesh Jig: each with 2 ^ 31 in four bytes, and four zeros
 abbrev steps_key : ℕ

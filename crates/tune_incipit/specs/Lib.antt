@@ -1,5 +1,5 @@
 pub mod Limits
 pub mod Incipits
 pub mod Scales
-pub mod SearchKeys
+pub mod ScaleAndIncipitKeys
 pub mod Inside

@@ -4,8 +4,9 @@ ghost use Rattle.std.specs.Option.{option_to_list};
 ghost use Rattle.index_keys.specs.Cuts.{cut_number};
 ghost use Rattle.tune_incipit.specs.Incipits.{incipit_of, tune_notes, finds_steps};
 ghost use Rattle.tune_incipit.specs.Limits.{fewest_notes, most_notes};
-ghost use Rattle.tune_incipit.specs.SearchKeys.{step_bytes, bytes_of_steps, incipit_keys_of};
-ghost use Rattle.tune_incipit.specs.SearchKeys.{incipit_keys};
+ghost use Rattle.tune_incipit.specs.ScaleAndIncipitKeys.{step_bytes, bytes_of_steps};
+ghost use Rattle.tune_incipit.specs.ScaleAndIncipitKeys.{incipit_keys_of};
+ghost use Rattle.tune_incipit.specs.ScaleAndIncipitKeys.{incipit_keys};
 
 use crate::incipits::{begins, steps};
 use crate::some_steps::SomeSteps;
@@ -22,7 +23,7 @@ impl Keyed<32> for EightNoteKeys {
     ghost use Rattle.std.specs.Prelude.{ℕ};
     ghost use Rattle.index_keys.specs.Cuts.{cut_number};
     ghost use Rattle.tune_incipit.specs.Incipits.{incipit_of, tune_notes, finds_steps};
-    ghost use Rattle.tune_incipit.specs.SearchKeys.{bytes_of_steps, incipit_keys};
+    ghost use Rattle.tune_incipit.specs.ScaleAndIncipitKeys.{bytes_of_steps, incipit_keys};
     ghost use Rattle.tune_incipit.specs.Inside.KeyLaws.{incipit_rises, incipit_found};
 
     type Text = TuneText;
@@ -68,7 +69,7 @@ impl Keyed<48> for TwelveNoteKeys {
     ghost use Rattle.std.specs.Prelude.{ℕ};
     ghost use Rattle.index_keys.specs.Cuts.{cut_number};
     ghost use Rattle.tune_incipit.specs.Incipits.{incipit_of, tune_notes, finds_steps};
-    ghost use Rattle.tune_incipit.specs.SearchKeys.{bytes_of_steps, incipit_keys};
+    ghost use Rattle.tune_incipit.specs.ScaleAndIncipitKeys.{bytes_of_steps, incipit_keys};
     ghost use Rattle.tune_incipit.specs.Inside.KeyLaws.{incipit_rises, incipit_found};
 
     type Text = TuneText;

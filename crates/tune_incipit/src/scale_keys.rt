@@ -2,8 +2,9 @@
 ghost use Rattle.std.specs.Prelude.{◌≡◌, ◌∷◌, [], IfOk};
 ghost use Rattle.std.specs.Option.{option_to_list};
 ghost use Rattle.tune_incipit.specs.Scales.{scale_of_text};
-ghost use Rattle.tune_incipit.specs.SearchKeys.{scale_code, scale_key, scale_keys, scale_keys_of};
-ghost use Rattle.tune_incipit.specs.SearchKeys.{tonic_code, sign_code, mode_code};
+ghost use Rattle.tune_incipit.specs.ScaleAndIncipitKeys.{scale_code, scale_key, scale_keys};
+ghost use Rattle.tune_incipit.specs.ScaleAndIncipitKeys.{scale_keys_of};
+ghost use Rattle.tune_incipit.specs.ScaleAndIncipitKeys.{tonic_code, sign_code, mode_code};
 
 use crate::scales::is_in_scale;
 use abc_fields::{TuneText, fields};
@@ -18,7 +19,7 @@ pub enum ScaleKeys {}
 
 impl Keyed<32> for ScaleKeys {
     ghost use Rattle.tune_incipit.specs.Scales.{finds_scale};
-    ghost use Rattle.tune_incipit.specs.SearchKeys.{scale_key, scale_keys};
+    ghost use Rattle.tune_incipit.specs.ScaleAndIncipitKeys.{scale_key, scale_keys};
     ghost use Rattle.tune_incipit.specs.Inside.KeyLaws.{scales_rise, scale_found};
 
     type Text = TuneText;

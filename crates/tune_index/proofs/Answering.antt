@@ -3,7 +3,7 @@ use Rattle.std.proofs.Common.{◌≡◌, ◌∙◌, sym, subst, Bool, true, fals
 use Rattle.tune_pages.specs.Faults.{IsWorkFault}
 use Rattle.tune_pages.specs.declared.fault.Fault.{Fault}
 use Rattle.tune_pages.specs.declared.fault.Fault.TheVariants.{FileFull, OutOfMemory, Device, Closed}
-use Rattle.tune_index.specs.Faults.{IsChangeFault, IsEditFault}
+use Rattle.tune_index.specs.IndexAnswers.{IsChangeFault, IsEditFault}
 
 not_both_ways : (b : Bool) → b ≡ false → b ≡ true → ⊥
 not_both_ways b f t = let clash : false ≡ true = sym f ∙ t in let e = clash in cc

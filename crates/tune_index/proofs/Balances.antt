@@ -8,7 +8,7 @@ use Rattle.index_keys.specs.Entries.{Entry, RisesFrom, inserted, inserted_all, r
 use Rattle.index_keys.proofs.RisingEntries.{inserted_front, inserted_later, inserted_there}
 use Rattle.tune_index.specs.Indexes.{IsIndex, Shape, entries_of}
 use Rattle.tune_index.specs.Inside.LeafLists.{joined, leaves_of}
-use Rattle.tune_index.specs.Inside.Places.{AllBelow}
+use Rattle.tune_index.specs.Inside.EntryPlaces.{AllBelow}
 use Rattle.tune_index.specs.Leaves.{slice_entry}
 use Rattle.tune_index.proofs.LeafLists.{leaves_of_index, length-leaves}
 use Rattle.tune_index.proofs.Runs.{AllBegun, are_begun, inserted_all-append, run_middle}

@@ -7,7 +7,7 @@ use Rattle.index_keys.specs.Entries.{AllFit, Entry, IsRising}
 use Rattle.tune_index.specs.Indexes.{AllLeaves, HasPages, IsIndex, Shape, entries_of, heads_of}
 use Rattle.tune_index.specs.Inside.EachPage.{HasEachPage}
 use Rattle.tune_index.specs.Leaves.{IsLeaf, leaf_in, slice_entry}
-use Rattle.tune_index.specs.Listed.{HasList, LoadsIndex, StoresList, listed_bytes, shown}
+use Rattle.tune_index.specs.ListedLeaves.{HasList, LoadsIndex, StoresList, listed_bytes, shown}
 use Rattle.tune_index.proofs.EachPage.{all_of, each_of}
 use Rattle.tune_index.proofs.Puts.{leaves_within}
 

@@ -2,7 +2,7 @@
 use Rattle.std.proofs.Common.{◌≡◌, ℕ, ◌<◌, List, length, get_or, sym, subst, IsTrue, Bool, true, false}
 use Rattle.std.specs.List.{HoldsAt, insert, remove}
 use Rattle.index_keys.specs.Entries.{Entry, rank, IsRising, inserted, removed}
-use Rattle.tune_index.specs.Inside.Places.{IsPlace}
+use Rattle.tune_index.specs.Inside.EntryPlaces.{IsPlace}
 use Rattle.tune_index.proofs.Lists.{inserted-at, inserted-same, removed-at, removed-same}
 
 -- what is known of a list `es`, lent to the search as `s` and to the test as `t`, of the place `i` and of the test's answer `b`

@@ -2,7 +2,7 @@
 use Rattle.std.proofs.Common.{◌≡◌, ℕ, zero, suc, ◌+◌, ◌<◌, List, [], ◌∷◌, ◌++◌, length, get_or, refl, ap, ◌∙◌, arith}
 use Rattle.index_keys.specs.Entries.{Entry, rank, RisesFrom, inserted}
 use Rattle.index_keys.proofs.RisingEntries.{inserted_later, rises_at}
-use Rattle.tune_index.specs.Inside.Places.{AllBelow}
+use Rattle.tune_index.specs.Inside.EntryPlaces.{AllBelow}
 
 -- the last entry is below, so all are
 pub last_below : (low r : ℕ) (es : List Entry) (n : ℕ) (d : Entry) → RisesFrom low es → length es ≡ n + 1 → rank (get_or es n d) < r → AllBelow r es

@@ -4,7 +4,7 @@ use Rattle.std.proofs.lemmas.Bool.{cases_lt, cases_eq}
 use Rattle.std.specs.List.{insert, remove}
 use Rattle.index_keys.specs.Entries.{Entry, rank, RisesFrom, IsRising, inserted, removed}
 use Rattle.index_keys.proofs.RisingEntries.{inserted_front, inserted_later, inserted_there, removed_later, removed_there, rises_pair}
-use Rattle.tune_index.specs.Inside.Places.{IsPlace}
+use Rattle.tune_index.specs.Inside.EntryPlaces.{IsPlace}
 
 -- the place in the rest of a list
 place_tail : (r : ℕ) (x : Entry) (xs : List Entry) (i : ℕ) → IsPlace r (x ∷ xs) (suc i) → IsPlace r xs i

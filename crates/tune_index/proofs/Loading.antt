@@ -4,7 +4,7 @@ use Rattle.std.proofs.Common.{append_assoc, refl, sym, ap, ◌∙◌, subst, ari
 use Rattle.std.proofs.lemmas.List.{drop-drop, length-append, length-set}
 use Rattle.std.proofs.Math.Seq.{drop-append_seam}
 use Rattle.byteorder.specs.Numbers.{big_number-reads_back, length-bytes_high_first}
-use Rattle.tune_journal.specs.Layout.{block_bytes}
+use Rattle.tune_journal.specs.FileOffsets.{block_bytes}
 use Rattle.tune_journal.specs.Pages.{page_at}
 use Rattle.tune_pages.specs.Claim.{Claimable, IsClaimableWithin}
 use Rattle.tune_pages.specs.Faults.{pages_for}
@@ -20,7 +20,7 @@ use Rattle.index_keys.proofs.RisingEntries.{rises_front}
 use Rattle.tune_index.specs.Indexes.{AllLeaves, Shape, entries_of, heads_of}
 use Rattle.tune_index.specs.Inside.Loading.{LoadsLeaf}
 use Rattle.tune_index.specs.Leaves.{slice_entry, leaf_in, value_bytes, value_in, IsLeaf}
-use Rattle.tune_index.specs.Listed.{StoredIndex, IsStored, listed_bytes, numbers_in, shown}
+use Rattle.tune_index.specs.ListedLeaves.{StoredIndex, IsStored, listed_bytes, numbers_in, shown}
 use Rattle.tune_index.proofs.Puts.{leaves_within}
 use Rattle.tune_index.proofs.Storing.{length-listed}
 use Rattle.tune_index.proofs.Ranges.{entries_of-push}

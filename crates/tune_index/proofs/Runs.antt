@@ -12,7 +12,7 @@ use Rattle.index_keys.proofs.RisingEntries.{inserted_all_fit, inserted_all_rises
 use Rattle.index_keys.proofs.RisingEntries.{rises_front, rises_lower}
 use Rattle.tune_index.specs.Indexes.{AllLeaves, IsIndex, Shape, entries_of}
 use Rattle.tune_index.specs.Inside.LeafLists.{HasLeaves, joined, firsts, leaves_of}
-use Rattle.tune_index.specs.Inside.Places.{IsPlace, AllBelow}
+use Rattle.tune_index.specs.Inside.EntryPlaces.{IsPlace, AllBelow}
 use Rattle.tune_index.specs.Leaves.{slice_entry, leaf_in}
 use Rattle.tune_index.proofs.Lists.{inserted-before, removed-before}
 use Rattle.tune_index.proofs.Lists.{BeginsAfter}

@@ -6,7 +6,7 @@ use Rattle.tune_pages.specs.Frame.{TradesPages}
 use Rattle.tune_pages.specs.Stand.{Stand, HasChain, PutsChain, without_pages}
 use Rattle.tune_pages.proofs.Frames.{trades_none, trades_then, free_chain_trades, put_chain_trades, put_has}
 use Rattle.tune_index.specs.Leaves.{value_bytes}
-use Rattle.tune_index.specs.Listed.{StoresList, listed_bytes}
+use Rattle.tune_index.specs.ListedLeaves.{StoresList, listed_bytes}
 
 pub listed-push : (numbers : List ℕ) (number : ℕ) → listed_bytes (numbers ++ number ∷ []) ≡ listed_bytes numbers ++ value_bytes number
 listed-push [] number = append-nil (value_bytes number)

@@ -1,4 +1,4 @@
-pub mod Places
+pub mod EntryPlaces
 pub mod LeafLists
 pub mod EachPage
 pub mod Loading

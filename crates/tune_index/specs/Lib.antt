@@ -1,5 +1,5 @@
 pub mod Leaves
 pub mod Indexes
-pub mod Listed
-pub mod Faults
+pub mod ListedLeaves
+pub mod IndexAnswers
 pub mod Inside

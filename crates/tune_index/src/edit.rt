@@ -6,7 +6,7 @@ ghost use Rattle.tune_pages.specs.Faults.{free_pages};
 ghost use Rattle.tune_pages.specs.Frame.{InUse, Puts, TradesPages, image_at};
 ghost use Rattle.tune_pages.specs.Work.{stand, Fits};
 ghost use Rattle.index_keys.specs.Entries.{Entry};
-ghost use Rattle.tune_index.specs.Faults.{AnswersChange};
+ghost use Rattle.tune_index.specs.IndexAnswers.{AnswersChange};
 ghost use Rattle.tune_index.specs.Indexes.{HasPages, KeepsBalance, KeepsList};
 ghost use Rattle.tune_index.specs.Inside.LeafLists.{HasLeaves, joined};
 ghost use Rattle.tune_index.specs.Leaves.{IsLeaf, capacity, leaf_in, slice_entry};

@@ -2,7 +2,7 @@
 ghost use Rattle.std.specs.Prelude.{◌≡◌, ◌≤◌, ◌<◌, ◌++◌, [], ◌∷◌, length, IfErr, IfOk, OnOk, true};
 ghost use Rattle.std.specs.Prelude.{slice_index, vec_capacity, vec_len, ◌+◌};
 ghost use Rattle.index_keys.specs.Entries.{IsRising};
-ghost use Rattle.tune_index.specs.Inside.Places.{BelongsTo};
+ghost use Rattle.tune_index.specs.Inside.EntryPlaces.{BelongsTo};
 
 use crate::leaf::Leaf;
 use crate::search::{is_at, place_of};

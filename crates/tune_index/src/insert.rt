@@ -4,21 +4,21 @@ ghost use Rattle.std.specs.Prelude.{IfOk, OnOk, slice_index, slice_index_or, tak
 ghost use Rattle.tune_pages.specs.Faults.{free_pages};
 ghost use Rattle.tune_pages.specs.Frame.{InUse, TradesPages};
 ghost use Rattle.tune_pages.specs.Kept.{HonestAt};
-ghost use Rattle.tune_pages.specs.Reading.{LooksAt};
+ghost use Rattle.tune_pages.specs.PageLooks.{LooksAt};
 ghost use Rattle.tune_pages.specs.Work.{stand, Fits};
 ghost use Rattle.index_keys.specs.Entries.{AllFit, Entry, FitsLeaf, IsRising, inserted};
 ghost use Rattle.index_keys.specs.Entries.{inserted_all, rank, removed};
-ghost use Rattle.tune_index.specs.Faults.{AnswersChange, AnswersEdit};
+ghost use Rattle.tune_index.specs.IndexAnswers.{AnswersChange, AnswersEdit};
 ghost use Rattle.tune_index.specs.Indexes.{AllLeaves, HasPages, IsIndex, KeepsBalance, KeepsList};
 ghost use Rattle.tune_index.specs.Indexes.{entries_of};
 ghost use Rattle.tune_index.specs.Inside.LeafLists.{HasLeaves, joined};
-ghost use Rattle.tune_index.specs.Inside.Places.{AllBelow, BelongsTo};
+ghost use Rattle.tune_index.specs.Inside.EntryPlaces.{AllBelow, BelongsTo};
 ghost use Rattle.tune_index.specs.Leaves.{capacity, slice_entry};
 
+use crate::candidates::read_page_leaf;
 use crate::edit::{add_leaf, drop_leaf, set_leaf, spread};
 use crate::index::{Index, leaf_count, leaf_for, leaf_page};
 use crate::leaf::{Leaf, capacity_of};
-use crate::reading::read_page_leaf;
 use crate::search::{insert_in, place_of, remove_in};
 use index_keys::IndexKey;
 use std::alloc::{AllocError, Global};

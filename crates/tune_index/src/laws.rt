@@ -4,7 +4,7 @@ ghost use Rattle.tune_pages.specs.Frame.{AllApart, TradesPages};
 ghost use Rattle.tune_pages.specs.Stand.{AllUsed, Stand};
 ghost use Rattle.index_keys.specs.Entries.{Entry};
 ghost use Rattle.tune_index.specs.Indexes.{HasPages, IsIndex, Shape, entries_of};
-ghost use Rattle.tune_index.specs.Listed.{HasList, LoadsIndex, StoresList};
+ghost use Rattle.tune_index.specs.ListedLeaves.{HasList, LoadsIndex, StoresList};
 
 /// The laws of indexes. They speak of pages as a work stands for them (`Stand`), and of what
 /// contracts see of an index (`Shape`).

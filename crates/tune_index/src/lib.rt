@@ -5,15 +5,15 @@
 //! so by an `AllocError`.
 #![tactic(auto)]
 
+mod candidates;
 mod edit;
 mod index;
 mod insert;
 mod laws;
 mod leaf;
+mod listed_leaves;
 mod load;
-mod reading;
 mod search;
-mod store;
 
 pub use index::Index;
 pub use index_keys::{IndexKey, Keyed};

@@ -7,7 +7,7 @@ ghost use Rattle.tune_pages.specs.Stand.{IsFree};
 ghost use Rattle.index_keys.specs.Entries.{IsRising};
 ghost use Rattle.tune_index.specs.Inside.Loading.{LoadsLeaf};
 ghost use Rattle.tune_index.specs.Leaves.{slice_entry, leaf_in, value_in, IsLeaf};
-ghost use Rattle.tune_index.specs.Listed.{IsStored, LoadsIndex, listed_bytes, numbers_in};
+ghost use Rattle.tune_index.specs.ListedLeaves.{IsStored, LoadsIndex, listed_bytes, numbers_in};
 
 use crate::index::Index;
 use crate::leaf::{Leaf, capacity_of, read_leaf, read_value};

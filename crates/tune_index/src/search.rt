@@ -2,7 +2,7 @@
 ghost use Rattle.std.specs.Prelude.{◌≡◌, ◌≤◌, ◌+◌, ◌<◌, length, OnOk, IsTrue, false};
 ghost use Rattle.std.specs.List.{HoldsAt};
 ghost use Rattle.index_keys.specs.Entries.{IsRising, inserted, rank, removed};
-ghost use Rattle.tune_index.specs.Inside.Places.{AllBelow, IsPlace};
+ghost use Rattle.tune_index.specs.Inside.EntryPlaces.{AllBelow, IsPlace};
 
 use crate::leaf::Leaf;
 use index_keys::IndexKey;

@@ -11,7 +11,7 @@ use Rattle.tune_disk.proofs.Moments.{since_weaker}
 use Rattle.tune_journal.specs.ChangeList.{image_of}
 use Rattle.tune_journal.specs.Image.{StandsFor, gate_of}
 use Rattle.tune_journal.specs.Inside.ChangeOrder.{AreAbove, PagesRise}
-use Rattle.tune_journal.specs.Layout.{gate_open}
+use Rattle.tune_journal.specs.FileOffsets.{gate_open}
 use Rattle.tune_journal.specs.Moments.{LeftOrSame}
 use Rattle.tune_journal.specs.Pages.{page_at, changed, pages_after}
 use Rattle.tune_journal.proofs.ChangeLists.{rises_from_increasing, image_of_none}

@@ -12,8 +12,8 @@ use Rattle.tune_journal.specs.Image.{window, number, entry_offset, pages_of, ent
 use Rattle.tune_journal.specs.Image.{HasLog, entry_count_of}
 use Rattle.tune_journal.specs.Inside.Phases.{KeepsBoth, IsNoLog, IsOutside, HoldsEntries, HoldsDescriptor, Settles}
 use Rattle.tune_journal.specs.Inside.Rest.{IsAtRest, IsLogged, IsOpened, IsApplied}
-use Rattle.tune_journal.specs.Layout.{block_bytes, gate_offset, gate_open, gate_closed, descriptor_offset, entry_count_offset, count_offset, entry_bytes}
-use Rattle.tune_journal.specs.Layout.{most_pages}
+use Rattle.tune_journal.specs.FileOffsets.{block_bytes, gate_offset, gate_open, gate_closed, descriptor_offset, entry_count_offset, count_offset, entry_bytes}
+use Rattle.tune_journal.specs.FileOffsets.{most_pages}
 use Rattle.tune_journal.specs.Pages.{changed, NamesAll}
 use Rattle.tune_journal.proofs.Windows.{front_window, back_window}
 use Rattle.tune_journal.proofs.Changed.{Unnamed, changed_same, changed-changed}

@@ -11,7 +11,7 @@ use Rattle.tune_disk.proofs.Writes.{written_long}
 use Rattle.tune_journal.specs.Image.{window, number, page_offset, entry_offset, pages_of, entries, gate_of, IsLog, IsHeaded}
 use Rattle.tune_journal.specs.Image.{HasPageCount, HasLog}
 use Rattle.tune_journal.specs.Inside.Phases.{IsOutside}
-use Rattle.tune_journal.specs.Layout.{block_bytes, gate_offset, pages_offset, entry_bytes}
+use Rattle.tune_journal.specs.FileOffsets.{block_bytes, gate_offset, pages_offset, entry_bytes}
 use Rattle.tune_journal.proofs.Windows.{same_window, shows_window, length-window}
 
 -- Numbers.

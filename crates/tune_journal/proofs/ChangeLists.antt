@@ -13,8 +13,8 @@ use Rattle.tune_journal.specs.declared.changes.ChangedPage.{ChangedPage}
 use Rattle.tune_journal.specs.declared.changes.PageImage.{PageImage}
 use Rattle.tune_journal.specs.ChangeList.{with_change, image_of, change_at, changed_page}
 use Rattle.tune_journal.specs.Inside.ChangeOrder.{IsChangeList, AreBelow, AreAbove, PagesRise, FoundAt, MissingAt}
-use Rattle.tune_journal.specs.Inside.Listed.{image_in, change_in, listed}
-use Rattle.tune_journal.specs.Layout.{block_bytes}
+use Rattle.tune_journal.specs.Inside.ListedChanges.{image_in, change_in, listed}
+use Rattle.tune_journal.specs.FileOffsets.{block_bytes}
 
 abbrev pub Change : Type 0
 Change = ℕ × List ℕ

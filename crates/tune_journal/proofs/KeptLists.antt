@@ -9,8 +9,8 @@ use Rattle.tune_journal.specs.declared.changes.Kept.TheVariants.{Start, Whole}
 use Rattle.tune_journal.specs.declared.changes.PageImage.{PageImage}
 use Rattle.tune_journal.specs.ChangeList.{with_change}
 use Rattle.tune_journal.specs.Inside.ChangeOrder.{AreAbove, PagesRise, FoundAt, MissingAt}
-use Rattle.tune_journal.specs.Inside.Listed.{wholes, image_in, change_in, listed, HasPlace, HavePlaces, start_in, starts, IsKept}
-use Rattle.tune_journal.specs.Layout.{block_bytes}
+use Rattle.tune_journal.specs.Inside.ListedChanges.{wholes, image_in, change_in, listed, HasPlace, HavePlaces, start_in, starts, HoldsChanges}
+use Rattle.tune_journal.specs.FileOffsets.{block_bytes}
 use Rattle.tune_journal.proofs.ChangeLists.{Change, with_change_found, with_change_missing, in_listed, change_there, listed_inserted}
 use Rattle.tune_journal.proofs.ChangeLists.{found_inserted, keeps_order}
 
@@ -124,7 +124,7 @@ length-inserted [] (suc at) new = omega arith
 length-inserted (c ∷ cs) (suc at) new = (let rest = length-inserted cs at new in omega (arith, rest))
 
 -- WHAT KEEPS A LIST OF CHANGES
-pub kept_in : (w : List PageImage) (items : List ChangedPage) (less room : ℕ) → IsKept w items less → less ≤ room → IsKept w items room
+pub kept_in : (w : List PageImage) (items : List ChangedPage) (less room : ℕ) → HoldsChanges w items less → less ≤ room → HoldsChanges w items room
 kept_in w items less room kept le = record {
   pages = kept.pages;
   order = kept.order;
@@ -135,7 +135,8 @@ kept_in w items less room kept le = record {
 }
 
 -- the change at a place
-module _ (w : List PageImage) (items : List ChangedPage) (room : ℕ) (kept : IsKept w items room) (at : ℕ) (x : ChangedPage) (is : x ≡ get_or items at x) where
+module _ (w : List PageImage) (items : List ChangedPage) (room : ℕ) (kept : HoldsChanges w items room)
+    (at : ℕ) (x : ChangedPage) (is : x ≡ get_or items at x) where
   pub place_in : (k : ℕ) → at < length items → x.kept ≡ Whole k → k < length w
   place_in k within whole =
       let has : HasPlace kept.pages x.page (Whole k) =
@@ -158,7 +159,7 @@ module _ (w : List PageImage) (items : List ChangedPage) (room : ℕ) (kept : Is
         listed_set kept.pages w k i page at items x kept.places (has.1 ∙ its) (place_in k within whole) kept.order.rising found is whole
         ∙ sym (with_change_found page at i.bytes (listed w items) found)
 
-    pub set_kept : (k : ℕ) → x.kept ≡ Whole k → IsKept (set w k i) items room
+    pub set_kept : (k : ℕ) → x.kept ≡ Whole k → HoldsChanges (set w k i) items room
     set_kept k whole = record {
       pages = kept.pages;
       order = keeps_order page i.bytes (listed w items) (listed (set w k i) items) (set_listed k whole) size kept.order;
@@ -191,7 +192,7 @@ module _ (w : List PageImage) (items : List ChangedPage) (room : ℕ) (kept : Is
       pub room_left : length w < room
       room_left = omega (arith, fewer, kept.count, kept.fits)
 
-      pub whole_kept : IsKept (w ++ i ∷ []) (set items at new) room
+      pub whole_kept : HoldsChanges (w ++ i ∷ []) (set items at new) room
       whole_kept = record {
         pages = kept.pages ++ page ∷ [];
         order = keeps_order page i.bytes (listed w items) (listed (w ++ i ∷ []) (set items at new)) whole_listed size kept.order;
@@ -207,8 +208,8 @@ module _ (w : List PageImage) (items : List ChangedPage) (room : ℕ) (kept : Is
               (subst (HasPlace (kept.pages ++ page ∷ []) page) (sym whole) (place_last kept.pages page (length w) kept.marks))
 
 -- a change that is added by its first bytes
-module _ (w : List PageImage) (items : List ChangedPage) (room : ℕ) (kept : IsKept w items room) (page at : ℕ) (missing : MissingAt page at (listed w items))
-    (new : ChangedPage) (same : new.page ≡ page) (image : List ℕ) (holds : image_in w new.kept ≡ image) where
+module _ (w : List PageImage) (items : List ChangedPage) (room : ℕ) (kept : HoldsChanges w items room)
+    (page at : ℕ) (missing : MissingAt page at (listed w items)) (new : ChangedPage) (same : new.page ≡ page) (image : List ℕ) (holds : image_in w new.kept ≡ image) where
   pub added_listed : listed w (insert items at new) ≡ with_change page image (listed w items)
   added_listed =
       listed_inserted w at items new (subst (λ (p : ℕ). MissingAt p at (listed w items)) (sym same) missing)
@@ -221,7 +222,7 @@ module _ (w : List PageImage) (items : List ChangedPage) (room : ℕ) (kept : Is
       (found_inserted page at image (listed w items) missing)
 
   pub added_kept : (more : ℕ) → length items < more → start_in new.kept ≡ 1 → HasPlace kept.pages new.page new.kept → length image ≡ block_bytes
-      → IsKept w (insert items at new) more
+      → HoldsChanges w (insert items at new) more
   added_kept more fits one has size = record {
     pages = kept.pages;
     order = keeps_order page image (listed w items) (listed w (insert items at new)) added_listed size kept.order;

@@ -12,7 +12,7 @@ use Rattle.tune_disk.proofs.Writes.{written_long}
 use Rattle.tune_journal.specs.ChangeList.{change_at}
 use Rattle.tune_journal.specs.Image.{window, pages_of, page_offset}
 use Rattle.tune_journal.specs.Inside.Phases.{HoldsEntries, IsInNoPage, IsNoLog, IsOutside}
-use Rattle.tune_journal.specs.Layout.{block_bytes, descriptor_offset, entry_bytes}
+use Rattle.tune_journal.specs.FileOffsets.{block_bytes, descriptor_offset, entry_bytes}
 use Rattle.tune_journal.specs.Pages.{changed}
 use Rattle.tune_journal.proofs.Windows.{written_window, written_other}
 

@@ -11,10 +11,11 @@ use Rattle.tune_disk.proofs.Moments.{since_same, since_then}
 use Rattle.tune_disk.proofs.Writes.{written_long}
 use Rattle.tune_disk.specs.Inside.Overwrites.{length_after_some}
 use Rattle.tune_journal.specs.Image.{window, gate_of, count_of, pages_of, HasPageCount, StandsFor, StandsForNone}
-use Rattle.tune_journal.specs.Inside.Laying.{IsCleared, IsLaid}
+use Rattle.tune_journal.specs.Inside.LaidFile.{IsCleared, IsLaid}
 use Rattle.tune_journal.specs.Inside.Phases.{IsOutside, Settles}
 use Rattle.tune_journal.specs.Inside.Rest.{IsAtRest}
-use Rattle.tune_journal.specs.Layout.{magic, block_bytes, magic_offset, magic_bytes, gate_offset, descriptor_offset, count_offset, pages_offset, least_length}
+use Rattle.tune_journal.specs.FileOffsets.{magic, block_bytes, magic_offset, magic_bytes, gate_offset, descriptor_offset, count_offset, pages_offset}
+use Rattle.tune_journal.specs.FileOffsets.{least_length}
 use Rattle.tune_journal.specs.Making.{StandsForNoneOr}
 use Rattle.tune_journal.proofs.Windows.{get_or-window, written_window, written_other}
 use Rattle.tune_journal.proofs.Agreeing.{agree_number, agree_pages_of, pages_of_at, length-pages_of, number_is}

@@ -7,7 +7,7 @@ use Rattle.tune_journal.specs.Image.{StandsFor, StandsForEither, IsHeaded, HasPa
 use Rattle.tune_journal.specs.Image.{new_count_of}
 use Rattle.tune_journal.specs.Inside.Looking.{IsSyncedOrSame, HasEntries, Climbs, Sees, IsBounded}
 use Rattle.tune_journal.specs.Inside.Rest.{IsAtRest, IsOpened}
-use Rattle.tune_journal.specs.Layout.{gate_open}
+use Rattle.tune_journal.specs.FileOffsets.{gate_open}
 use Rattle.tune_journal.specs.Moments.{KeepsEither, LeftOrSame}
 use Rattle.tune_journal.specs.Pages.{changed}
 use Rattle.tune_journal.specs.Refusal.{IsSynced}

@@ -5,7 +5,7 @@ use Rattle.tune_disk.specs.Stops.{SinceThen}
 use Rattle.tune_journal.specs.Image.{StandsFor, StandsForEither, pages_of, log_of}
 use Rattle.tune_journal.specs.Inside.Phases.{WritesAndSyncs, IsNoLog, IsOutside}
 use Rattle.tune_journal.specs.Inside.Rest.{IsAtRest, IsLogged, IsApplied}
-use Rattle.tune_journal.specs.Layout.{gate_offset}
+use Rattle.tune_journal.specs.FileOffsets.{gate_offset}
 use Rattle.tune_journal.specs.Pages.{changed}
 use Rattle.tune_journal.proofs.CallRuns.{run_since}
 use Rattle.tune_journal.proofs.Standing.{stands_logging, stands_opening, stands_closing}

@@ -10,7 +10,7 @@ use Rattle.tune_journal.specs.ChangeList.{change_at}
 use Rattle.tune_journal.specs.Image.{window, number, page_offset, entry_offset, pages_of, entries, IsLog, HasLog, entry_count_of}
 use Rattle.tune_journal.specs.Inside.Looking.{HasEntries, HasEntry, Climbs, least_of}
 use Rattle.tune_journal.specs.Inside.Phases.{IsInNoPage}
-use Rattle.tune_journal.specs.Layout.{block_bytes, entry_count_offset, least_length, most_pages}
+use Rattle.tune_journal.specs.FileOffsets.{block_bytes, entry_count_offset, least_length, most_pages}
 use Rattle.tune_journal.specs.Pages.{changed}
 use Rattle.tune_journal.proofs.Windows.{length-window}
 use Rattle.tune_journal.proofs.Loops.{image_more, changed-push, outside_page}

@@ -7,7 +7,7 @@ use Rattle.tune_disk.proofs.Moments.{settled_leaves}
 use Rattle.tune_journal.specs.Image.{StandsFor, pages_of, log_of, entries, entry_count_of}
 use Rattle.tune_journal.specs.Inside.Phases.{KeepsBoth, IsOutside}
 use Rattle.tune_journal.specs.Inside.Rest.{IsAtRest, IsOpened, IsApplied}
-use Rattle.tune_journal.specs.Layout.{gate_offset}
+use Rattle.tune_journal.specs.FileOffsets.{gate_offset}
 use Rattle.tune_journal.specs.Pages.{changed}
 use Rattle.tune_journal.proofs.Standing.{stands_closed, stands_applying, stands_closing, log_same}
 

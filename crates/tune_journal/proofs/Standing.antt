@@ -9,7 +9,7 @@ use Rattle.tune_journal.specs.Image.{page_offset, entry_offset, pages_of, entrie
 use Rattle.tune_journal.specs.Image.{HasPageCount, HasLog, StandsFor, StandsForEither, entry_count_of}
 use Rattle.tune_journal.specs.Inside.Phases.{KeepsBoth, IsNoLog, IsOutside, IsInNoPage}
 use Rattle.tune_journal.specs.Inside.Rest.{IsAtRest, IsLogged, IsOpened, IsApplied}
-use Rattle.tune_journal.specs.Layout.{block_bytes, gate_offset, gate_open, descriptor_offset, entry_count_offset, count_offset, pages_offset}
+use Rattle.tune_journal.specs.FileOffsets.{block_bytes, gate_offset, gate_open, descriptor_offset, entry_count_offset, count_offset, pages_offset}
 use Rattle.tune_journal.specs.Pages.{changed}
 use Rattle.tune_journal.proofs.Changed.{Unnamed, changed_same}
 use Rattle.tune_journal.proofs.Agreeing.{agree_number, agree_page, length-pages_of, agree_pages_of, agree_entries, agree_headed, agree_count, agree_gate}

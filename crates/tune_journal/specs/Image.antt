@@ -1,13 +1,14 @@
--- This archive's file format: which list of pages a file stands for. Layout.antt says where its
--- parts stand. Numbers have four bytes, the highest first.
+-- This archive's file format: which list of pages a file stands for. FileOffsets.antt says where
+-- its parts stand. Numbers have four bytes, the highest first.
 use Rattle.std.specs.Prelude.{◌≡◌, ◌≢◌, ◌⊎◌, ℕ, ◌+◌, ◌*◌, ◌<◌, ◌≤◌, List, length, take, drop, map}
 use Rattle.std.specs.Prelude.{slice_index, All}
 use Rattle.byteorder.specs.Endian.{big_number}
 use Rattle.std.specs.List.{range_with_len}
-use Rattle.tune_journal.specs.Layout.{block_bytes, magic, magic_offset, magic_bytes, gate_offset}
-use Rattle.tune_journal.specs.Layout.{gate_open, descriptor_offset, entry_count_offset}
-use Rattle.tune_journal.specs.Layout.{count_offset, pages_offset, entry_bytes, least_length}
-use Rattle.tune_journal.specs.Layout.{most_pages}
+use Rattle.tune_journal.specs.FileOffsets.{block_bytes, magic, magic_offset, magic_bytes}
+use Rattle.tune_journal.specs.FileOffsets.{gate_offset}
+use Rattle.tune_journal.specs.FileOffsets.{gate_open, descriptor_offset, entry_count_offset}
+use Rattle.tune_journal.specs.FileOffsets.{count_offset, pages_offset, entry_bytes, least_length}
+use Rattle.tune_journal.specs.FileOffsets.{most_pages}
 use Rattle.tune_journal.specs.Pages.{changed}
 use Rattle.std.specs.List.Sorted.{IsStrictlyIncreasing}
 

@@ -1,6 +1,6 @@
 pub mod ChangeOrder
-pub mod Laying
-pub mod Listed
+pub mod LaidFile
+pub mod ListedChanges
 pub mod Looking
 pub mod Phases
 pub mod Rest

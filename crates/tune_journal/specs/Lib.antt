@@ -1,8 +1,8 @@
 pub mod ChangeList
+pub mod FileOffsets
 pub mod Held
 pub mod Image
 pub mod Inside
-pub mod Layout
 pub mod Making
 pub mod Moments
 pub mod Pages

@@ -2,7 +2,7 @@
 use Rattle.std.specs.Prelude.{◌≡◌, ◌≢◌, ℕ, ◌<◌, ◌≤◌, length}
 use Rattle.tune_disk.specs.Disk.{DiskState, GoesTo, settled, CountsUp}
 use Rattle.tune_journal.specs.Image.{StandsForNone, magic_of}
-use Rattle.tune_journal.specs.Layout.{magic, magic_bytes}
+use Rattle.tune_journal.specs.FileOffsets.{magic, magic_bytes}
 use Rattle.tune_journal.specs.declared.open_fault.OpenFault.{OpenFault}
 use Rattle.tune_journal.specs.declared.open_fault.OpenFault.TheVariants.{NotArchive, Damaged}
 use Rattle.tune_journal.specs.declared.open_fault.OpenFault.TheVariants.{NotEmpty, OutOfMemory}

@@ -5,8 +5,8 @@ ghost use Rattle.std.specs.Prelude.{IfOk, IfErr, All, option_map};
 ghost use Rattle.std.specs.List.Sorted.{IsStrictlyIncreasing};
 ghost use Rattle.tune_journal.specs.ChangeList.{with_change, image_of, change_at, changed_page};
 ghost use Rattle.tune_journal.specs.Inside.ChangeOrder.{FoundAt, MissingAt};
-ghost use Rattle.tune_journal.specs.Inside.Listed.{padded};
-ghost use Rattle.tune_journal.specs.Layout.{block_bytes};
+ghost use Rattle.tune_journal.specs.Inside.ListedChanges.{padded};
+ghost use Rattle.tune_journal.specs.FileOffsets.{block_bytes};
 
 use std::alloc::{AllocError, Global};
 use std::collections::VecDeque;
@@ -61,13 +61,13 @@ pub struct Changes {
 
 impl Model for Changes {
     ghost use Rattle.std.specs.Prelude.{ℕ, List, vec_capacity};
-    ghost use Rattle.tune_journal.specs.Inside.Listed.{listed, IsKept};
+    ghost use Rattle.tune_journal.specs.Inside.ListedChanges.{listed, HoldsChanges};
 
     ghost Value = { List (ℕ × List ℕ) };
 
     ghost view = { λ c. listed c.whole.items c.changed.items };
 
-    ghost invariant = { λ c. IsKept c.whole.items c.changed.items (vec_capacity c.whole) };
+    ghost invariant = { λ c. HoldsChanges c.whole.items c.changed.items (vec_capacity c.whole) };
 }
 
 impl Changes {

@@ -8,11 +8,13 @@ ghost use Rattle.tune_journal.specs.Image.{pages_of};
 ghost use Rattle.tune_journal.specs.Inside.Phases.{log_entry, WritesAndSyncs, IsNoLog, IsOutside};
 ghost use Rattle.tune_journal.specs.Inside.Phases.{IsInNoPage, HoldsEntries, HoldsDescriptor};
 ghost use Rattle.tune_journal.specs.Inside.Phases.{KeepsBoth};
-ghost use Rattle.tune_journal.specs.Layout.{block_bytes, entry_bytes, most_pages};
+ghost use Rattle.tune_journal.specs.FileOffsets.{block_bytes, entry_bytes, most_pages};
 ghost use Rattle.tune_journal.specs.Pages.{changed};
 
 use crate::changes::{Changes, PageImage};
-use crate::layout::{COUNT_OFFSET, DESCRIPTOR_OFFSET, ENTRY_BYTES, number_bytes, page_offset};
+use crate::file_offsets::{
+    COUNT_OFFSET, DESCRIPTOR_OFFSET, ENTRY_BYTES, number_bytes, page_offset,
+};
 use tune_disk::{DeviceFault, Disk};
 
 /// An entry of the log.

@@ -4,13 +4,13 @@ ghost use Rattle.tune_disk.specs.Disk.{Calls, Looks};
 ghost use Rattle.tune_disk.specs.Stops.{SinceThen};
 ghost use Rattle.tune_journal.specs.Held.{disk_of, disk_of_log};
 ghost use Rattle.tune_journal.specs.Image.{StandsFor, StandsForEither, gate_of};
-ghost use Rattle.tune_journal.specs.Layout.{block_bytes, gate_closed, most_pages};
+ghost use Rattle.tune_journal.specs.FileOffsets.{block_bytes, gate_closed, most_pages};
 ghost use Rattle.tune_journal.specs.Moments.{LeavesPages};
 ghost use Rattle.tune_journal.specs.Pages.{NamesAll, page_at, pages_after};
 
 use crate::changes::{Changes, PageImage};
 use crate::commit::write_log;
-use crate::layout::page_offset;
+use crate::file_offsets::page_offset;
 use crate::open_fault::Broken;
 use crate::states::Logged;
 use std::marker::Model;

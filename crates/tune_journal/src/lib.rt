@@ -8,8 +8,8 @@
 
 mod changes;
 mod commit;
+mod file_offsets;
 mod journal;
-mod layout;
 mod look;
 mod make;
 mod open;

@@ -4,11 +4,11 @@ ghost use Rattle.tune_disk.specs.Disk.{Calls, Looks};
 ghost use Rattle.tune_journal.specs.Image.{window, number, entry_offset, gate_of, magic_of};
 ghost use Rattle.tune_journal.specs.Inside.Looking.{Climbs, IsSyncedOrSame, Sees, SeesOpen};
 ghost use Rattle.tune_journal.specs.Inside.Looking.{SeesClosed, IsBounded};
-ghost use Rattle.tune_journal.specs.Layout.{magic, magic_offset, magic_bytes, gate_open};
-ghost use Rattle.tune_journal.specs.Layout.{least_length, most_pages};
+ghost use Rattle.tune_journal.specs.FileOffsets.{magic, magic_offset, magic_bytes, gate_open};
+ghost use Rattle.tune_journal.specs.FileOffsets.{least_length, most_pages};
 ghost use Rattle.tune_journal.specs.Refusal.{IsSynced};
 
-use crate::layout::{
+use crate::file_offsets::{
     COUNT_OFFSET, DESCRIPTOR_OFFSET, ENTRY_COUNT_OFFSET, GATE_OFFSET, GATE_OPEN, LEAST_LENGTH,
     MAGIC, MAGIC_OFFSET, MOST_PAGES, entry_offset, page_offset,
 };

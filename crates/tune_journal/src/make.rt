@@ -4,21 +4,21 @@ ghost use Rattle.tune_disk.specs.Disk.{Calls, settled};
 ghost use Rattle.tune_disk.specs.Stops.{LeavesOnly, SinceThen};
 ghost use Rattle.tune_journal.specs.Held.{disk_of_opening};
 ghost use Rattle.tune_journal.specs.Image.{StandsFor, pages_of, StandsForNone};
-ghost use Rattle.tune_journal.specs.Inside.Laying.{IsCleared, IsLaid};
+ghost use Rattle.tune_journal.specs.Inside.LaidFile.{IsCleared, IsLaid};
 ghost use Rattle.tune_journal.specs.Inside.Phases.{WritesAndSyncs};
 ghost use Rattle.tune_journal.specs.Inside.Rest.{IsAtRest};
-ghost use Rattle.tune_journal.specs.Layout.{block_bytes};
+ghost use Rattle.tune_journal.specs.FileOffsets.{block_bytes};
 ghost use Rattle.tune_journal.specs.Making.{IsEmptyFile, StandsForNoneOr};
 ghost use Rattle.tune_journal.specs.Moments.{LeavesPages};
 ghost use Rattle.tune_journal.specs.Refusal.{IsUnmadeFor, IsMakeReason, CountsFailureIf};
 
 use crate::changes::PageImage;
 use crate::commit::write_synced;
-use crate::journal::Journal;
-use crate::layout::{
+use crate::file_offsets::{
     BLOCK_BYTES, COUNT_OFFSET, DESCRIPTOR_OFFSET, GATE_OFFSET, MAGIC, MAGIC_OFFSET, PAGES_OFFSET,
     number_bytes,
 };
+use crate::journal::Journal;
 use crate::look::settle;
 use crate::open_fault::{OpenFault, Refused, hand_back};
 use tune_disk::{DeviceFault, Disk};

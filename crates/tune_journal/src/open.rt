@@ -4,7 +4,7 @@ ghost use Rattle.tune_disk.specs.Stops.{SinceThen};
 ghost use Rattle.tune_journal.specs.Held.{disk_of, disk_of_opening};
 ghost use Rattle.tune_journal.specs.Image.{StandsFor, gate_of};
 ghost use Rattle.tune_journal.specs.Inside.Phases.{CallsIf};
-ghost use Rattle.tune_journal.specs.Layout.{gate_open};
+ghost use Rattle.tune_journal.specs.FileOffsets.{gate_open};
 ghost use Rattle.tune_journal.specs.Moments.{KeepsEither, LeftOrSame, LeavesPages};
 ghost use Rattle.tune_journal.specs.Refusal.{IsRefusedFor, IsOpenReason, CountsFailureWhere};
 ghost use Rattle.tune_journal.specs.Refusal.{IsSynced};

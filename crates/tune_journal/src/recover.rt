@@ -6,11 +6,11 @@ ghost use Rattle.tune_journal.specs.Image.{window, number, page_offset, entry_of
 ghost use Rattle.tune_journal.specs.Image.{entries as entries_in, pages_of, count_of};
 ghost use Rattle.tune_journal.specs.Inside.Looking.{HasEntries, HasEntry};
 ghost use Rattle.tune_journal.specs.Inside.Phases.{WritesAndSyncs, KeepsBoth, IsInNoPage, CallsIf};
-ghost use Rattle.tune_journal.specs.Layout.{block_bytes, most_pages};
+ghost use Rattle.tune_journal.specs.FileOffsets.{block_bytes, most_pages};
 ghost use Rattle.tune_journal.specs.Pages.{changed};
 
 use crate::commit::write_synced;
-use crate::layout::{COUNT_OFFSET, ENTRY_BYTES, entry_offset, number_bytes, page_offset};
+use crate::file_offsets::{COUNT_OFFSET, ENTRY_BYTES, entry_offset, number_bytes, page_offset};
 use byteorder::{BigEndian, ByteOrder};
 use tune_disk::{DeviceFault, Disk};
 

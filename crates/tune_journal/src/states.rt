@@ -5,13 +5,13 @@ ghost use Rattle.tune_disk.specs.Disk.{Calls};
 ghost use Rattle.tune_disk.specs.Stops.{SinceThen};
 ghost use Rattle.tune_journal.specs.Held.{disk_of, disk_of_gate};
 ghost use Rattle.tune_journal.specs.Image.{StandsFor, StandsForEither, gate_of};
-ghost use Rattle.tune_journal.specs.Layout.{gate_closed};
+ghost use Rattle.tune_journal.specs.FileOffsets.{gate_closed};
 ghost use Rattle.tune_journal.specs.Moments.{LeavesPages};
 
 use crate::changes::Changes;
 use crate::commit::{write_pages, write_synced};
+use crate::file_offsets::{GATE_CLOSED, GATE_OFFSET, GATE_OPEN};
 use crate::journal::Journal;
-use crate::layout::{GATE_CLOSED, GATE_OFFSET, GATE_OPEN};
 use crate::open_fault::Broken;
 use std::marker::Model;
 use tune_disk::{DeviceFault, Disk};

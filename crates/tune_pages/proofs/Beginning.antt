@@ -6,7 +6,7 @@ use Rattle.std.proofs.lemmas.List.Elements.{All-nil}
 use Rattle.std.proofs.lemmas.Bool.{cases_eq, cases_lt}
 use Rattle.tune_journal.specs.Pages.{pages_after}
 use Rattle.tune_journal.proofs.Puts.{nothing}
-use Rattle.tune_pages.specs.Inside.Held.{AllUsedBelow}
+use Rattle.tune_pages.specs.Inside.HeldPages.{AllUsedBelow}
 use Rattle.tune_pages.specs.Stand.{Stand, IsUsed, AllUsed, marked}
 use Rattle.tune_pages.specs.Work.{front, used_in, count_in, stand_on, FitsOn, Falls}
 use Rattle.tune_pages.specs.declared.work.Work.{Work}

@@ -4,7 +4,7 @@ use Rattle.std.proofs.Common.{sym, ap, subst, arith, length-append}
 use Rattle.std.specs.Prelude.{Result, Ok, Err, IfOk}
 use Rattle.std.proofs.lemmas.List.Sums.{sum_by-set, sum_by-le}
 use Rattle.tune_pages.specs.Faults.{IsWorkFault, AnswersWork, free_pages, pages_for}
-use Rattle.tune_pages.specs.Layout.{piece_room}
+use Rattle.tune_pages.specs.LinkOffsets.{piece_room}
 use Rattle.tune_pages.specs.Stand.{Stand, IsFree, IsFull, AllFree, marked}
 use Rattle.tune_pages.specs.declared.fault.Fault.{Fault}
 use Rattle.tune_pages.specs.declared.fault.Fault.TheVariants.{FileFull, OutOfMemory, Device, Closed}

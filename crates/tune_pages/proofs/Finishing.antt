@@ -4,7 +4,7 @@ use Rattle.std.proofs.Common.{true, false, Option, All, arith, refl, sym, ◌∙
 use Rattle.std.proofs.lemmas.List.{append-nil, get_or-set_other, get_or_past, length-set}
 use Rattle.std.proofs.lemmas.List.Elements.{All-nil, All-cons}
 use Rattle.std.proofs.lemmas.Bool.{cases_eq, cases_lt}
-use Rattle.tune_pages.specs.Inside.Held.{IsKept}
+use Rattle.tune_pages.specs.Inside.HeldPages.{IsKept}
 use Rattle.tune_pages.specs.Stand.{IsUsed, AllUsed, marked}
 use Rattle.tune_pages.proofs.Chains.{length-marked}
 use Rattle.tune_pages.proofs.Overlay.{length-front, front_below, front_behind, marked_other}

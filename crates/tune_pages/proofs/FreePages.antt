@@ -2,12 +2,12 @@
 use Rattle.std.proofs.Common.{◌≡◌, ◌≢◌, ℕ, ◌+◌, ◌*◌, ◌<◌, ◌≤◌, List, [], ◌∷◌, length, get_or, set, drop, Bool, true, false, All}
 use Rattle.std.proofs.Common.{Result, Ok, Err, IfOk, ap, arith, length-append, length-take, length-drop}
 use Rattle.std.proofs.lemmas.List.Sums.{sum_by-set}
-use Rattle.tune_journal.specs.Layout.{block_bytes}
+use Rattle.tune_journal.specs.FileOffsets.{block_bytes}
 use Rattle.tune_journal.specs.Pages.{page_at}
 use Rattle.tune_pages.specs.Chain.{next_of, size_of, piece_of, IsLink, Leads, bytes_along, IsChain}
 use Rattle.tune_pages.specs.Faults.{AnswersWork, free_pages, pages_for}
 use Rattle.tune_pages.specs.FreePages.{TakesAtMost}
-use Rattle.tune_pages.specs.Layout.{piece_room}
+use Rattle.tune_pages.specs.LinkOffsets.{piece_room}
 use Rattle.tune_pages.specs.Stand.{Stand, IsUsed, IsFull, IsLeastFree, AllUsed, marked, taken, PutsChain}
 use Rattle.tune_pages.specs.declared.fault.Fault.{Fault}
 use Rattle.tune_pages.specs.declared.fault.Fault.TheVariants.{FileFull, OutOfMemory, Device, Closed}

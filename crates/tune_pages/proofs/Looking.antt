@@ -4,7 +4,7 @@ use Rattle.tune_disk.specs.Disk.{DiskState}
 use Rattle.tune_journal.proofs.Above.{length-pages_after}
 use Rattle.tune_pages.specs.Faults.{CountsFaultWhere}
 use Rattle.tune_pages.specs.Kept.{Kept, HonestAt, state_at, failures_at}
-use Rattle.tune_pages.specs.Reading.{SameKept, LooksAt, SameStand}
+use Rattle.tune_pages.specs.PageLooks.{SameKept, LooksAt, SameStand}
 use Rattle.tune_pages.specs.Stand.{Stand}
 use Rattle.tune_pages.specs.Work.{front, used_in, count_in, stand_on, stand, FitsOn, Fits}
 use Rattle.tune_pages.specs.declared.fault.Fault.{Fault}

@@ -7,7 +7,7 @@ use Rattle.std.proofs.lemmas.List.Elements.{All-tail, All-nil, All-cons, All-pus
 use Rattle.std.proofs.lemmas.Bool.{cases_eq, cases_lt}
 use Rattle.tune_journal.specs.Pages.{page_at}
 use Rattle.tune_pages.specs.Chain.{next_of, piece_of, IsLink, Leads, bytes_along, IsPadded, ArePadded}
-use Rattle.tune_pages.specs.Layout.{piece_room}
+use Rattle.tune_pages.specs.LinkOffsets.{piece_room}
 use Rattle.tune_pages.specs.Stand.{Stand, IsUsed, IsFree, IsLeastFree, AllLeastFree, marked, AllFree, KeepsOthers, PutsChain, placed}
 use Rattle.tune_pages.specs.Stand.{with_page, taken, taken_with}
 use Rattle.tune_pages.proofs.Wants.{as_many}

@@ -10,7 +10,7 @@ use Rattle.tune_pages.specs.Inside.NextFree.{IsNextFree}
 use Rattle.tune_pages.specs.Inside.Freed.{IsEnd}
 use Rattle.tune_pages.specs.declared.work.Work.{Work}
 use Rattle.tune_pages.proofs.Chains.{marked_more, length-marked}
-use Rattle.tune_pages.specs.Inside.Held.{IsKept}
+use Rattle.tune_pages.specs.Inside.HeldPages.{IsKept}
 use Rattle.tune_pages.proofs.Putting.{Apart, used_either, free_within}
 use Rattle.tune_pages.proofs.Overlay.{length-front, front_below, front_behind, marked_other, use_below, get_or_default_same}
 use Rattle.tune_pages.proofs.Finishing.{used_below}

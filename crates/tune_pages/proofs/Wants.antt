@@ -1,7 +1,7 @@
 -- How many pages so many bytes want.
 use Rattle.std.proofs.Common.{◌≡◌, ℕ, ◌+◌, ◌*◌, ◌<◌, ◌≤◌, arith}
 use Rattle.std.proofs.lemmas.Grind.{div_ceil_times}
-use Rattle.tune_pages.specs.Layout.{piece_room}
+use Rattle.tune_pages.specs.LinkOffsets.{piece_room}
 use Rattle.tune_pages.specs.Faults.{pages_for}
 
 -- as many as hold them, where all but the last are full and that is not empty

@@ -1,10 +1,10 @@
--- Chains: bytes on pages that each name the next one. Layout.antt says where the parts of such a
--- page stand; numbers have the highest byte first.
+-- Chains: bytes on pages that each name the next one. LinkOffsets.antt says where the parts of such
+-- a page stand; numbers have the highest byte first.
 use Rattle.std.specs.Prelude.{◌≡◌, ◌≢◌, ℕ, ◌+◌, ◌-◌, ◌<◌, ◌≤◌, List, [], ◌∷◌, ◌++◌, length, take}
 use Rattle.std.specs.Prelude.{drop, replicate, All}
 use Rattle.std.specs.Int.{w16, w32, from_be_bytes}
 use Rattle.tune_journal.specs.Pages.{page_at}
-use Rattle.tune_pages.specs.Layout.{next_bytes, used_bytes, piece_offset, piece_room}
+use Rattle.tune_pages.specs.LinkOffsets.{next_bytes, used_bytes, piece_offset, piece_room}
 
 -- the page behind this one, 0 at the end
 unfoldable pub next_of : List ℕ → ℕ

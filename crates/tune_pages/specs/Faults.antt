@@ -4,7 +4,7 @@ use Rattle.std.specs.Prelude.{Option, Result, MatchResult}
 use Rattle.std.specs.Int.{div_ceil}
 use Rattle.tune_disk.specs.Disk.{CountsUp}
 use Rattle.tune_pages.specs.Kept.{Kept, HonestAt, failures_at}
-use Rattle.tune_pages.specs.Layout.{piece_room}
+use Rattle.tune_pages.specs.LinkOffsets.{piece_room}
 use Rattle.tune_pages.specs.declared.fault.Fault.{Fault}
 use Rattle.tune_pages.specs.declared.fault.Fault.TheVariants.{FileFull, OutOfMemory, Device}
 use Rattle.tune_pages.specs.declared.fault.Fault.TheVariants.{Closed}

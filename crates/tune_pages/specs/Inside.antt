@@ -2,7 +2,7 @@ pub mod Cached
 pub mod Claiming
 pub mod Codes
 pub mod Freed
-pub mod Held
+pub mod HeldPages
 pub mod Link
 pub mod NextFree
 pub mod Walking

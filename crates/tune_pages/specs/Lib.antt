@@ -6,8 +6,8 @@ pub mod Frame
 pub mod FreePages
 pub mod Inside
 pub mod Kept
-pub mod Layout
-pub mod Opened
-pub mod Reading
+pub mod LinkOffsets
+pub mod OpenedPages
+pub mod PageLooks
 pub mod Stand
 pub mod Work

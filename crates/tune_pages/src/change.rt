@@ -1,10 +1,10 @@
 // What a work changes.
 ghost use Rattle.std.specs.Prelude.{◌≡◌, ◌<◌, ◌≤◌, ℕ, List, [], false, Err, length, IfOk, OnOk};
 ghost use Rattle.std.specs.Prelude.{IfSome, IfNone};
-ghost use Rattle.tune_journal.specs.Layout.{most_pages};
+ghost use Rattle.tune_journal.specs.FileOffsets.{most_pages};
 ghost use Rattle.tune_pages.specs.Faults.{AnswersWork, free_pages, pages_for};
 ghost use Rattle.tune_pages.specs.Inside.NextFree.{IsNextFree};
-ghost use Rattle.tune_pages.specs.Layout.{piece_room};
+ghost use Rattle.tune_pages.specs.LinkOffsets.{piece_room};
 ghost use Rattle.tune_pages.specs.Stand.{IsUsed, IsFull, IsLeastFree, PutsChain};
 ghost use Rattle.tune_pages.specs.Stand.{with_page, without_page, taken, taken_with};
 ghost use Rattle.tune_pages.specs.declared.fault.Fault.TheVariants.{FileFull};

@@ -7,7 +7,7 @@ ghost use Rattle.tune_disk.specs.Stops.{SinceThen, LeavesOnly};
 ghost use Rattle.tune_journal.specs.Image.{StandsFor, StandsForEither};
 ghost use Rattle.tune_journal.specs.Pages.{NamesAll, pages_after};
 ghost use Rattle.tune_pages.specs.Faults.{AnswersFinish, CallsDisk};
-ghost use Rattle.tune_pages.specs.Inside.Held.{AllUsedBelow};
+ghost use Rattle.tune_pages.specs.Inside.HeldPages.{AllUsedBelow};
 ghost use Rattle.tune_pages.specs.Kept.{HonestAt, state_at};
 ghost use Rattle.tune_pages.specs.Stand.{marked, AllUsed};
 ghost use Rattle.tune_pages.specs.Work.{stand, Fits, Falls, count_in, used_in, front, IsIdle};

@@ -1,13 +1,13 @@
 // What calls with a work leave alone, what they take, and what reads come to.
 ghost use Rattle.std.specs.Prelude.{◌≡◌, ◌≢◌, ◌+◌, ◌<◌, ◌≤◌, ◌++◌, [], ◌∷◌, ℕ, List, All, length};
 ghost use Rattle.std.specs.Prelude.{Bool, true, false, slice_index_or, Result, Ok, Err, IfOk};
-ghost use Rattle.tune_journal.specs.Layout.{block_bytes};
+ghost use Rattle.tune_journal.specs.FileOffsets.{block_bytes};
 ghost use Rattle.tune_pages.specs.Chain.{IsChain};
 ghost use Rattle.tune_pages.specs.Faults.{AnswersWork, free_pages, pages_for};
 ghost use Rattle.tune_pages.specs.FreePages.{TakesAtMost};
 ghost use Rattle.tune_pages.specs.Frame.{Apart, AllApart, Allocates, Frees, Puts, TradesPages};
 ghost use Rattle.tune_pages.specs.Kept.{Kept, HonestAt};
-ghost use Rattle.tune_pages.specs.Reading.{LooksAt, SameStand};
+ghost use Rattle.tune_pages.specs.PageLooks.{LooksAt, SameStand};
 ghost use Rattle.tune_pages.specs.Stand.{Stand, IsUsed, IsFree, IsFull, IsLeastFree};
 ghost use Rattle.tune_pages.specs.Stand.{AllUsed, AllFree, marked, PutsChain, HasChain};
 ghost use Rattle.tune_pages.specs.Stand.{taken, with_page, without_page, without_pages};

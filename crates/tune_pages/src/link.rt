@@ -4,7 +4,7 @@ ghost use Rattle.std.specs.Int.{w16, w32, to_be_bytes};
 ghost use Rattle.tune_pages.specs.Chain.{next_of, size_of, piece_of, IsLink};
 ghost use Rattle.tune_pages.specs.Faults.{pages_for};
 ghost use Rattle.tune_pages.specs.Inside.Link.{link_bytes};
-ghost use Rattle.tune_pages.specs.Layout.{piece_room};
+ghost use Rattle.tune_pages.specs.LinkOffsets.{piece_room};
 
 use std::alloc::AllocError;
 use tune_journal::PageImage;

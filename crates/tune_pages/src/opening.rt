@@ -6,7 +6,7 @@ ghost use Rattle.std.specs.Vec.{vec_capacity};
 ghost use Rattle.tune_disk.specs.Disk.{Looks};
 ghost use Rattle.tune_disk.specs.Stops.{SinceThen, LeavesOnly};
 ghost use Rattle.tune_journal.specs.Image.{StandsFor, gate_of};
-ghost use Rattle.tune_journal.specs.Layout.{block_bytes, most_pages, gate_open};
+ghost use Rattle.tune_journal.specs.FileOffsets.{block_bytes, most_pages, gate_open};
 ghost use Rattle.tune_journal.specs.Making.{IsEmptyFile, StandsForNoneOr};
 ghost use Rattle.tune_journal.specs.Moments.{KeepsEither, LeftOrSame, LeavesPages};
 ghost use Rattle.tune_journal.specs.Pages.{page_at};
@@ -16,9 +16,9 @@ ghost use Rattle.tune_pages.specs.Claim.{Claimable, IsClaimable, IsChainFault, I
 ghost use Rattle.tune_pages.specs.Claim.{IsClaimableWithin, LooksOpening};
 ghost use Rattle.tune_pages.specs.Inside.Claiming.{CanLink};
 ghost use Rattle.tune_pages.specs.Kept.{HonestAt, state_at, failures_at};
-ghost use Rattle.tune_pages.specs.Opened.{only_root, disk_of_pages, disk_of_claims};
-ghost use Rattle.tune_pages.specs.Opened.{IsUnopenedFor, IsPagesOpenReason, IsUnmadePagesFor};
-ghost use Rattle.tune_pages.specs.Opened.{IsPagesMakeReason, IsUndoneFor};
+ghost use Rattle.tune_pages.specs.OpenedPages.{only_root, disk_of_pages, disk_of_claims};
+ghost use Rattle.tune_pages.specs.OpenedPages.{IsUnopenedFor, IsPagesOpenReason, IsUnmadePagesFor};
+ghost use Rattle.tune_pages.specs.OpenedPages.{IsPagesMakeReason, IsUndoneFor};
 ghost use Rattle.tune_pages.specs.Stand.{IsFree, marked};
 ghost use Rattle.tune_pages.specs.declared.fault.ClaimFault.TheVariants.{Device};
 

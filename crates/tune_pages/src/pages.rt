@@ -2,11 +2,11 @@
 ghost use Rattle.std.specs.Prelude.{◌≡◌, ℕ, ◌<◌, ◌≤◌, false, Some, length, IfOk, MatchResult};
 ghost use Rattle.std.specs.Prelude.{true, All, Err, ◌-◌, ◌++◌, replicate, take};
 ghost use Rattle.std.specs.Vec.{vec_capacity};
-ghost use Rattle.tune_journal.specs.Layout.{block_bytes, most_pages};
+ghost use Rattle.tune_journal.specs.FileOffsets.{block_bytes, most_pages};
 ghost use Rattle.tune_journal.specs.Moments.{LeavesPages};
 ghost use Rattle.tune_pages.specs.Faults.{AnswersBegin, IsReadFault};
 ghost use Rattle.tune_pages.specs.Kept.{HonestAt};
-ghost use Rattle.tune_pages.specs.Reading.{LooksAt};
+ghost use Rattle.tune_pages.specs.PageLooks.{LooksAt};
 ghost use Rattle.tune_pages.specs.Stand.{IsUsed, IsFree};
 ghost use Rattle.tune_pages.specs.Work.{stand, Fits, IsIdle};
 ghost use Rattle.tune_pages.specs.declared.fault.Fault.TheVariants.{Device};
@@ -48,10 +48,10 @@ pub struct Pages<D: Disk> {
 impl<D: Disk> Model for Pages<D> {
     ghost use Rattle.std.specs.Prelude.{◌≡◌, ◌≤◌, false};
     ghost use Rattle.std.specs.Vec.{vec_capacity};
-    ghost use Rattle.tune_journal.specs.Layout.{most_pages};
+    ghost use Rattle.tune_journal.specs.FileOffsets.{most_pages};
     ghost use Rattle.tune_pages.specs.Inside.Codes.{kept_code};
-    ghost use Rattle.tune_pages.specs.Inside.Held.{held_disk, held_pages, IsKept, IsOpen};
-    ghost use Rattle.tune_pages.specs.Inside.Held.{AllUsedBelow};
+    ghost use Rattle.tune_pages.specs.Inside.HeldPages.{held_disk, held_pages, IsKept, IsOpen};
+    ghost use Rattle.tune_pages.specs.Inside.HeldPages.{AllUsedBelow};
     ghost use Rattle.tune_pages.specs.Inside.Cached.{AreKept};
     ghost use Rattle.tune_pages.specs.Kept.{HonestAt};
     ghost use Rattle.tune_pages.specs.Kept.{Kept};

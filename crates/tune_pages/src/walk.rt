@@ -6,7 +6,7 @@ ghost use Rattle.tune_pages.specs.Chain.{next_of, piece_of, IsLink};
 ghost use Rattle.tune_pages.specs.Faults.{AnswersRead};
 ghost use Rattle.tune_pages.specs.Inside.Walking.{HasLink};
 ghost use Rattle.tune_pages.specs.Kept.{HonestAt};
-ghost use Rattle.tune_pages.specs.Reading.{LooksAt, SameStand};
+ghost use Rattle.tune_pages.specs.PageLooks.{LooksAt, SameStand};
 ghost use Rattle.tune_pages.specs.Stand.{IsUsed, HasChain, HasSomeChain};
 ghost use Rattle.tune_pages.specs.Stand.{without_page, without_pages};
 ghost use Rattle.tune_pages.specs.Work.{stand, Fits, IsIdle};

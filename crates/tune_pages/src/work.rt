@@ -3,7 +3,7 @@ ghost use Rattle.std.specs.Prelude.{◌≡◌, ◌<◌, ◌≤◌, ◌+◌, ℕ,
 ghost use Rattle.std.specs.Prelude.{◌↔◌, slice_index_or, All, Contains, IsTrue};
 ghost use Rattle.std.specs.VecDeque.{deque_len};
 ghost use Rattle.tune_journal.specs.ChangeList.{with_change};
-ghost use Rattle.tune_journal.specs.Layout.{most_pages};
+ghost use Rattle.tune_journal.specs.FileOffsets.{most_pages};
 ghost use Rattle.tune_pages.specs.Inside.Freed.{Unfrees, IsEnd, IsPutIn};
 ghost use Rattle.tune_pages.specs.Work.{Falls};
 

@@ -7,7 +7,7 @@ use Rattle.tune_store.specs.Step.{step}
 use Rattle.tune_store.specs.TuneSteps.{Outcome}
 use Rattle.tune_store.specs.Answers.{Answers, passed, stays_open, stepped, no_memory, failed_before, failed_after, is_closed}
 use Rattle.tune_store.specs.Runs.{Answered, Runs}
-use Rattle.tune_store.specs.Stops.{StandsForOne}
+use Rattle.tune_store.specs.StoreStops.{StandsForOne}
 use Rattle.tune_store.specs.Stores.{StorePasses, standing_of}
 use Rattle.tune_store.specs.declared.command.Command.{Command}
 use Rattle.tune_store.specs.declared.command.Reply.{Reply}
@@ -16,7 +16,7 @@ use Rattle.tune_store.specs.declared.command.Refusal.TheVariants.{Device, Closed
 use Rattle.tune_store.specs.declared.tune_store.TuneStore.{Ghosts}
 use Rattle.tune_store.proofs.StepLemmas.{refused_stays, answers_close, closed_answers}
 use Rattle.tune_store.proofs.StopLemmas.{passes_none, passes_more}
-use Rattle.tune_scripts.specs.declared.runs.RunEnd.{RunEnd}
+use Rattle.tune_scripts.specs.declared.script_runs.RunEnd.{RunEnd}
 use Rattle.tune_scripts.specs.Carried.{Carried, CarriesOut, LeftByRun, run_of, moment_after}
 use Rattle.tune_scripts.specs.Prefixes.{FailsLast, never_fails, fails_last, state_by, state_after, AreAcknowledged, StandsForPrefix, StandsForEnd}
 use Rattle.tune_scripts.specs.ScriptRuns.{EndsAfter, IsOtherEnd, at_other_end, at_device_fault}

@@ -5,9 +5,9 @@ use Rattle.std.specs.Io.KnownBytes.{Appends}
 use Rattle.std.proofs.lemmas.List.{append_assoc, append-nil}
 use Rattle.tune_store.specs.Stores.{standing_of}
 use Rattle.tune_store.specs.declared.tune_store.TuneStore as store
-use Rattle.tune_scripts.specs.declared.runs.RunEnd.{RunEnd}
-use Rattle.tune_scripts.specs.declared.runs.RunEnd.TheVariants.{Ended, LineBound, LongLine, ReaderFault, WriterFault, DeviceFault}
-use Rattle.tune_scripts.specs.declared.runs.RunEnd.TheVariants as run
+use Rattle.tune_scripts.specs.declared.script_runs.RunEnd.{RunEnd}
+use Rattle.tune_scripts.specs.declared.script_runs.RunEnd.TheVariants.{Ended, LineBound, LongLine, ReaderFault, WriterFault, DeviceFault}
+use Rattle.tune_scripts.specs.declared.script_runs.RunEnd.TheVariants as run
 use Rattle.tune_scripts.specs.Carried.{Carried, CarriesOut, LeftByRun, run_of}
 use Rattle.tune_scripts.specs.Prefixes.{AreAcknowledged}
 use Rattle.tune_scripts.specs.Scripts.{Script, line_bound}

@@ -17,8 +17,8 @@ use Rattle.tune_scripts.specs.declared.script_lines.ScriptLine.{ScriptLine}
 use Rattle.tune_scripts.specs.declared.script_lines.ScriptLine.TheVariants.{Blank, Bad, Whole, Book}
 use Rattle.tune_scripts.specs.declared.script_lines.BookUse.{BookUse}
 use Rattle.tune_scripts.specs.declared.script_lines.BookUse.TheVariants as use_of
-use Rattle.tune_scripts.specs.declared.runs.RunEnd.{RunEnd}
-use Rattle.tune_scripts.specs.declared.runs.RunEnd.TheVariants.{Ended, LongLine, ReaderFault, WriterFault, DeviceFault}
+use Rattle.tune_scripts.specs.declared.script_runs.RunEnd.{RunEnd}
+use Rattle.tune_scripts.specs.declared.script_runs.RunEnd.TheVariants.{Ended, LongLine, ReaderFault, WriterFault, DeviceFault}
 use Rattle.tune_scripts.specs.Limits.{longest_line}
 use Rattle.tune_scripts.specs.ScriptLines.{meaning_of_line, command_of, holds_text, line_holds_text}
 use Rattle.tune_scripts.specs.InputLines.{before_feed, after_feed, has_feed}

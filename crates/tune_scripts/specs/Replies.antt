@@ -5,9 +5,9 @@ use Rattle.std.specs.Fmt.{decimal}
 use Rattle.abc_fields.specs.declared.book.TuneFault.{TuneFault}
 use Rattle.abc_fields.specs.declared.book.TuneFault.TheVariants.{NoKey, TooLong}
 use Rattle.tune_books.specs.WrittenBooks.{written_tune}
-use Rattle.tune_sets.specs.declared.rows.SetRow.{SetRow}
+use Rattle.tune_sets.specs.declared.set_rows.SetRow.{SetRow}
 use Rattle.tune_store.specs.declared.tune.Tune.{Tune}
-use Rattle.tune_store.specs.declared.rows.IndexRow.{IndexRow}
+use Rattle.tune_store.specs.declared.index_rows.IndexRow.{IndexRow}
 use Rattle.tune_store.specs.declared.command.Reply.{Reply}
 use Rattle.tune_store.specs.declared.command.Reply.TheVariants.{Imported, Replaced, Deleted, Shown}
 use Rattle.tune_store.specs.declared.command.Reply.TheVariants.{Renumbered, Found, Titled, Exported}

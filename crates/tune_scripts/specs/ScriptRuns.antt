@@ -6,9 +6,9 @@ use Rattle.tune_store.specs.Answers.{stays_open}
 use Rattle.tune_store.specs.Runs.{Answered}
 use Rattle.tune_store.specs.Stores.{standing_of}
 use Rattle.tune_store.specs.declared.tune_store.TuneStore as store
-use Rattle.tune_scripts.specs.declared.runs.RunEnd.{RunEnd}
-use Rattle.tune_scripts.specs.declared.runs.RunEnd.TheVariants.{ReaderFault, WriterFault}
-use Rattle.tune_scripts.specs.declared.runs.RunEnd.TheVariants.{DeviceFault, OutOfMemory}
+use Rattle.tune_scripts.specs.declared.script_runs.RunEnd.{RunEnd}
+use Rattle.tune_scripts.specs.declared.script_runs.RunEnd.TheVariants.{ReaderFault, WriterFault}
+use Rattle.tune_scripts.specs.declared.script_runs.RunEnd.TheVariants.{DeviceFault, OutOfMemory}
 use Rattle.tune_scripts.specs.Carried.{Carried, CarriesOut, LeftByRun, run_of}
 use Rattle.tune_scripts.specs.Prefixes.{AreAcknowledged}
 use Rattle.tune_scripts.specs.Scripts.{Script}

@@ -4,13 +4,13 @@
 
 mod laws;
 mod numbered_words;
-mod reading;
 mod replies;
-mod rows;
-mod runs;
+mod reply_rows;
 mod script_lines;
+mod script_reading;
+mod script_runs;
 
 pub use laws::law_of_prefixes;
 pub use replies::write_answer;
-pub use runs::{MOST_LINES, RunEnd, run};
 pub use script_lines::LONGEST_LINE;
+pub use script_runs::{MOST_LINES, RunEnd, run};

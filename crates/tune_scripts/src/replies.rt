@@ -6,7 +6,7 @@ ghost use Rattle.tune_scripts.specs.Replies.{refusal_bytes, answer_bytes, bad_li
 ghost use Rattle.tune_store.specs.declared.command.Reply.TheVariants as reply;
 
 use crate::numbered_words::{NumberedWords, write_number, write_numbers};
-use crate::rows::{write_name, write_name_number, write_places, write_rows, write_set_rows};
+use crate::reply_rows::{write_name, write_name_number, write_places, write_rows, write_set_rows};
 use abc_fields::{ByteText, TuneFault};
 use std::io;
 use std::io::Write;

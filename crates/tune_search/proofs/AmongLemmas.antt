@@ -7,7 +7,7 @@ use Rattle.tune_pages.proofs.Marks.{apart_left, apart_right}
 use Rattle.index_keys.specs.Entries.{AllFit, Entry, IsRising}
 use Rattle.tune_index.specs.Indexes.{AllLeaves, HasPages, IsIndex, Shape, entries_of, heads_of}
 use Rattle.tune_index.specs.Leaves.{IsLeaf, leaf_in, slice_entry}
-use Rattle.tune_index.specs.Listed.{HasList}
+use Rattle.tune_index.specs.ListedLeaves.{HasList}
 use Rattle.tune_parts.specs.Parts.{HoldsParts, IsLeafPage, IsPart, IsPartOf, Part, PartKind, trails}
 use Rattle.tune_parts.proofs.Lists.{all_left, all_right}
 use Rattle.tune_parts.proofs.Once.{EachFree, free_once, free_past, marked_put, once_cut}

@@ -1,7 +1,7 @@
 -- Entries and indexes of incipits by as many notes.
 use Rattle.std.proofs.Common.{◌≡◌, ℕ, ◌+◌, ◌<◌, List, ◌++◌, length, get_or, refl, subst}
 use Rattle.index_keys.specs.Entries.{AllFit, Entry}
-use Rattle.tune_incipit.specs.SearchKeys.{incipit_keys}
+use Rattle.tune_incipit.specs.ScaleAndIncipitKeys.{incipit_keys}
 use Rattle.tune_index.specs.Indexes.{Shape}
 use Rattle.tune_search.specs.IndexParts.{IndexParts, KeepsIndex}
 use Rattle.tune_search.specs.Inside.TextEntries.{entries_at}

@@ -6,7 +6,7 @@ use Rattle.index_keys.specs.Entries.{Entry, IsRising, inserted_all}
 use Rattle.index_keys.specs.Holdings.{AreSmall, HoldsEntries}
 use Rattle.index_keys.proofs.Holding.{holds_more}
 use Rattle.index_keys.proofs.RisingEntries.{inserted_all_rises}
-use Rattle.tune_incipit.specs.SearchKeys.{incipit_keys, scale_keys}
+use Rattle.tune_incipit.specs.ScaleAndIncipitKeys.{incipit_keys, scale_keys}
 use Rattle.tune_index.specs.Indexes.{KeepsBalance, Shape}
 use Rattle.tune_parts.specs.Parts.{Part}
 use Rattle.tune_search.specs.IndexParts.{HoldsIndexAmong, IndexParts, LaysIndex}
@@ -19,7 +19,7 @@ use Rattle.tune_search.proofs.Four.{changed, incipits_among, one_laid, rhythms_a
 use Rattle.tune_search.proofs.Four.{with_rhythms, with_scales, with_titles}
 use Rattle.tune_search.proofs.AsManyNotes.{notes_run}
 use Rattle.tune_search.proofs.Texts.{entries_of_texts, texts_four}
-use Rattle.tune_titles.specs.SearchKeys.{rhythm_keys, title_keys}
+use Rattle.tune_titles.specs.TitleAndRhythmKeys.{rhythm_keys, title_keys}
 
 -- WHERE THE FILE IS FULL
 -- for one index, and for four

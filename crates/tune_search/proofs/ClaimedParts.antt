@@ -4,13 +4,13 @@ use Rattle.std.specs.List.{AllByRecursion}
 use Rattle.tune_journal.specs.Pages.{page_at}
 use Rattle.tune_pages.specs.Frame.{AllApart}
 use Rattle.tune_pages.specs.Stand.{AllFree, marked}
-use Rattle.tune_index.specs.Listed.{shown}
+use Rattle.tune_index.specs.ListedLeaves.{shown}
 use Rattle.tune_parts.specs.Parts.{AreParts, IsPart, Part, leaf_part, root_and_trails, trails}
 use Rattle.tune_parts.proofs.Lists.{all_join, all_left, all_right}
 use Rattle.tune_parts.proofs.Once.{EachFree, free_once, marked_append, none_free, past_free}
 use Rattle.tune_parts.proofs.PartLemmas.{free_front}
 use Rattle.tune_parts.proofs.Staying.{IsThere, pages_join, trails_join}
-use Rattle.tune_search.specs.Claiming.{ClaimsParts, HasClaimed}
+use Rattle.tune_search.specs.LoadedParts.{ClaimsParts, HasClaimed}
 use Rattle.tune_search.proofs.LeafParts.{leaf_parts}
 
 -- PAGES, ONE AFTER ANOTHER

@@ -15,10 +15,10 @@ use Rattle.index_keys.specs.Entries.{Entry, IsRising, rank, RisesFrom}
 use Rattle.index_keys.specs.Holdings.{HoldsEntries}
 use Rattle.index_keys.specs.Inside.KeyOrder.{with_front, with_later, with_there}
 use Rattle.index_keys.specs.Inside.Members.{contains_cases, contains_first, contains_later, contains_none}
-use Rattle.index_keys.specs.Keys.{rising_keys, with_key}
+use Rattle.index_keys.specs.KeyLists.{rising_keys, with_key}
 use Rattle.tune_incipit.specs.Incipits.{incipit_of, tune_notes}
 use Rattle.tune_incipit.specs.Scales.{scale_of_text}
-use Rattle.tune_incipit.specs.SearchKeys.{incipit_keys, incipit_keys_of, scale_keys, scale_keys_of}
+use Rattle.tune_incipit.specs.ScaleAndIncipitKeys.{incipit_keys, incipit_keys_of, scale_keys, scale_keys_of}
 use Rattle.tune_index.proofs.Beside.{few_leaves}
 use Rattle.tune_index.specs.Indexes.{Shape}
 use Rattle.tune_parts.specs.Parts.{Part}
@@ -28,7 +28,7 @@ use Rattle.tune_search.specs.SearchPages.{HasFewLeaves}
 use Rattle.tune_search.specs.Searches.{HoldsTexts, SearchParts, SearchShape, incipit_bytes, key_bytes}
 use Rattle.tune_search.proofs.AmongLemmas.{among_entries, among_index, incipits_among, rhythms_among, scales_among, titles_among}
 use Rattle.tune_search.proofs.TextRuns.{held_in}
-use Rattle.tune_titles.specs.SearchKeys.{rhythm_keys, rhythm_keys_of, title_keys}
+use Rattle.tune_titles.specs.TitleAndRhythmKeys.{rhythm_keys, rhythm_keys_of, title_keys}
 use Rattle.tune_titles.specs.Titles.{sorting_title}
 
 -- ENTRIES AMONG OTHERS

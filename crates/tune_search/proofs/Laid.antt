@@ -9,7 +9,7 @@ use Rattle.tune_pages.proofs.Frames.{free_used}
 use Rattle.tune_pages.proofs.Looking.{stand_marks}
 use Rattle.tune_pages.proofs.Uses.{stand_root, stand_inside}
 use Rattle.tune_pages.specs.Kept.{Kept}
-use Rattle.tune_pages.specs.Reading.{SameKept}
+use Rattle.tune_pages.specs.PageLooks.{SameKept}
 use Rattle.tune_pages.specs.Work.{stand, Fits}
 use Rattle.tune_pages.specs.declared.work.Work.{Work}
 use Rattle.tune_pages.specs.Chain.{IsChain, Leads, next_of}
@@ -19,7 +19,7 @@ use Rattle.std.proofs.lemmas.List.Elements.{All-nil, All-cons}
 use Rattle.index_keys.specs.Entries.{AllFit, Entry, IsRising, removed, removed_all}
 use Rattle.tune_index.specs.Indexes.{HasPages, IsIndex, KeepsList, Shape, entries_of}
 use Rattle.tune_index.specs.Leaves.{leaf_in, slice_entry}
-use Rattle.tune_index.specs.Listed.{HasList, StoresList, listed_bytes}
+use Rattle.tune_index.specs.ListedLeaves.{HasList, StoresList, listed_bytes}
 use Rattle.tune_parts.specs.Parts.{HoldsParts, chain_part, IsPart, IsPartOf, Part, PartKind, root_and_trails, trails}
 use Rattle.tune_parts.specs.Parts.PartKind.{chain, leaf}
 use Rattle.tune_parts.proofs.Lists.{all_left, all_right}

@@ -9,10 +9,10 @@ use Rattle.index_keys.proofs.RisingEntries.{inserted_all_rises}
 use Rattle.index_keys.specs.Entries.{Entry, IsRising, inserted_all, removed_all}
 use Rattle.index_keys.specs.Holdings.{HoldsEntries}
 use Rattle.index_keys.specs.Inside.Members.{contains_first, contains_none}
-use Rattle.tune_incipit.specs.SearchKeys.{incipit_keys}
+use Rattle.tune_incipit.specs.ScaleAndIncipitKeys.{incipit_keys}
 use Rattle.tune_index.specs.Indexes.{KeepsBalance, Shape}
 use Rattle.tune_index.specs.Leaves.{leaf_in, slice_entry}
-use Rattle.tune_index.specs.Listed.{listed_bytes}
+use Rattle.tune_index.specs.ListedLeaves.{listed_bytes}
 use Rattle.tune_search.specs.IndexParts.{HoldsIndexAmong, IndexParts, IsLeafPart, LaysIndex, entries_of_parts, parts_of_index}
 use Rattle.tune_search.specs.IncipitRuns.{AreIncipitsOf, HoldsIncipits, IncipitPair}
 use Rattle.tune_search.specs.Inside.Lengthening.{AreAmong, HoldsRun, Lengthens}

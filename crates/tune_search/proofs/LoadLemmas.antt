@@ -7,7 +7,7 @@ use Rattle.tune_pages.proofs.Chains.{length-marked}
 use Rattle.tune_pages.proofs.Claiming.{fault_as}
 use Rattle.index_keys.specs.Entries.{Entry}
 use Rattle.tune_index.specs.Indexes.{Shape}
-use Rattle.tune_index.specs.Listed.{IsStored, LoadsIndex, StoredIndex, listed_bytes, numbers_in}
+use Rattle.tune_index.specs.ListedLeaves.{IsStored, LoadsIndex, StoredIndex, listed_bytes, numbers_in}
 use Rattle.tune_index.proofs.Loading.{stored_bytes}
 use Rattle.tune_search.specs.Loaded.{AreStored, IsStoredThen}
 use Rattle.tune_search.specs.Searches.{incipit_bytes, key_bytes}

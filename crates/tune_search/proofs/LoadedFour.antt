@@ -2,10 +2,10 @@
 use Rattle.std.proofs.Common.{◌≡◌, ℕ, ◌^◌, ◌<◌, List, ◌++◌, length, Bool, refl, sym, ◌∙◌, ap, subst, append_assoc}
 use Rattle.index_keys.specs.Entries.{Entry}
 use Rattle.tune_index.specs.Indexes.{Shape}
-use Rattle.tune_index.specs.Listed.{LoadsIndex}
+use Rattle.tune_index.specs.ListedLeaves.{LoadsIndex}
 use Rattle.tune_parts.specs.Parts.{AreParts, Part}
-use Rattle.tune_search.specs.Claiming.{ClaimsParts, HasClaimed, HoldEachAtMost, HoldsAtMost, HoldsLoadedSearch, firsts_of, parts_loaded}
-use Rattle.tune_search.specs.Claiming.{search_loaded}
+use Rattle.tune_search.specs.LoadedParts.{ClaimsParts, HasClaimed, HoldEachAtMost, HoldsAtMost, HoldsLoadedSearch, firsts_of, parts_loaded}
+use Rattle.tune_search.specs.LoadedParts.{search_loaded}
 use Rattle.tune_search.specs.IndexParts.{IndexParts, parts_of_index}
 use Rattle.tune_search.specs.Loaded.{AreStored, IsStoredThen, LoadsSearch}
 use Rattle.tune_search.specs.Searches.{SearchParts, SearchRuns, SearchShape, incipit_bytes, key_bytes, parts_of_search}

@@ -4,7 +4,7 @@ use Rattle.std.specs.List.{AllByRecursion}
 use Rattle.index_keys.specs.Entries.{Entry, IsRising}
 use Rattle.tune_index.specs.Indexes.{Shape, entries_of}
 use Rattle.tune_index.specs.Leaves.{leaf_in, slice_entry}
-use Rattle.tune_index.specs.Listed.{IsStored, LoadsIndex, StoredIndex, shown}
+use Rattle.tune_index.specs.ListedLeaves.{IsStored, LoadsIndex, StoredIndex, shown}
 use Rattle.tune_pages.specs.Chain.{IsChain}
 use Rattle.tune_pages.specs.Stand.{AllFree, marked}
 use Rattle.tune_parts.specs.Parts.{AreParts, IsPart, Part, trails}
@@ -12,7 +12,7 @@ use Rattle.tune_parts.proofs.Lists.{all_right}
 use Rattle.tune_parts.proofs.Once.{marked_append}
 use Rattle.tune_parts.proofs.PartLemmas.{free_front, its_chain}
 use Rattle.tune_parts.proofs.Staying.{IsThere}
-use Rattle.tune_search.specs.Claiming.{ClaimsParts, HasClaimed, HoldsAtMost, HoldsLoaded, index_parts, parts_loaded}
+use Rattle.tune_search.specs.LoadedParts.{ClaimsParts, HasClaimed, HoldsAtMost, HoldsLoaded, index_parts, parts_loaded}
 use Rattle.tune_search.specs.IndexParts.{IndexParts, IsLeafPart, entries_of_parts, parts_of_index}
 use Rattle.tune_search.proofs.ClaimedParts.{are_more, claims_more, free_behind, free_join, free_there, leaves_are, leaves_stand, pages_there, stand_there}
 use Rattle.tune_search.proofs.LeafParts.{entries_leaves, firsts_leaves, form_leaves, heads_leaves, leaf_parts, leaves_back, leaves_form, trails_leaves}

@@ -11,7 +11,7 @@ use Rattle.std.proofs.lemmas.List.Sorted.{Contains-permutation, IsPermutation-sy
 use Rattle.std.proofs.lemmas.Map.Keys.{IsDistinct-cons, IsDistinct-head, IsDistinct-tail, IsDistinct-IsPermutation, IsDistinct-from_apart, apart_from_distinct}
 use Rattle.index_keys.specs.Entries.{AllFit, Entry, FitsLeaf, IsRising, rank, RisesFrom}
 use Rattle.index_keys.specs.Holdings.{AreSmall}
-use Rattle.index_keys.specs.Keys.{KeysRise}
+use Rattle.index_keys.specs.KeyLists.{KeysRise}
 use Rattle.index_keys.specs.Inside.Members.{contains_cases, contains_either, contains_first, contains_later, contains_left, contains_map, contains_none}
 use Rattle.index_keys.specs.Inside.Members.{contains_right, for_each}
 use Rattle.tune_index.proofs.Codec.{AllFit-push}

@@ -3,7 +3,7 @@ use Rattle.std.proofs.Common.{◌≡◌, ℕ, ◌<◌, ◌^◌, List, [], ◌∷
 use Rattle.index_keys.specs.Entries.{Entry, inserted_all, removed_all}
 use Rattle.index_keys.specs.Holdings.{AreSmall, IsWithout}
 use Rattle.index_keys.proofs.Holding.{holds_less, holds_more}
-use Rattle.tune_incipit.specs.SearchKeys.{incipit_keys, scale_keys}
+use Rattle.tune_incipit.specs.ScaleAndIncipitKeys.{incipit_keys, scale_keys}
 use Rattle.tune_index.specs.Indexes.{Shape}
 use Rattle.tune_pages.specs.Stand.{Stand}
 use Rattle.tune_parts.specs.Parts.{Part}
@@ -12,7 +12,7 @@ use Rattle.tune_search.specs.Inside.Four.{HoldsFour, HoldsSomeFour, LaysFour, pu
 use Rattle.tune_search.specs.Searches.{AreRunsOf, HoldsKeys, HoldsSomeTexts, HoldsTexts, IsRunOf, SearchParts, SearchRuns, SearchShape}
 use Rattle.tune_search.specs.Searches.{incipit_bytes, key_bytes}
 use Rattle.tune_search.proofs.AsManyNotes.{notes_hold, notes_keeps, notes_run}
-use Rattle.tune_titles.specs.SearchKeys.{rhythm_keys, title_keys}
+use Rattle.tune_titles.specs.TitleAndRhythmKeys.{rhythm_keys, title_keys}
 
 -- their entries
 abbrev pub entries_of_texts : (s : Stand) (shape : SearchShape) (before after : List Part) (parts : SearchParts) (tunes : List (ℕ × List ℕ))

@@ -2,7 +2,7 @@
 -- comes in where they come to keep incipits by twelve notes (own profile).
 use Rattle.std.specs.Prelude.{◌≡◌, ℕ, ◌+◌, ◌≤◌, ◌∷◌, [], List}
 use Rattle.index_keys.specs.Entries.{AllFit, Entry}
-use Rattle.tune_incipit.specs.SearchKeys.{incipit_keys}
+use Rattle.tune_incipit.specs.ScaleAndIncipitKeys.{incipit_keys}
 use Rattle.tune_pages.specs.Stand.{Stand}
 use Rattle.tune_parts.specs.Parts.{Part}
 use Rattle.tune_search.specs.Inside.TextEntries.{entries_of_tunes}

@@ -2,9 +2,9 @@ pub mod IndexParts
 pub mod Searches
 pub mod IncipitForms
 pub mod IncipitRuns
-pub mod Claims
+pub mod SearchClaims
 pub mod Inside
 pub mod Empty
 pub mod Loaded
-pub mod Claiming
+pub mod LoadedParts
 pub mod SearchPages

@@ -1,6 +1,6 @@
 -- Search indexes as an opening claims them, one after another.
 use Rattle.std.specs.Prelude.{◌≡◌, ℕ, Bool, true, List}
-use Rattle.tune_index.specs.Listed.{IsStored, LoadsIndex, StoredIndex}
+use Rattle.tune_index.specs.ListedLeaves.{IsStored, LoadsIndex, StoredIndex}
 use Rattle.tune_pages.specs.Stand.{marked}
 use Rattle.tune_search.specs.IncipitForms.{entries_in, notes_of_entries}
 use Rattle.tune_search.specs.Searches.{SearchRuns, SearchShape, incipit_bytes, key_bytes}

@@ -2,12 +2,12 @@
 use Rattle.std.specs.Prelude.{ℕ, ◌+◌, ◌*◌, ◌∷◌, ◌++◌, [], List}
 use Rattle.index_keys.specs.Entries.{AllFit, Entry, IsRising}
 use Rattle.index_keys.specs.Holdings.{HoldsEntries}
-use Rattle.tune_incipit.specs.SearchKeys.{incipit_keys, scale_keys}
+use Rattle.tune_incipit.specs.ScaleAndIncipitKeys.{incipit_keys, scale_keys}
 use Rattle.tune_index.specs.Indexes.{Shape}
 use Rattle.tune_pages.specs.Stand.{Stand}
 use Rattle.tune_parts.specs.Parts.{HoldsParts, Part}
 use Rattle.tune_search.specs.IndexParts.{IndexParts, KeepsIndex, parts_of_index}
-use Rattle.tune_titles.specs.SearchKeys.{rhythm_keys, title_keys}
+use Rattle.tune_titles.specs.TitleAndRhythmKeys.{rhythm_keys, title_keys}
 
 -- how many bytes a key has
 abbrev pub key_bytes : ℕ

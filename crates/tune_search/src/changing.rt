@@ -3,11 +3,11 @@ ghost use Rattle.std.specs.Prelude.{◌≡◌, ◌^◌, ◌+◌, ◌*◌, ◌<�
 ghost use Rattle.std.specs.Prelude.{OnOk};
 ghost use Rattle.tune_pages.specs.Faults.{free_pages};
 ghost use Rattle.tune_pages.specs.Kept.{HonestAt};
-ghost use Rattle.tune_pages.specs.Reading.{LooksAt};
+ghost use Rattle.tune_pages.specs.PageLooks.{LooksAt};
 ghost use Rattle.tune_pages.specs.Work.{stand, Fits};
 ghost use Rattle.index_keys.specs.Entries.{IsRising};
 ghost use Rattle.index_keys.specs.Holdings.{AreSmall, IsWithout};
-ghost use Rattle.tune_index.specs.Faults.{AnswersEdit};
+ghost use Rattle.tune_index.specs.IndexAnswers.{AnswersEdit};
 ghost use Rattle.tune_parts.specs.Parts.{Part};
 ghost use Rattle.tune_search.specs.Inside.Four.{HoldsFour, HoldsSomeFour, LaysFour, entry_count};
 ghost use Rattle.tune_search.specs.Inside.Four.{put_in, taken_out};
@@ -15,7 +15,7 @@ ghost use Rattle.tune_search.specs.SearchPages.{leaves_of, most_entries};
 ghost use Rattle.tune_search.specs.Searches.{AreRunsOf, HoldsSomeTexts, HoldsTexts, SearchParts};
 ghost use Rattle.tune_search.specs.Searches.{SearchRuns};
 
-use crate::laying::{put_run, take_run};
+use crate::index_changes::{put_run, take_run};
 use crate::runs::Runs;
 use crate::searches::SearchIndexes;
 use std::alloc::Global;

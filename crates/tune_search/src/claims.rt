@@ -3,7 +3,7 @@ ghost use Rattle.std.specs.Prelude.{◌≡◌, ◌↔◌, ◌^◌, ◌<◌, ℕ,
 ghost use Rattle.std.specs.Prelude.{Contains, IfOk, IfSome, IsTrue, None};
 ghost use Rattle.std.specs.List.{AllByRecursion};
 ghost use Rattle.std.specs.List.Sorted.{IsStrictlyIncreasing};
-ghost use Rattle.tune_search.specs.Claims.{AreAllKnown, HoldByNumber, StandsAtKeys, runs_of};
+ghost use Rattle.tune_search.specs.SearchClaims.{AreAllKnown, HoldByNumber, StandsAtKeys, runs_of};
 ghost use Rattle.tune_search.specs.IncipitForms.{entries_in, notes_of_entries};
 ghost use Rattle.tune_search.specs.Searches.{SearchRuns};
 
@@ -31,7 +31,7 @@ pub struct SearchClaims {
 }
 
 impl Model for SearchClaims {
-    ghost use Rattle.tune_search.specs.Claims.{ClaimShape};
+    ghost use Rattle.tune_search.specs.SearchClaims.{ClaimShape};
     ghost use Rattle.tune_search.specs.Inside.EntryLinks.{AreLinked};
     ghost use Rattle.tune_search.specs.Inside.IncipitLinks.{entries_claimed, firsts_claimed};
     ghost use Rattle.tune_search.specs.Inside.IncipitLinks.{nexts_claimed, notes_of_claims};

@@ -4,7 +4,7 @@ ghost use Rattle.index_keys.specs.Entries.{Entry};
 ghost use Rattle.index_keys.specs.Holdings.{HoldsEntries};
 ghost use Rattle.tune_pages.specs.Faults.{AnswersRead};
 ghost use Rattle.tune_pages.specs.Kept.{HonestAt};
-ghost use Rattle.tune_pages.specs.Reading.{LooksAt, SameStand};
+ghost use Rattle.tune_pages.specs.PageLooks.{LooksAt, SameStand};
 ghost use Rattle.tune_pages.specs.Work.{stand, Fits};
 ghost use Rattle.tune_parts.specs.Parts.{Part};
 ghost use Rattle.tune_queries.specs.Queries.{finds};

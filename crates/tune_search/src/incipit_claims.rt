@@ -3,8 +3,8 @@ ghost use Rattle.std.specs.Prelude.{◌≡◌, ◌↔◌, ◌^◌, ◌<◌, ℕ,
 ghost use Rattle.std.specs.Prelude.{IfOk, IfSome, IsTrue, None};
 ghost use Rattle.std.specs.List.Sorted.{IsStrictlyIncreasing};
 ghost use Rattle.index_keys.specs.Holdings.{keys_at};
-ghost use Rattle.tune_incipit.specs.SearchKeys.{incipit_keys};
-ghost use Rattle.tune_search.specs.Claims.{AreKnown};
+ghost use Rattle.tune_incipit.specs.ScaleAndIncipitKeys.{incipit_keys};
+ghost use Rattle.tune_search.specs.SearchClaims.{AreKnown};
 ghost use Rattle.tune_search.specs.IncipitForms.{entries_in, notes_of_entries};
 ghost use Rattle.tune_search.specs.Inside.EntryLinks.{AreFirsts, AreNexts, place_from};
 ghost use Rattle.tune_search.specs.Inside.IncipitLinks.{entries_claimed, firsts_claimed};

@@ -2,7 +2,7 @@
 ghost use Rattle.std.specs.Prelude.{◌≡◌, ◌++◌, length, IfOk, OnOk};
 ghost use Rattle.std.specs.List.Sorted.{IsNonDecreasingBy, IsPermutation};
 ghost use Rattle.index_keys.specs.Entries.{AllFit, rank};
-ghost use Rattle.tune_incipit.specs.SearchKeys.{incipit_keys};
+ghost use Rattle.tune_incipit.specs.ScaleAndIncipitKeys.{incipit_keys};
 ghost use Rattle.tune_search.specs.IncipitForms.{entries_in, notes_in, notes_of_entries};
 ghost use Rattle.tune_search.specs.Inside.TextEntries.{entries_at};
 ghost use Rattle.tune_search.specs.Searches.{incipit_bytes};

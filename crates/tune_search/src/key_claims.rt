@@ -4,7 +4,7 @@ ghost use Rattle.std.specs.Prelude.{slice_index, Contains, IfOk, IfSome, IsTrue,
 ghost use Rattle.std.specs.List.Sorted.{IsStrictlyIncreasing};
 ghost use Rattle.index_keys.specs.Holdings.{keys_at};
 ghost use Rattle.tune_search.specs.Inside.EntryLinks.{AreFirsts, AreNexts, place_from};
-ghost use Rattle.tune_search.specs.Claims.{AreKnown};
+ghost use Rattle.tune_search.specs.SearchClaims.{AreKnown};
 
 use index_keys::IndexKey;
 use std::alloc::{AllocError, Global};

@@ -4,11 +4,11 @@ ghost use Rattle.abc_fields.specs.Limits.{most_titles};
 ghost use Rattle.tune_pages.specs.Stand.{Stand};
 ghost use Rattle.index_keys.specs.Entries.{Entry, IsRising};
 ghost use Rattle.index_keys.specs.Holdings.{HoldsEntries};
-ghost use Rattle.tune_incipit.specs.SearchKeys.{incipit_keys, scale_keys};
+ghost use Rattle.tune_incipit.specs.ScaleAndIncipitKeys.{incipit_keys, scale_keys};
 ghost use Rattle.tune_parts.specs.Parts.{Part};
 ghost use Rattle.tune_search.specs.SearchPages.{HasFewLeaves};
 ghost use Rattle.tune_search.specs.Searches.{HoldsTexts, SearchParts, SearchShape};
-ghost use Rattle.tune_titles.specs.SearchKeys.{rhythm_keys, title_keys};
+ghost use Rattle.tune_titles.specs.TitleAndRhythmKeys.{rhythm_keys, title_keys};
 
 /// The law of the pages of the search indexes: what tunes they hold says how many there may be.
 ///

@@ -2,10 +2,10 @@
 ghost use Rattle.std.specs.Prelude.{◌≡◌, ◌+◌, ◌<◌, [], ℕ, false, length, List, OnOk, IfOk};
 ghost use Rattle.tune_pages.specs.Faults.{free_pages};
 ghost use Rattle.tune_pages.specs.Kept.{HonestAt};
-ghost use Rattle.tune_pages.specs.Reading.{LooksAt};
+ghost use Rattle.tune_pages.specs.PageLooks.{LooksAt};
 ghost use Rattle.tune_pages.specs.Work.{stand, Fits};
 ghost use Rattle.index_keys.specs.Entries.{IsRising, inserted_all};
-ghost use Rattle.tune_index.specs.Faults.{AnswersEdit};
+ghost use Rattle.tune_index.specs.IndexAnswers.{AnswersEdit};
 ghost use Rattle.tune_parts.specs.Parts.{Part};
 ghost use Rattle.tune_search.specs.IncipitRuns.{AreIncipitsOf, HoldsIncipits};
 ghost use Rattle.tune_search.specs.Inside.Lengthening.{HoldsRun, Lengthens};
@@ -14,7 +14,7 @@ ghost use Rattle.tune_search.specs.Searches.{HoldsTexts, SearchParts};
 
 use crate::incipit_index::IncipitIndex;
 use crate::incipit_runs::IncipitRuns;
-use crate::laying::{put_run, take_run};
+use crate::index_changes::{put_run, take_run};
 use crate::searches::SearchIndexes;
 use std::alloc::Global;
 use tune_disk::Disk;

@@ -2,11 +2,11 @@
 ghost use Rattle.std.specs.Prelude.{◌≡◌, ℕ, ◌^◌, ◌<◌, Bool, List, ◌++◌, length};
 ghost use Rattle.index_keys.specs.Entries.{Entry};
 ghost use Rattle.tune_index.specs.Indexes.{Shape};
-ghost use Rattle.tune_index.specs.Listed.{IsStored, LoadsIndex};
+ghost use Rattle.tune_index.specs.ListedLeaves.{IsStored, LoadsIndex};
 ghost use Rattle.tune_parts.specs.Parts.{AreParts, Part};
-ghost use Rattle.tune_search.specs.Claiming.{ClaimsParts, HasClaimed, HoldEachAtMost};
-ghost use Rattle.tune_search.specs.Claiming.{HoldsAtMost, HoldsLoaded, HoldsLoadedSearch};
-ghost use Rattle.tune_search.specs.Claiming.{firsts_of, parts_loaded, search_loaded};
+ghost use Rattle.tune_search.specs.LoadedParts.{ClaimsParts, HasClaimed, HoldEachAtMost};
+ghost use Rattle.tune_search.specs.LoadedParts.{HoldsAtMost, HoldsLoaded, HoldsLoadedSearch};
+ghost use Rattle.tune_search.specs.LoadedParts.{firsts_of, parts_loaded, search_loaded};
 ghost use Rattle.tune_search.specs.IndexParts.{IndexParts, parts_of_index};
 ghost use Rattle.tune_search.specs.Loaded.{AreStored, LoadsSearch};
 ghost use Rattle.tune_search.specs.Searches.{SearchParts, SearchRuns, SearchShape};

@@ -2,15 +2,15 @@
 ghost use Rattle.std.specs.Prelude.{◌≡◌, ℕ, false, List, IfOk, OnOk};
 ghost use Rattle.tune_pages.specs.FreePages.{TakesAtMost};
 ghost use Rattle.tune_pages.specs.Kept.{HonestAt};
-ghost use Rattle.tune_pages.specs.Reading.{LooksAt};
+ghost use Rattle.tune_pages.specs.PageLooks.{LooksAt};
 ghost use Rattle.tune_pages.specs.Work.{stand, Fits};
-ghost use Rattle.tune_index.specs.Faults.{AnswersEdit};
+ghost use Rattle.tune_index.specs.IndexAnswers.{AnswersEdit};
 ghost use Rattle.tune_parts.specs.Parts.{Part};
 ghost use Rattle.tune_search.specs.Inside.Four.{HoldsSomeFour, LaysFour};
 ghost use Rattle.tune_search.specs.SearchPages.{AreListed, firsts_in, leaves_of, lists_of};
 ghost use Rattle.tune_search.specs.Searches.{HoldsSomeTexts, HoldsTexts, SearchParts};
 
-use crate::laying::store_list;
+use crate::index_changes::store_list;
 use crate::loading::SearchFirsts;
 use crate::searches::SearchIndexes;
 use std::alloc::Global;

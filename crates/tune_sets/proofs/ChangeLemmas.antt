@@ -8,7 +8,7 @@ use Rattle.tune_sets.specs.Limits.{most_places, most_sets}
 use Rattle.tune_sets.specs.Names.{is_good_name, is_before}
 use Rattle.tune_sets.specs.Numbers.{renumbered, renumbered_all}
 use Rattle.tune_sets.specs.Sets.{IsTuneSet, RisesFrom, AreSetLists, empty_set, with_numbers, renumbered_set, renumbered_sets}
-use Rattle.tune_sets.specs.Inside.Search.{FoundAt, MissingAt}
+use Rattle.tune_sets.specs.Inside.Search.{NameFoundAt, NameMissingAt}
 use Rattle.tune_sets.specs.declared.set_lists.TuneSet.{TuneSet}
 use Rattle.tune_sets.proofs.NameOrder.{before_trans, good_after}
 use Rattle.tune_sets.proofs.SearchLemmas.{with_numbers-index}
@@ -106,7 +106,7 @@ length-remove_number (n ∷ numbers) (suc i) = omega (arith, length-remove_numbe
 pub there : (sets : List TuneSet) (index : ℕ) (set : TuneSet) → AreSetLists sets → index < length sets → set ≡ get_or sets index set → IsTuneSet set
 there sets index set are within is = subst IsTuneSet (sym is) (each-get sets index set are.each within)
 
-pub set_changed : (name numbers : List ℕ) (sets : List TuneSet) (index : ℕ) (set : TuneSet) → AreSetLists sets → FoundAt name index sets
+pub set_changed : (name numbers : List ℕ) (sets : List TuneSet) (index : ℕ) (set : TuneSet) → AreSetLists sets → NameFoundAt name index sets
     → set ≡ get_or sets index set → with_numbers name numbers sets ≡ slice_set sets index (record { name = set.name; numbers = numbers })
 set_changed name numbers sets index set are found is =
     with_numbers-index [] name numbers sets index set are.rises found.within (found.named set)
@@ -143,7 +143,7 @@ cut_are at sets index set are within is =
     (narrow-remove set.numbers at old.numbers)
 
 -- A SET MORE, A SET LESS
-pub created_are : (name : List ℕ) (sets : List TuneSet) (index : ℕ) → AreSetLists sets → MissingAt name index sets → is_good_name name ≡ true
+pub created_are : (name : List ℕ) (sets : List TuneSet) (index : ℕ) → AreSetLists sets → NameMissingAt name index sets → is_good_name name ≡ true
     → length sets < most_sets → AreSetLists (take index sets ++ empty_set name ∷ drop index sets)
 created_are name sets index are missing good room =
     let is_new : IsTuneSet (empty_set name) = record { name = good; places = omega arith; numbers = tt } in

@@ -12,7 +12,7 @@ use Rattle.std.proofs.lemmas.Cmp.{nat_list_cmp_total}
 use Rattle.std.proofs.lemmas.Map.Lookups.{exact_bytes}
 use Rattle.tune_sets.specs.Names.{is_before}
 use Rattle.tune_sets.specs.Sets.{RisesFrom, set_at, inserted, with_numbers, without}
-use Rattle.tune_sets.specs.Inside.Search.{FoundAt, MissingAt, last_name}
+use Rattle.tune_sets.specs.Inside.Search.{NameFoundAt, NameMissingAt, last_name}
 use Rattle.tune_sets.specs.declared.set_lists.TuneSet.{TuneSet}
 use Rattle.tune_sets.proofs.NameOrder.{before_trans, before_other, before_differs, before_not_after, same_name, cmp_rises}
 
@@ -92,19 +92,19 @@ inserted-index new (set ∷ sets) (suc n) l lesser greater =
     (λ k d from to. greater (suc k) d (omega arith) (omega arith))))
 
 -- FOUND OR MISSING
-pub found_set : (name : List ℕ) (index : ℕ) (sets : List TuneSet) (set : TuneSet) → RisesFrom [] sets → FoundAt name index sets → set ≡ get_or sets index set
-    → set_at name sets ≡ Some set
+pub found_set : (name : List ℕ) (index : ℕ) (sets : List TuneSet) (set : TuneSet) → RisesFrom [] sets → NameFoundAt name index sets
+    → set ≡ get_or sets index set → set_at name sets ≡ Some set
 found_set name index sets set rises found is = set_at-index [] name sets index set rises found.within (found.named set) ∙ ap (λ s. Some s) (sym is)
 
 -- the test of names where none is found
-other_name : (name : List ℕ) (index : ℕ) (sets : List TuneSet) → MissingAt name index sets → (n : ℕ) (d : TuneSet) → n < length sets
+other_name : (name : List ℕ) (index : ℕ) (sets : List TuneSet) → NameMissingAt name index sets → (n : ℕ) (d : TuneSet) → n < length sets
     → bytes_eq (get_or sets n d).name name ≡ false
 other_name name index sets missing n d l = elim (cases_lt n index) [
   | inl below ↦ before_differs _ name (missing.lesser n d (omega arith) below)
   | inr from ↦ before_other name _ (missing.greater n d from l)
 ]
 
-pub missing_set : (name : List ℕ) (index : ℕ) (sets : List TuneSet) → MissingAt name index sets → set_at name sets ≡ None
+pub missing_set : (name : List ℕ) (index : ℕ) (sets : List TuneSet) → NameMissingAt name index sets → set_at name sets ≡ None
 missing_set name index sets missing = set_at-none name sets (other_name name index sets missing)
 
 -- what a binary search answers
@@ -115,12 +115,12 @@ greater_before : (name other : List ℕ) → slice_cmp nat_cmp other name ≡ Gr
 greater_before name other is = ap is_lt (nat_list_cmp_total.antisymm name other ∙ ap ordering_reverse is)
 
 pub found_from : (name : List ℕ) (sets : List TuneSet) (r : Result ℕ ℕ) → IsSearchInRange r (length sets)
-    → IsBinarySearchResult (λ set. slice_cmp nat_cmp set.name name) sets r → IfOk r (λ index. FoundAt name index sets)
+    → IsBinarySearchResult (λ set. slice_cmp nat_cmp set.name name) sets r → IfOk r (λ index. NameFoundAt name index sets)
 found_from name sets (Ok index) within equal = record { within = within; named = λ d. exact_bytes (get_or sets index d).name name (equal d) }
 found_from name sets (Err index) within parts = tt
 
 pub missing_from : (name : List ℕ) (sets : List TuneSet) (r : Result ℕ ℕ) → RisesFrom [] sets → IsSearchInRange r (length sets)
-    → IsBinarySearchResult (λ set. slice_cmp nat_cmp set.name name) sets r → IfErr r (λ index. MissingAt name index sets)
+    → IsBinarySearchResult (λ set. slice_cmp nat_cmp set.name name) sets r → IfErr r (λ index. NameMissingAt name index sets)
 missing_from name sets (Ok index) rises within equal = tt
 missing_from name sets (Err index) rises within parts =
     let parted = parts (comparisons_rise name sets rises) in

@@ -9,7 +9,7 @@ use Rattle.tune_sets.specs.Names.{is_good_name}
 use Rattle.tune_sets.specs.Numbers.{has_place}
 use Rattle.tune_sets.specs.Sets.{set_at, inserted, empty_set, with_numbers, without}
 use Rattle.tune_sets.specs.declared.set_lists.TuneSet.{TuneSet}
-use Rattle.tune_sets.specs.declared.rows.SetRow.{SetRow}
+use Rattle.tune_sets.specs.declared.set_rows.SetRow.{SetRow}
 use Rattle.tune_sets.specs.declared.faults.SetFault.{SetFault}
 use Rattle.tune_sets.specs.declared.faults.SetFault.TheVariants.{BadName, SetTaken, SetsFull}
 use Rattle.tune_sets.specs.declared.faults.SetFault.TheVariants.{NoSuchSet, SetFull, NoSuchPlace}

@@ -2,8 +2,8 @@
 ghost use Rattle.std.specs.Prelude.{◌≡◌, ◌++◌, IfOk, OnOk};
 ghost use Rattle.tune_sets.specs.Calls.{rows_of};
 
-use crate::rows::SetRow;
 use crate::set_lists::TuneSet;
+use crate::set_rows::SetRow;
 use std::alloc::{AllocError, Global};
 
 // A copy of the sets.

@@ -1,7 +1,7 @@
 // Where the set of a name stands, and what holds a number.
 ghost use Rattle.std.specs.Prelude.{◌≡◌, [], IfOk, IfErr};
 ghost use Rattle.tune_sets.specs.Sets.{RisesFrom, holder};
-ghost use Rattle.tune_sets.specs.Inside.Search.{FoundAt, MissingAt};
+ghost use Rattle.tune_sets.specs.Inside.Search.{NameFoundAt, NameMissingAt};
 
 use crate::names::SetName;
 use crate::set_lists::TuneSet;
@@ -9,8 +9,8 @@ use crate::set_lists::TuneSet;
 // Where the set of a name stands, counted from 0, or where it would go.
 pub(crate) fn index_of(sets: &[TuneSet], name: &[u8]) -> Result<usize, usize>
     requires { RisesFrom [] sets.now }
-    ensures found { IfOk result (λ index. FoundAt name.now index sets.now) }
-    ensures missing { IfErr result (λ index. MissingAt name.now index sets.now) }
+    ensures found { IfOk result (λ index. NameFoundAt name.now index sets.now) }
+    ensures missing { IfErr result (λ index. NameMissingAt name.now index sets.now) }
 {
     sets.binary_search_by(|set| set.name.as_slice().cmp(name))
 }

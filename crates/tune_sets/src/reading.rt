@@ -13,7 +13,7 @@ ghost use Rattle.tune_sets.specs.declared.set_lists.TuneSet.{TuneSet};
 
 use crate::faults::ReadFault;
 use crate::names::SetName;
-use crate::numbers::NumberList;
+use crate::number_list::NumberList;
 use crate::set_lists::{MOST_PLACES, MOST_SETS, SetLists, TuneSet};
 use byteorder::{BigEndian, ByteOrder};
 use std::alloc::{AllocError, Global};

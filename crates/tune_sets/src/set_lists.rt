@@ -5,13 +5,13 @@ ghost use Rattle.tune_sets.specs.Sets.{AreSetLists, holder, renumbered_sets};
 ghost use Rattle.tune_sets.specs.Calls.{StaysOrGives, create_set, add_number, cut_place};
 ghost use Rattle.tune_sets.specs.Calls.{drop_set, places_of, rows_of};
 
-use crate::changes::{add_number, create_set, cut_place, drop_set, renumber_sets};
 use crate::copies::{copy_sets, write_rows};
 use crate::faults::SetFault;
 use crate::look_ups::{holder, index_of};
 use crate::names::SetName;
-use crate::numbers::NumberList;
-use crate::rows::SetRowList;
+use crate::number_list::NumberList;
+use crate::set_changes::{add_number, create_set, cut_place, drop_set, renumber_sets};
+use crate::set_rows::SetRowList;
 use std::alloc::{AllocError, Global};
 use std::marker::Model;
 

@@ -11,7 +11,7 @@ use Rattle.tune_queries.specs.declared.sought.Sought.{Sought}
 use Rattle.tune_store.specs.Candidates.{PlacesRise, HoldsFound}
 use Rattle.tune_store.specs.Questions.{found}
 use Rattle.tune_store.specs.declared.tune.Tune.{Tune}
-use Rattle.tune_store.specs.declared.rows.IndexRow.{IndexRow}
+use Rattle.tune_store.specs.declared.index_rows.IndexRow.{IndexRow}
 use Rattle.tune_store.proofs.PlanLemmas.{no_tune}
 use Rattle.tune_store.proofs.QuestionLemmas.{row_if, found_first}
 

@@ -13,14 +13,14 @@ use Rattle.tune_queries.specs.declared.queries.Query.{Query}
 use Rattle.tune_sets.specs.Sets.{IsTuneSet}
 use Rattle.tune_sets.specs.Calls.{places_of}
 use Rattle.tune_sets.specs.declared.set_lists.TuneSet.{TuneSet}
-use Rattle.tune_titles.specs.Order.{Row}
+use Rattle.tune_titles.specs.Order.{PlacedTitle}
 use Rattle.tune_titles.specs.ShownRows.{Shown, shown_row}
 use Rattle.tune_store.specs.State.{tune_at}
 use Rattle.tune_store.specs.Labels.{labels_of}
 use Rattle.tune_store.specs.Questions.{first_shown, found, titles_from, all_titles, row_found, texts_at, set_exported, title_row}
 use Rattle.tune_store.specs.Inside.Questions.{shown_title}
 use Rattle.tune_store.specs.declared.tune.Tune.{Tune}
-use Rattle.tune_store.specs.declared.rows.IndexRow.{IndexRow}
+use Rattle.tune_store.specs.declared.index_rows.IndexRow.{IndexRow}
 use Rattle.tune_store.specs.declared.catalog.Label.{Label}
 use Rattle.tune_store.specs.declared.command.Reply.TheVariants.{SetExported}
 use Rattle.tune_store.proofs.PlanLemmas.{IsPlaceOf, labels_long, label_at, no_tune, no_label}
@@ -101,7 +101,7 @@ shown_next bytes number place items i d rows new row all l is added before =
     gathered rows (row ∷ []) left rest new all added splits before
 
 -- the rows of titles, as a reply has them
-pub reply_rows : (titles : List Row) → map shown_title (map shown_row titles) ≡ map title_row titles
+pub reply_rows : (titles : List PlacedTitle) → map shown_title (map shown_row titles) ≡ map title_row titles
 reply_rows [] = refl
 reply_rows (title ∷ titles) = ap (λ rows. title_row title ∷ rows) (reply_rows titles)
 

@@ -21,7 +21,7 @@ use Rattle.tune_store.specs.Questions.{shown}
 use Rattle.tune_store.specs.Step.{step}
 use Rattle.tune_store.specs.Answers.{Answers, open_at, stepped, no_memory, failed_before, failed_after, is_closed, passed}
 use Rattle.tune_store.specs.Answers.{stays_open, IsRefusalOf, IsRefusalOfAny, IsRefusalOfOwn}
-use Rattle.tune_store.specs.Stops.{Among, Passes}
+use Rattle.tune_store.specs.StoreStops.{Among, Passes}
 use Rattle.tune_store.specs.Inside.Plans.{IsOwnOrMemory}
 use Rattle.tune_store.specs.declared.tune.Tune.{Tune}
 use Rattle.tune_store.specs.Limits.{longest_text, most_tunes, greatest_number, greatest_revision}

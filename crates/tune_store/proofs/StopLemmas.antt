@@ -2,7 +2,7 @@
 -- call after another.
 use Rattle.std.proofs.Common.{ℕ, List, [], ◌∷◌, ◌++◌, ◌⊎◌, refl, sym, subst, inl, inr, arith}
 use Rattle.tune_store.specs.State.{State}
-use Rattle.tune_store.specs.Stops.{Among, StandsForOne}
+use Rattle.tune_store.specs.StoreStops.{Among, StandsForOne}
 use Rattle.tune_store.specs.Stores.{StorePasses}
 use Rattle.tune_store.specs.declared.tune_store.TuneStore.{Ghosts}
 

@@ -6,7 +6,7 @@ pub mod Questions
 pub mod Step
 pub mod Answers
 pub mod Runs
-pub mod Stops
+pub mod StoreStops
 pub mod Revisions
 pub mod Places
 pub mod Stores

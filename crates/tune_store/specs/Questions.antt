@@ -6,10 +6,10 @@ use Rattle.tune_books.specs.WrittenBooks.{written_book, written_set}
 use Rattle.tune_queries.specs.Queries.{matches, is_bad}
 use Rattle.tune_queries.specs.declared.queries.Query.{Query}
 use Rattle.tune_sets.specs.declared.faults.SetFault.{SetFault}
-use Rattle.tune_titles.specs.Order.{Row, row_order, in_order}
+use Rattle.tune_titles.specs.Order.{PlacedTitle, row_order, in_order}
 use Rattle.tune_titles.specs.Titles.{index_title}
 use Rattle.tune_store.specs.declared.tune.Tune.{Tune}
-use Rattle.tune_store.specs.declared.rows.IndexRow.{IndexRow}
+use Rattle.tune_store.specs.declared.index_rows.IndexRow.{IndexRow}
 use Rattle.tune_store.specs.State.{tune_at}
 use Rattle.tune_store.specs.SetSteps.{sets_answer}
 use Rattle.tune_store.specs.declared.command.Reply.{Reply}
@@ -45,19 +45,19 @@ find notes query tunes =
 
 -- TITLES
 -- a row for each of these titles of a tune, at places from this one on
-abbrev pub titles_from : ℕ → ℕ → List (List ℕ) → List Row
+abbrev pub titles_from : ℕ → ℕ → List (List ℕ) → List PlacedTitle
 titles_from number place [] = []
 titles_from number place (title ∷ titles) =
     record { title = title; number = number; place = place }
     ∷ titles_from number (place + 1) titles
 
 -- a row for each title of each tune
-abbrev pub all_titles : List Tune → List Row
+abbrev pub all_titles : List Tune → List PlacedTitle
 all_titles [] = []
 all_titles (tune ∷ tunes) = titles_from tune.number 1 (titles_of tune.text) ++ all_titles tunes
 
 -- a title as an index shows it
-abbrev pub title_row : Row → IndexRow
+abbrev pub title_row : PlacedTitle → IndexRow
 title_row row = record { number = row.number; title = Some (index_title row.title) }
 
 -- the titles in the order of an index

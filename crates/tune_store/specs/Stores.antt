@@ -1,7 +1,7 @@
 -- What a store stands for, and what it passed over one call or many, by the members of its trait.
 use Rattle.std.specs.Prelude.{List}
 use Rattle.tune_store.specs.State.{State, Standing, standing_by}
-use Rattle.tune_store.specs.Stops.{Passes}
+use Rattle.tune_store.specs.StoreStops.{Passes}
 use Rattle.tune_store.specs.declared.tune_store.TuneStore.{Ghosts}
 
 -- what the store stands for, and whether it is closed

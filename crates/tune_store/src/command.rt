@@ -1,5 +1,5 @@
 // Commands, replies and refusals.
-use crate::rows::RowList;
+use crate::index_rows::RowList;
 use crate::tune::Tune;
 use abc_fields::{BookFault, ByteText, TuneFault};
 use std::alloc::{AllocError, AllocFailed};

@@ -18,8 +18,8 @@ ghost use Rattle.tune_store.specs.declared.tune.Tune.{Tune};
 
 use crate::catalog::Catalog;
 use crate::command::{Command, Refusal, Reply};
+use crate::index_rows::{IndexRow, RowList};
 use crate::plans::Plan;
-use crate::rows::{IndexRow, RowList};
 use crate::set_plans::held_name;
 use crate::tune::Tune;
 use abc_fields::{TuneText, fields};

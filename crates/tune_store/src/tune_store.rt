@@ -5,7 +5,7 @@ ghost use Rattle.tune_store.specs.State.{State, IsState, standing_by};
 ghost use Rattle.tune_store.specs.Step.{step};
 ghost use Rattle.tune_store.specs.Answers.{Answers, IsRefusalOf, passed, stays_open, may_write};
 ghost use Rattle.tune_store.specs.Revisions.{RaisesReplaced};
-ghost use Rattle.tune_store.specs.Stops.{Passes, HasFailed};
+ghost use Rattle.tune_store.specs.StoreStops.{Passes, HasFailed};
 
 use crate::command::{Command, Refusal, Reply};
 

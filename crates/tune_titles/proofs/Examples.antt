@@ -2,7 +2,7 @@
 use Rattle.std.proofs.Common.{◌≡◌, true, false, refl}
 use Rattle.std.specs.Prelude.{codes, [], ◌∷◌}
 use Rattle.index_keys.specs.Cuts.{cut_number}
-use Rattle.tune_titles.specs.SearchKeys.{title_keys, rhythm_keys}
+use Rattle.tune_titles.specs.TitleAndRhythmKeys.{title_keys, rhythm_keys}
 use Rattle.tune_titles.specs.Titles.{sorting_title, index_title, title_matches}
 
 -- an article alone is no article

@@ -10,7 +10,7 @@ use Rattle.std.specs.Ordering.{nat_cmp, ordering_then}
 use Rattle.std.specs.Cmp.{both_ways, IsTotalOrder, then_total, nat_cmp_total, on_total, tied_itself}
 use Rattle.std.specs.Cmp.Lexicographic.{nat_list_cmp_total}
 use Rattle.tune_titles.specs.Titles.{sorting_title}
-use Rattle.tune_titles.specs.Order.{Row, small_order, row_order, LawOfOrder}
+use Rattle.tune_titles.specs.Order.{PlacedTitle, small_order, row_order, LawOfOrder}
 use Rattle.tune_titles.proofs.SortLaw.{in_order-same, in_order-rises, only_order}
 
 -- from a place on, where both have a byte, the bytes at it come first
@@ -68,10 +68,10 @@ alike_more a b i j l e h =
 -- rows are in a total order
 pub row_order_total : IsTotalOrder row_order
 row_order_total =
-    then_total (on_total (λ (r : Row). sorting_title r.title) nat_list_cmp_total)
-    (then_total (on_total (λ (r : Row). r.number) nat_cmp_total) (on_total (λ (r : Row). r.place) nat_cmp_total))
+    then_total (on_total (λ (r : PlacedTitle). sorting_title r.title) nat_list_cmp_total)
+    (then_total (on_total (λ (r : PlacedTitle). r.number) nat_cmp_total) (on_total (λ (r : PlacedTitle). r.place) nat_cmp_total))
 
-pub law_of_order : (rows : List Row) → LawOfOrder rows
+pub law_of_order : (rows : List PlacedTitle) → LawOfOrder rows
 law_of_order rows = record {
   same = in_order-same row_order row_order_total rows;
   rises = in_order-rises row_order row_order_total rows;

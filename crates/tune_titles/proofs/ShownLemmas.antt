@@ -9,7 +9,7 @@ use Rattle.std.specs.Cmp.{IsTotalOrder, then_total, nat_cmp_total, on_total}
 use Rattle.std.specs.Cmp.Lexicographic.{nat_list_cmp_total}
 use Rattle.abc_fields.specs.Words.{trimmed}
 use Rattle.tune_titles.specs.Articles.{Parts, HasTrailing, comma, leading, trailing, rest_or, rest_after, title_rest}
-use Rattle.tune_titles.specs.Order.{Row, put_in, in_order, row_order}
+use Rattle.tune_titles.specs.Order.{PlacedTitle, put_in, in_order, row_order}
 use Rattle.tune_titles.specs.ShownRows.{Shown, shown_row, shown_order}
 use Rattle.tune_titles.specs.Titles.{index_title, shown_after}
 use Rattle.tune_titles.proofs.ArticleLaw.{law_of_articles}
@@ -69,7 +69,7 @@ shown_order_total =
     then_total (on_total (λ (r : Shown). r.sorting) nat_list_cmp_total)
     (then_total (on_total (λ (r : Shown). r.number) nat_cmp_total) (on_total (λ (r : Shown). r.place) nat_cmp_total))
 
-pub shown_in_order : (new old : List Shown) → new ≡ in_order shown_order old → (titles : List Row) → old ≡ map shown_row titles
+pub shown_in_order : (new old : List Shown) → new ≡ in_order shown_order old → (titles : List PlacedTitle) → old ≡ map shown_row titles
     → new ≡ map shown_row (in_order row_order titles)
 shown_in_order new old sorted titles is =
     sorted ∙ ap (in_order shown_order) is ∙ in_order-map shown_row row_order shown_order (λ a b. refl) titles

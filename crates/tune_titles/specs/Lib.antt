@@ -2,5 +2,5 @@ pub mod Articles
 pub mod Titles
 pub mod Order
 pub mod ShownRows
-pub mod SearchKeys
+pub mod TitleAndRhythmKeys
 pub mod Inside

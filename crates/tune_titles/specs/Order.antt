@@ -8,7 +8,7 @@ use Rattle.tune_titles.specs.Articles.{small_letters}
 use Rattle.tune_titles.specs.Titles.{sorting_title}
 
 -- a title, the number of its tune, and its place among the titles of that tune
-pub record Row : Type 0 where
+pub record PlacedTitle : Type 0 where
   pub title : List ℕ
   pub number : ℕ
   pub place : ℕ
@@ -18,7 +18,7 @@ abbrev pub small_order : List ℕ → List ℕ → Ordering
 small_order a b = slice_cmp nat_cmp (small_letters a) (small_letters b)
 
 -- by sorting title in byte order, then by number, then by place
-abbrev pub row_order : Row → Row → Ordering
+abbrev pub row_order : PlacedTitle → PlacedTitle → Ordering
 row_order a b = ordering_then
     (slice_cmp nat_cmp (sorting_title a.title) (sorting_title b.title))
     (ordering_then (nat_cmp a.number b.number) (nat_cmp a.place b.place))
@@ -37,8 +37,8 @@ in_order cmp (x ∷ xs) = put_in cmp x (in_order cmp xs)
 -- THE SAME IN A READER'S WORDS
 -- they are the same rows, none comes before one above it, and the rows have no other order in which
 -- each comes before those below it
-pub record LawOfOrder (rows : List Row) : Type 0 where
+pub record LawOfOrder (rows : List PlacedTitle) : Type 0 where
   pub same : IsPermutation rows (in_order row_order rows)
   pub rises : IsSorted row_order (in_order row_order rows)
-  pub only : (others : List Row) → IsPermutation rows others
+  pub only : (others : List PlacedTitle) → IsPermutation rows others
       → IsStrictlySortedBy row_order others → others ≡ in_order row_order rows

@@ -3,7 +3,7 @@ use Rattle.std.specs.Prelude.{ℕ, List}
 use Rattle.std.specs.Ordering.{nat_cmp, ordering_then}
 use Rattle.std.specs.Cmp.Lexicographic.{slice_cmp}
 use Rattle.std.specs.declared.cmp.Ordering.{Ordering}
-use Rattle.tune_titles.specs.Order.{Row}
+use Rattle.tune_titles.specs.Order.{PlacedTitle}
 use Rattle.tune_titles.specs.Titles.{sorting_title, index_title}
 
 -- by what a title is sorted, the title as the index shows it, the number of the tune, and the place
@@ -14,7 +14,7 @@ pub record Shown : Type 0 where
   pub number : ℕ
   pub place : ℕ
 
-abbrev pub shown_row : Row → Shown
+abbrev pub shown_row : PlacedTitle → Shown
 shown_row row = record {
   sorting = sorting_title row.title;
   title = index_title row.title;

@@ -10,14 +10,14 @@ mod articles;
 mod fronts;
 mod lists;
 mod matching;
-mod rows;
 mod search_keys;
 mod shown;
 mod shown_rows;
+mod title_rows;
 
 pub use lists::{TitleList, titles_of};
 pub use matching::{TitlePrefix, prefix_matches, rhythm_matches, title_matches_tune};
-pub use rows::{TitleRow, sort_rows};
 pub use search_keys::{RhythmKeys, TitleKeys, key_of_rhythm, keys_of_titles};
 pub use shown::{index_title, sort_title};
 pub use shown_rows::{ShownRow, sort_shown};
+pub use title_rows::{TitleRow, sort_rows};

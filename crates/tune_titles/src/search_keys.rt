@@ -3,7 +3,7 @@ ghost use Rattle.std.specs.Prelude.{◌≡◌, IfOk, option_copied};
 ghost use Rattle.std.specs.Option.{option_to_list};
 ghost use Rattle.index_keys.specs.Cuts.{cut_number};
 ghost use Rattle.tune_titles.specs.Articles.{small_letters};
-ghost use Rattle.tune_titles.specs.SearchKeys.{rhythm_keys_of, title_keys_of};
+ghost use Rattle.tune_titles.specs.TitleAndRhythmKeys.{rhythm_keys_of, title_keys_of};
 ghost use Rattle.tune_titles.specs.Titles.{sorting_title};
 
 use crate::articles::rest_of;
@@ -27,7 +27,7 @@ pub struct RhythmKeys<'a> {
 
 impl<'a> Keyed<32> for TitleKeys<'a> {
     ghost use Rattle.index_keys.specs.Cuts.{cut_number};
-    ghost use Rattle.tune_titles.specs.SearchKeys.{title_keys};
+    ghost use Rattle.tune_titles.specs.TitleAndRhythmKeys.{title_keys};
     ghost use Rattle.tune_titles.specs.Titles.{finds_title};
     ghost use Rattle.tune_titles.specs.Inside.KindLaws.{titles_found, titles_rise};
 
@@ -68,7 +68,7 @@ impl<'a> Keyed<32> for TitleKeys<'a> {
 impl<'a> Keyed<32> for RhythmKeys<'a> {
     ghost use Rattle.index_keys.specs.Cuts.{cut_number};
     ghost use Rattle.tune_titles.specs.Articles.{small_letters};
-    ghost use Rattle.tune_titles.specs.SearchKeys.{rhythm_keys};
+    ghost use Rattle.tune_titles.specs.TitleAndRhythmKeys.{rhythm_keys};
     ghost use Rattle.tune_titles.specs.Titles.{finds_rhythm};
     ghost use Rattle.tune_titles.specs.Inside.KindLaws.{rhythm_found, rhythm_rises};
 

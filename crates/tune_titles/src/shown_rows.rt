@@ -1,6 +1,6 @@
 // The titles of tunes in order, as an index shows them.
 ghost use Rattle.std.specs.Prelude.{◌≡◌, List, map, IfOk, OnOk, OnErr};
-ghost use Rattle.tune_titles.specs.Order.{Row, row_order, in_order};
+ghost use Rattle.tune_titles.specs.Order.{PlacedTitle, row_order, in_order};
 ghost use Rattle.tune_titles.specs.ShownRows.{shown_row, shown_order};
 
 use crate::articles::rest_of;
@@ -92,7 +92,7 @@ impl ShownRow {
 /// Puts the rows of titles in the order of an index, as `sort_rows` puts these titles. Its only
 /// error is out of memory, and the rows then stay as they were.
 pub fn sort_shown(rows: &mut Vec<ShownRow>) -> Result<(), AllocError>
-    ensures ok { OnOk result ((titles : List Row) → rows.old.items ≡ map shown_row titles
+    ensures ok { OnOk result ((titles : List PlacedTitle) → rows.old.items ≡ map shown_row titles
         → rows.new.items ≡ map shown_row (in_order row_order titles)) }
     ensures err { OnErr result (rows.new.items ≡ rows.old.items) }
 {

@@ -13,46 +13,46 @@ use Rattle.abc_fields.specs.declared.file_header.HeaderLine.{HeaderLine}
 use Rattle.abc_fields.specs.declared.file_header.RuleSum.{RuleSum}
 
 -- a line, and which tunes carry it
-pub record Row : Type 0 where
+pub record HeaderRow : Type 0 where
   pub rule : CarryRule
   pub text : List ℕ
 
-abbrev pub row_list : List HeaderLine → List Row
+abbrev pub row_list : List HeaderLine → List HeaderRow
 row_list lines = map (λ line. record { rule = line.rule; text = line.text.now }) lines
 
 -- rows, and one more, unless no tune carries it
-abbrev pub rows_with : List Row → CarryRule → List ℕ → List Row
+abbrev pub rows_with : List HeaderRow → CarryRule → List ℕ → List HeaderRow
 rows_with rows Never text = rows
 rows_with rows Always text = rows ++ record { rule = Always; text = text } ∷ []
 rows_with rows (Unless letter) text = rows ++ record { rule = Unless letter; text = text } ∷ []
 
 -- the rows of lines, after these rows and below a field line of this rule
-abbrev pub rows_after : List Row → CarryRule → List (List ℕ) → List Row
+abbrev pub rows_after : List HeaderRow → CarryRule → List (List ℕ) → List HeaderRow
 rows_after rows above [] = rows
 rows_after rows above (line ∷ lines) =
     rows_after (rows_with rows (rule_of above line) line) (rule_below above line) lines
 
-abbrev pub rows_of_block : List Row → CarryRule → List (List ℕ) → List Row
+abbrev pub rows_of_block : List HeaderRow → CarryRule → List (List ℕ) → List HeaderRow
 rows_of_block rows above block =
     if list_all is_header_line block then rows_after rows above block else []
 
 -- the rows of the file header of lines
-abbrev pub header_rows : List (List ℕ) → List Row
+abbrev pub header_rows : List (List ℕ) → List HeaderRow
 header_rows lines = rows_of_block [] Never (first_block lines)
 
 -- the rows, where the first block has begun or has not
-abbrev pub open_rows : Bool → List Row → CarryRule → List (List ℕ) → List Row
+abbrev pub open_rows : Bool → List HeaderRow → CarryRule → List (List ℕ) → List HeaderRow
 open_rows false rows above lines = header_rows lines
 open_rows true rows above lines = rows_of_block rows above (block_of lines)
 
 -- the lines of rows that a tune carries whose own header has the fields of these letters
-abbrev pub taken : (ℕ → Bool) → List Row → List (List ℕ)
+abbrev pub taken : (ℕ → Bool) → List HeaderRow → List (List ℕ)
 taken owns [] = []
 taken owns (row ∷ rows) =
     if carries owns row.rule then row.text ∷ taken owns rows else taken owns rows
 
 -- the lines of a tune, with those that it carries of these rows
-abbrev pub with_rows : List Row → List (List ℕ) → List (List ℕ)
+abbrev pub with_rows : List HeaderRow → List (List ℕ) → List (List ℕ)
 with_rows rows run = before_key (taken (has_letter (header_of run)) rows) run
 
 -- LETTERS
@@ -69,7 +69,7 @@ abbrev pub IsByteRule : CarryRule → Type 0
 IsByteRule (Unless letter) = letter < 256
 IsByteRule rule = ⊤
 
-abbrev pub AreByteRows : List Row → Type 0
+abbrev pub AreByteRows : List HeaderRow → Type 0
 AreByteRows rows = AllByRecursion (λ row. IsByteRule row.rule) rows
 
 -- SUMS
@@ -85,16 +85,16 @@ sum_all [] = 0
 sum_all (sum ∷ sums) = sum.length + sum_all sums
 
 -- rows and the sums of their bytes by rules, each line with its line feed
-pub record AreSums (rows : List Row) (sums : List RuleSum) : Type 0 where
+pub record AreSums (rows : List HeaderRow) (sums : List RuleSum) : Type 0 where
   pub each : (owns : ℕ → Bool) → sum_carried owns sums ≡ length (joined (taken owns rows))
   pub few : sum_all sums ≤ longest_book + 1
   pub bytes : AreByteRows rows
 
 -- TUNES
 -- these tunes, each with the lines that it carries of these rows
-abbrev pub runs_with : List Row → List (List (List ℕ)) → List (List (List ℕ))
+abbrev pub runs_with : List HeaderRow → List (List (List ℕ)) → List (List (List ℕ))
 runs_with rows runs = map (with_rows rows) runs
 
 -- their texts
-abbrev pub texts_with : List Row → List (List (List ℕ)) → List (List ℕ)
+abbrev pub texts_with : List HeaderRow → List (List (List ℕ)) → List (List ℕ)
 texts_with rows runs = map joined (runs_with rows runs)

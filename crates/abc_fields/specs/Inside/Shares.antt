@@ -5,7 +5,7 @@ use Rattle.std.specs.Prelude.{◌⊎◌, Option, Some, None}
 use Rattle.std.specs.List.{AllByRecursion, list_any}
 use Rattle.abc_fields.specs.Bytes.{line_feed}
 use Rattle.abc_fields.specs.Tunes.{joined}
-use Rattle.abc_fields.specs.Inside.HeaderRows.{Row}
+use Rattle.abc_fields.specs.Inside.HeaderRows.{HeaderRow}
 use Rattle.abc_fields.specs.declared.carry_rules.CarryRule.{CarryRule}
 use Rattle.abc_fields.specs.declared.carry_rules.CarryRule.TheVariants.{Never, Always, Unless}
 use Rattle.abc_fields.specs.declared.shares.Mark.{Mark}
@@ -33,13 +33,13 @@ same_rule (Unless first) (Unless second) = first == second
 same_rule _ _ = false
 
 -- the lines of rows that have this rule
-abbrev pub texts_by : CarryRule → List Row → List (List ℕ)
+abbrev pub texts_by : CarryRule → List HeaderRow → List (List ℕ)
 texts_by rule [] = []
 texts_by rule (row ∷ rows) =
     if same_rule rule row.rule then row.text ∷ texts_by rule rows else texts_by rule rows
 
 -- their marks, where the first of the rows stands at this place
-abbrev pub marks_by : CarryRule → ℕ → List Row → List Mark
+abbrev pub marks_by : CarryRule → ℕ → List HeaderRow → List Mark
 marks_by rule place [] = []
 marks_by rule place (row ∷ rows) =
     if same_rule rule row.rule
@@ -47,7 +47,7 @@ marks_by rule place (row ∷ rows) =
     else marks_by rule (place + 1) rows
 
 -- the lines of their rule among rows, of which the first stands at this place
-pub record AreOf (place : ℕ) (rows : List Row) (lines : RuleLines) : Type 0 where
+pub record AreOf (place : ℕ) (rows : List HeaderRow) (lines : RuleLines) : Type 0 where
   pub marks : lines.marks ≡ marks_by lines.rule place rows
   pub bytes : lines.bytes ≡ joined (texts_by lines.rule rows)
 
@@ -62,7 +62,7 @@ rules_of shares = map (λ lines. lines.rule) shares
 
 -- the lines of rows, of which the first stands at this place, for each rule that passes a test and
 -- that a row has
-pub record AreShares (test : CarryRule → Bool) (place : ℕ) (rows : List Row)
+pub record AreShares (test : CarryRule → Bool) (place : ℕ) (rows : List HeaderRow)
     (shares : List RuleLines) : Type 0 where
   pub each : AllByRecursion (AreOf place rows) shares
   pub tested : AllByRecursion (λ rule. test rule ≡ true) (rules_of shares)

@@ -1,6 +1,6 @@
 -- What a reader of items remembers of closing marks that it sought and did not find.
 use Rattle.std.specs.Prelude.{ℕ, List, Bool, IsTrue}
-use Rattle.abc_items.specs.declared.rows.Misses.{Misses}
+use Rattle.abc_items.specs.declared.item_rows.Misses.{Misses}
 use Rattle.abc_items.specs.Marks.{closing_brace, closing_bracket, has_no}
 
 -- a mark that is remembered as missing stands nowhere in the text

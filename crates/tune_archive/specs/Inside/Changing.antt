@@ -6,14 +6,14 @@ use Rattle.tune_disk.specs.Stops.{LeavesOnly, SinceThen}
 use Rattle.tune_journal.specs.Image.{StandsFor, StandsForEither}
 use Rattle.tune_pages.specs.Faults.{CountsFaultWhere}
 use Rattle.tune_pages.specs.Kept.{Kept, HonestAt, state_at, failures_at}
-use Rattle.tune_pages.specs.Reading.{SameKept}
+use Rattle.tune_pages.specs.PageLooks.{SameKept}
 use Rattle.tune_pages.specs.Stand.{Stand}
 use Rattle.tune_pages.specs.declared.fault.Fault.{Fault}
 use Rattle.tune_pages.specs.declared.fault.Fault.TheVariants.{FileFull, OutOfMemory, Device}
 use Rattle.tune_pages.specs.declared.fault.Fault.TheVariants.{Closed}
 use Rattle.tune_store.specs.Plans.{changed}
 use Rattle.tune_store.specs.State.{State, IsState}
-use Rattle.tune_store.specs.Stops.{HasFailed}
+use Rattle.tune_store.specs.StoreStops.{HasFailed}
 use Rattle.tune_store.specs.declared.command.Refusal.{Refusal}
 use Rattle.tune_store.specs.declared.command.Refusal.TheVariants as refusal
 use Rattle.tune_store.specs.declared.plans.Change.{Change}

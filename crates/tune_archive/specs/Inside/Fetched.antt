@@ -6,7 +6,7 @@ use Rattle.tune_pages.specs.Kept.{HonestAt, failures_at}
 use Rattle.tune_format.specs.States.{state_in}
 use Rattle.tune_contents.specs.Holds.{labels_in}
 use Rattle.tune_store.specs.Labels.{labels_of}
-use Rattle.tune_store.specs.Stops.{HasFailed}
+use Rattle.tune_store.specs.StoreStops.{HasFailed}
 use Rattle.tune_archive.specs.Shelf.{Shelf, state_of}
 use Rattle.tune_archive.specs.Inside.Fetching.{Tells, Fetches, FailsFetch}
 

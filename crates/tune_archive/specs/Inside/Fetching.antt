@@ -3,7 +3,7 @@ use Rattle.std.specs.Prelude.{◌≡◌, ℕ, true, false, Some, slice_index_or}
 use Rattle.tune_disk.specs.Disk.{DiskState}
 use Rattle.tune_pages.specs.Kept.{HonestAt, state_at, failures_at}
 use Rattle.tune_store.specs.Labels.{labels_of}
-use Rattle.tune_store.specs.Stops.{HasFailed}
+use Rattle.tune_store.specs.StoreStops.{HasFailed}
 use Rattle.tune_store.specs.declared.tune.Tune.{Tune}
 use Rattle.tune_contents.specs.Holds.{labels_in}
 use Rattle.tune_archive.specs.Shelf.{Shelf, state_of}

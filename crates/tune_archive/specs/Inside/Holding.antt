@@ -6,7 +6,7 @@ use Rattle.tune_journal.specs.Image.{StandsFor}
 use Rattle.tune_pages.specs.Kept.{Kept, HonestAt, state_at}
 use Rattle.tune_pages.specs.Stand.{Stand}
 use Rattle.tune_store.specs.State.{IsState}
-use Rattle.tune_format.specs.Layout.{most_pages_of}
+use Rattle.tune_format.specs.RootOffsets.{most_pages_of}
 use Rattle.tune_contents.specs.Claimed.{AreRows}
 use Rattle.tune_contents.specs.Holds.{HoldsContents}
 use Rattle.tune_contents.specs.declared.contents.Contents.{Contents}

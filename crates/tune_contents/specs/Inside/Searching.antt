@@ -12,7 +12,7 @@ use Rattle.tune_search.specs.Searches.{numbered}
 use Rattle.tune_store.specs.declared.tune.Tune.{Tune}
 use Rattle.tune_store.specs.declared.plans.Change.{Change}
 use Rattle.tune_store.specs.declared.plans.Change.TheVariants.{Add, Put, Take, Move}
-use Rattle.tune_format.specs.Layout.{number_bytes}
+use Rattle.tune_format.specs.RootOffsets.{number_bytes}
 use Rattle.tune_format.specs.declared.rows.Row.{Row}
 use Rattle.tune_contents.specs.Claimed.{RowsRise}
 

@@ -5,7 +5,7 @@ use Rattle.tune_sets.specs.SetBytes.{written_sets}
 use Rattle.tune_sets.specs.declared.set_lists.TuneSet.{TuneSet}
 use Rattle.tune_store.specs.declared.plans.Change.{Change}
 use Rattle.tune_store.specs.declared.plans.Change.TheVariants.{Add, Put}
-use Rattle.tune_format.specs.Layout.{revision_bytes}
+use Rattle.tune_format.specs.RootOffsets.{revision_bytes}
 
 -- the chain of a tune with this text
 abbrev pub tune_pages : List ℕ → ℕ

@@ -10,7 +10,7 @@ use Rattle.tune_store.specs.declared.tune.Tune.{Tune}
 use Rattle.tune_format.specs.Filed.{numbered_texts}
 use Rattle.tune_format.specs.declared.rows.Row.{Row}
 use Rattle.tune_contents.specs.Inside.Laying.{HoldsTunes}
-use Rattle.tune_contents.specs.Inside.Rows.{numbers_in}
+use Rattle.tune_contents.specs.Inside.TuneRows.{numbers_in}
 
 -- They are those of texts with the numbers of the rows in front of a place; where the disk is
 -- honest, of the tunes that stand there.

@@ -5,7 +5,7 @@ use Rattle.std.proofs.Common.{arith, length-append, length-drop}
 use Rattle.std.proofs.lemmas.Bool.{cases_lt}
 use Rattle.std.proofs.lemmas.List.{places, get_or-append_right, get_or_append_left}
 use Rattle.std.proofs.lemmas.List.{get_or-replicate, get_or_past, length-replicate, length-take}
-use Rattle.tune_disk.specs.Bytes.{filled, pasted, put}
+use Rattle.tune_disk.specs.ByteWrites.{filled, pasted, put}
 use Rattle.tune_disk.specs.Disk.{Written, length_after}
 
 -- a write of some bytes makes the file reach past them

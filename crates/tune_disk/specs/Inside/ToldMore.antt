@@ -1,6 +1,6 @@
 -- What further answers of a file say of it, whatever it stood for before.
 use Rattle.std.specs.Prelude.{◌≡◌, ℕ, ◌+◌, ◌<◌, List, ◌++◌, length, slice_index}
-use Rattle.tune_disk.specs.Bytes.{put}
+use Rattle.tune_disk.specs.ByteWrites.{put}
 use Rattle.tune_disk.specs.Disk.{Torn}
 use Rattle.tune_disk.specs.FileTold.{History, Course, course, AnswersFit, after_write}
 use Rattle.tune_disk.specs.declared.file.told.Told.{Told}

@@ -1,7 +1,7 @@
 -- The order of a list of changes, and where a page stands in it.
 use Rattle.std.specs.Prelude.{◌≡◌, ℕ, ◌<◌, ◌≤◌, List, [], ◌∷◌, length, take, drop, All}
 use Rattle.tune_journal.specs.ChangeList.{changed_page}
-use Rattle.tune_journal.specs.Layout.{block_bytes}
+use Rattle.tune_journal.specs.FileOffsets.{block_bytes}
 
 -- each of these changes is of a page below this one
 abbrev pub AreBelow : ℕ → List (ℕ × List ℕ) → Type 0

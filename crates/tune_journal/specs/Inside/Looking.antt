@@ -4,7 +4,7 @@ use Rattle.tune_disk.specs.Disk.{DiskState}
 use Rattle.tune_journal.specs.Image.{number, entry_offset, gate_of, count_of, new_count_of}
 use Rattle.tune_journal.specs.Image.{IsHeaded, HasPageCount, HasLog, entry_count_of, StandsForNone}
 use Rattle.tune_journal.specs.Image.{magic_of}
-use Rattle.tune_journal.specs.Layout.{magic, magic_bytes, gate_open, most_pages}
+use Rattle.tune_journal.specs.FileOffsets.{magic, magic_bytes, gate_open, most_pages}
 use Rattle.tune_journal.specs.Refusal.{IsSynced}
 use Rattle.tune_journal.specs.declared.look.Found.{Found}
 use Rattle.tune_journal.specs.declared.look.Found.TheVariants.{NotArchive, Damaged, Closed, Open}

@@ -6,8 +6,8 @@ use Rattle.tune_disk.specs.Disk.{DiskState, GoesTo, settled, CountsFailure}
 use Rattle.tune_disk.specs.Inside.Spares.{Spares}
 use Rattle.tune_journal.specs.ChangeList.{change_at}
 use Rattle.tune_journal.specs.Image.{window, page_offset, entry_offset}
-use Rattle.tune_journal.specs.Layout.{block_bytes, descriptor_offset, descriptor_bytes}
-use Rattle.tune_journal.specs.Layout.{count_offset, entry_bytes}
+use Rattle.tune_journal.specs.FileOffsets.{block_bytes, descriptor_offset, descriptor_bytes}
+use Rattle.tune_journal.specs.FileOffsets.{count_offset, entry_bytes}
 
 -- writes that spare what is kept, and then a sync
 pub record Settles (Kept : ℕ → Type 0) (old new : DiskState) : Type 0 where

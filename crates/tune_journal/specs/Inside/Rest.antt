@@ -3,7 +3,7 @@ use Rattle.std.specs.Prelude.{◌≡◌, ◌≢◌, ℕ}
 use Rattle.tune_disk.specs.Disk.{DiskState, settled}
 use Rattle.tune_journal.specs.Image.{IsHeaded, HasPageCount, HasLog, count_of, new_count_of}
 use Rattle.tune_journal.specs.Image.{gate_of, pages_of, log_of, entry_count_of}
-use Rattle.tune_journal.specs.Layout.{gate_open}
+use Rattle.tune_journal.specs.FileOffsets.{gate_open}
 use Rattle.tune_journal.specs.Pages.{changed}
 
 -- n pages at their offsets behind a closed gate, all of it on the disk

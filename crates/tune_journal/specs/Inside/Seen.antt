@@ -5,7 +5,7 @@ use Rattle.tune_disk.specs.Disk.{DiskState}
 use Rattle.tune_journal.specs.Held.{Held, Staged, Decided}
 use Rattle.tune_journal.specs.Image.{pages_of, log_of}
 use Rattle.tune_journal.specs.Inside.Rest.{IsAtRest, IsLogged, IsOpened, IsApplied}
-use Rattle.tune_journal.specs.Layout.{most_pages}
+use Rattle.tune_journal.specs.FileOffsets.{most_pages}
 use Rattle.tune_journal.specs.Pages.{changed}
 
 -- codes of lists of pages, and of changes

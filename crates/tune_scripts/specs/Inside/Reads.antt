@@ -6,14 +6,14 @@ use Rattle.std.specs.Io.KnownBytes.{Consumes, IsAtEnd}
 use Rattle.abc_fields.specs.Bytes.{line_feed}
 use Rattle.tune_scripts.specs.Limits.{longest_line}
 use Rattle.tune_scripts.specs.InputLines.{before_feed, after_feed, has_feed}
-use Rattle.tune_scripts.specs.declared.reading.PieceRead.{PieceRead}
-use Rattle.tune_scripts.specs.declared.reading.PieceRead.TheVariants as piece
-use Rattle.tune_scripts.specs.declared.reading.PartRead.{PartRead}
-use Rattle.tune_scripts.specs.declared.reading.PartRead.TheVariants as part
-use Rattle.tune_scripts.specs.declared.reading.LineRead.{LineRead}
-use Rattle.tune_scripts.specs.declared.reading.LineRead.TheVariants as line
-use Rattle.tune_scripts.specs.declared.reading.BookRead.{BookRead}
-use Rattle.tune_scripts.specs.declared.reading.BookRead.TheVariants as book
+use Rattle.tune_scripts.specs.declared.script_reading.PieceRead.{PieceRead}
+use Rattle.tune_scripts.specs.declared.script_reading.PieceRead.TheVariants as piece
+use Rattle.tune_scripts.specs.declared.script_reading.PartRead.{PartRead}
+use Rattle.tune_scripts.specs.declared.script_reading.PartRead.TheVariants as part
+use Rattle.tune_scripts.specs.declared.script_reading.LineRead.{LineRead}
+use Rattle.tune_scripts.specs.declared.script_reading.LineRead.TheVariants as line
+use Rattle.tune_scripts.specs.declared.script_reading.BookRead.{BookRead}
+use Rattle.tune_scripts.specs.declared.script_reading.BookRead.TheVariants as book
 
 -- bytes of a line: none is a line feed
 abbrev pub is_inside : ℕ → Bool

@@ -6,12 +6,12 @@ use Rattle.tune_sets.specs.Names.{is_before}
 use Rattle.tune_sets.specs.declared.set_lists.TuneSet.{TuneSet}
 
 -- the set at this index has the name
-pub record FoundAt (name : List ℕ) (index : ℕ) (sets : List TuneSet) : Type 0 where
+pub record NameFoundAt (name : List ℕ) (index : ℕ) (sets : List TuneSet) : Type 0 where
   pub within : index < length sets
   pub named : (d : TuneSet) → (slice_index_or sets index d).name ≡ name
 
 -- no set has the name: those before this index have lesser names, and the others greater ones
-pub record MissingAt (name : List ℕ) (index : ℕ) (sets : List TuneSet) : Type 0 where
+pub record NameMissingAt (name : List ℕ) (index : ℕ) (sets : List TuneSet) : Type 0 where
   pub within : index ≤ length sets
   pub lesser : AllWithin (λ set. is_before set.name name ≡ true) sets 0 index
   pub greater : AllWithin (λ set. is_before name set.name ≡ true) sets index (length sets)

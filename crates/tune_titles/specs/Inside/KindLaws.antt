@@ -10,12 +10,12 @@ use Rattle.std.proofs.lemmas.Slice.Eq.{starts_is, bytes_eq-Decides}
 use Rattle.abc_fields.specs.Bytes.{begins_with}
 use Rattle.abc_fields.specs.Fields.{titles_of, rhythm_of}
 use Rattle.index_keys.specs.Cuts.{cut_number, LiesWithin}
-use Rattle.index_keys.specs.Keys.{HasKeyWithin, KeysRise}
+use Rattle.index_keys.specs.KeyLists.{HasKeyWithin, KeysRise}
 use Rattle.index_keys.specs.Inside.CutLaw.{cut_within}
 use Rattle.index_keys.specs.Inside.KeyOrder.{keys_rise, rising_has}
 use Rattle.index_keys.specs.Inside.Members.{contains_first, contains_later}
 use Rattle.tune_titles.specs.Articles.{small_letters}
-use Rattle.tune_titles.specs.SearchKeys.{title_keys, rhythm_keys, rhythm_keys_of}
+use Rattle.tune_titles.specs.TitleAndRhythmKeys.{title_keys, rhythm_keys, rhythm_keys_of}
 use Rattle.tune_titles.specs.Titles.{sorting_title, same_rhythm, finds_title, finds_rhythm}
 
 -- one that passes, where some does

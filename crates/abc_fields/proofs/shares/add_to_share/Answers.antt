@@ -1,12 +1,12 @@
 use Rattle.std.proofs.Common.{◌∙◌, ◌∷◌, ◌++◌, [], true, subst, sym, ap, set}
-use Rattle.abc_fields.specs.Inside.HeaderRows.{Row}
+use Rattle.abc_fields.specs.Inside.HeaderRows.{HeaderRow}
 use Rattle.abc_fields.specs.Inside.Shares.{RuleLines, AreShares, with_line}
 use Rattle.abc_fields.proofs.ShareLemmas.{add_row}
 use Rattle.abc_fields.proofs.shares.add_to_share.Goals as goal
 
 pub returns : goal.returns
 returns c = λ rows here are.
-    let row : Row = record { rule = c.args.line.rule; text = c.args.line.text.now } in
+    let row : HeaderRow = record { rule = c.args.line.rule; text = c.args.line.text.now } in
     let shares = c.share_of.new.shares.items in
     let index = c.in_ok-index.index in
     let none = c.index_mut.result.now in

@@ -1,7 +1,7 @@
 use Rattle.std.proofs.Common.{◌≤◌, ◌∷◌, ◌∙◌, sym, ap, refl, subst, List, length, arith}
 use Rattle.abc_fields.specs.Limits.{longest_book}
 use Rattle.abc_notes.specs.Events.{Event, bar}
-use Rattle.abc_notes.specs.Inside.Kept.{notes_left, IsKept}
+use Rattle.abc_notes.specs.Inside.KeptBar.{notes_left, IsKeptBar}
 use Rattle.abc_notes.proofs.KeptLemmas.{kept_on, kept_new, notes_over_bar, notes_at_bar}
 use Rattle.abc_notes.proofs.notes.end_bar.Goals as goal
 
@@ -21,7 +21,7 @@ returns-then-bar-lt-LONG_BAR-clause-notes c =
 pub returns-clause-kept : goal.returns-clause-kept
 returns-clause-kept c =
     let few : length c.args.events.now ≤ longest_book = omega (arith, c.requires.few) in
-    subst (λ (bar_events : List Event). IsKept c.begin_bar.new.bar bar_events c.args.events.now) (sym c.begin_bar.ensures.events)
+    subst (λ (bar_events : List Event). IsKeptBar c.begin_bar.new.bar bar_events c.args.events.now) (sym c.begin_bar.ensures.events)
     (kept_new c.begin_bar.new.bar c.args.events.now c.begin_bar.ensures.after few)
 
 pub returns-clause-notes : goal.returns-clause-notes

@@ -4,7 +4,7 @@ use Rattle.abc_notes.specs.Events.{Event, note, change}
 use Rattle.abc_notes.specs.declared.bar.Bar.{Bar}
 use Rattle.abc_notes.specs.Inside.BarTables.{IsBarAfter}
 use Rattle.abc_notes.specs.Inside.EventView.{event_of, written_note}
-use Rattle.abc_notes.specs.Inside.Kept.{notes_left, past_of, asked_of, IsKept}
+use Rattle.abc_notes.specs.Inside.KeptBar.{notes_left, past_of, asked_of, IsKeptBar}
 use Rattle.abc_notes.specs.Pitches.{sounded, accidental_of_note}
 use Rattle.abc_notes.specs.declared.events.Event.{Event as CodeEvent}
 use Rattle.abc_notes.proofs.KeptLemmas.{kept_on, notes_note, notes_change, is_asked, not_asked}
@@ -30,7 +30,7 @@ take_change-requires c = omega (arith, c.requires.few)
 
 pub end_bar-requires : goal.end_bar-requires
 end_bar-requires c =
-    subst (λ (e : CodeEvent). IsKept c.args.bar.now c.args.bar_events.now (event_of e ∷ c.args.events.now)) c.in-Bar.is c.requires
+    subst (λ (e : CodeEvent). IsKeptBar c.args.bar.now c.args.bar_events.now (event_of e ∷ c.args.events.now)) c.in-Bar.is c.requires
 
 pub returns-then-all-clause-kept : goal.returns-then-all-clause-kept
 returns-then-all-clause-kept c =

@@ -1,5 +1,5 @@
 use Rattle.std.proofs.Common.{◌≡◌, ◌≤◌, length}
-use Rattle.abc_notes.specs.Inside.Kept.{IsKept, notes_left, asked_of}
+use Rattle.abc_notes.specs.Inside.KeptBar.{IsKeptBar, notes_left, asked_of}
 use Rattle.abc_notes.proofs.notes.plain_note.Given as goal
 
 -- the notes that are asked for are among those left, and the bar is kept
@@ -7,7 +7,7 @@ abbrev pub invariant-events : goal.invariant-events
 invariant-events l = record {
   notes : asked_of l.all (notes_left l.bar l.bar_events l.events)
       ≡ asked_of l.all (notes_left l.initial.bar l.initial.bar_events l.initial.events);
-  kept : IsKept l.bar l.bar_events l.events;
+  kept : IsKeptBar l.bar l.bar_events l.events;
   shorter : length l.events ≤ length l.initial.events;
 }
 

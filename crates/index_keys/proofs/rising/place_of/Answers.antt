@@ -1,7 +1,7 @@
 use Rattle.std.proofs.Common.{◌≡◌, ℕ, ◌+◌, ◌-◌, ◌/◌, ◌<◌, ◌≤◌, length, get_or, arith, inl, inr, refl, sym, ap, ◌∙◌, List}
 use Rattle.std.proofs.lemmas.Bool.{cases_lt, cases_eq}
 use Rattle.std.proofs.lemmas.List.{get_or_default}
-use Rattle.index_keys.specs.Keys.{KeysRise}
+use Rattle.index_keys.specs.KeyLists.{KeysRise}
 use Rattle.index_keys.proofs.KeyPlaces.{rises_pair}
 use Rattle.index_keys.proofs.rising.place_of.Goals as goal
 

@@ -1,5 +1,5 @@
 use Rattle.std.proofs.Common.{ℕ, ◌-◌, ◌<◌, ◌≤◌, length, get_or}
-use Rattle.index_keys.specs.Keys.{KeysRise}
+use Rattle.index_keys.specs.KeyLists.{KeysRise}
 use Rattle.index_keys.proofs.rising.place_of.Given as goal
 
 abbrev pub invariant-loop-low : goal.invariant-loop-low

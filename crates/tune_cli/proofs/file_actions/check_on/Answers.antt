@@ -2,7 +2,7 @@ use Rattle.std.proofs.Common.{◌≡◌, inl, sym, subst}
 use Rattle.tune_disk.specs.Stops.{SinceThen}
 use Rattle.tune_journal.specs.Moments.{LeftOrSame}
 use Rattle.tune_pages.specs.Kept.{HonestAt, state_at, failures_at}
-use Rattle.tune_archive.specs.Opened.{KeepsStates}
+use Rattle.tune_archive.specs.OpenedArchive.{KeepsStates}
 use Rattle.tune_archive.specs.Shelf.{state_of}
 use Rattle.tune_cli.proofs.file_actions.check_on.Goals as goal
 

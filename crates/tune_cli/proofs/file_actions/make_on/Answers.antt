@@ -3,7 +3,7 @@ use Rattle.tune_disk.specs.Stops.{LeavesOnly, SinceThen}
 use Rattle.tune_pages.specs.Kept.{HonestAt, state_at, failures_at}
 use Rattle.tune_store.specs.State.{State}
 use Rattle.tune_format.specs.States.{StandsForState}
-use Rattle.tune_archive.specs.Opened.{StandsForNoneOrEmpty}
+use Rattle.tune_archive.specs.OpenedArchive.{StandsForNoneOrEmpty}
 use Rattle.tune_cli.proofs.file_actions.make_on.Goals as goal
 
 pub returns-in-Ok-clause-makes : goal.returns-in-Ok-clause-makes

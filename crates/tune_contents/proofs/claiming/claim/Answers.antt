@@ -4,7 +4,7 @@ use Rattle.tune_pages.specs.Claim.{IsChainFault}
 use Rattle.tune_pages.specs.declared.fault.ClaimFault.{ClaimFault}
 use Rattle.tune_contents.specs.Claimed.{IsClaimed}
 use Rattle.tune_contents.specs.declared.contents.Contents.{Contents}
-use Rattle.tune_contents.specs.Inside.Claiming.{IsStateThere}
+use Rattle.tune_contents.specs.Inside.ClaimedParts.{IsStateThere}
 use Rattle.tune_contents.proofs.ClaimStateLemmas.{lists_as, lists_at}
 use Rattle.tune_contents.proofs.claiming.claim.Goals as goal
 

@@ -3,7 +3,7 @@ use Rattle.std.proofs.lemmas.Result.{err_from_is_err_and}
 use Rattle.tune_pages.specs.Claim.{IsChainFault}
 use Rattle.tune_pages.specs.declared.fault.ClaimFault.{ClaimFault}
 use Rattle.tune_store.specs.Limits.{most_tunes}
-use Rattle.tune_contents.specs.Inside.Claiming.{IsStateThere}
+use Rattle.tune_contents.specs.Inside.ClaimedParts.{IsStateThere}
 use Rattle.tune_contents.proofs.ClaimListLemmas.{root_at, root_none, numbers_fault, searches_fault, sets_fault, numbers_claimed, both_claimed, lists_claimed}
 use Rattle.tune_contents.proofs.claiming.claim_lists.Goals as goal
 

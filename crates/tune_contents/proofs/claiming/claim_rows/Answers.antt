@@ -1,6 +1,6 @@
 use Rattle.std.proofs.Common.{sym, subst}
 use Rattle.tune_pages.proofs.Claiming.{fault_as}
-use Rattle.tune_contents.specs.Inside.Claiming.{AreTunesThere, TunesClaimed}
+use Rattle.tune_contents.specs.Inside.ClaimedParts.{AreTunesThere, TunesClaimed}
 use Rattle.tune_contents.proofs.ClaimLemmas.{err_as, ok_as}
 use Rattle.tune_contents.proofs.claiming.claim_rows.Goals as goal
 

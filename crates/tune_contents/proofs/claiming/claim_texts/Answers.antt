@@ -4,7 +4,7 @@ use Rattle.tune_pages.specs.Claim.{IsChainFault}
 use Rattle.tune_pages.specs.declared.fault.ClaimFault.{ClaimFault}
 use Rattle.tune_format.specs.Written.{number_entries}
 use Rattle.tune_contents.specs.Claimed.{AreRows, RowsRise}
-use Rattle.tune_contents.specs.Inside.Claiming.{IsStateThere}
+use Rattle.tune_contents.specs.Inside.ClaimedParts.{IsStateThere}
 use Rattle.tune_contents.specs.Inside.ClaimedRows.{NameRows}
 use Rattle.tune_contents.proofs.ClaimedRowLemmas.{rows_as}
 use Rattle.tune_contents.proofs.ClaimStateLemmas.{listed_fault, rows_fault, sets_fault, texts_claimed}

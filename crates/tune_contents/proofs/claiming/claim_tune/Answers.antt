@@ -4,9 +4,9 @@ use Rattle.tune_pages.specs.Claim.{IsChainFault}
 use Rattle.tune_pages.specs.declared.fault.ClaimFault.{ClaimFault}
 use Rattle.tune_pages.proofs.Claiming.{fault_as}
 use Rattle.tune_pages.specs.Faults.{pages_for}
-use Rattle.tune_format.specs.Layout.{revision_bytes}
+use Rattle.tune_format.specs.RootOffsets.{revision_bytes}
 use Rattle.tune_contents.specs.Most.{most_tune_pages}
-use Rattle.tune_contents.specs.Inside.Claiming.{IsTuneChain, IsTuneThere}
+use Rattle.tune_contents.specs.Inside.ClaimedParts.{IsTuneChain, IsTuneThere}
 use Rattle.tune_contents.proofs.ClaimLemmas.{tune_claimed, tune_refused}
 use Rattle.tune_contents.proofs.claiming.claim_tune.Goals as goal
 

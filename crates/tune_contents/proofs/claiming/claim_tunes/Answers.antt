@@ -4,7 +4,7 @@ use Rattle.tune_pages.specs.Claim.{IsChainFault}
 use Rattle.tune_pages.specs.declared.fault.ClaimFault.{ClaimFault}
 use Rattle.tune_format.specs.Written.{number_entries}
 use Rattle.tune_format.specs.declared.rows.Row.{Row}
-use Rattle.tune_contents.specs.Inside.Claiming.{AreTunesThere}
+use Rattle.tune_contents.specs.Inside.ClaimedParts.{AreTunesThere}
 use Rattle.tune_contents.proofs.ClaimedRowLemmas.{list_at}
 use Rattle.tune_contents.proofs.ClaimStepLemmas.{claims_start, claims_turn, turn_fault, entries_turn}
 use Rattle.tune_contents.proofs.claiming.claim_tunes.Goals as goal

@@ -1,8 +1,8 @@
 use Rattle.std.proofs.Common.{◌≡◌, ◌++◌, List, drop, length}
 use Rattle.tune_parts.specs.Parts.{Part}
-use Rattle.tune_search.specs.Claiming.{HasClaimed}
+use Rattle.tune_search.specs.LoadedParts.{HasClaimed}
 use Rattle.tune_format.specs.Written.{number_entries}
-use Rattle.tune_contents.specs.Inside.Claiming.{ClaimsSoFar}
+use Rattle.tune_contents.specs.Inside.ClaimedParts.{ClaimsSoFar}
 use Rattle.tune_contents.proofs.claiming.claim_tunes.Given as goal
 
 abbrev pub invariant-loop-place : goal.invariant-loop-place

@@ -1,7 +1,7 @@
 use Rattle.std.proofs.Common.{ℕ, ◌<◌, List, [], ◌∷◌, ◌++◌, length, refl, sym, ◌∙◌, arith}
 use Rattle.std.proofs.lemmas.List.{length-map, take_more}
 use Rattle.tune_format.specs.declared.rows.Row.{Row}
-use Rattle.tune_contents.specs.Inside.Rows.{numbers_in}
+use Rattle.tune_contents.specs.Inside.TuneRows.{numbers_in}
 use Rattle.tune_contents.proofs.ClaimedRowLemmas.{number_at_row}
 use Rattle.tune_contents.proofs.claiming.numbers_of.Goals as goal
 

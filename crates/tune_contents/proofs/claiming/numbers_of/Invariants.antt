@@ -1,5 +1,5 @@
 use Rattle.std.proofs.Common.{◌≡◌, take}
-use Rattle.tune_contents.specs.Inside.Rows.{numbers_in}
+use Rattle.tune_contents.specs.Inside.TuneRows.{numbers_in}
 use Rattle.tune_contents.proofs.claiming.numbers_of.Given as goal
 
 abbrev pub invariant-loop-row : goal.invariant-loop-row

@@ -1,5 +1,5 @@
 use Rattle.std.proofs.Common.{◌≡◌, rules, ◌∙◌, sym, ap, take, ◌+◌}
-use Rattle.tune_disk.specs.Bytes.{put}
+use Rattle.tune_disk.specs.ByteWrites.{put}
 use Rattle.tune_disk.specs.Disk.{DiskState, Written, fresh}
 use Rattle.tune_disk.specs.Inside.Overwrites.{put_written}
 use Rattle.tune_disk.specs.Records.{record_to, replayed}

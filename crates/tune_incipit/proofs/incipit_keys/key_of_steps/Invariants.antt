@@ -1,5 +1,5 @@
 use Rattle.std.proofs.Common.{◌≡◌, ◌*◌, take}
-use Rattle.tune_incipit.specs.SearchKeys.{bytes_of_steps}
+use Rattle.tune_incipit.specs.ScaleAndIncipitKeys.{bytes_of_steps}
 use Rattle.tune_incipit.proofs.incipit_keys.key_of_steps.Given as goal
 
 -- the bytes of the steps so far stand in front

@@ -2,7 +2,7 @@ use Rattle.std.proofs.Common.{◌≡◌, ℕ, ◌≤◌, true, List, length, get
 use Rattle.std.proofs.lemmas.List.{get_or_default}
 use Rattle.std.proofs.lemmas.List.Edits.{get_or-insert_below, length-insert}
 use Rattle.std.specs.List.{insert}
-use Rattle.tune_journal.specs.Layout.{most_pages}
+use Rattle.tune_journal.specs.FileOffsets.{most_pages}
 use Rattle.tune_pages.specs.Faults.{free_pages}
 use Rattle.tune_pages.specs.Frame.{Allocates, image_at}
 use Rattle.tune_pages.specs.Stand.{Stand}

@@ -1,6 +1,6 @@
 use Rattle.std.proofs.Common.{ℕ, ◌<◌, List, ◌∷◌, [], length, take, arith}
 use Rattle.index_keys.specs.Entries.{Entry, rank}
-use Rattle.tune_index.specs.Inside.Places.{AllBelow}
+use Rattle.tune_index.specs.Inside.EntryPlaces.{AllBelow}
 use Rattle.tune_index.specs.Leaves.{slice_entry}
 use Rattle.tune_index.proofs.Runs.{below_place}
 use Rattle.tune_index.proofs.insert.count_below.Goals as goal

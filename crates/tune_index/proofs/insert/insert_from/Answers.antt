@@ -6,7 +6,7 @@ use Rattle.index_keys.specs.Entries.{Entry, rank, IsRising, RisesFrom}
 use Rattle.index_keys.proofs.RisingEntries.{rises_front}
 use Rattle.tune_index.specs.Indexes.{IsIndex, entries_of}
 use Rattle.tune_index.specs.Inside.LeafLists.{leaves_of}
-use Rattle.tune_index.specs.Inside.Places.{AllBelow}
+use Rattle.tune_index.specs.Inside.EntryPlaces.{AllBelow}
 use Rattle.tune_index.specs.Leaves.{slice_entry}
 use Rattle.tune_index.proofs.Answering.{edit_more}
 use Rattle.tune_index.proofs.Balances.{front_least, part_full}

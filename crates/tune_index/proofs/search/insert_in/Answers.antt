@@ -1,6 +1,6 @@
 use Rattle.std.proofs.Common.{◌≡◌, ◌∙◌, sym, rules, List}
 use Rattle.index_keys.specs.Entries.{Entry, rank, IsRising}
-use Rattle.tune_index.specs.Inside.Places.{AllBelow}
+use Rattle.tune_index.specs.Inside.EntryPlaces.{AllBelow}
 use Rattle.tune_index.proofs.Edits.{Searched, inserts, keeps}
 use Rattle.std.proofs.Common.{subst}
 use Rattle.tune_index.proofs.Ends.{inserted_end}

@@ -1,6 +1,6 @@
 use Rattle.std.proofs.Common.{◌≡◌, length, drop, arith, rules}
 use Rattle.std.proofs.lemmas.List.{take_all, length-drop}
-use Rattle.tune_journal.specs.Layout.{block_bytes}
+use Rattle.tune_journal.specs.FileOffsets.{block_bytes}
 use Rattle.tune_journal.proofs.changes.rest_of.Goals as goal
 
 pub returns : goal.returns

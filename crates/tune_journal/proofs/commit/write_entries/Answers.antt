@@ -3,7 +3,7 @@ use Rattle.byteorder.specs.Endian.{big_bytes}
 use Rattle.tune_disk.specs.Disk.{Written}
 use Rattle.tune_disk.proofs.Moments.{spares_then, spares_write}
 use Rattle.tune_journal.specs.Inside.Phases.{log_entry}
-use Rattle.tune_journal.specs.Layout.{entry_bytes}
+use Rattle.tune_journal.specs.FileOffsets.{entry_bytes}
 use Rattle.tune_journal.proofs.Loops.{entries_more}
 use Rattle.tune_journal.proofs.CallRuns.{writes_ok}
 use Rattle.tune_journal.proofs.commit.write_entries.Goals as goal

@@ -1,7 +1,7 @@
 use Rattle.std.proofs.Common.{◌≡◌, ◌+◌, ◌*◌, ◌<◌}
 use Rattle.tune_disk.specs.Inside.Spares.{Spares}
 use Rattle.tune_journal.specs.Inside.Phases.{HoldsEntries}
-use Rattle.tune_journal.specs.Layout.{entry_bytes}
+use Rattle.tune_journal.specs.FileOffsets.{entry_bytes}
 use Rattle.tune_journal.proofs.commit.write_entries.Given as goal
 
 abbrev pub invariant-loop-place : goal.invariant-loop-place

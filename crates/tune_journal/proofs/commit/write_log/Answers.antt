@@ -5,7 +5,7 @@ use Rattle.tune_disk.proofs.Moments.{spares_fewer}
 use Rattle.tune_disk.proofs.Writes.{written_long}
 use Rattle.tune_journal.specs.Image.{window, entry_offset}
 use Rattle.tune_journal.specs.Inside.Phases.{IsNoLog, IsOutside, HoldsEntries}
-use Rattle.tune_journal.specs.Layout.{descriptor_offset}
+use Rattle.tune_journal.specs.FileOffsets.{descriptor_offset}
 use Rattle.tune_journal.proofs.CallRuns.{writes_fewer, writes_after}
 use Rattle.tune_journal.proofs.Loops.{entries_kept, below_log, off_descriptor, rising_few}
 use Rattle.tune_journal.proofs.Windows.{written_window}

@@ -3,7 +3,7 @@ use Rattle.std.proofs.lemmas.Result.{on_ok_weaker, err_from_is_err_and}
 use Rattle.tune_disk.proofs.Moments.{spares_fewer}
 use Rattle.tune_journal.specs.Image.{window}
 use Rattle.tune_journal.specs.Inside.Phases.{KeepsBoth, IsInNoPage, IsOutside}
-use Rattle.tune_journal.specs.Layout.{count_offset}
+use Rattle.tune_journal.specs.FileOffsets.{count_offset}
 use Rattle.tune_journal.proofs.CallRuns.{writes_fewer, writes_after}
 use Rattle.tune_journal.proofs.Windows.{written_window}
 use Rattle.tune_journal.proofs.Agreeing.{number_is, agree_pages_of, written_agrees}

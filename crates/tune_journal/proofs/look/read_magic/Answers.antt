@@ -1,6 +1,6 @@
 use Rattle.std.proofs.Common.{◌≡◌, ℕ, List, length, ap, ◌∙◌, subst, arith, rules, IsTrue, ◌↔◌}
 use Rattle.tune_journal.specs.Image.{window}
-use Rattle.tune_journal.specs.Layout.{magic, magic_offset, magic_bytes}
+use Rattle.tune_journal.specs.FileOffsets.{magic, magic_offset, magic_bytes}
 use Rattle.tune_journal.proofs.Windows.{shows_window}
 use Rattle.tune_journal.proofs.look.read_magic.Goals as goal
 

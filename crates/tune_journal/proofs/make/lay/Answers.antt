@@ -2,7 +2,7 @@ use Rattle.std.proofs.Common.{◌≡◌, ◌<◌, inl, length, refl, arith, rule
 use Rattle.std.proofs.lemmas.Result.{on_ok_weaker, err_from_is_err_and}
 use Rattle.tune_disk.proofs.Moments.{spares_then, spares_write}
 use Rattle.tune_journal.specs.Inside.Phases.{IsOutside}
-use Rattle.tune_journal.specs.Layout.{block_bytes, gate_offset, descriptor_offset, count_offset, pages_offset}
+use Rattle.tune_journal.specs.FileOffsets.{block_bytes, gate_offset, descriptor_offset, count_offset, pages_offset}
 use Rattle.tune_journal.proofs.CallRuns.{writes_fewer, writes_after, writes_ok}
 use Rattle.tune_journal.proofs.Making.{laid_after}
 use Rattle.tune_journal.proofs.make.lay.Goals as goal

@@ -1,9 +1,9 @@
 use Rattle.std.proofs.Common.{◌<◌, arith}
 use Rattle.tune_disk.proofs.Moments.{since_then, since_weaker}
 use Rattle.tune_journal.specs.Image.{StandsForNone}
-use Rattle.tune_journal.specs.Inside.Laying.{IsCleared, IsLaid}
+use Rattle.tune_journal.specs.Inside.LaidFile.{IsCleared, IsLaid}
 use Rattle.tune_journal.specs.Inside.Phases.{IsOutside}
-use Rattle.tune_journal.specs.Layout.{magic, block_bytes, magic_offset, magic_bytes}
+use Rattle.tune_journal.specs.FileOffsets.{magic, block_bytes, magic_offset, magic_bytes}
 use Rattle.tune_journal.specs.Making.{StandsForNoneOr}
 use Rattle.tune_journal.proofs.CallRuns.{run_since, settles_settled, ok_pair}
 use Rattle.tune_journal.proofs.Windows.{written_window}

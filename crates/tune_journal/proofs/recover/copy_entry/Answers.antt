@@ -2,7 +2,7 @@ use Rattle.std.proofs.Common.{◌≡◌, ◌+◌, Result, Ok, Err, OnOk, inl, in
 use Rattle.std.proofs.lemmas.List.{take_all, length-drop}
 use Rattle.tune_disk.specs.Disk.{DiskState, Writes, Shows}
 use Rattle.tune_journal.specs.Image.{number, window, entry_offset, page_offset}
-use Rattle.tune_journal.specs.Layout.{block_bytes, entry_bytes}
+use Rattle.tune_journal.specs.FileOffsets.{block_bytes, entry_bytes}
 use Rattle.tune_journal.proofs.Agreeing.{number_of_entry, image_of_entry}
 use Rattle.tune_journal.proofs.recover.copy_entry.Goals as goal
 

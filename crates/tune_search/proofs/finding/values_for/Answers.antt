@@ -2,7 +2,7 @@ use Rattle.std.proofs.Common.{◌≡◌, ℕ, List, Contains, sym, ap, ◌∙◌
 use Rattle.std.proofs.lemmas.Result.{IfOk-weaker}
 use Rattle.tune_pages.specs.Work.{stand}
 use Rattle.index_keys.specs.Entries.{Entry, values_within}
-use Rattle.index_keys.specs.Keys.{HasKeyWithin}
+use Rattle.index_keys.specs.KeyLists.{HasKeyWithin}
 use Rattle.index_keys.proofs.Holding.{holds_within}
 use Rattle.tune_index.specs.Indexes.{entries_of}
 use Rattle.tune_search.specs.Searches.{key_bytes}

@@ -1,7 +1,7 @@
 use Rattle.std.proofs.Common.{◌≡◌, [], ◌∷◌, ◌++◌, Some, ap, sym, ◌∙◌, append_assoc}
 use Rattle.std.proofs.lemmas.List.{map-append}
 use Rattle.std.specs.Vec.Iter.{into_iter_items}
-use Rattle.tune_store.specs.declared.rows.IndexRow.{IndexRow}
+use Rattle.tune_store.specs.declared.index_rows.IndexRow.{IndexRow}
 use Rattle.tune_store.specs.Inside.Questions.{shown_title}
 use Rattle.tune_store.proofs.questions.shown_rows.Goals as goal
 

@@ -1,7 +1,7 @@
 use Rattle.std.proofs.Common.{◌≡◌, ℕ, ◌+◌, ◌-◌, ◌<◌, ◌≤◌, List, [], ◌∷◌, Bor, length, map, drop, get_or, refl, sym, ap, ◌∙◌, arith}
 use Rattle.std.proofs.lemmas.List.{drop_more}
 use Rattle.index_keys.specs.Cuts.{cut_number}
-use Rattle.index_keys.specs.Keys.{with_key, rising_keys}
+use Rattle.index_keys.specs.KeyLists.{with_key, rising_keys}
 use Rattle.index_keys.specs.Inside.KeyOrder.{keys_rise}
 use Rattle.tune_titles.specs.Titles.{sorting_title}
 use Rattle.tune_titles.proofs.search_keys.keys_of_titles.Goals as goal

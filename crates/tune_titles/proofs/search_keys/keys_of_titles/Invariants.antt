@@ -1,6 +1,6 @@
 use Rattle.std.proofs.Common.{◌≡◌, ◌≤◌, length, map, drop}
 use Rattle.index_keys.specs.Cuts.{cut_number}
-use Rattle.index_keys.specs.Keys.{rising_keys}
+use Rattle.index_keys.specs.KeyLists.{rising_keys}
 use Rattle.tune_titles.specs.Titles.{sorting_title}
 use Rattle.tune_titles.proofs.search_keys.keys_of_titles.Given as goal
 

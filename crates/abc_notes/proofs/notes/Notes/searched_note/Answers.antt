@@ -1,6 +1,6 @@
 use Rattle.std.proofs.Common.{Bool, true, false, List, [], ◌≡◌, ◌∙◌, sym, ap}
 use Rattle.abc_notes.specs.Pitches.{SoundedNote}
-use Rattle.abc_notes.specs.Inside.Kept.{asked_of}
+use Rattle.abc_notes.specs.Inside.KeptBar.{asked_of}
 use Rattle.abc_notes.proofs.KeptLemmas.{notes_none}
 use Rattle.abc_notes.proofs.notes.Notes.searched_note.Goals as goal
 

@@ -5,10 +5,10 @@ use Rattle.tune_journal.specs.Image.{StandsFor}
 use Rattle.tune_journal.specs.Making.{IsEmptyFile}
 use Rattle.tune_journal.specs.declared.open_fault.Refused.{Refused}
 use Rattle.tune_pages.specs.Kept.{Kept, HonestAt, state_at, failures_at}
-use Rattle.tune_pages.specs.Opened.{only_root}
+use Rattle.tune_pages.specs.OpenedPages.{only_root}
 use Rattle.tune_store.specs.State.{empty_of}
 use Rattle.tune_store.specs.declared.layout.Layout.TheVariants.{Two}
-use Rattle.tune_archive.specs.Opened.{disk_of, StandsForNoneOrEmpty}
+use Rattle.tune_archive.specs.OpenedArchive.{disk_of, StandsForNoneOrEmpty}
 use Rattle.tune_archive.specs.Shelf.{Shelf, state_on}
 use Rattle.tune_archive.proofs.OpenedArchives.{making_keeps, made_shelf, made_state, made_sound, root_of_none}
 use Rattle.tune_archive.proofs.archive.Archive.make.Goals as goal

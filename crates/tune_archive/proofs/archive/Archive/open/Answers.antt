@@ -3,7 +3,7 @@ use Rattle.std.proofs.lemmas.Result.{err_from_is_err_and}
 use Rattle.tune_disk.specs.Disk.{DiskState}
 use Rattle.tune_journal.specs.declared.open_fault.Refused.{Refused}
 use Rattle.tune_pages.specs.Kept.{HonestAt, state_at}
-use Rattle.tune_archive.specs.Opened.{disk_of, KeepsStates, IsUnopenedArchiveFor}
+use Rattle.tune_archive.specs.OpenedArchive.{disk_of, KeepsStates, IsUnopenedArchiveFor}
 use Rattle.tune_archive.specs.Shelf.{Shelf}
 use Rattle.tune_archive.proofs.OpenedArchives.{opening_keeps_states, pages_refused, archive_refused}
 use Rattle.tune_archive.proofs.archive.Archive.open.Goals as goal

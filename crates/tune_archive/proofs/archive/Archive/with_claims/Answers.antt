@@ -1,6 +1,6 @@
 use Rattle.std.proofs.Common.{◌-◌, ◌≤◌, ◌++◌, ◌∙◌, ap, false, length, replicate, subst}
 use Rattle.std.proofs.lemmas.Result.{err_from_is_err_and}
-use Rattle.tune_pages.specs.Opened.{IsUndoneFor}
+use Rattle.tune_pages.specs.OpenedPages.{IsUndoneFor}
 use Rattle.tune_archive.specs.Inside.Holding.{IsShelf}
 use Rattle.tune_archive.proofs.OpenedArchives.{opened_shelf, opened_state, opened_sound}
 use Rattle.tune_archive.proofs.archive.Archive.with_claims.Goals as goal

@@ -9,7 +9,7 @@ use Rattle.index_keys.specs.Entries.{Entry, IsRising}
 use Rattle.tune_index.specs.Indexes.{entries_of}
 use Rattle.tune_index.specs.Inside.Loading.{LoadsLeaf}
 use Rattle.tune_index.specs.Leaves.{leaf_in, value_in, IsLeaf}
-use Rattle.tune_index.specs.Listed.{IsStored, listed_bytes, numbers_in, shown}
+use Rattle.tune_index.specs.ListedLeaves.{IsStored, listed_bytes, numbers_in, shown}
 use Rattle.tune_index.proofs.Loading.{LoadedSoFar, loaded_more, stored_bytes, stored_next, stored_within, length-numbers}
 use Rattle.tune_index.proofs.index.Index.load.Goals as goal
 

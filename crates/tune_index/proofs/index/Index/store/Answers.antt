@@ -2,7 +2,7 @@ use Rattle.std.proofs.Common.{◌≡◌, ◌≤◌, ◌*◌, ◌∙◌, ℕ, Lis
 use Rattle.tune_pages.specs.Faults.{free_pages, pages_for}
 use Rattle.tune_pages.specs.Stand.{Stand, HasChain, marked, without_pages}
 use Rattle.tune_pages.specs.Work.{stand}
-use Rattle.tune_index.specs.Listed.{StoresList, listed_bytes}
+use Rattle.tune_index.specs.ListedLeaves.{StoresList, listed_bytes}
 use Rattle.tune_pages.proofs.Counting.{marked_less}
 use Rattle.tune_pages.proofs.FreePages.{freed_more}
 use Rattle.tune_index.proofs.Answering.{full_work, work_edit}

@@ -4,8 +4,8 @@ use Rattle.tune_journal.specs.declared.changes.ChangedPage.{ChangedPage}
 use Rattle.tune_journal.specs.declared.changes.PageImage.{PageImage}
 use Rattle.tune_journal.specs.ChangeList.{with_change}
 use Rattle.tune_journal.specs.Inside.ChangeOrder.{FoundAt, MissingAt}
-use Rattle.tune_journal.specs.Inside.Listed.{change_in, listed, padded, IsKept}
-use Rattle.tune_journal.specs.Layout.{block_bytes}
+use Rattle.tune_journal.specs.Inside.ListedChanges.{change_in, listed, padded, HoldsChanges}
+use Rattle.tune_journal.specs.FileOffsets.{block_bytes}
 use Rattle.tune_journal.proofs.KeptLists.{added_listed, added_found, added_kept}
 use Rattle.tune_journal.proofs.changes.Changes.add.Goals as goal
 
@@ -33,8 +33,8 @@ invariant_of-self-2 c =
       c.len.ensures,
       c.self.invariant.count,
     ) in
-    subst (λ (w : List PageImage). IsKept w c.insert.new.self.items (vec_capacity c.reserve.new.self)) (sym c.in_ok-reserve.ensures.items)
-    (subst (λ (l : List ChangedPage). IsKept whole l (vec_capacity c.reserve.new.self)) (sym c.in_ok-insert.ensures.items)
+    subst (λ (w : List PageImage). HoldsChanges w c.insert.new.self.items (vec_capacity c.reserve.new.self)) (sym c.in_ok-reserve.ensures.items)
+    (subst (λ (l : List ChangedPage). HoldsChanges whole l (vec_capacity c.reserve.new.self)) (sym c.in_ok-insert.ensures.items)
     (added_kept whole items _ c.self.invariant c.args.page c.args.at missing _ refl (padded start) holds _ fits refl tt long))
 
 pub returns-clause-ok : goal.returns-clause-ok

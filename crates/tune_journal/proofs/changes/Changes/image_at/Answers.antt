@@ -1,5 +1,5 @@
 use Rattle.std.proofs.Common.{◌≡◌, ◌<◌, length, ap, arith, rules}
-use Rattle.tune_journal.specs.Inside.Listed.{listed}
+use Rattle.tune_journal.specs.Inside.ListedChanges.{listed}
 use Rattle.tune_journal.proofs.ChangeLists.{in_listed}
 use Rattle.tune_journal.proofs.KeptLists.{place_in}
 use Rattle.tune_journal.proofs.changes.Changes.image_at.Goals as goal

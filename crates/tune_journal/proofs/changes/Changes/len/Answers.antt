@@ -1,6 +1,6 @@
 use Rattle.std.proofs.Common.{ℕ, List, map, subst}
 use Rattle.std.specs.List.Sorted.{IsStrictlyIncreasing}
-use Rattle.tune_journal.specs.Inside.Listed.{listed}
+use Rattle.tune_journal.specs.Inside.ListedChanges.{listed}
 use Rattle.tune_journal.proofs.ChangeLists.{increasing_from_rises}
 use Rattle.tune_journal.proofs.changes.Changes.len.Goals as goal
 

@@ -1,7 +1,7 @@
 use Rattle.std.proofs.Common.{◌≡◌, ℕ, List, length, Some, sym, ◌∙◌, ap, subst, arith}
 use Rattle.tune_journal.specs.ChangeList.{image_of, change_at, changed_page}
 use Rattle.tune_journal.specs.Inside.ChangeOrder.{PagesRise}
-use Rattle.tune_journal.specs.Inside.Listed.{listed}
+use Rattle.tune_journal.specs.Inside.ListedChanges.{listed}
 use Rattle.tune_journal.proofs.ChangeLists.{image_named, change_there}
 use Rattle.tune_journal.proofs.changes.Changes.page_at.Goals as goal
 

@@ -1,7 +1,7 @@
 use Rattle.std.proofs.Common.{◌≡◌, ◌≢◌, ℕ, ◌<◌, List, length, take, Some, IsSome, sym, ◌∙◌, ap, subst}
 use Rattle.std.proofs.lemmas.Bool.{false≢true}
 use Rattle.tune_journal.specs.ChangeList.{with_change, image_of}
-use Rattle.tune_journal.specs.Inside.Listed.{padded}
+use Rattle.tune_journal.specs.Inside.ListedChanges.{padded}
 use Rattle.tune_journal.proofs.ChangeLists.{image_of_missing}
 use Rattle.tune_journal.proofs.Puts.{image_put, image_others, some_with, with_again}
 use Rattle.tune_journal.proofs.changes.Changes.put.Goals as goal

@@ -4,8 +4,8 @@ use Rattle.tune_journal.specs.declared.changes.Kept.TheVariants.{Whole}
 use Rattle.tune_journal.specs.declared.changes.PageImage.{PageImage}
 use Rattle.tune_journal.specs.ChangeList.{with_change}
 use Rattle.tune_journal.specs.Inside.ChangeOrder.{FoundAt}
-use Rattle.tune_journal.specs.Inside.Listed.{listed, IsKept, start_in}
-use Rattle.tune_journal.specs.Layout.{block_bytes}
+use Rattle.tune_journal.specs.Inside.ListedChanges.{listed, HoldsChanges, start_in}
+use Rattle.tune_journal.specs.FileOffsets.{block_bytes}
 use Rattle.tune_journal.proofs.KeptLists.{set_listed, set_kept, whole_listed, whole_kept, room_left, kept_in}
 use Rattle.tune_journal.proofs.changes.Changes.replace.Goals as goal
 
@@ -35,7 +35,7 @@ invariant_of-self-in-Ok c =
     let size : length c.args.image.now.bytes ≡ block_bytes = search rules in
     let last : c.self.inside.whole.len ≡ length whole = search rules in
     let new : ChangedPage = record { page = c.args.page; kept = Whole c.len-place.result } in
-    subst (λ (w : List PageImage). IsKept w (set items c.args.at new) (vec_capacity c.push.new.self)) (sym c.in-Ok.ensures.items)
+    subst (λ (w : List PageImage). HoldsChanges w (set items c.args.at new) (vec_capacity c.push.new.self)) (sym c.in-Ok.ensures.items)
     (kept_in _ _ _ _
     (whole_kept whole items _ c.self.invariant c.args.at c.index.result.now c.index.ensures c.args.page found c.args.image.now size
     (ap start_in c.in_default.is) new refl (ap Whole (c.len-place.ensures ∙ last)))

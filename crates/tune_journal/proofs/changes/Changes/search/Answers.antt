@@ -9,7 +9,7 @@ use Rattle.tune_journal.specs.declared.changes.ChangedPage.{ChangedPage}
 use Rattle.tune_journal.specs.declared.changes.PageImage.{PageImage}
 use Rattle.tune_journal.specs.ChangeList.{changed_page}
 use Rattle.tune_journal.specs.Inside.ChangeOrder.{AreBelow, AreAbove, PagesRise, FoundAt, MissingAt}
-use Rattle.tune_journal.specs.Inside.Listed.{listed, change_in}
+use Rattle.tune_journal.specs.Inside.ListedChanges.{listed, change_in}
 use Rattle.tune_journal.proofs.ChangeLists.{above_from_first, in_listed, change_there}
 use Rattle.tune_journal.proofs.changes.Changes.search.Goals as goal
 

@@ -2,7 +2,7 @@ use Rattle.std.proofs.Common.{◌≡◌, ◌+◌, ◌<◌, ◌≤◌, ◌∙◌,
 use Rattle.std.proofs.lemmas.Result.{on_ok_weaker}
 use Rattle.tune_disk.specs.Disk.{DiskState}
 use Rattle.tune_journal.specs.Image.{window}
-use Rattle.tune_journal.specs.Layout.{block_bytes}
+use Rattle.tune_journal.specs.FileOffsets.{block_bytes}
 use Rattle.tune_journal.proofs.Agreeing.{length-pages_of, pages_of_at}
 use Rattle.tune_journal.proofs.Windows.{shows_window}
 use Rattle.tune_journal.proofs.journal.Journal.read.Goals as goal

@@ -1,5 +1,5 @@
 use Rattle.std.proofs.Common.{◌∙◌, sym}
-use Rattle.tune_journal.specs.Layout.{gate_closed}
+use Rattle.tune_journal.specs.FileOffsets.{gate_closed}
 use Rattle.tune_journal.proofs.AfterParts.{closed_after, closed_pages}
 use Rattle.tune_journal.proofs.Agreeing.{gate_written, length-pages_of}
 use Rattle.tune_journal.proofs.PartsSince.{closing_since}

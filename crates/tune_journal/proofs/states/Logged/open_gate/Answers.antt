@@ -1,6 +1,6 @@
 use Rattle.std.proofs.Common.{◌≡◌, ◌∙◌, sym, ℕ, List, length}
 use Rattle.tune_journal.specs.Image.{log_of, pages_of}
-use Rattle.tune_journal.specs.Layout.{gate_open}
+use Rattle.tune_journal.specs.FileOffsets.{gate_open}
 use Rattle.tune_journal.specs.Pages.{changed}
 use Rattle.tune_journal.proofs.AfterParts.{opened_after, opened_log, opened_pages}
 use Rattle.tune_journal.proofs.Agreeing.{gate_written, length-pages_of}

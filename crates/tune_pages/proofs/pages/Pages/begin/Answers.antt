@@ -1,5 +1,5 @@
 use Rattle.std.proofs.Common.{◌≡◌, false, refl, sym, ◌∙◌, ap, subst}
-use Rattle.tune_pages.specs.Inside.Held.{AllUsedBelow}
+use Rattle.tune_pages.specs.Inside.HeldPages.{AllUsedBelow}
 use Rattle.tune_pages.specs.Kept.{Kept}
 use Rattle.tune_pages.proofs.Beginning.{begin_fits, begin_stand}
 use Rattle.tune_pages.proofs.Searching.{Facts, kept_facts}

@@ -1,7 +1,7 @@
 use Rattle.std.proofs.Common.{◌≡◌, ◌<◌, ◌≤◌, ℕ, List, All, length, max, sym, ap, subst, rules, arith}
 use Rattle.tune_journal.proofs.Puts.{below_more}
 use Rattle.tune_pages.specs.Inside.Cached.{AreKept}
-use Rattle.tune_pages.specs.Inside.Held.{held_pages}
+use Rattle.tune_pages.specs.Inside.HeldPages.{held_pages}
 use Rattle.tune_pages.specs.Kept.{Kept}
 use Rattle.tune_pages.specs.declared.pages.Held.TheVariants.{Open}
 use Rattle.tune_pages.proofs.CacheLemmas.{kept_after}

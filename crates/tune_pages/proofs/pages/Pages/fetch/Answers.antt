@@ -1,6 +1,6 @@
 use Rattle.std.proofs.Common.{◌≡◌, ◌<◌, ℕ, List, length, sym, ap, subst, rules}
 use Rattle.tune_pages.specs.Inside.Cached.{AreKept}
-use Rattle.tune_pages.specs.Inside.Held.{held_pages}
+use Rattle.tune_pages.specs.Inside.HeldPages.{held_pages}
 use Rattle.tune_pages.specs.Kept.{Kept}
 use Rattle.tune_pages.specs.declared.pages.Held.TheVariants.{Open}
 use Rattle.tune_pages.proofs.CacheLemmas.{kept_more}

@@ -1,5 +1,5 @@
 use Rattle.std.proofs.Common.{◌≡◌, ◌<◌, ◌≤◌, ℕ, All, List, Bool, false, length, sym, ◌∙◌, ap, subst, arith}
-use Rattle.tune_journal.specs.Layout.{most_pages}
+use Rattle.tune_journal.specs.FileOffsets.{most_pages}
 use Rattle.tune_pages.specs.Kept.{Kept}
 use Rattle.tune_pages.specs.Stand.{marked}
 use Rattle.tune_pages.specs.Work.{front}

@@ -4,11 +4,11 @@ use Rattle.tune_pages.specs.Work.{stand}
 use Rattle.index_keys.specs.Entries.{Entry, values_within}
 use Rattle.index_keys.specs.Cuts.{cut_number}
 use Rattle.index_keys.specs.Holdings.{HoldsEntries}
-use Rattle.index_keys.specs.Keys.{HasKeyWithin}
+use Rattle.index_keys.specs.KeyLists.{HasKeyWithin}
 use Rattle.index_keys.proofs.Holding.{holds_within}
 use Rattle.tune_incipit.specs.Incipits.{finds_steps, incipit_of, tune_notes}
 use Rattle.tune_incipit.specs.Inside.KeyLaws.{incipit_found}
-use Rattle.tune_incipit.specs.SearchKeys.{bytes_of_steps, incipit_keys}
+use Rattle.tune_incipit.specs.ScaleAndIncipitKeys.{bytes_of_steps, incipit_keys}
 use Rattle.tune_index.specs.Indexes.{Shape, entries_of}
 use Rattle.tune_search.specs.IncipitForms.{notes_of_index, shape_of}
 use Rattle.tune_search.specs.IndexParts.{HoldsIndexAmong, HoldsSomeIndex}

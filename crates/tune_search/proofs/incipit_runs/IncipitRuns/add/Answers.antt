@@ -1,5 +1,5 @@
 use Rattle.std.proofs.Common.{◌∙◌, subst, sym, OnOk, Result, Ok, Err}
-use Rattle.tune_incipit.specs.SearchKeys.{incipit_keys}
+use Rattle.tune_incipit.specs.ScaleAndIncipitKeys.{incipit_keys}
 use Rattle.tune_search.specs.IncipitRuns.{GathersIncipits, IncipitPair}
 use Rattle.tune_search.proofs.TextRuns.{gathered_one, shown_alone}
 use Rattle.tune_search.proofs.incipit_runs.IncipitRuns.add.Goals as goal

@@ -1,7 +1,7 @@
 use Rattle.std.proofs.Common.{subst, sym}
 use Rattle.tune_incipit.specs.Incipits.{incipit_of, tune_notes}
 use Rattle.tune_incipit.specs.Inside.KeyLaws.{incipit_rises}
-use Rattle.tune_incipit.specs.SearchKeys.{incipit_keys}
+use Rattle.tune_incipit.specs.ScaleAndIncipitKeys.{incipit_keys}
 use Rattle.tune_search.specs.IncipitRuns.{GathersIncipits, IncipitPair}
 use Rattle.tune_search.specs.Searches.{incipit_bytes}
 use Rattle.tune_search.proofs.TextRuns.{run_of_tunes}

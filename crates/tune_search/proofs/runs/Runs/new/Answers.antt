@@ -1,11 +1,11 @@
 use Rattle.std.proofs.Common.{◌≡◌, ◌∙◌, sym}
 use Rattle.tune_incipit.specs.Incipits.{incipit_of, tune_notes}
 use Rattle.tune_incipit.specs.Inside.KeyLaws.{incipit_rises, scales_rise}
-use Rattle.tune_incipit.specs.SearchKeys.{incipit_keys, scale_keys}
+use Rattle.tune_incipit.specs.ScaleAndIncipitKeys.{incipit_keys, scale_keys}
 use Rattle.tune_search.specs.IncipitForms.{entries_in, notes_in, notes_of_entries}
 use Rattle.tune_search.specs.Searches.{incipit_bytes, key_bytes, numbered}
 use Rattle.tune_titles.specs.Inside.KindLaws.{rhythm_rises, titles_rise}
-use Rattle.tune_titles.specs.SearchKeys.{rhythm_keys, title_keys}
+use Rattle.tune_titles.specs.TitleAndRhythmKeys.{rhythm_keys, title_keys}
 use Rattle.tune_search.proofs.TextRuns.{gathered_more, is_run_of, shown_alone}
 use Rattle.tune_search.proofs.AsManyNotes.{notes_more, notes_run}
 use Rattle.tune_search.proofs.runs.Runs.new.Goals as goal

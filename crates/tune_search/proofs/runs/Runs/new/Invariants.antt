@@ -1,8 +1,8 @@
 use Rattle.std.proofs.Common.{◌≡◌}
-use Rattle.tune_incipit.specs.SearchKeys.{incipit_keys, scale_keys}
+use Rattle.tune_incipit.specs.ScaleAndIncipitKeys.{incipit_keys, scale_keys}
 use Rattle.tune_search.specs.IncipitForms.{entries_in, notes_in, notes_of_entries}
 use Rattle.tune_search.specs.Searches.{incipit_bytes, key_bytes}
-use Rattle.tune_titles.specs.SearchKeys.{rhythm_keys, title_keys}
+use Rattle.tune_titles.specs.TitleAndRhythmKeys.{rhythm_keys, title_keys}
 use Rattle.tune_search.proofs.TextRuns.{Gathered}
 use Rattle.tune_search.proofs.runs.Runs.new.Given as goal
 

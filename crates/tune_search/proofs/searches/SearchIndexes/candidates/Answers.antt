@@ -1,7 +1,7 @@
 use Rattle.std.proofs.Common.{◌≡◌, true, sym, ap, subst}
 use Rattle.std.proofs.lemmas.Result.{IfOk-weaker}
 use Rattle.index_keys.specs.Holdings.{HoldsEntries}
-use Rattle.tune_incipit.specs.SearchKeys.{incipit_keys}
+use Rattle.tune_incipit.specs.ScaleAndIncipitKeys.{incipit_keys}
 use Rattle.tune_index.specs.Indexes.{Shape}
 use Rattle.tune_pages.specs.Work.{stand}
 use Rattle.tune_queries.specs.Queries.{finds}

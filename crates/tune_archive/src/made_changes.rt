@@ -1,0 +1,124 @@
+// A change of an archive, made on its pages.
+ghost use Rattle.std.specs.Prelude.{◌≡◌, ◌≢◌, ◌≤◌, ◌-◌, ◌++◌, false, length, replicate, IfOk};
+ghost use Rattle.std.specs.Prelude.{IfErr};
+ghost use Rattle.tune_contents.specs.LayAnswers.{AnswersLay};
+ghost use Rattle.tune_contents.specs.Claimed.{AreRows};
+ghost use Rattle.tune_contents.specs.Holds.{labels_in, HoldsSomeState};
+ghost use Rattle.tune_pages.specs.Kept.{HonestAt, state_at};
+ghost use Rattle.tune_pages.specs.declared.fault.Fault.TheVariants.{FileFull, Device};
+ghost use Rattle.tune_format.specs.RootOffsets.{most_pages_of};
+ghost use Rattle.tune_store.specs.Plans.{CanChange, changed};
+ghost use Rattle.tune_store.specs.State.{IsState};
+ghost use Rattle.tune_archive.specs.Shelf.{state_of};
+ghost use Rattle.tune_archive.specs.Inside.Changing.{CallsWhere, PassesChange, HasLaid, StaysKept};
+ghost use Rattle.tune_archive.specs.Inside.Changing.{StaysWithin, refusal_of, closes, MakesChange};
+ghost use Rattle.tune_archive.specs.Inside.Holding.{stand_of};
+
+use crate::archive::Archive;
+use std::mem;
+use tune_contents::{Contents, Room, law_of_state_pages, lay};
+use tune_disk::Disk;
+use tune_format::most_pages;
+use tune_pages::{Fault, Pages};
+use tune_store::{Change, Layout, Refusal};
+
+// The refusal that tells of a fault of pages. No archive that a device keeps as it was written
+// comes to have too few pages.
+fn refusal_of(fault: Fault) -> Refusal
+    ensures { result ≡ refusal_of fault }
+{
+    match fault {
+        Fault::OutOfMemory => Refusal::OutOfMemory,
+        Fault::Device | Fault::FileFull => Refusal::Device,
+        Fault::Closed => Refusal::Closed,
+    }
+}
+
+// Whether a fault of pages closes the archive.
+fn closes(fault: Fault) -> bool
+    ensures { result ≡ closes fault }
+{
+    matches!(fault, Fault::Device | Fault::FileFull)
+}
+
+// Lets there be as many pages as an archive of this layout may have, where there were no more.
+fn give_pages<D: Disk>(pages: &mut Pages<D>, layout: Layout)
+    requires open { pages.old.closed ≡ false }
+    requires marks { length pages.old.used ≤ most_pages_of layout }
+    ensures marks { length pages.new.used ≡ most_pages_of layout }
+    ensures more { pages.new.used ≡ pages.old.used
+        ++ replicate (most_pages_of layout - length pages.old.used) false }
+    ensures same { (pages.new.disk ≡ pages.old.disk) × (pages.new.pages ≡ pages.old.pages)
+        × (pages.new.closed ≡ false) }
+{
+    // Its contract says that there are no more pages than there may be.
+    let _limit = pages.limit();
+    pages.set_limit(most_pages(layout));
+}
+
+// Makes a change in one work, whole or not at all, and gives what is to be kept in memory then.
+fn change_pages<D: Disk>(
+    room: &mut Room,
+    pages: &mut Pages<D>,
+    contents: &Contents,
+    change: Change,
+) -> Result<Contents, Fault>
+    requires open { pages.old.closed ≡ false }
+    requires possible { CanChange change contents.now.layout
+        (labels_in contents.now.rows.items) contents.now.sets }
+    requires holds { HonestAt D.honest pages.old.disk
+        → HoldsSomeState (stand_of pages.old) contents.now }
+    requires rows { AreRows contents.now.layout contents.now.rows.items }
+    requires few { HonestAt D.honest pages.old.disk
+        → length pages.old.pages ≤ length pages.old.used }
+    requires many { length pages.old.used ≡ most_pages_of contents.now.layout }
+    requires within { HonestAt D.honest pages.old.disk
+        → StaysWithin (stand_of pages.old) contents.now change }
+    ensures calls { CallsWhere D.honest D.failures result pages.old.disk pages.new.disk }
+    ensures moments { HonestAt D.honest pages.new.disk → PassesChange
+        (state_at D.state pages.old.disk) (state_at D.state pages.new.disk) (stand_of pages.old)
+        contents.now change }
+    ensures laid { IfOk result (λ left. HonestAt D.honest pages.new.disk
+        → HasLaid D.state pages.old pages.new contents.now left change) }
+    ensures rows { IfOk result (λ left. AreRows left.layout left.rows.items) }
+    ensures marks { IfOk result (λ left. length pages.new.used ≡ most_pages_of left.layout) }
+    ensures stays { IfErr result (λ fault. fault ≢ Device
+        → StaysKept D.honest D.state pages.old pages.new) }
+    ensures answer { AnswersLay result pages.new.closed }
+    ensures never_full { IfErr result (λ fault.
+        HonestAt D.honest pages.new.disk → fault ≢ FileFull) }
+{
+    law_of_state_pages();
+    // Its contract says that each page has the bytes of a block.
+    let _limit = pages.limit();
+    let mut work = pages.begin()?;
+    let left = lay(room, pages, &mut work, contents, change)?;
+    pages.finish(work)?;
+    give_pages(pages, left.layout);
+    Ok(left)
+}
+
+impl<D: Disk> Archive<D> {
+    // Makes a change, whole or not at all. It closes the archive where the device failed, and where
+    // the pages are full, as they never are of a device that keeps what was written.
+    pub(crate) fn make_change(&mut self, change: Change) -> Result<(), Refusal>
+        requires open { self.old.closed ≡ false }
+        requires possible { CanChange change self.old.contents.layout
+            (labels_in self.old.contents.rows.items) self.old.contents.sets }
+        requires within { HonestAt D.honest self.old.pages.disk
+            → IsState (changed change (state_of D.state self.old)) }
+        ensures { MakesChange D.honest D.failures D.state result self.old self.new change }
+    {
+        self.fetched = None;
+        match change_pages(&mut self.room, &mut self.pages, &self.contents, change) {
+            Ok(contents) => {
+                self.room.take(mem::replace(&mut self.contents, contents));
+                Ok(())
+            }
+            Err(fault) => {
+                self.closed = closes(fault);
+                Err(refusal_of(fault))
+            }
+        }
+    }
+}

@@ -1,0 +1,240 @@
+-- What opening has claimed.
+use Rattle.std.specs.Prelude.{◌≡◌, ℕ, ◌<◌, ◌≤◌, List, [], ◌∷◌, ◌++◌, Bool, true, All, length}
+use Rattle.std.specs.List.{AllByRecursion}
+use Rattle.abc_fields.specs.Tunes.{IsTextWithin}
+use Rattle.index_keys.specs.Entries.{Entry}
+use Rattle.tune_index.specs.Indexes.{Shape}
+use Rattle.tune_journal.specs.FileOffsets.{block_bytes}
+use Rattle.tune_journal.specs.Pages.{page_at}
+use Rattle.tune_parts.specs.Parts.{AreParts, IsPart, Part}
+use Rattle.tune_parts.specs.Parts.PartKind.{chain}
+use Rattle.tune_search.specs.LoadedParts.{HasClaimed, HoldEachAtMost, HoldsAtMost, HoldsLoaded}
+use Rattle.tune_search.specs.LoadedParts.{HoldsLoadedSearch}
+use Rattle.tune_search.specs.LoadedParts as loaded
+use Rattle.tune_search.specs.SearchClaims.{AreAllKnown, StandsAtKeys}
+use Rattle.tune_search.specs.IndexParts.{IndexParts, KeepsIndex, parts_of_index}
+use Rattle.tune_search.specs.SearchPages.{AreListed}
+use Rattle.tune_search.specs.Searches.{SearchParts, SearchRuns, SearchShape, incipit_bytes}
+use Rattle.tune_search.specs.Searches.{key_bytes, parts_of_search}
+use Rattle.tune_search.specs.declared.loading.SearchFirsts.{SearchFirsts}
+use Rattle.tune_store.specs.Limits.{greatest_revision, longest_text, notes_of}
+use Rattle.tune_store.specs.State.{State, IsTune}
+use Rattle.tune_store.specs.declared.layout.Layout.{Layout}
+use Rattle.tune_store.specs.declared.tune.Tune.{Tune}
+use Rattle.tune_format.specs.Filed.{HoldTunes, archive_parts, firsts_of, rows_of}
+use Rattle.tune_format.specs.Searched.{AreSearchIndexes}
+use Rattle.tune_format.specs.States.{IsStateOf}
+use Rattle.tune_format.specs.Written.{IsRoot, number_entries, written_text}
+use Rattle.tune_format.specs.declared.root.Firsts.{Firsts}
+use Rattle.tune_format.specs.declared.rows.Row.{Row}
+use Rattle.tune_contents.specs.Most.{most_tune_pages}
+use Rattle.tune_contents.specs.Inside.ClaimedRows.{HaveFew}
+use Rattle.tune_contents.specs.Inside.TuneRows.{numbers_in}
+
+-- each page has the bytes of a block
+abbrev pub AreBlocks : List (List ℕ) → Type 0
+AreBlocks pages = All (λ page. length page ≡ block_bytes) pages
+
+-- ONE PART
+-- Behind parts that were claimed, a chain that begins at this page was, with these bytes.
+pub record ClaimsPart (pages : List (List ℕ)) (front : List Part) (now : List Bool) (first : ℕ)
+    (bytes : List ℕ) : Type 0 where
+  pub part : Part
+  pub has : HasClaimed pages now (front ++ part ∷ [])
+  pub is_chain : part.kind ≡ chain
+  pub is_first : part.first ≡ first
+  pub holds : part.bytes ≡ bytes
+  pub only : (other : Part) → other.kind ≡ chain → IsPart pages other → other.first ≡ first
+      → other ≡ part
+
+-- Behind these parts some chain stands there that begins at this page, of at most so many pages,
+-- and more parts behind it.
+pub record IsPartThere (pages : List (List ℕ)) (front : List Part) (first most : ℕ) : Type 0 where
+  pub part : Part
+  pub more : List Part
+  pub are : AreParts pages (front ++ part ∷ more)
+  pub is_chain : part.kind ≡ chain
+  pub is_first : part.first ≡ first
+  pub few : length part.trail ≤ most
+
+-- INDEXES
+-- Behind parts that were claimed, an index of at most so many entries was whose list begins at
+-- this page, and memory has it, with these entries. No other stands there.
+pub record ClaimsIndex (most : ℕ) (pages : List (List ℕ)) (front : List Part) (now : List Bool)
+    (first : ℕ) (shape : Shape) (entries : List Entry) : Type 0 where
+  pub parts : IndexParts
+  pub held : HoldsLoaded key_bytes pages now front first shape parts entries
+  pub listed : shape.listed ≡ true
+  pub only : (other : IndexParts) (others : List Entry) (more : List Part)
+      → AreParts pages (front ++ (parts_of_index other ++ more))
+      → HoldsAtMost key_bytes most other others → other.list.first ≡ first
+      → (other ≡ parts) × (others ≡ entries)
+
+-- Behind these parts some index stands there whose list begins at this page, of at most so many
+-- entries, and more parts behind it.
+pub record IsIndexThere (most : ℕ) (pages : List (List ℕ)) (front : List Part) (first : ℕ)
+    : Type 0 where
+  pub parts : IndexParts
+  pub entries : List Entry
+  pub more : List Part
+  pub are : AreParts pages (front ++ (parts_of_index parts ++ more))
+  pub holds : HoldsAtMost key_bytes most parts entries
+  pub is_first : parts.list.first ≡ first
+
+-- the same of the four search indexes
+pub record ClaimsSearch (most : ℕ) (pages : List (List ℕ)) (front : List Part) (now : List Bool)
+    (firsts : SearchFirsts) (shape : SearchShape) (runs : SearchRuns) : Type 0 where
+  pub parts : SearchParts
+  pub held : HoldsLoadedSearch pages now front firsts shape parts runs
+  pub listed : AreListed shape
+  pub only : (other : SearchParts) (others : SearchRuns) (more : List Part)
+      → AreParts pages (front ++ (parts_of_search other ++ more)) → others.notes ≡ runs.notes
+      → HoldEachAtMost most other others → loaded.firsts_of other ≡ firsts
+      → (other ≡ parts) × (others ≡ runs)
+
+pub record IsSearchThere (notes most : ℕ) (pages : List (List ℕ)) (front : List Part)
+    (firsts : SearchFirsts) : Type 0 where
+  pub parts : SearchParts
+  pub runs : SearchRuns
+  pub same : runs.notes ≡ notes
+  pub more : List Part
+  pub are : AreParts pages (front ++ (parts_of_search parts ++ more))
+  pub holds : HoldEachAtMost most parts runs
+  pub are_first : loaded.firsts_of parts ≡ firsts
+
+-- WHAT THE ROOT NAMES
+-- the entries of the four search indexes
+abbrev pub runs_filed : {notes : ℕ} {tunes : List (ℕ × List ℕ)} {searches : SearchParts}
+    → AreSearchIndexes notes tunes searches → SearchRuns
+runs_filed {notes = notes} are = record {
+  notes = notes;
+  titles = are.titles.entries;
+  rhythms = are.rhythms.entries;
+  scales = are.scales.entries;
+  incipits = are.incipits.entries;
+}
+
+-- What is filed has these indexes and set lists, with these entries.
+pub record HasLists (pages : List (List ℕ)) (state : State) (is : IsStateOf pages state)
+    (numbers : IndexParts) (searches : SearchParts) (set_lists : Part) (entries : List Entry)
+    (runs : SearchRuns) : Type 0 where
+  pub are_numbers : is.filed.numbers ≡ numbers
+  pub are_searches : is.filed.searches ≡ searches
+  pub are_sets : is.filed.set_lists ≡ set_lists
+  pub are_entries : number_entries (rows_of state.tunes is.filed.texts) ≡ entries
+  pub are_runs : runs_filed is.filed.are_searches ≡ runs
+
+-- The root says the layout, and names the index of numbers, the search indexes and the set lists,
+-- and these were claimed: memory has the indexes, with these entries, and the set lists are these
+-- bytes. Each state that stands on the pages has them.
+pub record ClaimsLists (layout : Layout) (pages : List (List ℕ)) (now : List Bool)
+    (firsts : Firsts) (shape : Shape) (entries : List Entry) (shapes : SearchShape)
+    (runs : SearchRuns) (bytes : List ℕ) : Type 0 where
+  pub numbers : IndexParts
+  pub searches : SearchParts
+  pub set_lists : Part
+  pub has : HasClaimed pages now (archive_parts numbers searches set_lists [])
+  pub root : IsRoot layout (page_at pages 0) firsts
+  pub firsts_are : firsts ≡ firsts_of numbers searches set_lists
+  pub keeps : KeepsIndex key_bytes shape numbers entries
+  pub listed : shape.listed ≡ true
+  pub notes : shapes.notes ≡ notes_of layout
+  pub of_runs : runs.notes ≡ shapes.notes
+  pub titles : KeepsIndex key_bytes shapes.titles searches.titles runs.titles
+  pub rhythms : KeepsIndex key_bytes shapes.rhythms searches.rhythms runs.rhythms
+  pub scales : KeepsIndex key_bytes shapes.scales searches.scales runs.scales
+  pub incipits : KeepsIndex (incipit_bytes shapes.notes) shapes.incipits searches.incipits
+      runs.incipits
+  pub all_listed : AreListed shapes
+  pub sets_are_chain : set_lists.kind ≡ chain
+  pub sets_hold : set_lists.bytes ≡ bytes
+  pub only : (state : State) (is : IsStateOf pages state)
+      → HasLists pages state is numbers searches set_lists entries runs
+
+-- where there is a page
+abbrev pub ListsClaimed : Layout → List (List ℕ) → List Bool → Firsts → Shape → List Entry
+    → SearchShape → SearchRuns → List ℕ → Type 0
+ListsClaimed layout pages now firsts shape entries shapes runs bytes = 0 < length pages
+    → ClaimsLists layout pages now firsts shape entries shapes runs bytes
+
+-- ONE TUNE
+-- these bytes are a revision and the text of one tune, within the limits
+pub record IsTuneChain (layout : Layout) (bytes : List ℕ) (revision : ℕ) (text : List ℕ)
+    : Type 0 where
+  pub written : written_text revision text ≡ bytes
+  pub revised : 0 < revision
+  pub few : revision ≤ greatest_revision
+  pub good : IsTextWithin (longest_text layout) text
+
+-- Behind parts that were claimed, the tune of a row was, and its number stands at its keys.
+pub record ClaimsTune (layout : Layout) (pages : List (List ℕ)) (front : List Part)
+    (runs : SearchRuns) (now : List Bool) (row : Row) : Type 0 where
+  pub bytes : List ℕ
+  pub claims : ClaimsPart pages front now row.first bytes
+  pub text : List ℕ
+  pub tune : IsTuneChain layout bytes row.revision text
+  pub measured : row.length ≡ length text
+  pub keys : StandsAtKeys runs row.number text
+
+-- Behind these parts some tune stands there at whose keys this number stands, and more parts
+-- behind it.
+pub record IsTuneThere (layout : Layout) (pages : List (List ℕ)) (front : List Part)
+    (runs : SearchRuns) (number first : ℕ) : Type 0 where
+  pub there : IsPartThere pages front first (most_tune_pages layout)
+  pub revision : ℕ
+  pub text : List ℕ
+  pub tune : IsTuneChain layout there.part.bytes revision text
+  pub keys : StandsAtKeys runs number text
+
+-- THE TUNES OF A LIST
+-- the number of each tune stands at the keys of its text
+abbrev pub StandAtKeys : SearchRuns → List Tune → Type 0
+StandAtKeys runs tunes = AllByRecursion (λ tune. StandsAtKeys runs tune.number tune.text) tunes
+
+-- Behind these parts stand those of tunes, each within the limits, with the numbers and the first
+-- pages of these rows, and each number stands at the keys of its tune.
+pub record TunesStand (layout : Layout) (pages : List (List ℕ)) (front : List Part)
+    (runs : SearchRuns) (rows : List Row) (tunes : List Tune) (texts : List Part) : Type 0 where
+  pub sized : AreBlocks pages
+  pub are : AreParts pages (front ++ texts)
+  pub hold : HoldTunes texts tunes
+  pub listed : number_entries (rows_of tunes texts) ≡ number_entries rows
+  pub each : AllByRecursion (IsTune layout) tunes
+  pub keys : StandAtKeys runs tunes
+
+-- tunes of these rows stand behind these parts
+abbrev pub AreTunesThere : Layout → List (List ℕ) → List Part → SearchRuns → List Row → Type 0
+AreTunesThere layout pages front runs rows = (tunes : List Tune) × (texts : List Part)
+    × TunesStand layout pages front runs rows tunes texts
+
+-- So they do, and no other number stands in the search indexes, which have few entries.
+pub record AreRowsThere (layout : Layout) (pages : List (List ℕ)) (front : List Part)
+    (runs : SearchRuns) (rows : List Row) : Type 0 where
+  pub few : HaveFew runs
+  pub known : AreAllKnown (numbers_in rows) runs
+  pub tunes : AreTunesThere layout pages front runs rows
+
+-- Behind parts that were claimed, the tunes of these rows were.
+pub record TunesClaimed (layout : Layout) (pages : List (List ℕ)) (front : List Part)
+    (runs : SearchRuns) (claimed : List Bool) (rows : List Row) : Type 0 where
+  pub tunes : List Tune
+  pub texts : List Part
+  pub has : HasClaimed pages claimed (front ++ texts)
+  pub hold : HoldTunes texts tunes
+  pub rows_are : rows ≡ rows_of tunes texts
+  pub each : AllByRecursion (IsTune layout) tunes
+  pub keys : StandAtKeys runs tunes
+
+-- So far: the tunes of these rows were claimed, and where tunes of the whole list stand, those of
+-- the rest of it stand behind these.
+pub record ClaimsSoFar (layout : Layout) (pages : List (List ℕ)) (front : List Part)
+    (runs : SearchRuns) (list : List Row) (claimed : List Bool) (rows rest : List Row)
+    : Type 0 where
+  pub so_far : TunesClaimed layout pages front runs claimed rows
+  pub goes_on : AreTunesThere layout pages front runs list
+      → AreTunesThere layout pages (front ++ so_far.texts) runs rest
+
+-- ALL
+-- some state stands on the pages
+abbrev pub IsStateThere : List (List ℕ) → Type 0
+IsStateThere pages = (state : State) × IsStateOf pages state

@@ -1,0 +1,303 @@
+// Chains of an archive, laid anew in a work.
+ghost use Rattle.std.specs.Prelude.{◌≡◌, ◌≢◌, ◌+◌, ◌^◌, ◌<◌, ℕ, List, [], ◌∷◌, ◌++◌, false, length};
+ghost use Rattle.std.specs.Prelude.{slice_set};
+ghost use Rattle.std.specs.Prelude.{IfOk, IfErr, OnOk, IsTrue};
+ghost use Rattle.std.specs.List.{remove};
+ghost use Rattle.tune_pages.specs.Faults.{pages_for};
+ghost use Rattle.tune_pages.specs.FreePages.{TakesAtMost};
+ghost use Rattle.tune_pages.specs.Kept.{HonestAt};
+ghost use Rattle.tune_journal.specs.Pages.{page_at};
+ghost use Rattle.tune_pages.specs.Faults.{AnswersRead};
+ghost use Rattle.tune_pages.specs.PageLooks.{LooksAt, SameStand};
+ghost use Rattle.tune_format.specs.Written.{IsRoot};
+ghost use Rattle.tune_pages.specs.Stand.{HasSomeChain};
+ghost use Rattle.tune_pages.specs.Work.{stand, Fits};
+ghost use Rattle.tune_pages.specs.declared.fault.Fault.TheVariants.{Device, Closed};
+ghost use Rattle.tune_sets.specs.SetBytes.{written_sets};
+ghost use Rattle.tune_store.specs.TuneSteps.{numbered};
+ghost use Rattle.tune_store.specs.declared.layout.Layout.{Layout};
+ghost use Rattle.tune_format.specs.declared.root.Firsts.{Firsts};
+ghost use Rattle.tune_format.specs.declared.rows.Row.{Row};
+ghost use Rattle.tune_contents.specs.LayAnswers.{AnswersLay};
+ghost use Rattle.tune_contents.specs.Inside.Laying.{SwapsChain, LaysRoot, LaysSets};
+ghost use Rattle.tune_contents.specs.Inside.Laying.{HoldsSomeTunes, LaysTunes};
+ghost use Rattle.tune_contents.specs.Inside.ChangedRows.{AddsRow, AddsRows, PutsRow};
+ghost use Rattle.tune_contents.specs.Inside.Takes.{tune_pages, text_pages, sets_pages};
+
+use abc_fields::TuneText;
+use std::alloc::Global;
+use tune_disk::Disk;
+use tune_format::{Firsts, Row, read_root, write_root, write_text};
+use tune_pages::{Fault, Pages, Work, law_of_works};
+use tune_sets::SetLists;
+use tune_store::{Layout, Tune};
+
+// Frees the chain that begins at `first`, puts these bytes on another one, and gives where that
+// begins.
+fn swap_chain<D: Disk>(
+    pages: &mut Pages<D>,
+    work: &mut Work,
+    first: u32,
+    bytes: &[u8],
+) -> Result<u32, Fault>
+    requires open { pages.old.closed ≡ false }
+    requires fits { Fits pages.old work.old }
+    requires chain { HonestAt D.honest pages.old.disk
+        → HasSomeChain (stand pages.old work.old) first }
+    ensures fits { OnOk result (Fits pages.new work.new) }
+    ensures swaps { IfOk result (λ next. HonestAt D.honest pages.new.disk → SwapsChain
+        (stand pages.old work.old) (stand pages.new work.new) first next bytes.now) }
+    ensures looks { LooksAt D.honest D.failures D.state result pages.old pages.new }
+    ensures answer { AnswersLay result pages.new.closed }
+    ensures takes { HonestAt D.honest pages.new.disk → TakesAtMost (pages_for (length bytes.now))
+        result (stand pages.old work.old) (stand pages.new work.new) }
+{
+    pages.free_chain(work, first)?;
+    pages.put_chain(work, bytes)
+}
+
+// Where the chain of the tune at a place begins.
+fn first_at(rows: &[Row], place: usize) -> u32
+    requires { place < length rows.now }
+    ensures { (before after : List Row) (row : Row) → rows.now ≡ before ++ row ∷ after
+        → length before ≡ place → result ≡ row.first }
+{
+    rows[place].first
+}
+
+// Lays a tune on another chain, in the place of the one there.
+pub(crate) fn put_tune<D: Disk>(
+    alloc: Global,
+    pages: &mut Pages<D>,
+    work: &mut Work,
+    rows: &mut Vec<Row>,
+    place: usize,
+    tune: &Tune,
+) -> Result<(), Fault>
+    requires open { pages.old.closed ≡ false }
+    requires fits { Fits pages.old work.old }
+    requires place { place < length rows.old.items }
+    requires holds { HonestAt D.honest pages.old.disk
+        → HoldsSomeTunes (stand pages.old work.old) rows.old.items }
+    ensures fits { OnOk result (Fits pages.new work.new) }
+    ensures lays { OnOk result (HonestAt D.honest pages.new.disk → LaysTunes
+        (stand pages.old work.old) (stand pages.new work.new) rows.old.items rows.new.items
+        (λ tunes. slice_set tunes place tune.now)) }
+    ensures row { OnOk result (PutsRow place tune.now.number rows.old.items rows.new.items) }
+    ensures looks { LooksAt D.honest D.failures D.state result pages.old pages.new }
+    ensures answer { AnswersLay result pages.new.closed }
+    ensures takes { HonestAt D.honest pages.new.disk → TakesAtMost (tune_pages tune.now.text)
+        result (stand pages.old work.old) (stand pages.new work.new) }
+{
+    let Ok(bytes) = write_text(alloc, tune.revision, tune.text.bytes()) else {
+        return Err(Fault::OutOfMemory);
+    };
+    let first = swap_chain(pages, work, first_at(rows, place), &bytes)?;
+    rows[place] = Row {
+        number: tune.number,
+        revision: tune.revision,
+        first,
+        length: tune.text.bytes().len() as u32,
+    };
+    Ok(())
+}
+
+// Frees the chain of the tune at a place, and takes its row out.
+pub(crate) fn take_tune<D: Disk>(
+    pages: &mut Pages<D>,
+    work: &mut Work,
+    rows: &mut Vec<Row>,
+    place: usize,
+) -> Result<(), Fault>
+    requires open { pages.old.closed ≡ false }
+    requires fits { Fits pages.old work.old }
+    requires place { place < length rows.old.items }
+    requires holds { HonestAt D.honest pages.old.disk
+        → HoldsSomeTunes (stand pages.old work.old) rows.old.items }
+    ensures fits { OnOk result (Fits pages.new work.new) }
+    ensures lays { OnOk result (HonestAt D.honest pages.new.disk → LaysTunes
+        (stand pages.old work.old) (stand pages.new work.new) rows.old.items rows.new.items
+        (λ tunes. remove tunes place)) }
+    ensures rows { OnOk result (rows.new.items ≡ remove rows.old.items place) }
+    ensures looks { LooksAt D.honest D.failures D.state result pages.old pages.new }
+    ensures answer { AnswersLay result pages.new.closed }
+    ensures takes { HonestAt D.honest pages.new.disk → TakesAtMost 0
+        result (stand pages.old work.old) (stand pages.new work.new) }
+{
+    pages.free_chain(work, first_at(rows, place))?;
+    rows.remove(place);
+    Ok(())
+}
+
+// Puts a new tune on a chain, behind the others.
+fn add_tune<D: Disk>(
+    alloc: Global,
+    pages: &Pages<D>,
+    work: &mut Work,
+    rows: &mut Vec<Row>,
+    number: u32,
+    text: &TuneText,
+) -> Result<(), Fault>
+    requires open { pages.now.closed ≡ false }
+    requires fits { Fits pages.now work.old }
+    ensures fits { OnOk result (Fits pages.now work.new) }
+    ensures lays { OnOk result (LaysTunes (stand pages.now work.old) (stand pages.now work.new)
+        rows.old.items rows.new.items (λ tunes. tunes ++ numbered number (text.now ∷ []))) }
+    ensures row { OnOk result (AddsRow number rows.old.items rows.new.items) }
+    ensures quiet { IfErr result (λ fault. (fault ≢ Device) × (fault ≢ Closed)) }
+    ensures takes { TakesAtMost (tune_pages text.now) result
+        (stand pages.now work.old) (stand pages.now work.new) }
+{
+    let Ok(bytes) = write_text(alloc, 1, text.bytes()) else {
+        return Err(Fault::OutOfMemory);
+    };
+    let first = pages.put_chain(work, &bytes)?;
+    let row = Row {
+        number,
+        revision: 1,
+        first,
+        length: text.bytes().len() as u32,
+    };
+    if rows.push(row).is_err() {
+        return Err(Fault::OutOfMemory);
+    }
+    Ok(())
+}
+
+// Puts new tunes of these texts on chains, behind the others, with numbers from `first` on.
+pub(crate) fn add_tunes<D: Disk>(
+    alloc: Global,
+    pages: &Pages<D>,
+    work: &mut Work,
+    rows: &mut Vec<Row>,
+    first: u32,
+    texts: &[TuneText],
+) -> Result<(), Fault>
+    requires open { pages.now.closed ≡ false }
+    requires fits { Fits pages.now work.old }
+    requires numbers { first + length texts.now < 2 ^ 32 }
+    ensures fits { OnOk result (Fits pages.now work.new) }
+    ensures lays { OnOk result (LaysTunes (stand pages.now work.old) (stand pages.now work.new)
+        rows.old.items rows.new.items (λ tunes. tunes ++ numbered first texts.now)) }
+    ensures rows { OnOk result (AddsRows first (length texts.now) rows.old.items rows.new.items) }
+    ensures quiet { IfErr result (λ fault. (fault ≢ Device) × (fault ≢ Closed)) }
+    ensures takes { TakesAtMost (text_pages texts.now) result
+        (stand pages.now work.old) (stand pages.now work.new) }
+{
+    let mut number = first;
+    for text in texts {
+        add_tune(alloc, pages, work, rows, number, text)?;
+        number += 1;
+    }
+    Ok(())
+}
+
+// Puts the set lists on another chain.
+fn lay_sets<D: Disk>(
+    pages: &mut Pages<D>,
+    work: &mut Work,
+    sets_first: u32,
+    sets: &SetLists,
+) -> Result<u32, Fault>
+    requires open { pages.old.closed ≡ false }
+    requires fits { Fits pages.old work.old }
+    requires chain { HonestAt D.honest pages.old.disk
+        → HasSomeChain (stand pages.old work.old) sets_first }
+    ensures fits { OnOk result (Fits pages.new work.new) }
+    ensures swaps { IfOk result (λ next. HonestAt D.honest pages.new.disk → SwapsChain
+        (stand pages.old work.old) (stand pages.new work.new) sets_first next
+        (written_sets sets.now)) }
+    ensures looks { LooksAt D.honest D.failures D.state result pages.old pages.new }
+    ensures answer { AnswersLay result pages.new.closed }
+    ensures takes { HonestAt D.honest pages.new.disk → TakesAtMost (sets_pages sets.now)
+        result (stand pages.old work.old) (stand pages.new work.new) }
+{
+    let Ok(bytes) = sets.write() else {
+        return Err(Fault::OutOfMemory);
+    };
+    swap_chain(pages, work, sets_first, bytes.as_slice())
+}
+
+// Puts the set lists on another chain where they change; otherwise they stay where they are.
+pub(crate) fn lay_sets_where<D: Disk>(
+    pages: &mut Pages<D>,
+    work: &mut Work,
+    sets_first: u32,
+    sets: &SetLists,
+    changes: bool,
+) -> Result<u32, Fault>
+    requires open { pages.old.closed ≡ false }
+    requires fits { Fits pages.old work.old }
+    requires chain { HonestAt D.honest pages.old.disk
+        → HasSomeChain (stand pages.old work.old) sets_first }
+    ensures fits { OnOk result (Fits pages.new work.new) }
+    ensures lays { IfOk result (λ next. HonestAt D.honest pages.new.disk → LaysSets
+        (stand pages.old work.old) (stand pages.new work.new) sets_first next changes sets.now) }
+    ensures looks { LooksAt D.honest D.failures D.state result pages.old pages.new }
+    ensures answer { AnswersLay result pages.new.closed }
+    ensures takes { HonestAt D.honest pages.new.disk → TakesAtMost (sets_pages sets.now)
+        result (stand pages.old work.old) (stand pages.new work.new) }
+{
+    if changes {
+        lay_sets(pages, work, sets_first, sets)
+    } else {
+        Ok(sets_first)
+    }
+}
+
+// Whether the root says already that the chains begin there. It is read for that, where they began
+// there before.
+fn has_root<D: Disk>(
+    pages: &mut Pages<D>,
+    work: &Work,
+    layout: Layout,
+    was: Firsts,
+    firsts: Firsts,
+) -> Result<bool, Fault>
+    requires open { pages.old.closed ≡ false }
+    requires fits { Fits pages.old work.now }
+    ensures root { IfOk result (λ has. IsTrue has → HonestAt D.honest pages.new.disk
+        → IsRoot layout (page_at (stand pages.old work.now).pages 0) firsts) }
+    ensures fits { OnOk result (Fits pages.new work.now) }
+    ensures stand { OnOk result (SameStand (HonestAt D.honest pages.new.disk)
+        (stand pages.old work.now) (stand pages.new work.now)) }
+    ensures looks { LooksAt D.honest D.failures D.state result pages.old pages.new }
+    ensures answer { AnswersRead result pages.old.closed pages.new.closed }
+{
+    if was != firsts || !pages.in_use(work, 0) {
+        return Ok(false);
+    }
+    let root = pages.read_page(work, 0)?;
+    let Some((its, found)) = read_root(&root) else {
+        return Ok(false);
+    };
+    if its.number() != layout.number() {
+        return Ok(false);
+    }
+    Ok(found == firsts)
+}
+
+// Puts a root on page 0 that says where these begin; one that says so already stays.
+pub(crate) fn lay_root<D: Disk>(
+    pages: &mut Pages<D>,
+    work: &mut Work,
+    layout: Layout,
+    was: Firsts,
+    firsts: Firsts,
+) -> Result<(), Fault>
+    requires open { pages.old.closed ≡ false }
+    requires fits { Fits pages.old work.old }
+    ensures fits { OnOk result (Fits pages.new work.new) }
+    ensures root { OnOk result (HonestAt D.honest pages.new.disk → LaysRoot layout
+        (stand pages.old work.old) (stand pages.new work.new) firsts) }
+    ensures looks { LooksAt D.honest D.failures D.state result pages.old pages.new }
+    ensures answer { AnswersLay result pages.new.closed }
+    ensures takes { HonestAt D.honest pages.new.disk
+        → TakesAtMost 0 result (stand pages.old work.old) (stand pages.new work.new) }
+{
+    law_of_works();
+    if has_root(pages, work, layout, was, firsts)? {
+        return Ok(());
+    }
+    pages.put_page(work, 0, &write_root(layout, firsts))
+}

@@ -1,0 +1,308 @@
+// A change of an archive, laid on its pages.
+ghost use Rattle.std.specs.Prelude.{◌≡◌, ◌≢◌, ◌+◌, List, false, true, length};
+ghost use Rattle.std.specs.Prelude.{IfOk, IfErr, OnOk};
+ghost use Rattle.tune_pages.specs.FreePages.{TakesAtMost};
+ghost use Rattle.tune_pages.specs.Kept.{HonestAt};
+ghost use Rattle.tune_pages.specs.PageLooks.{LooksAt};
+ghost use Rattle.tune_pages.specs.Work.{stand, Fits};
+ghost use Rattle.tune_pages.specs.declared.fault.Fault.TheVariants.{OutOfMemory};
+ghost use Rattle.tune_search.specs.SearchPages.{AreListed, firsts_in};
+ghost use Rattle.tune_sets.specs.declared.faults.SetFault.TheVariants as set_fault;
+ghost use Rattle.tune_sets.specs.declared.set_lists.TuneSet.{TuneSet};
+ghost use Rattle.tune_store.specs.Plans.{changed, changed_layout, changed_sets, changed_tunes};
+ghost use Rattle.tune_store.specs.Plans.{CanChange};
+ghost use Rattle.tune_store.specs.State.{State, IsState};
+ghost use Rattle.tune_store.specs.declared.plans.Change.TheVariants.{Upgrade};
+ghost use Rattle.tune_store.specs.declared.tune.Tune.{Tune};
+ghost use Rattle.tune_contents.specs.LayAnswers.{AnswersLay};
+ghost use Rattle.tune_contents.specs.Claimed.{AreRows};
+ghost use Rattle.tune_contents.specs.Holds.{labels_in, HoldsContents, HoldsSomeState, LaysState};
+ghost use Rattle.tune_contents.specs.Most.{most_part_pages};
+ghost use Rattle.tune_contents.specs.Inside.Changes.{RowsAccept, SetsAccept, LaysChange, KeepsRows};
+ghost use Rattle.tune_contents.specs.Inside.Changes.{changes_sets};
+ghost use Rattle.tune_contents.specs.Inside.Indexed.{HoldsIndexed, HoldsSomeIndexed, LaysIndexed};
+ghost use Rattle.tune_contents.specs.Inside.Indexed.{index_pages, keeps_of};
+ghost use Rattle.tune_contents.specs.Inside.Laying.{HoldsSomeTunes};
+ghost use Rattle.tune_contents.specs.Inside.ChangedRows.{ChangesRows};
+ghost use Rattle.tune_contents.specs.Inside.Searching.{search_pages};
+ghost use Rattle.tune_contents.specs.Inside.Takes.{change_pages};
+
+use crate::contents::Contents;
+use crate::laid_chains::{add_tunes, lay_root, lay_sets_where, put_tune, take_tune};
+use crate::number_index::{change_numbers, number_runs};
+use crate::room::Room;
+use crate::searching::{change_searches, text_runs};
+use crate::tune_rows::{are_rows, move_row};
+use crate::upgrading::upgrade;
+use std::alloc::Global;
+use tune_disk::Disk;
+use tune_format::{Firsts, Row};
+use tune_index::Index;
+use tune_pages::{Fault, Pages, Work};
+use tune_search::{SearchFirsts, SearchIndexes};
+use tune_sets::{SetFault, SetLists};
+use tune_store::{Change, Layout};
+
+// Whether a change is one of set lists. A tune that none of them names is moved without them.
+fn changes_sets(change: &Change, sets: &SetLists) -> bool
+    ensures { result ≡ changes_sets change.now sets.now }
+{
+    match change {
+        Change::Add { .. } | Change::Put { .. } | Change::Take { .. } | Change::Upgrade => false,
+        Change::Move { number, .. } => sets.holds(*number).is_some(),
+        Change::NewSet { .. } | Change::AddPlace { .. } => true,
+        Change::CutPlace { .. } | Change::DropSet { .. } => true,
+    }
+}
+
+// Makes a change of the set lists; one of tunes alone leaves them. The error is out of memory.
+fn change_sets(sets: &mut SetLists, change: &Change) -> Result<(), SetFault>
+    requires { SetsAccept change.now sets.old }
+    ensures sets { OnOk result (sets.new ≡ changed_sets change.now sets.old) }
+    ensures err { IfErr result (λ fault. fault ≡ set_fault.OutOfMemory) }
+{
+    match change {
+        Change::Move { number, to } => sets.renumbered(*number, *to),
+        Change::NewSet { name } => sets.create(name.as_slice())?,
+        Change::AddPlace { name, number } => {
+            sets.add(name.as_slice(), *number)?;
+        }
+        Change::CutPlace { name, place } => sets.cut(name.as_slice(), *place as usize)?,
+        Change::DropSet { name } => sets.drop_set(name.as_slice())?,
+        Change::Add { .. } | Change::Put { .. } | Change::Take { .. } | Change::Upgrade => {}
+    }
+    Ok(())
+}
+
+// Lays a change of tunes; one of the set lists alone leaves them.
+fn lay_tunes<D: Disk>(
+    alloc: Global,
+    pages: &mut Pages<D>,
+    work: &mut Work,
+    rows: &mut Vec<Row>,
+    change: &Change,
+) -> Result<(), Fault>
+    requires open { pages.old.closed ≡ false }
+    requires fits { Fits pages.old work.old }
+    requires accept { RowsAccept change.now rows.old.items }
+    requires holds { HonestAt D.honest pages.old.disk
+        → HoldsSomeTunes (stand pages.old work.old) rows.old.items }
+    ensures fits { OnOk result (Fits pages.new work.new) }
+    ensures lays { OnOk result (HonestAt D.honest pages.new.disk → LaysChange
+        (stand pages.old work.old) (stand pages.new work.new) rows.old.items rows.new.items
+        change.now) }
+    ensures changes { OnOk result (ChangesRows change.now rows.old.items rows.new.items) }
+    ensures rows { OnOk result (KeepsRows change.now rows.old.items rows.new.items) }
+    ensures looks { LooksAt D.honest D.failures D.state result pages.old pages.new }
+    ensures answer { AnswersLay result pages.new.closed }
+    ensures takes { HonestAt D.honest pages.new.disk → TakesAtMost (change_pages change.now)
+        result (stand pages.old work.old) (stand pages.new work.new) }
+{
+    match change {
+        Change::Add { first, texts } => add_tunes(alloc, pages, work, rows, *first, texts),
+        Change::Put { place, tune } => put_tune(alloc, pages, work, rows, *place, tune),
+        Change::Take { place } => take_tune(pages, work, rows, *place),
+        Change::Move { number, to } => {
+            move_row(rows, *number, *to);
+            Ok(())
+        }
+        Change::NewSet { .. } | Change::AddPlace { .. } => Ok(()),
+        Change::CutPlace { .. } | Change::DropSet { .. } | Change::Upgrade => Ok(()),
+    }
+}
+
+// The indexes of an archive.
+#[derive(Drop)]
+struct Indexes {
+    numbers: Index<32>,
+    searches: SearchIndexes,
+}
+
+// Lays a change of tunes and that of the indexes that goes with it, and gives where the lists of
+// the indexes begin; a change of the set lists alone leaves all. `was` are the rows before it.
+fn lay_indexed<D: Disk>(
+    alloc: Global,
+    pages: &mut Pages<D>,
+    work: &mut Work,
+    layout: Layout,
+    was: &[Row],
+    rows: &mut Vec<Row>,
+    indexes: &mut Indexes,
+    change: &Change,
+) -> Result<(u32, SearchFirsts), Fault>
+    requires open { pages.old.closed ≡ false }
+    requires fits { Fits pages.old work.old }
+    requires accept { RowsAccept change.now was.now }
+    requires same { rows.old.items ≡ was.now }
+    requires holds { HonestAt D.honest pages.old.disk → HoldsSomeIndexed layout
+        (stand pages.old work.old) (keeps_of indexes.old.numbers indexes.old.searches was.now) }
+    ensures fits { OnOk result (Fits pages.new work.new) }
+    ensures lays { OnOk result (HonestAt D.honest pages.new.disk → LaysIndexed layout
+        (stand pages.old work.old) (stand pages.new work.new)
+        (keeps_of indexes.old.numbers indexes.old.searches was.now)
+        (keeps_of indexes.new.numbers indexes.new.searches rows.new.items) change.now) }
+    ensures lists { IfOk result (λ firsts. (indexes.new.numbers.first ≡ firsts.0)
+        × (indexes.new.numbers.listed ≡ true) × (firsts.1 ≡ firsts_in indexes.new.searches)
+        × AreListed indexes.new.searches) }
+    ensures rows { OnOk result (KeepsRows change.now was.now rows.new.items) }
+    ensures notes { OnOk result
+        (indexes.new.searches.notes ≡ indexes.old.searches.notes) }
+    ensures looks { LooksAt D.honest D.failures D.state result pages.old pages.new }
+    ensures answer { AnswersLay result pages.new.closed }
+    ensures takes { HonestAt D.honest pages.new.disk → (tunes : List Tune) (sets : List TuneSet)
+        → HoldsIndexed layout (stand pages.old work.old)
+        (keeps_of indexes.old.numbers indexes.old.searches was.now) tunes
+        → CanChange change.now layout (labels_in was.now) sets
+        → let count = length (changed_tunes change.now tunes) in
+        TakesAtMost (change_pages change.now + (index_pages count + search_pages count)) result
+        (stand pages.old work.old) (stand pages.new work.new) }
+{
+    let notes = indexes.searches.notes();
+    let texts = text_runs(alloc, pages, work, layout, notes, rows, change)?;
+    lay_tunes(alloc, pages, work, rows, change)?;
+    let Ok(entries) = number_runs(alloc, was, rows, change) else {
+        return Err(Fault::OutOfMemory);
+    };
+    let numbers = change_numbers(alloc, pages, work, &mut indexes.numbers, &entries)?;
+    let searches = change_searches(alloc, pages, work, &mut indexes.searches, &texts)?;
+    Ok((numbers, searches))
+}
+
+// The set lists after a change.
+fn sets_after(sets: &SetLists, change: &Change) -> Result<SetLists, Fault>
+    requires { SetsAccept change.now sets.now }
+    ensures sets { IfOk result (λ left. left ≡ changed_sets change.now sets.now) }
+    ensures err { IfErr result (λ fault. fault ≡ OutOfMemory) }
+{
+    let Ok(mut left) = sets.copy() else {
+        return Err(Fault::OutOfMemory);
+    };
+    match change_sets(&mut left, change) {
+        Ok(()) => Ok(left),
+        Err(_) => Err(Fault::OutOfMemory),
+    }
+}
+
+// Lays a change that leaves the layout.
+fn lay_change<D: Disk>(
+    room: &mut Room,
+    pages: &mut Pages<D>,
+    work: &mut Work,
+    contents: &Contents,
+    change: &Change,
+) -> Result<Contents, Fault>
+    requires open { pages.old.closed ≡ false }
+    requires fits { Fits pages.old work.old }
+    requires stays { change.now ≢ Upgrade }
+    requires possible { CanChange change.now contents.now.layout
+        (labels_in contents.now.rows.items) contents.now.sets }
+    requires holds { HonestAt D.honest pages.old.disk
+        → HoldsSomeState (stand pages.old work.old) contents.now }
+    ensures lays { IfOk result (λ left. HonestAt D.honest pages.new.disk → LaysState
+        (stand pages.old work.old) (stand pages.new work.new) contents.now left change.now) }
+    ensures rows { AreRows contents.now.layout contents.now.rows.items
+        → IfOk result (λ left. AreRows left.layout left.rows.items) }
+    ensures layout { IfOk result (λ left. left.layout ≡ contents.now.layout) }
+    ensures fits { OnOk result (Fits pages.new work.new) }
+    ensures looks { LooksAt D.honest D.failures D.state result pages.old pages.new }
+    ensures answer { AnswersLay result pages.new.closed }
+    ensures takes { HonestAt D.honest pages.new.disk → (state : State)
+        → HoldsContents (stand pages.old work.old) contents.now state → IsState state
+        → IsState (changed change.now state) → TakesAtMost (most_part_pages contents.now.layout)
+        result (stand pages.old work.old) (stand pages.new work.new) }
+{
+    let mut rows = room.copy_rows(&contents.rows)?;
+    let mut indexes = Indexes {
+        numbers: room.copy_numbers(&contents.numbers)?,
+        searches: room.copy_searches(&contents.searches)?,
+    };
+    let sets = sets_after(&contents.sets, change)?;
+    let names = changes_sets(change, &contents.sets);
+    let layout = contents.layout;
+    let was = contents.firsts;
+    let (numbers, searches) = lay_indexed(
+        room.alloc,
+        pages,
+        work,
+        layout,
+        &contents.rows,
+        &mut rows,
+        &mut indexes,
+        change,
+    )?;
+    let sets_first = lay_sets_where(pages, work, was.sets, &sets, names)?;
+    let firsts = Firsts {
+        numbers,
+        searches,
+        sets: sets_first,
+    };
+    lay_root(pages, work, layout, was, firsts)?;
+    Ok(Contents {
+        layout,
+        rows,
+        numbers: indexes.numbers,
+        searches: indexes.searches,
+        sets,
+        firsts,
+    })
+}
+
+/// Lays a change of an archive on its pages, in a work that was begun on them, and gives what is to
+/// be kept in memory once the work is finished. `contents` stays as it is: where the work is
+/// dropped, or not finished, nothing was changed.
+///
+/// Chains that go are freed before others are put, so that these may take their pages. The leaves
+/// of the indexes change that the change concerns; the lists of leaves, where leaves come or go;
+/// the set lists, where they change; and the root, where one of these begins elsewhere. `upgrade`
+/// says what changes where the archive comes to layout 2.
+///
+/// - `lays`: where the pages held a state within the limits, they hold the state after the change.
+/// - `rows`, `layout`, of every disk: rows by rising number, within the limits, stay so, and the
+///   layout is that after the change.
+/// - `looks`: no page of the disk changes.
+/// - `fits`: the work may be changed further, or finished.
+/// - `takes`: where the state after the change is within the limits, it takes no more free pages
+///   than the chains and leaves of a state have at most; the file is full only where fewer are
+///   free.
+///
+/// # Errors
+///
+/// `FileFull`, where there is no page for a chain or a leaf; `OutOfMemory`; the pages stay open.
+/// `Device`, where the device failed: the pages are closed then. A work that was refused is to be
+/// dropped.
+pub fn lay<D: Disk>(
+    room: &mut Room,
+    pages: &mut Pages<D>,
+    work: &mut Work,
+    contents: &Contents,
+    change: Change,
+) -> Result<Contents, Fault>
+    requires open { pages.old.closed ≡ false }
+    requires fits { Fits pages.old work.old }
+    requires possible { CanChange change contents.now.layout
+        (labels_in contents.now.rows.items) contents.now.sets }
+    requires holds { HonestAt D.honest pages.old.disk
+        → HoldsSomeState (stand pages.old work.old) contents.now }
+    ensures lays { IfOk result (λ left. HonestAt D.honest pages.new.disk → LaysState
+        (stand pages.old work.old) (stand pages.new work.new) contents.now left change) }
+    ensures rows { AreRows contents.now.layout contents.now.rows.items
+        → IfOk result (λ left. AreRows left.layout left.rows.items) }
+    ensures layout { IfOk result (λ left. left.layout
+        ≡ changed_layout change contents.now.layout) }
+    ensures fits { OnOk result (Fits pages.new work.new) }
+    ensures looks { LooksAt D.honest D.failures D.state result pages.old pages.new }
+    ensures answer { AnswersLay result pages.new.closed }
+    ensures takes { HonestAt D.honest pages.new.disk → (state : State)
+        → HoldsContents (stand pages.old work.old) contents.now state → IsState state
+        → IsState (changed change state) → TakesAtMost (most_part_pages contents.now.layout)
+        result (stand pages.old work.old) (stand pages.new work.new) }
+{
+    if let Change::Upgrade = &change {
+        // An honest disk has no others.
+        if !are_rows(contents.layout, &contents.rows) {
+            return Err(pages.close());
+        }
+        return upgrade(room, pages, work, contents);
+    }
+    lay_change(room, pages, work, contents, &change)
+}

@@ -1,0 +1,162 @@
+// The index of numbers, changed with the rows.
+ghost use Rattle.std.specs.Prelude.{◌≡◌, ◌⊎◌, ◌+◌, ◌*◌, [], ◌∷◌, false, true};
+ghost use Rattle.std.specs.Prelude.{length, List, IfOk, OnOk};
+ghost use Rattle.tune_pages.specs.Faults.{pages_for};
+ghost use Rattle.tune_pages.specs.FreePages.{TakesAtMost};
+ghost use Rattle.tune_pages.specs.Kept.{HonestAt};
+ghost use Rattle.tune_pages.specs.PageLooks.{LooksAt};
+ghost use Rattle.tune_pages.specs.Work.{stand, Fits};
+ghost use Rattle.index_keys.specs.Entries.{AllFit, Entry, FitsLeaf, IsRising, inserted_all};
+ghost use Rattle.index_keys.specs.Entries.{removed_all};
+ghost use Rattle.tune_parts.specs.Parts.{Part};
+ghost use Rattle.tune_search.specs.IndexParts.{HoldsIndexAmong, HoldsSomeIndex, IndexParts};
+ghost use Rattle.tune_search.specs.IndexParts.{LaysIndex};
+ghost use Rattle.tune_search.specs.Searches.{key_bytes};
+ghost use Rattle.tune_format.specs.RootOffsets.{number_bytes};
+ghost use Rattle.tune_format.specs.Written.{number_entries, number_key};
+ghost use Rattle.tune_contents.specs.LayAnswers.{AnswersLay};
+ghost use Rattle.tune_contents.specs.Claimed.{RowsRise};
+ghost use Rattle.tune_contents.specs.Inside.ChangedRows.{ChangesRows, PutsRuns};
+
+use crate::tune_rows::place_of;
+use std::alloc::{AllocError, Global};
+use std::slice;
+use tune_disk::Disk;
+use tune_format::{Row, key_of_number};
+use tune_index::{Index, IndexKey};
+use tune_pages::{Fault, Pages, Work};
+use tune_search::{put_run, store_list, take_run};
+use tune_store::Change;
+
+// What goes out of the index of numbers with a change, and what comes in, in order.
+#[derive(Drop)]
+pub(crate) struct NumberRuns {
+    gone: Vec<(IndexKey<32>, u32)>,
+    come: Vec<(IndexKey<32>, u32)>,
+}
+
+// The entry of a number whose chain begins at that page.
+fn number_entry(number: u32, first: u32) -> (IndexKey<32>, u32)
+    ensures entry { result ≡ (number_key number, first) }
+    ensures fits { FitsLeaf key_bytes result }
+{
+    (key_of_number(number), first)
+}
+
+// The entries of rows.
+fn entries_of(alloc: Global, rows: &[Row]) -> Result<Vec<(IndexKey<32>, u32)>, AllocError>
+    ensures entries { IfOk result (λ run. run.items ≡ number_entries rows.now) }
+    ensures fit { IfOk result (λ run. AllFit key_bytes run.items) }
+{
+    let mut run = Vec::with_capacity(alloc, rows.len())?;
+    for row in rows {
+        run.push(number_entry(row.number, row.first))?;
+    }
+    Ok(run)
+}
+
+// The entries of rows that go, and of rows that come.
+fn runs_of(alloc: Global, gone: &[Row], come: &[Row]) -> Result<NumberRuns, AllocError>
+    ensures gone { IfOk result (λ runs. runs.gone.items ≡ number_entries gone.now) }
+    ensures come { IfOk result (λ runs. runs.come.items ≡ number_entries come.now) }
+    ensures fit { IfOk result (λ runs. AllFit key_bytes runs.come.items) }
+{
+    Ok(NumberRuns {
+        gone: entries_of(alloc, gone)?,
+        come: entries_of(alloc, come)?,
+    })
+}
+
+// Those of a row with another in its place; none where both have the same entry.
+fn put_runs(alloc: Global, was: &Row, is: &Row) -> Result<NumberRuns, AllocError>
+    ensures runs { IfOk result (λ runs. PutsRuns was.now is.now runs.gone.items runs.come.items) }
+    ensures fit { IfOk result (λ runs. AllFit key_bytes runs.come.items) }
+{
+    if was.number == is.number && was.first == is.first {
+        return runs_of(alloc, &[], &[]);
+    }
+    runs_of(alloc, slice::from_ref(was), slice::from_ref(is))
+}
+
+// The entries of a row that gets another number: the one that goes, and the one that comes.
+fn moved_runs(alloc: Global, row: &Row, to: u32) -> Result<NumberRuns, AllocError>
+    ensures runs { IfOk result (λ runs. (runs.gone.items ≡ number_entries (row.now ∷ []))
+        × (runs.come.items ≡ number_entries (record {
+          number = to;
+          revision = row.now.revision;
+          first = row.now.first;
+          length = row.now.length;
+        } ∷ []))) }
+    ensures fit { IfOk result (λ runs. AllFit key_bytes runs.come.items) }
+{
+    let mut come = Vec::new(alloc);
+    come.push(number_entry(to, row.first))?;
+    Ok(NumberRuns {
+        gone: entries_of(alloc, slice::from_ref(row))?,
+        come,
+    })
+}
+
+// The entries of rows before a change and after it.
+pub(crate) fn number_runs(
+    alloc: Global,
+    was: &[Row],
+    is: &[Row],
+    change: &Change,
+) -> Result<NumberRuns, AllocError>
+    requires { ChangesRows change.now was.now is.now }
+    ensures rising { IfOk result (λ runs. IsRising runs.come.items) }
+    ensures entries { IfOk result (λ runs. RowsRise 0 was.now → RowsRise 0 is.now
+        → AllFit key_bytes (number_entries was.now)
+        → inserted_all runs.come.items (removed_all runs.gone.items (number_entries was.now))
+        ≡ number_entries is.now) }
+{
+    match change {
+        Change::Add { .. } => runs_of(alloc, &[], &is[was.len()..]),
+        Change::Put { place, .. } => put_runs(alloc, &was[*place], &is[*place]),
+        Change::Take { place } => runs_of(alloc, slice::from_ref(&was[*place]), &[]),
+        Change::Move { number, to } => match place_of(was, *number) {
+            Some(place) => moved_runs(alloc, &was[place], *to),
+            None => runs_of(alloc, &[], &[]),
+        },
+        Change::NewSet { .. } | Change::AddPlace { .. } => runs_of(alloc, &[], &[]),
+        Change::CutPlace { .. } | Change::DropSet { .. } => runs_of(alloc, &[], &[]),
+        Change::Upgrade => runs_of(alloc, &[], &[]),
+    }
+}
+
+// Takes entries out of the index of numbers and puts others in, stores its list, and gives where
+// that begins.
+pub(crate) fn change_numbers<D: Disk>(
+    alloc: Global,
+    pages: &mut Pages<D>,
+    work: &mut Work,
+    numbers: &mut Index<32>,
+    runs: &NumberRuns,
+) -> Result<u32, Fault>
+    requires open { pages.old.closed ≡ false }
+    requires fits { Fits pages.old work.old }
+    requires index { HonestAt D.honest pages.old.disk
+        → HoldsSomeIndex key_bytes (stand pages.old work.old) numbers.old }
+    requires rising { IsRising runs.now.come.items }
+    ensures fits { OnOk result (Fits pages.new work.new) }
+    ensures lays { OnOk result (HonestAt D.honest pages.new.disk → LaysIndex key_bytes
+        (stand pages.old work.old) (stand pages.new work.new) numbers.old numbers.new
+        (λ entries. inserted_all runs.now.come.items
+        (removed_all runs.now.gone.items entries))) }
+    ensures list { IfOk result (λ first. (numbers.new.first ≡ first)
+        × (numbers.new.listed ≡ true)) }
+    ensures takes { HonestAt D.honest pages.new.disk
+        → (before after : List Part) (parts : IndexParts) (entries : List Entry)
+        → HoldsIndexAmong key_bytes (stand pages.old work.old) numbers.old before after parts
+        entries → let count = length (inserted_all runs.now.come.items
+        (removed_all runs.now.gone.items entries)) in
+        TakesAtMost (count + pages_for (number_bytes * count)) result
+        (stand pages.old work.old) (stand pages.new work.new) }
+    ensures looks { LooksAt D.honest D.failures D.state result pages.old pages.new }
+    ensures answer { AnswersLay result pages.new.closed }
+{
+    take_run(alloc, pages, work, numbers, &runs.gone)?;
+    put_run(alloc, pages, work, numbers, &runs.come)?;
+    store_list(alloc, pages, work, numbers)
+}

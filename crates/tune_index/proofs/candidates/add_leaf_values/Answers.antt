@@ -1,0 +1,33 @@
+use Rattle.std.proofs.Common.{◌≡◌, ℕ, slice_index, rules, sym, ap, subst}
+use Rattle.tune_pages.specs.Frame.{InUse, image_at}
+use Rattle.tune_pages.specs.Work.{stand}
+use Rattle.tune_index.specs.Indexes.{Shape}
+use Rattle.tune_index.specs.Leaves.{IsLeaf}
+use Rattle.tune_index.proofs.EachPage.{each_of}
+use Rattle.tune_index.proofs.Puts.{form_at}
+use Rattle.tune_index.proofs.Ranges.{page_in_use, read_page}
+use Rattle.tune_index.proofs.candidates.add_leaf_values.Goals as goal
+
+pub read_page_leaf-requires : goal.read_page_leaf-requires
+read_page_leaf-requires g c =
+    let s = stand c.args.pages.now c.args.work.now in
+    let ps = c.args.index.now.pages in
+    let v : c.index.inside.pages.items ≡ c.args.index.now.pages = ap (λ (x : Shape). x.pages) c.index.view_is in
+    let e : c.index-page.result.now ≡ slice_index c.args.index.now.pages c.args.place =
+    read_page c.index.inside.pages.items c.args.index.now.pages c.args.place c.index-page.result.now v c.requires.place c.index-page.ensures in (
+      search rules,
+      (
+        c.index.invariant.0,
+        (
+          c.requires.open,
+          (
+            c.requires.fits,
+            (
+              (λ h. subst (λ (x : ℕ). InUse s x) (sym e) (page_in_use s ps c.args.place (each_of s ps (c.requires.pages h)) c.requires.place)),
+              (λ h. subst (λ (x : ℕ). IsLeaf g.row.W (image_at s x)) (sym e) (form_at g.row.W s c.args.index.now.pages c.args.place (c.requires.index h).form
+                  c.requires.place)),
+            ),
+          ),
+        ),
+      ),
+    )

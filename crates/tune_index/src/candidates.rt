@@ -1,0 +1,176 @@
+// What is looked for in an index, and leaves as they are read.
+ghost use Rattle.std.specs.Prelude.{◌≡◌, ◌↔◌, ◌≤◌, ◌<◌, ◌++◌, length, IfOk, IsTrue, OnOk, false};
+ghost use Rattle.std.specs.Prelude.{slice_index};
+ghost use Rattle.tune_pages.specs.Faults.{AnswersRead};
+ghost use Rattle.tune_pages.specs.Frame.{InUse, image_at};
+ghost use Rattle.tune_pages.specs.Kept.{HonestAt};
+ghost use Rattle.tune_pages.specs.PageLooks.{LooksAt, SameStand};
+ghost use Rattle.tune_pages.specs.Work.{stand, Fits};
+ghost use Rattle.index_keys.specs.Entries.{AllFit, rank, values_within};
+ghost use Rattle.tune_index.specs.Indexes.{HasPages, IsIndex, entries_of};
+ghost use Rattle.tune_index.specs.Leaves.{IsLeaf, capacity, leaf_in, slice_entry};
+
+use crate::index::{Index, leaf_count, leaf_for};
+use crate::leaf::{Leaf, read_leaf};
+use index_keys::IndexKey;
+use std::alloc::{AllocError, Global};
+use tune_disk::Disk;
+use tune_pages::{Fault, Pages, Work, law_of_looks};
+
+// The leaf in a page. A page that is not in use or is none, which an honest disk does not show,
+// closes the pages.
+pub(crate) fn read_page_leaf<D: Disk, const W: usize>(
+    alloc: Global,
+    pages: &mut Pages<D>,
+    work: &Work,
+    page: u32,
+) -> Result<Leaf<W>, Fault>
+    requires width { W ≤ 4090 }
+    requires open { pages.old.closed ≡ false }
+    requires fits { Fits pages.old work.now }
+    requires in_use { HonestAt D.honest pages.old.disk → InUse (stand pages.old work.now) page }
+    requires form { HonestAt D.honest pages.old.disk
+        → IsLeaf W (image_at (stand pages.old work.now) page) }
+    ensures leaf { IfOk result (λ leaf. HonestAt D.honest pages.new.disk
+        → leaf.items ≡ leaf_in W (image_at (stand pages.old work.now) page)) }
+    ensures in_use { OnOk result (InUse (stand pages.new work.now) page) }
+    ensures fit { IfOk result (λ leaf. AllFit W leaf.items) }
+    ensures some { IfOk result (λ leaf. 1 ≤ length leaf.items) }
+    ensures within { IfOk result (λ leaf. length leaf.items ≤ capacity W) }
+    ensures fits { OnOk result (Fits pages.new work.now) }
+    ensures stand { OnOk result (SameStand (HonestAt D.honest pages.new.disk)
+        (stand pages.old work.now) (stand pages.new work.now)) }
+    ensures looks { LooksAt D.honest D.failures D.state result pages.old pages.new }
+    ensures answer { AnswersRead result pages.old.closed pages.new.closed }
+{
+    if page == 0 || !pages.in_use(work, page) {
+        return Err(pages.close());
+    }
+    let image = match pages.read_page(work, page) {
+        Ok(image) => image,
+        Err(fault) => return Err(fault),
+    };
+    match read_leaf(alloc, &image) {
+        Ok(Some(leaf)) => Ok(leaf),
+        Ok(None) => Err(pages.close()),
+        Err(_) => Err(Fault::OutOfMemory),
+    }
+}
+
+// The values of the entries of a leaf that are in the range go to the end of the list.
+fn add_values<const W: usize>(
+    leaf: &[(IndexKey<W>, u32)],
+    low: &IndexKey<W>,
+    high: &IndexKey<W>,
+    values: &mut Vec<u32>,
+) -> Result<(), AllocError>
+    ensures values { OnOk result
+        (values.new.items ≡ values.old.items ++ values_within low.now high.now leaf.now) }
+{
+    for entry in leaf {
+        let is_below = entry.0.is_before(0, low, 0);
+        let is_above = high.is_before(0, &entry.0, 0);
+        if !is_below && !is_above {
+            values.push(entry.1)?;
+        }
+    }
+    Ok(())
+}
+
+// Whether a leaf begins above the range.
+fn begins_above<const W: usize>(index: &Index<W>, place: usize, high: &IndexKey<W>) -> bool
+    requires { place < length index.now.pages }
+    ensures { IsTrue result
+        ↔ (rank (high.now, 0) < rank ((slice_entry index.now.heads place).0, 0)) }
+{
+    let _leaves = leaf_count(index);
+    let head = &index.heads[place];
+    high.is_before(0, &head.0, 0)
+}
+
+// The values of the entries of one leaf that are in the range go to the end of the list.
+fn add_leaf_values<D: Disk, const W: usize>(
+    alloc: Global,
+    pages: &mut Pages<D>,
+    work: &Work,
+    index: &Index<W>,
+    place: usize,
+    low: &IndexKey<W>,
+    high: &IndexKey<W>,
+    values: &mut Vec<u32>,
+) -> Result<(), Fault>
+    requires open { pages.old.closed ≡ false }
+    requires fits { Fits pages.old work.now }
+    requires pages { HonestAt D.honest pages.old.disk
+        → HasPages (stand pages.old work.now) index.now.pages }
+    requires index { HonestAt D.honest pages.old.disk
+        → IsIndex W (stand pages.old work.now) index.now }
+    requires place { place < length index.now.pages }
+    ensures values { OnOk result (HonestAt D.honest pages.new.disk → values.new.items
+        ≡ values.old.items ++ values_within low.now high.now
+        (leaf_in W (image_at (stand pages.old work.now) (slice_index index.now.pages place)))) }
+    ensures fits { OnOk result (Fits pages.new work.now) }
+    ensures stand { OnOk result (SameStand (HonestAt D.honest pages.new.disk)
+        (stand pages.old work.now) (stand pages.new work.now)) }
+    ensures looks { LooksAt D.honest D.failures D.state result pages.old pages.new }
+    ensures answer { AnswersRead result pages.old.closed pages.new.closed }
+{
+    let page = index.pages[place];
+    let leaf = match read_page_leaf(alloc, pages, work, page) {
+        Ok(leaf) => leaf,
+        Err(fault) => return Err(fault),
+    };
+    match add_values(&leaf, low, high, values) {
+        Ok(()) => Ok(()),
+        Err(_) => Err(Fault::OutOfMemory),
+    }
+}
+
+impl<const W: usize> Index<W> {
+    /// The values of the entries whose keys are from `low` to `high`, both included, in order. Only
+    /// the leaves that may have some of them are read.
+    ///
+    /// # Errors
+    ///
+    /// `OutOfMemory`; `Device` where the disk failed: the pages are then closed.
+    pub fn candidates<D: Disk>(
+        &self,
+        alloc: Global,
+        pages: &mut Pages<D>,
+        work: &Work,
+        low: &IndexKey<W>,
+        high: &IndexKey<W>,
+    ) -> Result<Vec<u32>, Fault>
+        requires open { pages.old.closed ≡ false }
+        requires fits { Fits pages.old work.now }
+        requires pages { HonestAt D.honest pages.old.disk
+            → HasPages (stand pages.old work.now) self.now.pages }
+        requires index { HonestAt D.honest pages.old.disk
+            → IsIndex W (stand pages.old work.now) self.now }
+        ensures values { IfOk result (λ values. HonestAt D.honest pages.new.disk → values.items
+            ≡ values_within low.now high.now
+            (entries_of W (stand pages.old work.now) self.now.pages)) }
+        ensures fits { OnOk result (Fits pages.new work.now) }
+        ensures stand { OnOk result (SameStand (HonestAt D.honest pages.new.disk)
+            (stand pages.old work.now) (stand pages.new work.now)) }
+        ensures looks { LooksAt D.honest D.failures D.state result pages.old pages.new }
+        ensures answer { AnswersRead result pages.old.closed pages.new.closed }
+    {
+        let mut values = Vec::new(alloc);
+        let leaves = leaf_count(self);
+        if leaves == 0 {
+            return Ok(values);
+        }
+        let start = leaf_for(self, low, 0);
+        for place in start..leaves {
+            if begins_above(self, place, high) {
+                return Ok(values);
+            }
+            match add_leaf_values(alloc, pages, work, self, place, low, high, &mut values) {
+                Ok(()) => {}
+                Err(fault) => return Err(fault),
+            }
+        }
+        Ok(values)
+    }
+}

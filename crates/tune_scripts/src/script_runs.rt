@@ -1,0 +1,206 @@
+// Runs a script.
+ghost use Rattle.std.specs.Prelude.{◌≡◌, ◌+◌, ◌≤◌, length, true, None, Some, Err};
+ghost use Rattle.tune_scripts.specs.Limits.{longest_line, most_lines};
+ghost use Rattle.tune_scripts.specs.Replies.{answer_bytes, bad_line_bytes};
+ghost use Rattle.tune_scripts.specs.Scripts.{line_text};
+ghost use Rattle.tune_scripts.specs.ScriptRuns.{RunsScript};
+ghost use Rattle.tune_scripts.specs.Inside.Turns.{Turns, TurnsBook, TurnsOver};
+ghost use Rattle.tune_scripts.specs.Inside.Turns.{WritesOut, IsCarriedOut, next_of};
+
+use crate::replies::{write_answer, write_bad_line};
+use crate::script_lines::{BookUse, ScriptLine, meaning};
+use crate::script_reading::{BookRead, LINE_ROOM, LineRead, read_book, read_line};
+use abc_fields::LONGEST_BOOK;
+use std::alloc::Global;
+use std::io::{BufRead, Write};
+use tune_store::{Command, Refusal, Reply, TuneStore};
+
+/// How a run ended.
+#[derive(Clone, Copy, Debug, PartialEq, Eq)]
+pub enum RunEnd {
+    /// At the input's end.
+    Ended,
+    /// After `MOST_LINES` lines, with no look at what follows.
+    LineBound,
+    /// At a line of more than `LONGEST_LINE` bytes, which is answered as a bad one.
+    LongLine,
+    /// The reader failed.
+    ReaderFault,
+    /// The writer failed. The command before it took place.
+    WriterFault,
+    /// A command was answered that the device failed, in it or before.
+    DeviceFault,
+    /// Out of memory before the first line, so that nothing was read.
+    OutOfMemory,
+}
+
+/// How many lines of a script are read at most (this archive's script language).
+pub const MOST_LINES: u32 = 1_000_000;
+
+/// Carries out the commands of a script, and writes and flushes the reply to each before the next
+/// line is looked at.
+///
+/// `reader` gives the script: a line, and directly after it the book that it asks for. Both are
+/// taken from the reader's own buffer, however little that shows at a time, and no more of it than
+/// they need. `alloc` is for the texts that commands hold (a book, a query's text, or the name of a
+/// set list): where there is no memory for one, a book is read and dropped, and the reply says so.
+/// No other command is so answered here.
+///
+/// The clause `runs` speaks of a store whose device has answered as a device does, at every end. It
+/// gives one list, of the commands that the store carried out (`carried`), and says of it:
+///
+/// - `carries_out`, `ends`, of every reader and writer: each command was carried out by one call
+///   and answered by the rules, and the run ended with `DeviceFault` exactly where the last was
+///   answered that the device failed, unless the writer failed in that very answer.
+/// - `script`, of a reader that tells its bytes (standard input tells none): these are the commands
+///   of the script and no others, and what was written is their replies.
+/// - `stops`, of every reader and writer, where the store was open: a stop since the run began
+///   leaves the state after a prefix of the commands; since some of them were answered, and so
+///   since their replies were written, a prefix that holds these; and at the end the state after
+///   all, or after all but the last where the device failed in that.
+///
+/// Two more clauses hold of every device: a store that was closed is left as it was (`idle`), and
+/// after the end `DeviceFault` the store is closed (`fault`).
+pub fn run<R: BufRead, W: Write, S: TuneStore>(
+    alloc: Global,
+    reader: &mut R,
+    writer: &mut W,
+    store: &mut S,
+) -> RunEnd
+    ensures runs { S.honest store.new → RunsScript S.TuneStore most_lines
+        (R.remaining reader.old) (R.remaining reader.new)
+        (W.contents writer.old) (W.contents writer.new) store.old store.new result }
+    ensures idle { S.closed store.old ≡ true → store.new ≡ store.old }
+    ensures fault { result ≡ RunEnd.DeviceFault → S.closed store.new ≡ true }
+{
+    let mut line = [0u8; LINE_ROOM];
+    for lines in 0..MOST_LINES {
+        if let Some(end) = turn(alloc, reader, writer, store, &mut line) {
+            return end;
+        }
+    }
+    RunEnd::LineBound
+}
+
+// One line of a script, with its book.
+fn turn<R: BufRead, W: Write, S: TuneStore>(
+    alloc: Global,
+    reader: &mut R,
+    writer: &mut W,
+    store: &mut S,
+    line: &mut [u8],
+) -> Option<RunEnd>
+    requires { length line.old ≡ longest_line + 1 }
+    ensures was_honest { S.honest store.new → S.honest store.old }
+    ensures idle { S.closed store.old ≡ true → store.new ≡ store.old }
+    ensures fault { result ≡ Some RunEnd.DeviceFault → S.closed store.new ≡ true }
+    ensures turns { S.honest store.new → TurnsOver S.TuneStore
+        (W.contents writer.old) (W.contents writer.new) store.old store.new result
+        (λ work. Turns (R.remaining reader.old) (R.remaining reader.new) work result) }
+{
+    match read_line(reader, line) {
+        LineRead::Fault => Some(RunEnd::ReaderFault),
+        LineRead::End => Some(RunEnd::Ended),
+        LineRead::Long => bad_line(writer, Some(RunEnd::LongLine)),
+        LineRead::Line(len, fed) => {
+            let line = without_return(&line[..len], fed);
+            match meaning(alloc, line) {
+                Err(_) => refuse(writer, Refusal::OutOfMemory),
+                Ok(ScriptLine::Blank) => None,
+                Ok(ScriptLine::Bad) => bad_line(writer, None),
+                Ok(ScriptLine::Whole(command)) => carry_out(writer, store, &command),
+                Ok(ScriptLine::Book(book_use, len)) => {
+                    with_book(alloc, reader, writer, store, book_use, len)
+                }
+            }
+        }
+    }
+}
+
+// The line without the carriage return before its line feed.
+fn without_return(line: &[u8], fed: bool) -> &[u8]
+    ensures text { result.now ≡ line_text fed line.now }
+    ensures size { length result.now ≤ length line.now }
+{
+    match line {
+        [rest @ .., b'\r'] if fed => rest,
+        _ => line,
+    }
+}
+
+// Reads a book, and carries out the command over it.
+fn with_book<R: BufRead, W: Write, S: TuneStore>(
+    alloc: Global,
+    reader: &mut R,
+    writer: &mut W,
+    store: &mut S,
+    book_use: BookUse,
+    len: u32,
+) -> Option<RunEnd>
+    ensures was_honest { S.honest store.new → S.honest store.old }
+    ensures idle { S.closed store.old ≡ true → store.new ≡ store.old }
+    ensures fault { result ≡ Some RunEnd.DeviceFault → S.closed store.new ≡ true }
+    ensures turns { S.honest store.new → TurnsOver S.TuneStore
+        (W.contents writer.old) (W.contents writer.new) store.old store.new result (λ work.
+        TurnsBook book_use len (R.remaining reader.old) (R.remaining reader.new) work result) }
+{
+    let len = len as usize;
+    let is_wanted = len <= LONGEST_BOOK;
+    match read_book(alloc, reader, len, is_wanted) {
+        BookRead::Fault => Some(RunEnd::ReaderFault),
+        BookRead::Cut => bad_line(writer, Some(RunEnd::Ended)),
+        BookRead::Dropped if is_wanted => refuse(writer, Refusal::OutOfMemory),
+        BookRead::Dropped => refuse(writer, Refusal::BookTooLong),
+        BookRead::Whole(book) => carry_out(writer, store, &book_use.command(book)),
+    }
+}
+
+// Carries out a command, and writes its answer.
+fn carry_out<W: Write, S: TuneStore>(
+    writer: &mut W,
+    store: &mut S,
+    command: &Command,
+) -> Option<RunEnd>
+    ensures was_honest { S.honest store.new → S.honest store.old }
+    ensures idle { S.closed store.old ≡ true → store.new ≡ store.old }
+    ensures fault { result ≡ Some RunEnd.DeviceFault → S.closed store.new ≡ true }
+    ensures carries { S.honest store.new → IsCarriedOut S.TuneStore
+        (W.contents writer.old) (W.contents writer.new) store.old store.new command.now result }
+{
+    let answer = store.apply(command);
+    match write_answer(writer, &answer) {
+        Ok(()) => next_after(&answer),
+        Err(_) => Some(RunEnd::WriterFault),
+    }
+}
+
+// How a run goes on after an answer.
+fn next_after(answer: &Result<Reply, Refusal>) -> Option<RunEnd>
+    ensures { result ≡ next_of answer.now }
+{
+    match answer {
+        Err(Refusal::Device | Refusal::Closed) => Some(RunEnd::DeviceFault),
+        _ => None,
+    }
+}
+
+// Answers a command that does not reach the store.
+fn refuse<W: Write>(writer: &mut W, refusal: Refusal) -> Option<RunEnd>
+    ensures { let bytes = answer_bytes (Err refusal) in
+        WritesOut (W.contents writer.old) (W.contents writer.new) bytes None result }
+{
+    match write_answer(writer, &Err(refusal)) {
+        Ok(()) => None,
+        Err(_) => Some(RunEnd::WriterFault),
+    }
+}
+
+// Answers a line that is no command, or a book that was cut.
+fn bad_line<W: Write>(writer: &mut W, next: Option<RunEnd>) -> Option<RunEnd>
+    ensures { WritesOut (W.contents writer.old) (W.contents writer.new) bad_line_bytes next result }
+{
+    match write_bad_line(writer) {
+        Ok(()) => next,
+        Err(_) => Some(RunEnd::WriterFault),
+    }
+}

@@ -1,0 +1,48 @@
+use Rattle.std.proofs.Common.{◌+◌, ◌<◌, List, length, rules, ap, ◌∙◌, subst}
+use Rattle.tune_pages.specs.Faults.{free_pages}
+use Rattle.tune_pages.specs.Work.{stand}
+use Rattle.index_keys.specs.Entries.{Entry, inserted_all}
+use Rattle.tune_index.proofs.Answering.{edit_more}
+use Rattle.tune_search.proofs.Laid.{index_among, laid, some_index, some_pages, worked}
+use Rattle.tune_search.proofs.index_changes.put_run.Goals as goal
+
+pub insert_all-requires : goal.insert_all-requires
+insert_all-requires g c =
+    let s0 = stand c.args.pages.now c.args.work.now in (
+      search rules,
+      (
+        search rules,
+        (
+          c.requires.open,
+          (
+            c.requires.fits,
+            (
+              (λ h. some_pages g.row.W s0 c.args.index.now (c.requires.index h)),
+              ((λ h. some_index g.row.W s0 c.args.index.now (c.requires.index h)), c.requires.rising),
+            ),
+          ),
+        ),
+      ),
+    )
+
+pub returns-in-Ok-clause-lays : goal.returns-in-Ok-clause-lays
+returns-in-Ok-clause-lays g c = λ honest before after parts entries h.
+    let s0 = stand c.args.pages.now c.args.work.now in
+    let s1 = stand c.insert_all.new.pages c.insert_all.new.work in
+    let e = c.in-Ok.ensures in
+    let run : List Entry = c.args.run.now in
+    let there = index_among g.row.W s0 c.args.index.now before after parts entries h in
+    let done = e.entries honest in
+    laid g.row.W s0 s1 c.args.index.now c.insert_all.new.self before after parts entries (inserted_all run entries) h e.list (e.pages honest)
+    (e.trades honest) done.0 (done.1 ∙ ap (inserted_all run) there.2)
+    (worked g.D.Disk.honest c.args.pages.now c.insert_all.new.pages c.args.work.now c.insert_all.new.work c.requires.fits e.fits e.looks.same)
+
+pub returns-in-Err-clause-answer : goal.returns-in-Err-clause-answer
+returns-in-Err-clause-answer g c =
+    let s0 = stand c.args.pages.now c.args.work.now in
+    let run : List Entry = c.args.run.now in
+    edit_more c.in-Err.fault c.insert_all.new.pages.closed
+    (λ full honest before after parts entries h.
+    let there = index_among g.row.W s0 c.args.index.now before after parts entries h in
+    subst (λ (es : List Entry). free_pages s0.used + length c.args.index.now.pages < length (inserted_all run es)) there.2 (full honest))
+    c.in-Err.ensures.answer
