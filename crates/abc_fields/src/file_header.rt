@@ -15,7 +15,8 @@ ghost use Rattle.abc_fields.specs.Inside.HeaderRows.{sum_all, IsByteRule};
 use crate::carry_rules::{CarryRule, is_header_line, rule_below, rule_of};
 use crate::header_letters::Letters;
 use crate::lines::Lines;
-use crate::tune_lines::{is_empty, push_line};
+use crate::tune_lines::push_line;
+use crate::values::is_all_blank;
 use std::alloc::{AllocError, Global};
 use std::marker::Model;
 
@@ -71,7 +72,7 @@ impl<'a> FileHeader<'a> {
         let mut begun = false;
         for line in lines {
             let text = line.text;
-            if is_empty(text) {
+            if is_all_blank(text) {
                 if begun {
                     return Ok(FileHeader { lines: found, sums });
                 }

@@ -28,4 +28,4 @@ pub use judged_book::{JudgedBook, judge_book};
 pub use line_kinds::{in_part_after, is_comment, is_continuation, is_field_line, is_key_line};
 pub use lines::{Line, Lines};
 pub use texts::{ByteText, TuneText};
-pub use values::{field_value, is_blank, trim_blanks, without_comment};
+pub use values::{field_value, is_all_blank, is_blank, trim_blanks, without_comment};

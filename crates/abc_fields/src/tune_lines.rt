@@ -4,7 +4,7 @@ ghost use Rattle.std.specs.Prelude.{IfOk, OnOk, MatchOption, MatchResult, Err, �
 ghost use Rattle.abc_fields.specs.Bytes.{line_feed};
 ghost use Rattle.abc_fields.specs.Limits.{longest_book, longest_tune};
 ghost use Rattle.abc_fields.specs.Inside.LinesLeft.{contents_of, IsRestAfter, still};
-ghost use Rattle.abc_fields.specs.Tunes.{is_empty_line, is_tune_start, ends_tune, tune_run};
+ghost use Rattle.abc_fields.specs.Tunes.{is_tune_start, ends_tune, tune_run};
 ghost use Rattle.abc_fields.specs.Tunes.{tune_runs, joined, has_key, IsTextWithin};
 ghost use Rattle.abc_fields.specs.FileHeaders.{before_key, has_letter};
 ghost use Rattle.abc_fields.specs.Books.{Texts, tune_answer};
@@ -20,14 +20,8 @@ use crate::header_letters::Letters;
 use crate::line_kinds::is_key_line;
 use crate::lines::{Line, Lines};
 use crate::texts::TuneText;
-use crate::values::is_blank;
+use crate::values::is_all_blank;
 use std::alloc::{AllocError, Global};
-
-pub(crate) fn is_empty(line: &[u8]) -> bool
-    ensures { result ≡ is_empty_line line.now }
-{
-    line.iter().all(|byte| is_blank(char::from(*byte)))
-}
 
 pub(crate) fn starts_tune(line: &[u8]) -> bool
     ensures { result ≡ is_tune_start line.now }
@@ -38,7 +32,7 @@ pub(crate) fn starts_tune(line: &[u8]) -> bool
 pub(crate) fn ends_tune(line: &[u8]) -> bool
     ensures { result ≡ ends_tune line.now }
 {
-    is_empty(line) || starts_tune(line)
+    is_all_blank(line) || starts_tune(line)
 }
 
 pub(crate) fn push_line(out: &mut Vec<u8>, line: &[u8]) -> Result<(), AllocError>

@@ -56,6 +56,13 @@ pub fn is_blank(c: char) -> bool
     c == ' ' || c == '\t'
 }
 
+/// Whether a text has no bytes but spaces and tabs, as an empty line.
+pub fn is_all_blank(text: &[u8]) -> bool
+    ensures { result ≡ is_all_blank text.now }
+{
+    text.iter().all(|byte| is_blank(char::from(*byte)))
+}
+
 /// The text without the spaces and tabs at its ends.
 ///
 /// Its law stands beside it: the text is this, with spaces and tabs before and after it, and this

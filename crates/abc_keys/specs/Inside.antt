@@ -1,1 +1,2 @@
 pub mod Fifths
+pub mod SameScales

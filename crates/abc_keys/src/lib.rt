@@ -17,5 +17,5 @@ pub use accidentals::{accidental_of, doubled};
 pub use key_text::key_of;
 pub use keys::{Key, signature};
 pub use letters::{Accidental, Letter, letter_of};
-pub use scales::{Mode, Scale, Sign};
+pub use scales::{Mode, Scale, Sign, is_same_scale};
 pub use signatures::Signature;

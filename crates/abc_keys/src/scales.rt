@@ -1,6 +1,7 @@
-// Scales, and how far along the line of fifths they lie.
-ghost use Rattle.std.specs.Prelude.{◌≡◌, ◌≤ℤ◌, pos, negsuc, IfSome};
-ghost use Rattle.abc_keys.specs.ScaleTable.{listed_count};
+// Scales, which of them are the same, and how far along the line of fifths they lie.
+ghost use Rattle.std.specs.Prelude.{◌≡◌, ◌≤ℤ◌, ◌==◌, pos, negsuc, IfSome};
+ghost use Rattle.abc_keys.specs.ScaleTable.{listed_count, same_scale};
+ghost use Rattle.abc_keys.specs.ScaleTable.{letter_number, sign_number, mode_number};
 ghost use Rattle.abc_keys.specs.Inside.Fifths.{tonic_fifths, sign_fifths, mode_fifths};
 
 use crate::letters::Letter;
@@ -49,6 +50,33 @@ impl Scale {
             None
         }
     }
+}
+
+/// Whether two scales are the same: of the same tonic, sign and mode.
+pub fn is_same_scale(one: &Scale, other: &Scale) -> bool
+    ensures { result ≡ same_scale one.now other.now }
+{
+    is_same_letter(one.tonic, other.tonic)
+        && is_same_sign(one.sign, other.sign)
+        && is_same_mode(one.mode, other.mode)
+}
+
+fn is_same_letter(one: Letter, other: Letter) -> bool
+    ensures { result ≡ (letter_number one == letter_number other) }
+{
+    one == other
+}
+
+fn is_same_sign(one: Sign, other: Sign) -> bool
+    ensures { result ≡ (sign_number one == sign_number other) }
+{
+    one == other
+}
+
+fn is_same_mode(one: Mode, other: Mode) -> bool
+    ensures { result ≡ (mode_number one == mode_number other) }
+{
+    one == other
 }
 
 fn fifths_of_tonic(tonic: Letter) -> i32

@@ -144,14 +144,14 @@ label_found rows number (Some place) inside named = λ e.
     ap (λ (label : Label). label.number) (label_at rows place d e inside) ∙ named d)
 
 -- where no row has a number, no label does
-pub label_none : (rows : List Row) (number : ℕ) (found : Option ℕ)
-    → IfNone found ((place : ℕ) (d : Row) → place < length rows → (get_or rows place d).number ≡ number → ⊥)
+pub label_none : (rows : List Row) (number : ℕ) (found : Option ℕ) → RowsRise 0 rows
+    → IfNone found (RowsRise 0 rows → (place : ℕ) (d : Row) → place < length rows → (get_or rows place d).number ≡ number → ⊥)
     → IfNone found ((place : ℕ) (d : Label) → place < length (labels_in rows) → (get_or (labels_in rows) place d).number ≡ number → ⊥)
-label_none rows number (Some place) none = tt
-label_none rows number None none = λ place e l is.
+label_none rows number (Some place) rise none = tt
+label_none rows number None rise none = λ place e l is.
     (let d : Row = record { number = 0; revision = 0; first = 0; length = 0 } in
     let inside : place < length rows = omega (arith, l, labels_count rows) in
-    none place d inside (sym (ap (λ (label : Label). label.number) (label_at rows place d e inside)) ∙ is))
+    none rise place d inside (sym (ap (λ (label : Label). label.number) (label_at rows place d e inside)) ∙ is))
 
 -- THE ARCHIVE
 module _ {D : Type 0} (honest : D → Type 0) (failures : D → ℕ) (state : D → DiskState) where

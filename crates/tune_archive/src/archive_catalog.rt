@@ -10,10 +10,10 @@ ghost use Rattle.tune_contents.specs.Texts.{HoldsSomeText, HoldsText};
 ghost use Rattle.tune_archive.specs.Inside.Holding.{stand_of};
 
 use crate::archive::{Archive, Fetched};
-use crate::places::{place_of, places_of_numbers};
+use crate::places::places_of_numbers;
 use abc_fields::TuneText;
 use std::alloc::Global;
-use tune_contents::read_tune;
+use tune_contents::{place_of, read_tune};
 use tune_disk::Disk;
 use tune_pages::{Fault, Pages};
 use tune_queries::Sought;

@@ -1,30 +1,14 @@
 // Where the rows of numbers are.
-ghost use Rattle.std.specs.Prelude.{◌≡◌, ◌≢◌, ℕ, ◌<◌, length, slice_index_or};
-ghost use Rattle.std.specs.Prelude.{IfOk, IfSome, IfNone};
+ghost use Rattle.std.specs.Prelude.{length, IfOk};
 ghost use Rattle.std.specs.Ordering.{nat_cmp};
 ghost use Rattle.std.specs.List.Sorted.{IsStrictlySortedBy};
 ghost use Rattle.tune_store.specs.Candidates.{ArePlacesOf, PlacesRise};
-ghost use Rattle.tune_format.specs.declared.rows.Row.{Row};
 ghost use Rattle.tune_contents.specs.Claimed.{RowsRise};
 ghost use Rattle.tune_contents.specs.Holds.{labels_in};
 
 use std::alloc::{AllocError, Global};
+use tune_contents::place_of;
 use tune_format::Row;
-
-// The place of the row of a number.
-pub(crate) fn place_of(rows: &[Row], number: u32) -> Option<usize>
-    requires { RowsRise 0 rows.now }
-    ensures within { IfSome result (λ place. place < length rows.now) }
-    ensures found { IfSome result (λ place. (d : Row)
-        → (slice_index_or rows.now place d).number ≡ number) }
-    ensures none { IfNone result ((place : ℕ) (d : Row) → place < length rows.now
-        → (slice_index_or rows.now place d).number ≢ number) }
-{
-    match rows.binary_search_by_key(&number, |row| row.number) {
-        Ok(place) => Some(place),
-        Err(_) => None,
-    }
-}
 
 // The places of the rows of these numbers, rising, each once. The numbers may come in any order,
 // and may repeat. A number that no row has is passed over. The error is out of memory.

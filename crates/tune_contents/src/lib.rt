@@ -22,4 +22,5 @@ pub use laws::law_of_state_pages;
 pub use layout_notes::incipit_notes;
 pub use room::Room;
 pub use tune_reading::read_tune;
+pub use tune_rows::place_of;
 pub use upgrading::upgrade;

@@ -26,8 +26,8 @@ pub(crate) fn are_rows(layout: Layout, rows: &[Row]) -> bool
     rows.len() <= layout.most_tunes()
 }
 
-// The place of the row of a number.
-pub(crate) fn place_of(rows: &[Row], number: u32) -> Option<usize>
+/// The place of the row of a number. It is found wherever the rows rise by number.
+pub fn place_of(rows: &[Row], number: u32) -> Option<usize>
     ensures within { IfSome result (λ place. place < length rows.now) }
     ensures found { IfSome result (λ place. (d : Row)
         → (slice_index_or rows.now place d).number ≡ number) }

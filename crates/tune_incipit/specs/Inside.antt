@@ -1,4 +1,3 @@
 pub mod NextSteps
 pub mod StepRows
-pub mod SameScales
 pub mod KeyLaws

@@ -70,9 +70,9 @@ pub fn steps(text: &TuneText, notes: usize) -> Steps
     first_steps(Notes::of_tune(text), notes)
 }
 
-/// Why a query is refused: fewer than two of its notes count.
+/// Why a query is refused: it asks for nothing. Of notes it does where fewer than two count.
 #[derive(Clone, Copy, Debug, PartialEq, Eq, Error)]
-#[error("a query has two notes at least")]
+#[error("a query asks for a title, a rhythm, a scale or two notes at least")]
 pub struct BadQuery;
 
 /// The incipit of a query of notes, by its first `notes` notes that count. The query is read as one

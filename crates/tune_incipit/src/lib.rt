@@ -9,7 +9,6 @@
 mod incipit_keys;
 mod incipits;
 mod scale_keys;
-mod scales;
 mod some_steps;
 mod step_lists;
 

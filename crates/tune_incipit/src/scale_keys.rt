@@ -1,14 +1,13 @@
-// Scales as keys.
+// Scales as keys, and which tunes a scale finds.
 ghost use Rattle.std.specs.Prelude.{◌≡◌, ◌∷◌, [], IfOk};
 ghost use Rattle.std.specs.Option.{option_to_list};
-ghost use Rattle.tune_incipit.specs.Scales.{scale_of_text};
+ghost use Rattle.tune_incipit.specs.Scales.{finds_scale, scale_of_text};
 ghost use Rattle.tune_incipit.specs.ScaleAndIncipitKeys.{scale_code, scale_key, scale_keys};
 ghost use Rattle.tune_incipit.specs.ScaleAndIncipitKeys.{scale_keys_of};
 ghost use Rattle.tune_incipit.specs.ScaleAndIncipitKeys.{tonic_code, sign_code, mode_code};
 
-use crate::scales::is_in_scale;
 use abc_fields::{TuneText, fields};
-use abc_keys::{Letter, Mode, Scale, Sign, key_of};
+use abc_keys::{Letter, Mode, Scale, Sign, is_same_scale, key_of};
 use index_keys::{IndexKey, Keyed};
 use std::alloc::{AllocError, Global};
 
@@ -54,6 +53,16 @@ impl Keyed<32> for ScaleKeys {
     ghost rise = { λ text. scales_rise text };
 
     ghost law = { λ query text is. scale_found query text is };
+}
+
+// Whether the key of the tune is in this scale.
+fn is_in_scale(scale: &Scale, text: &TuneText) -> bool
+    ensures { result ≡ finds_scale scale.now text.now }
+{
+    match key_of(fields(text).key).scale() {
+        Some(own) => is_same_scale(scale, &own),
+        None => false,
+    }
 }
 
 /// The key of a tune whose key has this text, where it stands in a scale.

@@ -209,7 +209,8 @@ module _ (w : List PageImage) (items : List ChangedPage) (room : ℕ) (kept : Ho
 
 -- a change that is added by its first bytes
 module _ (w : List PageImage) (items : List ChangedPage) (room : ℕ) (kept : HoldsChanges w items room)
-    (page at : ℕ) (missing : MissingAt page at (listed w items)) (new : ChangedPage) (same : new.page ≡ page) (image : List ℕ) (holds : image_in w new.kept ≡ image) where
+    (page at : ℕ) (missing : MissingAt page at (listed w items))
+    (new : ChangedPage) (same : new.page ≡ page) (image : List ℕ) (holds : image_in w new.kept ≡ image) where
   pub added_listed : listed w (insert items at new) ≡ with_change page image (listed w items)
   added_listed =
       listed_inserted w at items new (subst (λ (p : ℕ). MissingAt p at (listed w items)) (sym same) missing)

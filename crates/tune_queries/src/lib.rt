@@ -9,4 +9,5 @@ mod queries;
 mod sought;
 
 pub use queries::{LONGEST_QUERY, Query, QueryText};
-pub use sought::{BadQuery, Sought};
+pub use sought::Sought;
+pub use tune_incipit::BadQuery;

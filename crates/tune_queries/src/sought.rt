@@ -10,19 +10,11 @@ ghost use Rattle.tune_queries.specs.Queries.{matches, is_bad, finds, counting_no
 ghost use Rattle.tune_queries.specs.Queries.{is_missing, LawOfQuery};
 
 use crate::queries::{Query, QueryText};
-use abc_fields::{TuneText, is_blank};
+use abc_fields::{TuneText, is_all_blank};
 use abc_keys::{Scale, key_of};
 use index_keys::Keyed;
-use thiserror::Error;
-use tune_incipit::{ScaleKeys, SomeSteps, finds_steps, query_steps};
+use tune_incipit::{BadQuery, ScaleKeys, SomeSteps, finds_steps, query_steps};
 use tune_titles::{RhythmKeys, TitleKeys, TitlePrefix};
-
-/// Why a query is refused: it asks for nothing. That is a title of spaces and tabs alone, a rhythm
-/// without a byte, a key text that says no scale of the table, or notes of which fewer than two
-/// count (this archive's profile).
-#[derive(Clone, Copy, Debug, PartialEq, Eq, Error)]
-#[error("a query asks for a title, a rhythm, a scale or two notes at least")]
-pub struct BadQuery;
 
 /// A query that is not bad, made ready once.
 #[derive(Debug, Drop)]
@@ -57,7 +49,8 @@ impl Sought<'_> {
 impl Query {
     /// The query, made ready to be tried on tunes by openings of `notes` notes, from 2 to 12. It
     /// finds exactly the tunes that match the query so, and it is refused exactly where the query
-    /// is bad.
+    /// is bad: a title of spaces and tabs alone, a rhythm without a byte, a key text that says no
+    /// scale of the table, or notes of which fewer than two count (this archive's profile).
     ///
     /// The law of queries stands beside it: which tunes match, in a reader's words.
     pub fn sought(&self, notes: usize) -> Result<Sought<'_>, BadQuery>
@@ -86,12 +79,6 @@ fn prefix_of(text: &[u8]) -> Result<TitlePrefix<'_>, BadQuery>
         return Err(BadQuery);
     }
     Ok(TitlePrefix::of(text))
-}
-
-fn is_all_blank(text: &[u8]) -> bool
-    ensures { result ≡ is_all_blank text.now }
-{
-    text.iter().all(|byte| is_blank(char::from(*byte)))
 }
 
 // The rhythm of a query, unless it is empty.
@@ -123,8 +110,5 @@ fn steps_of(text: &QueryText, notes: usize) -> Result<SomeSteps, BadQuery>
     ensures ok { IfOk result (λ front. front.steps ≡ incipit_of notes (query_notes text.now)) }
     ensures bad { IsErr result ↔ nat_lt (counting_notes text.now) fewest_notes ≡ true }
 {
-    match query_steps(text.bytes(), notes) {
-        Ok(front) => Ok(front),
-        Err(_) => Err(BadQuery),
-    }
+    query_steps(text.bytes(), notes)
 }

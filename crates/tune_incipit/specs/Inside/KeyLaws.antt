@@ -11,11 +11,11 @@ use Rattle.std.proofs.lemmas.List.{length-append}
 use Rattle.std.proofs.lemmas.Slice.Eq.{starts_is}
 use Rattle.abc_fields.specs.Fields.{key_text_of}
 use Rattle.abc_keys.specs.declared.scales.Scale.{Scale}
+use Rattle.abc_keys.specs.Inside.SameScales.{same_is}
 use Rattle.index_keys.specs.Cuts.{cut_number, LiesWithin}
 use Rattle.index_keys.specs.Inside.CutLaw.{cut_within}
 use Rattle.index_keys.specs.KeyLists.{KeysRise, HasKeyWithin}
 use Rattle.tune_incipit.specs.Incipits.{begins_steps}
-use Rattle.tune_incipit.specs.Inside.SameScales.{same_is}
 use Rattle.tune_incipit.specs.Scales.{is_scale, finds_scale, scale_of_text}
 use Rattle.tune_incipit.specs.ScaleAndIncipitKeys.{scale_key, scale_keys, scale_keys_of, step_bytes}
 use Rattle.tune_incipit.specs.ScaleAndIncipitKeys.{bytes_of_steps, incipit_keys_of}

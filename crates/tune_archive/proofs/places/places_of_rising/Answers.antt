@@ -34,7 +34,7 @@ loop-number-preserved c =
           let stays : c.match-place_of.places.items ≡ c.loop-number.places.items = search rules in
           rw (stays, more) record {
             rise = kept.rise;
-            are = places_none (take i numbers) number labels _ (label_none rows number None w.in_default.ensures.none) kept.are;
+            are = places_none (take i numbers) number labels _ (label_none rows number None c.requires.rows w.in_default.ensures.none) kept.are;
           }
     ]
 

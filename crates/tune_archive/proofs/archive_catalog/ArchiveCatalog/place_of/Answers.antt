@@ -1,6 +1,7 @@
 use Rattle.std.proofs.Common.{◌≡◌, ◌∙◌, List, ap, subst, length, ◌<◌, get_or, ℕ}
 use Rattle.std.specs.Prelude.{IfSome, IfNone}
 use Rattle.tune_format.specs.declared.rows.Row.{Row}
+use Rattle.tune_contents.specs.Claimed.{RowsRise}
 use Rattle.tune_archive.specs.Shelf.{Shelf}
 use Rattle.tune_archive.proofs.FetchLemmas.{label_found, label_none}
 use Rattle.tune_archive.proofs.archive_catalog.ArchiveCatalog.place_of.Goals as goal
@@ -18,5 +19,7 @@ returns-clause-none g c =
     let same : c.deref.result.now ≡ c.args.self.now.contents.rows.items =
     c.deref.ensures.value ∙ ap (λ (a : Shelf g.row.D.Denot). a.contents.rows.items) c.self.view_is in
     label_none c.args.self.now.contents.rows.items c.args.number c.place_of.result
-    (subst (λ (rows : List Row). IfNone c.place_of.result ((place : ℕ) (d : Row) → place < length rows → (get_or rows place d).number ≡ c.args.number → ⊥)) same
+    (subst (λ (a : Shelf g.row.D.Denot). RowsRise 0 a.contents.rows.items) c.self.view_is c.self.invariant.rows.rise)
+    (subst (λ (rows : List Row). IfNone c.place_of.result (RowsRise 0 rows → (place : ℕ) (d : Row)
+    → place < length rows → (get_or rows place d).number ≡ c.args.number → ⊥)) same
     c.place_of.ensures.none)

@@ -4,7 +4,7 @@ use Rattle.clap.specs.Simple.{App, app_of, app_of_fields, new_app, on_top}
 use Rattle.clap.specs.declared.builder.command.Command.TheViews.{out-Command}
 use Rattle.tune_cli.specs.CommandLine.{tunes_alone}
 use Rattle.tune_cli.proofs.CommandLineLemmas.{app_of_more}
-use Rattle.tune_cli.proofs.actions.command_line.Goals as goal
+use Rattle.tune_cli.proofs.command_line.command_line.Goals as goal
 
 abbrev with_version : App → App
 with_version = on_top (λ shape. record shape { has_version = true })
