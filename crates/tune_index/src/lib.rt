@@ -5,6 +5,7 @@
 //! so by an `AllocError`.
 #![tactic(auto)]
 
+mod clearing;
 mod edit;
 mod index;
 mod insert;
