@@ -223,6 +223,8 @@ pub(crate) fn drop_leaf<D: Disk, const W: usize>(
     requires in_use { InUse (stand pages.now work.old) (slice_index index.old.pages place) }
     ensures fits { OnOk result (Fits pages.now work.new) }
     ensures list { OnOk result (KeepsList index.old index.new) }
+    ensures gone { OnOk result ((index.new.pages ≡ remove index.old.pages place)
+        × (index.new.heads ≡ remove index.old.heads place)) }
     ensures pages { OnOk result (HasPages (stand pages.now work.old) index.old.pages
         → HasPages (stand pages.now work.new) index.new.pages) }
     ensures trades { OnOk result (HasPages (stand pages.now work.old) index.old.pages

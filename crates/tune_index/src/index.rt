@@ -120,6 +120,7 @@ impl<const W: usize> Index<W> {
 // How many leaves there are, and how many bytes a key has at most.
 pub(crate) fn leaf_count<const W: usize>(index: &Index<W>) -> usize
     ensures count { result ≡ length index.now.pages }
+    ensures heads { result ≡ length index.now.heads }
     ensures width { W ≤ 4090 }
 {
     index.pages.len()

@@ -6,6 +6,7 @@
 #![tactic(auto)]
 
 mod candidates;
+mod clearing;
 mod edit;
 mod index;
 mod insert;
