@@ -11,14 +11,42 @@ ghost use Rattle.tune_index.specs.Indexes.{HasPages, IsIndex, entries_of};
 ghost use Rattle.tune_index.specs.Leaves.{IsLeaf, capacity, leaf_in, slice_entry};
 
 use crate::index::{Index, leaf_count, leaf_for};
-use crate::leaf::{Leaf, read_leaf};
+use crate::leaf::{Leaf, add_values_of, read_leaf};
 use index_keys::IndexKey;
-use std::alloc::{AllocError, Global};
+use std::alloc::Global;
 use tune_disk::Disk;
+use tune_journal::PageImage;
 use tune_pages::{Fault, Pages, Work, law_of_looks};
 
-// The leaf in a page. A page that is not in use or is none, which an honest disk does not show,
-// closes the pages.
+// The image of a page of an index. A page that is not in use or is the root, which an honest disk
+// does not show, closes the pages.
+fn read_leaf_image<D: Disk>(
+    pages: &mut Pages<D>,
+    work: &Work,
+    page: u32,
+) -> Result<PageImage, Fault>
+    requires open { pages.old.closed ≡ false }
+    requires fits { Fits pages.old work.now }
+    requires in_use { HonestAt D.honest pages.old.disk → InUse (stand pages.old work.now) page }
+    ensures image { IfOk result (λ image. HonestAt D.honest pages.new.disk
+        → image.bytes ≡ image_at (stand pages.old work.now) page) }
+    ensures in_use { OnOk result (InUse (stand pages.new work.now) page) }
+    ensures fits { OnOk result (Fits pages.new work.now) }
+    ensures stand { OnOk result (SameStand (HonestAt D.honest pages.new.disk)
+        (stand pages.old work.now) (stand pages.new work.now)) }
+    ensures looks { LooksAt D.honest D.failures D.state result pages.old pages.new }
+    ensures answer { AnswersRead result pages.old.closed pages.new.closed }
+{
+    if page == 0 || !pages.in_use(work, page) {
+        return Err(pages.close());
+    }
+    match pages.read_page(work, page) {
+        Ok(image) => Ok(image),
+        Err(fault) => Err(fault),
+    }
+}
+
+// The leaf in a page. A page that has none, which an honest disk does not show, closes the pages.
 pub(crate) fn read_page_leaf<D: Disk, const W: usize>(
     alloc: Global,
     pages: &mut Pages<D>,
@@ -43,10 +71,7 @@ pub(crate) fn read_page_leaf<D: Disk, const W: usize>(
     ensures looks { LooksAt D.honest D.failures D.state result pages.old pages.new }
     ensures answer { AnswersRead result pages.old.closed pages.new.closed }
 {
-    if page == 0 || !pages.in_use(work, page) {
-        return Err(pages.close());
-    }
-    let image = match pages.read_page(work, page) {
+    let image = match read_leaf_image(pages, work, page) {
         Ok(image) => image,
         Err(fault) => return Err(fault),
     };
@@ -57,24 +82,40 @@ pub(crate) fn read_page_leaf<D: Disk, const W: usize>(
     }
 }
 
-// The values of the entries of a leaf that are in the range go to the end of the list.
-fn add_values<const W: usize>(
-    leaf: &[(IndexKey<W>, u32)],
+// The values of the entries of the leaf in a page that are in the range go to the end of the list.
+// A page that has no leaf, which an honest disk does not show, closes the pages.
+fn add_page_values<D: Disk, const W: usize>(
+    pages: &mut Pages<D>,
+    work: &Work,
+    page: u32,
     low: &IndexKey<W>,
     high: &IndexKey<W>,
     values: &mut Vec<u32>,
-) -> Result<(), AllocError>
-    ensures values { OnOk result
-        (values.new.items ≡ values.old.items ++ values_within low.now high.now leaf.now) }
+) -> Result<(), Fault>
+    requires width { W ≤ 4090 }
+    requires open { pages.old.closed ≡ false }
+    requires fits { Fits pages.old work.now }
+    requires in_use { HonestAt D.honest pages.old.disk → InUse (stand pages.old work.now) page }
+    requires form { HonestAt D.honest pages.old.disk
+        → IsLeaf W (image_at (stand pages.old work.now) page) }
+    ensures values { OnOk result (HonestAt D.honest pages.new.disk → values.new.items
+        ≡ values.old.items ++ values_within low.now high.now
+        (leaf_in W (image_at (stand pages.old work.now) page))) }
+    ensures fits { OnOk result (Fits pages.new work.now) }
+    ensures stand { OnOk result (SameStand (HonestAt D.honest pages.new.disk)
+        (stand pages.old work.now) (stand pages.new work.now)) }
+    ensures looks { LooksAt D.honest D.failures D.state result pages.old pages.new }
+    ensures answer { AnswersRead result pages.old.closed pages.new.closed }
 {
-    for entry in leaf {
-        let is_below = entry.0.is_before(0, low, 0);
-        let is_above = high.is_before(0, &entry.0, 0);
-        if !is_below && !is_above {
-            values.push(entry.1)?;
-        }
+    let image = match read_leaf_image(pages, work, page) {
+        Ok(image) => image,
+        Err(fault) => return Err(fault),
+    };
+    match add_values_of(&image, low, high, values) {
+        Ok(true) => Ok(()),
+        Ok(false) => Err(pages.close()),
+        Err(_) => Err(Fault::OutOfMemory),
     }
-    Ok(())
 }
 
 // Whether a leaf begins above the range.
@@ -90,7 +131,6 @@ fn begins_above<const W: usize>(index: &Index<W>, place: usize, high: &IndexKey<
 
 // The values of the entries of one leaf that are in the range go to the end of the list.
 fn add_leaf_values<D: Disk, const W: usize>(
-    alloc: Global,
     pages: &mut Pages<D>,
     work: &Work,
     index: &Index<W>,
@@ -116,13 +156,9 @@ fn add_leaf_values<D: Disk, const W: usize>(
     ensures answer { AnswersRead result pages.old.closed pages.new.closed }
 {
     let page = index.pages[place];
-    let leaf = match read_page_leaf(alloc, pages, work, page) {
-        Ok(leaf) => leaf,
-        Err(fault) => return Err(fault),
-    };
-    match add_values(&leaf, low, high, values) {
+    match add_page_values(pages, work, page, low, high, values) {
         Ok(()) => Ok(()),
-        Err(_) => Err(Fault::OutOfMemory),
+        Err(fault) => Err(fault),
     }
 }
 
@@ -166,7 +202,7 @@ impl<const W: usize> Index<W> {
             if begins_above(self, place, high) {
                 return Ok(values);
             }
-            match add_leaf_values(alloc, pages, work, self, place, low, high, &mut values) {
+            match add_leaf_values(pages, work, self, place, low, high, &mut values) {
                 Ok(()) => {}
                 Err(fault) => return Err(fault),
             }

@@ -1,7 +1,7 @@
 // Leaves as bytes of a page.
-ghost use Rattle.std.specs.Prelude.{◌≡◌, ◌↔◌, ℕ, ◌+◌, ◌*◌, ◌≤◌, ◌++◌, List, length};
-ghost use Rattle.std.specs.Prelude.{IfOk, IfSome, IsSome, OnOk};
-ghost use Rattle.index_keys.specs.Entries.{AllFit, FitsLeaf};
+ghost use Rattle.std.specs.Prelude.{◌≡◌, ◌↔◌, ℕ, ◌+◌, ◌*◌, ◌≤◌, [], ◌∷◌, ◌++◌, List, length};
+ghost use Rattle.std.specs.Prelude.{IfOk, IfSome, IsSome, OnOk, false, true};
+ghost use Rattle.index_keys.specs.Entries.{AllFit, FitsLeaf, values_within};
 ghost use Rattle.tune_index.specs.Leaves.{capacity, value_in, value_bytes, count_in, count_bytes};
 ghost use Rattle.tune_index.specs.Leaves.{entry_in, entries_in, entry_bytes, leaf_in, IsLeaf};
 
@@ -121,6 +121,73 @@ fn read_entries<const W: usize>(
         rest = &rest[W + 4..];
     }
     Ok(entries)
+}
+
+// The value of an entry goes to the end of the list, where the entry is in the range.
+fn add_value<const W: usize>(
+    entry: &(IndexKey<W>, u32),
+    low: &IndexKey<W>,
+    high: &IndexKey<W>,
+    values: &mut Vec<u32>,
+) -> Result<(), AllocError>
+    ensures { OnOk result (values.new.items
+        ≡ values.old.items ++ values_within low.now high.now (entry.now ∷ [])) }
+{
+    let is_below = entry.0.is_before(0, low, 0);
+    let is_above = high.is_before(0, &entry.0, 0);
+    if !is_below && !is_above {
+        values.push(entry.1)?;
+    }
+    Ok(())
+}
+
+// The values of those of the first entries in the bytes that are in the range go to the end of the
+// list.
+fn add_values<const W: usize>(
+    bytes: &[u8],
+    count: usize,
+    low: &IndexKey<W>,
+    high: &IndexKey<W>,
+    values: &mut Vec<u32>,
+) -> Result<(), AllocError>
+    requires width { W ≤ 4090 }
+    requires room { count * (W + 4) ≤ length bytes.now }
+    ensures { OnOk result (values.new.items
+        ≡ values.old.items ++ values_within low.now high.now (entries_in W count bytes.now)) }
+{
+    let mut rest = bytes;
+    for done in 0..count {
+        let entry = entry_at(rest);
+        add_value(&entry, low, high, values)?;
+        rest = &rest[W + 4..];
+    }
+    Ok(())
+}
+
+// The values of the entries of a page that are in the range go to the end of the list, where the
+// page has the form of a leaf; otherwise false. No entry is kept: a look for few of them takes no
+// memory for the others.
+pub(crate) fn add_values_of<const W: usize>(
+    image: &PageImage,
+    low: &IndexKey<W>,
+    high: &IndexKey<W>,
+    values: &mut Vec<u32>,
+) -> Result<bool, AllocError>
+    requires { W ≤ 4090 }
+    ensures form { IfOk result (λ added. added ≡ false → IsLeaf W image.now.bytes → ⊥) }
+    ensures values { IfOk result (λ added. added ≡ true → values.new.items
+        ≡ values.old.items ++ values_within low.now high.now (leaf_in W image.now.bytes)) }
+{
+    let bytes = page_bytes(image);
+    let count = read_count(bytes);
+    if count < 1 {
+        return Ok(false);
+    }
+    if count > capacity_of(W) {
+        return Ok(false);
+    }
+    add_values(&bytes[2..], count, low, high, values)?;
+    Ok(true)
 }
 
 // A page that begins with the bytes.

@@ -8,8 +8,8 @@ use Rattle.tune_index.proofs.Puts.{form_at}
 use Rattle.tune_index.proofs.Ranges.{page_in_use, read_page}
 use Rattle.tune_index.proofs.candidates.add_leaf_values.Goals as goal
 
-pub read_page_leaf-requires : goal.read_page_leaf-requires
-read_page_leaf-requires g c =
+pub add_page_values-requires : goal.add_page_values-requires
+add_page_values-requires g c =
     let s = stand c.args.pages.now c.args.work.now in
     let ps = c.args.index.now.pages in
     let v : c.index.inside.pages.items ≡ c.args.index.now.pages = ap (λ (x : Shape). x.pages) c.index.view_is in
