@@ -16,3 +16,4 @@ pub mod Balances
 pub mod Beside
 pub mod Shares
 pub mod Within
+pub mod Slots

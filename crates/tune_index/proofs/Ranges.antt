@@ -13,10 +13,10 @@ use Rattle.tune_index.specs.Inside.EachPage.{HasEachPage}
 use Rattle.tune_index.specs.Leaves.{IsLeaf, leaf_in, entries_in, entry_in, count_in}
 
 -- the first entry in the range, and out of it
-within_first : (low high : ℕ) (e : Entry) (es : List Entry) → low ≤ e.0 → e.0 ≤ high → values_within low high (e ∷ es) ≡ e.1 ∷ values_within low high es
+pub within_first : (low high : ℕ) (e : Entry) (es : List Entry) → low ≤ e.0 → e.0 ≤ high → values_within low high (e ∷ es) ≡ e.1 ∷ values_within low high es
 within_first low high e es a b = grind (arith, nat_tests)
 
-below_first : (low high : ℕ) (e : Entry) (es : List Entry) → e.0 < low → values_within low high (e ∷ es) ≡ values_within low high es
+pub below_first : (low high : ℕ) (e : Entry) (es : List Entry) → e.0 < low → values_within low high (e ∷ es) ≡ values_within low high es
 below_first low high e es a = grind (arith, nat_tests)
 
 above_first : (low high : ℕ) (e : Entry) (es : List Entry) → high < e.0 → values_within low high (e ∷ es) ≡ values_within low high es
@@ -67,7 +67,7 @@ unfolding leaf_in
 leaf_begun width image h = begun width (count_in image) (drop 2 image) h.some
 
 -- the front of a list whose entries fit, and the rest
-fit_front : (width : ℕ) (xs ys : List Entry) → AllFit width (xs ++ ys) → AllFit width xs
+pub fit_front : (width : ℕ) (xs ys : List Entry) → AllFit width (xs ++ ys) → AllFit width xs
 fit_front width [] ys h = tt
 fit_front width (x ∷ xs) ys h = (h.0, fit_front width xs ys h.1)
 

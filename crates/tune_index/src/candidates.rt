@@ -6,7 +6,7 @@ ghost use Rattle.tune_pages.specs.Frame.{InUse, image_at};
 ghost use Rattle.tune_pages.specs.Kept.{HonestAt};
 ghost use Rattle.tune_pages.specs.PageLooks.{LooksAt, SameStand};
 ghost use Rattle.tune_pages.specs.Work.{stand, Fits};
-ghost use Rattle.index_keys.specs.Entries.{AllFit, rank, values_within};
+ghost use Rattle.index_keys.specs.Entries.{AllFit, IsRising, rank, values_within};
 ghost use Rattle.tune_index.specs.Indexes.{HasPages, IsIndex, entries_of};
 ghost use Rattle.tune_index.specs.Leaves.{IsLeaf, capacity, leaf_in, slice_entry};
 
@@ -98,9 +98,10 @@ fn add_page_values<D: Disk, const W: usize>(
     requires in_use { HonestAt D.honest pages.old.disk → InUse (stand pages.old work.now) page }
     requires form { HonestAt D.honest pages.old.disk
         → IsLeaf W (image_at (stand pages.old work.now) page) }
-    ensures values { OnOk result (HonestAt D.honest pages.new.disk → values.new.items
-        ≡ values.old.items ++ values_within low.now high.now
-        (leaf_in W (image_at (stand pages.old work.now) page))) }
+    ensures values { let leaf = leaf_in W (image_at (stand pages.old work.now) page) in
+        OnOk result (HonestAt D.honest pages.new.disk → IsRising leaf → AllFit W leaf
+        → values.new.items
+        ≡ values.old.items ++ values_within low.now high.now leaf) }
     ensures fits { OnOk result (Fits pages.new work.now) }
     ensures stand { OnOk result (SameStand (HonestAt D.honest pages.new.disk)
         (stand pages.old work.now) (stand pages.new work.now)) }

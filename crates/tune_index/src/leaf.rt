@@ -1,7 +1,8 @@
 // Leaves as bytes of a page.
-ghost use Rattle.std.specs.Prelude.{◌≡◌, ◌↔◌, ℕ, ◌+◌, ◌*◌, ◌≤◌, [], ◌∷◌, ◌++◌, List, length};
-ghost use Rattle.std.specs.Prelude.{IfOk, IfSome, IsSome, OnOk, false, true};
-ghost use Rattle.index_keys.specs.Entries.{AllFit, FitsLeaf, values_within};
+ghost use Rattle.std.specs.Prelude.{◌≡◌, ◌↔◌, ℕ, ◌+◌, ◌*◌, ◌≤◌, ◌++◌, List, length};
+ghost use Rattle.std.specs.Prelude.{drop, IfOk, IfSome, IsSome, OnOk, false, true};
+ghost use Rattle.index_keys.specs.Entries.{AllFit, FitsLeaf, IsRising, rank, values_within};
+ghost use Rattle.tune_index.specs.Inside.EntryPlaces.{IsPlace};
 ghost use Rattle.tune_index.specs.Leaves.{capacity, value_in, value_bytes, count_in, count_bytes};
 ghost use Rattle.tune_index.specs.Leaves.{entry_in, entries_in, entry_bytes, leaf_in, IsLeaf};
 
@@ -123,26 +124,40 @@ fn read_entries<const W: usize>(
     Ok(entries)
 }
 
-// The value of an entry goes to the end of the list, where the entry is in the range.
-fn add_value<const W: usize>(
-    entry: &(IndexKey<W>, u32),
-    low: &IndexKey<W>,
-    high: &IndexKey<W>,
-    values: &mut Vec<u32>,
-) -> Result<(), AllocError>
-    ensures { OnOk result (values.new.items
-        ≡ values.old.items ++ values_within low.now high.now (entry.now ∷ [])) }
+// The entry at a place of the bytes.
+fn entry_of<const W: usize>(bytes: &[u8], place: usize) -> (IndexKey<W>, u32)
+    requires width { W ≤ 4090 }
+    requires room { (place + 1) * (W + 4) ≤ length bytes.now }
+    ensures entry { result ≡ entry_in W (drop (place * (W + 4)) bytes.now) }
+    ensures fits { FitsLeaf W result }
 {
-    let is_below = entry.0.is_before(0, low, 0);
-    let is_above = high.is_before(0, &entry.0, 0);
-    if !is_below && !is_above {
-        values.push(entry.1)?;
+    entry_at(&bytes[place * (W + 4)..])
+}
+
+// Where the first of the entries in the bytes stands whose key is not before this one.
+fn first_from<const W: usize>(bytes: &[u8], count: usize, low: &IndexKey<W>) -> usize
+    requires width { W ≤ 4090 }
+    requires room { count * (W + 4) ≤ length bytes.now }
+    ensures within { result ≤ count }
+    ensures place { IsRising (entries_in W count bytes.now)
+        → IsPlace (rank (low.now, 0)) (entries_in W count bytes.now) result }
+{
+    let mut first = 0;
+    let mut last = count;
+    while first < last {
+        let middle = first + (last - first) / 2;
+        let entry = entry_of(bytes, middle);
+        if entry.0.is_before(entry.1, low, 0) {
+            first = middle + 1;
+        } else {
+            last = middle;
+        }
     }
-    Ok(())
+    first
 }
 
 // The values of those of the first entries in the bytes that are in the range go to the end of the
-// list.
+// list. No entry is read that stands behind the range.
 fn add_values<const W: usize>(
     bytes: &[u8],
     count: usize,
@@ -152,14 +167,17 @@ fn add_values<const W: usize>(
 ) -> Result<(), AllocError>
     requires width { W ≤ 4090 }
     requires room { count * (W + 4) ≤ length bytes.now }
-    ensures { OnOk result (values.new.items
+    ensures { OnOk result (IsRising (entries_in W count bytes.now)
+        → AllFit W (entries_in W count bytes.now) → values.new.items
         ≡ values.old.items ++ values_within low.now high.now (entries_in W count bytes.now)) }
 {
-    let mut rest = bytes;
-    for done in 0..count {
-        let entry = entry_at(rest);
-        add_value(&entry, low, high, values)?;
-        rest = &rest[W + 4..];
+    let from = first_from(bytes, count, low);
+    for place in from..count {
+        let entry = entry_of(bytes, place);
+        if high.is_before(0, &entry.0, 0) {
+            return Ok(());
+        }
+        values.push(entry.1)?;
     }
     Ok(())
 }
@@ -175,7 +193,8 @@ pub(crate) fn add_values_of<const W: usize>(
 ) -> Result<bool, AllocError>
     requires { W ≤ 4090 }
     ensures form { IfOk result (λ added. added ≡ false → IsLeaf W image.now.bytes → ⊥) }
-    ensures values { IfOk result (λ added. added ≡ true → values.new.items
+    ensures values { IfOk result (λ added. added ≡ true → IsRising (leaf_in W image.now.bytes)
+        → AllFit W (leaf_in W image.now.bytes) → values.new.items
         ≡ values.old.items ++ values_within low.now high.now (leaf_in W image.now.bytes)) }
 {
     let bytes = page_bytes(image);

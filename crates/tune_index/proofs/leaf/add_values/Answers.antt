@@ -1,39 +1,67 @@
-use Rattle.std.proofs.Common.{rules, ◌≡◌, ℕ, ◌+◌, ◌-◌, suc, sym, ◌∙◌, ap, arith, List, [], ◌∷◌, ◌++◌, length, drop, append_assoc, length-drop}
-use Rattle.index_keys.specs.Entries.{Entry, values_within}
-use Rattle.tune_index.specs.Leaves.{entries_in, entry_in}
-use Rattle.tune_index.proofs.Codec.{room_more, to_end}
-use Rattle.tune_index.proofs.Ranges.{values_within-append}
+use Rattle.std.proofs.Common.{rules, ◌≡◌, ◌+◌, ◌*◌, ◌<◌, ◌≤◌, ◌++◌, ◌∷◌, [], ℕ, List, length, take, get_or, append-nil, append_assoc, arith, inl, inr, sym, ap, ◌∙◌}
+use Rattle.std.proofs.lemmas.Bool.{cases_lt}
+use Rattle.std.proofs.lemmas.List.{take_all, take_more}
+use Rattle.index_keys.specs.Entries.{Entry, rank, values_within}
+use Rattle.tune_index.specs.Leaves.{entries_in}
+use Rattle.tune_index.proofs.Codec.{length-entries_in}
+use Rattle.tune_index.proofs.Slots.{all_until, none_until, one_within, slot_entry, slot_room}
 use Rattle.tune_index.proofs.leaf.add_values.Goals as goal
 
--- the value of the first entry of the rest, where it is in the range, is taken
-step : (width low high n m : ℕ) (vs ws : List ℕ) (e : Entry) (rest all : List ℕ) → n ≡ suc m → e ≡ entry_in width rest
-    → ws ≡ vs ++ values_within low high (e ∷ []) → vs ++ values_within low high (entries_in width n rest) ≡ all
-    → ws ++ values_within low high (entries_in width m (drop (width + 4) rest)) ≡ all
-step width low high n m vs ws e rest all s i w h =
-    let later = entries_in width m (drop (width + 4) rest) in
-    let f : entries_in width n rest ≡ e ∷ later = ap (λ (k : ℕ). entries_in width k rest) s ∙ ap (λ (x : Entry). x ∷ later) (sym i) in
-    let v : values_within low high (entries_in width n rest) ≡ values_within low high (e ∷ []) ++ values_within low high later =
-    ap (values_within low high) f ∙ values_within-append low high (e ∷ []) later in
-    ap (λ (x : List ℕ). x ++ values_within low high later) w
-    ∙ append_assoc vs (values_within low high (e ∷ [])) (values_within low high later) ∙ ap (λ (x : List ℕ). vs ++ x) (sym v) ∙ h
+pub entry_of-entry-requires : goal.entry_of-entry-requires
+entry_of-entry-requires g c =
+    let r : (c.loop-place.place + 1) * (g.row.W + 4) ≤ length c.args.bytes.now =
+    slot_room g.row.W c.args.count c.loop-place.place (length c.args.bytes.now) c.loop-place-test.true c.requires.room in
+    (search rules, (c.requires.width, r))
 
-pub loop-done-preserved : goal.loop-done-preserved
-loop-done-preserved g c =
-    let W = g.row.W in
-    let s : c.args.count - c.loop-done.done ≡ suc (c.args.count - (c.loop-done.done + 1)) = omega arith in
-    let r = room_more W (c.args.count - c.loop-done.done) (c.args.count - (c.loop-done.done + 1)) (length c.loop-done.rest.now) s
-    c.loop-done.invariant.room in
-    let t = to_end (W + 4) c.loop-done.rest.now in
-    let d = length-drop (W + 4) c.loop-done.rest.now in
-    let st = step W c.args.low.now c.args.high.now (c.args.count - c.loop-done.done) (c.args.count - (c.loop-done.done + 1)) c.loop-done.values.items
-    c.add_value.new.values.items c.entry_at-entry.result c.loop-done.rest.now
-    (c.args.values.now.items ++ values_within c.args.low.now c.args.high.now (entries_in W c.args.count c.args.bytes.now)) s c.entry_at-entry.ensures.entry
-    (search rules) c.loop-done.invariant.so_far in
-    record { room = rw t (omega arith); so_far = rw t st }
+pub loop-place-init : goal.loop-place-init
+loop-place-init g c = λ up _.
+    let es : List Entry = entries_in g.row.W c.args.count c.args.bytes.now in
+    let none = none_until c.args.low.now c.args.high.now c.first_from-from.result es (c.first_from-from.ensures.place up) in
+    sym (ap (λ (x : List ℕ). c.args.values.now.items ++ x) none ∙ append-nil c.args.values.now.items)
 
-pub entry_at-entry-requires : goal.entry_at-entry-requires
-entry_at-entry-requires g c =
-    let s : c.args.count - c.loop-done.done ≡ suc (c.args.count - (c.loop-done.done + 1)) = omega arith in
-    let r = room_more g.row.W (c.args.count - c.loop-done.done) (c.args.count - (c.loop-done.done + 1)) (length c.loop-done.rest.now) s
-    c.loop-done.invariant.room in
-    (search rules, (c.requires.width, r.0))
+pub returns-then-is_before : goal.returns-then-is_before
+returns-then-is_before g c = λ up fit.
+    let low = c.args.low.now in
+    let high = c.args.high.now in
+    let es : List Entry = entries_in g.row.W c.args.count c.args.bytes.now in
+    let e = c.entry_of-entry.result in
+    let i = c.loop-place.place in
+    let n = length-entries_in g.row.W c.args.count c.args.bytes.now in
+    let is : e ≡ get_or es i e = c.entry_of-entry.ensures.entry ∙ sym (slot_entry g.row.W c.args.count i e c.args.bytes.now c.loop-place-test.true) in
+    let past = c.is_before.ensures.0 c.if-is_before.true in
+    c.loop-place.invariant up fit
+    ∙ ap (λ (x : List ℕ). c.args.values.now.items ++ x)
+      (all_until g.row.W low high i es e up fit (omega (arith, n, c.loop-place-test.true)) is (omega (arith, past)))
+
+pub loop-place-preserved : goal.loop-place-preserved
+loop-place-preserved g c = λ up fit.
+    let low = c.args.low.now in
+    let high = c.args.high.now in
+    let es : List Entry = entries_in g.row.W c.args.count c.args.bytes.now in
+    let e = c.entry_of-entry.result in
+    let i = c.loop-place.place in
+    let n = length-entries_in g.row.W c.args.count c.args.bytes.now in
+    let l : i < length es = omega (arith, n, c.loop-place-test.true) in
+    let is : e ≡ get_or es i e = c.entry_of-entry.ensures.entry ∙ sym (slot_entry g.row.W c.args.count i e c.args.bytes.now c.loop-place-test.true) in
+    let t : take (i + 1) es ≡ take i es ++ e ∷ [] = take_more es i e l ∙ ap (λ (x : Entry). take i es ++ x ∷ []) (sym is) in
+    let place = c.first_from-from.ensures.place up in
+    let at : rank (low, 0) ≤ rank (get_or es i e) = place.others_after i e (search rules) l in
+    let same : rank e ≡ rank (get_or es i e) = ap rank is in
+    let value = c.entry_of-entry.ensures.fits.value in
+    let over : low ≤ e.0 = omega (arith, at, same, value) in
+    let within : e.0 ≤ high = elim (cases_lt (rank (high, 0)) (rank (e.0, 0))) [
+      | inl past ↦ absurd (let t = c.is_before.ensures.1 past in let f = c.if-is_before.false in cc)
+      | inr below ↦ omega (arith, below)
+    ] in
+    let more = one_within low high i es e t over within in
+    let vs = values_within low high (take i es) in
+    c.in_ok-push.ensures.items ∙ ap (λ (x : List ℕ). x ++ e.1 ∷ []) (c.loop-place.invariant up fit)
+    ∙ append_assoc c.args.values.now.items vs (e.1 ∷ []) ∙ ap (λ (x : List ℕ). c.args.values.now.items ++ x) (sym more)
+
+pub returns : goal.returns
+returns g c = λ up fit.
+    let es : List Entry = entries_in g.row.W c.args.count c.args.bytes.now in
+    let n = length-entries_in g.row.W c.args.count c.args.bytes.now in
+    let all : take c.loop-place.place es ≡ es = take_all c.loop-place.place es (omega (arith, n, c.loop-place-test.false)) in
+    c.loop-place.invariant up fit
+    ∙ ap (λ (x : List Entry). c.args.values.now.items ++ values_within c.args.low.now c.args.high.now x) all

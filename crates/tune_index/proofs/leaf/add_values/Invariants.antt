@@ -1,11 +1,9 @@
-use Rattle.std.proofs.Common.{◌≡◌, ◌+◌, ◌*◌, ◌≤◌, length, ◌-◌, ◌++◌}
-use Rattle.index_keys.specs.Entries.{values_within}
+use Rattle.std.proofs.Common.{◌≡◌, ◌≤◌, ◌++◌, take}
+use Rattle.index_keys.specs.Entries.{AllFit, IsRising, values_within}
 use Rattle.tune_index.specs.Leaves.{entries_in}
 use Rattle.tune_index.proofs.leaf.add_values.Given as goal
 
-abbrev pub invariant-loop-done : goal.invariant-loop-done
-invariant-loop-done g l = record {
-  room : (l.fn.count - l.done) * (g.row.W + 4) ≤ length l.rest;
-  so_far : l.values.items ++ values_within l.low l.high (entries_in g.row.W (l.fn.count - l.done) l.rest)
-      ≡ l.initial.values.items ++ values_within l.low l.high (entries_in g.row.W l.fn.count l.fn.bytes);
-}
+abbrev pub invariant-loop-place : goal.invariant-loop-place
+invariant-loop-place g l =
+    let es = entries_in g.row.W l.fn.count l.fn.bytes in
+    IsRising es → AllFit g.row.W es → l.values.items ≡ l.initial.values.items ++ values_within l.low l.high (take l.place es)
