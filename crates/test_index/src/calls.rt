@@ -46,6 +46,7 @@ pub(crate) enum IndexCall<'a> {
     Insert(&'a str),
     InsertAll(&'a str),
     Remove(&'a str),
+    Clear,
     Candidates(&'a str, &'a str),
     Store,
 }
@@ -149,6 +150,7 @@ impl<'a> IndexCall<'a> {
             "insert" => Some(IndexCall::Insert(rest)),
             "insert-all" => Some(IndexCall::InsertAll(rest)),
             "remove" => Some(IndexCall::Remove(rest)),
+            "clear" => Some(IndexCall::Clear),
             "candidates" => {
                 let (low, high) = rest.split_once(' ')?;
                 Some(IndexCall::Candidates(low, high))

@@ -25,6 +25,7 @@ pub(crate) fn call_index<const W: usize>(
         IndexCall::Insert(entries) => insert(alloc, begun, index, entries, answer),
         IndexCall::InsertAll(entries) => insert_all(alloc, begun, index, entries, answer),
         IndexCall::Remove(entries) => remove(alloc, begun, index, entries, answer),
+        IndexCall::Clear => clear(alloc, begun, index, answer),
         IndexCall::Candidates(low, high) => candidates(alloc, begun, index, low, high, answer),
         IndexCall::Store => store(alloc, begun, index, answer),
     }
@@ -174,6 +175,23 @@ fn remove_each<const W: usize>(
         }
     }
     Ok(())
+}
+
+// Takes out all entries.
+fn clear<const W: usize>(
+    alloc: Global,
+    begun: Begun,
+    mut index: Index<W>,
+    answer: &mut String,
+) -> Result<(File, Index<W>), AllocError>
+    requires { W ≤ 4090 }
+{
+    let Begun {
+        mut pages,
+        mut work,
+    } = begun;
+    let came_to = index.clear(&mut pages, &mut work);
+    end(alloc, pages, work, index, came_to, answer)
 }
 
 fn candidates<const W: usize>(

@@ -22,11 +22,11 @@
 //! use: `+`, or else `-`), and `finish`.
 //!
 //! Those of the index are `insert ENTRIES` and `remove ENTRIES`, one after the other, `insert-all
-//! ENTRIES`, `candidates LOW HIGH`, which shows the values, and `store`. Where one is refused the
-//! work is dropped, and the index is one without an entry. `new` makes it so too, and `in-place`
-//! puts one without an entry in its place, which keeps its list until it is stored. There is
-//! another index in hand: `copy` makes it a copy anew, `copy-from` in the memory that it has, and
-//! `swap` has the calls go to it.
+//! ENTRIES`, `clear`, `candidates LOW HIGH`, which shows the values, and `store`. Where one is
+//! refused the work is dropped, and the index is one without an entry. `new` makes it so too, and
+//! `in-place` puts one without an entry in its place, which keeps its list until it is stored.
+//! There is another index in hand: `copy` makes it a copy anew, `copy-from` in the memory that it
+//! has, and `swap` has the calls go to it.
 //!
 //! `close` hands the disk back. The form of keys and entries is in `entries.rt`. The program prints
 //! a line for each case, and how many came out as written; where one did not, it ends with status

@@ -4,6 +4,7 @@ use Rattle.std.proofs.Common.{refl, sym, ◌∙◌, ap, subst, arith, inl, inr, 
 use Rattle.std.proofs.lemmas.List.{length-map, map-append}
 use Rattle.std.specs.List.{AllByRecursion}
 use Rattle.std.proofs.Math.ListN.{drop_of_length-le}
+use Rattle.index_keys.specs.Entries.{Entry}
 use Rattle.index_keys.specs.Holdings.{AreSmall}
 use Rattle.index_keys.specs.Inside.Members.{contains_cases, contains_none}
 use Rattle.tune_index.specs.Indexes.{Shape}
@@ -13,7 +14,7 @@ use Rattle.tune_pages.specs.FreePages.{TakesAtMost}
 use Rattle.tune_pages.specs.Stand.{Stand}
 use Rattle.tune_pages.specs.declared.fault.Fault.{Fault}
 use Rattle.tune_parts.specs.Parts.{Part}
-use Rattle.tune_search.specs.IncipitRuns.{AreIncipitsOf, GathersIncipits, HoldsIncipits, IncipitPair, NumbersRise}
+use Rattle.tune_search.specs.IncipitRuns.{AreIncipitsOf, GathersIncipits, HoldsIncipits, NumbersRise}
 use Rattle.tune_search.specs.IndexParts.{KeepsIndex, parts_of_index}
 use Rattle.tune_search.specs.SearchPages.{AreListed, HasFewLeaves, firsts_in, leaves_of, lists_of}
 use Rattle.tune_search.specs.Searches.{HoldsTexts, SearchParts, SearchShape, key_bytes}
@@ -81,15 +82,15 @@ numbers_small (row ∷ rows) (text ∷ texts) same below = λ one at. elim (cont
 
 -- THE ROWS, ONE AFTER ANOTHER
 -- none yet
-pub gathers_none : (Honest : Type 0) (layout : Layout) (s : Stand) (rows : List Row) (pair : IncipitPair) → GathersIncipits [] pair
-    → GathersTo Honest layout s rows 0 pair
-gathers_none Honest layout s rows pair none = record { texts = []; gathers = none; numbers = refl; are_tunes = λ h ahead tunes are holds. refl }
+pub gathers_none : (Honest : Type 0) (layout : Layout) (s : Stand) (rows : List Row) (run : List Entry) → GathersIncipits [] run
+    → GathersTo Honest layout s rows 0 run
+gathers_none Honest layout s rows run none = record { texts = []; gathers = none; numbers = refl; are_tunes = λ h ahead tunes are holds. refl }
 
 -- one more text behind
 more_behind : (texts : List Text) (one : Text) (rest all : List Text) → texts ++ one ∷ rest ≡ all → (texts ++ one ∷ []) ++ rest ≡ all
 more_behind texts one rest all e = append_assoc texts (one ∷ []) rest ∙ e
 
-module _ (Honest Then : Type 0) (layout : Layout) (s now : Stand) (rows : List Row) (place : ℕ) (was is : IncipitPair) (text : List ℕ)
+module _ (Honest Then : Type 0) (layout : Layout) (s now : Stand) (rows : List Row) (place : ℕ) (was is : List Entry) (text : List ℕ)
     (back : Then → Honest) (same : Honest → now ≡ s) (l : place < length rows) (so : GathersTo Honest layout s rows place was)
     (read : Then → (revision : ℕ) (other : List ℕ) → HoldsText layout now (get_or rows place some_row).first revision other → text ≡ other)
     (adds : (tunes : List Text) → GathersIncipits tunes was
@@ -137,7 +138,7 @@ module _ (Honest Then : Type 0) (layout : Layout) (s now : Stand) (rows : List R
   }
 
 -- ALL ROWS
-module _ (Honest : Type 0) (layout : Layout) (s : Stand) (rows : List Row) (place : ℕ) (was is : IncipitPair) (end : length rows ≤ place)
+module _ (Honest : Type 0) (layout : Layout) (s : Stand) (rows : List Row) (place : ℕ) (was is : List Entry) (end : length rows ≤ place)
     (are : AreRows layout rows) (so : GathersTo Honest layout s rows place was)
     (orders : (tunes : List Text) → NumbersRise 0 tunes → AreSmall tunes → GathersIncipits tunes was → AreIncipitsOf tunes is) where
   -- the texts have the numbers of all rows
@@ -183,8 +184,8 @@ module _ (s : Stand) (c : Contents) (one : c.layout ≡ One) (state : State) (is
   }
 
   -- the incipits of whatever tunes stand there are those of its tunes
-  pub incipits_held : (pair : IncipitPair) → AreOfTunes One s c.rows.items pair → AreIncipitsOf (numbered_texts state.tunes) pair
-  incipits_held pair are =
+  pub incipits_held : (run : List Entry) → AreOfTunes One s c.rows.items run → AreIncipitsOf (numbered_texts state.tunes) run
+  incipits_held run are =
       are (ahead_of h.filed.numbers h.filed.searches h.filed.set_lists) state.tunes within_one
       (tunes_around s c.numbers c.searches c.rows.items state.tunes h.filed.set_lists (around_of s c state h))
 
@@ -196,15 +197,15 @@ module _ (s : Stand) (c : Contents) (one : c.layout ≡ One) (state : State) (is
       omega (arith, same, most)
 
 -- and so they are held, as the pages stand after they were read
-pub some_incipits : (s now : Stand) (c : Contents) (shape : SearchShape) (pair : IncipitPair) → c.layout ≡ One → now ≡ s → shape ≡ c.searches
-    → AreOfTunes One s c.rows.items pair → HoldsSomeState s c → HoldsIncipits now shape pair
-some_incipits s now c shape pair one same copied are (state, is, h) =
-    subst (λ (t : Stand). HoldsIncipits t shape pair) (sym same) (subst (λ (x : SearchShape). HoldsIncipits s x pair) (sym copied) (
+pub some_incipits : (s now : Stand) (c : Contents) (shape : SearchShape) (run : List Entry) → c.layout ≡ One → now ≡ s → shape ≡ c.searches
+    → AreOfTunes One s c.rows.items run → HoldsSomeState s c → HoldsIncipits now shape run
+some_incipits s now c shape run one same copied are (state, is, h) =
+    subst (λ (t : Stand). HoldsIncipits t shape run) (sym same) (subst (λ (x : SearchShape). HoldsIncipits s x run) (sym copied) (
       parts_of_index h.filed.numbers,
       h.filed.set_lists ∷ h.filed.texts,
       h.filed.searches,
       numbered_texts state.tunes,
-      incipits_held s c one state is h pair are,
+      incipits_held s c one state is h run are,
       texts_held s c one state is h,
     ))
 
@@ -227,19 +228,19 @@ pub longer_full : (s mid : Stand) (was longer : SearchShape) (texts : List Text)
 longer_full s mid was longer texts few balance full = let most = few_pages longer texts few in omega arith
 
 -- the tunes' incipits take what is enough for a state
-pub upgrade_takes : {T : Type 0} (result : Result T Fault) (s now new : Stand) (c : Contents) (shape : SearchShape) (pair : IncipitPair) → c.layout ≡ One
-    → now ≡ s → shape ≡ c.searches → AreOfTunes One s c.rows.items pair
-    → ((before after : List Part) (parts : SearchParts) (texts : List Text) → AreIncipitsOf texts pair → HoldsTexts now shape before after parts texts
+pub upgrade_takes : {T : Type 0} (result : Result T Fault) (s now new : Stand) (c : Contents) (shape : SearchShape) (run : List Entry) → c.layout ≡ One
+    → now ≡ s → shape ≡ c.searches → AreOfTunes One s c.rows.items run
+    → ((before after : List Part) (parts : SearchParts) (texts : List Text) → AreIncipitsOf texts run → HoldsTexts now shape before after parts texts
     → TakesAtMost (search_pages (length texts)) result now new) → (state : State) → HoldsContents s c state → IsState state
     → TakesAtMost (most_part_pages One) result s new
-upgrade_takes result s now new c shape pair one same copied are takes state h is =
-    let its = subst (λ (t : Stand). (before after : List Part) (parts : SearchParts) (texts : List Text) → AreIncipitsOf texts pair
+upgrade_takes result s now new c shape run one same copied are takes state h is =
+    let its = subst (λ (t : Stand). (before after : List Part) (parts : SearchParts) (texts : List Text) → AreIncipitsOf texts run
     → HoldsTexts t shape before after parts texts → TakesAtMost (search_pages (length texts)) result t new) same takes in
-    let all = subst (λ (x : SearchShape). (before after : List Part) (parts : SearchParts) (texts : List Text) → AreIncipitsOf texts pair
+    let all = subst (λ (x : SearchShape). (before after : List Part) (parts : SearchParts) (texts : List Text) → AreIncipitsOf texts run
     → HoldsTexts s x before after parts texts → TakesAtMost (search_pages (length texts)) result s new) copied its in
     at_most_more result s new (search_pages (length (numbered_texts state.tunes))) (most_part_pages One) (pages_enough s c one state is h)
     (all (parts_of_index h.filed.numbers) (h.filed.set_lists ∷ h.filed.texts) h.filed.searches (numbered_texts state.tunes)
-    (incipits_held s c one state is h pair are) (texts_held s c one state is h))
+    (incipits_held s c one state is h run are) (texts_held s c one state is h))
 
 -- THE UPGRADE
 -- what is kept in memory then: the same, but for the search indexes, and where these begin
@@ -255,16 +256,16 @@ pub record IsUpgraded (c left : Contents) : Type 0 where
   pub first_sets : left.firsts.sets ≡ c.firsts.sets
 
 -- the state is held in layout 2
-pub upgraded : (s mid new : Stand) (c left : Contents) (shape : SearchShape) (pair : IncipitPair) → c.layout ≡ One → shape ≡ c.searches
-    → AreOfTunes One s c.rows.items pair → LengthensTexts s mid shape left.searches pair → LaysRoot Two mid new left.firsts → IsUpgraded c left
+pub upgraded : (s mid new : Stand) (c left : Contents) (shape : SearchShape) (run : List Entry) → c.layout ≡ One → shape ≡ c.searches
+    → AreOfTunes One s c.rows.items run → LengthensTexts s mid shape left.searches run → LaysRoot Two mid new left.firsts → IsUpgraded c left
     → (state : State) → IsState state → HoldsContents s c state → HoldsContents new left (upgraded_state state)
-upgraded s mid new c left shape pair one copied are lengthens root kept state is h =
+upgraded s mid new c left shape run one copied are lengthens root kept state is h =
     let filed = h.filed in
     let texts : HoldsTexts s shape (parts_of_index filed.numbers) (filed.set_lists ∷ filed.texts) filed.searches (numbered_texts state.tunes) =
     subst (λ (x : SearchShape). HoldsTexts s x (parts_of_index filed.numbers) (filed.set_lists ∷ filed.texts) filed.searches (numbered_texts state.tunes))
     (sym copied) (texts_held s c one state is h) in
     let longer = lengthens (parts_of_index filed.numbers) (filed.set_lists ∷ filed.texts) filed.searches (numbered_texts state.tunes)
-    (incipits_held s c one state is h pair are) texts in
+    (incipits_held s c one state is h run are) texts in
     let says : SaysWhere left = record {
       numbers = ap (λ (x : Shape). x.first) kept.numbers ∙ h.numbers.first ∙ sym (ap (λ (f : Firsts). f.numbers) h.firsts) ∙ sym kept.first_numbers;
       numbers_listed = ap (λ (x : Shape). x.listed) kept.numbers ∙ h.numbers_listed;

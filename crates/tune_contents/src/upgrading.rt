@@ -28,32 +28,33 @@ use std::alloc::Global;
 use tune_disk::Disk;
 use tune_format::{Firsts, Row};
 use tune_pages::{Fault, Pages, Work};
-use tune_search::{IncipitNotes, IncipitRuns, SearchFirsts, SearchIndexes, law_of_search_pages};
+use tune_search::{IncipitNotes, IncipitRun, SearchFirsts, SearchIndexes, law_of_search_pages};
 use tune_store::Layout;
 
-// The incipits of the tunes of these rows. Their texts are read one at a time; nothing is written.
+// The incipits of the tunes of these rows by twelve notes. Their texts are read one at a time;
+// nothing is written.
 fn incipits_of<D: Disk>(
     alloc: Global,
     pages: &mut Pages<D>,
     work: &Work,
     layout: Layout,
     rows: &[Row],
-) -> Result<IncipitRuns, Fault>
+) -> Result<IncipitRun, Fault>
     requires open { pages.old.closed ≡ false }
     requires fits { Fits pages.old work.now }
     requires rows { AreRows layout rows.now }
     requires holds { HonestAt D.honest pages.old.disk
         → HoldsTunesWithin layout (stand pages.old work.now) rows.now }
-    ensures some { IfOk result (λ runs. (tunes : List (ℕ × List ℕ)) × AreIncipitsOf tunes runs) }
-    ensures runs { IfOk result (λ runs. HonestAt D.honest pages.new.disk
-        → AreOfTunes layout (stand pages.old work.now) rows.now runs) }
+    ensures some { IfOk result (λ run. (tunes : List (ℕ × List ℕ)) × AreIncipitsOf tunes run) }
+    ensures run { IfOk result (λ run. HonestAt D.honest pages.new.disk
+        → AreOfTunes layout (stand pages.old work.now) rows.now run) }
     ensures fits { OnOk result (Fits pages.new work.now) }
     ensures stand { OnOk result (SameStand (HonestAt D.honest pages.new.disk)
         (stand pages.old work.now) (stand pages.new work.now)) }
     ensures looks { LooksAt D.honest D.failures D.state result pages.old pages.new }
     ensures answer { AnswersRead result pages.old.closed pages.new.closed }
 {
-    let Ok(mut runs) = IncipitRuns::with_capacity(alloc, rows.len()) else {
+    let Ok(mut run) = IncipitRun::with_capacity(alloc, rows.len()) else {
         return Err(Fault::OutOfMemory);
     };
     for row in rows {
@@ -61,11 +62,11 @@ fn incipits_of<D: Disk>(
             Ok(text) => text,
             Err(fault) => return Err(fault),
         };
-        if runs.add(row.number, &text).is_err() {
+        if run.add(row.number, &text).is_err() {
             return Err(Fault::OutOfMemory);
         }
     }
-    Ok(runs.in_order())
+    Ok(run.in_order())
 }
 
 // Brings the search indexes to incipits by twelve notes, stores their lists, and gives where these
@@ -75,31 +76,31 @@ fn lengthen<D: Disk>(
     pages: &mut Pages<D>,
     work: &mut Work,
     searches: &mut SearchIndexes,
-    runs: &IncipitRuns,
+    run: &IncipitRun,
 ) -> Result<SearchFirsts, Fault>
     requires open { pages.old.closed ≡ false }
     requires fits { Fits pages.old work.old }
     requires notes { searches.old.notes ≡ 8 }
-    requires runs { (tunes : List (ℕ × List ℕ)) × AreIncipitsOf tunes runs.now }
+    requires run { (tunes : List (ℕ × List ℕ)) × AreIncipitsOf tunes run.now }
     requires holds { HonestAt D.honest pages.old.disk
-        → HoldsIncipits (stand pages.old work.old) searches.old runs.now }
+        → HoldsIncipits (stand pages.old work.old) searches.old run.now }
     ensures fits { OnOk result (Fits pages.new work.new) }
     ensures notes { OnOk result (searches.new.notes ≡ 12) }
     ensures lays { OnOk result (HonestAt D.honest pages.new.disk → LengthensTexts
         (stand pages.old work.old) (stand pages.new work.new) searches.old searches.new
-        runs.now) }
+        run.now) }
     ensures firsts { IfOk result (λ firsts. firsts ≡ firsts_in searches.new) }
     ensures listed { OnOk result (AreListed searches.new) }
     ensures takes { HonestAt D.honest pages.new.disk
         → (before after : List Part) (parts : SearchParts) (tunes : List (ℕ × List ℕ))
-        → AreIncipitsOf tunes runs.now
+        → AreIncipitsOf tunes run.now
         → HoldsTexts (stand pages.old work.old) searches.old before after parts tunes
         → TakesAtMost (search_pages (length tunes)) result
         (stand pages.old work.old) (stand pages.new work.new) }
     ensures looks { LooksAt D.honest D.failures D.state result pages.old pages.new }
     ensures answer { AnswersLay result pages.new.closed }
 {
-    match searches.lengthen_incipits(alloc, pages, work, runs) {
+    match searches.lengthen_incipits(alloc, pages, work, run) {
         Ok(()) => {}
         Err(fault) => return Err(fault),
     }
@@ -114,8 +115,9 @@ fn lengthen<D: Disk>(
 /// gives what is to be kept in memory once the work is finished. `contents` stays as it is: where
 /// the work is dropped, or not finished, nothing was changed.
 ///
-/// The text of each tune is read. The index of incipits by eight notes is taken out, its pages are
-/// free then, and that by twelve comes in; the root says the new layout and where that begins.
+/// The text of each tune is read. The index of incipits by eight notes goes, with no page of it
+/// read, its pages are free then, and that by twelve comes in; the root says the new layout and
+/// where that begins.
 ///
 /// - `lays`: where the pages held a state within the limits, they hold it in layout 2.
 /// - `rows`, of every disk: rows by rising number, within the limits of layout 2.
@@ -165,11 +167,11 @@ pub fn upgrade<D: Disk>(
         // An honest disk has no others in layout 1.
         IncipitNotes::Twelve => return Err(pages.close()),
     }
-    let runs = incipits_of(room.alloc, pages, work, Layout::One, &contents.rows)?;
+    let incipits = incipits_of(room.alloc, pages, work, Layout::One, &contents.rows)?;
     let was = contents.firsts;
     let firsts = Firsts {
         numbers: was.numbers,
-        searches: lengthen(room.alloc, pages, work, &mut searches, &runs)?,
+        searches: lengthen(room.alloc, pages, work, &mut searches, &incipits)?,
         sets: was.sets,
     };
     lay_root(pages, work, Layout::Two, was, firsts)?;

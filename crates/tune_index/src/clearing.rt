@@ -3,9 +3,9 @@ ghost use Rattle.std.specs.Prelude.{◌≡◌, ◌+◌, [], false, length, IfOk,
 ghost use Rattle.tune_pages.specs.Faults.{free_pages};
 ghost use Rattle.tune_pages.specs.Frame.{TradesPages};
 ghost use Rattle.tune_pages.specs.Kept.{HonestAt};
-ghost use Rattle.tune_pages.specs.Reading.{LooksAt};
+ghost use Rattle.tune_pages.specs.PageLooks.{LooksAt};
 ghost use Rattle.tune_pages.specs.Work.{stand, Fits};
-ghost use Rattle.tune_index.specs.Faults.{AnswersChange, AnswersEdit};
+ghost use Rattle.tune_index.specs.IndexAnswers.{AnswersChange, AnswersEdit};
 ghost use Rattle.tune_index.specs.Indexes.{HasPages, KeepsBalance, KeepsList};
 
 use crate::edit::drop_leaf;

@@ -2,35 +2,29 @@
 use Rattle.std.proofs.Common.{◌≡◌, ℕ, ◌+◌, ◌<◌, ◌≤◌, Bool, true, List, [], ◌∷◌, ◌++◌, length, map, arith, inl, inr, refl, sym, ap, subst, ◌∙◌}
 use Rattle.std.specs.List.{AllByRecursion, Contains}
 use Rattle.tune_pages.specs.Faults.{free_pages}
+use Rattle.tune_pages.specs.Frame.{TradesPages}
 use Rattle.tune_pages.specs.Stand.{Stand}
 use Rattle.tune_parts.specs.Parts.{HoldsParts, Part}
-use Rattle.index_keys.proofs.Entering.{SmallValues, all_back, all_new, run_back, run_gone}
+use Rattle.index_keys.proofs.Entering.{SmallValues, all_back, all_new}
 use Rattle.index_keys.proofs.RisingEntries.{inserted_all_rises}
-use Rattle.index_keys.specs.Entries.{Entry, IsRising, inserted_all, removed_all}
+use Rattle.index_keys.specs.Entries.{AllFit, Entry, IsRising, inserted_all}
 use Rattle.index_keys.specs.Holdings.{HoldsEntries}
-use Rattle.index_keys.specs.Inside.Members.{contains_first, contains_none}
+use Rattle.index_keys.specs.Inside.Members.{contains_none}
 use Rattle.tune_incipit.specs.ScaleAndIncipitKeys.{incipit_keys}
-use Rattle.tune_index.specs.Indexes.{KeepsBalance, Shape}
+use Rattle.tune_index.specs.Indexes.{AllLeaves, HasPages, IsIndex, KeepsBalance, KeepsList, Shape, entries_of, heads_of}
 use Rattle.tune_index.specs.Leaves.{leaf_in, slice_entry}
 use Rattle.tune_index.specs.ListedLeaves.{listed_bytes}
-use Rattle.tune_search.specs.IndexParts.{HoldsIndexAmong, IndexParts, IsLeafPart, LaysIndex, entries_of_parts, parts_of_index}
-use Rattle.tune_search.specs.IncipitRuns.{AreIncipitsOf, HoldsIncipits, IncipitPair}
-use Rattle.tune_search.specs.Inside.Lengthening.{AreAmong, HoldsRun, Lengthens}
+use Rattle.tune_search.specs.IndexParts.{HoldsIndexAmong, HoldsSomeIndex, IndexParts, IsLeafPart, LaysIndex, entries_of_parts, parts_of_index}
+use Rattle.tune_search.specs.IncipitRuns.{AreIncipitsOf, HoldsIncipits}
+use Rattle.tune_search.specs.Inside.Lengthening.{Lengthens}
 use Rattle.tune_search.specs.Searches.{HoldsTexts, IsRunOf, SearchParts, SearchShape}
 use Rattle.tune_search.proofs.AmongLemmas.{incipits_among}
 use Rattle.tune_search.proofs.FewEntries.{few_among, few_by_incipit}
 use Rattle.tune_search.proofs.Four.{fourth_of}
+use Rattle.tune_search.proofs.Laid.{IsWorked, laid}
 use Rattle.tune_search.proofs.TextRuns.{fits_at}
 
 -- NOTHING IS LEFT
-no_members : (es : List Entry) → ((e : Entry) → Contains es e → ⊥) → es ≡ []
-no_members [] none = refl
-no_members (e ∷ es) none = absurd (none e (contains_first e es))
-
--- of entries that are all in the run that goes out
-pub none_left : (run es : List Entry) → IsRising es → AreAmong es run → removed_all run es ≡ []
-none_left run es rises among = no_members (removed_all run es) (λ e at. run_gone run es e rises at (among e (run_back run es e at)))
-
 no_length : {X : Type 0} (xs : List X) → length xs ≡ 0 → xs ≡ []
 no_length [] none = refl
 no_length (x ∷ xs) none = absurd (omega (arith, none))
@@ -79,41 +73,46 @@ emptied width other s shape made before after parts is h =
       };
     }
 
--- What is left where all entries went out: the index that is made, in the place of the old one.
-pub taken : (old new : Stand) (was is made : Shape) (run : List Entry) → LaysIndex 32 old new was is (λ entries. removed_all run entries)
-    → IsInPlaceOf made is
-    → (before after : List Part) (parts : IndexParts) (entries : List Entry) → HoldsIndexAmong 32 old was before after parts entries → AreAmong entries run
-    → (next : IndexParts) × HoldsIndexAmong 48 new made before after next [] × (is.pages ≡ [])
-taken old new was is made run lays in_place before after parts entries h among =
+-- an index that has no leaf
+bare_index : (width : ℕ) (s : Stand) (shape : Shape) → shape.pages ≡ [] → shape.heads ≡ [] → IsIndex width s shape
+bare_index width s shape bare none = record {
+  form = subst (λ (pages : List ℕ). AllLeaves width s pages) (sym bare) tt;
+  heads = none ∙ sym (ap (λ (pages : List ℕ). heads_of width s pages) bare);
+  rising = subst (λ (pages : List ℕ). IsRising (entries_of width s pages)) (sym bare) tt;
+  fit = subst (λ (pages : List ℕ). AllFit width (entries_of width s pages)) (sym bare) tt;
+}
+
+-- Where all leaves went, the index stands there without an entry.
+pub bare_laid : (width : ℕ) (old new : Stand) (was is : Shape) (before after : List Part) (parts : IndexParts) (entries : List Entry)
+    → HoldsIndexAmong width old was before after parts entries → KeepsList was is → is.pages ≡ [] → is.heads ≡ []
+    → TradesPages was.pages is.pages old new → IsWorked old new
+    → (next : IndexParts) × HoldsIndexAmong width new is before after next []
+bare_laid width old new was is before after parts entries h list bare none trades worked =
+    laid width old new was is before after parts entries [] h list (subst (λ (pages : List ℕ). HasPages new pages) (sym bare) (tt, tt)) trades
+    (bare_index width new is bare none) (ap (λ (pages : List ℕ). entries_of width new pages) bare) worked
+
+-- The index that is made, in the place of the old one.
+pub taken : (old new : Stand) (was is made : Shape) → LaysIndex 32 old new was is (λ entries. []) → IsInPlaceOf made is
+    → (before after : List Part) (parts : IndexParts) (entries : List Entry) → HoldsIndexAmong 32 old was before after parts entries
+    → (next : IndexParts) × HoldsIndexAmong 48 new made before after next []
+taken old new was is made lays in_place before after parts entries h =
     let done = lays before after parts entries h in
-    let none = none_left run entries h.keeps.rising among in
-    let bare = subst (λ (es : List Entry). HoldsIndexAmong 32 new is before after done.0 es) none done.1 in
-    (done.0, emptied 32 48 new is made before after done.0 in_place bare, (no_leaf 32 new is before after done.0 bare).pages)
+    (done.0, emptied 32 48 new is made before after done.0 in_place done.1)
 
 -- PAGES
 -- the old leaves are free, and the new ones were taken
-pub both_balance : (s0 s1 s2 : Stand) (was is made longer : Shape) → KeepsBalance s0 s1 was.pages is.pages → KeepsBalance s1 s2 made.pages longer.pages
-    → is.pages ≡ [] → made.pages ≡ [] → free_pages s0.used + length was.pages ≡ free_pages s2.used + length longer.pages
-both_balance s0 s1 s2 was is made longer first second none bare =
-    let gone : length is.pages ≡ 0 = ap length none in
-    let new : length made.pages ≡ 0 = ap length bare in
-    omega (arith, first, second, gone, new)
+pub both_balance : (s0 s1 s2 : Stand) (was made longer : Shape) → free_pages s1.used ≡ free_pages s0.used + length was.pages
+    → KeepsBalance s1 s2 made.pages longer.pages → made.pages ≡ []
+    → free_pages s0.used + length was.pages ≡ free_pages s2.used + length longer.pages
+both_balance s0 s1 s2 was made longer first second bare = let none : length made.pages ≡ 0 = ap length bare in omega (arith, first, second, none)
 
 -- where the new leaves found no page
-pub full_then : (s0 s1 : Stand) (was is made : Shape) (run : List Entry) → KeepsBalance s0 s1 was.pages is.pages → is.pages ≡ []
-    → free_pages s1.used + length made.pages < length (inserted_all run []) → free_pages s0.used + length was.pages < length (inserted_all run [])
-full_then s0 s1 was is made run first none full =
-    let gone : length is.pages ≡ 0 = ap length none in
-    omega (arith, first, gone, full)
+pub full_then : (s0 s1 : Stand) (was made : Shape) (run : List Entry) → free_pages s1.used ≡ free_pages s0.used + length was.pages
+    → made.pages ≡ [] → free_pages s1.used + length made.pages < length (inserted_all run [])
+    → free_pages s0.used + length was.pages < length (inserted_all run [])
+full_then s0 s1 was made run first bare full = let none : length made.pages ≡ 0 = ap length bare in omega (arith, first, none, full)
 
 -- THE ENTRIES OF TUNES
--- what an index holds of tunes is in their run
-pub held_among : (keys_of : List ℕ → List ℕ) (tunes : List (ℕ × List ℕ)) (entries run : List Entry) → HoldsEntries keys_of tunes entries
-    → HoldsEntries keys_of tunes run → AreAmong entries run
-held_among keys_of tunes entries run holds has = λ e at.
-    let (tune, among, number, key) = holds.only e at in
-    subst (λ (n : ℕ). Contains {X = Entry} run (e.0, n)) number (has.held tune e.0 among key)
-
 -- the run of tunes, put in where nothing was: it holds them, and is no longer than they are many
 pub record IsHeld (notes : ℕ) (tunes : List (ℕ × List ℕ)) (entries : List Entry) : Type 0 where
   pub exact : HoldsEntries (incipit_keys notes) tunes entries
@@ -138,7 +137,7 @@ abbrev pub with_notes : ℕ → Shape → Shape → Shape → Shape → SearchSh
 with_notes notes titles rhythms scales incipits =
     record { notes = notes; titles = titles; rhythms = rhythms; scales = scales; incipits = incipits }
 
-module _ (old new : Stand) (titles rhythms scales was is : Shape) (pair : IncipitPair) where
+module _ (old new : Stand) (titles rhythms scales was is : Shape) (run : List Entry) where
   -- the index of incipits among all other parts
   pub eight_among : (before after : List Part) (parts : SearchParts) (tunes : List (ℕ × List ℕ))
       → (h : HoldsTexts old (with_notes 8 titles rhythms scales was) before after parts tunes)
@@ -146,23 +145,15 @@ module _ (old new : Stand) (titles rhythms scales was is : Shape) (pair : Incipi
       parts.incipits h.incipits.entries
   eight_among before after parts tunes h = incipits_among old (with_notes 8 titles rhythms scales was) before after parts tunes h
 
-  -- it stands there, and its entries are in the run
-  pub has_run : HoldsIncipits old (with_notes 8 titles rhythms scales was) pair → HoldsRun 32 old was pair.eight
-  has_run (before, after, parts, tunes, are, h) = (
-    _,
-    _,
-    parts.incipits,
-    h.incipits.entries,
-    eight_among before after parts tunes h,
-    held_among (incipit_keys 8) tunes h.incipits.entries pair.eight h.incipits.exact are.eight.exact,
-  )
+  -- some index stands there
+  pub has_index : HoldsIncipits old (with_notes 8 titles rhythms scales was) run → HoldsSomeIndex 32 old was
+  has_index (before, after, parts, tunes, are, h) = (_, _, parts.incipits, h.incipits.entries, eight_among before after parts tunes h)
 
-  pub texts_lengthened : Lengthens old new was is pair → (before after : List Part) (parts : SearchParts) (tunes : List (ℕ × List ℕ))
-      → AreIncipitsOf tunes pair → HoldsTexts old (with_notes 8 titles rhythms scales was) before after parts tunes
+  pub texts_lengthened : Lengthens old new was is run → (before after : List Part) (parts : SearchParts) (tunes : List (ℕ × List ℕ))
+      → AreIncipitsOf tunes run → HoldsTexts old (with_notes 8 titles rhythms scales was) before after parts tunes
       → (next : SearchParts) × HoldsTexts new (with_notes 12 titles rhythms scales is) before after next tunes
   texts_lengthened lengthens before after parts tunes are h =
-      let among = held_among (incipit_keys 8) tunes h.incipits.entries pair.eight h.incipits.exact are.eight.exact in
-      let done = lengthens _ _ parts.incipits h.incipits.entries (eight_among before after parts tunes h) among in (
+      let done = lengthens _ _ parts.incipits h.incipits.entries (eight_among before after parts tunes h) in (
         record { titles = parts.titles; rhythms = parts.rhythms; scales = parts.scales; incipits = done.0 },
         record {
           holds = subst (λ (l : List Part). HoldsParts new l) (sym (fourth_of before (parts_of_index parts.titles) (parts_of_index parts.rhythms)
@@ -170,17 +161,11 @@ module _ (old new : Stand) (titles rhythms scales was is : Shape) (pair : Incipi
           titles = h.titles;
           rhythms = h.rhythms;
           scales = h.scales;
-          incipits = record {
-            entries = inserted_all pair.twelve [];
-            keeps = done.1.keeps;
-            exact = (put_alone 48 12 tunes pair.twelve are.twelve).exact;
-          };
+          incipits = record { entries = inserted_all run []; keeps = done.1.keeps; exact = (put_alone 48 12 tunes run are).exact };
         },
       )
 
   -- where the file is full, fewer pages are free than there are tunes
-  pub full_for_tunes : free_pages old.used + length was.pages < length (inserted_all pair.twelve [])
-      → (tunes : List (ℕ × List ℕ)) → AreIncipitsOf tunes pair → free_pages old.used < length tunes
-  full_for_tunes full tunes are =
-      let few = (put_alone 48 12 tunes pair.twelve are.twelve).few in
-      omega (arith, full, few)
+  pub full_for_tunes : free_pages old.used + length was.pages < length (inserted_all run [])
+      → (tunes : List (ℕ × List ℕ)) → AreIncipitsOf tunes run → free_pages old.used < length tunes
+  full_for_tunes full tunes are = let few = (put_alone 48 12 tunes run are).few in omega (arith, full, few)

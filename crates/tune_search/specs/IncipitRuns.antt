@@ -1,5 +1,5 @@
--- The incipits of tunes by eight notes and by twelve: what goes out of the search indexes and what
--- comes in where they come to keep incipits by twelve notes (own profile).
+-- The incipits of tunes by twelve notes: what comes into the search indexes where they come to keep
+-- incipits so (own profile).
 use Rattle.std.specs.Prelude.{◌≡◌, ℕ, ◌+◌, ◌≤◌, ◌∷◌, [], List}
 use Rattle.index_keys.specs.Entries.{AllFit, Entry}
 use Rattle.tune_incipit.specs.ScaleAndIncipitKeys.{incipit_keys}
@@ -14,25 +14,17 @@ abbrev pub NumbersRise : ℕ → List (ℕ × List ℕ) → Type 0
 NumbersRise low [] = Unit {0}
 NumbersRise low (tune ∷ tunes) = (low ≤ tune.0) × NumbersRise (tune.0 + 1) tunes
 
--- entries of incipits by eight notes, and by twelve
-pub record IncipitPair : Type 0 where
-  pub eight : List Entry
-  pub twelve : List Entry
-
 -- The entries of the tunes, as these came one after another.
-pub record GathersIncipits (tunes : List (ℕ × List ℕ)) (pair : IncipitPair) : Type 0 where
-  pub eight : pair.eight ≡ entries_of_tunes (incipit_keys 8) tunes
-  pub eight_fit : AllFit (incipit_bytes 8) pair.eight
-  pub twelve : pair.twelve ≡ entries_of_tunes (incipit_keys 12) tunes
-  pub twelve_fit : AllFit (incipit_bytes 12) pair.twelve
+pub record GathersIncipits (tunes : List (ℕ × List ℕ)) (run : List Entry) : Type 0 where
+  pub added : run ≡ entries_of_tunes (incipit_keys 12) tunes
+  pub fit : AllFit (incipit_bytes 12) run
 
--- The runs of the tunes, by eight notes and by twelve.
-pub record AreIncipitsOf (tunes : List (ℕ × List ℕ)) (pair : IncipitPair) : Type 0 where
-  pub eight : IsRunOf (incipit_bytes 8) (incipit_keys 8) tunes pair.eight
-  pub twelve : IsRunOf (incipit_bytes 12) (incipit_keys 12) tunes pair.twelve
+-- The run of the tunes by twelve notes.
+abbrev pub AreIncipitsOf : List (ℕ × List ℕ) → List Entry → Type 0
+AreIncipitsOf tunes run = IsRunOf (incipit_bytes 12) (incipit_keys 12) tunes run
 
 -- The search indexes hold tunes whose incipits these are.
-abbrev pub HoldsIncipits : Stand → SearchShape → IncipitPair → Type 0
-HoldsIncipits s shape pair = (before : List Part) × (after : List Part) × (parts : SearchParts)
-    × (tunes : List (ℕ × List ℕ)) × AreIncipitsOf tunes pair
+abbrev pub HoldsIncipits : Stand → SearchShape → List Entry → Type 0
+HoldsIncipits s shape run = (before : List Part) × (after : List Part) × (parts : SearchParts)
+    × (tunes : List (ℕ × List ℕ)) × AreIncipitsOf tunes run
     × HoldsTexts s shape before after parts tunes

@@ -8,58 +8,84 @@ ghost use Rattle.index_keys.specs.Entries.{IsRising, inserted_all};
 ghost use Rattle.tune_index.specs.IndexAnswers.{AnswersEdit};
 ghost use Rattle.tune_parts.specs.Parts.{Part};
 ghost use Rattle.tune_search.specs.IncipitRuns.{AreIncipitsOf, HoldsIncipits};
-ghost use Rattle.tune_search.specs.Inside.Lengthening.{HoldsRun, Lengthens};
+ghost use Rattle.tune_search.specs.IndexParts.{HoldsSomeIndex, LaysIndex};
+ghost use Rattle.tune_search.specs.Inside.Lengthening.{Lengthens};
 ghost use Rattle.tune_search.specs.SearchPages.{leaves_of};
 ghost use Rattle.tune_search.specs.Searches.{HoldsTexts, SearchParts};
 
 use crate::incipit_index::IncipitIndex;
-use crate::incipit_runs::IncipitRuns;
-use crate::index_changes::{put_run, take_run};
+use crate::incipit_run::IncipitRun;
+use crate::index_changes::put_run;
 use crate::searches::SearchIndexes;
 use std::alloc::Global;
 use tune_disk::Disk;
 use tune_index::Index;
 use tune_pages::{Fault, Pages, Work};
 
-// The index by twelve notes in the place of that by eight, whose entries are those of the runs.
+// Takes all entries out of an index that stands among other parts, which stay.
+fn take_all<D: Disk, const W: usize>(
+    pages: &mut Pages<D>,
+    work: &mut Work,
+    index: &mut Index<W>,
+) -> Result<(), Fault>
+    requires open { pages.old.closed ≡ false }
+    requires fits { Fits pages.old work.old }
+    requires index { HonestAt D.honest pages.old.disk
+        → HoldsSomeIndex W (stand pages.old work.old) index.old }
+    ensures fits { OnOk result (Fits pages.new work.new) }
+    ensures lays { OnOk result (HonestAt D.honest pages.new.disk → LaysIndex W
+        (stand pages.old work.old) (stand pages.new work.new) index.old index.new
+        (λ _. [])) }
+    ensures balance { OnOk result (free_pages (stand pages.new work.new).used
+        ≡ free_pages (stand pages.old work.old).used + length index.old.pages) }
+    ensures looks { LooksAt D.honest D.failures D.state result pages.old pages.new }
+    ensures answer { AnswersEdit result pages.new.closed ⊥ }
+{
+    match index.clear(pages, work) {
+        Ok(()) => Ok(()),
+        Err(fault) => Err(fault),
+    }
+}
+
+// The index by twelve notes in the place of that by eight, with the entries of the run.
 fn lengthen<D: Disk>(
     alloc: Global,
     pages: &mut Pages<D>,
     work: &mut Work,
     index: &mut Index<32>,
-    runs: &IncipitRuns,
+    run: &IncipitRun,
 ) -> Result<Index<48>, Fault>
     requires open { pages.old.closed ≡ false }
     requires fits { Fits pages.old work.old }
     requires index { HonestAt D.honest pages.old.disk
-        → HoldsRun 32 (stand pages.old work.old) index.old runs.now.eight }
-    requires rising { IsRising runs.now.twelve }
+        → HoldsSomeIndex 32 (stand pages.old work.old) index.old }
+    requires rising { IsRising run.now }
     ensures fits { OnOk result (Fits pages.new work.new) }
     ensures lays { IfOk result (λ longer. HonestAt D.honest pages.new.disk
         → Lengthens (stand pages.old work.old) (stand pages.new work.new) index.old longer
-        runs.now) }
+        run.now) }
     ensures balance { IfOk result (λ longer. HonestAt D.honest pages.new.disk
         → free_pages (stand pages.old work.old).used + length index.old.pages
         ≡ free_pages (stand pages.new work.new).used + length longer.pages) }
     ensures looks { LooksAt D.honest D.failures D.state result pages.old pages.new }
     ensures answer { AnswersEdit result pages.new.closed (HonestAt D.honest pages.new.disk
         → free_pages (stand pages.old work.old).used + length index.old.pages
-        < length (inserted_all runs.now.twelve [])) }
+        < length (inserted_all run.now [])) }
 {
-    match take_run(alloc, pages, work, index, &runs.eight) {
+    match take_all(pages, work, index) {
         Ok(()) => {}
         Err(fault) => return Err(fault),
     }
     let mut longer = Index::in_place_of(alloc, index);
-    match put_run(alloc, pages, work, &mut longer, &runs.twelve) {
+    match put_run(alloc, pages, work, &mut longer, &run.entries) {
         Ok(()) => Ok(longer),
         Err(fault) => Err(fault),
     }
 }
 
 impl SearchIndexes {
-    /// Comes to keep incipits by twelve notes: what stands by eight goes out, and what stands by
-    /// twelve comes in its place. The runs are those of the tunes that the indexes hold.
+    /// Comes to keep incipits by twelve notes: what stands by eight goes out, and none of it is
+    /// read; the run comes in its place. It is that of the tunes that the indexes hold.
     ///
     /// # Errors
     ///
@@ -71,19 +97,19 @@ impl SearchIndexes {
         alloc: Global,
         pages: &mut Pages<D>,
         work: &mut Work,
-        runs: &IncipitRuns,
+        run: &IncipitRun,
     ) -> Result<(), Fault>
         requires open { pages.old.closed ≡ false }
         requires fits { Fits pages.old work.old }
         requires notes { self.old.notes ≡ 8 }
-        requires runs { (tunes : List (ℕ × List ℕ)) × AreIncipitsOf tunes runs.now }
+        requires run { (tunes : List (ℕ × List ℕ)) × AreIncipitsOf tunes run.now }
         requires holds { HonestAt D.honest pages.old.disk
-            → HoldsIncipits (stand pages.old work.old) self.old runs.now }
+            → HoldsIncipits (stand pages.old work.old) self.old run.now }
         ensures fits { OnOk result (Fits pages.new work.new) }
         ensures notes { OnOk result (self.new.notes ≡ 12) }
         ensures holds { OnOk result (HonestAt D.honest pages.new.disk
             → (before after : List Part) (parts : SearchParts) (tunes : List (ℕ × List ℕ))
-            → AreIncipitsOf tunes runs.now
+            → AreIncipitsOf tunes run.now
             → HoldsTexts (stand pages.old work.old) self.old before after parts tunes
             → (next : SearchParts) × HoldsTexts (stand pages.new work.new) self.new
             before after next tunes) }
@@ -93,12 +119,12 @@ impl SearchIndexes {
         ensures looks { LooksAt D.honest D.failures D.state result pages.old pages.new }
         ensures answer { AnswersEdit result pages.new.closed (HonestAt D.honest pages.new.disk
             → (before after : List Part) (parts : SearchParts) (tunes : List (ℕ × List ℕ))
-            → AreIncipitsOf tunes runs.now
+            → AreIncipitsOf tunes run.now
             → HoldsTexts (stand pages.old work.old) self.old before after parts tunes
             → free_pages (stand pages.old work.old).used < length tunes) }
     {
         let longer = match &mut self.incipits {
-            IncipitIndex::Eight(index) => match lengthen(alloc, pages, work, index, runs) {
+            IncipitIndex::Eight(index) => match lengthen(alloc, pages, work, index, run) {
                 Ok(longer) => longer,
                 Err(fault) => return Err(fault),
             },

@@ -9,7 +9,7 @@ mod finding;
 mod incipit_claims;
 mod incipit_entries;
 mod incipit_index;
-mod incipit_runs;
+mod incipit_run;
 mod index_changes;
 mod key_claims;
 mod laws;
@@ -23,7 +23,7 @@ mod text_keys;
 
 pub use claims::{SearchClaims, law_of_claims};
 pub use incipit_entries::{IncipitEntries, IncipitNotes};
-pub use incipit_runs::IncipitRuns;
+pub use incipit_run::IncipitRun;
 pub use index_changes::{put_run, store_list, take_run};
 pub use laws::law_of_search_pages;
 pub use load_laws::law_of_loads;

@@ -27,14 +27,14 @@ loop-row-preserved g c =
     let at = c.loop-row.row-index in
     let text : List ℕ = c.in-Ok-read_tune.text in
     let same = stand_kept g.D.Disk.honest c.args.pages.now c.loop-row.pages c.args.work.now inv.looked.same in
-    let added : (tunes : List (ℕ × List ℕ)) → GathersIncipits tunes c.loop-row.runs
+    let added : (tunes : List (ℕ × List ℕ)) → GathersIncipits tunes c.loop-row.run
     → GathersIncipits (tunes ++ ((get_or rows at some_row).number, text) ∷ []) c.add.new.self =
     not_refused c.add.result _ (sym c.is_err.ensures.value ∙ c.if-is_err.false) c.add.ensures in
     record {
       looked = looked_more g.D.Disk.honest g.D.Disk.failures g.D.Disk.state text c.args.pages.now c.loop-row.pages c.read_tune.new.pages inv.looked call.looks;
       fits = call.fits;
       gathers = gathers_more (HonestAt g.D.Disk.honest c.loop-row.pages.disk) (HonestAt g.D.Disk.honest c.read_tune.new.pages.disk) c.args.layout
-          (stand c.args.pages.now c.args.work.now) (stand c.loop-row.pages c.args.work.now) rows at c.loop-row.runs c.add.new.self text
+          (stand c.args.pages.now c.args.work.now) (stand c.loop-row.pages c.args.work.now) rows at c.loop-row.run c.add.new.self text
           call.looks.was_honest same.same c.loop-row-test.true inv.gathers call.text added;
     }
 
@@ -43,13 +43,13 @@ returns-clause-some g c =
     let so = c.loop-row.invariant.gathers in (
       so.texts,
       texts_ordered (HonestAt g.D.Disk.honest c.loop-row.pages.disk) c.args.layout (stand c.args.pages.now c.args.work.now) c.args.rows.now
-          c.loop-row.row-index c.loop-row.runs c.in_order.result c.loop-row-test.false c.requires.rows so c.in_order.ensures,
+          c.loop-row.row-index c.loop-row.run c.in_order.result c.loop-row-test.false c.requires.rows so c.in_order.ensures,
     )
 
-pub returns-clause-runs : goal.returns-clause-runs
-returns-clause-runs g c =
+pub returns-clause-run : goal.returns-clause-run
+returns-clause-run g c =
     tunes_ordered (HonestAt g.D.Disk.honest c.loop-row.pages.disk) c.args.layout (stand c.args.pages.now c.args.work.now) c.args.rows.now
-    c.loop-row.row-index c.loop-row.runs c.in_order.result c.loop-row-test.false c.requires.rows c.loop-row.invariant.gathers c.in_order.ensures
+    c.loop-row.row-index c.loop-row.run c.in_order.result c.loop-row-test.false c.requires.rows c.loop-row.invariant.gathers c.in_order.ensures
 
 pub returns-clause-stand : goal.returns-clause-stand
 returns-clause-stand g c = stand_kept g.D.Disk.honest c.args.pages.now c.loop-row.pages c.args.work.now c.loop-row.invariant.looked.same

@@ -8,5 +8,5 @@ abbrev pub invariant-loop-row : goal.invariant-loop-row
 invariant-loop-row g l = record {
   looked : Looked g.D.Disk.honest g.D.Disk.failures g.D.Disk.state l.fn.pages l.pages;
   fits : Fits l.pages l.work;
-  gathers : GathersTo (HonestAt g.D.Disk.honest l.pages.disk) l.layout (stand l.fn.pages l.work) l.rows l.row-index l.runs;
+  gathers : GathersTo (HonestAt g.D.Disk.honest l.pages.disk) l.layout (stand l.fn.pages l.work) l.rows l.row-index l.run;
 }

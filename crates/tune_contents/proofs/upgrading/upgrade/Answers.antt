@@ -21,28 +21,28 @@ incipits_of-requires-clause-holds g c = λ h.
 pub lengthen-requires-clause-holds : goal.lengthen-requires-clause-holds
 lengthen-requires-clause-holds g c = λ h.
     (let s = stand c.args.pages.now c.args.work.now in
-    let runs = c.in_ok-runs.ensures in
-    let are = subst (λ (r : List Row). AreOfTunes One s r c.in_ok-runs.runs) c.deref-2.ensures.value (runs.runs h) in
-    some_incipits s (stand c.incipits_of.new.pages c.args.work.now) c.args.contents.now c.in_ok-searches.searches c.in_ok-runs.runs c.requires.layout
-    (runs.stand.same h) c.in_ok-searches.ensures.searches are (c.requires.holds (runs.looks.was_honest h)))
+    let run = c.in_ok-incipits.ensures in
+    let are = subst (λ (r : List Row). AreOfTunes One s r c.in_ok-incipits.incipits) c.deref-2.ensures.value (run.run h) in
+    some_incipits s (stand c.incipits_of.new.pages c.args.work.now) c.args.contents.now c.in_ok-searches.searches c.in_ok-incipits.incipits c.requires.layout
+    (run.stand.same h) c.in_ok-searches.ensures.searches are (c.requires.holds (run.looks.was_honest h)))
 
 pub returns-in_err-lengthen-clause-takes : goal.returns-in_err-lengthen-clause-takes
 returns-in_err-lengthen-clause-takes g c = λ h state holds is.
     (let p = err_from_is_err_and c.from_residual-in_err-lengthen.result c.from_residual-in_err-lengthen.ensures.1 in
     let s = stand c.args.pages.now c.args.work.now in
-    let runs = c.in_ok-runs.ensures in
+    let run = c.in_ok-incipits.ensures in
     let back = c.in_err-lengthen.ensures.looks.was_honest h in
-    let are = subst (λ (r : List Row). AreOfTunes One s r c.in_ok-runs.runs) c.deref-2.ensures.value (runs.runs back) in
+    let are = subst (λ (r : List Row). AreOfTunes One s r c.in_ok-incipits.incipits) c.deref-2.ensures.value (run.run back) in
     let takes = upgrade_takes {T = ℕ} (Err c.in_err-lengthen.field-0.0) s (stand c.incipits_of.new.pages c.args.work.now)
-    (stand c.lengthen.new.pages c.lengthen.new.work) c.args.contents.now c.in_ok-searches.searches c.in_ok-runs.runs c.requires.layout
-    (runs.stand.same back) c.in_ok-searches.ensures.searches are (c.in_err-lengthen.ensures.takes h) state holds is in
+    (stand c.lengthen.new.pages c.lengthen.new.work) c.args.contents.now c.in_ok-searches.searches c.in_ok-incipits.incipits c.requires.layout
+    (run.stand.same back) c.in_ok-searches.ensures.searches are (c.in_err-lengthen.ensures.takes h) state holds is in
     rw (p.1, p.2) takes)
 
 pub returns-in_err-lay_root-clause-looks : goal.returns-in_err-lay_root-clause-looks
 returns-in_err-lay_root-clause-looks g c =
     let p = err_from_is_err_and c.from_residual-in_err-lay_root.result c.from_residual-in_err-lay_root.ensures.1 in
     let two = look_next g.D.Disk.honest g.D.Disk.failures g.D.Disk.state _ _ c.args.pages.now c.incipits_of.new.pages c.lengthen.new.pages
-    c.in_ok-runs.ensures.looks c.in_ok-lengthen.ensures.looks in
+    c.in_ok-incipits.ensures.looks c.in_ok-lengthen.ensures.looks in
     rw (p.1, p.2) (look_fails g.D.Disk.honest g.D.Disk.failures g.D.Disk.state _ _ c.args.pages.now c.lengthen.new.pages c.lay_root.new.pages two
     c.in_err-lay_root.ensures.looks)
 
@@ -65,12 +65,12 @@ returns-clause-lays g c = λ h.
       sets = c.in-Ok.sets;
       firsts = record { numbers = old.firsts.numbers; searches = c.in_ok-lengthen.field-0; sets = old.firsts.sets };
     } in
-    let runs = c.in_ok-runs.ensures in
+    let run = c.in_ok-incipits.ensures in
     let longer = c.in_ok-lengthen.ensures in
     let h2 = c.in_ok-lay_root.ensures.looks.was_honest h in
     let h1 = longer.looks.was_honest h2 in
-    let are = subst (λ (r : List Row). AreOfTunes One s r c.in_ok-runs.runs) c.deref-2.ensures.value (runs.runs h1) in
-    let lengthens = subst (λ (t : Stand). LengthensTexts t mid c.in_ok-searches.searches c.lengthen.new.searches c.in_ok-runs.runs) (runs.stand.same h1)
+    let are = subst (λ (r : List Row). AreOfTunes One s r c.in_ok-incipits.incipits) c.deref-2.ensures.value (run.run h1) in
+    let lengthens = subst (λ (t : Stand). LengthensTexts t mid c.in_ok-searches.searches c.lengthen.new.searches c.in_ok-incipits.incipits) (run.stand.same h1)
     (longer.lays h2) in
     let kept : IsUpgraded old left = record {
       layout = refl;
@@ -83,19 +83,19 @@ returns-clause-lays g c = λ h.
       first_searches = longer.firsts;
       first_sets = refl;
     } in
-    upgraded s mid (stand c.lay_root.new.pages c.lay_root.new.work) old left c.in_ok-searches.searches c.in_ok-runs.runs c.requires.layout
+    upgraded s mid (stand c.lay_root.new.pages c.lay_root.new.work) old left c.in_ok-searches.searches c.in_ok-incipits.incipits c.requires.layout
     c.in_ok-searches.ensures.searches are lengthens (c.in_ok-lay_root.ensures.root h) kept)
 
 pub returns-clause-takes : goal.returns-clause-takes
 returns-clause-takes g c = λ h state holds is.
     (let s = stand c.args.pages.now c.args.work.now in
-    let runs = c.in_ok-runs.ensures in
+    let run = c.in_ok-incipits.ensures in
     let longer = c.in_ok-lengthen.ensures in
     let h2 = c.in_ok-lay_root.ensures.looks.was_honest h in
     let h1 = longer.looks.was_honest h2 in
-    let are = subst (λ (r : List Row). AreOfTunes One s r c.in_ok-runs.runs) c.deref-2.ensures.value (runs.runs h1) in
+    let are = subst (λ (r : List Row). AreOfTunes One s r c.in_ok-incipits.incipits) c.deref-2.ensures.value (run.run h1) in
     let first = upgrade_takes {T = ℕ} (Ok 0) s (stand c.incipits_of.new.pages c.args.work.now) (stand c.lengthen.new.pages c.lengthen.new.work)
-    c.args.contents.now c.in_ok-searches.searches c.in_ok-runs.runs c.requires.layout (runs.stand.same h1) c.in_ok-searches.ensures.searches are
+    c.args.contents.now c.in_ok-searches.searches c.in_ok-incipits.incipits c.requires.layout (run.stand.same h1) c.in_ok-searches.ensures.searches are
     (longer.takes h2) state holds is in
     let second = c.in_ok-lay_root.ensures.takes h in
     omega (arith, first, second))

@@ -24,7 +24,7 @@ pub loop-rest-preserved : goal.loop-rest-preserved
 loop-rest-preserved g c =
     let i = c.loop-rest.invariant in
     let e = c.in-Ok.ensures in
-    let more : 0 < c.loop-rest.rest = c.loop-rest-test.true in
+    let more : 0 < c.loop-rest.rest = (let test = c.loop-rest-test.true in omega (arith, test)) in
     let was = c.loop-rest.index in
     let is = c.drop_leaf.new.index in
     let place = c.loop-rest.rest - 1 in
@@ -48,7 +48,7 @@ loop-rest-preserved g c =
 pub returns-then-page-eq0-clause-all : goal.returns-then-page-eq0-clause-all
 returns-then-page-eq0-clause-all g c = λ has.
     let i = c.loop-rest.invariant in
-    let more : 0 < c.loop-rest.rest = c.loop-rest-test.true in
+    let more : 0 < c.loop-rest.rest = (let test = c.loop-rest-test.true in omega (arith, test)) in
     let all = stand c.args.pages.now c.loop-rest.work in
     let pages = c.loop-rest.index.pages in
     let place = c.loop-rest.rest - 1 in

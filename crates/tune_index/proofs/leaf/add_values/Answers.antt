@@ -31,7 +31,7 @@ returns-then-is_before g c = λ up fit.
     let past = c.is_before.ensures.0 c.if-is_before.true in
     c.loop-place.invariant up fit
     ∙ ap (λ (x : List ℕ). c.args.values.now.items ++ x)
-      (all_until g.row.W low high i es e up fit (omega (arith, n, c.loop-place-test.true)) is (omega (arith, past)))
+    (all_until g.row.W low high i es e up fit (omega (arith, n, c.loop-place-test.true)) is (omega (arith, past)))
 
 pub loop-place-preserved : goal.loop-place-preserved
 loop-place-preserved g c = λ up fit.
