@@ -5,6 +5,7 @@ ghost use Rattle.clap.specs.Words.{app_of};
 ghost use Rattle.clap.specs.declared.builder.command.Command.TheViews.{out-Command};
 ghost use Rattle.tune_cli.specs.CommandLine.{tunes_app, file_app, subcommand_in, name_of};
 ghost use Rattle.tune_cli.specs.CommandLine.{file_in, file_of, IsOutOfMemory};
+ghost use Rattle.tune_scripts.specs.Streams.{streams_of};
 ghost use Rattle.tune_cli.specs.Inside.Subcommands.{IsSubcommand};
 ghost use Rattle.tune_cli.specs.Acts.{Acts, ListsScript};
 ghost use Rattle.tune_cli.specs.ProgramLines.{status_of};
@@ -18,7 +19,6 @@ use clap::{Arg, Command};
 use std::alloc::{AllocError, Global};
 use std::io;
 use std::io::{BufRead, Write};
-use tune_archive::{Archive, TuneStore};
 use tune_disk::{Disk, Drive};
 use tune_scripts::{RunEnd, run};
 use tune_store::ListArchive;
@@ -144,9 +144,9 @@ pub fn act<R: BufRead, W: Write, D: Disk, T: AllocGlobal + Drive<Disk = D>>(
     reader: &mut R,
     writer: &mut W,
 ) -> u8
-    ensures { Acts T.opened T.created T.closed ⟦<Archive<D> as TuneStore>⟧
-        D.honest D.failures D.state action.now (R.remaining reader.old) (R.remaining reader.new)
-        (W.contents writer.old) (W.contents writer.new) result }
+    ensures { Acts T.Drive D.Disk action.now
+        (streams_of (R.remaining reader.old) (R.remaining reader.new)
+        (W.contents writer.old) (W.contents writer.new)) result }
 {
     match action {
         Action::List => list(rt.alloc(), reader, writer),
@@ -159,8 +159,8 @@ pub fn act<R: BufRead, W: Write, D: Disk, T: AllocGlobal + Drive<Disk = D>>(
 
 // Runs the script of the reader on an empty archive in memory.
 fn list<R: BufRead, W: Write>(alloc: Global, reader: &mut R, writer: &mut W) -> u8
-    ensures { ListsScript (R.remaining reader.old) (R.remaining reader.new)
-        (W.contents writer.old) (W.contents writer.new) result }
+    ensures { ListsScript (streams_of (R.remaining reader.old) (R.remaining reader.new)
+        (W.contents writer.old) (W.contents writer.new)) result }
 {
     let mut archive = ListArchive::new(alloc);
     let end = run(alloc, reader, writer, &mut archive);
