@@ -15,8 +15,14 @@ fails:
   does not need. The column *edits* has how many must-fail edits stand
   in the crates whose calls carry the promise; where a call is one of a trait, the crates that meet
   the trait are among them. `--write` writes the numbers into the page.
+- A definition, a record or a relation of specs/ has at most six arguments by place: what it says
+  of more things it says of a record of them. Arguments in braces do not count, those of a module
+  around it do; lemmas are no definitions. checks/data/arguments.txt has those that are known to
+  have more: how many, the name and its file. The list may only get shorter, and its numbers only
+  smaller.
 
-`--ways CRATE` prints from where each definition of a crate is reached.
+`--ways CRATE` prints from where each definition of a crate is reached. `--arguments` prints what
+the list of known ones would have today.
 """
 import glob
 import os
@@ -30,6 +36,10 @@ USE_MODULE = re.compile(r"use\s+(Rattle\.[\w.]+?)(?:\s+as\s+(\w+))?;?\s*$", re.M
 DEFINITION = re.compile(r"^\s{0,4}(?:(?:abbrev|unfoldable|pub|record|data)\s+)+([^\s:{}()]+)")
 FIELD = re.compile(r"^\s+pub \S+ :")
 WORD = re.compile(r"[^\s(){}\[\],;:`\"→λ]+")
+HEAD = re.compile(r"^(\s*)((?:(?:abbrev|unfoldable|pub|record|data|module) +)*)"
+                  r"([^\s:{}()]+)((?:\s|$).*)")
+MOST_ARGUMENTS = 6
+KNOWN_LONG = "checks/data/arguments.txt"
 PROOFS = "docs/PROOFS.md"
 CALL = re.compile(r"\[`([\w:]+)`\]\(([^()\s]+\.rt)\)((?:,?(?: and)? `\w+`)*)")
 READ = re.compile(r"\[`(\w+)`\]\(([^()\s]+\.antt)\)")
@@ -289,5 +299,104 @@ def write_row(old, new):
     open(PROOFS, "w", encoding="utf-8").write(page)
 
 
-failed = missed_files() + wrong_counts()
+# ARGUMENTS BY PLACE
+
+def parts(text, mark):
+    """A text cut at each mark that stands in no bracket."""
+    found, depth = [""], 0
+    for letter in text:
+        depth += (letter in "({[") - (letter in ")}]")
+        if letter == mark and depth == 0:
+            found.append("")
+        else:
+            found[-1] += letter
+    return found
+
+
+def bound(text):
+    """How many names the binders `(a b : T) (c : U)` of a text bind; none of those in braces."""
+    groups = [part.strip() for part in text.replace(")", "),").replace("}", "},").split(",")]
+    whole, count = "", 0
+    for group in groups:
+        whole = f"{whole} {group}".strip()
+        if whole and whole.count("(") + whole.count("{") == whole.count(")") + whole.count("}"):
+            inner = parts(whole[1:-1], ":")
+            count += len(inner[0].split()) if whole[0] == "(" and len(inner) > 1 else 0
+            whole = ""
+    return count
+
+
+def arguments(head):
+    """How many arguments by place a head takes: its name's binders, and what its type takes."""
+    binders, *of_type = parts(head, ":")
+    taken = parts(":".join(of_type), "→")[:-1]
+    named = [bound(part) for part in taken]
+    return bound(binders) + sum(
+        count or not part.strip().startswith("{") for count, part in zip(named, taken))
+
+
+def heads(path):
+    """The name of each definition of a file, its head, and that of the modules around it."""
+    around = []
+    lines = without_comments(open(path, encoding="utf-8").read(), "--").split("\n")
+    for number, line in enumerate(lines):
+        start = HEAD.match(line)
+        if start is None:
+            continue
+        depth = len(start.group(1))
+        head = start.group(4)
+        for more in lines[number + 1:]:
+            if re.search(r"\bwhere\b", head) or len(more) - len(more.lstrip()) <= depth:
+                break
+            head += " " + more.strip()
+        head = re.split(r"\bwhere\b", head)[0]
+        around = [(at, other) for at, other in around if at < depth]
+        if "module" in start.group(2):
+            around.append((depth, head))
+        elif re.search("abbrev|unfoldable|record|data", start.group(2)):
+            yield start.group(3), head, [other for _, other in around]
+
+
+def long_definitions():
+    """How many arguments by place each definition has that has too many, by name and file."""
+    found = {}
+    for module in MODULES.values():
+        for name, head, around in heads(module.path):
+            count = arguments(head) + sum(bound(other) for other in around)
+            if count > MOST_ARGUMENTS:
+                found[name, module.path[len("crates/"):]] = count
+    return found
+
+
+def known_long():
+    """What the list of known ones has, in the same form."""
+    listed = {}
+    for line in open(KNOWN_LONG, encoding="utf-8").read().split("\n"):
+        if line and not line.startswith("#"):
+            count, name, path = line.split()
+            listed[name, path] = int(count)
+    return listed
+
+
+def wrong_arguments():
+    """Prints each definition with more arguments by place than are known, and each line of the
+    list that says more than there is, and counts them.
+    """
+    found, listed, wrong = long_definitions(), known_long(), 0
+    for name, path in sorted(found.keys() | listed.keys()):
+        count, told = found.get((name, path), 0), listed.get((name, path), 0)
+        if count > told:
+            print(f"crates/{path}: {name} has {count} arguments by place")
+        elif count < told:
+            print(f"{KNOWN_LONG}: {name} has {count or 'no'} arguments too many, and not {told}")
+        wrong += count != told
+    print(f"{len(listed)} definitions have more than {MOST_ARGUMENTS} arguments, as is known")
+    return wrong
+
+
+if "--arguments" in sys.argv:
+    for key, amount in sorted(long_definitions().items()):
+        print(amount, *key)
+    sys.exit(0)
+failed = missed_files() + wrong_counts() + wrong_arguments()
 sys.exit(1 if failed else 0)

@@ -7,7 +7,7 @@ use Rattle.tune_store.specs.Answers.{Answers, open_at, closed_at}
 use Rattle.tune_store.specs.declared.command.Command.{Command}
 use Rattle.tune_store.specs.declared.command.Reply.{Reply}
 use Rattle.tune_store.specs.declared.command.Refusal.TheVariants.{Device}
-use Rattle.tune_store.specs.StoreStops.{Among, Passes}
+use Rattle.tune_store.specs.StoreStops.{Among, Passes, tellings}
 use Rattle.tune_store.proofs.StepLemmas.{answers_reach}
 use Rattle.tune_archive.specs.Media.{moment_of, LeftFrom}
 use Rattle.tune_archive.proofs.Called.{failed}
@@ -59,7 +59,8 @@ marks_sync result old mid new marks may syncs = record {
 pub passes_marks : {S : Type 0} (honest : S → Type 0) (disk : S → DiskState) (state : S → State) (old new : S) (states : List State)
     → (honest new → honest old) → (honest new → LeavesMarks (disk old) (disk new)) → (honest new → Among (state new) (state old ∷ states))
     → (IsState (state old) → IsState (state new))
-    → Passes honest (λ s. IsMarked (honest s) (disk s) (state s)) state (λ s. moment_of (disk s)) (λ s. LeftFrom (disk s)) IsMark old new states
+    → Passes
+    (tellings honest (λ s. IsMarked (honest s) (disk s) (state s)) state (λ s. moment_of (disk s)) (λ s. LeftFrom (disk s)) IsMark) old new states
 passes_marks honest disk state old new states was marks among limits =
     passes_on_disk honest (λ s. IsMarked (honest s) (disk s) (state s)) state disk IsMark old new states (StaysMark (disk old)) among was
     (λ sound. record { mark = λ h. (marks h).now (sound.mark (was h)); within = limits sound.within })

@@ -12,7 +12,7 @@ use Rattle.tune_store.specs.TuneSteps.{Outcome}
 use Rattle.tune_store.specs.Plans.{changed, after, Decides, EndsFetch}
 use Rattle.tune_store.specs.Answers.{Answers, open_at, closed_at, stepped, no_memory, failed_before, failed_after, is_closed, passed}
 use Rattle.tune_store.specs.Answers.{asks, may_write}
-use Rattle.tune_store.specs.StoreStops.{Passes, StandsForOne}
+use Rattle.tune_store.specs.StoreStops.{Passes, StandsForOne, tellings}
 use Rattle.tune_store.specs.declared.plans.Change.{Change}
 use Rattle.tune_store.specs.declared.plans.Plan.{Plan}
 use Rattle.tune_store.specs.declared.command.Command.{Command}
@@ -29,6 +29,7 @@ use Rattle.tune_archive.specs.Inside.Fetching.{Tells, Fetches, FailsFetch}
 use Rattle.tune_archive.specs.Inside.Holding.{IsShelf}
 use Rattle.tune_archive.proofs.FetchLemmas.{labels_held}
 use Rattle.tune_archive.proofs.DiskMoments.{passes_on_disk}
+use Rattle.tune_archive.proofs.MadeChanges.{disks_of}
 
 -- ANSWERS
 -- a closed store answers so
@@ -131,8 +132,9 @@ module _ {D : Type 0} (honest : D → Type 0) (failures : D → ℕ) (state : D 
 
   -- it passes the states of its answer
   pub passes : (old new : Shelf D) (command : Command) (answer : Result Reply Refusal) → Ended old new command answer → Holds new
-      → Passes {S = Shelf D} (λ archive. HonestAt honest archive.pages.disk) (IsSound honest state) (state_of state)
-      (λ archive. moment_of (state_at state archive.pages.disk)) (λ archive. LeftFrom (state_at state archive.pages.disk)) StandsForState old new
+      → Passes {S = Shelf D}
+      (tellings (λ archive. HonestAt honest archive.pages.disk) (IsSound honest state) (state_of state)
+      (λ archive. moment_of (state_at state archive.pages.disk)) (λ archive. LeftFrom (state_at state archive.pages.disk)) StandsForState) old new
       (passed (state_of state old) command answer)
   passes old new command answer ended holds =
       passes_on_disk _ _ _ _ _ _ _ _ _ (λ h. answers_reach _ _ _ _ (ended.answers h)) ended.was_honest
@@ -242,7 +244,7 @@ module _ {D : Type 0} (honest : D → Type 0) (failures : D → ℕ) (state : D 
       → asks command ≡ false → (HonestAt honest mid.pages.disk → (step (state_of state old) command).0 ≢ state_of state old)
       → Fetches honest failures state old mid
       → (HonestAt honest mid.pages.disk → step (state_of state old) command ≡ (changed change (state_of state old), Ok reply))
-      → MakesChange honest failures state (Ok tt) mid new change → Ended old new command (Ok reply)
+      → MakesChange (disks_of honest failures state) (Ok tt) mid new change → Ended old new command (Ok reply)
   ended_changed old mid new command change reply e changes differs fetches steps makes = record {
     was_honest = λ h. fetches.was_honest (makes.was_honest h);
     answers = λ h.
@@ -263,7 +265,7 @@ module _ {D : Type 0} (honest : D → Type 0) (failures : D → ℕ) (state : D 
       → asks command ≡ false → (HonestAt honest mid.pages.disk → (step (state_of state old) command).0 ≢ state_of state old)
       → Fetches honest failures state old mid
       → (HonestAt honest mid.pages.disk → step (state_of state old) command ≡ (changed change (state_of state old), Ok reply))
-      → MakesChange honest failures state (Err why) mid new change → Ended old new command (Err why)
+      → MakesChange (disks_of honest failures state) (Err why) mid new change → Ended old new command (Err why)
   ended_unmade old mid new command change reply why e changes differs fetches steps makes = elim makes.made [
     | inl spares ↦
         (let disk : HonestAt honest new.pages.disk → state_at state new.pages.disk ≡ state_at state old.pages.disk =

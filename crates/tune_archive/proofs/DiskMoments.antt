@@ -3,7 +3,7 @@ use Rattle.std.proofs.Common.{◌≡◌, ◌⊎◌, inl, inr, ℕ, ◌≤◌, Li
 use Rattle.tune_disk.specs.Disk.{Medium, DiskState}
 use Rattle.tune_disk.specs.Stops.{SinceThen, LeavesOnly, EachLeavesOnly}
 use Rattle.tune_store.specs.State.{State}
-use Rattle.tune_store.specs.StoreStops.{Among, Passes, StandsForOne}
+use Rattle.tune_store.specs.StoreStops.{Among, Passes, StandsForOne, tellings}
 use Rattle.tune_archive.specs.Media.{moment_of, LeftFrom}
 use Rattle.tune_archive.specs.Inside.Media.{left_now}
 
@@ -53,7 +53,7 @@ pub passes_on_disk : {S : Type 0} (honest sound : S → Type 0) (state : S → S
     (old new : S) (states : List State) (P : List ℕ → Type 0) → (honest new → Among (state new) (state old ∷ states)) → (honest new → honest old)
     → (sound old → sound new) → (honest new → (disk new ≡ disk old) ⊎ SinceThen (disk old) (disk new) P)
     → (sound old → honest new → (file : List ℕ) → P file → StandsForOne stands_for (state old ∷ states) file)
-    → Passes honest sound state (λ s. moment_of (disk s)) (λ s. LeftFrom (disk s)) stands_for old new states
+    → Passes (tellings honest sound state (λ s. moment_of (disk s)) (λ s. LeftFrom (disk s)) stands_for) old new states
 passes_on_disk honest sound state disk stands_for old new states P reaches was stays moves stands = record {
   reaches = reaches;
   was_honest = was;

@@ -2,6 +2,7 @@
 use Rattle.std.proofs.Common.{◌≡◌, ◌≢◌, ◌⊎◌, inl, inr, ℕ, ◌≤◌, List, Bool, true, false, length, refl, sym, ◌∙◌, ap, subst, arith, Option, Some, None, Ok, Err}
 use Rattle.tune_disk.specs.Disk.{DiskState, MayLeave, CountsUp}
 use Rattle.tune_disk.specs.Stops.{LeavesOnly, SinceThen}
+use Rattle.tune_disk.specs.declared.disk.Disk as disk
 use Rattle.tune_disk.proofs.Moments.{since_same, since_now, since_weaker}
 use Rattle.tune_journal.specs.Image.{StandsFor, StandsForEither}
 use Rattle.tune_pages.specs.Kept.{Kept, HonestAt, state_at}
@@ -25,6 +26,10 @@ use Rattle.tune_archive.specs.Inside.Changing.{CallsWhere, PassesChange, PassesL
 use Rattle.tune_archive.specs.Inside.Changing.{IsUnmadeChange, MakesChange, refusal_of, closes}
 use Rattle.tune_archive.specs.Inside.Holding.{stand_of, HoldsState, IsShelf}
 use Rattle.tune_archive.proofs.MorePages.{no_fewer}
+
+-- what a disk tells, as the one value that definitions take
+abbrev pub disks_of : {D : Type 0} → (D → Type 0) → (D → ℕ) → (D → DiskState) → disk.Ghosts D
+disks_of honest failures state = record { state = state; failures = failures; honest = honest }
 
 -- a count that rises tells of a failure
 pub has_failed : (old new : ℕ) → CountsUp old new → HasFailed old new
@@ -176,7 +181,7 @@ module _ {D : Type 0} (honest : D → Type 0) (failures : D → ℕ) (state : D 
           (laid h));
     }
 
-    made_here : new.closed ≡ false → MakesChange honest failures state (Ok tt) old new change
+    made_here : new.closed ≡ false → MakesChange (disks_of honest failures state) (Ok tt) old new change
     made_here still = record {
       was_honest = calls.was_honest;
       moments = λ h. passes_now h (calls.was_honest h);
@@ -188,8 +193,8 @@ module _ {D : Type 0} (honest : D → Type 0) (failures : D → ℕ) (state : D 
       );
     }
 
-    pub made : new.closed ≡ old.closed → MakesChange honest failures state (Ok tt) whole new change
-    made still = subst (λ (s : Shelf D). MakesChange honest failures state (Ok tt) s new change) same (made_here (still ∙ is_open))
+    pub made : new.closed ≡ old.closed → MakesChange (disks_of honest failures state) (Ok tt) whole new change
+    made still = subst (λ (s : Shelf D). MakesChange (disks_of honest failures state) (Ok tt) s new change) same (made_here (still ∙ is_open))
 
   -- what was refused
   module _ (fault : Fault) (calls : CallsWhere {T = Contents} honest failures (Err fault) old.pages.disk new.pages.disk)
@@ -215,7 +220,7 @@ module _ {D : Type 0} (honest : D → Type 0) (failures : D → ℕ) (state : D 
 
     why_unmade : (fault : Fault) → CallsWhere {T = Contents} honest failures (Err fault) old.pages.disk new.pages.disk
         → new.closed ≡ closes fault → IsLayFault fault new.pages.closed → (fault ≢ Device → StaysKept honest state old.pages new.pages)
-        → (HonestAt honest new.pages.disk → fault ≢ FileFull) → IsUnmadeChange honest failures state (refusal_of fault) old new change
+        → (HonestAt honest new.pages.disk → fault ≢ FileFull) → IsUnmadeChange (disks_of honest failures state) (refusal_of fault) old new change
     why_unmade FileFull calls is answer stays never = inr (refl, is, (λ h. absurd (never h refl)), (λ h. absurd (never h refl)))
     why_unmade OutOfMemory calls is answer stays never = inl (refl, is, (stays (λ same. cc)).disk)
     why_unmade Device calls is answer stays never = inr (
@@ -227,13 +232,13 @@ module _ {D : Type 0} (honest : D → Type 0) (failures : D → ℕ) (state : D 
     )
     why_unmade Closed calls is answer stays never = absurd answer
 
-    unmade_here : MakesChange honest failures state (Err (refusal_of fault)) old new change
+    unmade_here : MakesChange (disks_of honest failures state) (Err (refusal_of fault)) old new change
     unmade_here = record {
       was_honest = calls.was_honest;
       moments = λ h. passes_now h (calls.was_honest h);
       made = why_unmade fault calls shuts answer stays never;
     }
 
-    pub unmade : (refusal : Refusal) → refusal ≡ refusal_of fault → MakesChange honest failures state (Err refusal) whole new change
-    unmade refusal is = subst (λ (s : Shelf D). MakesChange honest failures state (Err refusal) s new change) same
-        (subst (λ (r : Refusal). MakesChange honest failures state (Err r) old new change) (sym is) unmade_here)
+    pub unmade : (refusal : Refusal) → refusal ≡ refusal_of fault → MakesChange (disks_of honest failures state) (Err refusal) whole new change
+    unmade refusal is = subst (λ (s : Shelf D). MakesChange (disks_of honest failures state) (Err refusal) s new change) same
+        (subst (λ (r : Refusal). MakesChange (disks_of honest failures state) (Err r) old new change) (sym is) unmade_here)

@@ -1,3 +1,4 @@
+pub mod AsStore
 pub mod Inside
 pub mod Media
 pub mod OpenedArchive

@@ -19,6 +19,7 @@ impl<D: Disk> Archive<D> {
     fn holds(&self)
         ensures { IsShelf D.honest D.state self.now.pages self.now.contents self.now.closed }
     {
+        // For the proof.
         let _closed = self.closed;
     }
 }
@@ -87,10 +88,12 @@ impl<D: Disk> TuneStore for Archive<D> {
             return Err(Refusal::Closed);
         }
         let decided = decide(self.alloc, self, command);
+        // For the proof.
         self.holds();
         let Plan { change, reply } = decided?;
         if let Some(change) = change {
             let made = self.make_change(change);
+            // For the proof.
             self.holds();
             made?;
         }

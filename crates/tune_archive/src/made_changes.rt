@@ -51,7 +51,7 @@ fn give_pages<D: Disk>(pages: &mut Pages<D>, layout: Layout)
     ensures same { (pages.new.disk ≡ pages.old.disk) × (pages.new.pages ≡ pages.old.pages)
         × (pages.new.closed ≡ false) }
 {
-    // Its contract says that there are no more pages than there may be.
+    // For the proof: its contract says that there are no more pages than there may be.
     let _limit = pages.limit();
     pages.set_limit(most_pages(layout));
 }
@@ -88,8 +88,9 @@ fn change_pages<D: Disk>(
     ensures never_full { IfErr result (λ fault.
         HonestAt D.honest pages.new.disk → fault ≢ FileFull) }
 {
+    // For the proof.
     law_of_state_pages();
-    // Its contract says that each page has the bytes of a block.
+    // For the proof: its contract says that each page has the bytes of a block.
     let _limit = pages.limit();
     let mut work = pages.begin()?;
     let left = lay(room, pages, &mut work, contents, change)?;
@@ -107,7 +108,7 @@ impl<D: Disk> Archive<D> {
             (labels_in self.old.contents.rows.items) self.old.contents.sets }
         requires within { HonestAt D.honest self.old.pages.disk
             → IsState (changed change (state_of D.state self.old)) }
-        ensures { MakesChange D.honest D.failures D.state result self.old self.new change }
+        ensures { MakesChange D.Disk result self.old self.new change }
     {
         self.fetched = None;
         match change_pages(&mut self.room, &mut self.pages, &self.contents, change) {

@@ -191,7 +191,7 @@ impl<D: Disk> Archive<D> {
     {
         let limit = most_pages(contents.layout);
         let pages = opening.done(limit)?;
-        // Its contract says that there is a mark for each page up to the limit.
+        // For the proof: its contract says that there is a mark for each page up to the limit.
         let _marks = pages.limit();
         Ok(Archive::over(alloc, pages, contents))
     }

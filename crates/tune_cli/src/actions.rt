@@ -1,5 +1,6 @@
 // What the program does for its words.
 ghost use Rattle.std.specs.Prelude.{◌≡◌, [], Some, IfOk, IfErr, IfSome, map, string_bytes};
+ghost use Rattle.tune_scripts.specs.Streams.{streams_of};
 ghost use Rattle.tune_cli.specs.Acts.{Acts, ListsScript};
 ghost use Rattle.tune_cli.specs.CommandLine.{subcommand_in, name_of, file_in, file_of};
 ghost use Rattle.tune_cli.specs.CommandLine.{faults_in, FaultFits};
@@ -9,7 +10,6 @@ use crate::command_line::{Action, WordsFault, asked, command_line};
 use crate::file_actions::{check, make, run_file, upgrade};
 use std::alloc::Global;
 use std::io::{BufRead, Write};
-use tune_archive::{Archive, TuneStore};
 use tune_disk::{Disk, Drive};
 use tune_scripts::{RunEnd, run};
 use tune_store::ListArchive;
@@ -52,9 +52,9 @@ pub fn act<R: BufRead, W: Write, D: Disk, T: AllocGlobal + Drive<Disk = D>>(
     reader: &mut R,
     writer: &mut W,
 ) -> u8
-    ensures { Acts T.opened T.created T.closed ⟦<Archive<D> as TuneStore>⟧
-        D.honest D.failures D.state action.now (R.remaining reader.old) (R.remaining reader.new)
-        (W.contents writer.old) (W.contents writer.new) result }
+    ensures { Acts T.Drive D.Disk action.now
+        (streams_of (R.remaining reader.old) (R.remaining reader.new)
+        (W.contents writer.old) (W.contents writer.new)) result }
 {
     match action {
         Action::List => list(rt.alloc(), reader, writer),
@@ -67,8 +67,8 @@ pub fn act<R: BufRead, W: Write, D: Disk, T: AllocGlobal + Drive<Disk = D>>(
 
 // Runs the script of the reader on an empty archive in memory.
 fn list<R: BufRead, W: Write>(alloc: Global, reader: &mut R, writer: &mut W) -> u8
-    ensures { ListsScript (R.remaining reader.old) (R.remaining reader.new)
-        (W.contents writer.old) (W.contents writer.new) result }
+    ensures { ListsScript (streams_of (R.remaining reader.old) (R.remaining reader.new)
+        (W.contents writer.old) (W.contents writer.new)) result }
 {
     let mut archive = ListArchive::new(alloc);
     let end = run(alloc, reader, writer, &mut archive);

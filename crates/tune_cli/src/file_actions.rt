@@ -5,6 +5,7 @@ ghost use Rattle.tune_pages.specs.Kept.{HonestAt};
 ghost use Rattle.tune_archive.specs.Shelf.{state_of};
 ghost use Rattle.tune_cli.specs.Acts.{OnFile};
 ghost use Rattle.tune_scripts.specs.Replies.{answer_bytes};
+ghost use Rattle.tune_scripts.specs.Streams.{output_of, streams_of};
 ghost use Rattle.tune_cli.specs.FileActs.{Makes, Checks, RunsOn, Upgrades};
 ghost use Rattle.tune_cli.specs.ProgramLines.{WritesLine, reason_bytes, line_of, status_of_opening};
 ghost use Rattle.tune_cli.specs.ProgramLines.{counts_bytes, status_of_answer};
@@ -41,8 +42,8 @@ pub struct Done<D: Disk> {
 /// archive or an empty one.
 pub fn make_on<W: Write, D: Disk>(alloc: Global, writer: &mut W, disk: D) -> Done<D>
     ensures honest { D.honest result.disk → D.honest disk }
-    ensures makes { Makes D.honest D.failures D.state
-        (W.contents writer.old) (W.contents writer.new) disk result.disk result.status }
+    ensures makes { Makes D.Disk
+        (output_of (W.contents writer.old) (W.contents writer.new)) disk result }
 {
     match Archive::make(alloc, disk) {
         Ok(archive) => {
@@ -61,8 +62,8 @@ pub fn make_on<W: Write, D: Disk>(alloc: Global, writer: &mut W, disk: D) -> Don
 /// status is 0; 3 where no archive stands there; and else 1.
 pub fn check_on<W: Write, D: Disk>(alloc: Global, writer: &mut W, disk: D) -> Done<D>
     ensures honest { D.honest result.disk → D.honest disk }
-    ensures checks { Checks D.honest D.failures D.state
-        (W.contents writer.old) (W.contents writer.new) disk result.disk result.status }
+    ensures checks { Checks D.Disk
+        (output_of (W.contents writer.old) (W.contents writer.new)) disk result }
 {
     match Archive::open(alloc, disk) {
         Ok(archive) => {
@@ -83,6 +84,9 @@ pub fn check_on<W: Write, D: Disk>(alloc: Global, writer: &mut W, disk: D) -> Do
 /// This is what the archive is for: each reply is that of a plain list of tunes and set lists, and
 /// a stop (a crash or power loss) at any moment of the call leaves the state after a prefix of the
 /// commands, which holds every command that was answered by then.
+///
+/// The clause `runs` speaks of disks by what these tell (`D.Disk`), of what the reader and the
+/// writer tell before and after the call, of the disk that was given, and of the result.
 pub fn run_on<R: BufRead, W: Write, D: Disk>(
     alloc: Global,
     reader: &mut R,
@@ -90,9 +94,9 @@ pub fn run_on<R: BufRead, W: Write, D: Disk>(
     disk: D,
 ) -> Done<D>
     ensures honest { D.honest result.disk → D.honest disk }
-    ensures runs { RunsOn ⟦<Archive<D> as TuneStore>⟧ D.honest D.failures D.state
-        (R.remaining reader.old) (R.remaining reader.new)
-        (W.contents writer.old) (W.contents writer.new) disk result.disk result.status }
+    ensures runs { RunsOn D.Disk
+        (streams_of (R.remaining reader.old) (R.remaining reader.new)
+        (W.contents writer.old) (W.contents writer.new)) disk result }
 {
     match Archive::open(alloc, disk) {
         Ok(mut archive) => {
@@ -117,8 +121,8 @@ pub fn run_on<R: BufRead, W: Write, D: Disk>(
 /// in layout 2. An archive of layout 2 is not written to.
 pub fn upgrade_on<W: Write, D: Disk>(alloc: Global, writer: &mut W, disk: D) -> Done<D>
     ensures honest { D.honest result.disk → D.honest disk }
-    ensures upgrades { Upgrades ⟦<Archive<D> as TuneStore>⟧ D.honest D.failures D.state
-        (W.contents writer.old) (W.contents writer.new) disk result.disk result.status }
+    ensures upgrades { Upgrades D.Disk
+        (output_of (W.contents writer.old) (W.contents writer.new)) disk result }
 {
     match Archive::open(alloc, disk) {
         Ok(mut opened) => {
@@ -140,9 +144,8 @@ pub(crate) fn make<W: Write, D: Disk, T: AllocGlobal + Drive<Disk = D>>(
     path: &str,
     writer: &mut W,
 ) -> u8
-    ensures { OnFile T.created T.closed
-        (Makes D.honest D.failures D.state (W.contents writer.old) (W.contents writer.new))
-        path.now (W.contents writer.old) (W.contents writer.new) result }
+    ensures { let output = output_of (W.contents writer.old) (W.contents writer.new) in
+        OnFile T.created T.closed (Makes D.Disk output) path.now output result }
 {
     match rt.create(path) {
         Ok(disk) => {
@@ -160,9 +163,8 @@ pub(crate) fn check<W: Write, D: Disk, T: AllocGlobal + Drive<Disk = D>>(
     path: &str,
     writer: &mut W,
 ) -> u8
-    ensures { OnFile T.opened T.closed
-        (Checks D.honest D.failures D.state (W.contents writer.old) (W.contents writer.new))
-        path.now (W.contents writer.old) (W.contents writer.new) result }
+    ensures { let output = output_of (W.contents writer.old) (W.contents writer.new) in
+        OnFile T.opened T.closed (Checks D.Disk output) path.now output result }
 {
     match rt.open(path) {
         Ok(disk) => {
@@ -180,10 +182,8 @@ pub(crate) fn upgrade<W: Write, D: Disk, T: AllocGlobal + Drive<Disk = D>>(
     path: &str,
     writer: &mut W,
 ) -> u8
-    ensures { OnFile T.opened T.closed
-        (Upgrades ⟦<Archive<D> as TuneStore>⟧ D.honest D.failures D.state
-        (W.contents writer.old) (W.contents writer.new))
-        path.now (W.contents writer.old) (W.contents writer.new) result }
+    ensures { let output = output_of (W.contents writer.old) (W.contents writer.new) in
+        OnFile T.opened T.closed (Upgrades D.Disk output) path.now output result }
 {
     match rt.open(path) {
         Ok(disk) => {
@@ -202,11 +202,9 @@ pub(crate) fn run_file<R: BufRead, W: Write, D: Disk, T: AllocGlobal + Drive<Dis
     reader: &mut R,
     writer: &mut W,
 ) -> u8
-    ensures { OnFile T.opened T.closed
-        (RunsOn ⟦<Archive<D> as TuneStore>⟧ D.honest D.failures D.state
-        (R.remaining reader.old) (R.remaining reader.new)
-        (W.contents writer.old) (W.contents writer.new))
-        path.now (W.contents writer.old) (W.contents writer.new) result }
+    ensures { let streams = streams_of (R.remaining reader.old) (R.remaining reader.new)
+        (W.contents writer.old) (W.contents writer.new) in
+        OnFile T.opened T.closed (RunsOn D.Disk streams) path.now streams.output result }
 {
     match rt.open(path) {
         Ok(disk) => {

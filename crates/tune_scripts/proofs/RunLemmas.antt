@@ -12,6 +12,7 @@ use Rattle.tune_scripts.specs.Carried.{Carried, CarriesOut, LeftByRun, run_of}
 use Rattle.tune_scripts.specs.Prefixes.{AreAcknowledged}
 use Rattle.tune_scripts.specs.Scripts.{Script, line_bound}
 use Rattle.tune_scripts.specs.ScriptRuns.{Work, work_by, UnlessWriterFails, WritesScript, TellsScript, RunsScript, EndsAfter, at_other_end}
+use Rattle.tune_scripts.specs.Streams.{output_of, streams_of}
 use Rattle.tune_scripts.specs.Inside.Turns.{GoesOn, Turns, TurnsOver}
 use Rattle.tune_scripts.proofs.AppendLemmas.{appends_more}
 use Rattle.tune_scripts.proofs.TurnLemmas.{appends_none}
@@ -135,7 +136,7 @@ module _ {S : Type 0} (s : store.Ghosts S) where
 
     -- after one turn more, at which the run does not end
     pub so_far_more : (old_input between_input : Option (List ℕ)) → IsSoFar lines (suc more) old_input between_input was between old mid
-        → TurnsOver s between now mid new None (λ work. Turns between_input new_input work None)
+        → TurnsOver s (output_of between now) mid new None (λ work. Turns between_input new_input work None)
         → IsSoFar lines more old_input new_input was now old new
     so_far_more old_input between_input h k = record {
       carried = h.carried ++ k.carried;
@@ -147,10 +148,10 @@ module _ {S : Type 0} (s : store.Ghosts S) where
 
     -- after one turn more, at which it ends
     pub so_far_end : (end : RunEnd) (old_input between_input : Option (List ℕ)) → IsSoFar lines (suc more) old_input between_input was between old mid
-        → TurnsOver s between now mid new (Some end) (λ work. Turns between_input new_input work (Some end))
+        → TurnsOver s (output_of between now) mid new (Some end) (λ work. Turns between_input new_input work (Some end))
         → ((carried : List (Carried S)) → CarriesOut s old carried new → EndsAfter end (run_of carried)
         → s.sound old → s.closed old ≡ false → LeftByRun s old carried new)
-        → RunsScript s lines old_input new_input was now old new end
+        → RunsScript s lines (streams_of old_input new_input was now) old new end
     so_far_end end old_input between_input h k left =
         let carries_out = carries_more s h.carried k.carried old mid new h.carries_out k.carries_out in
         let ends = subst (EndsAfter end) (sym (run_more h.carried k.carried)) (ends_more end (run_of h.carried) (run_of k.carried) h.acknowledged k.goes) in
@@ -171,7 +172,7 @@ module _ {S : Type 0} (s : store.Ghosts S) where
   pub so_far_all : (lines : ℕ) (old_input new_input was now : Option (List ℕ)) (old new : S) → IsSoFar lines 0 old_input new_input was now old new
       → ((carried : List (Carried S)) → CarriesOut s old carried new → EndsAfter LineBound (run_of carried)
       → s.sound old → s.closed old ≡ false → LeftByRun s old carried new)
-      → RunsScript s lines old_input new_input was now old new LineBound
+      → RunsScript s lines (streams_of old_input new_input was now) old new LineBound
   so_far_all lines old_input new_input was now old new h left =
       let ends : EndsAfter LineBound (run_of h.carried) = at_other_end LineBound (run_of h.carried) tt h.acknowledged in
       record {

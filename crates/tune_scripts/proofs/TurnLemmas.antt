@@ -29,6 +29,7 @@ use Rattle.tune_scripts.specs.Scripts.{reading_of, reading_of_book, reading_of_m
 use Rattle.tune_scripts.specs.Scripts.{long_book, whole_command, Script, ended, device_fault, at_long_line, at_cut_book, after_blank_line, after_bad_line}
 use Rattle.tune_scripts.specs.Scripts.{after_long_book, after_no_room, after_answer, reader_fault, writer_fault, writer_fault_after}
 use Rattle.tune_scripts.specs.ScriptRuns.{Work, work_by, at_other_end, at_device_fault}
+use Rattle.tune_scripts.specs.Streams.{output_of}
 use Rattle.tune_scripts.specs.Inside.Reads.{IsLineRead, TakesLine, LosesLongLine, IsCut}
 use Rattle.tune_scripts.specs.Inside.Turns.{GoesOn, TurnOf, Turns, TurnsBook, TurnsOver, GoesBy, WritesOut, IsCarriedOut, next_of}
 
@@ -356,13 +357,14 @@ module _ {S : Type 0} (s : store.Ghosts S) where
 
   -- a turn without a command
   pub over_none : (was now : Option (List ℕ)) (here : S) (result : Option RunEnd) (Tells : Work → Type 0) → GoesBy result []
-      → (IsQuiet (work_by s was now here [] here) → Tells (work_by s was now here [] here)) → TurnsOver s was now here here result Tells
+      → (IsQuiet (work_by s was now here [] here) → Tells (work_by s was now here [] here)) → TurnsOver s (output_of was now) here here result Tells
   over_none was now here result Tells goes tells =
       record { carried = []; carries_out = refl; goes = goes; tells = tells (quiet_by was now here) }
 
   -- a turn with a command
   pub over_one : (was now : Option (List ℕ)) (old new : S) (c : Command) (result : Option RunEnd) (Tells : Work → Type 0)
-      → IsCarriedOut s was now old new c result → ((work : Work) → IsOne work c result → Tells work) → TurnsOver s was now old new result Tells
+      → IsCarriedOut s (output_of was now) old new c result → ((work : Work) → IsOne work c result → Tells work)
+      → TurnsOver s (output_of was now) old new result Tells
   over_one was now old new c result Tells h tells =
       let one : Carried S = record { command = c; answer = h.answer; after = new } in
       record {
@@ -379,7 +381,7 @@ module _ {S : Type 0} (s : store.Ghosts S) where
 
   -- a turn of which more is told
   pub over_told : (was now : Option (List ℕ)) (old new : S) (result : Option RunEnd) (Knows Tells : Work → Type 0)
-      → TurnsOver s was now old new result Knows → ((work : Work) → Knows work → Tells work) → TurnsOver s was now old new result Tells
+      → TurnsOver s (output_of was now) old new result Knows → ((work : Work) → Knows work → Tells work) → TurnsOver s (output_of was now) old new result Tells
   over_told was now old new result Knows Tells h tells = record {
     carried = h.carried;
     carries_out = h.carries_out;

@@ -5,5 +5,6 @@ pub mod Replies
 pub mod Prefixes
 pub mod Carried
 pub mod Scripts
+pub mod Streams
 pub mod ScriptRuns
 pub mod Inside

@@ -12,6 +12,7 @@ use Rattle.tune_scripts.specs.declared.script_runs.RunEnd.TheVariants.{DeviceFau
 use Rattle.tune_scripts.specs.Carried.{Carried, CarriesOut, LeftByRun, run_of}
 use Rattle.tune_scripts.specs.Prefixes.{AreAcknowledged}
 use Rattle.tune_scripts.specs.Scripts.{Script}
+use Rattle.tune_scripts.specs.Streams.{Streams}
 
 -- HOW A RUN ENDS
 -- an end that comes where the last answer was that the device failed: it is written, or the writer
@@ -88,14 +89,15 @@ TellsScript lines old new work end = IfSome old (λ input. WritesScript lines in
 
 -- THE WHOLE
 -- What a run of a script comes to: one list of commands, of which everything is said.
-pub record RunsScript {S : Type 0} (kept : store.Ghosts S) (lines : ℕ)
-    (input left was now : Option (List ℕ)) (old new : S) (end : RunEnd) : Type 0 where
+pub record RunsScript {S : Type 0} (kept : store.Ghosts S) (lines : ℕ) (streams : Streams)
+    (old new : S) (end : RunEnd) : Type 0 where
   pub carried : List (Carried S)
   -- the store carried them out, and nothing else
   pub carries_out : CarriesOut kept old carried new
   -- the run ended by the device exactly where the last answer was that it failed
   pub ends : EndsAfter end (run_of carried)
   -- they are those of the script, and so are the replies
-  pub script : TellsScript lines input left (work_by kept was now old carried new) end
+  pub script : TellsScript lines streams.input streams.left
+      (work_by kept streams.output.was streams.output.now old carried new) end
   -- a stop leaves the state after a prefix of them, and what was acknowledged stays
   pub stops : kept.sound old → kept.closed old ≡ false → LeftByRun kept old carried new

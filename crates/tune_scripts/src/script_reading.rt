@@ -1,7 +1,8 @@
 // Reads the lines and books of a script.
 ghost use Rattle.std.specs.Prelude.{◌≡◌, ◌+◌, ◌<◌, length};
 ghost use Rattle.tune_scripts.specs.Limits.{longest_line};
-ghost use Rattle.tune_scripts.specs.Inside.Reads.{ReadsPiece, ReadsLine, ReadsPart, ReadsBook};
+ghost use Rattle.tune_scripts.specs.Inside.Reads.{ReadsPiece, ReadsLine, StandsBehind};
+ghost use Rattle.tune_scripts.specs.Inside.Reads.{ReadsPart, ReadsBook};
 
 use crate::script_lines::LONGEST_LINE;
 use abc_fields::ByteText;
@@ -106,8 +107,8 @@ fn read_part<R: BufRead>(
     book: &mut Vec<u8>,
 ) -> PartRead
     requires { 0 < most }
-    ensures { ReadsPart (R.remaining reader.old) (R.remaining reader.new) most is_wanted
-        book.old.items book.new.items result }
+    ensures { ReadsPart (R.remaining reader.old) (R.remaining reader.new) most
+        (StandsBehind is_wanted book.old.items book.new.items) result }
 {
     let Ok(shown) = reader.fill_buf() else {
         return PartRead::Fault;

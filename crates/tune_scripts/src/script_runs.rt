@@ -4,6 +4,7 @@ ghost use Rattle.tune_scripts.specs.Limits.{longest_line, most_lines};
 ghost use Rattle.tune_scripts.specs.Replies.{answer_bytes, bad_line_bytes};
 ghost use Rattle.tune_scripts.specs.Scripts.{line_text};
 ghost use Rattle.tune_scripts.specs.ScriptRuns.{RunsScript};
+ghost use Rattle.tune_scripts.specs.Streams.{output_of, streams_of};
 ghost use Rattle.tune_scripts.specs.Inside.Turns.{Turns, TurnsBook, TurnsOver};
 ghost use Rattle.tune_scripts.specs.Inside.Turns.{WritesOut, IsCarriedOut, next_of};
 
@@ -68,8 +69,8 @@ pub fn run<R: BufRead, W: Write, S: TuneStore>(
     store: &mut S,
 ) -> RunEnd
     ensures runs { S.honest store.new → RunsScript S.TuneStore most_lines
-        (R.remaining reader.old) (R.remaining reader.new)
-        (W.contents writer.old) (W.contents writer.new) store.old store.new result }
+        (streams_of (R.remaining reader.old) (R.remaining reader.new)
+        (W.contents writer.old) (W.contents writer.new)) store.old store.new result }
     ensures idle { S.closed store.old ≡ true → store.new ≡ store.old }
     ensures fault { result ≡ RunEnd.DeviceFault → S.closed store.new ≡ true }
 {
@@ -95,7 +96,7 @@ fn turn<R: BufRead, W: Write, S: TuneStore>(
     ensures idle { S.closed store.old ≡ true → store.new ≡ store.old }
     ensures fault { result ≡ Some RunEnd.DeviceFault → S.closed store.new ≡ true }
     ensures turns { S.honest store.new → TurnsOver S.TuneStore
-        (W.contents writer.old) (W.contents writer.new) store.old store.new result
+        (output_of (W.contents writer.old) (W.contents writer.new)) store.old store.new result
         (λ work. Turns (R.remaining reader.old) (R.remaining reader.new) work result) }
 {
     match read_line(reader, line) {
@@ -141,8 +142,9 @@ fn with_book<R: BufRead, W: Write, S: TuneStore>(
     ensures idle { S.closed store.old ≡ true → store.new ≡ store.old }
     ensures fault { result ≡ Some RunEnd.DeviceFault → S.closed store.new ≡ true }
     ensures turns { S.honest store.new → TurnsOver S.TuneStore
-        (W.contents writer.old) (W.contents writer.new) store.old store.new result (λ work.
-        TurnsBook book_use len (R.remaining reader.old) (R.remaining reader.new) work result) }
+        (output_of (W.contents writer.old) (W.contents writer.new)) store.old store.new result
+        (λ work. TurnsBook book_use len (R.remaining reader.old) (R.remaining reader.new)
+        work result) }
 {
     let len = len as usize;
     let is_wanted = len <= LONGEST_BOOK;
@@ -165,7 +167,8 @@ fn carry_out<W: Write, S: TuneStore>(
     ensures idle { S.closed store.old ≡ true → store.new ≡ store.old }
     ensures fault { result ≡ Some RunEnd.DeviceFault → S.closed store.new ≡ true }
     ensures carries { S.honest store.new → IsCarriedOut S.TuneStore
-        (W.contents writer.old) (W.contents writer.new) store.old store.new command.now result }
+        (output_of (W.contents writer.old) (W.contents writer.new))
+        store.old store.new command.now result }
 {
     let answer = store.apply(command);
     match write_answer(writer, &answer) {

@@ -342,9 +342,9 @@ accepted_open : (old new : Standing) (command : Command) (reply : Reply) → Ans
 accepted_open old new command reply answers = open_before old new command (Ok reply) answers (answers_close old new command (Ok reply) answers)
 
 -- so a Replace that names a revision of before is accepted only where no accepted one came since
-pub accepted_replace_is_current : (old : Standing) (run : List Answered) (mid : Standing) (number current : ℕ) (book : List ℕ) (reply : Reply)
-    (new : Standing) → AcceptedReplaceIsCurrent old run mid number current book reply new
-accepted_replace_is_current old run mid number current book reply new runs has stays accepted =
+pub accepted_replace_is_current : (old : Standing) (run : List Answered) (mid : Standing) (number current : ℕ)
+    → AcceptedReplaceIsCurrent old run mid number current
+accepted_replace_is_current old run mid number current runs has stays book reply new accepted =
     let now : ℕ = number_after run number in
     let raises : RaisesRevision now current mid.state new.state = answers_raise mid new (Replace now current book) (Ok reply) accepted in
     let counted = revision_counts old run mid number current runs (accepted_open mid new _ reply accepted) has stays in

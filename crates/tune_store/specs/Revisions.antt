@@ -109,9 +109,9 @@ RevisionCounts old run new number revision =
 
 -- while a tune stays, a Replace that names a revision that it had is accepted only where no
 -- accepted Replace of it came since
-abbrev pub AcceptedReplaceIsCurrent : Standing → List Answered → Standing → ℕ → ℕ → List ℕ
-    → Reply → Standing → Type 0
-AcceptedReplaceIsCurrent old run mid number revision book reply new =
+abbrev pub AcceptedReplaceIsCurrent : Standing → List Answered → Standing → ℕ → ℕ → Type 0
+AcceptedReplaceIsCurrent old run mid number revision =
     Runs old run mid → revision_of number old.state ≡ Some revision → Stays number run
+    → (book : List ℕ) (reply : Reply) (new : Standing)
     → Answers mid (Replace (number_after run number) revision book) (Ok reply) new
     → times_replaced number run ≡ 0

@@ -17,20 +17,43 @@ StandsForOne stands_for (state ∷ states) file =
 abbrev pub HasFailed : ℕ → ℕ → Type 0
 HasFailed old new = (old < new) ⊎ (2 ^ 64 - 1 ≤ old)
 
+-- What is told of a store, by the members of its trait: whether its device has answered as a
+-- device does, and whether it is sound; its state; how far its device has come; which files a stop
+-- may have left since a moment; and whether a file stands for a state.
+pub record Tellings (S : Type 0) : Type 1 where
+  pub honest : S → Type 0
+  pub sound : S → Type 0
+  pub state : S → State
+  pub moment : S → ℕ
+  pub left_since : S → ℕ → List ℕ → Type 0
+  pub stands_for : List ℕ → State → Type 0
+
+-- these members, as one value
+abbrev pub tellings : {S : Type 0} → (S → Type 0) → (S → Type 0) → (S → State) → (S → ℕ)
+    → (S → ℕ → List ℕ → Type 0) → (List ℕ → State → Type 0) → Tellings S
+tellings honest sound state moment left_since stands_for = record {
+  honest = honest;
+  sound = sound;
+  state = state;
+  moment = moment;
+  left_since = left_since;
+  stands_for = stands_for;
+}
+
 -- From `old` to `new` a store passed these states.
-pub record Passes {S : Type 0} (honest sound : S → Type 0) (state : S → State)
-    (moment : S → ℕ) (left_since : S → ℕ → List ℕ → Type 0) (stands_for : List ℕ → State → Type 0)
-    (old new : S) (states : List State) : Type 0 where
+pub record Passes {S : Type 0} (store : Tellings S) (old new : S) (states : List State)
+    : Type 0 where
   -- it stands for one of them now, or for the state that it stood for
-  pub reaches : honest new → Among (state new) (state old ∷ states)
+  pub reaches : store.honest new → Among (store.state new) (store.state old ∷ states)
   -- whether its device was honest is known only after it answered
-  pub was_honest : honest new → honest old
-  pub stays_sound : sound old → sound new
-  pub later : honest new → moment old ≤ moment new
+  pub was_honest : store.honest new → store.honest old
+  pub stays_sound : store.sound old → store.sound new
+  pub later : store.honest new → store.moment old ≤ store.moment new
   -- what a stop might have left by then, it might still have left: no past is taken back
-  pub keeps : honest new → (since : ℕ) (file : List ℕ)
-      → left_since old since file → left_since new since file
+  pub keeps : store.honest new → (since : ℕ) (file : List ℕ)
+      → store.left_since old since file → store.left_since new since file
   -- beside that it may have left files that stand for one of them, or for the state before, alone
-  pub leaves : sound old → honest new
-      → (since : ℕ) (file : List ℕ) → since ≤ moment old → left_since new since file
-      → left_since old since file ⊎ StandsForOne stands_for (state old ∷ states) file
+  pub leaves : store.sound old → store.honest new → (since : ℕ) (file : List ℕ)
+      → since ≤ store.moment old → store.left_since new since file
+      → store.left_since old since file
+      ⊎ StandsForOne store.stands_for (store.state old ∷ states) file

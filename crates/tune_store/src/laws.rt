@@ -13,7 +13,6 @@ ghost use Rattle.tune_store.specs.declared.tune.Tune.{Tune};
 ghost use Rattle.tune_store.specs.declared.command.Command.{Command};
 ghost use Rattle.tune_store.specs.declared.command.Command.TheVariants.{Delete, Renumber};
 ghost use Rattle.tune_store.specs.declared.command.Command.TheVariants.{ExportSet};
-ghost use Rattle.tune_store.specs.declared.command.Reply.{Reply};
 ghost use Rattle.tune_store.specs.declared.command.Refusal.TheVariants.{InSet};
 
 /// The law of revisions. It speaks of a plain list of tunes, which is what every store stands for
@@ -39,8 +38,7 @@ pub fn law_of_revisions()
     ensures counted { (old : Standing) (run : List Answered) (new : Standing)
         (number revision : ℕ) → RevisionCounts old run new number revision }
     ensures current { (old : Standing) (run : List Answered) (mid : Standing)
-        (number revision : ℕ) (book : List ℕ) (reply : Reply) (new : Standing)
-        → AcceptedReplaceIsCurrent old run mid number revision book reply new }
+        (number revision : ℕ) → AcceptedReplaceIsCurrent old run mid number revision }
     ensures limits { (state : State) (command : Command)
         → IsState state → IsState (step state command).0 }
     ensures refused { (state : State) (command : Command)

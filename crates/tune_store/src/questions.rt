@@ -292,7 +292,7 @@ pub(crate) fn export_set<C: Catalog>(
         (λ refusal. EndsFetch C.fetched C.failed catalog.old refusal catalog.new) }
 {
     let sets = catalog.sets();
-    // A set list has few places, so a place is a small number.
+    // For the proof: a set list has few places, so a place is a small number.
     let _limits = sets.as_slice();
     let numbers = Vec::from_slice(alloc, sets.places(name)?)?;
     let held = held_name(sets, name)?;

@@ -22,7 +22,7 @@ pub(crate) fn held_name(sets: &SetLists, name: &[u8]) -> Result<SetName, Refusal
         × (places_of name.now sets.now ≡ Err fault.NoSuchSet)) }
 {
     sets.places(name)?;
-    // Each set list has a good name, so there is no set list of a bad one.
+    // For the proof: each set list has a good name, so there is no set list of a bad one.
     let _limits = sets.as_slice();
     match SetName::new(name) {
         Some(held) => Ok(held),

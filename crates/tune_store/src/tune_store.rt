@@ -5,7 +5,7 @@ ghost use Rattle.tune_store.specs.State.{State, IsState, standing_by};
 ghost use Rattle.tune_store.specs.Step.{step};
 ghost use Rattle.tune_store.specs.Answers.{Answers, IsRefusalOf, passed, stays_open, may_write};
 ghost use Rattle.tune_store.specs.Revisions.{RaisesReplaced};
-ghost use Rattle.tune_store.specs.StoreStops.{Passes, HasFailed};
+ghost use Rattle.tune_store.specs.StoreStops.{Passes, HasFailed, tellings};
 
 use crate::command::{Command, Refusal, Reply};
 
@@ -62,7 +62,7 @@ pub trait TuneStore {
         ensures closes { closed self.new ≡ not (stays_open result) }
         ensures when_closed { IsErrOf result Refusal.Closed ↔ (closed self.old ≡ true) }
         ensures idle { closed self.old ≡ true → self.new ≡ self.old }
-        ensures stops { Passes honest sound state moment left_since stands_for
+        ensures stops { Passes (tellings honest sound state moment left_since stands_for)
             self.old self.new (passed (state self.old) command.now result) }
         ensures cause { honest self.new → IsErrOf result Refusal.Device
             → HasFailed (failures self.old) (failures self.new) }

@@ -3,6 +3,7 @@ use Rattle.std.specs.Prelude.{◌≡◌, ◌⊎◌, ◌≤◌, ℕ, Bool, true, 
 use Rattle.std.specs.Prelude.{Option, Result, MatchResult}
 use Rattle.tune_disk.specs.Disk.{DiskState}
 use Rattle.tune_disk.specs.Stops.{LeavesOnly, SinceThen}
+use Rattle.tune_disk.specs.declared.disk.Disk as disk
 use Rattle.tune_journal.specs.Image.{StandsFor, StandsForEither}
 use Rattle.tune_pages.specs.Faults.{CountsFaultWhere}
 use Rattle.tune_pages.specs.Kept.{Kept, HonestAt, state_at, failures_at}
@@ -86,28 +87,27 @@ closes Closed = false
 
 -- A change that was not made: there was no memory for it, and the disk is as it was; or the device
 -- failed, so that it was made or was not, and the archive is closed.
-abbrev pub IsUnmadeChange : {D : Type 0} → (D → Type 0) → (D → ℕ) → (D → DiskState) → Refusal
-    → Shelf D → Shelf D → Change → Type 0
-IsUnmadeChange honest failures state why old new change =
+abbrev pub IsUnmadeChange : {D : Type 0} → disk.Ghosts D → Refusal → Shelf D → Shelf D → Change
+    → Type 0
+IsUnmadeChange disks why old new change =
     ((why ≡ refusal.OutOfMemory) × (new.closed ≡ false)
-    × (HonestAt honest new.pages.disk
-    → state_at state new.pages.disk ≡ state_at state old.pages.disk))
+    × (HonestAt disks.honest new.pages.disk
+    → state_at disks.state new.pages.disk ≡ state_at disks.state old.pages.disk))
     ⊎ ((why ≡ refusal.Device) × (new.closed ≡ true)
-    × (HonestAt honest new.pages.disk → (state_of state new ≡ state_of state old)
-    ⊎ (state_of state new ≡ changed change (state_of state old)))
-    × (HonestAt honest new.pages.disk
-    → HasFailed (failures_at failures old.pages.disk) (failures_at failures new.pages.disk)))
+    × (HonestAt disks.honest new.pages.disk → (state_of disks.state new ≡ state_of disks.state old)
+    ⊎ (state_of disks.state new ≡ changed change (state_of disks.state old)))
+    × (HonestAt disks.honest new.pages.disk → HasFailed
+    (failures_at disks.failures old.pages.disk) (failures_at disks.failures new.pages.disk)))
 
 -- A change was made, or was not; a stop at any moment of the call leaves the state before it or the
 -- one after it.
-pub record MakesChange {D : Type 0} (honest : D → Type 0) (failures : D → ℕ)
-    (state : D → DiskState) (result : Result (Unit {0}) Refusal) (old new : Shelf D)
-    (change : Change) : Type 0 where
-  pub was_honest : HonestAt honest new.pages.disk → HonestAt honest old.pages.disk
-  pub moments : HonestAt honest new.pages.disk
-      → SinceThen (state_at state old.pages.disk) (state_at state new.pages.disk)
-      (StandsForOneOf (state_of state old) (changed change (state_of state old)))
+pub record MakesChange {D : Type 0} (disks : disk.Ghosts D) (result : Result (Unit {0}) Refusal)
+    (old new : Shelf D) (change : Change) : Type 0 where
+  pub was_honest : HonestAt disks.honest new.pages.disk → HonestAt disks.honest old.pages.disk
+  pub moments : HonestAt disks.honest new.pages.disk
+      → SinceThen (state_at disks.state old.pages.disk) (state_at disks.state new.pages.disk)
+      (StandsForOneOf (state_of disks.state old) (changed change (state_of disks.state old)))
   pub made : MatchResult result
-      (λ _. (new.closed ≡ false) × (HonestAt honest new.pages.disk
-      → state_of state new ≡ changed change (state_of state old)))
-      (λ refusal. IsUnmadeChange honest failures state refusal old new change)
+      (λ _. (new.closed ≡ false) × (HonestAt disks.honest new.pages.disk
+      → state_of disks.state new ≡ changed change (state_of disks.state old)))
+      (λ refusal. IsUnmadeChange disks refusal old new change)

@@ -60,15 +60,19 @@ ReadsLine old new got line.Fault = ⊤
 abbrev pub IsCut : Option (List ℕ) → Option (List ℕ) → ℕ → Type 0
 IsCut old new len = IfSome old (λ input. (length input < len) × (new ≡ Some []))
 
--- Bytes of a book were taken, at least one and at most so many, and stand behind the book where
--- they are wanted and there was memory for them; or the input is at its end.
-abbrev pub ReadsPart : Option (List ℕ) → Option (List ℕ) → ℕ → Bool → List ℕ → List ℕ → PartRead
+-- bytes that are wanted now stand behind a book
+abbrev pub StandsBehind : Bool → List ℕ → List ℕ → List ℕ → Type 0
+StandsBehind wanted was now bytes = (wanted ≡ true) × (now ≡ was ++ bytes)
+
+-- Bytes of a book were taken, at least one and at most so many, and where they are kept this holds
+-- of them; or the input is at its end.
+abbrev pub ReadsPart : Option (List ℕ) → Option (List ℕ) → ℕ → (List ℕ → Type 0) → PartRead
     → Type 0
-ReadsPart old new most wanted was now (part.Taken n kept) =
+ReadsPart old new most Keeps (part.Taken n kept) =
     (0 < n) × (n ≤ most) × (bytes : List ℕ) × (length bytes ≡ n) × Consumes old new bytes
-    × (kept ≡ true → (wanted ≡ true) × (now ≡ was ++ bytes))
-ReadsPart old new most wanted was now part.End = IsAtEnd old × Consumes old new []
-ReadsPart old new most wanted was now part.Fault = ⊤
+    × (kept ≡ true → Keeps bytes)
+ReadsPart old new most Keeps part.End = IsAtEnd old × Consumes old new []
+ReadsPart old new most Keeps part.Fault = ⊤
 
 -- A book of this length was read and kept, or read and dropped, or the input ends within it and was
 -- read to its end.

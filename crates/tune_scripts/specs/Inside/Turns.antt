@@ -17,6 +17,7 @@ use Rattle.tune_scripts.specs.Prefixes.{AreAcknowledged}
 use Rattle.tune_scripts.specs.Replies.{answer_bytes}
 use Rattle.tune_scripts.specs.Scripts.{reading_of, reading_of_book, Script}
 use Rattle.tune_scripts.specs.ScriptRuns.{Work, work_by, WritesScript, EndsAfter}
+use Rattle.tune_scripts.specs.Streams.{Output}
 
 -- A part of a run, with at most so many lines at its beginning and so many at its end: whatever the
 -- rest of the input comes to, the whole comes to this part and then that.
@@ -52,12 +53,12 @@ GoesBy (Some end) run = EndsAfter end run
 
 -- A turn over any reader: what the store carried out, how the run goes on, and what of it is said
 -- of a reader that tells its bytes.
-pub record TurnsOver {S : Type 0} (kept : store.Ghosts S) (was now : Option (List ℕ)) (old new : S)
+pub record TurnsOver {S : Type 0} (kept : store.Ghosts S) (output : Output) (old new : S)
     (result : Option RunEnd) (Tells : Work → Type 0) : Type 0 where
   pub carried : List (Carried S)
   pub carries_out : CarriesOut kept old carried new
   pub goes : GoesBy result (run_of carried)
-  pub tells : Tells (work_by kept was now old carried new)
+  pub tells : Tells (work_by kept output.was output.now old carried new)
 
 -- the writer failed, or these bytes were written and the run goes on so
 abbrev pub WritesOut : Option (List ℕ) → Option (List ℕ) → List ℕ → Option RunEnd → Option RunEnd
@@ -70,9 +71,9 @@ abbrev pub next_of : Result Reply Refusal → Option RunEnd
 next_of answer = if stays_open answer then None else Some DeviceFault
 
 -- a command was answered once, and its answer was written, or the writer failed
-pub record IsCarriedOut {S : Type 0} (kept : store.Ghosts S) (was now : Option (List ℕ))
-    (old new : S) (command : Command) (result : Option RunEnd) : Type 0 where
+pub record IsCarriedOut {S : Type 0} (kept : store.Ghosts S) (output : Output) (old new : S)
+    (command : Command) (result : Option RunEnd) : Type 0 where
   pub answer : Result Reply Refusal
   pub carried : IsCarried kept old
       (record { command = command; answer = answer; after = new })
-  pub written : WritesOut was now (answer_bytes answer) (next_of answer) result
+  pub written : WritesOut output.was output.now (answer_bytes answer) (next_of answer) result

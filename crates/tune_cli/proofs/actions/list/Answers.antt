@@ -5,6 +5,7 @@ use Rattle.tune_store.specs.Runs.{Runs}
 use Rattle.tune_scripts.specs.Carried.{run_of}
 use Rattle.tune_scripts.specs.Limits.{most_lines}
 use Rattle.tune_scripts.specs.ScriptRuns.{TellsScript}
+use Rattle.tune_scripts.specs.Streams.{output_of}
 use Rattle.tune_scripts.proofs.CarriedLemmas.{runs_carried, acknowledged_open, ends_otherwise}
 use Rattle.tune_cli.specs.Acts.{work_in_memory}
 use Rattle.tune_cli.proofs.actions.list.Goals as goal
@@ -20,7 +21,7 @@ returns g c =
     let runs = c.run-end.ensures.runs tt in
     let run = run_of runs.carried in
     let Output : State → Type 0 = λ start.
-    TellsScript most_lines input left (record (work_in_memory was now run archive) { before = open_at start }) end in
+    TellsScript most_lines input left (record (work_in_memory (output_of was now) run archive) { before = open_at start }) end in
     let From : State → Type 0 = λ start. Runs (open_at start) run (open_at archive) in
     let empty = c.new-archive.ensures.empty in
     record {
