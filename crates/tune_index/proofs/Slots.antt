@@ -1,6 +1,6 @@
 -- Entries that are searched: by halves, and as they lie in bytes, one after another; and which of them are in a range of keys.
-use Rattle.std.proofs.Common.{◌≡◌, ℕ, zero, suc, ◌+◌, ◌-◌, ◌*◌, ◌<◌, ◌≤◌, List, [], ◌∷◌, ◌++◌, length, take, drop, get_or, slice_index, refl, sym, ap, ◌∙◌, arith}
-use Rattle.std.proofs.Common.{drop-drop, inl, inr, length-drop, subst}
+use Rattle.std.proofs.Common.{◌≡◌, ℕ, zero, suc, ◌+◌, ◌-◌, ◌*◌, ◌<◌, ◌≤◌, List, [], ◌∷◌, ◌++◌, length, take, drop, get_or, slice_index, refl, sym, ap, ◌∙◌}
+use Rattle.std.proofs.Common.{arith, drop-drop, inl, inr, length-drop, subst}
 use Rattle.std.proofs.lemmas.Bool.{cases_eq}
 use Rattle.std.proofs.Math.Nat.{add-mul, mul-le-mul_right, zero-mul}
 use Rattle.std.proofs.lemmas.List.{append-nil, get_or_default, take-append-drop}
@@ -102,4 +102,5 @@ pub leaf_fits_at : (width : ℕ) (all : Stand) (pages : List ℕ) (i : ℕ) → 
     → AllFit width (leaf_in width (image_at all (slice_index pages i)))
 leaf_fits_at width all [] i l fit = absurd (omega arith)
 leaf_fits_at width all (p ∷ ps) zero l fit = fit_front width (leaf_in width (image_at all p)) (entries_of width all ps) fit
-leaf_fits_at width all (p ∷ ps) (suc i) l fit = leaf_fits_at width all ps i (omega arith) (fit_back width (leaf_in width (image_at all p)) (entries_of width all ps) fit)
+leaf_fits_at width all (p ∷ ps) (suc i) l fit =
+    leaf_fits_at width all ps i (omega arith) (fit_back width (leaf_in width (image_at all p)) (entries_of width all ps) fit)

@@ -41,7 +41,8 @@ returns-in-Ok-clause-values g c = λ h.
     let ps = c.args.index.now.pages in
     let i = c.args.place in
     let v : c.index.inside.pages.items ≡ ps = ap (λ (x : Shape). x.pages) c.index.view_is in
-    let e : c.index-page.result.now ≡ slice_index ps i = read_page c.index.inside.pages.items ps i c.index-page.result.now v c.requires.place c.index-page.ensures in
+    let e : c.index-page.result.now ≡ slice_index ps i =
+    read_page c.index.inside.pages.items ps i c.index-page.result.now v c.requires.place c.index-page.ensures in
     let is = c.requires.index (c.in-Ok.ensures.looks.was_honest h) in
     let up : IsRising (leaf_in W (image_at s (slice_index ps i))) = leaf_rises_at W s ps i c.requires.place is.rising in
     let fit : AllFit W (leaf_in W (image_at s (slice_index ps i))) = leaf_fits_at W s ps i c.requires.place is.fit in

@@ -21,7 +21,8 @@ loop-first-preserved-then-is_before g c =
     let m = c.loop-first.first + (c.loop-first.last - c.loop-first.first) / 2 in
     let e = c.entry_of-entry.result in
     let in_list : m < length es = omega (arith, n, c.loop-first.invariant.within) in
-    let is : e ≡ get_or es m e = c.entry_of-entry.ensures.entry ∙ sym (slot_entry g.row.W c.args.count m e c.args.bytes.now (omega (arith, c.loop-first.invariant.within))) in
+    let is : e ≡ get_or es m e = c.entry_of-entry.ensures.entry
+    ∙ sym (slot_entry g.row.W c.args.count m e c.args.bytes.now (omega (arith, c.loop-first.invariant.within))) in
     let below : rank e < r = c.is_before.ensures.0 c.if-is_before.true in
     record {
       ordered = omega arith;
@@ -38,7 +39,8 @@ loop-first-preserved g c =
     let m = c.loop-first.first + (c.loop-first.last - c.loop-first.first) / 2 in
     let e = c.entry_of-entry.result in
     let in_list : m < length es = omega (arith, n, c.loop-first.invariant.within) in
-    let is : e ≡ get_or es m e = c.entry_of-entry.ensures.entry ∙ sym (slot_entry g.row.W c.args.count m e c.args.bytes.now (omega (arith, c.loop-first.invariant.within))) in
+    let is : e ≡ get_or es m e = c.entry_of-entry.ensures.entry
+    ∙ sym (slot_entry g.row.W c.args.count m e c.args.bytes.now (omega (arith, c.loop-first.invariant.within))) in
     let above : r ≤ rank e = elim (cases_lt (rank e) r) [
       | inl below ↦ absurd (let t = c.is_before.ensures.1 below in let f = c.if-is_before.false in cc)
       | inr over ↦ over
