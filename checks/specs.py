@@ -388,7 +388,7 @@ def wrong_arguments():
         if count > told:
             print(f"crates/{path}: {name} has {count} arguments by place")
         elif count < told:
-            print(f"{KNOWN_LONG}: {name} has {count or 'no'} arguments too many, and not {told}")
+            print(f"{KNOWN_LONG}: {name} has {count or 'few enough'} arguments, and not {told}")
         wrong += count != told
     print(f"{len(listed)} definitions have more than {MOST_ARGUMENTS} arguments, as is known")
     return wrong
