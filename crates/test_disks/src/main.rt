@@ -43,17 +43,33 @@ fn main(rt: HostRuntime) -> io::Result<ExitCode> {
     let id = std::process::id(rt.process());
     let name = format!(in rt.alloc(); "test_disks-{id}")?;
     let folder = env::temp_dir(&rt)?.join(rt.alloc(), name.as_str())?;
-    let mut all_as_written = true;
-    for name in ["memory", "stops", "failing", "files"] {
-        let text = fs::read_to_string(&rt, name)?;
-        println!(&rt; "{name}")?;
-        all_as_written &= run_cases(&rt, &text, folder.as_path())?;
-    }
-    if all_as_written {
+    if run_files(&rt, folder.as_path())? {
         Ok(ExitCode::SUCCESS)
     } else {
         Ok(ExitCode::FAILURE)
     }
+}
+
+// Runs the cases of all files, and says whether each came out as written.
+fn run_files<R: Files<File = File> + Print + AllocGlobal>(
+    rt: &R,
+    folder: Path<'_>,
+) -> io::Result<bool> {
+    let mut all_as_written = true;
+    for name in ["memory", "stops", "failing", "files"] {
+        all_as_written &= run_file(rt, name, folder)?;
+    }
+    Ok(all_as_written)
+}
+
+fn run_file<R: Files<File = File> + Print + AllocGlobal>(
+    rt: &R,
+    name: &str,
+    folder: Path<'_>,
+) -> io::Result<bool> {
+    let text = fs::read_to_string(rt, name)?;
+    println!(rt; "{name}")?;
+    run_cases(rt, &text, folder)
 }
 
 // Runs all cases of a file, and says whether each came out as written.
@@ -65,18 +81,33 @@ fn run_cases<R: Files<File = File> + Print + AllocGlobal>(
     let mut all: u32 = 0;
     let mut as_written: u32 = 0;
     for case in text.split("\n\n") {
-        let (name, lines) = case.split_once('\n').unwrap_or((case, ""));
         all = all.saturating_add(1);
-        match run_in_folder(rt, lines, folder)? {
-            None => {
-                as_written = as_written.saturating_add(1);
-                println!(rt; "{name}: as written")?;
-            }
-            Some(other) => println!(rt; "{name}: {other}")?,
+        if run_and_say(rt, case, folder)? {
+            as_written = as_written.saturating_add(1);
         }
     }
     println!(rt; "{as_written} of {all} cases as written")?;
     Ok(as_written == all)
+}
+
+// Runs a case, and says whether it came out as written.
+fn run_and_say<R: Files<File = File> + Print + AllocGlobal>(
+    rt: &R,
+    case: &str,
+    folder: Path<'_>,
+) -> io::Result<bool> {
+    let (name, lines) = case.split_once('\n').unwrap_or((case, ""));
+    let other = run_in_folder(rt, lines, folder)?;
+    say(rt, name, &other)?;
+    Ok(other.is_none())
+}
+
+// Prints what came of a case.
+fn say<R: Print>(rt: &R, name: &str, other: &Option<String>) -> io::Result<()> {
+    match other {
+        None => println!(rt; "{name}: as written"),
+        Some(other) => println!(rt; "{name}: {other}"),
+    }
 }
 
 // Makes the calls of a case with a folder, which is taken away behind them.
@@ -98,14 +129,36 @@ fn run_case<R: Files<File = File> + AllocGlobal>(
     folder: Path<'_>,
 ) -> io::Result<Option<String>> {
     let mut stand = Stand::new(folder);
+    run_lines(rt, lines, &mut stand)
+}
+
+fn run_lines<R: Files<File = File> + AllocGlobal>(
+    rt: &R,
+    lines: &str,
+    stand: &mut Stand<'_>,
+) -> io::Result<Option<String>> {
     for line in lines.lines() {
-        let (call, wanted) = line.split_once(" -> ").unwrap_or((line, "ok"));
-        let answer = stand.make_call(rt, call)?.text(rt.alloc())?;
-        if answer.as_str() != wanted {
-            return told(rt.alloc(), call, &answer);
+        let other = run_line(rt, line, stand)?;
+        if other.is_some() {
+            return Ok(other);
         }
     }
     Ok(None)
+}
+
+// Makes the call of a line, which is told where it answers otherwise.
+fn run_line<R: Files<File = File> + AllocGlobal>(
+    rt: &R,
+    line: &str,
+    stand: &mut Stand<'_>,
+) -> io::Result<Option<String>> {
+    let (call, wanted) = line.split_once(" -> ").unwrap_or((line, "ok"));
+    let answer = stand.make_call(rt, call)?.text(rt.alloc())?;
+    if answer.as_str() == wanted {
+        Ok(None)
+    } else {
+        told(rt.alloc(), call, &answer)
+    }
 }
 
 fn told(alloc: Global, call: &str, answer: &str) -> io::Result<Option<String>> {

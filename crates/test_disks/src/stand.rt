@@ -49,17 +49,40 @@ impl<'a> Stand<'a> {
 
     // Goes on with another disk.
     fn change(&mut self, alloc: Global, name: &str, rest: &str) -> io::Result<Answer> {
-        let device = mem::replace(&mut self.device, Device::None);
-        self.device = match name {
-            "memory" => Device::Memory(memory_disk(alloc, rest)?),
-            "fuse" => device.fused(number(rest)?),
-            "one-fault" => device.faulted(number(rest)?),
-            "inner" => device.inner(),
-            "swap" => mem::replace(&mut self.aside, device),
-            "close" => Device::None,
+        match name {
+            "memory" => self.put(Device::Memory(memory_disk(alloc, rest)?)),
+            "fuse" => self.fuse(number(rest)?),
+            "one-fault" => self.fault(number(rest)?),
+            "inner" => self.uncover(),
+            "swap" => mem::swap(&mut self.device, &mut self.aside),
+            "close" => self.put(Device::None),
             _ => return Err(bad_line()),
-        };
+        }
         Ok(Answer::Done)
+    }
+
+    // The disk, in whose place there is none.
+    fn take(&mut self) -> Device {
+        mem::replace(&mut self.device, Device::None)
+    }
+
+    fn put(&mut self, device: Device) {
+        self.device = device;
+    }
+
+    fn fuse(&mut self, calls: u64) {
+        let device = self.take();
+        self.put(device.fused(calls));
+    }
+
+    fn fault(&mut self, call: u64) {
+        let device = self.take();
+        self.put(device.faulted(call));
+    }
+
+    fn uncover(&mut self) {
+        let device = self.take();
+        self.put(device.inner());
     }
 
     // Looks at a disk in memory, or leaves it by a stop.

@@ -1,5 +1,5 @@
 // A disk in memory that counts its calls.
-use tune_disk::{DeviceFault, Disk, MemoryDisk};
+use tune_disk::{DeviceFault, Disk, FuseDisk, MemoryDisk};
 
 /// How many calls of each kind there were.
 #[derive(Clone, Copy, Debug, PartialEq, Eq)]
@@ -19,19 +19,19 @@ impl Calls {
     }
 }
 
-/// A disk in memory that counts its calls. No clause calls it honest: what comes of a call is shown
-/// by the run.
+/// A disk in memory that counts its calls, and fails from some call on. No clause calls it honest:
+/// what comes of a call is shown by the run.
 #[derive(Drop)]
 pub(crate) struct CountingDisk {
-    disk: MemoryDisk,
+    disk: FuseDisk<MemoryDisk>,
     calls: Calls,
 }
 
 impl CountingDisk {
-    // A disk without a call yet.
-    pub(crate) fn over(disk: MemoryDisk) -> CountingDisk {
+    // A disk without a call yet, of which so many calls pass.
+    pub(crate) fn over(disk: MemoryDisk, most: u64) -> CountingDisk {
         CountingDisk {
-            disk,
+            disk: FuseDisk::new(disk, most),
             calls: Calls {
                 reads: 0,
                 writes: 0,
@@ -48,14 +48,14 @@ impl CountingDisk {
     // The disk within.
     pub(crate) fn into_memory(self) -> MemoryDisk {
         let CountingDisk { disk, calls: _ } = self;
-        disk
+        disk.into_inner()
     }
 }
 
 impl Disk for CountingDisk {
-    ghost state = { λ it. ⟦<MemoryDisk as Disk>⟧.state it.disk };
+    ghost state = { λ it. ⟦<FuseDisk<MemoryDisk> as Disk>⟧.state it.disk };
 
-    ghost failures = { λ it. ⟦<MemoryDisk as Disk>⟧.failures it.disk };
+    ghost failures = { λ it. ⟦<FuseDisk<MemoryDisk> as Disk>⟧.failures it.disk };
 
     ghost honest = { λ _. ⊥ };
 

@@ -17,19 +17,18 @@
 //! did not, it ends with status 1.
 #![tactic(auto)]
 
+mod archives;
 mod disks;
 mod kept;
 mod tunes;
 
-use disks::{Calls, CountingDisk};
+use archives::{ALL_CALLS, run_over_file};
+use disks::Calls;
 use kept::{exports_as_in_memory, finds_without_reading_all};
 use std::alloc::Global;
 use std::fs::Files;
 use std::process::ExitCode;
 use std::{fs, io};
-use tune_archive::Archive;
-use tune_disk::MemoryDisk;
-use tune_scripts::run;
 use tunes::{file_of_tunes, old_file_of_tunes};
 
 /// How many writes a commit makes beside those of its pages, each of which it writes twice: the
@@ -58,35 +57,59 @@ impl<'a> Case<'a> {
 }
 
 fn main(rt: HostRuntime) -> io::Result<ExitCode> {
-    let old_file = old_file_of_tunes(rt.alloc())?;
-    let of_layout_1 = are_as_written(&rt, &old_file, "cases-of-layout-1")?;
-    let file = file_of_tunes(rt.alloc())?;
-    let of_made = are_as_written(&rt, &file, "cases")?;
-    let exports = exports_as_in_memory(rt.alloc(), &file)?;
-    say(&rt, "exports-twice-as-in-memory", exports)?;
+    let of_layout_1 = is_old_as_written(&rt)?;
+    let of_made = is_made_as_written(&rt)?;
     let finds = finds_without_reading_all(rt.alloc())?;
     say(&rt, "finds-within-500-calls-and-exports-with-more", finds)?;
-    if of_layout_1 && of_made && exports && finds {
+    if of_layout_1 && of_made && finds {
         Ok(ExitCode::SUCCESS)
     } else {
         Ok(ExitCode::FAILURE)
     }
 }
 
-// Runs the cases of a list over an archive, and says whether each came out as written.
+// Runs the cases of layout 1, and says whether each came out as written.
+fn is_old_as_written<R: Files + Print + AllocGlobal>(rt: &R) -> io::Result<bool> {
+    let file = old_file_of_tunes(rt.alloc())?;
+    are_as_written(rt, &file, "cases-of-layout-1")
+}
+
+// Runs the cases of a made file, exports it, and says whether all came out as written.
+fn is_made_as_written<R: Files + Print + AllocGlobal>(rt: &R) -> io::Result<bool> {
+    let file = file_of_tunes(rt.alloc())?;
+    is_file_as_written(rt, &file)
+}
+
+fn is_file_as_written<R: Files + Print + AllocGlobal>(rt: &R, file: &[u8]) -> io::Result<bool> {
+    let as_written = are_as_written(rt, file, "cases")?;
+    let exports = exports_as_in_memory(rt.alloc(), file)?;
+    say(rt, "exports-twice-as-in-memory", exports)?;
+    Ok(as_written && exports)
+}
+
+// Runs the cases of a list over the archive of a file, and says whether each came out as written.
 fn are_as_written<R: Files + Print + AllocGlobal>(
     rt: &R,
-    file: &MemoryDisk,
+    file: &[u8],
     list: &str,
 ) -> io::Result<bool> {
     let opening = calls_of(rt.alloc(), file, b"", b"")?;
     let list = fs::read_to_string(rt, list)?;
+    run_cases(rt, file, opening, &list)
+}
+
+// Runs the cases of lines.
+fn run_cases<R: Files + Print + AllocGlobal>(
+    rt: &R,
+    file: &[u8],
+    opening: Calls,
+    lines: &str,
+) -> io::Result<bool> {
     let mut all: u32 = 0;
     let mut as_written: u32 = 0;
-    for line in list.lines() {
-        let case = Case::of_line(line).ok_or(no_data())?;
+    for line in lines.lines() {
         all = all.saturating_add(1);
-        if is_as_written(rt, file, opening, case)? {
+        if is_as_written(rt, file, opening, line)? {
             as_written = as_written.saturating_add(1);
         }
     }
@@ -108,20 +131,26 @@ fn no_data() -> io::Error {
     io::Error::from(io::ErrorKind::InvalidData)
 }
 
-// Runs a case, and says whether it read and wrote as few pages as it may.
+// Runs the case of a line, and says whether it read and wrote as few pages as it may.
 fn is_as_written<R: Files + Print + AllocGlobal>(
     rt: &R,
-    file: &MemoryDisk,
+    file: &[u8],
     opening: Calls,
-    case: Case<'_>,
+    line: &str,
 ) -> io::Result<bool> {
-    let name = case.name;
-    let script = fs::read(rt, format!(in rt.alloc(); "{name}.script")?)?;
-    let wanted = fs::read(rt, format!(in rt.alloc(); "{name}.replies")?)?;
-    let calls = calls_of(rt.alloc(), file, &script, &wanted)?;
+    let Some(case) = Case::of_line(line) else {
+        return Err(no_data());
+    };
+    let calls = calls_of_script(rt, file, case.name)?;
     let reads = calls.reads.saturating_sub(opening.reads);
     let writes = calls.writes.saturating_sub(opening.writes);
     let pages = writes.saturating_sub(WRITES_OF_COMMIT) / 2;
+    say_pages(rt, case, reads, pages)
+}
+
+// Prints what a case read and wrote, and says whether these are as few pages as it may.
+fn say_pages<R: Print>(rt: &R, case: Case<'_>, reads: u64, pages: u64) -> io::Result<bool> {
+    let name = case.name;
     let few = reads <= case.reads && pages <= case.pages;
     if few {
         println!(rt; "{name}: as written")?;
@@ -131,23 +160,30 @@ fn is_as_written<R: Files + Print + AllocGlobal>(
     Ok(few)
 }
 
+// The calls of the disk that the script of this name makes, with the opening.
+fn calls_of_script<R: Files + AllocGlobal>(rt: &R, file: &[u8], name: &str) -> io::Result<Calls> {
+    let script = read(rt, name, "script")?;
+    let wanted = read(rt, name, "replies")?;
+    calls_of(rt.alloc(), file, &script, &wanted)
+}
+
+// The bytes of a file of data.
+fn read<R: Files + AllocGlobal>(rt: &R, name: &str, kind: &str) -> io::Result<Vec<u8>> {
+    let path = format!(in rt.alloc(); "{name}.{kind}")?;
+    fs::read(rt, path.as_str())
+}
+
 // The calls of the disk that opening the archive of a file and running a script make. The replies
 // have to be these.
 pub(crate) fn calls_of(
     alloc: Global,
-    file: &MemoryDisk,
+    file: &[u8],
     script: &[u8],
     wanted: &[u8],
 ) -> io::Result<Calls> {
-    let disk = CountingDisk::over(MemoryDisk::from_bytes(alloc, file.bytes())?);
-    let Ok(mut archive) = Archive::open(alloc, disk) else {
-        return Err(no_data());
-    };
-    let mut reader = script;
     let mut replies = Vec::new(alloc);
-    let _ = run(alloc, &mut reader, &mut replies, &mut archive);
-    if replies.as_slice() != wanted {
-        return Err(no_data());
+    match run_over_file(alloc, file, ALL_CALLS, script, &mut replies)? {
+        Some(calls) if replies.as_slice() == wanted => Ok(calls),
+        _ => Err(no_data()),
     }
-    Ok(archive.into_disk().calls())
 }

@@ -1,11 +1,9 @@
 // The archive of the tunes.
-use crate::disks::CountingDisk;
+use crate::archives::{file_of_disk, made_file};
 use crate::no_data;
-use abc_fields::ByteText;
 use std::alloc::{AllocError, Global};
 use std::fmt::Write;
 use std::io;
-use tune_archive::{Archive, Command, TuneStore};
 use tune_disk::{Disk, MemoryDisk};
 
 /// How many tunes there are.
@@ -24,65 +22,78 @@ const OLD_FILE: [(u64, &[u8]); 4] = [
 const NOTES: [&str; 10] = ["C", "D", "E", "F", "G", "A", "B", "c", "d", "e"];
 
 // The file of a made archive of the tunes, which come in by one import.
-pub(crate) fn file_of_tunes(alloc: Global) -> io::Result<MemoryDisk> {
-    file_of_book(alloc, &book(alloc)?)
+pub(crate) fn file_of_tunes(alloc: Global) -> io::Result<Vec<u8>> {
+    let import = import_of_tunes(alloc)?;
+    made_file(alloc, import.as_bytes())
 }
 
 // The file of an archive of layout 1 of the tunes, which come in by one import.
-pub(crate) fn old_file_of_tunes(alloc: Global) -> io::Result<MemoryDisk> {
+pub(crate) fn old_file_of_tunes(alloc: Global) -> io::Result<Vec<u8>> {
+    let import = import_of_tunes(alloc)?;
+    old_file_with(alloc, import.as_bytes())
+}
+
+fn old_file_with(alloc: Global, import: &[u8]) -> io::Result<Vec<u8>> {
     let mut disk = MemoryDisk::new(alloc);
-    for (at, bytes) in OLD_FILE {
-        if disk.write_at(at, bytes).is_err() {
-            return Err(no_data());
-        }
-    }
-    match Archive::open(alloc, CountingDisk::over(disk)) {
-        Ok(archive) => file_with(alloc, archive, &book(alloc)?),
-        Err(_) => Err(no_data()),
+    if write_old_file(&mut disk) {
+        file_of_disk(alloc, disk, import)
+    } else {
+        Err(no_data())
     }
 }
 
+// Writes a file of layout 1 without a tune, and says whether all went well.
+fn write_old_file(disk: &mut MemoryDisk) -> bool {
+    for (at, bytes) in OLD_FILE {
+        if disk.write_at(at, bytes).is_err() {
+            return false;
+        }
+    }
+    true
+}
+
 // The file of an archive of as many tunes that have a title and a key alone.
-pub(crate) fn file_of_reels(alloc: Global) -> io::Result<MemoryDisk> {
+pub(crate) fn file_of_reels(alloc: Global) -> io::Result<Vec<u8>> {
+    let import = import_of(alloc, &book_of_reels(alloc)?)?;
+    made_file(alloc, import.as_bytes())
+}
+
+// The script by which the tunes come in.
+pub(crate) fn import_of_tunes(alloc: Global) -> Result<String, AllocError> {
+    import_of(alloc, &book(alloc)?)
+}
+
+// The script by which the tunes of a book come in.
+fn import_of(alloc: Global, book: &str) -> Result<String, AllocError> {
+    let length = book.len();
+    format!(in alloc; "import {length}\n{book}")
+}
+
+// The book of the reels.
+fn book_of_reels(alloc: Global) -> Result<String, AllocError> {
     let mut book = String::new(alloc);
     for number in 1..=TUNES {
         write!(book, "X:1\nT:Reel {number}\nK:C\n\n")?;
     }
-    file_of_book(alloc, &book)
-}
-
-// The file of a made archive of the tunes of a book, which come in by one import.
-fn file_of_book(alloc: Global, book: &str) -> io::Result<MemoryDisk> {
-    match Archive::make(alloc, CountingDisk::over(MemoryDisk::new(alloc))) {
-        Ok(archive) => file_with(alloc, archive, book),
-        Err(_) => Err(no_data()),
-    }
-}
-
-// The file of an archive that takes a book in.
-fn file_with(
-    alloc: Global,
-    mut archive: Archive<CountingDisk>,
-    book: &str,
-) -> io::Result<MemoryDisk> {
-    let book = ByteText::copy_of(alloc, book.as_bytes())?;
-    match archive.apply(&Command::Import(book)) {
-        Ok(_) => Ok(archive.into_disk().into_memory()),
-        Err(_) => Err(no_data()),
-    }
+    Ok(book)
 }
 
 // The book of the tunes.
-pub(crate) fn book(alloc: Global) -> Result<String, AllocError> {
+fn book(alloc: Global) -> Result<String, AllocError> {
     let mut book = String::new(alloc);
     for number in 1..=TUNES {
-        let rhythm = if number % 10 == 0 { "jig" } else { "reel" };
-        let key = if number / 20 == 50 { "D" } else { "G" };
-        write!(book, "X:1\nT:Tune {number:04}\nR:{rhythm}\nK:{key}\n")?;
-        add_notes(&mut book, number)?;
-        book.push_str("\n")?;
+        add_tune(&mut book, number)?;
     }
     Ok(book)
+}
+
+// Adds the tune of a number.
+fn add_tune(book: &mut String, number: u32) -> Result<(), AllocError> {
+    let rhythm = if number % 10 == 0 { "jig" } else { "reel" };
+    let key = if number / 20 == 50 { "D" } else { "G" };
+    write!(book, "X:1\nT:Tune {number:04}\nR:{rhythm}\nK:{key}\n")?;
+    add_notes(book, number)?;
+    book.push_str("\n")
 }
 
 // Adds the digits of a number as notes, the last first, and a G behind each.

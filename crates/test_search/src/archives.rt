@@ -1,0 +1,120 @@
+// Archives on disks that count their calls. One function holds an archive, and what it gives is
+// plain: bytes, and numbers of calls.
+use crate::disks::{Calls, CountingDisk};
+use crate::no_data;
+use std::alloc::{AllocError, Global};
+use std::io;
+use tune_archive::{Archive, TuneStore};
+use tune_disk::MemoryDisk;
+use tune_journal::Refused;
+use tune_scripts::run;
+use tune_store::ListArchive;
+
+/// As many calls of a disk as there can be.
+pub(crate) const ALL_CALLS: u64 = u64::MAX;
+
+/// The reply to a script by which the tunes come in.
+const TAKEN: &[u8] = b"ok import 1 2000\n";
+
+// Opens the archive of a file on a disk of which so many calls pass, runs a script over it, and
+// puts the replies behind others. It gives the calls of the disk, or nothing where the archive is
+// not opened.
+pub(crate) fn run_over_file(
+    alloc: Global,
+    file: &[u8],
+    most: u64,
+    script: &[u8],
+    replies: &mut Vec<u8>,
+) -> Result<Option<Calls>, AllocError> {
+    let disk = MemoryDisk::from_bytes(alloc, file)?;
+    Ok(run_over_disk(alloc, CountingDisk::over(disk, most), script, replies))
+}
+
+fn run_over_disk(
+    alloc: Global,
+    disk: CountingDisk,
+    script: &[u8],
+    replies: &mut Vec<u8>,
+) -> Option<Calls> {
+    match Archive::open(alloc, disk) {
+        Ok(archive) => Some(run_over_archive(alloc, archive, script, replies)),
+        Err(_refused) => None,
+    }
+}
+
+fn run_over_archive(
+    alloc: Global,
+    mut archive: Archive<CountingDisk>,
+    script: &[u8],
+    replies: &mut Vec<u8>,
+) -> Calls {
+    run_over(alloc, &mut archive, script, replies);
+    let disk = archive.into_disk();
+    disk.calls()
+}
+
+// Runs a script over an archive in memory into which tunes come by another, puts the replies to it
+// behind others, and says whether the tunes came in.
+pub(crate) fn run_in_memory(
+    alloc: Global,
+    import: &[u8],
+    script: &[u8],
+    replies: &mut Vec<u8>,
+) -> bool {
+    let mut archive = ListArchive::new(alloc);
+    let is_taken = takes(alloc, &mut archive, import);
+    run_over(alloc, &mut archive, script, replies);
+    is_taken
+}
+
+// Runs a script over a store, and puts the replies behind others.
+fn run_over<S: TuneStore>(alloc: Global, store: &mut S, script: &[u8], replies: &mut Vec<u8>) {
+    let mut reader = script;
+    let _ = run(alloc, &mut reader, replies, store);
+}
+
+// Whether the tunes come into a store by this script.
+fn takes<S: TuneStore>(alloc: Global, store: &mut S, import: &[u8]) -> bool {
+    let mut replies = Vec::new(alloc);
+    run_over(alloc, store, import, &mut replies);
+    replies.as_slice() == TAKEN
+}
+
+// The file of a made archive into which tunes come by a script.
+pub(crate) fn made_file(alloc: Global, import: &[u8]) -> io::Result<Vec<u8>> {
+    let disk = CountingDisk::over(MemoryDisk::new(alloc), ALL_CALLS);
+    file_with(alloc, Archive::make(alloc, disk), import)
+}
+
+// The file of the archive of a disk into which tunes come by a script.
+pub(crate) fn file_of_disk(alloc: Global, disk: MemoryDisk, import: &[u8]) -> io::Result<Vec<u8>> {
+    let disk = CountingDisk::over(disk, ALL_CALLS);
+    file_with(alloc, Archive::open(alloc, disk), import)
+}
+
+fn file_with(
+    alloc: Global,
+    opened: Result<Archive<CountingDisk>, Refused<CountingDisk>>,
+    import: &[u8],
+) -> io::Result<Vec<u8>> {
+    match opened {
+        Ok(archive) => file_of_archive(alloc, archive, import),
+        Err(_refused) => Err(no_data()),
+    }
+}
+
+fn file_of_archive(
+    alloc: Global,
+    mut archive: Archive<CountingDisk>,
+    import: &[u8],
+) -> io::Result<Vec<u8>> {
+    let is_taken = takes(alloc, &mut archive, import);
+    let bytes = bytes_of(alloc, archive.into_disk())?;
+    if is_taken { Ok(bytes) } else { Err(no_data()) }
+}
+
+// The bytes of a disk.
+fn bytes_of(alloc: Global, disk: CountingDisk) -> Result<Vec<u8>, AllocError> {
+    let disk = disk.into_memory();
+    disk.bytes().to_vec(alloc)
+}
