@@ -42,6 +42,7 @@ impl<const W: usize> IndexKey<W> {
         ensures bound { result < 256 ^ W }
     {
         let key = IndexKey { bytes };
+        // For the proof.
         let _bytes = key.bytes();
         key
     }

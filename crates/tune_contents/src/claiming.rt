@@ -85,7 +85,7 @@ pub fn claim<D: Disk>(alloc: Global, opening: &mut Opening<D>) -> Result<Content
         → IsChainFault fault ((state : State) × IsStateOf opening.old.pages state)) }
     ensures looks { LooksOpening D.honest D.failures D.state result opening.old opening.new }
 {
-    // Its contract says that each page has the bytes of a block.
+    // For the proof: its contract says that each page has the bytes of a block.
     let _count = opening.count();
     let Lists {
         layout,
@@ -188,6 +188,7 @@ fn claim_index<D: Disk>(
         → IsChainFault fault (IsIndexThere most opening.old.pages front first)) }
     ensures looks { LooksOpening D.honest D.failures D.state result opening.old opening.new }
 {
+    // For the proof.
     let _count = opening.count();
     Index::load(alloc, opening, first, most)
 }
@@ -211,6 +212,7 @@ fn claim_searches<D: Disk>(
         (IsSearchThere (notes_in notes) most opening.old.pages front firsts)) }
     ensures looks { LooksOpening D.honest D.failures D.state result opening.old opening.new }
 {
+    // For the proof.
     let _count = opening.count();
     SearchIndexes::load(alloc, opening, notes, firsts, most)
 }

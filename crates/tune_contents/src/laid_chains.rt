@@ -295,6 +295,7 @@ pub(crate) fn lay_root<D: Disk>(
     ensures takes { HonestAt D.honest pages.new.disk
         → TakesAtMost 0 result (stand pages.old work.old) (stand pages.new work.new) }
 {
+    // For the proof.
     law_of_works();
     if has_root(pages, work, layout, was, firsts)? {
         return Ok(());

@@ -340,6 +340,7 @@ pub(crate) fn change_searches<D: Disk>(
         Ok(()) => {}
         Err(fault) => return Err(fault),
     }
+    // For the proof.
     law_of_search_pages();
     match searches.store(alloc, pages, work) {
         Ok(firsts) => Ok(firsts),

@@ -104,6 +104,7 @@ fn lengthen<D: Disk>(
         Ok(()) => {}
         Err(fault) => return Err(fault),
     }
+    // For the proof.
     law_of_search_pages();
     match searches.store(alloc, pages, work) {
         Ok(firsts) => Ok(firsts),

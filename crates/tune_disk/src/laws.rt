@@ -26,5 +26,6 @@ pub fn law_of_stops<D: Disk>(disk: &D)
         → slice_index file i ≡ slice_index m.stable i }
     ensures no_shorter { (m : Medium) → LeavesOnly m (λ file. length m.stable ≤ length file) }
 {
+    // For the proof.
     let _ = disk;
 }

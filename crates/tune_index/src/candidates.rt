@@ -125,6 +125,7 @@ fn begins_above<const W: usize>(index: &Index<W>, place: usize, high: &IndexKey<
     ensures { IsTrue result
         ↔ (rank (high.now, 0) < rank ((slice_entry index.now.heads place).0, 0)) }
 {
+    // For the proof.
     let _leaves = leaf_count(index);
     let head = &index.heads[place];
     high.is_before(0, &head.0, 0)

@@ -42,6 +42,7 @@ fn write_page_leaf<D: Disk, const W: usize>(
         (image_at (stand pages.now work.new) page)) }
     ensures answer { AnswersChange result ⊥ }
 {
+    // For the proof.
     law_of_works();
     law_of_frames();
     match write_leaf(alloc, leaf) {
@@ -192,6 +193,7 @@ pub(crate) fn add_leaf<D: Disk, const W: usize>(
         (stand pages.now work.new) index.old.pages index.new.pages) }
     ensures answer { AnswersChange result (free_pages (stand pages.now work.old).used ≡ 0) }
 {
+    // For the proof.
     law_of_frames();
     let _count = leaf_count(index);
     let first = &leaf[0];
@@ -238,6 +240,7 @@ pub(crate) fn drop_leaf<D: Disk, const W: usize>(
         (stand pages.now work.new) index.old.pages index.new.pages) }
     ensures answer { AnswersChange result ⊥ }
 {
+    // For the proof.
     law_of_frames();
     let page = leaf_page(index, place);
     match pages.free(work, page) {
@@ -297,6 +300,7 @@ pub(crate) fn spread<D: Disk, const W: usize>(
     ensures answer { AnswersChange result
         (free_pages (stand pages.now work.old).used + 1 < length entries.now) }
 {
+    // For the proof.
     let _count = leaf_count(index);
     let next = place + 1;
     let share = share_of(entries.len(), capacity_of(W));

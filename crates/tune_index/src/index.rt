@@ -88,6 +88,7 @@ impl<const W: usize> Index<W> {
     pub fn copy(&self, alloc: Global) -> Result<Index<W>, AllocError>
         ensures { IfOk result (λ copy. copy ≡ self.now) }
     {
+        // For the proof.
         let _leaves = leaf_count(self);
         let mut copy = Index::at(alloc, 0);
         copy.copy_from(self)?;

@@ -39,6 +39,7 @@ fn insert_each<const W: usize>(
     ensures fit { OnOk result (AllFit W part.now) }
 {
     for entry in part {
+        // For the proof.
         let _bytes = entry.0.bytes();
         insert_in(leaf, entry.0.copy(), entry.1)?;
     }
@@ -87,6 +88,7 @@ fn insert_part<D: Disk, const W: usize>(
         → free_pages (stand pages.old work.old).used + 1
         < length (inserted_all part.now (slice_index_or leaves place []))) }
 {
+    // For the proof.
     let _count = leaf_count(index);
     let page = leaf_page(index, place);
     let mut leaf = match read_page_leaf(alloc, pages, work, page) {
@@ -194,6 +196,7 @@ fn insert_from<D: Disk, const W: usize>(
 fn check_entry<const W: usize>(entry: &(IndexKey<W>, u32))
     ensures { FitsLeaf W entry.now }
 {
+    // For the proof.
     let _key = entry.0.bytes();
     let _value = entry.1;
 }
@@ -233,6 +236,7 @@ fn insert_first<D: Disk, const W: usize>(
     if leaves > 0 {
         return Ok(0);
     }
+    // For the proof.
     let _room = capacity_of(W);
     check_entry(&run[0]);
     match add_leaf(alloc, pages, work, index, 0, &run[..1]) {
@@ -435,6 +439,7 @@ fn remove_at<D: Disk, const W: usize>(
     ensures looks { LooksAt D.honest D.failures D.state result pages.old pages.new }
     ensures answer { AnswersEdit result pages.new.closed ⊥ }
 {
+    // For the proof.
     let _count = leaf_count(index);
     let page = leaf_page(index, place);
     let mut leaf = match read_page_leaf(alloc, pages, work, page) {

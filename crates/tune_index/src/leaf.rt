@@ -244,6 +244,7 @@ pub(crate) fn write_leaf<const W: usize>(
     ensures form { IfOk result (λ image. IsLeaf W image.bytes) }
     ensures entries { IfOk result (λ image. leaf_in W image.bytes ≡ entries.now) }
 {
+    // For the proof.
     let _most = capacity_of(W);
     let mut bytes = Vec::with_capacity(alloc, 4096)?;
     push_count(&mut bytes, entries.len() as u16)?;

@@ -81,6 +81,7 @@ impl<const W: usize> Index<W> {
             (stand pages.old work.old) (stand pages.new work.new) }
         ensures answer { AnswersEdit result pages.new.closed (Unit {0}) }
     {
+        // For the proof.
         law_of_chains();
         let (first, listed) = list_of(self);
         if listed {

@@ -170,6 +170,7 @@ impl<const W: usize> Index<W> {
             (IsStored W most opening.old.pages opening.old.claimed first)) }
         ensures looks { LooksOpening D.honest D.failures D.state result opening.old opening.new }
     {
+        // For the proof.
         let _count = opening.count();
         let most = most as usize;
         let bytes = match opening.claim_chain_within(first, pages_for(most * 4)) {

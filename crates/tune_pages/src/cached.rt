@@ -173,7 +173,7 @@ fn replace_in(cache: &mut LruCache<u32, Box<PageImage>>, changes: &Changes, plac
         (changed_page changes.now place) }
     ensures cap { cache.new.cap ≡ cache.old.cap }
 {
-    // Its contract says that no page has two images.
+    // For the proof: its contract says that no page has two images.
     let _count = cache.len();
     if let Some(kept) = cache.get_mut(&changes.page_at(place)) {
         **kept = changes.image_at(place);

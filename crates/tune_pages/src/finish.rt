@@ -115,6 +115,7 @@ impl<D: Disk> Pages<D> {
         if work.changes.is_empty() {
             match &self.held {
                 Held::Open(journal) => {
+                    // For the proof.
                     let _ = journal.count();
                 }
                 _ => unreachable!(),

@@ -154,6 +154,7 @@ impl<D: Disk> Pages<D> {
     {
         // The journal's count says that each of its pages has the bytes of a block.
         if let Held::Open(journal) = &self.held {
+            // For the proof.
             let _ = journal.count();
         }
         self.limit

@@ -55,6 +55,7 @@ impl SearchIndexes {
             (AreStored (notes_in notes) most opening.old.pages opening.old.claimed firsts)) }
         ensures looks { LooksOpening D.honest D.failures D.state result opening.old opening.new }
     {
+        // For the proof.
         let _count = opening.count();
         let (titles, title_entries) = Index::load(alloc, opening, firsts.titles, most)?;
         let (rhythms, rhythm_entries) = Index::load(alloc, opening, firsts.rhythms, most)?;

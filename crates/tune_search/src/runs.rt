@@ -99,6 +99,7 @@ fn entry_at<const W: usize>(key: &IndexKey<W>, number: u32) -> (IndexKey<W>, u32
     ensures entry { result ≡ (key.now, number) }
     ensures fits { FitsLeaf W result }
 {
+    // For the proof.
     let _bytes = key.bytes();
     (*key, number)
 }
