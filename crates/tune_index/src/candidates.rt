@@ -18,18 +18,19 @@ use tune_disk::Disk;
 use tune_journal::PageImage;
 use tune_pages::{Fault, Pages, Work, law_of_looks};
 
-// The image of a page of an index. A page that is not in use or is the root, which an honest disk
-// does not show, closes the pages.
+// Puts the image of a page of an index in the place of `image`. A page that is not in use or is the
+// root, which an honest disk does not show, closes the pages.
 fn read_leaf_image<D: Disk>(
     pages: &mut Pages<D>,
     work: &Work,
     page: u32,
-) -> Result<PageImage, Fault>
+    image: &mut PageImage,
+) -> Result<(), Fault>
     requires open { pages.old.closed ≡ false }
     requires fits { Fits pages.old work.now }
     requires in_use { HonestAt D.honest pages.old.disk → InUse (stand pages.old work.now) page }
-    ensures image { IfOk result (λ image. HonestAt D.honest pages.new.disk
-        → image.bytes ≡ image_at (stand pages.old work.now) page) }
+    ensures image { OnOk result (HonestAt D.honest pages.new.disk
+        → image.new.bytes ≡ image_at (stand pages.old work.now) page) }
     ensures in_use { OnOk result (InUse (stand pages.new work.now) page) }
     ensures fits { OnOk result (Fits pages.new work.now) }
     ensures stand { OnOk result (SameStand (HonestAt D.honest pages.new.disk)
@@ -40,10 +41,7 @@ fn read_leaf_image<D: Disk>(
     if page == 0 || !pages.in_use(work, page) {
         return Err(pages.close());
     }
-    match pages.read_page(work, page) {
-        Ok(image) => Ok(image),
-        Err(fault) => Err(fault),
-    }
+    pages.read_page_into(work, page, image)
 }
 
 // The leaf in a page. A page that has none, which an honest disk does not show, closes the pages.
@@ -71,10 +69,10 @@ pub(crate) fn read_page_leaf<D: Disk, const W: usize>(
     ensures looks { LooksAt D.honest D.failures D.state result pages.old pages.new }
     ensures answer { AnswersRead result pages.old.closed pages.new.closed }
 {
-    let image = match read_leaf_image(pages, work, page) {
-        Ok(image) => image,
-        Err(fault) => return Err(fault),
-    };
+    let mut image = PageImage::blank();
+    if let Err(fault) = read_leaf_image(pages, work, page, &mut image) {
+        return Err(fault);
+    }
     match read_leaf(alloc, &image) {
         Ok(Some(leaf)) => Ok(leaf),
         Ok(None) => Err(pages.close()),
@@ -108,10 +106,10 @@ fn add_page_values<D: Disk, const W: usize>(
     ensures looks { LooksAt D.honest D.failures D.state result pages.old pages.new }
     ensures answer { AnswersRead result pages.old.closed pages.new.closed }
 {
-    let image = match read_leaf_image(pages, work, page) {
-        Ok(image) => image,
-        Err(fault) => return Err(fault),
-    };
+    let mut image = PageImage::blank();
+    if let Err(fault) = read_leaf_image(pages, work, page, &mut image) {
+        return Err(fault);
+    }
     match add_values_of(&image, low, high, values) {
         Ok(true) => Ok(()),
         Ok(false) => Err(pages.close()),

@@ -1,5 +1,5 @@
 -- What caches keep.
-use Rattle.std.proofs.Common.{◌≡◌, ◌≢◌, ℕ, suc, ◌+◌, ◌<◌, ◌≤◌, [], ◌∷◌, length, arith, true, false, ◌⊎◌, inl, inr, List, All, Contains, Some, None}
+use Rattle.std.proofs.Common.{◌≡◌, ◌≢◌, ℕ, suc, ◌+◌, ◌<◌, ◌≤◌, [], ◌∷◌, length, arith, true, false, ◌⊎◌, inl, inr, List, ◌++◌, All, Contains, Option, Some, None, IfSome}
 use Rattle.std.proofs.Common.{Result, Ok, Err, OnOk, OnErr, refl, sym, ◌∙◌, ap, subst, map, option_map, nat_eq, rules}
 use Rattle.std.specs.Cmp.{nat_eq_equiv}
 use Rattle.std.specs.Global.{Box}
@@ -19,7 +19,8 @@ use Rattle.tune_journal.specs.Pages.{page_at, pages_after}
 use Rattle.tune_journal.specs.declared.changes.PageImage.{PageImage}
 use Rattle.tune_journal.proofs.Above.{page_kept_after, page_changed_after, length-pages_after}
 use Rattle.tune_journal.proofs.Puts.{image_past}
-use Rattle.tune_pages.specs.Inside.Cached.{Entry, KeepsOnly, KeepsOneMore, HasImage, Replaces, ReplacesAll, AreKept}
+use Rattle.tune_pages.specs.Chain.{next_of, piece_of, IsLink}
+use Rattle.tune_pages.specs.Inside.Cached.{Entry, KeepsOnly, KeepsOneMore, HasImage, HasLinkImage, Replaces, ReplacesAll, AreKept}
 
 equal : (k page : ℕ) → nat_eq page k ≡ true → k ≡ page
 equal k page is = search rules
@@ -30,6 +31,13 @@ pub found_image : (page : ℕ) (entries : List Entry) (kept : Box PageImage) →
 found_image page entries kept is =
     let at = Contains-lookup (nat_eq page) entries kept is in
     (kept, subst (λ (k : ℕ). Contains entries (k, kept)) (equal at.0 page at.2) at.1, refl)
+
+-- where it is of a page of a chain, its bytes that count are added
+pub link_found : (next : Option ℕ) (entries : List Entry) (page : ℕ) (image before after : List ℕ) → HasImage entries page image
+    → IfSome next (λ n. IsLink image × (n ≡ next_of image) × (after ≡ before ++ piece_of image))
+    → IfSome next (λ n. HasLinkImage entries page n before after)
+link_found None entries page image before after has some = tt
+link_found (Some n) entries page image before after has some = (image, has, some.0, some.1, some.2)
 
 -- what is put is the image of the page, whatever was there
 pub put_one : (cache : LruCache ℕ (Box PageImage)) (page : ℕ) (copy : Box PageImage)
@@ -142,6 +150,15 @@ replaced_all changes old new first entry has = elim (first entry has) [
 ]
 
 -- WHAT IS KEPT
+-- what is added of the image that is kept is what the page holds
+pub link_kept : (pages : List (List ℕ)) (entries : List Entry) (next : Option ℕ) (page : ℕ) (image before after : List ℕ) → AreKept pages entries
+    → page_at pages page ≡ image → IfSome next (λ n. HasLinkImage entries page n before after)
+    → IfSome next (λ n. IsLink image × (n ≡ next_of image) × (after ≡ before ++ piece_of image))
+link_kept pages entries None page image before after kept is some = tt
+link_kept pages entries (Some n) page image before after kept is some =
+    let same : some.0 ≡ image = sym some.1.2 ∙ (kept (page, some.1.0) some.1.1).1 ∙ is in
+    subst (λ (i : List ℕ). IsLink i × (n ≡ next_of i) × (after ≡ before ++ piece_of i)) same (some.2, some.3, some.4)
+
 pub kept_more : (pages : List (List ℕ)) (old new : List Entry) (page : ℕ) (image : List ℕ) → AreKept pages old → KeepsOneMore old new page image
     → page < length pages → image ≡ page_at pages page → AreKept pages new
 kept_more pages old new page image kept more below is entry has = elim (more entry has) [

@@ -1,5 +1,5 @@
 -- What is read of a page through a work.
-use Rattle.std.proofs.Common.{◌≡◌, inl, inr, ℕ, ◌<◌, List, length, Some, None, IsSome, Result, Ok, Err, OnOk, Bool, true, false, sym, ◌∙◌, ap, subst, arith}
+use Rattle.std.proofs.Common.{◌≡◌, inl, inr, ℕ, ◌<◌, List, [], ◌∷◌, length, refl, Some, None, IsSome, Result, Ok, Err, OnOk, Bool, true, false, sym, ◌∙◌, ap, subst, arith}
 use Rattle.std.proofs.lemmas.Bool.{cases_lt}
 use Rattle.tune_journal.specs.ChangeList.{image_of}
 use Rattle.tune_journal.specs.Pages.{page_at}
@@ -28,6 +28,11 @@ module _ (pages : List (List ℕ)) (used : List Bool) (w : Work) (p : ℕ) (fits
   pub read_kept : image_of p w.changes ≡ None → page_at pages p ≡ page_at (stand_on pages used w).pages p
   read_kept none = sym (ap (λ (l : List (List ℕ)). page_at l p) (stand_pages pages used w)
       ∙ page_kept_after pages (count_in pages w) w.changes p (read_old none) none)
+
+-- where no page changes, none has another image
+pub none_of : (changes : List (ℕ × List ℕ)) (p : ℕ) → length changes ≡ 0 → image_of p changes ≡ None
+none_of [] p is = refl
+none_of (c ∷ cs) p is = absurd (omega (arith, is))
 
 pub ok_as : {T E : Type 0} (r : Result T E) (P Q : Type 0) → (P → Q) → OnOk r P → OnOk r Q
 ok_as (Ok x) P Q so p = so p

@@ -1,9 +1,11 @@
 // Images of pages that are kept in memory.
-ghost use Rattle.std.specs.Prelude.{◌≡◌, ◌<◌, ◌≤◌, [], true, length, IfSome};
+ghost use Rattle.std.specs.Prelude.{◌≡◌, ◌<◌, ◌≤◌, [], true, length, IfNone, IfSome};
 ghost use Rattle.tune_journal.specs.ChangeList.{changed_page};
 ghost use Rattle.tune_pages.specs.Inside.Cached.{KeepsOnly, KeepsOneMore, HasImage};
+ghost use Rattle.tune_pages.specs.Inside.Cached.{HasLinkImage};
 ghost use Rattle.tune_pages.specs.Inside.Cached.{Replaces, ReplacesAll};
 
+use crate::link::add_link;
 use lru::LruCache;
 use std::alloc::Global;
 use std::marker::Model;
@@ -63,6 +65,21 @@ impl CachedImages {
         false
     }
 
+    /// Adds the bytes that count of the image that is kept of a page of a chain, and gives the page
+    /// behind it. `None`, with the bytes as they were, where no image of it is kept, or one that
+    /// can be of no page of a chain, and where there is no memory for more bytes.
+    pub(crate) fn add_link(&mut self, page: u32, bytes: &mut Vec<u8>) -> Option<u32>
+        ensures link { IfSome result (λ next.
+            HasLinkImage self.old page next bytes.old.items bytes.new.items) }
+        ensures none { IfNone result (bytes.new.items ≡ bytes.old.items) }
+        ensures only { KeepsOnly self.old self.new }
+    {
+        if let Some(cache) = &mut self.cache {
+            return add_link_in(cache, page, bytes);
+        }
+        None
+    }
+
     /// Keeps the image of a page, where there is memory for it. Where 1,024 are kept, the one that
     /// was asked for longest ago goes.
     pub(crate) fn keep(&mut self, page: u32, image: &PageImage)
@@ -115,6 +132,24 @@ fn read_in(cache: &mut LruCache<u32, Box<PageImage>>, page: u32, image: &mut Pag
             true
         }
         None => false,
+    }
+}
+
+/// Adds the bytes that count of the image that is kept of a page of a chain.
+fn add_link_in(
+    cache: &mut LruCache<u32, Box<PageImage>>,
+    page: u32,
+    bytes: &mut Vec<u8>,
+) -> Option<u32>
+    ensures link { IfSome result (λ next.
+        HasLinkImage cache.old.entries page next bytes.old.items bytes.new.items) }
+    ensures none { IfNone result (bytes.new.items ≡ bytes.old.items) }
+    ensures only { KeepsOnly cache.old.entries cache.new.entries }
+    ensures cap { cache.new.cap ≡ cache.old.cap }
+{
+    match cache.get(&page) {
+        Some(kept) => add_link(kept, bytes),
+        None => None,
     }
 }
 

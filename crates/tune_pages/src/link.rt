@@ -1,5 +1,6 @@
 // Pages of chains, as bytes.
 ghost use Rattle.std.specs.Prelude.{◌≡◌, ◌↔◌, ◌≤◌, ◌-◌, ◌++◌, length, replicate, IsTrue, OnOk};
+ghost use Rattle.std.specs.Prelude.{IfNone, IfSome, OnErr};
 ghost use Rattle.std.specs.Int.{w16, w32, to_be_bytes};
 ghost use Rattle.tune_pages.specs.Chain.{next_of, size_of, piece_of, IsLink};
 ghost use Rattle.tune_pages.specs.Faults.{pages_for};
@@ -52,10 +53,28 @@ pub(crate) fn is_link(image: &PageImage) -> bool
 pub(crate) fn add_piece(image: &PageImage, bytes: &mut Vec<u8>) -> Result<(), AllocError>
     requires { size_of image.now.bytes ≤ piece_room }
     ensures ok { OnOk result (bytes.new.items ≡ bytes.old.items ++ piece_of image.now.bytes) }
+    ensures err { OnErr result (bytes.new.items ≡ bytes.old.items) }
 {
     let size = size_in(image) as usize;
     bytes.extend_from_slice(&image.bytes[6..6 + size])?;
     Ok(())
+}
+
+/// Adds the bytes that count of a page of a chain, and gives the page behind it. `None`, with the
+/// bytes as they were, where this can be no page of a chain or there is no memory for more bytes.
+pub(crate) fn add_link(image: &PageImage, bytes: &mut Vec<u8>) -> Option<u32>
+    ensures link { IfSome result (λ next. IsLink image.now.bytes
+        × (next ≡ next_of image.now.bytes)
+        × (bytes.new.items ≡ bytes.old.items ++ piece_of image.now.bytes)) }
+    ensures none { IfNone result (bytes.new.items ≡ bytes.old.items) }
+{
+    if !is_link(image) {
+        return None;
+    }
+    match add_piece(image, bytes) {
+        Ok(()) => Some(next_page(image)),
+        Err(_) => None,
+    }
 }
 
 // The next page, and how many bytes count.

@@ -49,14 +49,18 @@ impl<D: Disk> Pages<D> {
         ensures answer { AnswersRead result self.old.closed self.new.closed }
     {
         let mut image = PageImage::blank();
-        match self.read_into(work, page, &mut image) {
+        match self.read_page_into(work, page, &mut image) {
             Ok(()) => Ok(image),
             Err(fault) => Err(fault),
         }
     }
 
-    // The same, put in the place of another image.
-    pub(crate) fn read_into(
+    /// Puts the image of a page that is in use, as the work stands, in the place of `image`.
+    ///
+    /// # Errors
+    ///
+    /// Those of [`Pages::read_page`]; `image` is then any.
+    pub fn read_page_into(
         &mut self,
         work: &Work,
         page: u32,

@@ -119,6 +119,15 @@ impl<D: Disk> Pages<D> {
         ensures looks { LooksAt D.honest D.failures D.state result self.old self.new }
         ensures answer { AnswersRead result self.old.closed self.new.closed }
     {
+        if self.closed {
+            return Err(Fault::Closed);
+        }
+        if !self.in_use(work, page) {
+            return Ok(None);
+        }
+        if let Some(next) = self.add_kept_link(work, page, bytes) {
+            return Ok(Some(next));
+        }
         let mut image = PageImage::blank();
         match self.read_link(work, page, &mut image) {
             Ok(true) => match add_piece(&image, bytes) {
@@ -128,6 +137,25 @@ impl<D: Disk> Pages<D> {
             Ok(false) => Ok(None),
             Err(fault) => Err(fault),
         }
+    }
+
+    // Adds the bytes of a page of a chain of which an image is kept, and gives the page behind it.
+    // None, with the bytes as they were, where the work changes pages, where no image is kept, or
+    // one that can be of no page of a chain, and where there is no memory for more bytes.
+    fn add_kept_link(&mut self, work: &Work, page: u32, bytes: &mut Vec<u8>) -> Option<u32>
+        requires open { self.old.closed ≡ false }
+        requires fits { Fits self.old work.now }
+        requires used { IsUsed (stand self.old work.now).used page }
+        ensures link { let image = page_at (stand self.old work.now).pages page in
+            HonestAt D.honest self.new.disk → IfSome result (λ next. IsLink image
+            × (next ≡ next_of image) × (bytes.new.items ≡ bytes.old.items ++ piece_of image)) }
+        ensures none { IfNone result (bytes.new.items ≡ bytes.old.items) }
+        ensures same { self.new ≡ self.old }
+    {
+        if !work.changes.is_empty() {
+            return None;
+        }
+        self.cached.add_link(page, bytes)
     }
 
     // Frees a page of a chain, and gives the page behind it; none where the page can be no page of
@@ -187,7 +215,7 @@ impl<D: Disk> Pages<D> {
         if !self.in_use(work, page) {
             return Ok(false);
         }
-        match self.read_into(work, page, image) {
+        match self.read_page_into(work, page, image) {
             Ok(()) => Ok(is_link(image)),
             Err(fault) => Err(fault),
         }

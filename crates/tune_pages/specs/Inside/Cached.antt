@@ -1,10 +1,11 @@
 -- Images of pages that are kept in memory.
-use Rattle.std.specs.Prelude.{◌≡◌, ◌≢◌, ◌⊎◌, ℕ, ◌<◌, List, [], length, Contains, Option, Some, None}
+use Rattle.std.specs.Prelude.{◌≡◌, ◌≢◌, ◌⊎◌, ℕ, ◌<◌, List, [], ◌++◌, length, Contains, Option, Some, None}
 use Rattle.std.specs.Global.{Box}
 use Rattle.lru.specs.LruCache.{LruCache}
 use Rattle.tune_journal.specs.ChangeList.{image_of}
 use Rattle.tune_journal.specs.Pages.{page_at}
 use Rattle.tune_journal.specs.declared.changes.PageImage.{PageImage}
+use Rattle.tune_pages.specs.Chain.{next_of, piece_of, IsLink}
 
 -- a page, and the image that is kept of it
 abbrev pub Entry : Type 0
@@ -28,6 +29,13 @@ KeepsOnly old new = (entry : Entry) → Contains new entry → Contains old entr
 abbrev pub HasImage : List Entry → ℕ → List ℕ → Type 0
 HasImage entries page image =
     (kept : Box PageImage) × Contains entries (page, kept) × (kept.value.bytes ≡ image)
+
+-- The image of this page is kept. It is of a page of a chain, which leads to `next`, and its bytes
+-- that count stand behind those before.
+abbrev pub HasLinkImage : List Entry → ℕ → ℕ → List ℕ → List ℕ → Type 0
+HasLinkImage entries page next before after =
+    (image : List ℕ) × HasImage entries page image × IsLink image
+    × (next ≡ next_of image) × (after ≡ before ++ piece_of image)
 
 -- none but these are kept, and the image of a page
 abbrev pub KeepsOneMore : List Entry → List Entry → ℕ → List ℕ → Type 0
