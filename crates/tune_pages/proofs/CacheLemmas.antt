@@ -1,5 +1,6 @@
 -- What caches keep.
-use Rattle.std.proofs.Common.{◌≡◌, ◌≢◌, ℕ, suc, ◌+◌, ◌<◌, ◌≤◌, [], ◌∷◌, length, arith, true, false, ◌⊎◌, inl, inr, List, ◌++◌, All, Contains, Option, Some, None, IfSome}
+use Rattle.std.proofs.Common.{◌≡◌, ◌≢◌, ℕ, suc, ◌+◌, ◌<◌, ◌≤◌, [], ◌∷◌, length, arith, true, false, ◌⊎◌, inl, inr, List}
+use Rattle.std.proofs.Common.{◌++◌, All, Contains, Option, Some, None, IfSome}
 use Rattle.std.proofs.Common.{Result, Ok, Err, OnOk, OnErr, refl, sym, ◌∙◌, ap, subst, map, option_map, nat_eq, rules}
 use Rattle.std.specs.Cmp.{nat_eq_equiv}
 use Rattle.std.specs.Global.{Box}

@@ -1,5 +1,6 @@
 -- What is read of a page through a work.
-use Rattle.std.proofs.Common.{◌≡◌, inl, inr, ℕ, ◌<◌, List, [], ◌∷◌, length, refl, Some, None, IsSome, Result, Ok, Err, OnOk, Bool, true, false, sym, ◌∙◌, ap, subst, arith}
+use Rattle.std.proofs.Common.{◌≡◌, inl, inr, ℕ, ◌<◌, List, [], ◌∷◌, length, refl, Some, None, IsSome, Result, Ok, Err, OnOk}
+use Rattle.std.proofs.Common.{Bool, true, false, sym, ◌∙◌, ap, subst, arith}
 use Rattle.std.proofs.lemmas.Bool.{cases_lt}
 use Rattle.tune_journal.specs.ChangeList.{image_of}
 use Rattle.tune_journal.specs.Pages.{page_at}
