@@ -1,5 +1,5 @@
 -- Parts and tunes that are claimed.
-use Rattle.std.proofs.Common.{◌≡◌, ℕ, List, [], ◌∷◌, ◌++◌, Bool, true, Result, Ok, Err, IfOk, IfErr, refl, sym, ◌∙◌, ap, subst}
+use Rattle.std.proofs.Common.{◌≡◌, ℕ, List, [], ◌∷◌, ◌++◌, Bool, true, Result, Ok, Err, IfOk, IfErr, OnOk, refl, sym, ◌∙◌, ap, subst}
 use Rattle.std.proofs.lemmas.List.{append-nil}
 use Rattle.tune_pages.specs.Chain.{IsChain}
 use Rattle.tune_pages.specs.Claim.{Claimable, IsClaimableWithin}
@@ -18,6 +18,10 @@ use Rattle.tune_contents.specs.Inside.ClaimedParts.{ClaimsPart, IsPartThere, IsT
 pub ok_as : {T E : Type 0} (r : Result T E) (P Q : T → Type 0) → ((x : T) → P x → Q x) → IfOk r P → IfOk r Q
 ok_as (Ok x) P Q as_q p = as_q x p
 ok_as (Err e) P Q as_q p = tt
+
+pub on_ok_as : {T E : Type 0} (r : Result T E) (P Q : Type 0) → (P → Q) → OnOk r P → OnOk r Q
+on_ok_as (Ok x) P Q as_q p = as_q p
+on_ok_as (Err e) P Q as_q p = tt
 
 pub err_as : {T E : Type 0} (r : Result T E) (P Q : E → Type 0) → ((e : E) → P e → Q e) → IfErr r P → IfErr r Q
 err_as (Ok x) P Q as_q p = tt

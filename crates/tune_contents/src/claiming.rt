@@ -1,6 +1,6 @@
 // Claims what an archive has on its pages, and so finds whether a state stands there.
 ghost use Rattle.std.specs.Prelude.{◌≡◌, ◌≢◌, ◌↔◌, ℕ, ◌^◌, ◌<◌, ◌≤◌, List, length, slice_index};
-ghost use Rattle.std.specs.Prelude.{IfOk, IfErr, IfSome, IfNone, IsTrue};
+ghost use Rattle.std.specs.Prelude.{IfOk, IfErr, IfSome, IfNone, IsTrue, OnOk};
 ghost use Rattle.tune_index.specs.Indexes.{Shape};
 ghost use Rattle.tune_pages.specs.Claim.{IsChainFault, LooksOpening};
 ghost use Rattle.tune_pages.specs.OpenedPages.{only_root};
@@ -38,6 +38,7 @@ use std::alloc::{AllocError, Global};
 use tune_disk::Disk;
 use tune_format::{Firsts, Row, number_of_key, read_root, read_text};
 use tune_index::{Index, IndexKey};
+use tune_journal::PageImage;
 use tune_pages::{ClaimFault, Opening, pages_for};
 use tune_search::{IncipitNotes, SearchClaims, SearchEntries, SearchFirsts, SearchIndexes};
 use tune_sets::{ReadFault, SetLists, TuneSet};
@@ -160,7 +161,8 @@ fn claim_lists<D: Disk>(alloc: Global, opening: &mut Opening<D>) -> Result<Lists
     let most_entries = MOST_TITLES as u32 * most;
     let notes = incipit_notes(layout);
     let (searches, entries) = claim_searches(alloc, opening, notes, firsts.searches, most_entries)?;
-    let sets = claim_part(opening, firsts.sets, MOST_SETS_PAGES)?;
+    let mut chain = ReadChain::new(alloc);
+    claim_part(opening, firsts.sets, MOST_SETS_PAGES, &mut chain)?;
     Ok(Lists {
         layout,
         firsts,
@@ -168,7 +170,7 @@ fn claim_lists<D: Disk>(alloc: Global, opening: &mut Opening<D>) -> Result<Lists
         tunes,
         searches,
         entries,
-        sets,
+        sets: chain.bytes,
     })
 }
 
@@ -217,21 +219,40 @@ fn claim_searches<D: Disk>(
     SearchIndexes::load(alloc, opening, notes, firsts, most)
 }
 
-// Claims the part of at most so many pages that begins at this one, and gives its bytes.
+// A chain that is read: the image of its last page, and its bytes. One is enough for all chains of
+// an opening.
+#[derive(Drop)]
+struct ReadChain {
+    image: PageImage,
+    bytes: Vec<u8>,
+}
+
+impl ReadChain {
+    // No chain.
+    fn new(alloc: Global) -> ReadChain {
+        ReadChain {
+            image: PageImage::blank(),
+            bytes: Vec::new(alloc),
+        }
+    }
+}
+
+// Claims the part of at most so many pages that begins at this one, and reads its chain.
 fn claim_part<D: Disk>(
     opening: &mut Opening<D>,
     first: u32,
     most: usize,
-) -> Result<Vec<u8>, ClaimFault>
-    ensures claims { IfOk result (λ bytes. D.honest opening.new.disk → (front : List Part)
+    chain: &mut ReadChain,
+) -> Result<(), ClaimFault>
+    ensures claims { OnOk result (D.honest opening.new.disk → (front : List Part)
         → HasClaimed opening.old.pages opening.old.claimed front
-        → ClaimsPart opening.old.pages front opening.new.claimed first bytes.items) }
+        → ClaimsPart opening.old.pages front opening.new.claimed first chain.new.bytes.items) }
     ensures damaged { IfErr result (λ fault. D.honest opening.new.disk → (front : List Part)
         → HasClaimed opening.old.pages opening.old.claimed front
         → IsChainFault fault (IsPartThere opening.old.pages front first most)) }
     ensures looks { LooksOpening D.honest D.failures D.state result opening.old opening.new }
 {
-    opening.claim_chain_within(first, most)
+    opening.claim_chain_into(first, most, &mut chain.image, &mut chain.bytes)
 }
 
 // The rows of the entries of the index of numbers, with no revision and no length yet. Their
@@ -391,8 +412,9 @@ fn claim_tunes<D: Disk>(
     ensures looks { LooksOpening D.honest D.failures D.state result opening.old opening.new }
 {
     let mut rows = Vec::new(alloc);
+    let mut chain = ReadChain::new(alloc);
     for (place, row) in listed.iter().enumerate() {
-        let row = claim_tune(alloc, opening, layout, row, place, claims)?;
+        let row = claim_tune(alloc, opening, layout, row, place, claims, &mut chain)?;
         if rows.push(row).is_err() {
             return Err(ClaimFault::OutOfMemory);
         }
@@ -408,6 +430,7 @@ fn claim_tune<D: Disk>(
     row: &Row,
     place: usize,
     claims: &SearchClaims,
+    chain: &mut ReadChain,
 ) -> Result<Row, ClaimFault>
     requires place { place < length claims.now.numbers }
     requires number { slice_index claims.now.numbers place ≡ row.now.number }
@@ -423,8 +446,8 @@ fn claim_tune<D: Disk>(
     ensures looks { LooksOpening D.honest D.failures D.state result opening.old opening.new }
 {
     let most = pages_for(layout.longest_text() + REVISION_BYTES);
-    let bytes = claim_part(opening, row.first, most)?;
-    let (revision, text) = text_of(alloc, layout, &bytes)?;
+    claim_part(opening, row.first, most, chain)?;
+    let (revision, text) = text_of(alloc, layout, &chain.bytes)?;
     let length = text.bytes().len() as u32;
     match claims.claim_tune(alloc, place, &text) {
         Ok(true) => Ok(Row {

@@ -39,7 +39,32 @@ pub fn read_tune<D: Disk>(
     ensures looks { LooksAt D.honest D.failures D.state result pages.old pages.new }
     ensures answer { AnswersRead result pages.old.closed pages.new.closed }
 {
-    let bytes = pages.read_chain(work, first)?;
+    read_tune_where(alloc, pages, work, layout, first, true)
+}
+
+// The same. Images of its pages are kept where `keeps` says so.
+pub(crate) fn read_tune_where<D: Disk>(
+    alloc: Global,
+    pages: &mut Pages<D>,
+    work: &Work,
+    layout: Layout,
+    first: u32,
+    keeps: bool,
+) -> Result<TuneText, Fault>
+    requires open { pages.old.closed ≡ false }
+    requires fits { Fits pages.old work.now }
+    requires there { HonestAt D.honest pages.old.disk
+        → HoldsSomeText layout (stand pages.old work.now) first }
+    ensures text { IfOk result (λ text. HonestAt D.honest pages.new.disk → (revision : ℕ)
+        (other : List ℕ) → HoldsText layout (stand pages.old work.now) first revision other
+        → text ≡ other) }
+    ensures fits { OnOk result (Fits pages.new work.now) }
+    ensures stand { OnOk result (SameStand (HonestAt D.honest pages.new.disk)
+        (stand pages.old work.now) (stand pages.new work.now)) }
+    ensures looks { LooksAt D.honest D.failures D.state result pages.old pages.new }
+    ensures answer { AnswersRead result pages.old.closed pages.new.closed }
+{
+    let bytes = pages.walk_chain(work, first, keeps)?;
     match text_of(alloc, layout, &bytes) {
         Ok(Some(text)) => Ok(text),
         // An honest disk shows a text.

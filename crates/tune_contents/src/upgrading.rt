@@ -23,7 +23,7 @@ ghost use Rattle.tune_contents.specs.Inside.Upgrading.{AreOfTunes, LengthensText
 use crate::contents::Contents;
 use crate::laid_chains::lay_root;
 use crate::room::Room;
-use crate::tune_reading::read_tune;
+use crate::tune_reading::read_tune_where;
 use std::alloc::Global;
 use tune_disk::Disk;
 use tune_format::{Firsts, Row};
@@ -58,7 +58,7 @@ fn incipits_of<D: Disk>(
         return Err(Fault::OutOfMemory);
     };
     for row in rows {
-        let text = match read_tune(alloc, pages, work, layout, row.first) {
+        let text = match read_tune_where(alloc, pages, work, layout, row.first, false) {
             Ok(text) => text,
             Err(fault) => return Err(fault),
         };

@@ -80,11 +80,14 @@ impl CachedImages {
         None
     }
 
-    /// Keeps the image of a page, where there is memory for it. Where 1,024 are kept, the one that
-    /// was asked for longest ago goes.
-    pub(crate) fn keep(&mut self, page: u32, image: &PageImage)
+    /// Keeps the image of a page where that is wanted and there is memory for it. Where 1,024 are
+    /// kept, the one that was asked for longest ago goes.
+    pub(crate) fn keep(&mut self, page: u32, image: &PageImage, wanted: bool)
         ensures { KeepsOneMore self.old self.new page image.now.bytes }
     {
+        if !wanted {
+            return;
+        }
         self.begin();
         if let Some(cache) = &mut self.cache {
             return keep_in(cache, self.alloc, page, image);

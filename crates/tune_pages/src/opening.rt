@@ -174,17 +174,42 @@ impl<D: Disk> Opening<D> {
         ensures looks { LooksOpening D.honest D.failures D.state result self.old self.new }
     {
         let mut bytes = Vec::new(self.alloc);
-        let mut image = PageImage::blank();
+        self.claim_chain_into(first, most, &mut PageImage::blank(), &mut bytes)?;
+        Ok(bytes)
+    }
+
+    /// Claims the pages of the chain that begins at `first`, of which there may be up to `most`,
+    /// and puts its bytes in the place of these, as [`Opening::claim_chain_within`] gives them. The
+    /// image is where a page is read: who claims many chains has one for all.
+    ///
+    /// # Errors
+    ///
+    /// Those of [`Opening::claim_chain_within`].
+    pub fn claim_chain_into(
+        &mut self,
+        first: u32,
+        most: usize,
+        image: &mut PageImage,
+        bytes: &mut Vec<u8>,
+    ) -> Result<(), ClaimFault>
+        ensures chain { OnOk result (D.honest self.new.disk → (trail : List ℕ)
+            × Claimable self.old.pages self.old.claimed first trail bytes.new.items
+            × (self.new.claimed ≡ marked true trail self.old.claimed) × (length trail ≤ most)) }
+        ensures damaged { IfErr result (λ fault. D.honest self.new.disk
+            → IsChainFault fault (IsClaimableWithin most self.old.pages self.old.claimed first)) }
+        ensures looks { LooksOpening D.honest D.failures D.state result self.old self.new }
+    {
+        bytes.clear();
         let mut page = first;
         let mut left = most;
         while page != 0 {
             if left == 0 {
                 return Err(ClaimFault::Damaged);
             }
-            page = self.claim_link(page, &mut image, &mut bytes)?;
+            page = self.claim_link(page, image, bytes)?;
             left -= 1;
         }
-        Ok(bytes)
+        Ok(())
     }
 
     /// How many pages there are, the root among them.

@@ -76,17 +76,38 @@ impl<D: Disk> Pages<D> {
         ensures looks { LooksAt D.honest D.failures D.state result self.old self.new }
         ensures answer { AnswersRead result self.old.closed self.new.closed }
     {
+        self.read_image(work, page, image, true)
+    }
+
+    // The same. An image that the disk shows is kept where `keeps` says so.
+    pub(crate) fn read_image(
+        &mut self,
+        work: &Work,
+        page: u32,
+        image: &mut PageImage,
+        keeps: bool,
+    ) -> Result<(), Fault>
+        requires fits { Fits self.old work.now }
+        requires used { IsUsed (stand self.old work.now).used page }
+        ensures image { OnOk result (HonestAt D.honest self.new.disk
+            → image.new.bytes ≡ page_at (stand self.old work.now).pages page) }
+        ensures fits { OnOk result (Fits self.new work.now) }
+        ensures stand { OnOk result (SameStand (HonestAt D.honest self.new.disk)
+            (stand self.old work.now) (stand self.new work.now)) }
+        ensures looks { LooksAt D.honest D.failures D.state result self.old self.new }
+        ensures answer { AnswersRead result self.old.closed self.new.closed }
+    {
         if self.closed {
             return Err(Fault::Closed);
         }
         if work.changes.read(page, image) {
             return Ok(());
         }
-        self.fetch(page, image)
+        self.fetch(page, image, keeps)
     }
 
     // Reads a page that no work changes.
-    fn fetch(&mut self, page: u32, image: &mut PageImage) -> Result<(), Fault>
+    fn fetch(&mut self, page: u32, image: &mut PageImage, keeps: bool) -> Result<(), Fault>
         requires open { self.old.closed ≡ false }
         requires below { page < length self.old.pages }
         ensures image { OnOk result (HonestAt D.honest self.new.disk
@@ -102,7 +123,7 @@ impl<D: Disk> Pages<D> {
             Held::Open(mut journal) => match journal.read(page, image) {
                 Ok(()) => {
                     self.held = Held::Open(journal);
-                    self.cached.keep(page, image);
+                    self.cached.keep(page, image, keeps);
                     Ok(())
                 }
                 Err(DeviceFault) => {

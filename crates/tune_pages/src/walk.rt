@@ -41,6 +41,29 @@ impl<D: Disk> Pages<D> {
         ensures looks { LooksAt D.honest D.failures D.state result self.old self.new }
         ensures answer { AnswersRead result self.old.closed self.new.closed }
     {
+        self.walk_chain(work, first, true)
+    }
+
+    /// The same. Of pages that the disk shows images are kept only where `keeps` says so: who reads
+    /// each of many chains once has no use for them.
+    ///
+    /// # Errors
+    ///
+    /// Those of [`Pages::read_chain`].
+    pub fn walk_chain(&mut self, work: &Work, first: u32, keeps: bool) -> Result<Vec<u8>, Fault>
+        requires fits { Fits self.old work.now }
+        requires chain { HonestAt D.honest self.old.disk → 0 < first
+            → HasSomeChain (stand self.old work.now) first }
+        ensures bytes { IfOk result (λ bytes. HonestAt D.honest self.new.disk → (trail all : List ℕ)
+            → HasChain (stand self.old work.now) first trail all → bytes.items ≡ all) }
+        ensures none { IfOk result (λ bytes. first ≡ 0 → bytes.items ≡ []) }
+        ensures still { first ≡ 0 → self.new ≡ self.old }
+        ensures fits { OnOk result (Fits self.new work.now) }
+        ensures stand { OnOk result (SameStand (HonestAt D.honest self.new.disk)
+            (stand self.old work.now) (stand self.new work.now)) }
+        ensures looks { LooksAt D.honest D.failures D.state result self.old self.new }
+        ensures answer { AnswersRead result self.old.closed self.new.closed }
+    {
         if self.closed {
             return Err(Fault::Closed);
         }
@@ -52,7 +75,7 @@ impl<D: Disk> Pages<D> {
                 return Err(self.close());
             }
             left -= 1;
-            match self.read_piece(work, page, &mut bytes) {
+            match self.read_piece(work, page, &mut bytes, keeps) {
                 Ok(Some(next)) => page = next,
                 Ok(None) => return Err(self.close()),
                 Err(fault) => return Err(fault),
@@ -103,6 +126,7 @@ impl<D: Disk> Pages<D> {
         work: &Work,
         page: u32,
         bytes: &mut Vec<u8>,
+        keeps: bool,
     ) -> Result<Option<u32>, Fault>
         requires { Fits self.old work.now }
         ensures next { IfOk result (λ found. IfSome found (λ next. HonestAt D.honest self.new.disk
@@ -129,7 +153,7 @@ impl<D: Disk> Pages<D> {
             return Ok(Some(next));
         }
         let mut image = PageImage::blank();
-        match self.read_link(work, page, &mut image) {
+        match self.read_link(work, page, &mut image, keeps) {
             Ok(true) => match add_piece(&image, bytes) {
                 Ok(()) => Ok(Some(next_page(&image))),
                 Err(_) => Err(Fault::OutOfMemory),
@@ -180,7 +204,7 @@ impl<D: Disk> Pages<D> {
         ensures answer { AnswersRead result self.old.closed self.new.closed }
     {
         let mut image = PageImage::blank();
-        match self.read_link(work, page, &mut image) {
+        match self.read_link(work, page, &mut image, true) {
             Ok(true) => {
                 let next = next_page(&image);
                 match self.free(work, page) {
@@ -195,7 +219,13 @@ impl<D: Disk> Pages<D> {
 
     // Puts the image of a page of a chain that is in use in the place of another one; false where
     // the page can be no such one.
-    fn read_link(&mut self, work: &Work, page: u32, image: &mut PageImage) -> Result<bool, Fault>
+    fn read_link(
+        &mut self,
+        work: &Work,
+        page: u32,
+        image: &mut PageImage,
+        keeps: bool,
+    ) -> Result<bool, Fault>
         requires { Fits self.old work.now }
         ensures link { IfOk result (λ found. found ≡ true → IsLink image.new.bytes
             × IsUsed (stand self.old work.now).used page) }
@@ -215,7 +245,7 @@ impl<D: Disk> Pages<D> {
         if !self.in_use(work, page) {
             return Ok(false);
         }
-        match self.read_page_into(work, page, image) {
+        match self.read_image(work, page, image, keeps) {
             Ok(()) => Ok(is_link(image)),
             Err(fault) => Err(fault),
         }

@@ -38,10 +38,10 @@ returns-in_err-searches-clause-damaged g c =
     (root_at _ c.args.opening.now.pages _ (read.image two) c.in-Some.ensures.some) (omega (arith, same)) (omega (arith, same))
     (λ some. numbers_claimed _ _ _ _ _ _ _ _ (read.looks.same_pages two) (read.claimed ∙ c.requires.root) some (numbers.claims one)) (call.damaged h)))
 
-pub returns-in_err-sets-clause-damaged : goal.returns-in_err-sets-clause-damaged
-returns-in_err-sets-clause-damaged g c =
-    let p = err_from_is_err_and c.from_residual-in_err-sets.result c.from_residual-in_err-sets.ensures.1 in
-    let call = c.in_err-sets.ensures in
+pub returns-in_err-claim_part-clause-damaged : goal.returns-in_err-claim_part-clause-damaged
+returns-in_err-claim_part-clause-damaged g c =
+    let p = err_from_is_err_and c.from_residual-in_err-claim_part.result c.from_residual-in_err-claim_part.ensures.1 in
+    let call = c.in_err-claim_part.ensures in
     let searches = c.in_ok-searches.ensures in
     let numbers = c.in_ok-numbers.ensures in
     let read = c.in_ok-root.ensures in
@@ -52,7 +52,7 @@ returns-in_err-sets-clause-damaged g c =
     let two = numbers.looks.was_honest one in
     let on = numbers.looks.same_pages one ∙ read.looks.same_pages two in
     subst (λ (f : ClaimFault). IsChainFault f (IsStateThere c.args.opening.now.pages)) (sym p.2)
-    (sets_fault c.in_err-sets.field-0.0 _ _ _ _ c.in-Some.firsts c.most_tunes-most.result (8 * c.most_tunes-most.result) _ _ _ _
+    (sets_fault c.in_err-claim_part.field-0.0 _ _ _ _ c.in-Some.firsts c.most_tunes-most.result (8 * c.most_tunes-most.result) _ _ _ _
     (searches.looks.same_pages zero ∙ on) (root_at _ c.args.opening.now.pages _ (read.image two) c.in-Some.ensures.some)
     (omega (arith, same)) (omega (arith, same)) (c.requires.sized (read.looks.was_honest two)) (searches.notes ∙ c.incipit_notes-notes.ensures)
     (λ some. both_claimed _ _ _ _ _ _ c.in-Some.firsts c.most_tunes-most.result (8 * c.most_tunes-most.result) _ _ _ _ (read.looks.same_pages two) on
@@ -60,7 +60,7 @@ returns-in_err-sets-clause-damaged g c =
 
 pub returns-clause-claims : goal.returns-clause-claims
 returns-clause-claims g c = λ h some.
-    let sets = c.in_ok-sets.ensures in
+    let sets = c.in_ok-claim_part.ensures in
     let searches = c.in_ok-searches.ensures in
     let numbers = c.in_ok-numbers.ensures in
     let read = c.in_ok-root.ensures in

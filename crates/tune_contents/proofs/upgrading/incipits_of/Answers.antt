@@ -9,8 +9,8 @@ use Rattle.tune_contents.proofs.OldTuneLemmas.{some_row, some_text_there}
 use Rattle.tune_contents.proofs.UpgradeLemmas.{gathers_more, not_refused, texts_ordered, tunes_ordered}
 use Rattle.tune_contents.proofs.upgrading.incipits_of.Goals as goal
 
-pub read_tune-requires-clause-there : goal.read_tune-requires-clause-there
-read_tune-requires-clause-there g c = λ h.
+pub read_tune_where-requires-clause-there : goal.read_tune_where-requires-clause-there
+read_tune_where-requires-clause-there g c = λ h.
     (let looked = c.loop-row.invariant.looked in
     let rows = c.args.rows.now in
     let at = c.loop-row.row-index in
@@ -22,18 +22,18 @@ read_tune-requires-clause-there g c = λ h.
 pub loop-row-preserved : goal.loop-row-preserved
 loop-row-preserved g c =
     let inv = c.loop-row.invariant in
-    let call = c.in-Ok-read_tune.ensures in
+    let call = c.in-Ok-read_tune_where.ensures in
     let rows = c.args.rows.now in
     let at = c.loop-row.row-index in
-    let text : List ℕ = c.in-Ok-read_tune.text in
+    let text : List ℕ = c.in-Ok-read_tune_where.text in
     let same = stand_kept g.D.Disk.honest c.args.pages.now c.loop-row.pages c.args.work.now inv.looked.same in
     let added : (tunes : List (ℕ × List ℕ)) → GathersIncipits tunes c.loop-row.run
     → GathersIncipits (tunes ++ ((get_or rows at some_row).number, text) ∷ []) c.add.new.self =
     not_refused c.add.result _ (sym c.is_err.ensures.value ∙ c.if-is_err.false) c.add.ensures in
     record {
-      looked = looked_more g.D.Disk.honest g.D.Disk.failures g.D.Disk.state text c.args.pages.now c.loop-row.pages c.read_tune.new.pages inv.looked call.looks;
+      looked = looked_more g.D.Disk.honest g.D.Disk.failures g.D.Disk.state text c.args.pages.now c.loop-row.pages c.read_tune_where.new.pages inv.looked call.looks;
       fits = call.fits;
-      gathers = gathers_more (HonestAt g.D.Disk.honest c.loop-row.pages.disk) (HonestAt g.D.Disk.honest c.read_tune.new.pages.disk) c.args.layout
+      gathers = gathers_more (HonestAt g.D.Disk.honest c.loop-row.pages.disk) (HonestAt g.D.Disk.honest c.read_tune_where.new.pages.disk) c.args.layout
           (stand c.args.pages.now c.args.work.now) (stand c.loop-row.pages c.args.work.now) rows at c.loop-row.run c.add.new.self text
           call.looks.was_honest same.same c.loop-row-test.true inv.gathers call.text added;
     }

@@ -1,6 +1,6 @@
 use Rattle.std.proofs.Common.{◌≡◌, ℕ, List, ◌∙◌, sym, subst}
 use Rattle.tune_contents.specs.Texts.{IsTextOf}
-use Rattle.tune_contents.proofs.tune_reading.read_tune.Goals as goal
+use Rattle.tune_contents.proofs.tune_reading.read_tune_where.Goals as goal
 
 pub returns-in-Ok-Some-clause-text : goal.returns-in-Ok-Some-clause-text
 returns-in-Ok-Some-clause-text g c = λ h revision other holds.

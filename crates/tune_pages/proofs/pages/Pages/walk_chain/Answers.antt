@@ -7,7 +7,7 @@ use Rattle.tune_pages.specs.Stand.{Stand}
 use Rattle.tune_pages.specs.Work.{stand}
 use Rattle.tune_pages.proofs.Looking.{stand_marks, stand_kept, looked_none, looked_more}
 use Rattle.tune_pages.proofs.Walks.{leads_some, reads_start, reads_more, reads_link, reads_enough, reads_end}
-use Rattle.tune_pages.proofs.pages.Pages.read_chain.Goals as goal
+use Rattle.tune_pages.proofs.pages.Pages.walk_chain.Goals as goal
 
 pub loop-page-init : goal.loop-page-init
 loop-page-init g c =

@@ -3,7 +3,7 @@ use Rattle.tune_pages.specs.Kept.{HonestAt}
 use Rattle.tune_pages.specs.Work.{stand, Fits}
 use Rattle.tune_pages.proofs.Looking.{Looked}
 use Rattle.tune_pages.proofs.Walks.{ReadWalk}
-use Rattle.tune_pages.proofs.pages.Pages.read_chain.Given as goal
+use Rattle.tune_pages.proofs.pages.Pages.walk_chain.Given as goal
 
 abbrev pub invariant-loop-page : goal.invariant-loop-page
 invariant-loop-page g l = record {

@@ -1,7 +1,7 @@
 use Rattle.std.proofs.Common.{◌≡◌, ◌-◌, ◌≤◌, not, length}
 use Rattle.std.specs.List.{count_by}
 use Rattle.tune_pages.proofs.Claiming.{Walked}
-use Rattle.tune_pages.proofs.opening.Opening.claim_chain_within.Given as goal
+use Rattle.tune_pages.proofs.opening.Opening.claim_chain_into.Given as goal
 
 abbrev pub invariant-loop-page : goal.invariant-loop-page
 invariant-loop-page g l = record {

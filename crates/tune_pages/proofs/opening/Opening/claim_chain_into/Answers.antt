@@ -3,7 +3,7 @@ use Rattle.std.proofs.lemmas.Result.{err_from_is_err_and}
 use Rattle.tune_pages.specs.Claim.{IsChainFault, IsClaimableWithin}
 use Rattle.tune_pages.specs.declared.fault.ClaimFault.{ClaimFault}
 use Rattle.tune_pages.proofs.Claiming.{walked_as, walked_next, walked_over, walked_fault, fault_as}
-use Rattle.tune_pages.proofs.opening.Opening.claim_chain_within.Goals as goal
+use Rattle.tune_pages.proofs.opening.Opening.claim_chain_into.Goals as goal
 
 pub loop-page-preserved : goal.loop-page-preserved
 loop-page-preserved g c =

@@ -2,7 +2,7 @@ use Rattle.std.proofs.Common.{◌≡◌, None, ◌∙◌, rules}
 use Rattle.tune_journal.specs.ChangeList.{image_of}
 use Rattle.tune_pages.proofs.Looking.{stand_ok}
 use Rattle.tune_pages.proofs.Lookups.{read_changed, read_old, read_kept, ok_as}
-use Rattle.tune_pages.proofs.pages.Pages.read_page_into.Goals as goal
+use Rattle.tune_pages.proofs.pages.Pages.read_image.Goals as goal
 
 pub fetch-requires-clause-below : goal.fetch-requires-clause-below
 fetch-requires-clause-below g c =
