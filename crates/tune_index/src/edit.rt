@@ -16,6 +16,7 @@ use crate::leaf::{capacity_of, write_leaf};
 use index_keys::IndexKey;
 use std::alloc::{AllocError, Global};
 use tune_disk::Disk;
+use tune_journal::PageImage;
 use tune_pages::{Fault, Pages, Work, law_of_frames, law_of_works};
 
 // The leaf goes into a page.
@@ -45,10 +46,11 @@ fn write_page_leaf<D: Disk, const W: usize>(
     // For the proof.
     law_of_works();
     law_of_frames();
-    match write_leaf(alloc, leaf) {
-        Ok(image) => pages.put_page(work, page, &image)?,
-        Err(_) => return Err(Fault::OutOfMemory),
+    let mut image = PageImage::blank();
+    if write_leaf(alloc, leaf, &mut image).is_err() {
+        return Err(Fault::OutOfMemory);
     }
+    pages.put_page(work, page, &image)?;
     Ok(())
 }
 

@@ -209,14 +209,12 @@ pub(crate) fn add_values_of<const W: usize>(
     Ok(true)
 }
 
-// A page that begins with the bytes.
-fn fill_page(bytes: &[u8]) -> PageImage
+// The page begins with the bytes.
+fn fill_page(bytes: &[u8], image: &mut PageImage)
     requires { length bytes.now ≤ 4096 }
-    ensures { (rest : List ℕ) × (result.bytes ≡ bytes.now ++ rest) }
+    ensures { (rest : List ℕ) × (image.new.bytes ≡ bytes.now ++ rest) }
 {
-    let mut image = [0; 4096];
-    image[..bytes.len()].copy_from_slice(bytes);
-    PageImage { bytes: image }
+    image.bytes[..bytes.len()].copy_from_slice(bytes);
 }
 
 // The bytes of an entry go to the end of the list.
@@ -233,16 +231,17 @@ fn push_entry<const W: usize>(
     push_value(bytes, value)
 }
 
-// The page of a leaf.
+// The image becomes that of a leaf.
 pub(crate) fn write_leaf<const W: usize>(
     alloc: Global,
     entries: &[(IndexKey<W>, u32)],
-) -> Result<PageImage, AllocError>
+    image: &mut PageImage,
+) -> Result<(), AllocError>
     requires width { W ≤ 4090 }
     requires some { 1 ≤ length entries.now }
     requires within { length entries.now ≤ capacity W }
-    ensures form { IfOk result (λ image. IsLeaf W image.bytes) }
-    ensures entries { IfOk result (λ image. leaf_in W image.bytes ≡ entries.now) }
+    ensures form { OnOk result (IsLeaf W image.new.bytes) }
+    ensures entries { OnOk result (leaf_in W image.new.bytes ≡ entries.now) }
 {
     // For the proof.
     let _most = capacity_of(W);
@@ -251,5 +250,6 @@ pub(crate) fn write_leaf<const W: usize>(
     for entry in entries {
         push_entry(&mut bytes, entry)?;
     }
-    Ok(fill_page(&bytes))
+    fill_page(&bytes, image);
+    Ok(())
 }

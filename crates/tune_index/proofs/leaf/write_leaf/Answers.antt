@@ -50,9 +50,9 @@ returns-clause-form g c =
     let w = whole g.row.W c.loop-entry.entry-index c.args.entries.now c.loop-entry.bytes.items (count_bytes (length c.args.entries.now))
     c.loop-entry-test.false c.loop-entry.invariant.so_far in
     let f = c.fill_page.ensures in
-    let e : c.fill_page.result.bytes ≡ (count_bytes (length c.args.entries.now) ++ entries_bytes g.row.W c.args.entries.now) ++ f.0 = f.1
+    let e : c.fill_page.new.image.bytes ≡ (count_bytes (length c.args.entries.now) ++ entries_bytes g.row.W c.args.entries.now) ++ f.0 = f.1
     ∙ ap (λ (x : List ℕ). x ++ f.0) (c.deref.ensures.value ∙ w) in
-    is_leaf_written g.row.W c.args.entries.now c.fill_page.result.bytes f.0 c.requires.some c.requires.within
+    is_leaf_written g.row.W c.args.entries.now c.fill_page.new.image.bytes f.0 c.requires.some c.requires.within
     (omega (arith, c.capacity_of-most.ensures.within, c.capacity_of-most.ensures.exact)) e
 
 pub returns-clause-entries : goal.returns-clause-entries
@@ -60,8 +60,8 @@ returns-clause-entries g c =
     let w = whole g.row.W c.loop-entry.entry-index c.args.entries.now c.loop-entry.bytes.items (count_bytes (length c.args.entries.now))
     c.loop-entry-test.false c.loop-entry.invariant.so_far in
     let f = c.fill_page.ensures in
-    let e : c.fill_page.result.bytes ≡ (count_bytes (length c.args.entries.now) ++ entries_bytes g.row.W c.args.entries.now) ++ f.0 = f.1
+    let e : c.fill_page.new.image.bytes ≡ (count_bytes (length c.args.entries.now) ++ entries_bytes g.row.W c.args.entries.now) ++ f.0 = f.1
     ∙ ap (λ (x : List ℕ). x ++ f.0) (c.deref.ensures.value ∙ w) in
     let all : AllFit g.row.W c.args.entries.now =
     rw (take_all c.loop-entry.entry-index c.args.entries.now c.loop-entry-test.false) at c.loop-entry.invariant.fit in
-    leaf_back g.row.W c.args.entries.now c.fill_page.result.bytes f.0 all (omega (arith, c.capacity_of-most.ensures.within, c.capacity_of-most.ensures.exact)) e
+    leaf_back g.row.W c.args.entries.now c.fill_page.new.image.bytes f.0 all (omega (arith, c.capacity_of-most.ensures.within, c.capacity_of-most.ensures.exact)) e
