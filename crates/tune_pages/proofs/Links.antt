@@ -2,8 +2,8 @@
 use Rattle.std.proofs.Common.{◌≡◌, ◌≢◌, ℕ, ◌+◌, ◌-◌, ◌^◌, ◌<◌, ◌≤◌, List, ◌++◌, length, take, drop, replicate, refl, sym, ◌∙◌, ap, subst}
 use Rattle.std.proofs.Common.{arith, append_assoc}
 use Rattle.std.proofs.lemmas.List.{take_at, drop_at, drop-drop}
-use Rattle.std.proofs.lemmas.Nat.{from_be_bytes-to_be_bytes_4, from_be_bytes-to_be_bytes_2}
-use Rattle.std.specs.Int.{w16, w32, to_be_bytes, from_be_bytes}
+use Rattle.byteorder.specs.Endian.{big_bytes, big_number}
+use Rattle.byteorder.specs.Numbers.{big_number-reads_back}
 use Rattle.tune_pages.specs.Chain.{next_of, size_of, piece_of, IsLink, IsPadded}
 use Rattle.tune_pages.specs.Inside.Link.{link_bytes}
 
@@ -11,27 +11,24 @@ module _ (next : ℕ) (piece : List ℕ) (fits : next < 2 ^ 32) (few : length pi
   rest : List ℕ
   rest = replicate (4090 - length piece) 0
 
-  parts : link_bytes next piece ≡ to_be_bytes w32 next ++ (to_be_bytes w16 (length piece) ++ (piece ++ rest))
+  parts : link_bytes next piece ≡ big_bytes 4 next ++ (big_bytes 2 (length piece) ++ (piece ++ rest))
   unfolding rest link_bytes
   parts = simp append_assoc
 
-  behind : drop 4 (link_bytes next piece) ≡ to_be_bytes w16 (length piece) ++ (piece ++ rest)
-  behind = ap (λ (l : List ℕ). drop 4 l) parts ∙ drop_at (to_be_bytes w32 next) (to_be_bytes w16 (length piece) ++ (piece ++ rest)) 4 refl
+  behind : drop 4 (link_bytes next piece) ≡ big_bytes 2 (length piece) ++ (piece ++ rest)
+  behind = ap (λ (l : List ℕ). drop 4 l) parts ∙ drop_at (big_bytes 4 next) (big_bytes 2 (length piece) ++ (piece ++ rest)) 4 refl
 
   pub next_of-link : next_of (link_bytes next piece) ≡ next
   unfolding next_of
-  next_of-link = ap (λ (l : List ℕ). from_be_bytes w32 (take 4 l)) parts
-      ∙ ap (from_be_bytes w32) (take_at (to_be_bytes w32 next) (to_be_bytes w16 (length piece) ++ (piece ++ rest)) 4 refl)
-      ∙ from_be_bytes-to_be_bytes_4 next fits
+  next_of-link = ap (big_number 4) parts ∙ big_number-reads_back 4 next (big_bytes 2 (length piece) ++ (piece ++ rest)) fits
 
   pub size_of-link : size_of (link_bytes next piece) ≡ length piece
   unfolding size_of
-  size_of-link = ap (λ (l : List ℕ). from_be_bytes w16 (take 2 l)) behind
-      ∙ ap (from_be_bytes w16) (take_at (to_be_bytes w16 (length piece)) (piece ++ rest) 2 refl) ∙ from_be_bytes-to_be_bytes_2 (length piece) (omega arith)
+  size_of-link = ap (big_number 2) behind ∙ big_number-reads_back 2 (length piece) (piece ++ rest) (omega arith)
 
   behind_head : drop 6 (link_bytes next piece) ≡ piece ++ rest
   behind_head = sym (drop-drop 2 4 (link_bytes next piece)) ∙ ap (λ (l : List ℕ). drop 2 l) behind
-      ∙ drop_at (to_be_bytes w16 (length piece)) (piece ++ rest) 2 refl
+      ∙ drop_at (big_bytes 2 (length piece)) (piece ++ rest) 2 refl
 
   pub piece_of-link : piece_of (link_bytes next piece) ≡ piece
   unfolding piece_of

@@ -2,17 +2,17 @@
 -- a page stand; numbers have the highest byte first.
 use Rattle.std.specs.Prelude.{◌≡◌, ◌≢◌, ℕ, ◌+◌, ◌-◌, ◌<◌, ◌≤◌, List, [], ◌∷◌, ◌++◌, length, take}
 use Rattle.std.specs.Prelude.{drop, replicate, All}
-use Rattle.std.specs.Int.{w16, w32, from_be_bytes}
+use Rattle.byteorder.specs.Endian.{big_number}
 use Rattle.tune_journal.specs.Pages.{page_at}
 use Rattle.tune_pages.specs.LinkOffsets.{next_bytes, used_bytes, piece_offset, piece_room}
 
 -- the page behind this one, 0 at the end
 unfoldable pub next_of : List ℕ → ℕ
-next_of image = from_be_bytes w32 (take next_bytes image)
+next_of image = big_number next_bytes image
 
 -- how many of its bytes count
 unfoldable pub size_of : List ℕ → ℕ
-size_of image = from_be_bytes w16 (take used_bytes (drop next_bytes image))
+size_of image = big_number used_bytes (drop next_bytes image)
 
 -- the bytes that count
 unfoldable pub piece_of : List ℕ → List ℕ

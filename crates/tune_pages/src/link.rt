@@ -1,12 +1,13 @@
 // Pages of chains, as bytes.
-ghost use Rattle.std.specs.Prelude.{◌≡◌, ◌↔◌, ◌≤◌, ◌-◌, ◌++◌, length, replicate, IsTrue, OnOk};
-ghost use Rattle.std.specs.Prelude.{IfNone, IfSome, OnErr};
-ghost use Rattle.std.specs.Int.{w16, w32, to_be_bytes};
+ghost use Rattle.std.specs.Prelude.{◌≡◌, ◌↔◌, ◌≤◌, ◌-◌, ◌++◌, length, replicate};
+ghost use Rattle.std.specs.Prelude.{IfNone, IfSome, IsTrue, OnErr, OnOk};
+ghost use Rattle.byteorder.specs.Endian.{big_bytes};
 ghost use Rattle.tune_pages.specs.Chain.{next_of, size_of, piece_of, IsLink};
 ghost use Rattle.tune_pages.specs.Faults.{pages_for};
 ghost use Rattle.tune_pages.specs.Inside.Link.{link_bytes};
 ghost use Rattle.tune_pages.specs.LinkOffsets.{piece_room};
 
+use byteorder::{BigEndian, ByteOrder};
 use std::alloc::AllocError;
 use tune_journal::PageImage;
 
@@ -25,9 +26,15 @@ pub fn pages_for(bytes: usize) -> usize
 pub(crate) fn next_page(image: &PageImage) -> u32
     ensures { result ≡ next_of image.now.bytes }
 {
-    let mut number = [0; 4];
-    number.copy_from_slice(&image.bytes[..4]);
-    u32::from_be_bytes(number)
+    BigEndian::read_u32(&image.bytes)
+}
+
+// The bytes of a page.
+fn bytes_of(image: &PageImage) -> &[u8]
+    ensures bytes { result.now ≡ image.now.bytes }
+    ensures length { length result.now ≡ 4096 }
+{
+    &image.bytes
 }
 
 /// How many of the bytes count.
@@ -35,9 +42,7 @@ pub(crate) fn next_page(image: &PageImage) -> u32
 pub(crate) fn size_in(image: &PageImage) -> u16
     ensures { result ≡ size_of image.now.bytes }
 {
-    let mut number = [0; 2];
-    number.copy_from_slice(&image.bytes[4..6]);
-    u16::from_be_bytes(number)
+    BigEndian::read_u16(&bytes_of(image)[4..])
 }
 
 /// Whether this is a page of a chain: full, or the last and not empty.
@@ -79,11 +84,11 @@ pub(crate) fn add_link(image: &PageImage, bytes: &mut Vec<u8>) -> Option<u32>
 
 // The next page, and how many bytes count.
 fn head_of(next: u32, size: u16) -> [u8; 6]
-    ensures { result ≡ to_be_bytes w32 next ++ to_be_bytes w16 size }
+    ensures { result ≡ big_bytes 4 next ++ big_bytes 2 size }
 {
     let mut head = [0; 6];
-    head[..4].copy_from_slice(&next.to_be_bytes());
-    head[4..].copy_from_slice(&size.to_be_bytes());
+    BigEndian::write_u32(&mut head, next);
+    BigEndian::write_u16(&mut head[4..], size);
     head
 }
 
