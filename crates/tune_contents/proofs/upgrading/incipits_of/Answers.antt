@@ -31,7 +31,8 @@ loop-row-preserved g c =
     → GathersIncipits (tunes ++ ((get_or rows at some_row).number, text) ∷ []) c.add.new.self =
     not_refused c.add.result _ (sym c.is_err.ensures.value ∙ c.if-is_err.false) c.add.ensures in
     record {
-      looked = looked_more g.D.Disk.honest g.D.Disk.failures g.D.Disk.state text c.args.pages.now c.loop-row.pages c.read_tune_where.new.pages inv.looked call.looks;
+      looked = looked_more g.D.Disk.honest g.D.Disk.failures g.D.Disk.state text c.args.pages.now c.loop-row.pages c.read_tune_where.new.pages
+          inv.looked call.looks;
       fits = call.fits;
       gathers = gathers_more (HonestAt g.D.Disk.honest c.loop-row.pages.disk) (HonestAt g.D.Disk.honest c.read_tune_where.new.pages.disk) c.args.layout
           (stand c.args.pages.now c.args.work.now) (stand c.loop-row.pages c.args.work.now) rows at c.loop-row.run c.add.new.self text

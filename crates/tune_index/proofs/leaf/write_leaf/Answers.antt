@@ -64,4 +64,5 @@ returns-clause-entries g c =
     ∙ ap (λ (x : List ℕ). x ++ f.0) (c.deref.ensures.value ∙ w) in
     let all : AllFit g.row.W c.args.entries.now =
     rw (take_all c.loop-entry.entry-index c.args.entries.now c.loop-entry-test.false) at c.loop-entry.invariant.fit in
-    leaf_back g.row.W c.args.entries.now c.fill_page.new.image.bytes f.0 all (omega (arith, c.capacity_of-most.ensures.within, c.capacity_of-most.ensures.exact)) e
+    leaf_back g.row.W c.args.entries.now c.fill_page.new.image.bytes f.0 all
+    (omega (arith, c.capacity_of-most.ensures.within, c.capacity_of-most.ensures.exact)) e
