@@ -19,7 +19,7 @@ pub fn fields(text: &TuneText) -> Fields<'_>
     ensures key_line { HeaderEndsWithKey (lines_of text.now) result.key.now }
 {
     let mut found = Fields::new();
-    for line in Lines::new(text.bytes()) {
+    for line in Lines::of_tune(text) {
         if is_key_line(line.text) {
             found.key = field_value(line.text);
             return found;

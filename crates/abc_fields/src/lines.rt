@@ -1,12 +1,16 @@
 // The lines of a text.
 ghost use Rattle.std.specs.Prelude.{◌≡◌, ℕ, ◌+◌, ◌^◌, ◌<◌, ◌≤◌, List, ◌∷◌, map, take, drop, length};
+ghost use Rattle.std.specs.Prelude.{IsTrue, false};
 ghost use Rattle.std.specs.Iterator.{YieldsFirstBy, item_count};
 ghost use Rattle.abc_fields.specs.Lines.{Piece, Span, Divides, SpansRise, SpansFollow, pieces_of};
 ghost use Rattle.abc_fields.specs.Lines.{spans_from, spans_of};
 ghost use Rattle.abc_fields.specs.LineView.{line_span};
-ghost use Rattle.abc_fields.specs.Inside.LineEndings.{ending_length};
+ghost use Rattle.abc_fields.specs.Inside.LineEndings.{ending_length, has_return};
+ghost use Rattle.abc_fields.specs.Limits.{longest_tune};
+ghost use Rattle.abc_fields.specs.Tunes.{IsTuneText};
 
-use memchr::memchr2;
+use crate::texts::TuneText;
+use memchr::{memchr, memchr2};
 use std::marker::Model;
 
 /// A line of a text, without what ends it.
@@ -27,6 +31,8 @@ pub struct Line<'a> {
 pub struct Lines<'a> {
     rest: &'a [u8],
     at: usize,
+    // Whether only line feeds end the lines that are left: no carriage return stands in them.
+    only_feeds: bool,
 }
 
 impl<'a> Model for Lines<'a> {
@@ -34,7 +40,8 @@ impl<'a> Model for Lines<'a> {
 
     ghost view = { λ lines. spans_from lines.at (pieces_of lines.rest.now) };
 
-    ghost invariant = { λ lines. lines.at + length lines.rest.now < 2 ^ 64 };
+    ghost invariant = { λ lines. (lines.at + length lines.rest.now < 2 ^ 64)
+        × (IsTrue lines.only_feeds → has_return lines.rest.now ≡ false) };
 }
 
 impl<'a> Lines<'a> {
@@ -53,7 +60,35 @@ impl<'a> Lines<'a> {
         ensures rising { SpansRise text.now 0 (spans_of text.now) }
         ensures after_pieces { SpansFollow text.now (pieces_of text.now) }
     {
-        Lines { rest: text, at: 0 }
+        Lines {
+            rest: text,
+            at: 0,
+            only_feeds: false,
+        }
+    }
+
+    /// The lines of a tune: a line feed ends each, so it alone is looked for.
+    pub fn of_tune(text: &'a TuneText) -> Lines<'a>
+        ensures lines { result ≡ spans_of text.now }
+        ensures contents { map (λ s. s.bytes) (spans_of text.now)
+            ≡ map (λ p. p.content) (pieces_of text.now) }
+        ensures rising { SpansRise text.now 0 (spans_of text.now) }
+        ensures tune_text { IsTuneText text.now }
+        ensures short { length text.now ≤ longest_tune }
+    {
+        Lines::without_return(text.bytes())
+    }
+
+    // The lines of a text in which no carriage return stands.
+    pub(crate) fn without_return(text: &'a [u8]) -> Lines<'a>
+        requires { has_return text.now ≡ false }
+        ensures { result ≡ spans_of text.now }
+    {
+        Lines {
+            rest: text,
+            at: 0,
+            only_feeds: true,
+        }
     }
 
     /// A second reader of the lines that are left.
@@ -63,6 +98,7 @@ impl<'a> Lines<'a> {
         Lines {
             rest: self.rest,
             at: self.at,
+            only_feeds: self.only_feeds,
         }
     }
 }
@@ -79,7 +115,7 @@ impl<'a> Iterator for Lines<'a> {
         if self.rest.is_empty() {
             return None;
         }
-        let (len, skip) = first_line(self.rest);
+        let (len, skip) = first_line(self.rest, self.only_feeds);
         let from = self.at;
         let text = &self.rest[..len];
         self.rest = &self.rest[len + skip..];
@@ -92,18 +128,27 @@ impl<'a> Iterator for Lines<'a> {
     }
 }
 
-// The length of the first line, and of what ends it.
-fn first_line(text: &[u8]) -> (usize, usize)
-    requires { 0 < length text.now }
+// The length of the first line, and of what ends it. Where only line feeds end lines, they alone
+// are looked for.
+fn first_line(text: &[u8], only_feeds: bool) -> (usize, usize)
+    requires some { 0 < length text.now }
+    requires feeds { IsTrue only_feeds → has_return text.now ≡ false }
     ensures within { result.0 + result.1 ≤ length text.now }
     ensures first { let content = take result.0 text.now in
         let ending = take result.1 (drop result.0 text.now) in
         pieces_of text.now ≡ record { content = content; ending = ending }
         ∷ pieces_of (drop (result.0 + result.1) text.now) }
 {
-    match memchr2(b'\n', b'\r', text) {
-        None => (text.len(), 0),
-        Some(len) => (len, ending_len(&text[len..])),
+    if only_feeds {
+        match memchr(b'\n', text) {
+            None => (text.len(), 0),
+            Some(len) => (len, 1),
+        }
+    } else {
+        match memchr2(b'\n', b'\r', text) {
+            None => (text.len(), 0),
+            Some(len) => (len, ending_len(&text[len..])),
+        }
     }
 }
 

@@ -59,7 +59,7 @@ impl<'a> TuneEvents<'a> {
         ensures events { result.1 ≡ tune_events text.now }
         ensures few { length result.1 ≤ longest_book }
     {
-        let mut lines = Lines::new(text.bytes());
+        let mut lines = Lines::of_tune(text);
         let (key, in_part) = read_header(&mut lines);
         let events = TuneEvents {
             line: LineEvents::none(),

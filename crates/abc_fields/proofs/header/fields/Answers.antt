@@ -31,10 +31,10 @@ returns-then-is_key_line-clause-key_line c =
     let is : is_key_line line ≡ true = sym c.is_key_line.ensures ∙ c.if-is_key_line.true in
     let first = ap (λ spans. first_key (contents_of spans)) c.in-Some.ensures.steps ∙ key_here line (contents_of c.next.new.self) is in
     let value : c.field_value-found.result.now ≡ key_text_of c.args.text.now = c.field_value-found.ensures ∙ sym first ∙ c.loop-line.invariant.key in
-    rw value (tune_key c.args.text.now c.bytes.ensures.tune_text)
+    rw value (tune_key c.args.text.now c.of_tune-line-items.ensures.tune_text)
 
 pub returns-clause-key_line : goal.returns-clause-key_line
 returns-clause-key_line c =
     let none = ap (λ spans. first_key (contents_of spans)) c.in-None.ensures.steps.0 in
     let value : c.loop-line.found.key.now ≡ key_text_of c.args.text.now = c.loop-line.invariant.no_key ∙ sym none ∙ c.loop-line.invariant.key in
-    rw value (tune_key c.args.text.now c.bytes.ensures.tune_text)
+    rw value (tune_key c.args.text.now c.of_tune-line-items.ensures.tune_text)

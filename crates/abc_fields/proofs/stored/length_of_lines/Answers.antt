@@ -14,9 +14,9 @@ loop-line-init c =
     let P : List (List ℕ) → Type 0 = λ lines. AllPlain lines in
     let Q : List (List ℕ) → Type 0 = λ lines. AllByRecursion IsTuneLine lines in
     let bytes = ap (λ lines. length (joined lines)) same in
-    rw (c.into_iter-line-iterator.ensures.into_iter_gives, c.new-line-items.ensures.lines) record {
+    rw (c.into_iter-line-iterator.ensures.into_iter_gives, c.without_return-line-items.ensures) record {
       bytes = omega (arith, bytes);
-      few = omega (arith, bytes, lines_length text, c.requires);
+      few = omega (arith, bytes, lines_length text, c.requires.short);
       key = ap has_key same;
       plain = subst P (sym same) (lines_plain text);
       good = λ each. subst Q same each;
