@@ -21,3 +21,4 @@ pub mod Examples
 pub mod FreePages
 pub mod Wants
 pub mod CacheLemmas
+pub mod Written

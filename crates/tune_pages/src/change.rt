@@ -12,7 +12,7 @@ ghost use Rattle.tune_pages.specs.Work.{stand, Fits, IsIdle, used_in};
 
 use crate::fault::Fault;
 use crate::link::{ROOM, link};
-use crate::pages::{Pages, first_free};
+use crate::pages::Pages;
 use crate::work::Work;
 use tune_disk::Disk;
 use tune_journal::PageImage;
@@ -75,7 +75,7 @@ impl<D: Disk> Pages<D> {
         ensures none { IfNone result (IsFull (used_in self.now.used work.now)) }
     {
         let end = work.end(self.limit);
-        let page = first_free(&self.used, work.frontier.min(end), end);
+        let page = self.used.first_free(work.frontier.min(end), end);
         if page < self.limit { Some(page) } else { None }
     }
 

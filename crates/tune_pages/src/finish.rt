@@ -1,59 +1,22 @@
 // The end of a work.
 ghost use Rattle.std.specs.Prelude.{◌≡◌, ◌≢◌, ◌<◌, ◌≤◌, true, false, length, map, max, All, OnOk};
 ghost use Rattle.std.specs.Prelude.{MatchResult};
-ghost use Rattle.std.specs.Vec.{vec_capacity};
 ghost use Rattle.std.specs.List.Sorted.{IsStrictlyIncreasing};
 ghost use Rattle.tune_disk.specs.Stops.{SinceThen, LeavesOnly};
 ghost use Rattle.tune_journal.specs.Image.{StandsFor, StandsForEither};
 ghost use Rattle.tune_journal.specs.Pages.{NamesAll, pages_after};
 ghost use Rattle.tune_pages.specs.Faults.{AnswersFinish, CallsDisk};
-ghost use Rattle.tune_pages.specs.Inside.HeldPages.{AllUsedBelow};
 ghost use Rattle.tune_pages.specs.Kept.{HonestAt, state_at};
-ghost use Rattle.tune_pages.specs.Stand.{marked, AllUsed};
+ghost use Rattle.tune_pages.specs.Stand.{AllUsed};
 ghost use Rattle.tune_pages.specs.Work.{stand, Fits, Falls, count_in, used_in, front, IsIdle};
 ghost use Rattle.tune_pages.specs.declared.fault.Fault.TheVariants.{Device};
 
 use crate::fault::Fault;
 use crate::pages::{Held, Pages};
 use crate::work::Work;
-use std::collections::VecDeque;
 use std::mem;
 use tune_disk::Disk;
 use tune_journal::Changes;
-
-// Marks all pages below the frontier as in use, where those below `low` are.
-fn take_front(used: &mut Vec<bool>, low: usize, frontier: usize)
-    requires range { (low ≤ frontier) × (frontier ≤ length used.old.items) }
-    requires low { AllUsedBelow low used.old.items }
-    ensures marks { used.new.items ≡ front frontier used.old.items }
-    ensures room { vec_capacity used.new ≡ vec_capacity used.old }
-{
-    for page in low..frontier {
-        used[page] = true;
-    }
-}
-
-// Marks these pages as free.
-fn give_back(used: &mut Vec<bool>, freed: &[u32])
-    requires { All (λ p. p < length used.old.items) freed.now }
-    ensures marks { used.new.items ≡ marked false freed.now used.old.items }
-    ensures room { vec_capacity used.new ≡ vec_capacity used.old }
-{
-    for page in freed {
-        used[*page as usize] = false;
-    }
-}
-
-// The same of pages in two pieces.
-fn give_all_back(used: &mut Vec<bool>, freed: &VecDeque<u32>)
-    requires { All (λ p. p < length used.old.items) freed.now.items }
-    ensures marks { used.new.items ≡ marked false freed.now.items used.old.items }
-    ensures room { vec_capacity used.new ≡ vec_capacity used.old }
-{
-    let (above, below) = freed.as_slices();
-    give_back(used, above);
-    give_back(used, below);
-}
 
 impl<D: Disk> Pages<D> {
     /// Makes the work's changes, all of them or none. A work without a change asks nothing of the
@@ -137,8 +100,8 @@ impl<D: Disk> Pages<D> {
         ensures others { (self.new.limit ≡ self.old.limit) × (self.new.closed ≡ self.old.closed) }
     {
         let low = self.low.min(work.frontier);
-        take_front(&mut self.used, low as usize, work.frontier as usize);
-        give_all_back(&mut self.used, &work.freed);
+        self.used.take_front(low, work.frontier);
+        self.used.give_back(&work.freed);
         self.low = work.lowest(work.frontier.max(self.low));
     }
 

@@ -13,6 +13,7 @@ mod finish;
 mod laws;
 mod link;
 mod opening;
+mod page_marks;
 mod pages;
 mod read;
 mod walk;

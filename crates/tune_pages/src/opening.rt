@@ -24,6 +24,7 @@ ghost use Rattle.tune_pages.specs.declared.fault.ClaimFault.TheVariants.{Device}
 
 use crate::fault::ClaimFault;
 use crate::link::{add_piece, is_link, next_page};
+use crate::page_marks::PageMarks;
 use crate::pages::Pages;
 use std::alloc::Global;
 use std::marker::Model;
@@ -301,10 +302,10 @@ impl<D: Disk> Opening<D> {
             });
         }
         let more = ROOM_FOR_MARKS.saturating_sub(claimed.len());
-        if claimed.reserve(more).is_err() || claimed.resize(limit as usize, false).is_err() {
+        if claimed.reserve(more).is_err() {
             return Err(out_of_memory(journal));
         }
-        Ok(Pages::over(alloc, journal, claimed, limit))
+        Ok(Pages::over(alloc, journal, PageMarks::over(claimed, limit), limit))
     }
 }
 
@@ -411,13 +412,13 @@ impl<D: Disk> Pages<D> {
             (λ pages. failures_at D.failures pages.disk ≡ D.failures disk)
             (λ refused. CountsFailureIf refused.why (D.failures disk) (D.failures refused.disk)) }
     {
-        let Some(used) = mark_root(alloc, limit) else {
+        let Some(marks) = mark_root(alloc, 1) else {
             return Err(Refused {
                 disk,
                 why: OpenFault::OutOfMemory,
             });
         };
         let journal = Journal::make(disk, root)?;
-        Ok(Pages::over(alloc, journal, used, limit))
+        Ok(Pages::over(alloc, journal, PageMarks::over(marks, limit), limit))
     }
 }

@@ -1,18 +1,18 @@
 // The pages of an open archive.
 ghost use Rattle.std.specs.Prelude.{◌≡◌, ℕ, ◌<◌, ◌≤◌, false, Some, length, IfOk, MatchResult};
 ghost use Rattle.std.specs.Prelude.{true, All, Err, ◌-◌, ◌++◌, replicate, take};
-ghost use Rattle.std.specs.Vec.{vec_capacity};
 ghost use Rattle.tune_journal.specs.FileOffsets.{block_bytes, most_pages};
 ghost use Rattle.tune_journal.specs.Moments.{LeavesPages};
 ghost use Rattle.tune_pages.specs.Faults.{AnswersBegin, IsReadFault};
 ghost use Rattle.tune_pages.specs.Kept.{HonestAt};
 ghost use Rattle.tune_pages.specs.PageLooks.{LooksAt};
-ghost use Rattle.tune_pages.specs.Stand.{IsUsed, IsFree};
+ghost use Rattle.tune_pages.specs.Stand.{IsUsed};
 ghost use Rattle.tune_pages.specs.Work.{stand, Fits, IsIdle};
 ghost use Rattle.tune_pages.specs.declared.fault.Fault.TheVariants.{Device};
 
 use crate::cached::CachedImages;
 use crate::fault::Fault;
+use crate::page_marks::PageMarks;
 use crate::work::Work;
 use std::alloc::Global;
 use std::collections::VecDeque;
@@ -38,7 +38,7 @@ pub struct Pages<D: Disk> {
     // of pages as the disk has them
     pub(crate) cached: CachedImages,
     // a mark for each page up to the limit
-    pub(crate) used: Vec<bool>,
+    pub(crate) used: PageMarks,
     // no page below it is free
     pub(crate) low: u32,
     pub(crate) limit: u32,
@@ -46,9 +46,7 @@ pub struct Pages<D: Disk> {
 }
 
 impl<D: Disk> Model for Pages<D> {
-    ghost use Rattle.std.specs.Prelude.{◌≡◌, ◌≤◌, false};
-    ghost use Rattle.std.specs.Vec.{vec_capacity};
-    ghost use Rattle.tune_journal.specs.FileOffsets.{most_pages};
+    ghost use Rattle.std.specs.Prelude.{◌≡◌, false};
     ghost use Rattle.tune_pages.specs.Inside.Codes.{kept_code};
     ghost use Rattle.tune_pages.specs.Inside.HeldPages.{held_disk, held_pages, IsKept, IsOpen};
     ghost use Rattle.tune_pages.specs.Inside.HeldPages.{AllUsedBelow};
@@ -63,47 +61,30 @@ impl<D: Disk> Model for Pages<D> {
     ghost view = { λ p. record {
       disk = held_disk p.held;
       pages = held_pages p.held;
-      used = p.used.items;
+      used = p.used;
       limit = p.limit;
       closed = p.closed;
     } };
 
     ghost invariant = { λ p.
-        IsKept (held_disk p.held) (held_pages p.held) p.used.items p.limit p.closed
-        × (p.closed ≡ false → IsOpen p.held) × AllUsedBelow p.low p.used.items
+        IsKept (held_disk p.held) (held_pages p.held) p.used p.limit p.closed
+        × (p.closed ≡ false → IsOpen p.held) × AllUsedBelow p.low p.used
         × (p.closed ≡ false → HonestAt D.honest (held_disk p.held)
-        → AreKept (held_pages p.held) p.cached)
-        × (most_pages ≤ vec_capacity p.used) };
-}
-
-// The first page from `from` on that is not in use; `end` where none before it is free.
-pub(crate) fn first_free(used: &[bool], from: u32, end: u32) -> u32
-    requires { (from ≤ end) × (end ≤ length used.now) }
-    ensures range { (from ≤ result) × (result ≤ end) }
-    ensures full { (q : ℕ) → from ≤ q → q < result → IsUsed used.now q }
-    ensures free { result < end → IsFree used.now result }
-{
-    for page in from..end {
-        if !used[page as usize] {
-            return page;
-        }
-    }
-    end
+        → AreKept (held_pages p.held) p.cached) };
 }
 
 impl<D: Disk> Pages<D> {
     // The pages of a journal, with these marks.
-    pub(crate) fn over(alloc: Global, journal: Journal<D>, used: Vec<bool>, limit: u32) -> Pages<D>
-        requires limit { (1 ≤ limit) × (limit ≤ most_pages) × (length used.items ≡ limit) }
-        requires root { IsUsed used.items 0 }
-        requires room { most_pages ≤ vec_capacity used }
-        requires below { (p : ℕ) → IsUsed used.items p → p < length journal.pages }
+    pub(crate) fn over(alloc: Global, journal: Journal<D>, used: PageMarks, limit: u32) -> Pages<D>
+        requires limit { (1 ≤ limit) × (limit ≤ most_pages) × (length used ≡ limit) }
+        requires root { IsUsed used 0 }
+        requires below { (p : ℕ) → IsUsed used p → p < length journal.pages }
         requires few { length journal.pages ≤ limit }
         ensures disk { result.disk ≡ Some journal.disk }
-        ensures pages { (result.pages ≡ journal.pages) × (result.used ≡ used.items) }
+        ensures pages { (result.pages ≡ journal.pages) × (result.used ≡ used) }
         ensures limit { (result.limit ≡ limit) × (result.closed ≡ false) }
     {
-        let low = first_free(&used, 0, limit);
+        let low = used.first_free(0, limit);
         Pages {
             alloc,
             held: Held::Open(journal),
@@ -172,7 +153,7 @@ impl<D: Disk> Pages<D> {
         ensures disk { self.new.disk ≡ self.old.disk }
         ensures pages { (self.new.pages ≡ self.old.pages) × (self.new.closed ≡ self.old.closed) }
     {
-        self.used.resize(limit as usize, false).unwrap();
+        self.used.resize(limit);
         self.low = self.low.min(limit);
         self.limit = limit;
     }

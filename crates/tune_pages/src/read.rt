@@ -16,20 +16,13 @@ use std::mem;
 use tune_disk::{DeviceFault, Disk};
 use tune_journal::PageImage;
 
-// Whether a page is marked.
-fn is_marked(used: &[bool], page: u32) -> bool
-    ensures { IsTrue result ↔ IsUsed used.now page }
-{
-    used.get(page as usize) == Some(&true)
-}
-
 impl<D: Disk> Pages<D> {
     /// Whether a page is in use, as the work stands.
     pub fn in_use(&self, work: &Work, page: u32) -> bool
         requires { Fits self.now work.now }
         ensures { IsTrue result ↔ IsUsed (stand self.now work.now).used page }
     {
-        !work.has_freed(page) && (page < work.frontier || is_marked(&self.used, page))
+        !work.has_freed(page) && (page < work.frontier || self.used.is_used(page))
     }
 
     /// The image of a page that is in use, as the work stands.

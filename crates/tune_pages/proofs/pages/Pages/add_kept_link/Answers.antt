@@ -13,7 +13,6 @@ invariant_of-self g c = (
   c.self.invariant.1,
   c.self.invariant.2,
   λ shut honest entry has. c.self.invariant.3 shut honest entry (c.add_link.ensures.only entry has),
-  c.self.invariant.4,
 )
 
 pub returns-clause-link : goal.returns-clause-link

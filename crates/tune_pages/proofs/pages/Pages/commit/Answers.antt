@@ -25,5 +25,4 @@ invariant_of-self g c =
           subst (λ (all : List (List ℕ)). AreKept all c.replace_all.new.self) (sym (c.in-Ok.ensures.pages honest))
           (kept_after old most changes c.self.inside.cached c.replace_all.new.self was c.replace_all.ensures c.requires.rising below
           (omega (arith, c.max-count.ensures, c.count.ensures.count)))),
-      c.self.invariant.4,
     )

@@ -12,7 +12,6 @@ invariant_of-self g c = (
   c.self.invariant.1,
   c.self.invariant.2,
   λ shut honest entry has. c.self.invariant.3 shut honest entry (c.read.ensures.only entry has),
-  c.self.invariant.4,
 )
 
 pub invariant_of-self-in-Ok : goal.invariant_of-self-in-Ok
@@ -29,5 +28,4 @@ invariant_of-self-in-Ok g c =
           subst (λ (all : List (List ℕ)). AreKept all c.keep.new.self) (sym (c.in-Ok.ensures.pages honest))
           (kept_more pages c.read.new.self c.keep.new.self c.args.page c.read-in-Open.new.into.bytes (λ entry has. was entry (c.read.ensures.only entry has))
           c.keep.ensures below (c.in-Ok.ensures.page honest))),
-      c.self.invariant.4,
     )

@@ -1,4 +1,4 @@
-use Rattle.std.proofs.Common.{◌≡◌, List, Bool, true, false, not, sym, ◌∙◌, ap, subst}
+use Rattle.std.proofs.Common.{◌≡◌, List, Bool, true, false, not, sym, ap, subst}
 use Rattle.std.specs.List.{Contains}
 use Rattle.std.proofs.lemmas.Bool.{lt-ltb}
 use Rattle.tune_pages.specs.Kept.{Kept}
@@ -19,10 +19,10 @@ pub returns-else-page-work : goal.returns-else-page-work
 returns-else-page-work g c =
     let kept = unfreed (Contains c.args.work.now.freed.items c.args.page) c.has_freed.result c.if-not-has_freed.true c.has_freed.ensures.1 in
     let ge = c.if-page-work.false in
-    let table : c.deref.result.now ≡ c.args.self.now.used = c.deref.ensures.value ∙ ap (λ (k : Kept _). k.used) c.self.view_is in (
+    let table : c.self.inside.used ≡ c.args.self.now.used = ap (λ (k : Kept _). k.used) c.self.view_is in (
       λ t. high_used c.args.self.now.pages c.args.self.now.used c.args.work.now c.args.page kept ge (subst (λ (m : List Bool). IsUsed m c.args.page) table
-          (c.is_marked.ensures.0 t)),
-      λ is. c.is_marked.ensures.1 (subst (λ (m : List Bool). IsUsed m c.args.page) (sym table)
+          (c.is_used.ensures.0 t)),
+      λ is. c.is_used.ensures.1 (subst (λ (m : List Bool). IsUsed m c.args.page) (sym table)
           (high_marked c.args.self.now.pages c.args.self.now.used c.args.work.now c.args.page ge is)),
     )
 

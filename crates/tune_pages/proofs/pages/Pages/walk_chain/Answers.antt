@@ -12,8 +12,8 @@ use Rattle.tune_pages.proofs.pages.Pages.walk_chain.Goals as goal
 pub loop-page-init : goal.loop-page-init
 loop-page-init g c =
     let shut : c.args.self.now.closed ≡ false = sym (ap (λ (k : Kept _). k.closed) c.self.view_is) ∙ c.if-self.false in
-    let marks : length c.self.inside.used.items ≡ length c.args.self.now.used = ap (λ (k : Kept _). length k.used) c.self.view_is in
-    let size : c.len-left.result ≡ length c.self.inside.used.items = search rules in
+    let marks : length c.self.inside.used ≡ length c.args.self.now.used = ap (λ (k : Kept _). length k.used) c.self.view_is in
+    let size : c.len-left.result ≡ length c.self.inside.used = search rules in
     record {
       looked = looked_none g.D.Disk.honest g.D.Disk.failures g.D.Disk.state c.args.self.now shut;
       fits = c.requires.fits;
