@@ -171,7 +171,7 @@ fn lay_indexed<D: Disk>(
 // The set lists after a change.
 fn sets_after(sets: &SetLists, change: &Change) -> Result<SetLists, Fault>
     requires { SetsAccept change.now sets.now }
-    ensures sets { IfOk result (λ left. left ≡ changed_sets change.now sets.now) }
+    ensures sets { IfOk result (λ next. next ≡ changed_sets change.now sets.now) }
     ensures err { IfErr result (λ fault. fault ≡ OutOfMemory) }
 {
     let Ok(mut left) = sets.copy() else {
@@ -198,11 +198,11 @@ fn lay_change<D: Disk>(
         (labels_in contents.now.rows.items) contents.now.sets }
     requires holds { HonestAt D.honest pages.old.disk
         → HoldsSomeState (stand pages.old work.old) contents.now }
-    ensures lays { IfOk result (λ left. HonestAt D.honest pages.new.disk → LaysState
-        (stand pages.old work.old) (stand pages.new work.new) contents.now left change.now) }
+    ensures lays { IfOk result (λ next. HonestAt D.honest pages.new.disk → LaysState
+        (stand pages.old work.old) (stand pages.new work.new) contents.now next change.now) }
     ensures rows { AreRows contents.now.layout contents.now.rows.items
-        → IfOk result (λ left. AreRows left.layout left.rows.items) }
-    ensures layout { IfOk result (λ left. left.layout ≡ contents.now.layout) }
+        → IfOk result (λ next. AreRows next.layout next.rows.items) }
+    ensures layout { IfOk result (λ next. next.layout ≡ contents.now.layout) }
     ensures fits { OnOk result (Fits pages.new work.new) }
     ensures looks { LooksAt D.honest D.failures D.state result pages.old pages.new }
     ensures answer { AnswersLay result pages.new.closed }
@@ -283,11 +283,11 @@ pub fn lay<D: Disk>(
         (labels_in contents.now.rows.items) contents.now.sets }
     requires holds { HonestAt D.honest pages.old.disk
         → HoldsSomeState (stand pages.old work.old) contents.now }
-    ensures lays { IfOk result (λ left. HonestAt D.honest pages.new.disk → LaysState
-        (stand pages.old work.old) (stand pages.new work.new) contents.now left change) }
+    ensures lays { IfOk result (λ next. HonestAt D.honest pages.new.disk → LaysState
+        (stand pages.old work.old) (stand pages.new work.new) contents.now next change) }
     ensures rows { AreRows contents.now.layout contents.now.rows.items
-        → IfOk result (λ left. AreRows left.layout left.rows.items) }
-    ensures layout { IfOk result (λ left. left.layout
+        → IfOk result (λ next. AreRows next.layout next.rows.items) }
+    ensures layout { IfOk result (λ next. next.layout
         ≡ changed_layout change contents.now.layout) }
     ensures fits { OnOk result (Fits pages.new work.new) }
     ensures looks { LooksAt D.honest D.failures D.state result pages.old pages.new }

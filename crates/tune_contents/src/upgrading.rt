@@ -144,11 +144,11 @@ pub fn upgrade<D: Disk>(
     requires rows { AreRows One contents.now.rows.items }
     requires holds { HonestAt D.honest pages.old.disk
         → HoldsSomeState (stand pages.old work.old) contents.now }
-    ensures lays { IfOk result (λ left. HonestAt D.honest pages.new.disk → (state : State)
+    ensures lays { IfOk result (λ next. HonestAt D.honest pages.new.disk → (state : State)
         → IsState state → HoldsContents (stand pages.old work.old) contents.now state
-        → HoldsContents (stand pages.new work.new) left (upgraded_state state)) }
-    ensures rows { IfOk result (λ left. AreRows Two left.rows.items) }
-    ensures layout { IfOk result (λ left. left.layout ≡ Two) }
+        → HoldsContents (stand pages.new work.new) next (upgraded_state state)) }
+    ensures rows { IfOk result (λ next. AreRows Two next.rows.items) }
+    ensures layout { IfOk result (λ next. next.layout ≡ Two) }
     ensures fits { OnOk result (Fits pages.new work.new) }
     ensures looks { LooksAt D.honest D.failures D.state result pages.old pages.new }
     ensures answer { AnswersLay result pages.new.closed }

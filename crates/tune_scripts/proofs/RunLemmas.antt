@@ -11,7 +11,7 @@ use Rattle.tune_scripts.specs.declared.script_runs.RunEnd.TheVariants as run
 use Rattle.tune_scripts.specs.Carried.{Carried, CarriesOut, LeftByRun, run_of}
 use Rattle.tune_scripts.specs.Prefixes.{AreAcknowledged}
 use Rattle.tune_scripts.specs.Scripts.{Script, line_bound}
-use Rattle.tune_scripts.specs.ScriptRuns.{Work, work_by, UnlessWriterFails, WritesScript, TellsScript, RunsScript, EndsAfter, at_other_end}
+use Rattle.tune_scripts.specs.ScriptRuns.{RunWork, work_by, UnlessWriterFails, WritesScript, TellsScript, RunsScript, EndsAfter, at_other_end}
 use Rattle.tune_scripts.specs.Streams.{output_of, streams_of}
 use Rattle.tune_scripts.specs.Inside.Turns.{GoesOn, Turns, TurnsOver}
 use Rattle.tune_scripts.proofs.AppendLemmas.{appends_more}
@@ -30,16 +30,16 @@ unless_writer_by WriterFault P Q f h = tt
 unless_writer_by run.OutOfMemory P Q f h = f h
 
 -- the work of a part of a run and of the rest
-abbrev pub both : Work → Work → Work
+abbrev pub both : RunWork → RunWork → RunWork
 both a b = record { was = a.was; now = b.now; run = a.run ++ b.run; before = a.before; after = b.after }
 
 -- the second begins where the first ended
-pub record Follows (a b : Work) : Type 0 where
+pub record Follows (a b : RunWork) : Type 0 where
   pub output : a.now ≡ b.was
   pub stands : a.after ≡ b.before
 
 -- two parts of a run are one
-joins : (lines mid more : ℕ) (input : List ℕ) (between new : Option (List ℕ)) (a b : Work) → Follows a b → (h : GoesOn lines mid input between a)
+joins : (lines mid more : ℕ) (input : List ℕ) (between new : Option (List ℕ)) (a b : RunWork) → Follows a b → (h : GoesOn lines mid input between a)
     → GoesOn mid more h.rest new b → GoesOn lines more input new (both a b)
 joins lines mid more input between new a b follows h k = record {
   rest = k.rest;
@@ -54,7 +54,7 @@ joins lines mid more input between new a b follows h k = record {
 }
 
 -- a part of a run and the run of the rest are one run
-joins_end : (lines mid : ℕ) (input : List ℕ) (between new : Option (List ℕ)) (end : RunEnd) (a b : Work) → Follows a b
+joins_end : (lines mid : ℕ) (input : List ℕ) (between new : Option (List ℕ)) (end : RunEnd) (a b : RunWork) → Follows a b
     → (h : GoesOn lines mid input between a) → WritesScript mid h.rest new b end → WritesScript lines input new (both a b) end
 joins_end lines mid input between new end a b follows h k = record {
   unread = k.unread;
@@ -68,7 +68,7 @@ joins_end lines mid input between new end a b follows h k = record {
 }
 
 -- no lines are left: the run ends here, and what the turns so far left is unread
-ends_at_bound : (lines : ℕ) (input : List ℕ) (new : Option (List ℕ)) (a : Work) → GoesOn lines 0 input new a → WritesScript lines input new a LineBound
+ends_at_bound : (lines : ℕ) (input : List ℕ) (new : Option (List ℕ)) (a : RunWork) → GoesOn lines 0 input new a → WritesScript lines input new a LineBound
 ends_at_bound lines input new a h = record {
   unread = h.rest;
   out = h.out;
@@ -163,7 +163,7 @@ module _ {S : Type 0} (s : store.Ghosts S) where
           stops = left (h.carried ++ k.carried) carries_out ends;
         }
 
-  came_all : (lines : ℕ) (old_input new_input : Option (List ℕ)) (work : Work)
+  came_all : (lines : ℕ) (old_input new_input : Option (List ℕ)) (work : RunWork)
       → IfSome old_input (λ input. GoesOn lines 0 input new_input work) → TellsScript lines old_input new_input work LineBound
   came_all lines None new_input work h = tt
   came_all lines (Some input) new_input work h = ends_at_bound lines input new_input work h

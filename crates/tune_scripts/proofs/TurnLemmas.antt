@@ -28,7 +28,7 @@ use Rattle.tune_scripts.specs.Prefixes.{AreAcknowledged}
 use Rattle.tune_scripts.specs.Scripts.{reading_of, reading_of_book, reading_of_meaning, reading_of_line, line_text, long_line, blank_line, bad_line, cut_book}
 use Rattle.tune_scripts.specs.Scripts.{long_book, whole_command, Script, ended, device_fault, at_long_line, at_cut_book, after_blank_line, after_bad_line}
 use Rattle.tune_scripts.specs.Scripts.{after_long_book, after_no_room, after_answer, reader_fault, writer_fault, writer_fault_after}
-use Rattle.tune_scripts.specs.ScriptRuns.{Work, work_by, at_other_end, at_device_fault}
+use Rattle.tune_scripts.specs.ScriptRuns.{RunWork, work_by, at_other_end, at_device_fault}
 use Rattle.tune_scripts.specs.Streams.{output_of}
 use Rattle.tune_scripts.specs.Inside.Reads.{IsLineRead, TakesLine, LosesLongLine, IsCut}
 use Rattle.tune_scripts.specs.Inside.Turns.{GoesOn, TurnOf, Turns, TurnsBook, TurnsOver, GoesBy, WritesOut, IsCarriedOut, next_of}
@@ -38,18 +38,18 @@ appends_none None = tt
 appends_none (Some xs) = sym (append-nil xs)
 
 -- the store was left alone
-pub record IsQuiet (work : Work) : Type 0 where
+pub record IsQuiet (work : RunWork) : Type 0 where
   pub same : work.before ≡ work.after
   pub none : work.run ≡ []
 
 -- what starts where the store stood starts where it stands
-starts_where : {n : ℕ} {rest out unread : List ℕ} {run : List Answered} {end : RunEnd} {last : Standing} (work : Work) → IsQuiet work
+starts_where : {n : ℕ} {rest out unread : List ℕ} {run : List Answered} {end : RunEnd} {last : Standing} (work : RunWork) → IsQuiet work
     → Script n work.after rest out run end last unread → Script n work.before rest out run end last unread
 starts_where {n = n} {rest = rest} {out = out} {unread = unread} {run = run} {end = end} {last = last} work quiet k =
     subst (λ s. Script n s rest out run end last unread) (sym quiet.same) k
 
 -- what ends where the store stood, with no command, ends where it stands
-ends_where : {n : ℕ} {input out unread : List ℕ} {end : RunEnd} (work : Work) → IsQuiet work
+ends_where : {n : ℕ} {input out unread : List ℕ} {end : RunEnd} (work : RunWork) → IsQuiet work
     → Script n work.before input out [] end work.before unread → Script n work.before input out work.run end work.after unread
 ends_where {n = n} {input = input} {out = out} {unread = unread} {end = end} work quiet k =
     subst (λ run. Script n work.before input out run end work.after unread) (sym quiet.none)
@@ -57,14 +57,14 @@ ends_where {n = n} {input = input} {out = out} {unread = unread} {end = end} wor
 
 -- ONE TURN
 -- One command was carried out, and its answer was written, or the writer failed.
-pub record IsOne (work : Work) (c : Command) (result : Option RunEnd) : Type 0 where
+pub record IsOne (work : RunWork) (c : Command) (result : Option RunEnd) : Type 0 where
   pub answer : Result Reply Refusal
   pub run : work.run ≡ record { command = c; answer = answer } ∷ []
   pub answers : Answers work.before c answer work.after
   pub written : WritesOut work.was work.now (answer_bytes answer) (next_of answer) result
 
 -- after a command, by whether its answer lets the run go on
-turn_goes : (input rest : List ℕ) (left : Option (List ℕ)) (work : Work) (c : Command) (result : Option RunEnd)
+turn_goes : (input rest : List ℕ) (left : Option (List ℕ)) (work : RunWork) (c : Command) (result : Option RunEnd)
     (h : IsOne work c result) (b : Bool) → reading_of input ≡ whole_command c rest → left ≡ Some rest
     → stays_open h.answer ≡ b → Appends work.was work.now (answer_bytes h.answer) → result ≡ cond b None (Some DeviceFault)
     → TurnOf input left work result
@@ -90,7 +90,7 @@ turn_goes input rest left work c result h false r l o w e = rw e (λ n. record {
 })
 
 -- after a command whose answer the writer failed to take
-turn_unwritten : (input rest : List ℕ) (left : Option (List ℕ)) (work : Work) (c : Command) (result : Option RunEnd)
+turn_unwritten : (input rest : List ℕ) (left : Option (List ℕ)) (work : RunWork) (c : Command) (result : Option RunEnd)
     (h : IsOne work c result) → reading_of input ≡ whole_command c rest → left ≡ Some rest → result ≡ Some WriterFault
     → TurnOf input left work result
 turn_unwritten input rest left work c result h r l fault = rw fault (λ n. record {
@@ -105,7 +105,7 @@ turn_unwritten input rest left work c result h r l fault = rw fault (λ n. recor
 })
 
 -- after a command
-pub turn_answered : (input rest : List ℕ) (left : Option (List ℕ)) (work : Work) (c : Command) (result : Option RunEnd)
+pub turn_answered : (input rest : List ℕ) (left : Option (List ℕ)) (work : RunWork) (c : Command) (result : Option RunEnd)
     → reading_of input ≡ whole_command c rest → left ≡ Some rest → IsOne work c result → TurnOf input left work result
 turn_answered input rest left work c result r l h = elim h.written [
   | inl fault ↦ turn_unwritten input rest left work c result h r l fault
@@ -113,7 +113,7 @@ turn_answered input rest left work c result r l h = elim h.written [
 ]
 
 -- after a line that does not reach the store, whose reply the writer failed to take
-quiet_fault : (input rest : List ℕ) (left : Option (List ℕ)) (work : Work) (result : Option RunEnd) → left ≡ Some rest → IsQuiet work
+quiet_fault : (input rest : List ℕ) (left : Option (List ℕ)) (work : RunWork) (result : Option RunEnd) → left ≡ Some rest → IsQuiet work
     → result ≡ Some WriterFault → TurnOf input left work result
 quiet_fault input rest left work result l quiet fault = rw fault (λ n. record {
   unread = rest;
@@ -124,7 +124,7 @@ quiet_fault input rest left work result l quiet fault = rw fault (λ n. record {
 })
 
 -- after a fault of the reader
-turn_fault : (input : List ℕ) (left : Option (List ℕ)) (work : Work) → IsQuiet work → Appends work.was work.now []
+turn_fault : (input : List ℕ) (left : Option (List ℕ)) (work : RunWork) → IsQuiet work → Appends work.was work.now []
     → TurnOf input left work (Some ReaderFault)
 turn_fault input left work quiet w = λ n. record {
   unread = input;
@@ -135,7 +135,7 @@ turn_fault input left work quiet w = λ n. record {
 }
 
 -- what a turn adds that leaves the store alone: these bytes, and no command
-adds_bytes : (lines more : ℕ) (input rest bytes : List ℕ) (left : Option (List ℕ)) (work : Work) → left ≡ Some rest → IsQuiet work
+adds_bytes : (lines more : ℕ) (input rest bytes : List ℕ) (left : Option (List ℕ)) (work : RunWork) → left ≡ Some rest → IsQuiet work
     → Appends work.was work.now bytes
     → ((tail unread : List ℕ) (later : List Answered) (end : RunEnd) (last : Standing) → Script more work.before rest tail later end last unread
     → Script lines work.before input (bytes ++ tail) later end last unread)
@@ -151,20 +151,20 @@ adds_bytes lines more input rest bytes left work l quiet w f = record {
 }
 
 -- after a line without a word
-pub turn_blank : (input rest : List ℕ) (left : Option (List ℕ)) (work : Work) → reading_of input ≡ blank_line rest → left ≡ Some rest
+pub turn_blank : (input rest : List ℕ) (left : Option (List ℕ)) (work : RunWork) → reading_of input ≡ blank_line rest → left ≡ Some rest
     → IsQuiet work → Appends work.was work.now [] → TurnOf input left work None
 turn_blank input rest left work r l quiet w = λ n. adds_bytes (suc n) n input rest [] left work l quiet w
     (λ tail unread later end last k. after_blank_line n work.before last input rest tail unread later end r k)
 
 -- after a bad line
-pub turn_bad : (input rest : List ℕ) (left : Option (List ℕ)) (work : Work) (result : Option RunEnd) → reading_of input ≡ bad_line rest
+pub turn_bad : (input rest : List ℕ) (left : Option (List ℕ)) (work : RunWork) (result : Option RunEnd) → reading_of input ≡ bad_line rest
     → left ≡ Some rest → IsQuiet work → WritesOut work.was work.now bad_line_bytes None result → TurnOf input left work result
 turn_bad input rest left work result r l quiet (inl fault) = quiet_fault input rest left work result l quiet fault
 turn_bad input rest left work result r l quiet (inr h) = rw h.0 (λ n. adds_bytes (suc n) n input rest bad_line_bytes left work l quiet h.1
     (λ tail unread later end last k. after_bad_line n work.before last input rest tail unread later end r k))
 
 -- after a command for whose text there is no memory
-turn_no_room : (input rest : List ℕ) (left : Option (List ℕ)) (work : Work) (command : Command) (result : Option RunEnd)
+turn_no_room : (input rest : List ℕ) (left : Option (List ℕ)) (work : RunWork) (command : Command) (result : Option RunEnd)
     → reading_of input ≡ whole_command command rest → holds_text command ≡ true → left ≡ Some rest → IsQuiet work
     → WritesOut work.was work.now (refusal_bytes OutOfMemory) None result → TurnOf input left work result
 turn_no_room input rest left work command result r holds l quiet (inl fault) = quiet_fault input rest left work result l quiet fault
@@ -173,7 +173,7 @@ turn_no_room input rest left work command result r holds l quiet (inr h) =
     (λ tail unread later end last k. after_no_room n work.before last input rest tail unread later end command r holds k))
 
 -- the same by what a line asks for
-pub turn_no_text : (m : ScriptLine) (input rest : List ℕ) (left : Option (List ℕ)) (work : Work) (result : Option RunEnd) → line_holds_text m ≡ true
+pub turn_no_text : (m : ScriptLine) (input rest : List ℕ) (left : Option (List ℕ)) (work : RunWork) (result : Option RunEnd) → line_holds_text m ≡ true
     → reading_of input ≡ reading_of_meaning m rest → left ≡ Some rest → IsQuiet work
     → WritesOut work.was work.now (refusal_bytes OutOfMemory) None result → TurnOf input left work result
 turn_no_text Blank input rest left work result holds r l quiet w = absurd cc
@@ -187,7 +187,7 @@ book_is_text use_of.Import book = refl
 book_is_text (use_of.Replace number revision) book = refl
 
 -- after a book that is too long
-turn_over : (input rest : List ℕ) (left : Option (List ℕ)) (work : Work) (result : Option RunEnd) → reading_of input ≡ long_book rest
+turn_over : (input rest : List ℕ) (left : Option (List ℕ)) (work : RunWork) (result : Option RunEnd) → reading_of input ≡ long_book rest
     → left ≡ Some rest → IsQuiet work → WritesOut work.was work.now (refusal_bytes BookTooLong) None result → TurnOf input left work result
 turn_over input rest left work result r l quiet (inl fault) = quiet_fault input rest left work result l quiet fault
 turn_over input rest left work result r l quiet (inr h) =
@@ -195,7 +195,7 @@ turn_over input rest left work result r l quiet (inr h) =
     (λ tail unread later end last k. after_long_book n work.before last input rest tail unread later end r k))
 
 -- after a book that was cut
-turn_cut : (input : List ℕ) (left : Option (List ℕ)) (work : Work) (result : Option RunEnd) → reading_of input ≡ cut_book → left ≡ Some []
+turn_cut : (input : List ℕ) (left : Option (List ℕ)) (work : RunWork) (result : Option RunEnd) → reading_of input ≡ cut_book → left ≡ Some []
     → IsQuiet work → WritesOut work.was work.now bad_line_bytes (Some Ended) result → TurnOf input left work result
 turn_cut input left work result r l quiet (inl fault) = quiet_fault input [] left work result l quiet fault
 turn_cut input left work result r l quiet (inr h) = rw h.0 (λ n. record {
@@ -207,7 +207,7 @@ turn_cut input left work result r l quiet (inr h) = rw h.0 (λ n. record {
 })
 
 -- after a line that is too long
-turn_long : (input : List ℕ) (left : Option (List ℕ)) (work : Work) (result : Option RunEnd) → reading_of input ≡ long_line
+turn_long : (input : List ℕ) (left : Option (List ℕ)) (work : RunWork) (result : Option RunEnd) → reading_of input ≡ long_line
     → left ≡ Some (drop (longest_line + 1) input) → IsQuiet work → WritesOut work.was work.now bad_line_bytes (Some LongLine) result
     → TurnOf input left work result
 turn_long input left work result r l quiet (inl fault) = quiet_fault input (drop (longest_line + 1) input) left work result l quiet fault
@@ -236,14 +236,14 @@ reads_whole book_use len got rest e h =
     rw (le-ltb (length (got ++ rest)) len enough, le-ltb longest_book len h, drop_at got rest len e, take_at got rest len e) refl
 
 -- a book that the input's end cuts
-pub book_cut : (book_use : BookUse) (len : ℕ) (old new : Option (List ℕ)) (work : Work) (result : Option RunEnd) → IsCut old new len → IsQuiet work
+pub book_cut : (book_use : BookUse) (len : ℕ) (old new : Option (List ℕ)) (work : RunWork) (result : Option RunEnd) → IsCut old new len → IsQuiet work
     → WritesOut work.was work.now bad_line_bytes (Some Ended) result → TurnsBook book_use len old new work result
 book_cut book_use len None new work result c quiet w = tt
 book_cut book_use len (Some xs) new work result c quiet w =
     λ input r. turn_cut input new work result (r ∙ reads_cut book_use len xs c.0) c.1 quiet w
 
 -- a book that is too long
-pub book_over : (book_use : BookUse) (len : ℕ) (old new : Option (List ℕ)) (work : Work) (result : Option RunEnd) (got : List ℕ)
+pub book_over : (book_use : BookUse) (len : ℕ) (old new : Option (List ℕ)) (work : RunWork) (result : Option RunEnd) (got : List ℕ)
     → length got ≡ len → longest_book < len → Consumes old new got → IsQuiet work
     → WritesOut work.was work.now (refusal_bytes BookTooLong) None result → TurnsBook book_use len old new work result
 book_over book_use len None new work result got e h c quiet w = tt
@@ -252,7 +252,7 @@ book_over book_use len (Some xs) (Some ys) work result got e h c quiet w = λ in
     turn_over input ys (Some ys) work result (r ∙ ap (reading_of_book book_use len) c ∙ reads_over book_use len got ys e h) refl quiet w
 
 -- a book for which there is no memory
-pub book_no_room : (book_use : BookUse) (len : ℕ) (old new : Option (List ℕ)) (work : Work) (result : Option RunEnd) (got : List ℕ)
+pub book_no_room : (book_use : BookUse) (len : ℕ) (old new : Option (List ℕ)) (work : RunWork) (result : Option RunEnd) (got : List ℕ)
     → length got ≡ len → len ≤ longest_book → Consumes old new got → IsQuiet work
     → WritesOut work.was work.now (refusal_bytes OutOfMemory) None result → TurnsBook book_use len old new work result
 book_no_room book_use len None new work result got e h c quiet w = tt
@@ -262,7 +262,7 @@ book_no_room book_use len (Some xs) (Some ys) work result got e h c quiet w = λ
     turn_no_room input ys (Some ys) work (command_of book_use got) result reads (book_is_text book_use got) refl quiet w
 
 -- a book that was read, and the command over it carried out
-pub book_whole : (book_use : BookUse) (len : ℕ) (old new : Option (List ℕ)) (work : Work) (result : Option RunEnd) (got : List ℕ)
+pub book_whole : (book_use : BookUse) (len : ℕ) (old new : Option (List ℕ)) (work : RunWork) (result : Option RunEnd) (got : List ℕ)
     → length got ≡ len → len ≤ longest_book → Consumes old new got → IsOne work (command_of book_use got) result
     → TurnsBook book_use len old new work result
 book_whole book_use len None new work result got e h c w = tt
@@ -296,7 +296,7 @@ reading_long [] h = absurd (omega arith)
 reading_long (b ∷ bs) h = rw (lt-ltb longest_line (length (before_feed (b ∷ bs))) h) refl
 
 -- a line was read, and what follows is a turn for each rest
-pub from_line : (old mid new : Option (List ℕ)) (work : Work) (result : Option RunEnd) (line : List ℕ) (fed : Bool) (m : ScriptLine)
+pub from_line : (old mid new : Option (List ℕ)) (work : RunWork) (result : Option RunEnd) (line : List ℕ) (fed : Bool) (m : ScriptLine)
     → TakesLine old mid line fed → length line ≤ longest_line → meaning_of_line (line_text fed line) ≡ m
     → ((input rest : List ℕ) → reading_of input ≡ reading_of_meaning m rest → mid ≡ Some rest → TurnOf input new work result)
     → Turns old new work result
@@ -304,13 +304,13 @@ from_line None mid new work result line fed m h l e f = tt
 from_line (Some xs) mid new work result line fed m h l e f = f xs h.0 (reading_line xs line h.0 fed m h.2 l e) h.1
 
 -- a line that is too long was met
-pub from_long : (old new : Option (List ℕ)) (work : Work) (result : Option RunEnd) → LosesLongLine old new → IsQuiet work
+pub from_long : (old new : Option (List ℕ)) (work : RunWork) (result : Option RunEnd) → LosesLongLine old new → IsQuiet work
     → WritesOut work.was work.now bad_line_bytes (Some LongLine) result → Turns old new work result
 from_long None new work result h quiet w = tt
 from_long (Some xs) new work result h quiet w = turn_long xs new work result (reading_long xs h.0) h.1 quiet w
 
 -- the input was at its end
-pub from_end : (old new : Option (List ℕ)) (work : Work) → IsAtEnd old → Consumes old new [] → IsQuiet work → Appends work.was work.now []
+pub from_end : (old new : Option (List ℕ)) (work : RunWork) → IsAtEnd old → Consumes old new [] → IsQuiet work → Appends work.was work.now []
     → Turns old new work (Some Ended)
 from_end None new work h k quiet w = tt
 from_end (Some xs) None work h k quiet w = absurd k
@@ -323,19 +323,19 @@ from_end (Some xs) (Some ys) work h k quiet w = λ n. record {
 }
 
 -- a line that asks for a book was read, and then the book
-pub from_book : (book_use : BookUse) (len : ℕ) (rest input : List ℕ) (mid new : Option (List ℕ)) (work : Work) (result : Option RunEnd)
+pub from_book : (book_use : BookUse) (len : ℕ) (rest input : List ℕ) (mid new : Option (List ℕ)) (work : RunWork) (result : Option RunEnd)
     → TurnsBook book_use len mid new work result → mid ≡ Some rest → reading_of input ≡ reading_of_book book_use len rest
     → TurnOf input new work result
 from_book book_use len rest input mid new work result h e r =
     let Q : Option (List ℕ) → Type 0 = λ m. TurnsBook book_use len m new work result in subst Q e h input r
 
 -- the reader failed in a line
-pub from_fault : (old new : Option (List ℕ)) (work : Work) → IsQuiet work → Appends work.was work.now [] → Turns old new work (Some ReaderFault)
+pub from_fault : (old new : Option (List ℕ)) (work : RunWork) → IsQuiet work → Appends work.was work.now [] → Turns old new work (Some ReaderFault)
 from_fault None new work quiet w = tt
 from_fault (Some xs) new work quiet w = turn_fault xs new work quiet w
 
 -- the reader failed in a book
-pub book_fault : (book_use : BookUse) (len : ℕ) (old new : Option (List ℕ)) (work : Work) → IsQuiet work → Appends work.was work.now []
+pub book_fault : (book_use : BookUse) (len : ℕ) (old new : Option (List ℕ)) (work : RunWork) → IsQuiet work → Appends work.was work.now []
     → TurnsBook book_use len old new work (Some ReaderFault)
 book_fault book_use len None new work quiet w = tt
 book_fault book_use len (Some xs) new work quiet w = λ input r. turn_fault input new work quiet w
@@ -356,14 +356,14 @@ module _ {S : Type 0} (s : store.Ghosts S) where
   quiet_by was now here = record { same = refl; none = refl }
 
   -- a turn without a command
-  pub over_none : (was now : Option (List ℕ)) (here : S) (result : Option RunEnd) (Tells : Work → Type 0) → GoesBy result []
+  pub over_none : (was now : Option (List ℕ)) (here : S) (result : Option RunEnd) (Tells : RunWork → Type 0) → GoesBy result []
       → (IsQuiet (work_by s was now here [] here) → Tells (work_by s was now here [] here)) → TurnsOver s (output_of was now) here here result Tells
   over_none was now here result Tells goes tells =
       record { carried = []; carries_out = refl; goes = goes; tells = tells (quiet_by was now here) }
 
   -- a turn with a command
-  pub over_one : (was now : Option (List ℕ)) (old new : S) (c : Command) (result : Option RunEnd) (Tells : Work → Type 0)
-      → IsCarriedOut s (output_of was now) old new c result → ((work : Work) → IsOne work c result → Tells work)
+  pub over_one : (was now : Option (List ℕ)) (old new : S) (c : Command) (result : Option RunEnd) (Tells : RunWork → Type 0)
+      → IsCarriedOut s (output_of was now) old new c result → ((work : RunWork) → IsOne work c result → Tells work)
       → TurnsOver s (output_of was now) old new result Tells
   over_one was now old new c result Tells h tells =
       let one : Carried S = record { command = c; answer = h.answer; after = new } in
@@ -380,8 +380,9 @@ module _ {S : Type 0} (s : store.Ghosts S) where
       }
 
   -- a turn of which more is told
-  pub over_told : (was now : Option (List ℕ)) (old new : S) (result : Option RunEnd) (Knows Tells : Work → Type 0)
-      → TurnsOver s (output_of was now) old new result Knows → ((work : Work) → Knows work → Tells work) → TurnsOver s (output_of was now) old new result Tells
+  pub over_told : (was now : Option (List ℕ)) (old new : S) (result : Option RunEnd) (Knows Tells : RunWork → Type 0)
+      → TurnsOver s (output_of was now) old new result Knows → ((work : RunWork) → Knows work → Tells work)
+      → TurnsOver s (output_of was now) old new result Tells
   over_told was now old new result Knows Tells h tells = record {
     carried = h.carried;
     carries_out = h.carries_out;

@@ -41,7 +41,7 @@ pub data EndsAfter : RunEnd → List Answered → Type 0 where
 
 -- WHAT A RUN READS AND WRITES
 -- What a run did, or a part of it.
-pub record Work : Type 0 where
+pub record RunWork : Type 0 where
   -- the bytes of the output before and after it, where the writer tells them
   pub was : Option (List ℕ)
   pub now : Option (List ℕ)
@@ -53,7 +53,7 @@ pub record Work : Type 0 where
 
 -- the same by the output, and by what a store carried out
 abbrev pub work_by : {S : Type 0} → store.Ghosts S → Option (List ℕ) → Option (List ℕ) → S
-    → List (Carried S) → S → Work
+    → List (Carried S) → S → RunWork
 work_by kept was now old carried new = record {
   was = was;
   now = now;
@@ -75,7 +75,7 @@ UnlessReaderFails end P = P
 -- A run wrote what the script of this input writes, left unread what the script leaves, and had the
 -- script's commands carried out, and no other. After a fault of the reader what was written is the
 -- replies before it, and after one of the writer the store is as the commands so far leave it.
-pub record WritesScript (lines : ℕ) (input : List ℕ) (left : Option (List ℕ)) (work : Work)
+pub record WritesScript (lines : ℕ) (input : List ℕ) (left : Option (List ℕ)) (work : RunWork)
     (end : RunEnd) : Type 0 where
   pub unread : List ℕ
   pub out : List ℕ
@@ -84,7 +84,7 @@ pub record WritesScript (lines : ℕ) (input : List ℕ) (left : Option (List �
   pub script : Script lines work.before input out work.run end work.after unread
 
 -- the same where the reader tells its bytes, by what is left of them before and after the run
-abbrev pub TellsScript : ℕ → Option (List ℕ) → Option (List ℕ) → Work → RunEnd → Type 0
+abbrev pub TellsScript : ℕ → Option (List ℕ) → Option (List ℕ) → RunWork → RunEnd → Type 0
 TellsScript lines old new work end = IfSome old (λ input. WritesScript lines input new work end)
 
 -- THE WHOLE

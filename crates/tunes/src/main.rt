@@ -1,6 +1,7 @@
 //! The program `tunes`, which keeps tunes in ABC notation: `tunes make FILE` makes an empty archive
-//! in a file, `tunes run FILE` runs the script of standard input on it, and `tunes check FILE`
-//! tells how much it holds; `tunes list` runs the script on an empty archive in memory.
+//! in a file, `tunes run FILE` runs the script of standard input on it, `tunes check FILE` tells
+//! how much it holds, and `tunes upgrade FILE` brings it to layout 2; `tunes list` runs the script
+//! on an empty archive in memory.
 #![tactic(auto)]
 
 mod file_drive;

@@ -16,12 +16,12 @@ use Rattle.tune_scripts.specs.Carried.{Carried, IsCarried, CarriesOut, run_of}
 use Rattle.tune_scripts.specs.Prefixes.{AreAcknowledged}
 use Rattle.tune_scripts.specs.Replies.{answer_bytes}
 use Rattle.tune_scripts.specs.Scripts.{reading_of, reading_of_book, Script}
-use Rattle.tune_scripts.specs.ScriptRuns.{Work, work_by, WritesScript, EndsAfter}
+use Rattle.tune_scripts.specs.ScriptRuns.{RunWork, work_by, WritesScript, EndsAfter}
 use Rattle.tune_scripts.specs.Streams.{Output}
 
 -- A part of a run, with at most so many lines at its beginning and so many at its end: whatever the
 -- rest of the input comes to, the whole comes to this part and then that.
-pub record GoesOn (lines more : ℕ) (input : List ℕ) (left : Option (List ℕ)) (work : Work)
+pub record GoesOn (lines more : ℕ) (input : List ℕ) (left : Option (List ℕ)) (work : RunWork)
     : Type 0 where
   pub rest : List ℕ
   pub out : List ℕ
@@ -32,16 +32,16 @@ pub record GoesOn (lines more : ℕ) (input : List ℕ) (left : Option (List ℕ
       → Script lines work.before input (out ++ tail) (work.run ++ later) end last unread
 
 -- a turn: the run goes on with a line less, or ends here
-abbrev pub TurnOf : List ℕ → Option (List ℕ) → Work → Option RunEnd → Type 0
+abbrev pub TurnOf : List ℕ → Option (List ℕ) → RunWork → Option RunEnd → Type 0
 TurnOf input left work None = (n : ℕ) → GoesOn (suc n) n input left work
 TurnOf input left work (Some end) = (n : ℕ) → WritesScript (suc n) input left work end
 
 -- the same of a reader that tells its bytes
-abbrev pub Turns : Option (List ℕ) → Option (List ℕ) → Work → Option RunEnd → Type 0
+abbrev pub Turns : Option (List ℕ) → Option (List ℕ) → RunWork → Option RunEnd → Type 0
 Turns old new work result = IfSome old (λ input. TurnOf input new work result)
 
 -- the same after a line that asks for a book of this use and length
-abbrev pub TurnsBook : BookUse → ℕ → Option (List ℕ) → Option (List ℕ) → Work → Option RunEnd
+abbrev pub TurnsBook : BookUse → ℕ → Option (List ℕ) → Option (List ℕ) → RunWork → Option RunEnd
     → Type 0
 TurnsBook book_use len old new work result = IfSome old (λ rest. (input : List ℕ)
     → reading_of input ≡ reading_of_book book_use len rest → TurnOf input new work result)
@@ -54,7 +54,7 @@ GoesBy (Some end) run = EndsAfter end run
 -- A turn over any reader: what the store carried out, how the run goes on, and what of it is said
 -- of a reader that tells its bytes.
 pub record TurnsOver {S : Type 0} (kept : store.Ghosts S) (output : Output) (old new : S)
-    (result : Option RunEnd) (Tells : Work → Type 0) : Type 0 where
+    (result : Option RunEnd) (Tells : RunWork → Type 0) : Type 0 where
   pub carried : List (Carried S)
   pub carries_out : CarriesOut kept old carried new
   pub goes : GoesBy result (run_of carried)
