@@ -1,5 +1,5 @@
 -- An index of incipits by eight notes, emptied, and the one by twelve in its place.
-use Rattle.std.proofs.Common.{◌≡◌, ℕ, ◌+◌, ◌<◌, ◌≤◌, Bool, true, List, [], ◌∷◌, ◌++◌, length, map, arith, inl, inr, refl, sym, ap, subst, ◌∙◌}
+use Rattle.std.proofs.Common.{◌≡◌, ℕ, ◌+◌, ◌<◌, ◌≤◌, List, [], ◌∷◌, ◌++◌, length, map, arith, inl, inr, refl, sym, ap, subst, ◌∙◌}
 use Rattle.std.specs.List.{AllByRecursion, Contains}
 use Rattle.tune_pages.specs.Faults.{free_pages}
 use Rattle.tune_pages.specs.Frame.{TradesPages}

@@ -1,4 +1,4 @@
-use Rattle.std.proofs.Common.{◌≡◌, ◌≤◌, ◌++◌, take}
+use Rattle.std.proofs.Common.{◌≡◌, ◌++◌, take}
 use Rattle.index_keys.specs.Entries.{AllFit, IsRising, values_within}
 use Rattle.tune_index.specs.Leaves.{entries_in}
 use Rattle.tune_index.proofs.leaf.add_values.Given as goal

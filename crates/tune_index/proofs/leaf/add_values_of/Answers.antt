@@ -1,5 +1,5 @@
 use Rattle.std.proofs.Common.{rules, ◌+◌, ◌-◌, ◌*◌, ◌≤◌, arith, length, take, drop, length-drop}
-use Rattle.tune_index.specs.Leaves.{capacity, entries_in, leaf_in}
+use Rattle.tune_index.specs.Leaves.{capacity}
 use Rattle.tune_index.proofs.Codec.{room_for, leaf_in_is, to_end}
 use Rattle.tune_index.proofs.leaf.add_values_of.Goals as goal
 

@@ -1,4 +1,4 @@
-use Rattle.std.proofs.Common.{◌≡◌, ℕ, ◌+◌, ◌-◌, ◌*◌, ◌/◌, ◌<◌, ◌≤◌, length, get_or, arith, inl, inr, sym, ◌∙◌, List, rules}
+use Rattle.std.proofs.Common.{◌≡◌, ◌+◌, ◌-◌, ◌*◌, ◌/◌, ◌<◌, ◌≤◌, length, get_or, arith, inl, inr, sym, ◌∙◌, List, rules}
 use Rattle.std.proofs.lemmas.Bool.{cases_lt}
 use Rattle.index_keys.specs.Entries.{Entry, rank}
 use Rattle.tune_index.specs.Leaves.{entries_in}

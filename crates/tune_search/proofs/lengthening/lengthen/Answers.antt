@@ -1,6 +1,6 @@
 use Rattle.std.proofs.Common.{◌≡◌, List, [], rules, subst, ◌∙◌}
 use Rattle.tune_pages.specs.Work.{stand}
-use Rattle.index_keys.specs.Entries.{Entry, IsRising, inserted_all}
+use Rattle.index_keys.specs.Entries.{Entry, inserted_all}
 use Rattle.tune_index.proofs.Answering.{edit_more}
 use Rattle.tune_search.specs.IndexParts.{LaysIndex}
 use Rattle.tune_search.proofs.Lengthened.{IsInPlaceOf, both_balance, full_then, taken}

@@ -1,11 +1,9 @@
-use Rattle.std.proofs.Common.{◌≡◌, ◌+◌, ◌<◌, List, [], ap, sym, subst, ◌∙◌, length, rules}
-use Rattle.tune_pages.specs.Faults.{free_pages}
+use Rattle.std.proofs.Common.{◌≡◌, ap, sym, subst, ◌∙◌}
 use Rattle.tune_pages.specs.Work.{stand}
 use Rattle.tune_index.proofs.Answering.{edit_more}
-use Rattle.tune_parts.specs.Parts.{Part}
 use Rattle.tune_search.specs.IncipitForms.{notes_of_index, shape_of}
 use Rattle.tune_search.specs.IncipitRuns.{HoldsIncipits}
-use Rattle.tune_search.specs.Searches.{HoldsTexts, SearchParts, SearchShape}
+use Rattle.tune_search.specs.Searches.{HoldsTexts, SearchShape}
 use Rattle.tune_search.specs.declared.incipit_index.IncipitIndex.{IncipitIndex}
 use Rattle.tune_search.proofs.Lengthened.{full_for_tunes, has_index, texts_lengthened, with_notes}
 use Rattle.tune_search.proofs.searches.SearchIndexes.lengthen_incipits.Goals as goal
