@@ -1,5 +1,5 @@
 -- An archive never has too few pages for a change.
-use Rattle.std.proofs.Common.{◌≡◌, ◌≢◌, ℕ, ◌+◌, ◌<◌, ◌≤◌, All, ap, length, ◌∙◌, subst, sym, arith}
+use Rattle.std.proofs.Common.{◌≡◌, ◌≢◌, ℕ, ◌+◌, ◌<◌, ◌≤◌, All, ap, length, subst, sym, arith}
 use Rattle.tune_journal.specs.FileOffsets.{block_bytes}
 use Rattle.tune_pages.specs.Faults.{free_pages}
 use Rattle.tune_pages.specs.Stand.{Stand}
