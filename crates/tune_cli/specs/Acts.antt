@@ -8,7 +8,7 @@ use Rattle.tune_store.specs.State.{State, empty_state}
 use Rattle.tune_store.specs.Answers.{open_at}
 use Rattle.tune_store.specs.Runs.{Answered, Runs}
 use Rattle.tune_scripts.specs.Limits.{most_lines}
-use Rattle.tune_scripts.specs.ScriptRuns.{Work, TellsScript, IsOtherEnd}
+use Rattle.tune_scripts.specs.ScriptRuns.{RunWork, TellsScript, IsOtherEnd}
 use Rattle.tune_scripts.specs.Streams.{Output, Streams}
 use Rattle.tune_scripts.specs.declared.script_runs.RunEnd.{RunEnd}
 use Rattle.tune_cli.specs.FileActs.{Makes, Checks, RunsOn, Upgrades}
@@ -18,7 +18,7 @@ use Rattle.tune_cli.specs.declared.command_line.Action.TheVariants as action
 use Rattle.tune_cli.specs.declared.file_actions.Done.{Done}
 
 -- the work of a run from an empty archive in memory to this one, by these commands
-abbrev pub work_in_memory : Output → List Answered → State → Work
+abbrev pub work_in_memory : Output → List Answered → State → RunWork
 work_in_memory output run state = record {
   was = output.was;
   now = output.now;

@@ -1,4 +1,4 @@
-use Rattle.std.proofs.Common.{ℕ, List, inl, sym, subst, []}
+use Rattle.std.proofs.Common.{inl, sym, subst, []}
 use Rattle.tune_pages.specs.Kept.{HonestAt, state_at}
 use Rattle.tune_store.specs.State.{State}
 use Rattle.tune_format.specs.States.{StandsForState}

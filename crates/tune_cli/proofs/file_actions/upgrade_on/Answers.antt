@@ -1,4 +1,4 @@
-use Rattle.std.proofs.Common.{ℕ, List, [], ◌∷◌, inl, inr, refl, sym, subst}
+use Rattle.std.proofs.Common.{[], ◌∷◌, inl, inr, refl, sym, subst}
 use Rattle.tune_pages.specs.Kept.{HonestAt, state_at}
 use Rattle.tune_store.specs.State.{State}
 use Rattle.tune_store.specs.declared.command.Command.TheVariants.{Upgrade}
@@ -9,7 +9,7 @@ use Rattle.tune_archive.specs.Shelf.{Shelf, StandsForOneOf}
 use Rattle.tune_archive.proofs.DiskMoments.{left_of_kind, moment_rises}
 use Rattle.tune_scripts.specs.Carried.{Carried, IsCarried, run_of}
 use Rattle.tune_scripts.specs.Prefixes.{StandsForPrefix}
-use Rattle.tune_scripts.proofs.CarriedLemmas.{honest_before, left_since_earlier}
+use Rattle.tune_scripts.proofs.CarriedLemmas.{left_since_earlier}
 use Rattle.tune_cli.proofs.FileStates.{one_of_same}
 use Rattle.tune_cli.proofs.file_actions.upgrade_on.Goals as goal
 
