@@ -28,7 +28,7 @@ impl PageImage {
     }
 }
 
-/// How many bytes of an image are held where the others are zeros.
+// How many bytes of an image are held where the others are zeros.
 const START: usize = 256;
 
 // How the image of a change is held: apart, so that a page among many others moves no images.

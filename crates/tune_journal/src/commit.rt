@@ -17,7 +17,7 @@ use crate::file_offsets::{
 };
 use tune_disk::{DeviceFault, Disk};
 
-/// An entry of the log.
+// An entry of the log.
 fn entry_of(page: u32, image: &PageImage) -> [u8; 4100]
     ensures { result ≡ log_entry page image.now.bytes }
 {
@@ -27,7 +27,7 @@ fn entry_of(page: u32, image: &PageImage) -> [u8; 4100]
     entry
 }
 
-/// The descriptor of a log.
+// The descriptor of a log.
 fn descriptor_of(new_count: u32, entries: u32) -> [u8; 8]
     ensures { result ≡ big_bytes 4 new_count ++ big_bytes 4 entries }
 {
@@ -37,7 +37,7 @@ fn descriptor_of(new_count: u32, entries: u32) -> [u8; 8]
     descriptor
 }
 
-/// Writes an entry of the log.
+// Writes an entry of the log.
 fn write_entry<D: Disk>(
     disk: &mut D,
     at: u64,
@@ -53,7 +53,7 @@ fn write_entry<D: Disk>(
     disk.write_at(at, &entry_of(page, image))
 }
 
-/// Writes an image into its page.
+// Writes an image into its page.
 fn write_image<D: Disk>(disk: &mut D, page: u32, image: &PageImage) -> Result<(), DeviceFault>
     requires { page < most_pages }
     ensures size { length image.now.bytes ≡ block_bytes }
@@ -64,7 +64,7 @@ fn write_image<D: Disk>(disk: &mut D, page: u32, image: &PageImage) -> Result<()
     disk.write_at(page_offset(page), &image.bytes)
 }
 
-/// Writes all entries of a log, one behind another.
+// Writes all entries of a log, one behind another.
 fn write_entries<D: Disk>(disk: &mut D, base: u64, changes: &Changes) -> Result<(), DeviceFault>
     requires { base + entry_bytes * length changes.now ≤ 2 ^ 40 }
     ensures spares { D.honest disk.new
@@ -81,7 +81,7 @@ fn write_entries<D: Disk>(disk: &mut D, base: u64, changes: &Changes) -> Result<
     Ok(())
 }
 
-/// Writes all images into their pages.
+// Writes all images into their pages.
 fn write_images<D: Disk>(disk: &mut D, changes: &Changes) -> Result<(), DeviceFault>
     requires { All (λ e. e.0 < most_pages) changes.now }
     ensures spares { D.honest disk.new
@@ -98,7 +98,7 @@ fn write_images<D: Disk>(disk: &mut D, changes: &Changes) -> Result<(), DeviceFa
     Ok(())
 }
 
-/// Writes, and syncs.
+// Writes, and syncs.
 pub(crate) fn write_synced<D: Disk>(disk: &mut D, at: u64, bytes: &[u8]) -> Result<(), DeviceFault>
     requires { at + length bytes.now ≤ 2 ^ 40 }
     ensures writes { let old = D.state disk.old in let new = D.state disk.new in
@@ -111,7 +111,7 @@ pub(crate) fn write_synced<D: Disk>(disk: &mut D, at: u64, bytes: &[u8]) -> Resu
     disk.sync()
 }
 
-/// Writes the entries and the descriptor of a log, and syncs.
+// Writes the entries and the descriptor of a log, and syncs.
 pub(crate) fn write_log<D: Disk>(
     disk: &mut D,
     new_count: u32,
@@ -134,7 +134,7 @@ pub(crate) fn write_log<D: Disk>(
     write_synced(disk, DESCRIPTOR_OFFSET, &descriptor_of(new_count, entries))
 }
 
-/// Writes the images into their pages, and the count, and syncs.
+// Writes the images into their pages, and the count, and syncs.
 pub(crate) fn write_pages<D: Disk>(
     disk: &mut D,
     count: u32,

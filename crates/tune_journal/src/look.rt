@@ -15,7 +15,7 @@ use crate::file_offsets::{
 use byteorder::{BigEndian, ByteOrder};
 use tune_disk::{DeviceFault, Disk};
 
-/// Syncs, and asks for the length.
+// Syncs, and asks for the length.
 pub(crate) fn settle<D: Disk>(disk: &mut D) -> Result<u64, DeviceFault>
     ensures ok { let old = D.state disk.old in let new = D.state disk.new in
         IfOk result (λ size. D.honest disk.new → IsSynced old new × (size ≡ length old.seen)) }
@@ -37,7 +37,7 @@ fn read_number<D: Disk>(disk: &mut D, at: u64) -> Result<u32, DeviceFault>
     Ok(BigEndian::read_u32(&bytes))
 }
 
-/// Do the entries of a log name pages below `count`, each above the last?
+// Whether the entries of a log name pages below `count`, each above the last.
 fn check_log<D: Disk>(disk: &mut D, count: u32, entries: u32) -> Result<bool, DeviceFault>
     requires { (count ≤ most_pages) × (entries ≤ count) }
     ensures climbs { let file = (D.state disk.old).seen in
@@ -56,7 +56,7 @@ fn check_log<D: Disk>(disk: &mut D, count: u32, entries: u32) -> Result<bool, De
     Ok(true)
 }
 
-/// What the front of a file says.
+// What the front of a file says.
 pub(crate) enum Found {
     NotArchive,
     Damaged,
@@ -70,7 +70,7 @@ fn is_magic(bytes: &[u8]) -> bool
     bytes == MAGIC.as_slice()
 }
 
-/// Is the magic at the front?
+// Whether the magic is at the front.
 fn read_magic<D: Disk>(disk: &mut D) -> Result<bool, DeviceFault>
     ensures magic { let file = (D.state disk.old).seen in
         IfOk result (λ yes. D.honest disk.new → magic_bytes ≤ length file
@@ -82,7 +82,7 @@ fn read_magic<D: Disk>(disk: &mut D) -> Result<bool, DeviceFault>
     Ok(is_magic(&bytes))
 }
 
-/// Is the gate open?
+// Whether the gate is open.
 fn read_gate<D: Disk>(disk: &mut D) -> Result<bool, DeviceFault>
     ensures gate { let file = (D.state disk.old).seen in
         IfOk result (λ yes. D.honest disk.new → IsTrue yes ↔ (gate_of file ≡ gate_open)) }
@@ -130,7 +130,7 @@ fn look_open<D: Disk>(disk: &mut D, size: u64) -> Result<Found, DeviceFault>
     }
 }
 
-/// Syncs, and looks at the front of the file and at its log. It writes nothing.
+// Syncs, and looks at the front of the file and at its log. It writes nothing.
 pub(crate) fn look<D: Disk>(disk: &mut D) -> Result<Found, DeviceFault>
     ensures synced { OnOk result (D.honest disk.new
         → IsSynced (D.state disk.old) (D.state disk.new)) }

@@ -23,7 +23,7 @@ use crate::look::settle;
 use crate::open_fault::{OpenFault, Refused, hand_back};
 use tune_disk::{DeviceFault, Disk};
 
-/// Writes a first block of zeros into an empty file.
+// Writes a first block of zeros into an empty file.
 fn clear<D: Disk>(disk: &mut D) -> Result<(), DeviceFault>
     ensures moments { let old = D.state disk.old in let new = D.state disk.new in
         D.honest disk.new → old.now ≡ settled [] → SinceThen old new StandsForNone }
@@ -36,7 +36,7 @@ fn clear<D: Disk>(disk: &mut D) -> Result<(), DeviceFault>
     disk.sync()
 }
 
-/// Writes a closed gate, an empty descriptor, a count of one and the page.
+// Writes a closed gate, an empty descriptor, a count of one and the page.
 fn lay<D: Disk>(disk: &mut D, first: &PageImage) -> Result<(), DeviceFault>
     ensures writes { let old = D.state disk.old in let new = D.state disk.new in
         D.honest disk.new → WritesAndSyncs (λ i. i < block_bytes) result old new }
@@ -52,7 +52,7 @@ fn lay<D: Disk>(disk: &mut D, first: &PageImage) -> Result<(), DeviceFault>
     write_synced(disk, PAGES_OFFSET, &first.bytes)
 }
 
-/// Lays out an empty file. The magic comes last.
+// Lays out an empty file. The magic comes last.
 pub(crate) fn lay_out<D: Disk>(disk: &mut D, first: &PageImage) -> Result<(), DeviceFault>
     ensures moments { let old = D.state disk.old in let new = D.state disk.new in
         D.honest disk.new → old.now ≡ settled [] → old.seen ≡ []

@@ -17,7 +17,7 @@ use crate::states::{Applied, Opened};
 use tune_disk::{DeviceFault, Disk};
 
 impl<D: Disk> Opened<D> {
-    /// As `apply`, with the images that stand in the log.
+    // As `apply`, with the images that stand in the log.
     pub(crate) fn recover(self, entries: u32) -> Result<Applied<D>, Broken<D>>
         requires few { entries ≤ length self.pages }
         requires entries { D.honest self.disk → length self.changes ≡ entries }
@@ -37,7 +37,7 @@ impl<D: Disk> Opened<D> {
         }
     }
 
-    /// Ends a commit that was stopped behind its open gate.
+    // Ends a commit that was stopped behind its open gate.
     pub(crate) fn finish(self, entries: u32) -> Result<Journal<D>, Broken<D>>
         requires few { entries ≤ length self.pages }
         requires entries { D.honest self.disk → length self.changes ≡ entries }

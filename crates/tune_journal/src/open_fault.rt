@@ -33,7 +33,7 @@ pub struct Refused<D: Disk> {
     pub why: OpenFault,
 }
 
-/// Hands a disk back, and says why.
+// Hands a disk back, and says why.
 pub(crate) fn hand_back<D: Disk>(disk: D, why: OpenFault) -> Refused<D>
     ensures { result ≡ record { disk = disk; why = why } }
 {

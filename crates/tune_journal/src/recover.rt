@@ -14,8 +14,8 @@ use crate::file_offsets::{COUNT_OFFSET, ENTRY_BYTES, entry_offset, number_bytes,
 use byteorder::{BigEndian, ByteOrder};
 use tune_disk::{DeviceFault, Disk};
 
-/// Copies the image of an entry into its page. `least` is the least page that the entry may name,
-/// and becomes that of the next entry.
+// Copies the image of an entry into its page. `least` is the least page that the entry may name,
+// and becomes that of the next entry.
 fn copy_entry<D: Disk>(
     disk: &mut D,
     count: u32,
@@ -44,7 +44,7 @@ fn copy_entry<D: Disk>(
     disk.write_at(page_offset(page), &bytes[4..])
 }
 
-/// Copies the images of the first entries into their pages.
+// Copies the images of the first entries into their pages.
 fn copy_entries<D: Disk>(disk: &mut D, count: u32, entries: u32) -> Result<(), DeviceFault>
     requires { (count ≤ most_pages) × (entries ≤ count) }
     ensures spares { let old = D.state disk.old in let new = D.state disk.new in
@@ -64,7 +64,7 @@ fn copy_entries<D: Disk>(disk: &mut D, count: u32, entries: u32) -> Result<(), D
     Ok(())
 }
 
-/// Copies a log into its pages, and syncs.
+// Copies a log into its pages, and syncs.
 pub(crate) fn copy_log<D: Disk>(disk: &mut D, count: u32, entries: u32) -> Result<(), DeviceFault>
     requires { (count ≤ most_pages) × (entries ≤ count) }
     ensures writes { let old = D.state disk.old in let new = D.state disk.new in

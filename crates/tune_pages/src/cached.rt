@@ -12,11 +12,11 @@ use std::marker::Model;
 use std::num::NonZeroUsize;
 use tune_journal::{Changes, PageImage};
 
-/// How many images are kept at most.
+// How many images are kept at most.
 const MOST: usize = 1024;
 
-/// Images of pages, of those that were asked for last. Contracts see a list of pages with their
-/// images, the one that was asked for last first.
+// Images of pages, of those that were asked for last. Contracts see a list of pages with their
+// images, the one that was asked for last first.
 #[derive(Drop)]
 pub(crate) struct CachedImages {
     alloc: Global,
@@ -36,14 +36,14 @@ impl Model for CachedImages {
 }
 
 impl CachedImages {
-    /// No images. It takes no memory.
+    // No images. It takes no memory.
     pub(crate) fn new(alloc: Global) -> CachedImages
         ensures { result ≡ [] }
     {
         CachedImages { alloc, cache: None }
     }
 
-    /// How many images are kept.
+    // How many images are kept.
     pub(crate) fn len(&self) -> usize
         ensures len { result ≡ length self.now }
         ensures most { result ≤ 1024 }
@@ -54,7 +54,7 @@ impl CachedImages {
         }
     }
 
-    /// Puts the image of a page in the place of `image`, where it is kept.
+    // Puts the image of a page in the place of `image`, where it is kept.
     pub(crate) fn read(&mut self, page: u32, image: &mut PageImage) -> bool
         ensures found { result ≡ true → HasImage self.old page image.new.bytes }
         ensures only { KeepsOnly self.old self.new }
@@ -65,9 +65,9 @@ impl CachedImages {
         false
     }
 
-    /// Adds the bytes that count of the image that is kept of a page of a chain, and gives the page
-    /// behind it. `None`, with the bytes as they were, where no image of it is kept, or one that
-    /// can be of no page of a chain, and where there is no memory for more bytes.
+    // Adds the bytes that count of the image that is kept of a page of a chain, and gives the page
+    // behind it. `None`, with the bytes as they were, where no image of it is kept, or one that
+    // can be of no page of a chain, and where there is no memory for more bytes.
     pub(crate) fn add_link(&mut self, page: u32, bytes: &mut Vec<u8>) -> Option<u32>
         ensures link { IfSome result (λ next.
             HasLinkImage self.old page next bytes.old.items bytes.new.items) }
@@ -80,8 +80,8 @@ impl CachedImages {
         None
     }
 
-    /// Keeps the image of a page where that is wanted and there is memory for it. Where 1,024 are
-    /// kept, the one that was asked for longest ago goes.
+    // Keeps the image of a page where that is wanted and there is memory for it. Where 1,024 are
+    // kept, the one that was asked for longest ago goes.
     pub(crate) fn keep(&mut self, page: u32, image: &PageImage, wanted: bool)
         ensures { KeepsOneMore self.old self.new page image.now.bytes }
     {
@@ -94,8 +94,8 @@ impl CachedImages {
         }
     }
 
-    /// Puts the new images of pages that change in the place of those that are kept of them. It
-    /// takes no memory.
+    // Puts the new images of pages that change in the place of those that are kept of them. It
+    // takes no memory.
     pub(crate) fn replace_all(&mut self, changes: &Changes)
         ensures { ReplacesAll self.old self.new changes.now }
     {
@@ -104,7 +104,7 @@ impl CachedImages {
         }
     }
 
-    /// Makes the cache, where there is memory for it.
+    // Makes the cache, where there is memory for it.
     fn begin(&mut self)
         ensures { self.new ≡ self.old }
     {
@@ -115,7 +115,7 @@ impl CachedImages {
     }
 }
 
-/// An empty cache, where there is memory for it.
+// An empty cache, where there is memory for it.
 fn empty_cache(alloc: Global) -> Option<LruCache<u32, Box<PageImage>>>
     ensures { IfSome result (λ cache. (cache.entries ≡ []) × (cache.cap ≡ 1024)) }
 {
@@ -123,7 +123,7 @@ fn empty_cache(alloc: Global) -> Option<LruCache<u32, Box<PageImage>>>
     LruCache::new(alloc, most).ok()
 }
 
-/// Puts the image of a page in the place of `image`, where it is kept.
+// Puts the image of a page in the place of `image`, where it is kept.
 fn read_in(cache: &mut LruCache<u32, Box<PageImage>>, page: u32, image: &mut PageImage) -> bool
     ensures found { result ≡ true → HasImage cache.old.entries page image.new.bytes }
     ensures only { KeepsOnly cache.old.entries cache.new.entries }
@@ -138,7 +138,7 @@ fn read_in(cache: &mut LruCache<u32, Box<PageImage>>, page: u32, image: &mut Pag
     }
 }
 
-/// Adds the bytes that count of the image that is kept of a page of a chain.
+// Adds the bytes that count of the image that is kept of a page of a chain.
 fn add_link_in(
     cache: &mut LruCache<u32, Box<PageImage>>,
     page: u32,
@@ -156,7 +156,7 @@ fn add_link_in(
     }
 }
 
-/// Keeps an image; where there is no memory it is not kept.
+// Keeps an image; where there is no memory it is not kept.
 fn keep_in(cache: &mut LruCache<u32, Box<PageImage>>, alloc: Global, page: u32, image: &PageImage)
     ensures only { KeepsOneMore cache.old.entries cache.new.entries page image.now.bytes }
     ensures cap { cache.new.cap ≡ cache.old.cap }
@@ -166,8 +166,8 @@ fn keep_in(cache: &mut LruCache<u32, Box<PageImage>>, alloc: Global, page: u32, 
     }
 }
 
-/// A box with this image: where 1,024 are kept, that of the one that was asked for longest ago,
-/// and else a new one, where there is memory for it.
+// A box with this image: where 1,024 are kept, that of the one that was asked for longest ago,
+// and else a new one, where there is memory for it.
 fn copy_of(
     cache: &mut LruCache<u32, Box<PageImage>>,
     alloc: Global,
@@ -185,8 +185,8 @@ fn copy_of(
     Some(copy)
 }
 
-/// A new box with this image, where there is memory for it. It is apart, so that no room for an
-/// image is cleared on the way of one that goes into a box that is there.
+// A new box with this image, where there is memory for it. It is apart, so that no room for an
+// image is cleared on the way of one that goes into a box that is there.
 #[inline(never)]
 fn boxed(alloc: Global, image: &PageImage) -> Option<Box<PageImage>>
     ensures { IfSome result (λ copy. copy.value.bytes ≡ image.now.bytes) }
@@ -194,7 +194,7 @@ fn boxed(alloc: Global, image: &PageImage) -> Option<Box<PageImage>>
     Box::new(alloc, *image).ok()
 }
 
-/// Puts the new images of pages that change in the place of those that are kept of them.
+// Puts the new images of pages that change in the place of those that are kept of them.
 fn replace_all_in(cache: &mut LruCache<u32, Box<PageImage>>, changes: &Changes)
     ensures only { ReplacesAll cache.old.entries cache.new.entries changes.now }
     ensures cap { cache.new.cap ≡ cache.old.cap }
@@ -204,7 +204,7 @@ fn replace_all_in(cache: &mut LruCache<u32, Box<PageImage>>, changes: &Changes)
     }
 }
 
-/// Puts the new image of a page that changes in the place of the one that is kept of it, if any.
+// Puts the new image of a page that changes in the place of the one that is kept of it, if any.
 fn replace_in(cache: &mut LruCache<u32, Box<PageImage>>, changes: &Changes, place: usize)
     requires { place < length changes.now }
     ensures only { Replaces cache.old.entries cache.new.entries changes.now

@@ -68,7 +68,7 @@ impl<D: Disk> Pages<D> {
         }
     }
 
-    /// The least free page, as the work stands; none where all up to the limit are in use.
+    // The least free page, as the work stands; none where all up to the limit are in use.
     fn least_free(&self, work: &Work) -> Option<u32>
         requires { Fits self.now work.now }
         ensures some { IfSome result (λ page. IsNextFree self.now.used work.now page) }

@@ -11,7 +11,7 @@ use byteorder::{BigEndian, ByteOrder};
 use std::alloc::AllocError;
 use tune_journal::PageImage;
 
-/// The most bytes that a page of a chain holds.
+// The most bytes that a page of a chain holds.
 pub(crate) const ROOM: usize = 4090;
 
 /// How many pages the chain of so many bytes has.
@@ -21,7 +21,7 @@ pub fn pages_for(bytes: usize) -> usize
     bytes.div_ceil(ROOM)
 }
 
-/// The number of the next page, 0 at the end.
+// The number of the next page, 0 at the end.
 #[tactic(auto, unfolding(crate::specs::Chain::next_of))]
 pub(crate) fn next_page(image: &PageImage) -> u32
     ensures { result ≡ next_of image.now.bytes }
@@ -37,7 +37,7 @@ fn bytes_of(image: &PageImage) -> &[u8]
     &image.bytes
 }
 
-/// How many of the bytes count.
+// How many of the bytes count.
 #[tactic(auto, unfolding(crate::specs::Chain::size_of))]
 pub(crate) fn size_in(image: &PageImage) -> u16
     ensures { result ≡ size_of image.now.bytes }
@@ -45,7 +45,7 @@ pub(crate) fn size_in(image: &PageImage) -> u16
     BigEndian::read_u16(&bytes_of(image)[4..])
 }
 
-/// Whether this is a page of a chain: full, or the last and not empty.
+// Whether this is a page of a chain: full, or the last and not empty.
 pub(crate) fn is_link(image: &PageImage) -> bool
     ensures { IsTrue result ↔ IsLink image.now.bytes }
 {
@@ -53,7 +53,7 @@ pub(crate) fn is_link(image: &PageImage) -> bool
     size != 0 && (size == ROOM || (size < ROOM && next_page(image) == 0))
 }
 
-/// Adds the bytes that count.
+// Adds the bytes that count.
 #[tactic(auto, unfolding(crate::specs::Chain::piece_of))]
 pub(crate) fn add_piece(image: &PageImage, bytes: &mut Vec<u8>) -> Result<(), AllocError>
     requires { size_of image.now.bytes ≤ piece_room }
@@ -65,8 +65,8 @@ pub(crate) fn add_piece(image: &PageImage, bytes: &mut Vec<u8>) -> Result<(), Al
     Ok(())
 }
 
-/// Adds the bytes that count of a page of a chain, and gives the page behind it. `None`, with the
-/// bytes as they were, where this can be no page of a chain or there is no memory for more bytes.
+// Adds the bytes that count of a page of a chain, and gives the page behind it. `None`, with the
+// bytes as they were, where this can be no page of a chain or there is no memory for more bytes.
 pub(crate) fn add_link(image: &PageImage, bytes: &mut Vec<u8>) -> Option<u32>
     ensures link { IfSome result (λ next. IsLink image.now.bytes
         × (next ≡ next_of image.now.bytes)
@@ -101,7 +101,7 @@ fn put_piece(body: &mut [u8], piece: &[u8])
     body[..piece.len()].copy_from_slice(piece);
 }
 
-/// A page of a chain.
+// A page of a chain.
 #[tactic(auto, unfolding(crate::specs::Inside::Link::link_bytes))]
 pub(crate) fn link(next: u32, piece: &[u8]) -> PageImage
     requires { length piece.now ≤ piece_room }

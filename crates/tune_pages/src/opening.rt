@@ -58,7 +58,7 @@ impl<D: Disk> Model for Opening<D> {
     ghost invariant = { λ o. IsClaiming o.journal.pages o.claimed.items };
 }
 
-/// Hands back the disk of a journal for want of memory.
+// Hands back the disk of a journal for want of memory.
 fn out_of_memory<D: Disk>(journal: Journal<D>) -> Refused<D>
     ensures disk { result.disk ≡ journal.disk }
     ensures why { result.why ≡ OpenFault.OutOfMemory }
@@ -70,7 +70,7 @@ fn out_of_memory<D: Disk>(journal: Journal<D>) -> Refused<D>
     }
 }
 
-/// Reads a page of a journal.
+// Reads a page of a journal.
 fn read_image<D: Disk>(
     journal: &mut Journal<D>,
     page: u32,
@@ -91,7 +91,7 @@ fn read_image<D: Disk>(
 }
 
 impl<D: Disk> Opening<D> {
-    /// Claims a page, and reads it into the image.
+    // Claims a page, and reads it into the image.
     fn claim_into(&mut self, page: u32, image: &mut PageImage) -> Result<(), ClaimFault>
         ensures image { OnOk result (D.honest self.new.disk
             → image.new.bytes ≡ page_at self.old.pages page) }
@@ -110,8 +110,8 @@ impl<D: Disk> Opening<D> {
         read_image(&mut self.journal, page, image)
     }
 
-    /// Claims a page of a chain, adds its bytes, and gives the page behind it. The image is where
-    /// the page is read.
+    // Claims a page of a chain, adds its bytes, and gives the page behind it. The image is where
+    // the page is read.
     fn claim_link(
         &mut self,
         page: u32,
@@ -312,7 +312,7 @@ impl<D: Disk> Opening<D> {
 // There is room for a mark of each page of a file, so that a limit is changed without memory.
 const ROOM_FOR_MARKS: usize = 4_000_000;
 
-/// Marks of so many pages, of which the root alone is in use.
+// Marks of so many pages, of which the root alone is in use.
 fn mark_root(alloc: Global, count: u32) -> Option<Vec<bool>>
     requires { 1 ≤ count }
     ensures marks { IfSome result (λ marks. marks.items ≡ only_root count) }
