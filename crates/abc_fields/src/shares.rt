@@ -5,8 +5,8 @@ ghost use Rattle.abc_fields.specs.Tunes.{joined};
 ghost use Rattle.abc_fields.specs.FileHeaders.{carries};
 ghost use Rattle.abc_fields.specs.Inside.HeaderRows.{HeaderRow, taken, in_table, rows_with};
 ghost use Rattle.abc_fields.specs.Inside.Shares.{RuleLines, with_line, AreShares};
-ghost use Rattle.abc_fields.specs.Inside.Shares.{run_count, run_length, lines_from, StartAt};
-ghost use Rattle.abc_fields.specs.Inside.Shares.{IsFirst};
+ghost use Rattle.abc_fields.specs.Inside.Shares.{run_count, run_length, lines_from, BeginAt};
+ghost use Rattle.abc_fields.specs.Inside.Shares.{IsFirst, ShareBegins};
 
 use crate::carry_rules::CarryRule;
 use crate::file_header::{FileHeader, HeaderLine};
@@ -235,7 +235,7 @@ impl<'a> Model for Rest<'a> {
 impl<'a> Rest<'a> {
     // Where the first line stands.
     fn place(&self) -> Option<usize>
-        ensures { MatchOption result (self.now.marks ≡ []) (λ place. StartAt place self.now.marks) }
+        ensures { BeginAt result self.now.marks }
     {
         self.marks.first().map(|mark| mark.place)
     }
@@ -311,9 +311,7 @@ fn first_turn(rests: &[Rest], except: usize) -> Option<Turn>
 // The turn that comes first: the one that was found, or that of this share.
 fn earlier(found: Option<Turn>, index: usize, place: Option<usize>) -> Option<Turn>
     ensures { (except : ℕ) (shares : List RuleLines) → (index ≡ except → ⊥)
-        → IsFirst index except shares found
-        → ((none : RuleLines) → MatchOption place ((slice_index_or shares index none).marks ≡ [])
-        (λ at. StartAt at (slice_index_or shares index none).marks))
+        → IsFirst index except shares found → ShareBegins index place shares
         → IsFirst (index + 1) except shares result }
 {
     let Some(place) = place else {

@@ -1,9 +1,7 @@
-// Copies of sets, and their rows.
-ghost use Rattle.std.specs.Prelude.{◌≡◌, ◌++◌, IfOk, OnOk};
-ghost use Rattle.tune_sets.specs.Calls.{rows_of};
+// Copies of sets.
+ghost use Rattle.std.specs.Prelude.{◌≡◌, IfOk};
 
 use crate::set_lists::TuneSet;
-use crate::set_rows::SetRow;
 use std::alloc::{AllocError, Global};
 
 // A copy of the sets.
@@ -24,18 +22,4 @@ fn copy_set(alloc: Global, set: &TuneSet) -> Result<TuneSet, AllocError>
         name: set.name,
         numbers: set.numbers.copy(alloc)?,
     })
-}
-
-// Puts a row for each set behind these rows.
-pub(crate) fn write_rows(rows: &mut Vec<SetRow>, sets: &[TuneSet]) -> Result<(), AllocError>
-    ensures { OnOk result (rows.new.items ≡ rows.old.items ++ rows_of sets.now) }
-{
-    for set in sets {
-        let row = SetRow {
-            name: set.name,
-            places: set.numbers.len(),
-        };
-        rows.push(row)?;
-    }
-    Ok(())
 }

@@ -5,13 +5,13 @@ ghost use Rattle.tune_sets.specs.Sets.{AreSetLists, holder, renumbered_sets};
 ghost use Rattle.tune_sets.specs.Calls.{StaysOrGives, create_set, add_number, cut_place};
 ghost use Rattle.tune_sets.specs.Calls.{drop_set, places_of, rows_of};
 
-use crate::copies::{copy_sets, write_rows};
+use crate::copies::copy_sets;
 use crate::faults::SetFault;
 use crate::look_ups::{holder, index_of};
 use crate::names::SetName;
 use crate::number_list::NumberList;
 use crate::set_changes::{add_number, create_set, cut_place, drop_set, renumber_sets};
-use crate::set_rows::SetRowList;
+use crate::set_rows::{SetRowList, push_rows};
 use std::alloc::{AllocError, Global};
 use std::marker::Model;
 
@@ -158,7 +158,7 @@ impl SetLists {
         ensures { IfOk result (λ rows. rows ≡ rows_of self.now) }
     {
         let mut rows = Vec::with_capacity(self.alloc, self.sets.len())?;
-        write_rows(&mut rows, &self.sets)?;
+        push_rows(&mut rows, &self.sets)?;
         Ok(SetRowList::from_vec(rows))
     }
 

@@ -1,8 +1,11 @@
 // The names of sets, and how many places each has.
-ghost use Rattle.std.specs.Prelude.{◌≡◌, List, length};
+ghost use Rattle.std.specs.Prelude.{◌≡◌, ◌++◌, List, length, OnOk};
+ghost use Rattle.tune_sets.specs.Calls.{rows_of};
 ghost use Rattle.tune_sets.specs.declared.set_rows.SetRow.{SetRow};
 
 use crate::names::SetName;
+use crate::set_lists::TuneSet;
+use std::alloc::AllocError;
 use std::marker::Model;
 
 /// A set's name, and how many places it has.
@@ -43,4 +46,18 @@ impl SetRowList {
     {
         self.rows.as_slice()
     }
+}
+
+// Puts a row for each set behind these rows.
+pub(crate) fn push_rows(rows: &mut Vec<SetRow>, sets: &[TuneSet]) -> Result<(), AllocError>
+    ensures { OnOk result (rows.new.items ≡ rows.old.items ++ rows_of sets.now) }
+{
+    for set in sets {
+        let row = SetRow {
+            name: set.name,
+            places: set.numbers.len(),
+        };
+        rows.push(row)?;
+    }
+    Ok(())
 }

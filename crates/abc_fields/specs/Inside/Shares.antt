@@ -1,7 +1,7 @@
 -- The lines of a file header by their rules, and where each stands among the rows.
 use Rattle.std.specs.Prelude.{◌≡◌, ℕ, suc, ◌+◌, ◌<◌, ◌≤◌, List, [], ◌∷◌, ◌++◌, length, map, drop}
 use Rattle.std.specs.Prelude.{Bool, true, false, ◌==◌, if◌then◌else◌, nat_lt, slice_index_or, ⊤}
-use Rattle.std.specs.Prelude.{◌⊎◌, Option, Some, None}
+use Rattle.std.specs.Prelude.{◌⊎◌, Option, Some, None, MatchOption}
 use Rattle.std.specs.List.{AllByRecursion, list_any}
 use Rattle.abc_fields.specs.Bytes.{line_feed}
 use Rattle.abc_fields.specs.Tunes.{joined}
@@ -99,6 +99,15 @@ StartFrom place (mark ∷ marks) = place ≤ mark.place
 abbrev pub StartAt : ℕ → List Mark → Type 0
 StartAt place [] = ⊥
 StartAt place (mark ∷ marks) = place ≡ mark.place
+
+-- the first of the marks stands at this place, or there is neither
+abbrev pub BeginAt : Option ℕ → List Mark → Type 0
+BeginAt place marks = MatchOption place (marks ≡ []) (λ at. StartAt at marks)
+
+-- the same of the marks of a share
+abbrev pub ShareBegins : ℕ → Option ℕ → List RuleLines → Type 0
+ShareBegins index place shares = (none : RuleLines)
+    → BeginAt place (slice_index_or shares index none).marks
 
 -- of the first so many shares but one, this one comes first, at this place
 pub record IsFirstAt (below except : ℕ) (shares : List RuleLines) (index place : ℕ) : Type 0 where
