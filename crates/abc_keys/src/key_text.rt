@@ -1,5 +1,5 @@
 // What a key text says.
-ghost use Rattle.std.specs.Prelude.{◌≡◌, ◌≤◌, ℕ, ℤ, List, Some, length};
+ghost use Rattle.std.specs.Prelude.{◌≡◌, ◌≤◌, ℕ, ℤ, List, Some, IfSome, length};
 ghost use Rattle.std.specs.List.{prefix_len};
 ghost use Rattle.std.specs.Char.{is_ascii_alphabetic};
 ghost use Rattle.abc_fields.specs.Bytes.{is_blank, begins};
@@ -7,9 +7,9 @@ ghost use Rattle.abc_keys.specs.declared.signatures.Signature.{Signature as AnyS
 ghost use Rattle.abc_keys.specs.declared.scales.Scale.{Scale as AnyScale};
 ghost use Rattle.abc_keys.specs.Signatures.{of_count, HasCount};
 ghost use Rattle.abc_keys.specs.ScaleTable.{listed_count};
-ghost use Rattle.abc_keys.specs.Accidentals.{Setting, SetsItsPairs, LastCounts};
+ghost use Rattle.abc_keys.specs.Accidentals.{with_words, Setting, SetsItsPairs, LastCounts};
 ghost use Rattle.abc_keys.specs.declared.keys.Key.{Key as AnyKey};
-ghost use Rattle.abc_keys.specs.KeyCases.{IsKeyText};
+ghost use Rattle.abc_keys.specs.KeyCases.{IsKeyText, tonic_text};
 ghost use Rattle.abc_keys.specs.Keys.{is_ink, is_none, pipes_signature, key_of_scale, key_of_mode};
 ghost use Rattle.abc_keys.specs.Keys.{key_after_tonic, key_after_sign, key_after_letter};
 ghost use Rattle.abc_keys.specs.Keys.{key_with_tonic, key_of_trimmed, key_of_text, SkipsBlanks};
@@ -50,6 +50,36 @@ pub fn key_of(text: &[u8]) -> Key
 }
 
 fn key_of_trimmed(text: &[u8]) -> Key
+    ensures { result ≡ key_of_trimmed text.now }
+{
+    match tonic_alone(text) {
+        Some(tonic) => major_key(tonic),
+        None => key_of_words(text),
+    }
+}
+
+// The tonic of a text that is nothing else, as most are.
+fn tonic_alone(text: &[u8]) -> Option<Letter>
+    ensures { IfSome result (λ tonic. text.now ≡ tonic_text tonic) }
+{
+    match text {
+        [byte] => capital_letter(*byte),
+        _ => None,
+    }
+}
+
+fn major_key(tonic: Letter) -> Key
+    ensures { result ≡ key_of_trimmed (tonic_text tonic) }
+{
+    let scale = Scale {
+        tonic,
+        sign: Sign::Natural,
+        mode: Mode::Major,
+    };
+    key_of_scale(scale, b"")
+}
+
+fn key_of_words(text: &[u8]) -> Key
     ensures { result ≡ key_of_trimmed text.now }
 {
     let length = ink_length(text);
@@ -163,9 +193,20 @@ fn key_of_scale(scale: Scale, after: &[u8]) -> Key
     match scale.sharp_count() {
         Some(count) => Key::Modal {
             scale,
-            signature: with_words(Signature::of_count(count), after),
+            signature: with_any_words(Signature::of_count(count), after),
         },
         None => Key::Unread,
+    }
+}
+
+// The signature after the words behind a mode, of which most texts have none.
+fn with_any_words(signature: Signature, text: &[u8]) -> Signature
+    ensures { result ≡ with_words signature text.now }
+{
+    if text.is_empty() {
+        signature
+    } else {
+        with_words(signature, text)
     }
 }
 
