@@ -134,5 +134,8 @@ fn byte_order(one: &[u8], other: &[u8]) -> Ordering
         }
         at += 8;
     }
+    if at == one.len() {
+        return Ordering::Equal;
+    }
     one[at..].cmp(&other[at..])
 }
