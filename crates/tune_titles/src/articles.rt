@@ -1,5 +1,5 @@
 // The articles of titles.
-ghost use Rattle.std.specs.Prelude.{◌≡◌, ◌<◌, suc, length, drop, None, Some, IfNone, IfSome};
+ghost use Rattle.std.specs.Prelude.{◌≡◌, ◌<◌, suc, length, drop, None, Some, IfNone, IfSome, false};
 ghost use Rattle.std.specs.Str.{bytes_eq};
 ghost use Rattle.abc_fields.specs.Bytes.{begins, is_blank};
 ghost use Rattle.tune_titles.specs.Articles.{small_letters, is_article, title_rest};
@@ -35,11 +35,24 @@ pub(crate) fn leading(title: &[u8]) -> Option<Parts<'_>>
     ensures some { IfSome result (λ parts. leading title.now
         ≡ Some (record { article = parts.article.now; rest = parts.rest.now })) }
 {
+    if !begins_as_article(title) {
+        return None;
+    }
     let Some(end) = memchr2(b' ', b'\t', title) else {
         return None;
     };
     let (word, later) = title.split_at(end);
     leading_at(word, later)
+}
+
+// Whether the first letter is that of an article. Most titles have another.
+fn begins_as_article(title: &[u8]) -> bool
+    ensures { result ≡ false → leading title.now ≡ None }
+{
+    match title {
+        [b'T' | b't' | b'A' | b'a', ..] => true,
+        _ => false,
+    }
 }
 
 // The article, where the word is one and the bytes after it have more than blanks.
