@@ -1,7 +1,7 @@
 -- A key cut from bytes, as the number that its bytes spell.
 use Rattle.std.proofs.Common.{◌≡◌, ℕ, zero, suc, ◌+◌, ◌*◌, ◌^◌, ◌%◌, ◌<◌, ◌≤◌, List, [], ◌∷◌, ◌++◌, length, take, drop, get_or, replicate, refl, sym, ap, ◌∙◌}
 use Rattle.std.proofs.Common.{map, arith}
-use Rattle.std.proofs.lemmas.List.{length-map, length-take-le, take-map, take_at, drop_at}
+use Rattle.std.proofs.lemmas.List.{length-map, length-take-le, map-append, take-map, take_at, drop_at}
 use Rattle.std.proofs.lemmas.Bool.Decides.{nat_tests}
 use Rattle.std.specs.Char.{to_ascii_lowercase}
 use Rattle.byteorder.specs.Endian.{big_from}
@@ -47,4 +47,28 @@ cut_small_is n fill count bytes front letters small a b c f l =
     l ∙ ap (map to_ascii_lowercase) (take_at front rest count own ∙ f) ∙ sym (take-map to_ascii_lowercase count bytes) in
     let long : length (map to_ascii_lowercase bytes) ≡ length bytes = length-map bytes to_ascii_lowercase in
     ap (λ (x : List ℕ). big_from 0 n (letters ++ x)) (drop_at front rest count own) ∙ ap (λ (x : List ℕ). big_from 0 n (x ++ rest)) made
+    ∙ cut_is n fill count (map to_ascii_lowercase bytes) (small_letters bytes small) a (omega (arith, long)) (λ h. let d = c h in omega (arith, long))
+
+-- THE WHOLE KEY MADE SMALL
+same_fill : (fill n : ℕ) → to_ascii_lowercase fill ≡ fill → map to_ascii_lowercase (replicate n fill) ≡ replicate n fill
+same_fill fill zero same = refl
+same_fill fill (suc n) same = λ i. same i ∷ same_fill fill n same i
+
+-- what fills a key up stays where it is no capital letter
+fill_stays : (fill count n : ℕ) → to_ascii_lowercase fill ≡ fill → map to_ascii_lowercase (drop count (replicate n fill)) ≡ drop count (replicate n fill)
+fill_stays fill zero n same = same_fill fill n same
+fill_stays fill (suc k) zero same = refl
+fill_stays fill (suc k) (suc n) same = fill_stays fill k n same
+
+pub cut_whole_small_is : (n fill count : ℕ) (bytes front letters : List ℕ) → ((i : ℕ) → get_or bytes i 0 < 256) → count ≤ n → count ≤ length bytes
+    → (count < n → length bytes ≤ count) → to_ascii_lowercase fill ≡ fill
+    → front ≡ take count bytes → letters ≡ map to_ascii_lowercase (front ++ drop count (replicate n fill))
+    → big_from 0 n letters ≡ cut_number n fill (map to_ascii_lowercase bytes)
+cut_whole_small_is n fill count bytes front letters small a b c same f l =
+    let rest = drop count (replicate n fill) in
+    let made : map to_ascii_lowercase front ≡ take count (map to_ascii_lowercase bytes) =
+    ap (map to_ascii_lowercase) f ∙ sym (take-map to_ascii_lowercase count bytes) in
+    let long : length (map to_ascii_lowercase bytes) ≡ length bytes = length-map bytes to_ascii_lowercase in
+    ap (big_from 0 n) (l ∙ map-append to_ascii_lowercase front rest)
+    ∙ (λ i. big_from 0 n (made i ++ fill_stays fill count n same i))
     ∙ cut_is n fill count (map to_ascii_lowercase bytes) (small_letters bytes small) a (omega (arith, long)) (λ h. let d = c h in omega (arith, long))

@@ -68,13 +68,19 @@ impl<const W: usize> IndexKey<W> {
 
     /// A key of the first of these bytes, its capital letters (A to Z) made small, filled up with
     /// one byte.
+    #[inline(always)]
     pub fn cut_small(bytes: &[u8], fill: u8) -> Self
         ensures { result ≡ cut_number W fill (map to_ascii_lowercase bytes.now) }
     {
         let mut small = [fill; W];
         let count = bytes.len().min(W);
         small[..count].copy_from_slice(&bytes[..count]);
-        small[..count].make_ascii_lowercase();
+        if fill.is_ascii_uppercase() {
+            small[..count].make_ascii_lowercase();
+            return IndexKey::new(small);
+        }
+        // What fills the key up stays as it is. A whole key takes fewer instructions than a part.
+        small.make_ascii_lowercase();
         IndexKey::new(small)
     }
 

@@ -30,6 +30,7 @@ fn is_word(word: &[u8], small: &[u8]) -> bool
 }
 
 // The article at the front of a title, which has no blanks at its ends.
+#[inline(always)]
 pub(crate) fn leading(title: &[u8]) -> Option<Parts<'_>>
     ensures none { IfNone result (leading title.now ≡ None) }
     ensures some { IfSome result (λ parts. leading title.now
