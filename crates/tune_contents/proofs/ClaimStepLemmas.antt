@@ -1,6 +1,6 @@
 -- The tunes of rows, claimed one after another.
-use Rattle.std.proofs.Common.{◌≡◌, ℕ, ◌+◌, ◌≤◌, List, [], ◌∷◌, ◌++◌, length, drop, Bool, sym, ◌∙◌, ap, subst, append_assoc, arith}
-use Rattle.std.proofs.lemmas.List.{append-nil, map-append}
+use Rattle.std.proofs.Common.{◌≡◌, ℕ, ◌+◌, ◌<◌, ◌≤◌, List, [], ◌∷◌, ◌++◌, length, drop, take, get_or, set, Bool, sym, ◌∙◌, ap, subst, append_assoc, arith}
+use Rattle.std.proofs.lemmas.List.{append-nil, drop-set-lt, drop_more, get_or-drop, length-map, map-append, take_all}
 use Rattle.index_keys.specs.Entries.{Entry}
 use Rattle.tune_pages.specs.Claim.{IsChainFault}
 use Rattle.tune_pages.specs.declared.fault.ClaimFault.{ClaimFault}
@@ -196,3 +196,28 @@ pub entries_all : (list rows : List Row) (place : ℕ) → length list ≤ place
     → number_entries rows ++ number_entries (drop place list) ≡ number_entries list → number_entries rows ≡ number_entries list
 entries_all list rows place end so =
     sym (append-nil (number_entries rows)) ∙ ap (λ (r : List Row). number_entries rows ++ number_entries r) (sym (none_behind list place end)) ∙ so
+
+-- IN PLACE
+-- where two lists go on alike from a place, they have the same row there, and go on alike behind it, whatever is put there
+pub later_at : (rows list : List Row) (place : ℕ) (d : Row) → drop place rows ≡ drop place list → get_or rows place d ≡ get_or list place d
+later_at rows list place d later =
+    let here : place ≡ place + 0 = omega arith in
+    ap (λ (n : ℕ). get_or rows n d) here ∙ sym (get_or-drop place rows 0 d) ∙ ap (λ (l : List Row). get_or l 0 d) later ∙ get_or-drop place list 0 d
+    ∙ ap (λ (n : ℕ). get_or list n d) (sym here)
+
+pub later_set : (rows list : List Row) (place : ℕ) (row : Row) → place < length rows → length rows ≡ length list → drop place rows ≡ drop place list
+    → drop (place + 1) (set rows place row) ≡ drop (place + 1) list
+later_set rows list place row lt long later =
+    let also : place < length list = omega (arith, lt, long) in
+    drop-set-lt (place + 1) rows place row (omega arith)
+    ∙ ap (λ (l : List Row). drop 1 l) (sym (drop_more rows place row lt) ∙ later ∙ drop_more list place row also)
+
+-- Rows that were changed in place are what a vector has then.
+pub written_back : (n : ℕ) (rows items : List Row) → number_entries rows ≡ number_entries items → n ≡ length items
+    → take n (rows ++ drop (length rows) items) ≡ rows
+written_back n rows items same all =
+    let sizes = ap (λ (l : List Entry). length l) same in
+    let long : length items ≤ length rows = omega (arith, sizes, length-map rows row_entry, length-map items row_entry) in
+    let as_many : length rows ≤ n = omega (arith, sizes, all, length-map rows row_entry, length-map items row_entry) in
+    ap (λ (l : List Row). take n (rows ++ l)) (none_behind items (length rows) long) ∙ ap (λ (l : List Row). take n l) (append-nil rows)
+    ∙ take_all n rows as_many

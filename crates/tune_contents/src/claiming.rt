@@ -97,7 +97,7 @@ pub fn claim<D: Disk>(alloc: Global, opening: &mut Opening<D>) -> Result<Content
         entries,
         sets,
     } = claim_lists(alloc, opening)?;
-    let (rows, sets) = claim_texts(alloc, opening, layout, &tunes, entries, &sets)?;
+    let (rows, sets) = claim_texts(alloc, opening, layout, tunes, entries, &sets)?;
     Ok(Contents {
         layout,
         rows,
@@ -116,7 +116,7 @@ fn claim_texts<D: Disk>(
     alloc: Global,
     opening: &mut Opening<D>,
     layout: Layout,
-    tunes: &[(IndexKey<32>, u32)],
+    tunes: Vec<(IndexKey<32>, u32)>,
     entries: SearchEntries,
     sets: &[u8],
 ) -> Result<(Vec<Row>, SetLists), ClaimFault>
@@ -124,17 +124,19 @@ fn claim_texts<D: Disk>(
     ensures claimed { IfOk result (λ made. D.honest opening.new.disk → (contents : Contents)
         → contents.layout ≡ layout → contents.rows.items ≡ made.0.items → contents.sets ≡ made.1
         → ClaimsLists layout opening.old.pages opening.old.claimed contents.firsts
-        contents.numbers tunes.now contents.searches (runs_in entries) sets.now
+        contents.numbers tunes.items contents.searches (runs_in entries) sets.now
         → IsClaimed opening.old.pages contents opening.new.claimed) }
     ensures rows { IfOk result (λ made. AreRows layout made.0.items) }
     ensures damaged { IfErr result (λ fault. D.honest opening.new.disk → (firsts : Firsts)
         (shape : Shape) (shapes : SearchShape) → ListsClaimed layout opening.old.pages
-        opening.old.claimed firsts shape tunes.now shapes (runs_in entries) sets.now
+        opening.old.claimed firsts shape tunes.items shapes (runs_in entries) sets.now
         → IsChainFault fault (IsStateThere opening.old.pages)) }
     ensures looks { LooksOpening D.honest D.failures D.state result opening.old opening.new }
 {
-    let listed = listed_rows(alloc, layout, tunes)?;
-    let rows = claim_rows(alloc, opening, layout, &listed, entries)?;
+    let mut rows = listed_rows(alloc, layout, &tunes)?;
+    // what is made next takes their memory
+    drop(tunes);
+    claim_rows(alloc, opening, layout, &mut rows, entries)?;
     let sets = read_named_sets(alloc, &rows, sets)?;
     Ok((rows, sets))
 }
@@ -271,7 +273,9 @@ fn listed_rows(
     if tunes.len() > layout.most_tunes() {
         return Err(ClaimFault::Damaged);
     }
-    let mut rows = Vec::new(alloc);
+    let Ok(mut rows) = Vec::with_capacity(alloc, tunes.len()) else {
+        return Err(ClaimFault::OutOfMemory);
+    };
     let mut low = 0;
     for entry in tunes {
         let Some(row) = listed_row(entry, low) else {
@@ -368,58 +372,55 @@ fn numbers_of(alloc: Global, rows: &[Row]) -> Result<Vec<u32>, AllocError>
 }
 
 // Claims the tune of each of these rows, whose number has to stand at the keys of its text in the
-// search indexes, and no other number at any; gives the rows with their revisions and lengths.
+// search indexes, and no other number at any; puts its revision and its length into the row.
 fn claim_rows<D: Disk>(
     alloc: Global,
     opening: &mut Opening<D>,
     layout: Layout,
-    listed: &[Row],
+    rows: &mut [Row],
     entries: SearchEntries,
-) -> Result<Vec<Row>, ClaimFault>
-    requires { RowsRise 0 listed.now }
-    ensures same { IfOk result (λ rows. number_entries rows.items ≡ number_entries listed.now) }
-    ensures known { IfOk result (λ _. AreAllKnown (numbers_in listed.now) (runs_in entries)) }
-    ensures claimed { IfOk result (λ rows. D.honest opening.new.disk → (front : List Part)
+) -> Result<(), ClaimFault>
+    requires { RowsRise 0 rows.old }
+    ensures same { OnOk result (number_entries rows.new ≡ number_entries rows.old) }
+    ensures known { OnOk result (AreAllKnown (numbers_in rows.old) (runs_in entries)) }
+    ensures claimed { OnOk result (D.honest opening.new.disk → (front : List Part)
         → HasClaimed opening.old.pages opening.old.claimed front
         → TunesClaimed layout opening.old.pages front (runs_in entries) opening.new.claimed
-        rows.items) }
+        rows.new) }
     ensures damaged { IfErr result (λ fault. D.honest opening.new.disk → (front : List Part)
         → HasClaimed opening.old.pages opening.old.claimed front → IsChainFault fault
-        (AreRowsThere layout opening.old.pages front (runs_in entries) listed.now)) }
+        (AreRowsThere layout opening.old.pages front (runs_in entries) rows.old)) }
     ensures looks { LooksOpening D.honest D.failures D.state result opening.old opening.new }
 {
-    let claims = search_claims(alloc, listed, entries)?;
-    claim_tunes(alloc, opening, layout, listed, &claims)
+    let claims = search_claims(alloc, rows, entries)?;
+    claim_tunes(alloc, opening, layout, rows, &claims)
 }
 
-// Claims the tune of each of these rows, and gives them with their revisions and lengths.
+// Claims the tune of each of these rows, and puts its revision and its length into the row.
 fn claim_tunes<D: Disk>(
     alloc: Global,
     opening: &mut Opening<D>,
     layout: Layout,
-    listed: &[Row],
+    rows: &mut [Row],
     claims: &SearchClaims,
-) -> Result<Vec<Row>, ClaimFault>
-    requires { claims.now.numbers ≡ numbers_in listed.now }
-    ensures same { IfOk result (λ rows. number_entries rows.items ≡ number_entries listed.now) }
-    ensures claimed { IfOk result (λ rows. D.honest opening.new.disk → (front : List Part)
+) -> Result<(), ClaimFault>
+    requires { claims.now.numbers ≡ numbers_in rows.old }
+    ensures same { OnOk result (number_entries rows.new ≡ number_entries rows.old) }
+    ensures claimed { OnOk result (D.honest opening.new.disk → (front : List Part)
         → HasClaimed opening.old.pages opening.old.claimed front
         → TunesClaimed layout opening.old.pages front claims.now.runs opening.new.claimed
-        rows.items) }
+        rows.new) }
     ensures damaged { IfErr result (λ fault. D.honest opening.new.disk → (front : List Part)
         → HasClaimed opening.old.pages opening.old.claimed front → IsChainFault fault
-        (AreTunesThere layout opening.old.pages front claims.now.runs listed.now)) }
+        (AreTunesThere layout opening.old.pages front claims.now.runs rows.old)) }
     ensures looks { LooksOpening D.honest D.failures D.state result opening.old opening.new }
 {
-    let mut rows = Vec::new(alloc);
     let mut chain = ReadChain::new(alloc);
-    for (place, row) in listed.iter().enumerate() {
-        let row = claim_tune(alloc, opening, layout, row, place, claims, &mut chain)?;
-        if rows.push(row).is_err() {
-            return Err(ClaimFault::OutOfMemory);
-        }
+    for place in 0..rows.len() {
+        let row = &rows[place];
+        rows[place] = claim_tune(alloc, opening, layout, row, place, claims, &mut chain)?;
     }
-    Ok(rows)
+    Ok(())
 }
 
 // Claims the tune of a row, whose number, at this place, has to stand at the keys of its text.

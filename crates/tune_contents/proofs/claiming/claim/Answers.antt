@@ -18,7 +18,7 @@ returns-in_err-rows-clause-damaged g c =
     let on = lists.looks.same_pages one in
     subst (λ (f : ClaimFault). IsChainFault f (IsStateThere c.args.opening.now.pages)) (sym p.2)
     (subst (λ l. IsChainFault c.in_err-rows.field-0.0 (IsStateThere l)) on
-    (call.damaged h _ _ _ (lists_at _ _ _ _ _ _ _ _ _ _ _ on c.deref.ensures.value c.deref-2.ensures.value (lists.claims one)))))
+    (call.damaged h _ _ _ (lists_at _ _ _ _ _ _ _ _ _ _ _ on refl c.deref.ensures.value (lists.claims one)))))
 
 pub returns-clause-claimed : goal.returns-clause-claimed
 returns-clause-claimed g c = λ h some.
@@ -37,4 +37,4 @@ returns-clause-claimed g c = λ h some.
     } in
     subst (λ l. IsClaimed l contents c.claim_texts.new.opening.claimed) on
     (rows.claimed h contents refl refl refl
-    (lists_as _ c.args.opening.now.pages _ _ _ _ _ _ _ _ _ on c.deref.ensures.value c.deref-2.ensures.value (lists.claims one some)))
+    (lists_as _ c.args.opening.now.pages _ _ _ _ _ _ _ _ _ on refl c.deref.ensures.value (lists.claims one some)))

@@ -1,4 +1,4 @@
-use Rattle.std.proofs.Common.{◌≡◌, ◌++◌, List, drop, length}
+use Rattle.std.proofs.Common.{◌≡◌, ◌++◌, List, drop, length, take}
 use Rattle.tune_parts.specs.Parts.{Part}
 use Rattle.tune_search.specs.LoadedParts.{HasClaimed}
 use Rattle.tune_format.specs.Written.{number_entries}
@@ -12,7 +12,10 @@ invariant-loop-place g l = record {
   pages : g.D.Disk.honest l.opening.disk → l.opening.pages ≡ l.initial.opening.pages;
   count : length l.opening.pages ≡ length l.initial.opening.pages;
   failures : g.D.Disk.failures l.opening.disk ≡ g.D.Disk.failures l.initial.opening.disk;
-  entries : number_entries l.rows.items ++ number_entries (drop l.place l.listed) ≡ number_entries l.listed;
+  long : length l.rows ≡ length l.initial.rows;
+  later : drop l.place l.rows ≡ drop l.place l.initial.rows;
+  entries : number_entries (take l.place l.rows) ++ number_entries (drop l.place l.initial.rows) ≡ number_entries l.initial.rows;
   claims : g.D.Disk.honest l.opening.disk → (front : List Part) → HasClaimed l.initial.opening.pages l.initial.opening.claimed front
-      → ClaimsSoFar l.layout l.initial.opening.pages front l.claims.runs l.listed l.opening.claimed l.rows.items (drop l.place l.listed);
+      → ClaimsSoFar l.layout l.initial.opening.pages front l.claims.runs l.initial.rows l.opening.claimed (take l.place l.rows)
+      (drop l.place l.initial.rows);
 }

@@ -8,16 +8,16 @@ returns-then-tunes-most_tunes-clause-damaged c = λ all.
     rows_long {layout = c.args.layout} c.args.tunes.now (omega (arith, c.if-tunes-most_tunes.true, c.most_tunes.ensures.most)) all
 
 pub loop-entry-init : goal.loop-entry-init
-loop-entry-init c = rows_start _ _ c.new-rows.ensures.items
+loop-entry-init c = rows_start _ _ c.in-Ok.ensures.items
 
-pub returns-in_default-clause-damaged : goal.returns-in_default-clause-damaged
-returns-in_default-clause-damaged c =
+pub returns-in_default-listed_row-clause-damaged : goal.returns-in_default-listed_row-clause-damaged
+returns-in_default-listed_row-clause-damaged c =
     let list : List Entry = c.args.tunes.now in
     let i = c.loop-entry.entry-index in
     let e : Entry = c.entry-item.result in
     let at : drop i list ≡ e ∷ drop (i + 1) list =
     list_at list i e c.loop-entry-test.true ∙ ap (λ (x : Entry). x ∷ drop (i + 1) list) (sym c.entry-item.is) in
-    no_row list _ _ i e c.loop-entry.invariant at c.in_default.ensures.none
+    no_row list _ _ i e c.loop-entry.invariant at c.in_default-listed_row.ensures.none
 
 pub loop-entry-preserved : goal.loop-entry-preserved
 loop-entry-preserved c =
