@@ -1,9 +1,10 @@
 -- What the header of a tune says (ABC 2.1, 3.1; own profile where the standard is silent).
-use Rattle.std.specs.Prelude.{◌≡◌, ℕ, List, [], ◌∷◌, ◌++◌, take, map, codes, slice_get, unwrap_or}
+use Rattle.std.specs.Prelude.{◌≡◌, ℕ, List, [], ◌∷◌, ◌++◌, take, drop, map, codes, slice_get}
+use Rattle.std.specs.Prelude.{length, unwrap_or}
 use Rattle.std.specs.Prelude.{Option, Bool, true, false, if◌then◌else◌}
 use Rattle.std.specs.List.{filter}
 use Rattle.abc_fields.specs.Bytes.{begins_with}
-use Rattle.abc_fields.specs.Lines.{lines_of}
+use Rattle.abc_fields.specs.Lines.{Span, lines_of, spans_of}
 use Rattle.abc_fields.specs.Tunes.{is_key_line, has_key}
 use Rattle.abc_fields.specs.Values.{field_value}
 use Rattle.abc_fields.specs.Limits.{most_titles}
@@ -58,3 +59,7 @@ pub record HeaderEndsWithKey (lines : List (List ℕ)) (key : List ℕ) : Type 0
   pub none_before : has_key before ≡ false
   pub gives_key : is_key_line line ≡ true
   pub value : field_value line ≡ key
+
+-- the lines after the header of a text, and where they begin and end in it
+abbrev pub body_spans : List ℕ → List Span
+body_spans text = drop (length (header_of (lines_of text))) (spans_of text)

@@ -3,3 +3,4 @@ pub mod LinesLeft
 pub mod HeaderRows
 pub mod Shares
 pub mod CarriedBytes
+pub mod HeaderEnds

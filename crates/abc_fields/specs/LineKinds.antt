@@ -1,6 +1,7 @@
 -- What kinds of lines there are (ABC 2.1, 2.2, 3.1 and 3.3; own profile for `%%begin` and `%%end`
 -- with every word).
 use Rattle.std.specs.Prelude.{ℕ, List, ◌∷◌, codes, Bool, false, not, ◌==◌, ◌&&◌, if◌then◌else◌}
+use Rattle.std.specs.List.{fold}
 use Rattle.std.specs.Char.{is_ascii_alphabetic}
 use Rattle.abc_fields.specs.Bytes.{colon, begins_with}
 
@@ -28,3 +29,7 @@ ends_part_line line = begins_with line (codes "%%end")
 -- whether the line after this one lies within a part, where this one does or does not
 abbrev pub in_part_after : Bool → List ℕ → Bool
 in_part_after inside line = if inside then not (ends_part_line line) else begins_part line
+
+-- whether a part is open after these lines, before which none is
+abbrev pub part_open_after : List (List ℕ) → Bool
+part_open_after lines = fold in_part_after false lines

@@ -42,6 +42,9 @@ pub fn is_comment(line: &[u8]) -> bool
 pub fn in_part_after(inside: bool, line: &[u8]) -> bool
     ensures { result ≡ in_part_after inside line.now }
 {
+    if !is_comment(line) {
+        return inside;
+    }
     if inside {
         !line.starts_with(b"%%end")
     } else {

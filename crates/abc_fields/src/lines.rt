@@ -91,6 +91,19 @@ impl<'a> Lines<'a> {
         }
     }
 
+    // The lines of what stands from this index on in a text in which no carriage return stands.
+    pub(crate) fn from_index(text: &'a [u8], from: usize) -> Lines<'a>
+        requires feeds { has_return text.now ≡ false }
+        requires within { from ≤ length text.now }
+        ensures { result ≡ spans_from from (pieces_of (drop from text.now)) }
+    {
+        Lines {
+            rest: &text[from..],
+            at: from,
+            only_feeds: true,
+        }
+    }
+
     /// A second reader of the lines that are left.
     pub fn again(&self) -> Lines<'a>
         ensures { result ≡ self.now }

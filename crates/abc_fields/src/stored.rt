@@ -1,22 +1,29 @@
 // Whether bytes that were stored are a tune text.
-ghost use Rattle.std.specs.Prelude.{◌≡◌, ◌≤◌, ◌↔◌, IsTrue, false, length, MatchOption};
-ghost use Rattle.abc_fields.specs.Limits.{longest_tune};
-ghost use Rattle.abc_fields.specs.Lines.{lines_of};
-ghost use Rattle.abc_fields.specs.Tunes.{IsTuneText, joined};
+ghost use Rattle.std.specs.Prelude.{◌≡◌, MatchOption, Some, false};
+ghost use Rattle.abc_fields.specs.Lines.{spans_of};
+ghost use Rattle.abc_fields.specs.Tunes.{IsTuneText};
 ghost use Rattle.abc_fields.specs.Inside.LineEndings.{has_return};
-ghost use Rattle.abc_fields.specs.Inside.LinesLeft.{AreTuneLines};
+ghost use Rattle.abc_fields.specs.Inside.LinesLeft.{contents_of};
+ghost use Rattle.abc_fields.specs.Inside.HeaderEnds.{key_place, has_end};
 
-use crate::line_kinds::is_key_line;
+use crate::key_place::{KeyPlace, find_key};
 use crate::lines::Lines;
 use crate::tune_lines::ends_tune;
 use memchr::memchr;
 
-// Whether bytes are a tune text.
-pub(crate) fn is_tune_text(text: &[u8]) -> bool
-    requires { length text.now ≤ longest_tune }
-    ensures { IsTrue result ↔ IsTuneText text.now }
+// Where the key stands in bytes that are a tune text; none where they are not.
+pub(crate) fn key_of_stored(text: &[u8]) -> Option<KeyPlace>
+    ensures { MatchOption result (¬ IsTuneText text.now)
+        (λ place. IsTuneText text.now × (key_place false (spans_of text.now) ≡ Some place)) }
 {
-    !has_return(text) && length_of_lines(text) == Some(text.len())
+    if has_return(text) || !text.ends_with(b"\n") {
+        return None;
+    }
+    let mut lines = Lines::without_return(text);
+    let Some(place) = find_key(&mut lines) else {
+        return None;
+    };
+    if has_end(lines) { None } else { Some(place) }
 }
 
 // Whether there is a carriage return.
@@ -26,22 +33,14 @@ fn has_return(text: &[u8]) -> bool
     memchr(b'\r', text).is_some()
 }
 
-// How many bytes the lines of a text have, each with a line feed, where they are those of a tune.
-// No carriage return stands in the text.
-fn length_of_lines(text: &[u8]) -> Option<usize>
-    requires short { length text.now ≤ longest_tune }
-    requires feeds { has_return text.now ≡ false }
-    ensures { MatchOption result (¬ AreTuneLines (lines_of text.now))
-        (λ len. AreTuneLines (lines_of text.now) × (len ≡ length (joined (lines_of text.now)))) }
+// Whether a tune ends before one of these lines.
+fn has_end(lines: Lines) -> bool
+    ensures { result ≡ has_end (contents_of lines.entry) }
 {
-    let mut length = 0;
-    let mut has_key = false;
-    for line in Lines::without_return(text) {
+    for line in lines {
         if ends_tune(line.text) {
-            return None;
+            return true;
         }
-        length += line.text.len() + 1;
-        has_key = has_key || is_key_line(line.text);
     }
-    if has_key { Some(length) } else { None }
+    false
 }

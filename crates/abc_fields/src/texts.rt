@@ -1,9 +1,16 @@
 // Bytes that a value owns, and the texts of tunes among them.
-ghost use Rattle.std.specs.Prelude.{◌≡◌, ◌≤◌, ℕ, List, length, IfOk, IfErr};
+ghost use Rattle.std.specs.Prelude.{◌≡◌, ◌≤◌, ℕ, List, length, map, IfOk, IfErr, Some, false};
+ghost use Rattle.abc_fields.specs.Lines.{lines_of, spans_of, SpansRise};
+ghost use Rattle.abc_fields.specs.LineKinds.{part_open_after};
+ghost use Rattle.abc_fields.specs.Fields.{header_of, key_text_of, body_spans};
+ghost use Rattle.abc_fields.specs.Inside.HeaderEnds.{key_place, IsKnown};
 ghost use Rattle.abc_fields.specs.Tunes.{IsTuneText, IsTextWithin};
 ghost use Rattle.abc_fields.specs.Limits.{longest_tune};
 
-use crate::stored::is_tune_text;
+use crate::key_place::{KeyPlace, find_key};
+use crate::lines::Lines;
+use crate::stored::key_of_stored;
+use crate::tune_body::TuneBody;
 use std::alloc::{AllocError, Global};
 use std::marker::Model;
 
@@ -48,6 +55,8 @@ impl ByteText {
 #[derive(Debug, Drop)]
 pub struct TuneText {
     text: Vec<u8>,
+    // Where its key stands, if that is known: the test of a stored text finds it.
+    key: Option<KeyPlace>,
 }
 
 impl Model for TuneText {
@@ -55,7 +64,7 @@ impl Model for TuneText {
 
     ghost view = { λ t. t.text.items };
 
-    ghost invariant = { λ t. IsTextWithin longest_tune t.text.items };
+    ghost invariant = { λ t. IsTextWithin longest_tune t.text.items × IsKnown t.text.items t.key };
 }
 
 impl TuneText {
@@ -64,7 +73,7 @@ impl TuneText {
         requires { IsTextWithin longest_tune text.items }
         ensures { result ≡ text.items }
     {
-        TuneText { text }
+        TuneText { text, key: None }
     }
 
     /// The bytes as a tune text, where they are one of at most `longest` bytes, which is at most
@@ -76,11 +85,17 @@ impl TuneText {
         ensures back { IfErr result (λ back. back ≡ bytes) }
         ensures bad { IfErr result (λ _. ¬ IsTextWithin longest bytes) }
     {
-        if bytes.as_slice().len() > longest || !is_tune_text(bytes.as_slice()) {
+        if bytes.as_slice().len() > longest {
             return Err(bytes);
         }
+        let Some(key) = key_of_stored(bytes.as_slice()) else {
+            return Err(bytes);
+        };
         let ByteText { bytes } = bytes;
-        Ok(TuneText::from_vec(bytes))
+        Ok(TuneText {
+            text: bytes,
+            key: Some(key),
+        })
     }
 
     /// The bytes of the text.
@@ -96,6 +111,36 @@ impl TuneText {
     pub fn copy(&self, alloc: Global) -> Result<TuneText, AllocError>
         ensures { IfOk result (λ text. text ≡ self.now) }
     {
-        Ok(TuneText::from_vec(Vec::from_slice(alloc, self.bytes())?))
+        let text = Vec::from_slice(alloc, self.bytes())?;
+        Ok(TuneText {
+            text,
+            key: self.key,
+        })
+    }
+
+    // Where its key stands.
+    fn key_place(&self) -> KeyPlace
+        ensures { key_place false (spans_of self.now) ≡ Some result }
+    {
+        match self.key {
+            Some(place) => place,
+            None => match find_key(&mut Lines::of_tune(self)) {
+                Some(place) => place,
+                None => unreachable!(),
+            },
+        }
+    }
+
+    /// What follows the header, which ends with the first line that gives the key (ABC 2.1,
+    /// 3.1.14). It takes no memory.
+    pub fn body(&self) -> TuneBody<'_>
+        ensures key { result.key.now ≡ key_text_of self.now }
+        ensures lines { result.lines ≡ body_spans self.now }
+        ensures in_part { result.in_part ≡ part_open_after (header_of (lines_of self.now)) }
+        ensures contents { map (λ s. s.bytes) (spans_of self.now) ≡ lines_of self.now }
+        ensures rising { SpansRise self.now 0 (spans_of self.now) }
+        ensures short { length self.now ≤ longest_tune }
+    {
+        TuneBody::from_key(self.bytes(), self.key_place())
     }
 }

@@ -2,5 +2,4 @@ pub mod EventView
 pub mod BarTables
 pub mod Bounds
 pub mod KeptBar
-pub mod LineKeys
 pub mod LateSignatures

@@ -9,15 +9,13 @@ ghost use Rattle.abc_notes.specs.Inside.Bounds.{LinesAreShort};
 ghost use Rattle.abc_notes.specs.Events.{Event as AnyEvent};
 ghost use Rattle.abc_notes.specs.Inside.EventView.{event_of, events_of};
 ghost use Rattle.abc_notes.specs.Music.{line_events, line_meaning, body_events};
-ghost use Rattle.abc_notes.specs.Music.{events_after_header};
 ghost use Rattle.abc_notes.specs.Music.{tune_events, tune_signature};
-ghost use Rattle.abc_notes.specs.Inside.LineKeys.{key_of_lines};
 
 use crate::events::Event;
 use crate::line_events::LineEvents;
 use abc_fields::{
-    Line, Lines, TuneText, field_value, in_part_after, is_comment, is_continuation, is_field_line,
-    is_key_line, without_comment,
+    Line, Lines, TuneBody, TuneText, field_value, in_part_after, is_comment, is_continuation,
+    is_field_line, is_key_line, without_comment,
 };
 use std::marker::Model;
 
@@ -59,8 +57,11 @@ impl<'a> TuneEvents<'a> {
         ensures events { result.1 ≡ tune_events text.now }
         ensures few { length result.1 ≤ longest_book }
     {
-        let mut lines = Lines::of_tune(text);
-        let (key, in_part) = read_header(&mut lines);
+        let TuneBody {
+            key,
+            lines,
+            in_part,
+        } = text.body();
         let events = TuneEvents {
             line: LineEvents::none(),
             lines,
@@ -106,24 +107,6 @@ impl<'a> TuneEvents<'a> {
             if event.is_some() {
                 return event;
             }
-        }
-    }
-}
-
-// Reads the header of a tune: the text of its key, and whether the body begins within a part.
-fn read_header<'a>(lines: &mut Lines<'a>) -> (&'a [u8], bool)
-    ensures key { result.0.now ≡ key_of_lines lines.old }
-    ensures events { body_events result.1 lines.new ≡ events_after_header false lines.old }
-    ensures short { LinesAreShort lines.old → LinesAreShort lines.new }
-{
-    let mut in_part = false;
-    'header: loop {
-        let Some(line) = lines.next() else {
-            return (b"", in_part);
-        };
-        in_part = in_part_after(in_part, line.text);
-        if is_key_line(line.text) {
-            return (field_value(line.text), in_part);
         }
     }
 }
