@@ -17,11 +17,17 @@ use tune_cli::{Action, act, action, report};
 /// How many bytes are read at once, and how many of a reply are written at once.
 const BUFFER: usize = 65_536;
 
+/// How many bytes are taken at the start and given back at once. The allocator of glibc then serves
+/// each smaller request from memory that it keeps, where it would ask the system for fresh pages
+/// each time. Nothing but time depends on it, and it may be refused.
+const KEPT_BYTES: usize = 2_097_152;
+
 const FAILED: u8 = 1;
 
 const BAD_WORDS: u8 = 2;
 
 fn main(rt: HostRuntime) -> ExitCode {
+    let _ = Vec::<u8>::with_capacity(rt.alloc(), KEPT_BYTES);
     let status = match start(&rt) {
         Ok(status) => status,
         Err(error) => say_failure(&rt, &error),
