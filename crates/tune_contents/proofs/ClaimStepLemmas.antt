@@ -213,7 +213,7 @@ later_set rows list place row lt long later =
     ∙ ap (λ (l : List Row). drop 1 l) (sym (drop_more rows place row lt) ∙ later ∙ drop_more list place row also)
 
 -- Rows that were changed in place are what a vector has then.
-pub written_back : (n : ℕ) (rows items : List Row) → number_entries rows ≡ number_entries items → n ≡ length items
+written_back : (n : ℕ) (rows items : List Row) → number_entries rows ≡ number_entries items → n ≡ length items
     → take n (rows ++ drop (length rows) items) ≡ rows
 written_back n rows items same all =
     let sizes = ap (λ (l : List Entry). length l) same in
@@ -221,3 +221,9 @@ written_back n rows items same all =
     let as_many : length rows ≤ n = omega (arith, sizes, all, length-map rows row_entry, length-map items row_entry) in
     ap (λ (l : List Row). take n (rows ++ l)) (none_behind items (length rows) long) ∙ ap (λ (l : List Row). take n l) (append-nil rows)
     ∙ take_all n rows as_many
+
+-- so seen behind a call that was lent a slice of it
+pub seen_back : (n : ℕ) (seen lent rows items : List Row) → seen ≡ take n (rows ++ drop (length rows) items) → lent ≡ items → length lent ≡ n
+    → number_entries rows ≡ number_entries lent → seen ≡ rows
+seen_back n seen lent rows items is same long alike =
+    is ∙ written_back n rows items (alike ∙ ap number_entries same) (sym long ∙ ap (λ (l : List Row). length l) same)

@@ -1,4 +1,4 @@
-use Rattle.std.proofs.Common.{◌≡◌, List, length, refl, ap, sym, ◌∙◌, subst}
+use Rattle.std.proofs.Common.{◌≡◌, List, refl, ap, sym, ◌∙◌, subst}
 use Rattle.std.proofs.lemmas.Result.{err_from_is_err_and}
 use Rattle.tune_pages.specs.Claim.{IsChainFault}
 use Rattle.tune_pages.specs.declared.fault.ClaimFault.{ClaimFault}
@@ -9,7 +9,7 @@ use Rattle.tune_contents.specs.Inside.ClaimedParts.{IsStateThere}
 use Rattle.tune_contents.specs.Inside.ClaimedRows.{NameRows}
 use Rattle.tune_contents.proofs.ClaimedRowLemmas.{rows_as}
 use Rattle.tune_contents.proofs.ClaimStateLemmas.{listed_fault, rows_fault, sets_fault, texts_claimed}
-use Rattle.tune_contents.proofs.ClaimStepLemmas.{written_back}
+use Rattle.tune_contents.proofs.ClaimStepLemmas.{seen_back}
 use Rattle.tune_contents.proofs.claiming.claim_texts.Goals as goal
 
 pub returns-in_err-rows-clause-damaged : goal.returns-in_err-rows-clause-damaged
@@ -35,9 +35,7 @@ read_named_sets-requires g c =
     let rows : List Row = c.claim_rows.new.rows in
     let listed = c.in_ok-rows.ensures in
     let same = call.same ∙ ap number_entries c.deref_mut.ensures.value in
-    let now : c.deref-2.result.now ≡ rows =
-    c.deref-2.ensures.value
-    ∙ written_back c.in_ok-rows.rows.len rows own same (sym c.deref_mut.ensures.len ∙ ap (λ (l : List Row). length l) c.deref_mut.ensures.value) in
+    let now : c.deref-2.result.now ≡ rows = seen_back _ _ _ rows own c.deref-2.ensures.value c.deref_mut.ensures.value c.deref_mut.ensures.len call.same in
     let are = rows_as {layout = c.args.layout} rows own same listed.rows in
     subst (RowsRise 0) (sym now) are.rise
 
@@ -49,9 +47,7 @@ returns-in_err-sets-clause-damaged g c =
     let rows : List Row = c.claim_rows.new.rows in
     let listed = c.in_ok-rows.ensures in
     let same = call.same ∙ ap number_entries c.deref_mut.ensures.value in
-    let now : c.deref-2.result.now ≡ rows =
-    c.deref-2.ensures.value
-    ∙ written_back c.in_ok-rows.rows.len rows own same (sym c.deref_mut.ensures.len ∙ ap (λ (l : List Row). length l) c.deref_mut.ensures.value) in
+    let now : c.deref-2.result.now ≡ rows = seen_back _ _ _ rows own c.deref-2.ensures.value c.deref_mut.ensures.value c.deref_mut.ensures.len call.same in
     let entries = ap number_entries now ∙ same ∙ listed.same ∙ c.deref.ensures.value in
     rw p.1 (λ h firsts shape shapes lists. subst (λ (f : ClaimFault). IsChainFault f (IsStateThere c.args.opening.now.pages)) (sym p.2)
     (sets_fault c.in_err-sets.field-0.0 _ _ _ _ _ _ _ _ _ lists c.deref-2.result.now entries c.in_err-sets.ensures.damaged))
@@ -63,10 +59,7 @@ returns-clause-claimed g c = λ h contents its its_rows its_sets lists.
     let own : List Row = c.in_ok-rows.rows.items in
     let rows : List Row = c.claim_rows.new.rows in
     let listed = c.in_ok-rows.ensures in
-    let same = call.same ∙ ap number_entries c.deref_mut.ensures.value in
-    let now : c.deref-2.result.now ≡ rows =
-    c.deref-2.ensures.value
-    ∙ written_back c.in_ok-rows.rows.len rows own same (sym c.deref_mut.ensures.len ∙ ap (λ (l : List Row). length l) c.deref_mut.ensures.value) in
+    let now : c.deref-2.result.now ≡ rows = seen_back _ _ _ rows own c.deref-2.ensures.value c.deref_mut.ensures.value c.deref_mut.ensures.len call.same in
     let back = sym c.deref-2.ensures.value ∙ now in
     texts_claimed {layout = c.args.layout} _ _ _ _ contents _ _ _ c.deref_mut.result.now rows _ refl its (its_rows ∙ back) its_sets lists
     (subst (AreRows c.args.layout) (sym c.deref_mut.ensures.value) listed.rows)
@@ -80,8 +73,6 @@ returns-clause-rows g c =
     let rows : List Row = c.claim_rows.new.rows in
     let listed = c.in_ok-rows.ensures in
     let same = call.same ∙ ap number_entries c.deref_mut.ensures.value in
-    let now : c.deref-2.result.now ≡ rows =
-    c.deref-2.ensures.value
-    ∙ written_back c.in_ok-rows.rows.len rows own same (sym c.deref_mut.ensures.len ∙ ap (λ (l : List Row). length l) c.deref_mut.ensures.value) in
+    let now : c.deref-2.result.now ≡ rows = seen_back _ _ _ rows own c.deref-2.ensures.value c.deref_mut.ensures.value c.deref_mut.ensures.len call.same in
     let back = sym c.deref-2.ensures.value ∙ now in
     subst (AreRows c.args.layout) (sym back) (rows_as {layout = c.args.layout} rows own same listed.rows)
