@@ -6,6 +6,7 @@ mod CallRuns
 mod Chain
 pub mod ChangeLists
 mod Changed
+mod Entries
 mod KeptLists
 mod Loops
 mod Making

@@ -57,6 +57,17 @@ some_with page image (c ∷ cs) = elim (cases_order page c.0) [
   | inr (inr more) ↦ (let same = with_after page image c cs more in subst (λ (l : List Change). 0 < length l) (sym same) (omega arith))
 ]
 
+-- A CALL THAT PUTS AN IMAGE: what it says of each page
+pub put_found : (page : ℕ) (image : List ℕ) (old new : List Change) → new ≡ with_change page image old → image_of page new ≡ Some image
+put_found page image old new is = ap (image_of page) is ∙ image_put page image old
+
+pub put_others : (page : ℕ) (image : List ℕ) (old new : List Change) → new ≡ with_change page image old → (other : ℕ) → other ≢ page
+    → image_of other new ≡ image_of other old
+put_others page image old new is other ne = ap (image_of other) is ∙ image_others page image old other ne
+
+pub put_some : (page : ℕ) (image : List ℕ) (old new : List Change) → new ≡ with_change page image old → 0 < length new
+put_some page image old new is = subst (λ (l : List Change). 0 < length l) (sym is) (some_with page image old)
+
 -- an image that is put again
 pub with_again : (page : ℕ) (image before : List ℕ) (l : List Change) → with_change page image (with_change page before l) ≡ with_change page image l
 with_again page image before [] = with_same page image (page, before) [] refl

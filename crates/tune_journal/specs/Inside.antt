@@ -5,3 +5,4 @@ pub mod Looking
 pub mod Phases
 pub mod Rest
 pub mod Seen
+pub mod ShortImages

@@ -4,8 +4,9 @@ ghost use Rattle.std.specs.Prelude.{true, false, IsTrue, None, Some, IsSome, IsO
 ghost use Rattle.std.specs.Prelude.{IfOk, IfErr, All, option_map};
 ghost use Rattle.std.specs.List.Sorted.{IsStrictlyIncreasing};
 ghost use Rattle.tune_journal.specs.ChangeList.{with_change, image_of, change_at, changed_page};
+ghost use Rattle.tune_journal.specs.ChangeList.{padded};
 ghost use Rattle.tune_journal.specs.Inside.ChangeOrder.{FoundAt, MissingAt};
-ghost use Rattle.tune_journal.specs.Inside.ListedChanges.{padded};
+ghost use Rattle.tune_journal.specs.Inside.ShortImages.{IsShort};
 ghost use Rattle.tune_journal.specs.FileOffsets.{block_bytes};
 
 use std::alloc::{AllocError, Global};
@@ -30,6 +31,9 @@ impl PageImage {
 
 // How many bytes of an image are held where the others are zeros.
 const START: usize = 256;
+
+// The others then.
+static ZEROS: [u8; 3840] = [0; 3840];
 
 // How the image of a change is held: apart, so that a page among many others moves no images.
 #[derive(Drop)]
@@ -101,11 +105,33 @@ impl Changes {
         match self.search(page) {
             Ok(at) => self.replace(at, page, image),
             Err(at) => {
-                self.add(at, page, image)?;
+                self.add(at, page, &start_of(image))?;
                 if !is_short(image) {
                     self.replace(at, page, image);
                 }
             }
+        }
+        Ok(())
+    }
+
+    /// Has the page change to these first bytes with zeros behind them, in place of an image that
+    /// was put for it before.
+    ///
+    /// # Errors
+    ///
+    /// Those of [`Changes::put`].
+    pub fn put_start(&mut self, page: u32, start: &[u8; 256]) -> Result<(), AllocError>
+        ensures ok { OnOk result (self.new ≡ with_change page (padded start.now) self.old) }
+        ensures found { OnOk result (image_of page self.new ≡ Some (padded start.now)) }
+        ensures others { (other : ℕ) → other ≢ page
+            → image_of other self.new ≡ image_of other self.old }
+        ensures some { OnOk result (0 < length self.new) }
+        ensures err { OnErr result (self.new ≡ self.old) }
+        ensures replaces { IsSome (image_of page self.old) → IsOk result }
+    {
+        match self.search(page) {
+            Ok(at) => self.replace_start(at, page, start),
+            Err(at) => self.add(at, page, start)?,
         }
         Ok(())
     }
@@ -141,7 +167,7 @@ impl Changes {
     {
         match self.search(page) {
             Ok(at) => {
-                *image = self.image_at(at);
+                let _ = self.fill(at, &mut image.bytes, false);
                 true
             }
             Err(_) => false,
@@ -184,17 +210,38 @@ impl Changes {
         }
     }
 
-    // Adds a change to the first bytes of this image, with zeros behind them.
-    fn add(&mut self, at: usize, page: u32, image: &PageImage) -> Result<(), AllocError>
+    // Puts the image of the change at this place in the place of `image`. Where `short` says that
+    // all but the first bytes of that are zeros, they are not cleared again; the answer says so of
+    // the new one.
+    pub(crate) fn fill(&self, place: usize, image: &mut [u8], short: bool) -> bool
+        requires place { place < length self.now }
+        requires size { length image.old ≡ block_bytes }
+        requires short { short ≡ true → IsShort image.old }
+        ensures image { image.new ≡ (change_at self.now place).1 }
+        ensures short { result ≡ true → IsShort image.new }
+    {
+        match &self.changed[place].kept {
+            Kept::Start(start) => {
+                fill_short(image, start, short);
+                true
+            }
+            Kept::Whole(at) => {
+                image.copy_from_slice(&self.whole[*at].bytes);
+                false
+            }
+        }
+    }
+
+    // Adds a change to these first bytes, with zeros behind them.
+    fn add(&mut self, at: usize, page: u32, start: &[u8; 256]) -> Result<(), AllocError>
         requires { MissingAt page at self.old }
-        ensures ok { OnOk result
-            (self.new ≡ with_change page (padded (take 256 image.now.bytes)) self.old) }
+        ensures ok { OnOk result (self.new ≡ with_change page (padded start.now) self.old) }
         ensures found { OnOk result (FoundAt page at self.new) }
         ensures err { OnErr result (self.new ≡ self.old) }
     {
         let count = self.len() + 1;
         self.whole.reserve(count - self.whole.len())?;
-        let kept = Kept::Start(Box::new(self.alloc, start_of(image))?);
+        let kept = Kept::Start(Box::new(self.alloc, *start)?);
         self.changed.insert(at, ChangedPage { page, kept })?;
         Ok(())
     }
@@ -219,6 +266,16 @@ impl Changes {
         }
     }
 
+    // The same, with these first bytes and zeros behind them. It is apart, so that no room for an
+    // image is cleared on the way of a page that is not among the changes.
+    #[inline(never)]
+    fn replace_start(&mut self, at: usize, page: u32, start: &[u8; 256])
+        requires { FoundAt page at self.old }
+        ensures { self.new ≡ with_change page (padded start.now) self.old }
+    {
+        self.replace(at, page, &restored(start));
+    }
+
     // Where the page is, or where it would go.
     fn search(&self, page: u32) -> Result<usize, usize>
         ensures found { IfOk result (λ at. FoundAt page at self.now) }
@@ -236,7 +293,7 @@ impl Changes {
 fn is_short(image: &PageImage) -> bool
     ensures { IsTrue result → image.now.bytes ≡ padded (take 256 image.now.bytes) }
 {
-    is_same(rest_of(image), rest_of(&PageImage::blank()))
+    is_same(rest_of(image), &ZEROS)
 }
 
 fn is_same(some: &[u8], others: &[u8]) -> bool
@@ -268,4 +325,29 @@ fn restored(start: &[u8; 256]) -> PageImage
     let mut bytes = [0; 4096];
     bytes[..START].copy_from_slice(start);
     PageImage { bytes }
+}
+
+// Puts the image of these first bytes in the place of `image`. Where `short` says that all but the
+// first bytes of that are zeros, they are not cleared again.
+fn fill_short(image: &mut [u8], start: &[u8; 256], short: bool)
+    requires size { length image.old ≡ block_bytes }
+    requires short { short ≡ true → IsShort image.old }
+    ensures image { image.new ≡ padded start.now }
+    ensures short { IsShort image.new }
+{
+    clear_rest(image, short);
+    image[..START].copy_from_slice(start);
+}
+
+// Clears all but the first bytes of an image, where they are not zeros.
+fn clear_rest(image: &mut [u8], short: bool)
+    requires size { length image.old ≡ block_bytes }
+    requires short { short ≡ true → IsShort image.old }
+    ensures size { length image.new ≡ block_bytes }
+    ensures short { IsShort image.new }
+{
+    if short {
+        return;
+    }
+    image[START..].copy_from_slice(&ZEROS);
 }

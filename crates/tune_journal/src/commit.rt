@@ -1,13 +1,16 @@
 // The disk calls of a commit.
-ghost use Rattle.std.specs.Prelude.{◌≡◌, ◌<◌, ◌≤◌, ◌^◌, ◌+◌, ◌*◌, ◌++◌, ℕ, All, length, OnOk};
+ghost use Rattle.std.specs.Prelude.{◌≡◌, ◌<◌, ◌≤◌, ◌^◌, ◌+◌, ◌*◌, ◌++◌, ℕ, All, length, drop};
+ghost use Rattle.std.specs.Prelude.{true, OnOk};
 ghost use Rattle.byteorder.specs.Endian.{big_bytes};
 ghost use Rattle.tune_disk.specs.Disk.{Writes, Written, Calls};
 ghost use Rattle.tune_disk.specs.Inside.Spares.{Spares};
+ghost use Rattle.tune_journal.specs.ChangeList.{change_at};
 ghost use Rattle.tune_journal.specs.Image.{count_of, IsLog, number, page_offset, entry_offset};
 ghost use Rattle.tune_journal.specs.Image.{pages_of};
 ghost use Rattle.tune_journal.specs.Inside.Phases.{log_entry, WritesAndSyncs, IsNoLog, IsOutside};
 ghost use Rattle.tune_journal.specs.Inside.Phases.{IsInNoPage, HoldsEntries, HoldsDescriptor};
 ghost use Rattle.tune_journal.specs.Inside.Phases.{KeepsBoth};
+ghost use Rattle.tune_journal.specs.Inside.ShortImages.{IsShort};
 ghost use Rattle.tune_journal.specs.FileOffsets.{block_bytes, entry_bytes, most_pages};
 ghost use Rattle.tune_journal.specs.Pages.{changed};
 
@@ -17,14 +20,17 @@ use crate::file_offsets::{
 };
 use tune_disk::{DeviceFault, Disk};
 
-// An entry of the log.
-fn entry_of(page: u32, image: &PageImage) -> [u8; 4100]
-    ensures { result ≡ log_entry page image.now.bytes }
+// Puts an entry of the log in the place of another. Of `short` and the answer holds what
+// `Changes::fill` says.
+fn fill_entry(entry: &mut [u8; 4100], changes: &Changes, place: usize, short: bool) -> bool
+    requires place { place < length changes.now }
+    requires short { short ≡ true → IsShort (drop 4 entry.old) }
+    ensures entry { entry.new
+        ≡ log_entry (change_at changes.now place).0 (change_at changes.now place).1 }
+    ensures short { result ≡ true → IsShort (drop 4 entry.new) }
 {
-    let mut entry = [0; ENTRY_BYTES];
-    entry[..4].copy_from_slice(&number_bytes(page));
-    entry[4..].copy_from_slice(&image.bytes);
-    entry
+    entry[..4].copy_from_slice(&number_bytes(changes.page_at(place)));
+    changes.fill(place, &mut entry[4..], short)
 }
 
 // The descriptor of a log.
@@ -38,19 +44,14 @@ fn descriptor_of(new_count: u32, entries: u32) -> [u8; 8]
 }
 
 // Writes an entry of the log.
-fn write_entry<D: Disk>(
-    disk: &mut D,
-    at: u64,
-    page: u32,
-    image: &PageImage,
-) -> Result<(), DeviceFault>
+fn write_entry<D: Disk>(disk: &mut D, at: u64, entry: &[u8; 4100]) -> Result<(), DeviceFault>
     requires { at + entry_bytes ≤ 2 ^ 40 }
-    ensures size { length image.now.bytes ≡ block_bytes }
+    ensures size { length entry.now ≡ entry_bytes }
     ensures write { let old = D.state disk.old in let new = D.state disk.new in
-        D.honest disk.new → Writes at (log_entry page image.now.bytes) result old new }
+        D.honest disk.new → Writes at entry.now result old new }
     ensures calls { Calls D.honest D.failures result disk.old disk.new }
 {
-    disk.write_at(at, &entry_of(page, image))
+    disk.write_at(at, entry)
 }
 
 // Writes an image into its page.
@@ -73,9 +74,12 @@ fn write_entries<D: Disk>(disk: &mut D, base: u64, changes: &Changes) -> Result<
         → HoldsEntries base changes.now (length changes.now) (D.state disk.new).seen) }
     ensures calls { Calls D.honest D.failures result disk.old disk.new }
 {
+    let mut entry = [0; ENTRY_BYTES];
+    let mut short = true;
     let mut at = base;
     for place in 0..changes.len() {
-        write_entry(disk, at, changes.page_at(place), &changes.image_at(place))?;
+        short = fill_entry(&mut entry, changes, place, short);
+        write_entry(disk, at, &entry)?;
         at += ENTRY_BYTES as u64;
     }
     Ok(())
@@ -92,8 +96,11 @@ fn write_images<D: Disk>(disk: &mut D, changes: &Changes) -> Result<(), DeviceFa
         → pages_of n new.seen ≡ changed (pages_of n old.seen) changes.now) }
     ensures calls { Calls D.honest D.failures result disk.old disk.new }
 {
+    let mut image = PageImage::blank();
+    let mut short = true;
     for place in 0..changes.len() {
-        write_image(disk, changes.page_at(place), &changes.image_at(place))?;
+        short = changes.fill(place, &mut image.bytes, short);
+        write_image(disk, changes.page_at(place), &image)?;
     }
     Ok(())
 }

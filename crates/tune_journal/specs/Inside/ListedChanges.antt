@@ -1,15 +1,11 @@
 -- The changes that a value holds, as a list, and how their images are held.
-use Rattle.std.specs.Prelude.{◌≡◌, ℕ, ◌+◌, ◌<◌, ◌≤◌, List, [], ◌∷◌, ◌++◌, length, map, replicate}
-use Rattle.std.specs.Prelude.{slice_index_or}
+use Rattle.std.specs.Prelude.{◌≡◌, ℕ, ◌+◌, ◌<◌, ◌≤◌, List, [], ◌∷◌, length, map, slice_index_or}
+use Rattle.tune_journal.specs.ChangeList.{padded}
 use Rattle.tune_journal.specs.declared.changes.ChangedPage.{ChangedPage}
 use Rattle.tune_journal.specs.declared.changes.Kept.{Kept}
 use Rattle.tune_journal.specs.declared.changes.Kept.TheVariants.{Start, Whole}
 use Rattle.tune_journal.specs.declared.changes.PageImage.{PageImage}
 use Rattle.tune_journal.specs.Inside.ChangeOrder.{IsChangeList}
-
--- the first 256 bytes of an image, and zeros behind them
-abbrev pub padded : List ℕ → List ℕ
-padded start = start ++ replicate 3840 0
 
 -- the whole images, as bytes
 abbrev pub wholes : List PageImage → List (List ℕ)

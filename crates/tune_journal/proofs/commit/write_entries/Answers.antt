@@ -1,9 +1,7 @@
-use Rattle.std.proofs.Common.{◌≡◌, ℕ, ◌<◌, ◌++◌, inl, ◌∙◌, List, length, arith, subst}
-use Rattle.byteorder.specs.Endian.{big_bytes}
+use Rattle.std.proofs.Common.{ℕ, ◌<◌, inl, refl, ◌∙◌, ap, List, drop, arith, subst}
+use Rattle.std.proofs.lemmas.List.{drop-replicate}
 use Rattle.tune_disk.specs.Disk.{Written}
-use Rattle.tune_disk.proofs.Moments.{spares_then, spares_write}
-use Rattle.tune_journal.specs.Inside.Phases.{log_entry}
-use Rattle.tune_journal.specs.FileOffsets.{entry_bytes}
+use Rattle.tune_disk.proofs.Moments.{spares_none, spares_then, spares_write}
 use Rattle.tune_journal.proofs.Loops.{entries_more}
 use Rattle.tune_journal.proofs.CallRuns.{writes_ok}
 use Rattle.tune_journal.proofs.commit.write_entries.Goals as goal
@@ -19,24 +17,36 @@ returns-in_err-write_entry-clause-spares g c = λ h.
     spares_then _ _ _ _ (c.loop-place.invariant.spares (c.write_entry.ensures.calls.was_honest h))
     (spares_write (λ i. i < c.args.base) _ _ c.write_entry.result _ _ (c.write_entry.ensures.write h) (λ i lt. inl (omega (arith, c.loop-place.invariant.at))))
 
+pub fill_entry-short-requires-clause-short : goal.fill_entry-short-requires-clause-short
+fill_entry-short-requires-clause-short g c = c.loop-place.invariant.short
+
+pub loop-place-init : goal.loop-place-init
+loop-place-init g c = record {
+  at = omega arith;
+  short = λ is. ap (λ (l : List ℕ). drop 256 l) (drop-replicate 4 4100 0) ∙ drop-replicate 256 4096 0;
+  honest = λ h. h;
+  spares = λ h. spares_none _ _;
+  entries = λ h k lt. absurd (omega (arith, lt));
+  failures = refl;
+}
+
 pub loop-place-preserved : goal.loop-place-preserved
 loop-place-preserved g c =
-    let page : ℕ = c.page_at.result in
-    let image : List ℕ = c.image_at.result.bytes in
-    let long : length (log_entry page image) ≡ entry_bytes = omega (arith, c.write_entry.ensures.size) in
+    let entry : List ℕ = c.fill_entry-short.new.entry in
     record {
       at = omega (arith, c.loop-place.invariant.at);
+      short = c.fill_entry-short.ensures.short;
       honest = λ h. c.loop-place.invariant.honest (c.write_entry.ensures.calls.was_honest h);
       spares = λ h. spares_then _ _ _ _ (c.loop-place.invariant.spares (c.write_entry.ensures.calls.was_honest h))
           (spares_write (λ i. i < c.args.base) _ _ c.write_entry.result _ _ (c.write_entry.ensures.write h)
           (λ i lt. inl (omega (arith, c.loop-place.invariant.at))));
       entries = λ h.
-          (let written : Written c.loop-place.at (log_entry page image) (g.D.Disk.state c.loop-place.disk).seen
+          (let written : Written c.loop-place.at entry (g.D.Disk.state c.loop-place.disk).seen
           (g.D.Disk.state c.write_entry.new.disk).seen =
           writes_ok _ _ c.write_entry.result _ _ _ (c.in_ok-write_entry.was) (c.write_entry.ensures.write h) in
-          entries_more c.args.base c.loop-place.place c.args.changes.now _ _ _ (c.loop-place.invariant.entries (c.write_entry.ensures.calls.was_honest h)) long
-          (λ t. big_bytes 4 (c.page_at.ensures.page t) ++ c.image_at.ensures t)
-          (subst (λ (n : ℕ). Written n (log_entry page image) (g.D.Disk.state c.loop-place.disk).seen
+          entries_more c.args.base c.loop-place.place c.args.changes.now _ _ _ (c.loop-place.invariant.entries (c.write_entry.ensures.calls.was_honest h))
+          c.write_entry.ensures.size c.fill_entry-short.ensures.entry
+          (subst (λ (n : ℕ). Written n entry (g.D.Disk.state c.loop-place.disk).seen
           (g.D.Disk.state c.write_entry.new.disk).seen) c.loop-place.invariant.at written));
       failures = c.in_ok-write_entry.ensures.calls.counted ∙ c.loop-place.invariant.failures;
     }

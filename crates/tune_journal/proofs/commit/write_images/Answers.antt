@@ -1,6 +1,7 @@
-use Rattle.std.proofs.Common.{ℕ, ◌<◌, ◌≤◌, sym, ◌∙◌, ap, length, List, set, take, arith}
+use Rattle.std.proofs.Common.{ℕ, ◌<◌, ◌≤◌, refl, sym, ◌∙◌, ap, length, List, set, take, drop, arith}
+use Rattle.std.proofs.lemmas.List.{drop-replicate}
 use Rattle.tune_disk.specs.Disk.{Written}
-use Rattle.tune_disk.proofs.Moments.{spares_then, spares_write}
+use Rattle.tune_disk.proofs.Moments.{spares_none, spares_then, spares_write}
 use Rattle.tune_journal.specs.Image.{pages_of, page_offset}
 use Rattle.tune_journal.specs.Inside.Phases.{IsInNoPage}
 use Rattle.tune_journal.specs.FileOffsets.{most_pages}
@@ -18,19 +19,32 @@ pub returns-in_err-write_image-clause-spares : goal.returns-in_err-write_image-c
 returns-in_err-write_image-clause-spares g c = λ h.
     (let lt : c.loop-place.place < length c.args.changes.now = omega (arith, c.loop-place-test.true, c.len-place-end.ensures.len) in
     spares_then _ _ _ _ (c.loop-place.invariant.spares (c.write_image.ensures.calls.was_honest h))
-    (spares_write (IsInNoPage c.args.changes.now) (page_offset c.page_at.result) c.image_at.result.bytes c.write_image.result _ _
+    (spares_write (IsInNoPage c.args.changes.now) (page_offset c.page_at.result) c.fill-short.new.image c.write_image.result _ _
     (c.write_image.ensures.write h)
     (λ i out.
-    outside_image c.args.changes.now c.loop-place.place c.page_at.result i c.image_at.result.bytes lt c.page_at.ensures.page c.write_image.ensures.size out)))
+    outside_image c.args.changes.now c.loop-place.place c.page_at.result i c.fill-short.new.image lt c.page_at.ensures.page c.write_image.ensures.size out)))
+
+pub fill-short-requires-clause-short : goal.fill-short-requires-clause-short
+fill-short-requires-clause-short g c = c.loop-place.invariant.short
+
+pub loop-place-init : goal.loop-place-init
+loop-place-init g c = record {
+  short = λ is. ap (λ (l : List ℕ). drop 256 l) c.blank-image.ensures ∙ drop-replicate 256 4096 0;
+  honest = λ h. h;
+  spares = λ h. spares_none _ _;
+  images = λ h n long all. refl;
+  failures = refl;
+}
 
 pub loop-place-preserved : goal.loop-place-preserved
 loop-place-preserved g c =
     let log = c.args.changes.now in
     let k : ℕ = c.loop-place.place in
     let page : ℕ = c.page_at.result in
-    let image : List ℕ = c.image_at.result.bytes in
+    let image : List ℕ = c.fill-short.new.image in
     let lt : k < length log = omega (arith, c.loop-place-test.true, c.len-place-end.ensures.len) in
     record {
+      short = c.fill-short.ensures.short;
       honest = λ h. c.loop-place.invariant.honest (c.write_image.ensures.calls.was_honest h);
       spares = λ h. spares_then _ _ _ _ (c.loop-place.invariant.spares (c.write_image.ensures.calls.was_honest h))
           (spares_write (IsInNoPage log) (page_offset page) image c.write_image.result _ _ (c.write_image.ensures.write h)
@@ -45,6 +59,7 @@ loop-place-preserved g c =
           image_more n page image _ _ c.write_image.ensures.size (entry_below log n k page all lt c.page_at.ensures.page) long' written
           ∙ ap (λ (l : List (List ℕ)). set l page image) before
           ∙ sym (changed-push (pages_of n (g.D.Disk.state c.args.disk.now).seen) (take k log) (page, image))
-          ∙ ap (changed (pages_of n (g.D.Disk.state c.args.disk.now).seen)) (sym (take_entry log k page image lt c.page_at.ensures.page c.image_at.ensures)));
+          ∙ ap (changed (pages_of n (g.D.Disk.state c.args.disk.now).seen))
+          (sym (take_entry log k page image lt c.page_at.ensures.page c.fill-short.ensures.image)));
       failures = c.in_ok-write_image.ensures.calls.counted ∙ c.loop-place.invariant.failures;
     }

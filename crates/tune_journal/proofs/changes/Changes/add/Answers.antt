@@ -1,10 +1,10 @@
-use Rattle.std.proofs.Common.{◌≡◌, ℕ, ◌<◌, List, length, take, replicate, vec_capacity, length-append, length-take, refl, sym, ◌∙◌, ap, subst, arith, rules}
+use Rattle.std.proofs.Common.{◌≡◌, ℕ, ◌<◌, List, length, replicate, vec_capacity, length-append, refl, sym, ◌∙◌, ap, subst, arith, rules}
 use Rattle.std.proofs.lemmas.List.{length-replicate, length-map}
 use Rattle.tune_journal.specs.declared.changes.ChangedPage.{ChangedPage}
 use Rattle.tune_journal.specs.declared.changes.PageImage.{PageImage}
-use Rattle.tune_journal.specs.ChangeList.{with_change}
+use Rattle.tune_journal.specs.ChangeList.{padded, with_change}
 use Rattle.tune_journal.specs.Inside.ChangeOrder.{FoundAt, MissingAt}
-use Rattle.tune_journal.specs.Inside.ListedChanges.{change_in, listed, padded, HoldsChanges}
+use Rattle.tune_journal.specs.Inside.ListedChanges.{change_in, listed, HoldsChanges}
 use Rattle.tune_journal.specs.FileOffsets.{block_bytes}
 use Rattle.tune_journal.proofs.KeptLists.{added_listed, added_found, added_kept}
 use Rattle.tune_journal.proofs.changes.Changes.add.Goals as goal
@@ -14,11 +14,11 @@ invariant_of-self-2 c =
     let whole = c.self.inside.whole.items in
     let items = c.self.inside.changed.items in
     let missing : MissingAt c.args.page c.args.at (listed whole items) = subst (MissingAt c.args.page c.args.at) (sym c.self.view_is) c.requires in
-    let start : List ℕ = take 256 c.args.image.now.bytes in
-    let holds = ap padded (c.in_ok-new.ensures.ok ∙ c.start_of.ensures) in
-    let size : length c.args.image.now.bytes ≡ block_bytes = search rules in
+    let start : List ℕ = c.args.start.now in
+    let holds = ap padded c.in_ok-new.ensures.ok in
+    let size : length start ≡ 256 = search rules in
     let long : length (padded start) ≡ block_bytes =
-    omega (arith, size, length-append start (replicate 3840 0), length-take 256 c.args.image.now.bytes, length-replicate {A = ℕ}) in
+    omega (arith, size, length-append start (replicate 3840 0), length-replicate {A = ℕ}) in
     let same : length (listed whole items) ≡ length c.args.self.now = ap length c.self.view_is in
     let last : c.self.inside.whole.len ≡ length whole = search rules in
     let fits : length items < vec_capacity c.reserve.new.self =
@@ -42,8 +42,8 @@ returns-clause-ok c =
     let whole = c.self.inside.whole.items in
     let items = c.self.inside.changed.items in
     let missing : MissingAt c.args.page c.args.at (listed whole items) = subst (MissingAt c.args.page c.args.at) (sym c.self.view_is) c.requires in
-    let start : List ℕ = take 256 c.args.image.now.bytes in
-    let holds = ap padded (c.in_ok-new.ensures.ok ∙ c.start_of.ensures) in
+    let start : List ℕ = c.args.start.now in
+    let holds = ap padded c.in_ok-new.ensures.ok in
     ap (λ (w : List PageImage). listed w c.insert.new.self.items) c.in_ok-reserve.ensures.items
     ∙ ap (listed whole) c.in_ok-insert.ensures.items
     ∙ added_listed whole items _ c.self.invariant c.args.page c.args.at missing _ refl (padded start) holds
@@ -54,8 +54,8 @@ returns-clause-found c =
     let whole = c.self.inside.whole.items in
     let items = c.self.inside.changed.items in
     let missing : MissingAt c.args.page c.args.at (listed whole items) = subst (MissingAt c.args.page c.args.at) (sym c.self.view_is) c.requires in
-    let start : List ℕ = take 256 c.args.image.now.bytes in
-    let holds = ap padded (c.in_ok-new.ensures.ok ∙ c.start_of.ensures) in
+    let start : List ℕ = c.args.start.now in
+    let holds = ap padded c.in_ok-new.ensures.ok in
     subst (λ (w : List PageImage). FoundAt c.args.page c.args.at (listed w c.insert.new.self.items)) (sym c.in_ok-reserve.ensures.items)
     (subst (λ (l : List ChangedPage). FoundAt c.args.page c.args.at (listed whole l)) (sym c.in_ok-insert.ensures.items)
     (added_found whole items _ c.self.invariant c.args.page c.args.at missing _ refl (padded start) holds))

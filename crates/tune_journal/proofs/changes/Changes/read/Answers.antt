@@ -4,7 +4,7 @@ use Rattle.tune_journal.proofs.changes.Changes.read.Goals as goal
 
 pub returns-in-Ok-clause-found : goal.returns-in-Ok-clause-found
 returns-in-Ok-clause-found c = λ is.
-    image_of_found c.args.page c.in-Ok.at c.args.self.now c.in-Ok.ensures.found ∙ sym (ap (λ (b : List ℕ). Some b) c.image_at.ensures)
+    image_of_found c.args.page c.in-Ok.at c.args.self.now c.in-Ok.ensures.found ∙ sym (ap (λ (b : List ℕ). Some b) c.fill.ensures.image)
 
 pub returns-in-Err-clause-missing : goal.returns-in-Err-clause-missing
 returns-in-Err-clause-missing c = λ is. image_of_missing c.args.page c.in-Err.field-0 c.args.self.now c.in-Err.ensures.missing
