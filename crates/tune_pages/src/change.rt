@@ -1,17 +1,17 @@
 // What a work changes.
 ghost use Rattle.std.specs.Prelude.{◌≡◌, ◌<◌, ◌≤◌, ℕ, List, [], false, Err, length, IfOk, OnOk};
 ghost use Rattle.std.specs.Prelude.{IfSome, IfNone};
+ghost use Rattle.tune_journal.specs.ChangeList.{padded};
 ghost use Rattle.tune_journal.specs.FileOffsets.{most_pages};
 ghost use Rattle.tune_pages.specs.Faults.{AnswersWork, free_pages, pages_for};
 ghost use Rattle.tune_pages.specs.Inside.NextFree.{IsNextFree};
-ghost use Rattle.tune_pages.specs.LinkOffsets.{piece_room};
 ghost use Rattle.tune_pages.specs.Stand.{IsUsed, IsFull, IsLeastFree, PutsChain};
 ghost use Rattle.tune_pages.specs.Stand.{with_page, without_page, taken, taken_with};
 ghost use Rattle.tune_pages.specs.declared.fault.Fault.TheVariants.{FileFull};
 ghost use Rattle.tune_pages.specs.Work.{stand, Fits, IsIdle, used_in};
 
 use crate::fault::Fault;
-use crate::link::{ROOM, link};
+use crate::link::{ROOM, START_ROOM, link, link_start};
 use crate::pages::Pages;
 use crate::work::Work;
 use tune_disk::Disk;
@@ -38,18 +38,18 @@ impl<D: Disk> Pages<D> {
         ensures full { IsFull (stand self.now work.old).used → self.now.closed ≡ false
             → result ≡ Err FileFull }
     {
-        self.take_least(work, &PageImage::blank())
+        self.take_least(work, &[0; 256])
     }
 
-    // Takes the least free page, with this image on it.
-    fn take_least(&self, work: &mut Work, image: &PageImage) -> Result<u32, Fault>
+    // Takes the least free page, with these first bytes on it and zeros behind them.
+    fn take_least(&self, work: &mut Work, start: &[u8; 256]) -> Result<u32, Fault>
         requires { Fits self.now work.old }
         ensures fits { OnOk result (Fits self.now work.new) }
         ensures least { IfOk result (λ page. IsLeastFree (stand self.now work.old).used page) }
         ensures within { IfOk result (λ page. (0 < page) × (page < most_pages)
             × (page ≤ length (stand self.now work.old).pages)) }
         ensures stand { IfOk result (λ page. stand self.now work.new
-            ≡ taken_with page image.now.bytes (stand self.now work.old)) }
+            ≡ taken_with page (padded start.now) (stand self.now work.old)) }
         ensures answer { AnswersWork result self.now.closed
             (IsFull (stand self.now work.old).used) }
         ensures full { IsFull (stand self.now work.old).used → self.now.closed ≡ false
@@ -62,7 +62,7 @@ impl<D: Disk> Pages<D> {
             Some(page) => page,
             None => return Err(Fault::FileFull),
         };
-        match work.take(page, image) {
+        match work.take(page, start) {
             Ok(()) => Ok(page),
             Err(_) => Err(Fault::OutOfMemory),
         }
@@ -150,21 +150,21 @@ impl<D: Disk> Pages<D> {
         if bytes.is_empty() {
             return Ok(0);
         }
-        if bytes.len() <= ROOM {
-            return self.take_least(work, &link(0, bytes));
+        if bytes.len() <= START_ROOM {
+            return self.take_least(work, &link_start(bytes));
         }
         // Room for its images at once, and for that of a page that names it.
-        if work.changes.reserve(bytes.len() / ROOM + 2).is_err() {
+        if bytes.len() > ROOM && work.changes.reserve(bytes.len() / ROOM + 2).is_err() {
             return Err(Fault::OutOfMemory);
         }
         self.put_links(work, bytes)
     }
 
-    // Puts bytes that want more than one page on a chain.
+    // Puts bytes on a chain, a page at a time.
     fn put_links(&self, work: &mut Work, bytes: &[u8]) -> Result<u32, Fault>
         requires open { self.now.closed ≡ false }
         requires fits { Fits self.now work.old }
-        requires long { piece_room < length bytes.now }
+        requires some { 0 < length bytes.now }
         ensures fits { OnOk result (Fits self.now work.new) }
         ensures chain { IfOk result (λ first. (trail : List ℕ)
             × PutsChain (stand self.now work.old) (stand self.now work.new) first trail bytes.now) }

@@ -2,14 +2,14 @@
 ghost use Rattle.std.specs.Prelude.{◌≡◌, ◌<◌, ◌≤◌, ◌+◌, ℕ, length, replicate, max, OnOk, OnErr};
 ghost use Rattle.std.specs.Prelude.{◌↔◌, slice_index_or, All, Contains, IsTrue};
 ghost use Rattle.std.specs.VecDeque.{deque_len};
-ghost use Rattle.tune_journal.specs.ChangeList.{with_change};
+ghost use Rattle.tune_journal.specs.ChangeList.{padded, with_change};
 ghost use Rattle.tune_journal.specs.FileOffsets.{most_pages};
 ghost use Rattle.tune_pages.specs.Inside.Freed.{Unfrees, IsEnd, IsPutIn};
 ghost use Rattle.tune_pages.specs.Work.{Falls};
 
 use std::alloc::AllocError;
 use std::collections::VecDeque;
-use tune_journal::{Changes, PageImage};
+use tune_journal::Changes;
 
 /// A change of pages that is not made yet: images of pages, pages that come into use, and pages
 /// that are freed. Dropped, it changes nothing.
@@ -63,16 +63,17 @@ impl Work {
         at < self.freed.len() && self.freed[at] == page
     }
 
-    // Takes the next free page, with this image on it. Where there is no memory nothing changes.
-    pub(crate) fn take(&mut self, page: u32, image: &PageImage) -> Result<(), AllocError>
+    // Takes the next free page, with these first bytes on it and zeros behind them. Where there is
+    // no memory nothing changes.
+    pub(crate) fn take(&mut self, page: u32, start: &[u8; 256]) -> Result<(), AllocError>
         requires { page < most_pages }
         ensures changes { OnOk result
-            (self.new.changes ≡ with_change page image.now.bytes self.old.changes) }
+            (self.new.changes ≡ with_change page (padded start.now) self.old.changes) }
         ensures frontier { OnOk result (self.new.frontier ≡ max self.old.frontier (page + 1)) }
         ensures freed { OnOk result (Unfrees page self.old.freed.items self.new.freed.items) }
         ensures err { OnErr result (self.new ≡ self.old) }
     {
-        self.changes.put(page, image)?;
+        self.changes.put_start(page, start)?;
         if self.freed.back() == Some(&page) {
             let _ = self.freed.pop_back();
         }

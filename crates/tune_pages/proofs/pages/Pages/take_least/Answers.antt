@@ -1,4 +1,5 @@
 use Rattle.std.proofs.Common.{◌≡◌, ℕ, List, Bool, false, length, sym, ◌∙◌, ap, subst, arith}
+use Rattle.tune_journal.specs.ChangeList.{padded}
 use Rattle.tune_pages.specs.Kept.{Kept}
 use Rattle.tune_pages.specs.Stand.{IsFull, IsLeastFree}
 use Rattle.tune_pages.specs.Work.{stand_on, count_in}
@@ -26,7 +27,7 @@ returns-in-Ok-clause-fits g c =
     let P : Kept _ → Type 0 = λ k. k.closed ≡ false → Facts k.pages k.used in
     let facts = subst P c.self.view_is (kept_facts _ _ _ _ _ c.self.invariant.0) shut in
     let lt = free_in c.args.self.now.pages c.args.self.now.used c.args.work.now c.in-Some.page c.requires c.in-Some.ensures.some.least.free in
-    take_fits c.args.self.now.pages c.args.self.now.used c.args.work.now c.take.new.self c.in-Some.page c.args.image.now.bytes c.requires facts.below lt
+    take_fits c.args.self.now.pages c.args.self.now.used c.args.work.now c.take.new.self c.in-Some.page (padded c.args.start.now) c.requires facts.below lt
     c.in-Some.ensures.some
     c.in-Ok.ensures.changes c.in-Ok.ensures.frontier c.in-Ok.ensures.freed
 
@@ -41,7 +42,7 @@ returns-in-Ok-clause-within g c =
     let P : Kept _ → Type 0 = λ k. k.closed ≡ false → Facts k.pages k.used in
     let facts = subst P c.self.view_is (kept_facts _ _ _ _ _ c.self.invariant.0) shut in
     let lt = free_in c.args.self.now.pages c.args.self.now.used c.args.work.now c.in-Some.page c.requires c.in-Some.ensures.some.least.free in
-    let most = take_within c.args.self.now.pages c.args.self.now.used c.args.work.now c.take.new.self c.in-Some.page c.args.image.now.bytes c.requires
+    let most = take_within c.args.self.now.pages c.args.self.now.used c.args.work.now c.take.new.self c.in-Some.page (padded c.args.start.now) c.requires
     facts.below lt
     c.in-Some.ensures.some c.in-Ok.ensures.changes c.in-Ok.ensures.frontier c.in-Ok.ensures.freed in
     let size : length (stand_on c.args.self.now.pages c.args.self.now.used c.args.work.now).pages ≡ count_in c.args.self.now.pages c.args.work.now =
@@ -59,7 +60,7 @@ returns-in-Ok-clause-stand g c =
     let P : Kept _ → Type 0 = λ k. k.closed ≡ false → Facts k.pages k.used in
     let facts = subst P c.self.view_is (kept_facts _ _ _ _ _ c.self.invariant.0) shut in
     let lt = free_in c.args.self.now.pages c.args.self.now.used c.args.work.now c.in-Some.page c.requires c.in-Some.ensures.some.least.free in
-    take_stand c.args.self.now.pages c.args.self.now.used c.args.work.now c.take.new.self c.in-Some.page c.args.image.now.bytes c.requires facts.below lt
+    take_stand c.args.self.now.pages c.args.self.now.used c.args.work.now c.take.new.self c.in-Some.page (padded c.args.start.now) c.requires facts.below lt
     c.in-Some.ensures.some
     c.in-Ok.ensures.changes c.in-Ok.ensures.frontier c.in-Ok.ensures.freed
 
