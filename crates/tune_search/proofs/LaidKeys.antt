@@ -69,15 +69,19 @@ laid_more numbers es counts keys at was place number more up laid step is l ther
     let own : (slice_entry es at).1 ≡ get_or numbers place 0 = is ∙ sym there in
     let before : (k : ℕ) → k < length numbers → HasKeys (keys_at (get_or numbers k 0) (drop (at + 1) es)) (get_or counts k 0) (get_or keys k 0) =
     λ k m. subst (λ (j : ℕ). HasKeys (keys_at (get_or numbers k 0) (drop j es)) (get_or counts k 0) (get_or keys k 0)) step (laid.each k m) in
+    let counted_more = set counts place more in
+    let keyed_more = set keys place key in
+    let longer : HasKeys (key ∷ keys_at (get_or numbers place 0) (drop (at + 1) es)) more key =
+    has_more (keys_at (get_or numbers place 0) (drop (at + 1) es)) (get_or counts place 0) (get_or keys place 0) more key (before place l) none some in
     record {
       within = omega arith;
       counted = length-set counts place more ∙ laid.counted;
       keyed = length-set keys place key ∙ laid.keyed;
       each = λ k m. elim (cases_eq k place) [
         | inl same ↦
-            subst (λ (j : ℕ). HasKeys (keys_at (get_or numbers j 0) (drop at es)) (get_or (set counts place more) j 0) (get_or (set keys place key) j 0)) (sym same)
-            (rw (keys_from (get_or numbers place 0) at es in_entries own, get_or-set_same counts place more 0 in_counts, get_or-set_same keys place key 0 in_keys)
-            (has_more (keys_at (get_or numbers place 0) (drop (at + 1) es)) (get_or counts place 0) (get_or keys place 0) more key (before place l) none some))
+            subst (λ (j : ℕ). HasKeys (keys_at (get_or numbers j 0) (drop at es)) (get_or counted_more j 0) (get_or keyed_more j 0)) (sym same)
+            (let from_here = keys_from (get_or numbers place 0) at es in_entries own in
+            rw (from_here, get_or-set_same counts place more 0 in_counts, get_or-set_same keys place key 0 in_keys) longer)
         | inr other ↦
             let apart : (slice_entry es at).1 ≢ get_or numbers k 0 = λ e. rising_once numbers k place up m l other (sym e ∙ own) in
             rw (keys_past (get_or numbers k 0) at es in_entries apart, get_or-set_other counts place k more 0 other, get_or-set_other keys place k key 0 other)
