@@ -8,9 +8,11 @@ ghost use Rattle.abc_fields.specs.LineView.{line_span};
 ghost use Rattle.abc_fields.specs.Inside.LineEndings.{ending_length, has_return};
 ghost use Rattle.abc_fields.specs.Limits.{longest_tune};
 ghost use Rattle.abc_fields.specs.Tunes.{IsTuneText};
+ghost use Rattle.abc_fields.specs.Bytes.{line_feed};
+ghost use Rattle.memchr.specs.Find.{IsFirstByte, is_byte};
 
 use crate::texts::TuneText;
-use memchr::{memchr, memchr2};
+use memchr::{memchr_iter, memchr2};
 use std::marker::Model;
 
 /// A line of a text, without what ends it.
@@ -141,6 +143,15 @@ impl<'a> Iterator for Lines<'a> {
     }
 }
 
+// Where the first line feed stands. Most lines are short: the indices of a byte are looked for near
+// by first.
+#[inline(always)]
+fn first_feed(text: &[u8]) -> Option<usize>
+    ensures { IsFirstByte (is_byte line_feed) text.now result }
+{
+    memchr_iter(b'\n', text).next()
+}
+
 // The length of the first line, and of what ends it. Where only line feeds end lines, they alone
 // are looked for.
 fn first_line(text: &[u8], only_feeds: bool) -> (usize, usize)
@@ -153,7 +164,7 @@ fn first_line(text: &[u8], only_feeds: bool) -> (usize, usize)
         ∷ pieces_of (drop (result.0 + result.1) text.now) }
 {
     if only_feeds {
-        match memchr(b'\n', text) {
+        match first_feed(text) {
             None => (text.len(), 0),
             Some(len) => (len, 1),
         }

@@ -21,20 +21,20 @@ pub const FEWEST_NOTES: usize = 2;
 /// The most notes that an incipit may be asked by (this archive's profile).
 pub const MOST_NOTES: usize = 12;
 
-// The steps after one more note, where this is the last one before it.
-fn with_note(steps: Steps, last: Option<NoteToken>, token: NoteToken) -> Steps
-    requires { length steps < most_steps }
-    ensures { result
-        ≡ steps_and steps (option_map (λ note. note.pitch) last.entry) token.entry.pitch }
+// Puts the step to one more note behind the others, where this is the last one before it.
+#[inline(always)]
+fn add_note(steps: &mut Steps, last: Option<NoteToken>, token: NoteToken)
+    requires { length steps.old < most_steps }
+    ensures { steps.new
+        ≡ steps_and steps.old (option_map (λ note. note.pitch) last.entry) token.entry.pitch }
 {
-    let mut longer = steps;
     if let Some(before) = last {
-        longer.push(token.pitch - before.pitch);
+        steps.push(token.pitch - before.pitch);
     }
-    longer
 }
 
 // The steps between the first of these notes that count.
+#[inline(always)]
 fn first_steps(notes: Notes, count: usize) -> Steps
     requires few { fewest_notes ≤ count }
     requires many { count ≤ most_steps + 1 }
@@ -43,7 +43,7 @@ fn first_steps(notes: Notes, count: usize) -> Steps
     let mut steps = Steps::new();
     let mut last: Option<NoteToken> = None;
     for token in notes.counting() {
-        steps = with_note(steps, last, token);
+        add_note(&mut steps, last, token);
         last = Some(token);
         if steps.len() + 1 == count {
             return steps;

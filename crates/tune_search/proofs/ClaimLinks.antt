@@ -87,7 +87,7 @@ rising_each xs up i j le l = elim (cases_eq i j) [
   | inr other ↦ let p = AllPairs-from_increasing xs up i j 0 (omega arith) l in omega (arith, p)
 ]
 
-rising_once : (xs : List ℕ) (i j : ℕ) → IsStrictlyIncreasing xs → i < length xs → j < length xs → i ≢ j → get_or xs i 0 ≢ get_or xs j 0
+pub rising_once : (xs : List ℕ) (i j : ℕ) → IsStrictlyIncreasing xs → i < length xs → j < length xs → i ≢ j → get_or xs i 0 ≢ get_or xs j 0
 rising_once xs i j up l m other same = elim (cases_lt i j) [
   | inl less ↦ let p = AllPairs-from_increasing xs up i j 0 less m in omega (arith, p, same)
   | inr more ↦ let p = AllPairs-from_increasing xs up j i 0 (omega arith) l in omega (arith, p, same)

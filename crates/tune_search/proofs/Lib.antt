@@ -11,6 +11,7 @@ pub mod Balances
 pub mod Takes
 pub mod ClaimLinks
 pub mod ClaimKeys
+pub mod LaidKeys
 pub mod LoadLemmas
 pub mod ClaimedParts
 pub mod LoadedIndex

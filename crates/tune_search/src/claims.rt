@@ -19,7 +19,8 @@ use std::marker::Model;
 /// The entries of the four search indexes as an opening compares them with the tunes, one tune
 /// after another. A clause sees the numbers of the tunes and the entries of each index.
 ///
-/// Beside these it takes four bytes for each entry, and in each index four for each tune.
+/// Beside these it takes four bytes for each entry, and in each index four for each tune; in that
+/// of incipits one key and a byte for each tune.
 #[derive(Drop)]
 pub struct SearchClaims {
     // clauses tell the tunes by it; once the entries are linked no call reads it
@@ -33,8 +34,9 @@ pub struct SearchClaims {
 impl Model for SearchClaims {
     ghost use Rattle.tune_search.specs.SearchClaims.{ClaimShape};
     ghost use Rattle.tune_search.specs.Inside.EntryLinks.{AreLinked};
-    ghost use Rattle.tune_search.specs.Inside.IncipitLinks.{entries_claimed, firsts_claimed};
-    ghost use Rattle.tune_search.specs.Inside.IncipitLinks.{nexts_claimed, notes_of_claims};
+    ghost use Rattle.tune_search.specs.Inside.HeldKeys.{AreHeld};
+    ghost use Rattle.tune_search.specs.Inside.IncipitLinks.{entries_claimed, counts_claimed};
+    ghost use Rattle.tune_search.specs.Inside.IncipitLinks.{keys_claimed, notes_of_claims};
 
     ghost Value = { ClaimShape };
 
@@ -56,8 +58,8 @@ impl Model for SearchClaims {
         claims.rhythms.firsts.items claims.rhythms.nexts.items
         × AreLinked claims.numbers.items claims.scales.entries.items
         claims.scales.firsts.items claims.scales.nexts.items
-        × AreLinked claims.numbers.items (entries_claimed claims.incipits)
-        (firsts_claimed claims.incipits) (nexts_claimed claims.incipits) };
+        × AreHeld claims.numbers.items (entries_claimed claims.incipits)
+        (counts_claimed claims.incipits) (keys_claimed claims.incipits) };
 }
 
 impl SearchClaims {

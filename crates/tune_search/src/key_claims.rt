@@ -22,7 +22,7 @@ pub(crate) struct KeyClaims<const W: usize> {
 
 // Where a number stands among numbers that rise, if it is one of them. Where none is left out
 // between the first and it, as is most often so, it is found at once.
-fn place_of(numbers: &[u32], number: u32) -> Option<usize>
+pub(crate) fn place_of(numbers: &[u32], number: u32) -> Option<usize>
     requires { IsStrictlyIncreasing numbers.now }
     ensures within { IfSome result (λ place. place < length numbers.now) }
     ensures number { IfSome result (λ place. slice_index numbers.now place ≡ number) }

@@ -18,6 +18,7 @@ mod load_laws;
 mod loading;
 mod runs;
 mod searches;
+mod single_claims;
 mod storing;
 mod text_keys;
 

@@ -1,4 +1,4 @@
--- The entries of incipits with their links, by eight notes or by twelve.
+-- The entries of incipits with the keys of each number, by eight notes or by twelve.
 use Rattle.std.specs.Prelude.{ℕ, List}
 use Rattle.index_keys.specs.Entries.{Entry}
 use Rattle.tune_search.specs.declared.incipit_claims.IncipitClaims.{IncipitClaims}
@@ -14,11 +14,11 @@ abbrev pub entries_claimed : IncipitClaims → List Entry
 entries_claimed (form.Eight claims) = claims.entries.items
 entries_claimed (form.Twelve claims) = claims.entries.items
 
--- where the first one of each number stands, and where the next one
-abbrev pub firsts_claimed : IncipitClaims → List ℕ
-firsts_claimed (form.Eight claims) = claims.firsts.items
-firsts_claimed (form.Twelve claims) = claims.firsts.items
+-- how many keys each number has, and the first
+abbrev pub counts_claimed : IncipitClaims → List ℕ
+counts_claimed (form.Eight claims) = claims.counts.items
+counts_claimed (form.Twelve claims) = claims.counts.items
 
-abbrev pub nexts_claimed : IncipitClaims → List ℕ
-nexts_claimed (form.Eight claims) = claims.nexts.items
-nexts_claimed (form.Twelve claims) = claims.nexts.items
+abbrev pub keys_claimed : IncipitClaims → List ℕ
+keys_claimed (form.Eight claims) = claims.keys.items
+keys_claimed (form.Twelve claims) = claims.keys.items

@@ -25,10 +25,10 @@ returns-then-len-count c =
     let left : List SoundedNote = c.next.new.self in
     let counts = subst AllCount c.in-Some.ensures.steps c.loop-token.invariant.4 in
     let room : notes_so_far last c.loop-token.steps < c.args.count = omega (arith, notes_so_far-le last c.loop-token.steps, c.loop-token.invariant.2) in
-    let enough : length c.with_note-steps.result + 1 ≡ c.args.count = omega arith in
+    let enough : length c.add_note.new.steps + 1 ≡ c.args.count = omega arith in
     let more = all_steps-more c.args.count last c.loop-token.steps (token_note c.in-Some.token) left counts.0 room in
-    sym (all_steps-full c.args.count c.in-Some.token.pitch c.with_note-steps.result left enough)
-    ∙ ap (λ s. all_steps c.args.count (Some c.in-Some.token.pitch) s left) c.with_note-steps.ensures
+    sym (all_steps-full c.args.count c.in-Some.token.pitch c.add_note.new.steps left enough)
+    ∙ ap (λ s. all_steps c.args.count (Some c.in-Some.token.pitch) s left) c.add_note.ensures
     ∙ sym more ∙ ap (all_steps c.args.count last c.loop-token.steps) (sym c.in-Some.ensures.steps) ∙ c.loop-token.invariant.3
 
 pub loop-token-preserved : goal.loop-token-preserved
@@ -37,13 +37,13 @@ loop-token-preserved c =
     let left : List SoundedNote = c.next.new.self in
     let counts = subst AllCount c.in-Some.ensures.steps c.loop-token.invariant.4 in
     let room : notes_so_far last c.loop-token.steps < c.args.count = omega (arith, notes_so_far-le last c.loop-token.steps, c.loop-token.invariant.2) in
-    let long : length c.with_note-steps.result ≡ notes_so_far last c.loop-token.steps =
-    ap length c.with_note-steps.ensures ∙ length-steps_and last c.loop-token.steps c.in-Some.token.pitch in
+    let long : length c.add_note.new.steps ≡ notes_so_far last c.loop-token.steps =
+    ap length c.add_note.ensures ∙ length-steps_and last c.loop-token.steps c.in-Some.token.pitch in
     let more = all_steps-more c.args.count last c.loop-token.steps (token_note c.in-Some.token) left counts.0 room in (
       tt,
       tt,
       omega arith,
-      ap (λ s. all_steps c.args.count (Some c.in-Some.token.pitch) s left) c.with_note-steps.ensures
+      ap (λ s. all_steps c.args.count (Some c.in-Some.token.pitch) s left) c.add_note.ensures
           ∙ sym more ∙ ap (all_steps c.args.count last c.loop-token.steps) (sym c.in-Some.ensures.steps) ∙ c.loop-token.invariant.3,
       counts.1,
     )
@@ -52,3 +52,10 @@ pub returns : goal.returns
 returns c =
     let last : Option ℤ = option_map (λ note. note.pitch) c.loop-token.last in
     sym (all_steps-none c.args.count last c.loop-token.steps c.loop-token.token-iterator c.in-None.ensures.steps.0) ∙ c.loop-token.invariant.3
+
+pub overflow_add-len : goal.overflow_add-len
+overflow_add-len c =
+    let last : Option ℤ = option_map (λ note. note.pitch) c.loop-token.last in
+    let long : length c.add_note.new.steps ≡ notes_so_far last c.loop-token.steps =
+    ap length c.add_note.ensures ∙ length-steps_and last c.loop-token.steps c.in-Some.token.pitch in
+    omega (arith, long, notes_so_far-le last c.loop-token.steps, c.loop-token.invariant.2)
