@@ -40,6 +40,21 @@ impl Room {
         self.searches = behind.searches;
     }
 
+    // Keeps the memory of rows for later ones.
+    pub(crate) fn keep_rows(&mut self, rows: Vec<Row>) {
+        self.rows = rows;
+    }
+
+    // Keeps that of an index of numbers.
+    pub(crate) fn keep_numbers(&mut self, numbers: Index<32>) {
+        self.numbers = numbers;
+    }
+
+    // Keeps that of search indexes.
+    pub(crate) fn keep_searches(&mut self, searches: SearchIndexes) {
+        self.searches = searches;
+    }
+
     // A copy of rows.
     pub(crate) fn copy_rows(&mut self, rows: &[Row]) -> Result<Vec<Row>, Fault>
         ensures rows { IfOk result (λ copy. copy.items ≡ rows.now) }
