@@ -1,6 +1,6 @@
 -- Tunes that a change lays on other chains.
 use Rattle.std.proofs.Common.{◌≡◌, ◌<◌, ◌+◌, ℕ, List, [], ◌∷◌, ◌++◌, length, slice_set, refl, sym, ◌∙◌, ap, subst, arith}
-use Rattle.std.proofs.Common.{append-nil, append_assoc, Bool, true, false, nat_eq, ◌&&◌, Result, Ok, Err, IfOk, OnOk}
+use Rattle.std.proofs.Common.{append_assoc, Bool, true, false, nat_eq, ◌&&◌, Result, Ok, Err, IfOk, OnOk}
 use Rattle.std.specs.List.{remove}
 use Rattle.std.proofs.lemmas.Bool.Decides.{nat_tests}
 use Rattle.tune_journal.specs.Pages.{page_at}

@@ -4,7 +4,6 @@ use Rattle.std.proofs.lemmas.List.{length-take-le, take-append-drop, take_more}
 use Rattle.std.proofs.lemmas.Result.{err_from_is_err_and}
 use Rattle.tune_pages.specs.Work.{stand}
 use Rattle.tune_store.specs.TuneSteps.{numbered}
-use Rattle.tune_format.specs.declared.rows.Row.{Row}
 use Rattle.tune_contents.specs.Inside.Laying.{LaysTunes}
 use Rattle.tune_contents.specs.Inside.Takes.{text_pages}
 use Rattle.tune_contents.proofs.LayLemmas.{lays_more}

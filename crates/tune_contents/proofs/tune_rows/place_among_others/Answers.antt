@@ -1,4 +1,3 @@
-use Rattle.std.proofs.Common.{arith}
 use Rattle.tune_contents.proofs.RowLemmas.{after_gone, before_gone}
 use Rattle.tune_contents.proofs.tune_rows.place_among_others.Goals as goal
 
