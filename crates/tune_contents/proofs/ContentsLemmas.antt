@@ -172,8 +172,8 @@ pub record SaysWhere (numbers : Shape) (searches : SearchShape) (firsts : Firsts
   pub searches_listed : AreListed searches
 
 firsts_are : (c : Contents) (numbers : IndexParts) (searches : SearchParts) (set_lists : Part) (entries : List Entry) (tunes : List (ℕ × List ℕ))
-    → SaysWhere c.numbers c.searches c.firsts → KeepsIndex key_bytes c.numbers numbers entries → KeepsTexts c.searches searches tunes → set_lists.first ≡ c.firsts.sets
-    → c.firsts ≡ firsts_of numbers searches set_lists
+    → SaysWhere c.numbers c.searches c.firsts → KeepsIndex key_bytes c.numbers numbers entries → KeepsTexts c.searches searches tunes
+    → set_lists.first ≡ c.firsts.sets → c.firsts ≡ firsts_of numbers searches set_lists
 firsts_are c numbers searches set_lists entries tunes says index texts sets =
     let one : c.firsts.numbers ≡ numbers.list.first = sym says.first ∙ index.first in
     let four : c.firsts.searches ≡ (firsts_of numbers searches set_lists).searches = says.others

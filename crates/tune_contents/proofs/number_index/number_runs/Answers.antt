@@ -85,9 +85,11 @@ returns-in-Whole-clause-rising c =
     let is = c.in-Whole.all.items in
     let held = c.deref-in-Whole.result.now in
     let made = subst (λ (m : RowChange). IsMadeOf m was) c.in-Whole.is c.requires in
+    let joined = c.deref-in-Whole.ensures.value ∙ made.2.1 in
     ok_two c.runs_of-in-Whole.result (λ runs. runs.come.items ≡ number_entries (take (length held - length was) (drop (length was) held)))
     (λ runs. AllFit key_bytes runs.come.items) (λ runs. IsRising runs.come.items)
-    (λ runs come fit. added_rise was is made.2.0 runs.come.items made.2.1 (come_behind was held made.2.0 runs.come.items (c.deref-in-Whole.ensures.value ∙ made.2.1) come) fit made.0 made.1 made.2.2)
+    (λ runs come fit. added_rise was is made.2.0 runs.come.items made.2.1 (come_behind was held made.2.0 runs.come.items joined come) fit made.0 made.1
+    made.2.2)
     c.runs_of-in-Whole.ensures.come c.runs_of-in-Whole.ensures.fit
 
 pub returns-in-Whole-clause-entries : goal.returns-in-Whole-clause-entries
@@ -96,12 +98,13 @@ returns-in-Whole-clause-entries c =
     let is = c.in-Whole.all.items in
     let held = c.deref-in-Whole.result.now in
     let made = subst (λ (m : RowChange). IsMadeOf m was) c.in-Whole.is c.requires in
+    let joined = c.deref-in-Whole.ensures.value ∙ made.2.1 in
     subst (λ (m : RowChange). IfOk c.runs_of-in-Whole.result (λ runs. RowsRise 0 was → RowsRise 0 (rows_after m was) → AllFit key_bytes (number_entries was)
     → inserted_all runs.come.items (removed_all runs.gone.items (number_entries was)) ≡ number_entries (rows_after m was))) (sym c.in-Whole.is)
     (ok_three c.runs_of-in-Whole.result (λ runs. runs.gone.items ≡ [])
     (λ runs. runs.come.items ≡ number_entries (take (length held - length was) (drop (length was) held))) (λ runs. AllFit key_bytes runs.come.items)
     (λ runs. RowsRise 0 was → RowsRise 0 is → AllFit key_bytes (number_entries was)
     → inserted_all runs.come.items (removed_all runs.gone.items (number_entries was)) ≡ number_entries is)
-    (λ runs gone come own rise risen fit. added_entries was is made.2.0 runs.come.items made.2.1 (come_behind was held made.2.0 runs.come.items (c.deref-in-Whole.ensures.value ∙ made.2.1) come) own
-    runs.gone.items gone risen fit)
+    (λ runs gone come own rise risen fit. added_entries was is made.2.0 runs.come.items made.2.1
+    (come_behind was held made.2.0 runs.come.items joined come) own runs.gone.items gone risen fit)
     c.runs_of-in-Whole.ensures.gone c.runs_of-in-Whole.ensures.come c.runs_of-in-Whole.ensures.fit)
