@@ -34,7 +34,9 @@ use Rattle.tune_contents.specs.Holds.{label_in, labels_in, HoldsContents, HoldsS
 use Rattle.tune_contents.specs.Inside.Changes.{RowsAccept, SetsAccept, changes_sets}
 use Rattle.tune_contents.specs.Inside.Indexed.{HoldsIndexed, HoldsSomeIndexed, Keeps, LaysIndexed, StandsAround, keeps_of}
 use Rattle.tune_contents.specs.Inside.Laying.{HoldsSets, LaysRoot, LaysSets}
+use Rattle.tune_contents.specs.Next.{Follows, rows_after}
 use Rattle.tune_contents.specs.declared.contents.Contents.{Contents}
+use Rattle.tune_contents.specs.declared.next.Next.{Next}
 
 -- WHAT A CHANGE ASKS
 pub rows_accept : (layout : Layout) (change : Change) (rows : List Row) (sets : List TuneSet) → CanChange change layout (labels_in rows) sets
@@ -163,18 +165,18 @@ sets_among : (numbers : IndexParts) (searches : SearchParts) (set_lists : Part) 
 sets_among numbers searches set_lists texts = append_assoc (parts_of_index numbers) (parts_of_search searches) (set_lists ∷ texts)
 
 -- what memory says of where things begin and of what its lists name
-pub record SaysWhere (c : Contents) : Type 0 where
-  pub numbers : c.numbers.first ≡ c.firsts.numbers
-  pub numbers_listed : c.numbers.listed ≡ true
-  pub searches : c.firsts.searches ≡ firsts_in c.searches
-  pub searches_listed : AreListed c.searches
+pub record SaysWhere (numbers : Shape) (searches : SearchShape) (firsts : Firsts) : Type 0 where
+  pub first : numbers.first ≡ firsts.numbers
+  pub numbers_listed : numbers.listed ≡ true
+  pub others : firsts.searches ≡ firsts_in searches
+  pub searches_listed : AreListed searches
 
-firsts_are : (c : Contents) (numbers : IndexParts) (searches : SearchParts) (set_lists : Part) (entries : List Entry) (tunes : List (ℕ × List ℕ)) → SaysWhere c
-    → KeepsIndex key_bytes c.numbers numbers entries → KeepsTexts c.searches searches tunes → set_lists.first ≡ c.firsts.sets
-    → c.firsts ≡ firsts_of numbers searches set_lists
+firsts_are : (c : Contents) (numbers : IndexParts) (searches : SearchParts) (set_lists : Part) (entries : List Entry) (tunes : List (ℕ × List ℕ))
+    → SaysWhere c.numbers c.searches c.firsts → KeepsIndex key_bytes c.numbers numbers entries → KeepsTexts c.searches searches tunes
+    → set_lists.first ≡ c.firsts.sets → c.firsts ≡ firsts_of numbers searches set_lists
 firsts_are c numbers searches set_lists entries tunes says index texts sets =
-    let one : c.firsts.numbers ≡ numbers.list.first = sym says.numbers ∙ index.first in
-    let four : c.firsts.searches ≡ (firsts_of numbers searches set_lists).searches = says.searches
+    let one : c.firsts.numbers ≡ numbers.list.first = sym says.first ∙ index.first in
+    let four : c.firsts.searches ≡ (firsts_of numbers searches set_lists).searches = says.others
     ∙ (λ i. record {
       titles = texts.titles.keeps.first i;
       rhythms = texts.rhythms.keeps.first i;
@@ -185,7 +187,7 @@ firsts_are c numbers searches set_lists entries tunes says index texts sets =
     λ i. record { numbers = one i; searches = four i; sets = last i }
 
 pub contents_of : (s : Stand) (c : Contents) (layout : Layout) (tunes : List Tune) (sets : List TuneSet) (set_lists : Part) → c.layout ≡ layout
-    → c.searches.notes ≡ notes_of layout → c.sets ≡ sets → SaysWhere c → StandsAround s (keeps_in c) tunes set_lists
+    → c.searches.notes ≡ notes_of layout → c.sets ≡ sets → SaysWhere c.numbers c.searches c.firsts → StandsAround s (keeps_in c) tunes set_lists
     → set_lists.kind ≡ chain → set_lists.first ≡ c.firsts.sets
     → set_lists.bytes ≡ written_sets c.sets → IsRoot c.layout (page_at s.pages 0) c.firsts
     → HoldsContents s c (record { layout = layout; tunes = tunes; sets = sets })
@@ -251,7 +253,7 @@ module _ (s mid : Stand) (c : Contents) (is : Keeps) (change : Change) (can : Ca
   laid_then : (late new : Stand) (left : Contents) → is ≡ keeps_in left
       → LaysSets mid late c.firsts.sets left.firsts.sets (changes_sets change c.sets) left.sets
       → LaysRoot c.layout late new left.firsts → left.layout ≡ c.layout → left.searches.notes ≡ c.searches.notes
-      → left.sets ≡ changed_sets change c.sets → SaysWhere left
+      → left.sets ≡ changed_sets change c.sets → SaysWhere left.numbers left.searches left.firsts
       → HoldsContents new left (record { layout = state.layout; tunes = changed_tunes change state.tunes; sets = changed_sets change state.sets })
   laid_then late new left same named root known notes sets says =
       let before = before_sets indexed_then.numbers indexed_then.searches in
@@ -278,10 +280,21 @@ pub sets_there : (s mid : Stand) (c : Contents) (is : Keeps) (change : Change) �
 sets_there s mid c is change can lays (state, within, h) = chain_then s mid c is change can lays state within.tunes h
 
 -- all is changed
-pub state_laid : (s mid late new : Stand) (c left : Contents) (change : Change) → CanChange change c.layout (labels_in c.rows.items) c.sets
-    → LaysIndexed c.layout s mid (keeps_in c) (keeps_in left) change
-    → LaysSets mid late c.firsts.sets left.firsts.sets (changes_sets change c.sets) left.sets → LaysRoot c.layout late new left.firsts → left.layout ≡ c.layout
-    → left.searches.notes ≡ c.searches.notes → left.sets ≡ changed_sets change c.sets → SaysWhere left → change ≢ Upgrade → LaysState s new c left change
-state_laid s mid late new c left change can lays named root known notes sets says other =
-    λ state within h. subst (λ (next : State). HoldsContents new left next) (sym (changed_is change state other))
-    (laid_then s mid c (keeps_in left) change can lays state within.tunes h late new left refl named root known notes sets says)
+pub state_laid : (s mid late new : Stand) (c : Contents) (next : Next) (change : Change) → CanChange change c.layout (labels_in c.rows.items) c.sets
+    → LaysIndexed c.layout s mid (keeps_in c) (keeps_of next.numbers next.searches (rows_after next.rows c.rows.items)) change
+    → LaysSets mid late c.firsts.sets next.firsts.sets (changes_sets change c.sets) next.sets → LaysRoot c.layout late new next.firsts
+    → next.layout ≡ c.layout → next.searches.notes ≡ c.searches.notes → next.sets ≡ changed_sets change c.sets
+    → SaysWhere next.numbers next.searches next.firsts → change ≢ Upgrade → (left : Contents) → Follows next c left → LaysState s new c left change
+state_laid s mid late new c next change can lays named root known notes sets says other left follows =
+    let is : Keeps = keeps_of next.numbers next.searches (rows_after next.rows c.rows.items) in
+    let same : is ≡ keeps_in left = λ i. keeps_of (sym follows.numbers i) (sym follows.searches i) (sym follows.rows i) in
+    let named_then = subst (λ (n : ℕ). LaysSets mid late c.firsts.sets n (changes_sets change c.sets) left.sets)
+    (sym (ap (λ (f : Firsts). f.sets) follows.firsts))
+    (subst (λ (l : List TuneSet). LaysSets mid late c.firsts.sets next.firsts.sets (changes_sets change c.sets) l) (sym follows.sets) named) in
+    let root_then = subst (λ (f : Firsts). LaysRoot c.layout late new f) (sym follows.firsts) root in
+    let says_then = subst (λ (n : Shape). SaysWhere n left.searches left.firsts) (sym follows.numbers)
+    (subst (λ (x : SearchShape). SaysWhere next.numbers x left.firsts) (sym follows.searches)
+    (subst (λ (f : Firsts). SaysWhere next.numbers next.searches f) (sym follows.firsts) says)) in
+    λ state within h. subst (λ (after : State). HoldsContents new left after) (sym (changed_is change state other))
+    (laid_then s mid c is change can lays state within.tunes h late new left same named_then root_then (follows.layout ∙ known)
+    (ap (λ (x : SearchShape). x.notes) follows.searches ∙ notes) (follows.sets ∙ sets) says_then)

@@ -35,6 +35,8 @@ use Rattle.tune_contents.specs.Holds.{KeepsTexts, labels_in}
 use Rattle.tune_contents.specs.Inside.Changes.{HoldsTunesWithin, KeepsRows, LaysChange}
 use Rattle.tune_contents.specs.Inside.Indexed.{HoldsSomeIndexed, LaysIndexed, StandsAround, index_pages, keeps_of}
 use Rattle.tune_contents.specs.Inside.Laying.{HoldsSomeTunes, HoldsTunes}
+use Rattle.tune_contents.specs.Next.{rows_after}
+use Rattle.tune_contents.specs.declared.next.RowChange.{RowChange}
 use Rattle.tune_contents.specs.Inside.Searching.{ChangesTexts, HoldsTextsWith, LaysTexts, PutsIn, TakesOut, TakesSome, search_pages}
 
 -- ROWS
@@ -217,22 +219,21 @@ pub record LaidTunes (layout : Layout) (s mid : Stand) (was rows : List Row) (ch
   pub entries : RowsRise 0 was → RowsRise 0 rows → AllFit key_bytes (number_entries was)
       → inserted_all come (removed_all gone (number_entries was)) ≡ number_entries rows
 
-pub lays_from : (s one mid : Stand) (was first rows : List Row) (change : Change) → one ≡ s → first ≡ was → LaysChange one mid first rows change
+pub lays_from : (s one mid : Stand) (was rows : List Row) (change : Change) → one ≡ s → LaysChange one mid was rows change
     → LaysChange s mid was rows change
-lays_from s one mid was first rows change same begun lays =
-    subst (λ (t : Stand). LaysChange t mid was rows change) same (subst (λ (r : List Row). LaysChange one mid r rows change) begun lays)
+lays_from s one mid was rows change same lays = subst (λ (t : Stand). LaysChange t mid was rows change) same lays
 
 -- by what is ensured of it, of rows that are those
-pub laid_tunes : (layout : Layout) (s one mid : Stand) (was first rows is : List Row) (change : Change) (gone come : List Entry) → one ≡ s → first ≡ was
-    → is ≡ rows → LaysChange one mid first rows change → KeepsRows change first rows
-    → (RowsRise 0 was → RowsRise 0 is → AllFit key_bytes (number_entries was)
-    → inserted_all come (removed_all gone (number_entries was)) ≡ number_entries is)
-    → LaidTunes layout s mid was rows change gone come
-laid_tunes layout s one mid was first rows is change gone come same begun ended lays kept entries = record {
-  lays = lays_from s one mid was first rows change same begun lays;
-  kept = subst (λ (r : List Row). KeepsRows change r rows) begun kept;
-  entries = subst (λ (r : List Row). RowsRise 0 was → RowsRise 0 r → AllFit key_bytes (number_entries was)
-      → inserted_all come (removed_all gone (number_entries was)) ≡ number_entries r) ended entries;
+pub laid_tunes : (layout : Layout) (s one mid : Stand) (was held : List Row) (made : RowChange) (change : Change) (gone come : List Entry) → one ≡ s
+    → held ≡ was → LaysChange one mid was (rows_after made was) change → KeepsRows change was (rows_after made was)
+    → (RowsRise 0 held → RowsRise 0 (rows_after made held) → AllFit key_bytes (number_entries held)
+    → inserted_all come (removed_all gone (number_entries held)) ≡ number_entries (rows_after made held))
+    → LaidTunes layout s mid was (rows_after made was) change gone come
+laid_tunes layout s one mid was held made change gone come same begun lays kept entries = record {
+  lays = lays_from s one mid was (rows_after made was) change same lays;
+  kept = kept;
+  entries = subst (λ (r : List Row). RowsRise 0 r → RowsRise 0 (rows_after made r) → AllFit key_bytes (number_entries r)
+      → inserted_all come (removed_all gone (number_entries r)) ≡ number_entries (rows_after made r)) begun entries;
 }
 
 abbrev pub TextsChange : Layout → Stand → List Row → Change → Option SearchRuns → Option SearchRuns → Type 0

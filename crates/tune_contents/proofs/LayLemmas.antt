@@ -1,6 +1,6 @@
 -- Tunes that a change lays on other chains.
 use Rattle.std.proofs.Common.{◌≡◌, ◌<◌, ◌+◌, ℕ, List, [], ◌∷◌, ◌++◌, length, slice_set, refl, sym, ◌∙◌, ap, subst, arith}
-use Rattle.std.proofs.Common.{append-nil, append_assoc, Bool, true, false, nat_eq, ◌&&◌, Result, Ok, Err, IfOk, OnOk}
+use Rattle.std.proofs.Common.{append_assoc, Bool, true, false, nat_eq, ◌&&◌, Result, Ok, Err, IfOk, OnOk}
 use Rattle.std.specs.List.{remove}
 use Rattle.std.proofs.lemmas.Bool.Decides.{nat_tests}
 use Rattle.tune_journal.specs.Pages.{page_at}
@@ -101,9 +101,6 @@ swaps_where (Ok next) Honest s mid new first bytes freed put = λ h. swaps s mid
 swaps_where (Err fault) Honest s mid new first bytes freed put = tt
 
 -- changes one after another
-pub lays_none : (s : Stand) (rows : List Row) (first : ℕ) → LaysTunes s s rows rows (λ tunes. tunes ++ [])
-lays_none s rows first = λ ahead tunes holds. subst (λ (l : List Tune). HoldsTunes s ahead l rows) (sym (append-nil tunes)) holds
-
 pub lays_more : (a b c : Stand) (rows mid left : List Row) (first number : ℕ) (texts : List (List ℕ)) (text : List ℕ) → number ≡ first + length texts
     → LaysTunes a b rows mid (λ tunes. tunes ++ numbered first texts) → LaysTunes b c mid left (λ tunes. tunes ++ numbered number (text ∷ []))
     → LaysTunes a c rows left (λ tunes. tunes ++ numbered first (texts ++ text ∷ []))

@@ -10,6 +10,7 @@ pub mod ContentsLemmas
 pub mod IndexedLemmas
 pub mod LayLemmas
 pub mod LookLemmas
+pub mod NextLemmas
 pub mod NumberEntries
 pub mod NumberTakes
 pub mod OkLemmas

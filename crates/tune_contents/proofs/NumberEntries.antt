@@ -1,6 +1,6 @@
 -- The entries of rows in the index of numbers, as rows come, go and move.
-use Rattle.std.proofs.Common.{◌≡◌, ℕ, zero, suc, ◌+◌, ◌-◌, ◌*◌, ◌^◌, ◌<◌, ◌≤◌, ◌⊎◌, List, [], ◌∷◌, ◌++◌, length, get_or, set, take, drop}
-use Rattle.std.proofs.Common.{inl, inr, refl, sym, ◌∙◌, ap, subst, arith, append-nil, append_assoc, get_or-set_same, length-append}
+use Rattle.std.proofs.Common.{◌≡◌, ℕ, zero, suc, ◌+◌, ◌-◌, ◌*◌, ◌^◌, ◌<◌, ◌≤◌, List, [], ◌∷◌, ◌++◌, length, get_or, set, take, drop}
+use Rattle.std.proofs.Common.{inl, inr, refl, sym, ◌∙◌, ap, subst, arith, append-nil, append_assoc, length-append}
 use Rattle.std.specs.List.{insert, remove, range_with_len}
 use Rattle.std.proofs.Math.Nat.{mul-le-mul_right}
 use Rattle.std.proofs.Math.Seq.{drop-append_seam, map-set_same, take-length}
@@ -11,9 +11,8 @@ use Rattle.tune_format.specs.Written.{number_entries, number_key, row_entry}
 use Rattle.tune_format.specs.declared.rows.Row.{Row}
 use Rattle.tune_search.specs.Searches.{key_bytes}
 use Rattle.tune_contents.specs.Claimed.{RowsRise}
-use Rattle.tune_contents.specs.Inside.ChangedRows.{HasNoRow, MovesRow, PutsRuns}
+use Rattle.tune_contents.specs.Inside.ChangedRows.{PutsRuns}
 use Rattle.tune_contents.specs.Inside.TuneRows.{numbers_in}
-use Rattle.tune_contents.proofs.RowLemmas.{same_place}
 
 -- ENTRIES AT A PLACE
 -- one that rises in front of others is put there
@@ -204,14 +203,16 @@ ranged_rise first (suc count) from (row ∷ rows) above is fit =
 abbrev some_row : Row
 some_row = record { number = 0; revision = 0; first = 0; length = 0 }
 
-module _ (was is more : List Row) (come : List Entry) (joined : is ≡ was ++ more)
-    (comes : come ≡ number_entries (take (length is - length was) (drop (length was) is))) (own : AllFit key_bytes come) where
-  come_more : come ≡ number_entries more
-  come_more =
-      let count : length is - length was ≡ length more = omega (arith, ap length joined, length-append was more) in
-      let behind : drop (length was) is ≡ more = ap (drop (length was)) joined ∙ drop-append_seam was more in
-      comes ∙ (λ i. number_entries (take (count i) (behind i))) ∙ ap number_entries (take-length more)
+-- the entries of the rows behind others
+pub come_behind : (was is more : List Row) (come : List Entry) → is ≡ was ++ more
+    → come ≡ number_entries (take (length is - length was) (drop (length was) is)) → come ≡ number_entries more
+come_behind was is more come joined comes =
+    let count : length is - length was ≡ length more = omega (arith, ap length joined, length-append was more) in
+    let behind : drop (length was) is ≡ more = ap (drop (length was)) joined ∙ drop-append_seam was more in
+    comes ∙ (λ i. number_entries (take (count i) (behind i))) ∙ ap number_entries (take-length more)
 
+module _ (was is more : List Row) (come : List Entry) (joined : is ≡ was ++ more) (come_more : come ≡ number_entries more)
+    (own : AllFit key_bytes come) where
   fit_more : AllFit key_bytes (number_entries more)
   fit_more = subst (AllFit key_bytes) come_more own
 
@@ -226,18 +227,15 @@ module _ (was is more : List Row) (come : List Entry) (joined : is ≡ was ++ mo
 
 module _ (was is : List Row) (place : ℕ) (d : Row) (gone come : List Entry) (l : place < length was) (rise : RowsRise 0 was) (risen : RowsRise 0 is)
     (fit : AllFit key_bytes (number_entries was)) (own : AllFit key_bytes come) where
-  pub put_entries : (row e : Row) → is ≡ set was place row → PutsRuns (get_or was place d) (get_or is place e) gone come
+  pub put_entries : (row : Row) → is ≡ set was place row → PutsRuns (get_or was place d) row gone come
       → inserted_all come (removed_all gone (number_entries was)) ≡ number_entries is
-  put_entries row e put (inl (goes, comes)) =
-      let new : get_or is place e ≡ row = ap (λ (rows : List Row). get_or rows place e) put ∙ get_or-set_same was place row e l in
-      let come_new : come ≡ row_entry row ∷ [] = comes ∙ ap (λ (r : Row). row_entry r ∷ []) new in
-      let own_new : AllFit key_bytes (row_entry row ∷ []) = subst (AllFit key_bytes) come_new own in
-      (λ i. inserted_all (come_new i) (removed_all (goes i) (number_entries was)))
+  put_entries row put (inl (goes, comes)) =
+      let own_new : AllFit key_bytes (row_entry row ∷ []) = subst (AllFit key_bytes) comes own in
+      (λ i. inserted_all (comes i) (removed_all (goes i) (number_entries was)))
       ∙ row_over was place (get_or was place d) d row l refl rise (subst (RowsRise 0) put risen) fit own_new.0 ∙ ap number_entries (sym put)
-  put_entries row e put (inr (same, none, nothing)) =
-      let new : get_or is place e ≡ row = ap (λ (rows : List Row). get_or rows place e) put ∙ get_or-set_same was place row e l in
-      (λ i. inserted_all (nothing i) (removed_all (none i) (number_entries was)))
-      ∙ sym (map-set_same row_entry was place row d (ap row_entry (sym new) ∙ same)) ∙ ap number_entries (sym put)
+  put_entries row put (inr (same, none, nothing)) =
+      (λ i. inserted_all (nothing i) (removed_all (none i) (number_entries was))) ∙ sym (map-set_same row_entry was place row d same)
+      ∙ ap number_entries (sym put)
 
   pub taken_entries : is ≡ remove was place → gone ≡ number_entries (get_or was place d ∷ []) → come ≡ []
       → inserted_all come (removed_all gone (number_entries was)) ≡ number_entries is
@@ -245,28 +243,15 @@ module _ (was is : List Row) (place : ℕ) (d : Row) (gone come : List Entry) (l
       (λ i. inserted_all (none i) (removed_all (goes i) (number_entries was)))
       ∙ row_out was place (get_or was place d) d l refl rise fit ∙ ap number_entries (sym taken)
 
-  pub moved_entries : (number to : ℕ) → MovesRow number to was is ⊎ ((is ≡ was) × (RowsRise 0 was → HasNoRow number was))
-      → ((e : Row) → (get_or was place e).number ≡ number) → gone ≡ number_entries (get_or was place d ∷ [])
-      → come ≡ number_entries (
-      record { number = to; revision = (get_or was place d).revision; first = (get_or was place d).first; length = (get_or was place d).length } ∷ []
-      )
+  pub moved_entries : (to : ℕ) (row : Row) → to ≤ length (remove was place) → is ≡ insert (remove was place) to row
+      → gone ≡ number_entries (get_or was place d ∷ []) → come ≡ number_entries (row ∷ [])
       → inserted_all come (removed_all gone (number_entries was)) ≡ number_entries is
-  moved_entries number to (inr (same, none)) found goes comes = absurd (none rise place d l (found d))
-  moved_entries number to (inl moves) found goes comes =
-      let row = moves.row in
-      let new : Row = record { number = to; revision = row.revision; first = row.first; length = row.length } in
-      let at : place ≡ moves.place = same_place was place moves.place d rise l moves.within
-      (found d ∙ sym (ap (λ (r : Row). r.number) (moves.found d) ∙ moves.numbered)) in
-      let there : get_or was place d ≡ row = ap (λ (n : ℕ). get_or was n d) at ∙ moves.found d in
-      let go : gone ≡ row_entry row ∷ [] = goes ∙ ap (λ (r : Row). row_entry r ∷ []) there in
-      let come_new : come ≡ row_entry new ∷ [] =
-      comes ∙ ap (λ (r : Row). row_entry (record { number = to; revision = r.revision; first = r.first; length = r.length }) ∷ []) there in
-      let own_new : AllFit key_bytes (row_entry new ∷ []) = subst (AllFit key_bytes) come_new own in
-      let left = remove was moves.place in
+  moved_entries to row there moved goes comes =
+      let own_new : AllFit key_bytes (row_entry row ∷ []) = subst (AllFit key_bytes) comes own in
+      let left = remove was place in
       let es = number_entries was in
-      let same = entries_removed was moves.place moves.within in
+      let same = entries_removed was place l in
       let fewer : AllFit key_bytes (number_entries left) = subst (AllFit key_bytes) (sym same)
-      (fit_removed es moves.place (omega (arith, moves.within, length-entries was)) fit) in
-      (λ i. inserted_all (come_new i) (removed_all (go i) es))
-      ∙ ap (inserted (row_entry new)) (row_out was moves.place row d moves.within (sym (moves.found d)) rise fit)
-      ∙ row_in left moves.next new moves.there (subst (RowsRise 0) moves.moved risen) fewer own_new.0 ∙ ap number_entries (sym moves.moved)
+      (fit_removed es place (omega (arith, l, length-entries was)) fit) in
+      (λ i. inserted_all (comes i) (removed_all (goes i) es)) ∙ ap (inserted (row_entry row)) (row_out was place (get_or was place d) d l refl rise fit)
+      ∙ row_in left to row there (subst (RowsRise 0) moved risen) fewer own_new.0 ∙ ap number_entries (sym moved)

@@ -1,6 +1,6 @@
 -- Rows by rising number, which stay so through a change.
 use Rattle.std.proofs.Common.{◌≡◌, ℕ, zero, suc, ◌+◌, ◌<◌, ◌≤◌, List, [], ◌∷◌, ◌++◌, length, get_or, slice_set, refl, ap, sym, ◌∙◌, subst, arith}
-use Rattle.std.proofs.Common.{append-nil, append_assoc, length-append}
+use Rattle.std.proofs.Common.{append_assoc, length-append}
 use Rattle.std.specs.List.{AllByRecursion, AllWithin, Contains, insert, remove, range_with_len}
 use Rattle.std.proofs.Math.ListN.{get_or-map}
 use Rattle.std.proofs.lemmas.List.{length-map, map-append, map-set, set-get_or}
@@ -117,18 +117,12 @@ numbers_next numbers mid left first number count next is more so_far added =
     added ∙ (λ i. so_far i ++ is i ∷ []) ∙ append_assoc numbers (range_with_len first count) ((first + count) ∷ [])
     ∙ ap (λ all. numbers ++ all) (sym (range_next first count)) ∙ ap (λ n. numbers ++ range_with_len first n) (sym e)
 
--- so many rows of numbers one after another, and one row more
-pub adds_none : (rows : List Row) (first : ℕ) → AddsRows first 0 rows rows
-adds_none rows first = ([], sym (append-nil rows), refl)
-
-pub adds_next : (rows mid left : List Row) (first number count next : ℕ) → number ≡ first + count → next ≡ count + 1 → AddsRows first count rows mid
-    → AddsRow number mid left → AddsRows first next rows left
-adds_next rows mid left first number count next is more (others, so_far, named) (row, added, its) = (
-  others ++ row ∷ [],
-  added ∙ ap (λ l. l ++ row ∷ []) so_far ∙ append_assoc rows others (row ∷ []),
-  numbers_next [] (numbers_in others) (numbers_in (others ++ row ∷ [])) first number count next is more named
-      (map-append (λ (r : Row). r.number) others (row ∷ []) ∙ ap (λ n. numbers_in others ++ n ∷ []) its),
-)
+-- rows of numbers one after another, and one row more
+pub adds_next : (mid left : List Row) (first number count next : ℕ) → number ≡ first + count → next ≡ count + 1
+    → numbers_in mid ≡ range_with_len first count → AddsRow number mid left → numbers_in left ≡ range_with_len first next
+adds_next mid left first number count next is more named (row, added, its) =
+    numbers_next [] (numbers_in mid) (numbers_in left) first number count next is more named
+    (ap numbers_in added ∙ map-append (λ (r : Row). r.number) mid (row ∷ []) ∙ ap (λ n. numbers_in mid ++ n ∷ []) its)
 
 -- the numbers of rows with others behind them, and with one in the place of another
 pub numbers_added : (rows left : List Row) (first count : ℕ) → AddsRows first count rows left → numbers_in left ≡ numbers_in rows ++ range_with_len first count
@@ -222,13 +216,13 @@ none_has to (row ∷ rows) none = (λ e. none (0, omega arith, e), none_has to r
 
 -- it goes where its new number belongs
 pub rows_moved : {layout : Layout} → (rows : List Row) (to place at : ℕ) (new : Row) → place < length rows → at ≤ length (remove rows place)
-    → (RowsRise 0 (remove rows place) → IsRowAfter to (remove rows place) at) → new.number ≡ to → AreRows layout rows → (Contains (numbers_in rows) to → ⊥)
+    → (RowsRise 0 rows → IsRowAfter to (remove rows place) at) → new.number ≡ to → AreRows layout rows → (Contains (numbers_in rows) to → ⊥)
     → 0 < to
     → to ≤ greatest_number → AreRows layout (insert (remove rows place) at new)
 rows_moved rows to place at new l within after is are none some most =
     let left = remove rows place in
     let fewer = rows_cut rows place l are in
-    let goes = after fewer.rise in
+    let goes = after are.rise in
     let absent : AllByRecursion (λ row. row.number ≡ to → ⊥) left = all_cut (λ row. row.number ≡ to → ⊥) rows place l (none_has to rows none) in
     record {
       rise = rise_put 0 left at new within (omega arith) (subst (λ n. AllWithin (λ row. row.number ≤ n) left 0 at) (sym is) goes.before)

@@ -1,10 +1,11 @@
 -- Rows of tunes, found by number.
-use Rattle.std.proofs.Common.{◌≡◌, ℕ, zero, suc, ◌+◌, ◌<◌, ◌≤◌, List, [], ◌∷◌, length, ◌++◌, get_or, refl, ap, sym, ◌∙◌, subst, arith, inl, inr}
+use Rattle.std.proofs.Common.{◌≡◌, ℕ, zero, suc, ◌+◌, ◌-◌, ◌<◌, ◌≤◌, List, [], ◌∷◌, length, ◌++◌, get_or, refl, ap, sym, ◌∙◌, subst, arith, inl, inr}
 use Rattle.std.specs.List.{AllWithin, insert, remove}
 use Rattle.std.specs.Cmp.{ranked}
 use Rattle.std.specs.Ordering.{nat_cmp}
 use Rattle.std.specs.declared.cmp.Ordering.TheVariants.{Less, Greater}
 use Rattle.std.proofs.lemmas.Bool.{cases_lt}
+use Rattle.std.proofs.lemmas.List.Edits.{get_or-remove_above, get_or-remove_below, length-remove}
 use Rattle.std.proofs.Math.Seq.{get_or-append_seam}
 use Rattle.tune_pages.specs.Stand.{Stand}
 use Rattle.tune_parts.specs.Parts.{Part}
@@ -13,7 +14,7 @@ use Rattle.tune_store.specs.TuneSteps.{moved, moved_if}
 use Rattle.tune_store.specs.Inside.Lists.{IsPlaceAfter}
 use Rattle.tune_store.specs.declared.tune.Tune.{Tune}
 use Rattle.tune_store.proofs.PlaceLemmas.{tune_at-none}
-use Rattle.tune_store.proofs.InsertLemmas.{rises-taken, moves_by}
+use Rattle.tune_store.proofs.InsertLemmas.{moves_by}
 use Rattle.tune_format.specs.Filed.{row_of, rows_of, HoldTunes, HoldsTuneAt}
 use Rattle.tune_format.specs.declared.rows.Row.{Row}
 use Rattle.tune_format.proofs.ChangeLemmas.{row_at_place, move_text}
@@ -45,14 +46,6 @@ ordered low (row ∷ rows) zero (suc j) d rises h l = let later = above row.numb
 ordered low (row ∷ rows) (suc i) zero d rises h l = absurd (omega arith)
 ordered low (row ∷ rows) (suc i) (suc j) d rises h l = ordered row.number rows i j d rises.1 (omega arith) (omega arith)
 
--- rows with one number stand at one place
-pub same_place : (rows : List Row) (i j : ℕ) (d : Row) → RowsRise 0 rows → i < length rows → j < length rows
-    → (get_or rows i d).number ≡ (get_or rows j d).number → i ≡ j
-same_place rows i j d rises l m same = elim (cases_lt i j) [
-  | inl below ↦ let less = strictly 0 rows i j d rises below m in absurd (omega arith)
-  | inr from ↦ elim (cases_lt j i) [ inl above ↦ let less = strictly 0 rows j i d rises above l in absurd (omega arith) | inr back ↦ omega arith ]
-]
-
 -- SEARCH
 -- behind the row of a number
 pub row_behind : (number : ℕ) (rows : List Row) (place : ℕ) → RowsRise 0 rows → place < length rows → ((e : Row) → (get_or rows place e).number ≡ number)
@@ -68,6 +61,34 @@ pub row_between : (number : ℕ) (rows : List Row) (place : ℕ) → AllWithin (
 row_between number rows place less greater = record {
   before = λ k d from below. let lower : (get_or rows k d).number < number = ranked _ _ _ (sym (less k d from below)) in omega arith;
   behind = λ k d from to. ranked _ _ _ (sym (greater k d from to));
+}
+
+-- behind the row at a place, once that has gone
+pub after_gone : (number : ℕ) (rows : List Row) (place at : ℕ) → place < length rows → place < at → at ≤ length rows → IsRowAfter number rows at
+    → IsRowAfter number (remove rows place) (at - 1)
+after_gone number rows place at l above within after = record {
+  before = λ k d from below. elim (cases_lt k place) [
+    | inl ahead ↦ subst (λ (row : Row). row.number ≤ number) (sym (get_or-remove_below rows place d k ahead l))
+        (after.before k d (omega arith) (omega arith))
+    | inr behind ↦ subst (λ (row : Row). row.number ≤ number) (sym (get_or-remove_above rows place d k behind l))
+        (after.before (k + 1) d (omega arith) (omega arith))
+  ];
+  behind = λ k d from to. subst (λ (row : Row). number < row.number) (sym (get_or-remove_above rows place d k (omega arith) l))
+      (after.behind (k + 1) d (omega arith) (omega (arith, to, length-remove rows place l)));
+}
+
+-- and in front of it
+pub before_gone : (number : ℕ) (rows : List Row) (place at : ℕ) → place < length rows → at ≤ place → IsRowAfter number rows at
+    → IsRowAfter number (remove rows place) at
+before_gone number rows place at l under after = record {
+  before = λ k d from below. subst (λ (row : Row). row.number ≤ number) (sym (get_or-remove_below rows place d k (omega arith) l))
+      (after.before k d from below);
+  behind = λ k d from to. elim (cases_lt k place) [
+    | inl ahead ↦ subst (λ (row : Row). number < row.number) (sym (get_or-remove_below rows place d k ahead l))
+        (after.behind k d from (omega arith))
+    | inr behind ↦ subst (λ (row : Row). number < row.number) (sym (get_or-remove_above rows place d k behind l))
+        (after.behind (k + 1) d (omega arith) (omega (arith, to, length-remove rows place l)))
+  ];
 }
 
 -- where all numbers are less below a place, and greater from it on, none is equal
@@ -95,11 +116,8 @@ rows_rise low [] texts holds rises = tt
 rows_rise low (tune ∷ tunes) [] holds rises = tt
 rows_rise low (tune ∷ tunes) (part ∷ texts) holds rises = (rises.0, rows_rise tune.number tunes texts (later_held part texts tune tunes holds) rises.1)
 
-abbrev some_row : Row
+abbrev pub some_row : Row
 some_row = record { number = 0; revision = 0; first = 0; length = 0 }
-
-abbrev some_tune : Tune
-some_tune = record { number = 0; revision = 0; text = [] }
 
 -- a place among the rows is that place among the tunes
 place_there : (number : ℕ) (tunes : List Tune) (texts : List Part) (place : ℕ) → HoldTunes texts tunes → place ≤ length tunes
@@ -131,7 +149,7 @@ moves_none rows number to none = λ s ahead tunes rises holds.
 
 module _ (rows : List Row) (number to place at : ℕ) (row : Row) (l : place < length rows) (named : (d : Row) → (get_or rows place d).number ≡ number)
     (is : row ≡ get_or rows place row) (within : at ≤ length (remove rows place))
-    (after : RowsRise 0 (remove rows place) → IsRowAfter to (remove rows place) at)
+    (after : RowsRise 0 rows → IsRowAfter to (remove rows place) at)
     (s : Stand) (ahead : List Part) (tunes : List Tune) (rises : RisesFrom 0 tunes) (holds : HoldsTunes s ahead tunes rows) where
   abbrev texts : List Part
   texts = holds.texts
@@ -170,8 +188,7 @@ module _ (rows : List Row) (number to place at : ℕ) (row : Row) (l : place < l
 
   goes : IsPlaceAfter to (remove tunes place) at
   goes =
-      let risen : RowsRise 0 (remove rows place) = subst (RowsRise 0) (sym left_rows)
-      (rows_rise 0 (remove tunes place) (remove texts place) fewer (rises-taken number tunes place some_tune rises inside (named_tune some_tune))) in
+      let risen : RowsRise 0 rows = subst (RowsRise 0) (sym holds.listed) (rows_rise 0 tunes texts holds.are_tunes rises) in
       let many = rows_count (remove tunes place) (remove texts place) fewer in
       let same = ap length left_rows in
       place_there to (remove tunes place) (remove texts place) at fewer (omega (arith, within, many, same))
@@ -205,7 +222,7 @@ module _ (rows : List Row) (number to place at : ℕ) (row : Row) (l : place < l
 
 -- the row of a number is taken out, and put in where its new number belongs
 pub moves_row : (rows : List Row) (number to place at : ℕ) (row : Row) → place < length rows → ((d : Row) → (get_or rows place d).number ≡ number)
-    → row ≡ get_or rows place row → at ≤ length (remove rows place) → (RowsRise 0 (remove rows place) → IsRowAfter to (remove rows place) at)
+    → row ≡ get_or rows place row → at ≤ length (remove rows place) → (RowsRise 0 rows → IsRowAfter to (remove rows place) at)
     → MovesTunes rows (insert (remove rows place) at (record { number = to; revision = row.revision; first = row.first; length = row.length })) number to
 moves_row rows number to place at row l named is within after = λ s ahead tunes rises holds.
     moves_this rows number to place at row l named is within after s ahead tunes rises holds

@@ -266,10 +266,10 @@ upgraded s mid new c left shape run one copied are lengthens root kept state is 
     (sym copied) (texts_held s c one state is h) in
     let longer = lengthens (parts_of_index filed.numbers) (filed.set_lists ∷ filed.texts) filed.searches (numbered_texts state.tunes)
     (incipits_held s c one state is h run are) texts in
-    let says : SaysWhere left = record {
-      numbers = ap (λ (x : Shape). x.first) kept.numbers ∙ h.numbers.first ∙ sym (ap (λ (f : Firsts). f.numbers) h.firsts) ∙ sym kept.first_numbers;
+    let says : SaysWhere left.numbers left.searches left.firsts = record {
+      first = ap (λ (x : Shape). x.first) kept.numbers ∙ h.numbers.first ∙ sym (ap (λ (f : Firsts). f.numbers) h.firsts) ∙ sym kept.first_numbers;
       numbers_listed = ap (λ (x : Shape). x.listed) kept.numbers ∙ h.numbers_listed;
-      searches = kept.first_searches;
+      others = kept.first_searches;
       searches_listed = kept.listed;
     } in
     let around : StandsAround new (keeps_in left) state.tunes filed.set_lists = record {

@@ -3,4 +3,5 @@ pub mod Holds
 pub mod Inside
 pub mod LayAnswers
 pub mod Most
+pub mod Next
 pub mod Texts

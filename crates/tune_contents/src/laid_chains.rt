@@ -1,8 +1,8 @@
 // Chains of an archive, laid anew in a work.
-ghost use Rattle.std.specs.Prelude.{◌≡◌, ◌≢◌, ◌+◌, ◌^◌, ◌<◌, ℕ, List, [], ◌∷◌, ◌++◌, false, length};
+ghost use Rattle.std.specs.Prelude.{◌≡◌, ◌≢◌, ◌+◌, ◌^◌, ◌<◌, List, [], ◌∷◌, ◌++◌, false, length};
 ghost use Rattle.std.specs.Prelude.{slice_set};
 ghost use Rattle.std.specs.Prelude.{IfOk, IfErr, OnOk, IsTrue};
-ghost use Rattle.std.specs.List.{remove};
+ghost use Rattle.std.specs.List.{range_with_len, remove};
 ghost use Rattle.tune_pages.specs.Faults.{pages_for};
 ghost use Rattle.tune_pages.specs.FreePages.{TakesAtMost};
 ghost use Rattle.tune_pages.specs.Kept.{HonestAt};
@@ -13,17 +13,23 @@ ghost use Rattle.tune_format.specs.Written.{IsRoot};
 ghost use Rattle.tune_pages.specs.Stand.{HasSomeChain};
 ghost use Rattle.tune_pages.specs.Work.{stand, Fits};
 ghost use Rattle.tune_pages.specs.declared.fault.Fault.TheVariants.{Device, Closed};
+ghost use Rattle.tune_pages.specs.declared.fault.Fault.TheVariants.{OutOfMemory};
 ghost use Rattle.tune_sets.specs.SetBytes.{written_sets};
 ghost use Rattle.tune_store.specs.TuneSteps.{numbered};
 ghost use Rattle.tune_store.specs.declared.layout.Layout.{Layout};
 ghost use Rattle.tune_format.specs.declared.root.Firsts.{Firsts};
 ghost use Rattle.tune_format.specs.declared.rows.Row.{Row};
 ghost use Rattle.tune_contents.specs.LayAnswers.{AnswersLay};
+ghost use Rattle.tune_contents.specs.Next.{FitsRows, rows_after};
 ghost use Rattle.tune_contents.specs.Inside.Laying.{SwapsChain, LaysRoot, LaysSets};
 ghost use Rattle.tune_contents.specs.Inside.Laying.{HoldsSomeTunes, LaysTunes};
 ghost use Rattle.tune_contents.specs.Inside.ChangedRows.{AddsRow, AddsRows, PutsRow};
+ghost use Rattle.tune_contents.specs.Inside.ChangedRows.{IsBehind, IsMadeOf, IsSingle};
+ghost use Rattle.tune_contents.specs.Inside.TuneRows.{numbers_in};
 ghost use Rattle.tune_contents.specs.Inside.Takes.{tune_pages, text_pages, sets_pages};
 
+use crate::next::RowChange;
+use crate::room::Room;
 use abc_fields::TuneText;
 use std::alloc::Global;
 use tune_disk::Disk;
@@ -70,20 +76,22 @@ pub(crate) fn put_tune<D: Disk>(
     alloc: Global,
     pages: &mut Pages<D>,
     work: &mut Work,
-    rows: &mut Vec<Row>,
+    rows: &[Row],
     place: usize,
     tune: &Tune,
-) -> Result<(), Fault>
+) -> Result<RowChange, Fault>
     requires open { pages.old.closed ≡ false }
     requires fits { Fits pages.old work.old }
-    requires place { place < length rows.old.items }
+    requires place { place < length rows.now }
     requires holds { HonestAt D.honest pages.old.disk
-        → HoldsSomeTunes (stand pages.old work.old) rows.old.items }
+        → HoldsSomeTunes (stand pages.old work.old) rows.now }
     ensures fits { OnOk result (Fits pages.new work.new) }
-    ensures lays { OnOk result (HonestAt D.honest pages.new.disk → LaysTunes
-        (stand pages.old work.old) (stand pages.new work.new) rows.old.items rows.new.items
+    ensures lays { IfOk result (λ made. HonestAt D.honest pages.new.disk → LaysTunes
+        (stand pages.old work.old) (stand pages.new work.new) rows.now (rows_after made rows.now)
         (λ tunes. slice_set tunes place tune.now)) }
-    ensures row { OnOk result (PutsRow place tune.now.number rows.old.items rows.new.items) }
+    ensures row { IfOk result (λ made.
+        PutsRow place tune.now.number rows.now (rows_after made rows.now)) }
+    ensures single { IfOk result (λ made. IsSingle made rows.now) }
     ensures looks { LooksAt D.honest D.failures D.state result pages.old pages.new }
     ensures answer { AnswersLay result pages.new.closed }
     ensures takes { HonestAt D.honest pages.new.disk → TakesAtMost (tune_pages tune.now.text)
@@ -93,57 +101,59 @@ pub(crate) fn put_tune<D: Disk>(
         return Err(Fault::OutOfMemory);
     };
     let first = swap_chain(pages, work, first_at(rows, place), &bytes)?;
-    rows[place] = Row {
+    let row = Row {
         number: tune.number,
         revision: tune.revision,
         first,
         length: tune.text.bytes().len() as u32,
     };
-    Ok(())
+    Ok(RowChange::Put { place, row })
 }
 
-// Frees the chain of the tune at a place, and takes its row out.
+// Frees the chain of the tune at a place. Its row goes.
 pub(crate) fn take_tune<D: Disk>(
     pages: &mut Pages<D>,
     work: &mut Work,
-    rows: &mut Vec<Row>,
+    rows: &[Row],
     place: usize,
-) -> Result<(), Fault>
+) -> Result<RowChange, Fault>
     requires open { pages.old.closed ≡ false }
     requires fits { Fits pages.old work.old }
-    requires place { place < length rows.old.items }
+    requires place { place < length rows.now }
     requires holds { HonestAt D.honest pages.old.disk
-        → HoldsSomeTunes (stand pages.old work.old) rows.old.items }
+        → HoldsSomeTunes (stand pages.old work.old) rows.now }
     ensures fits { OnOk result (Fits pages.new work.new) }
-    ensures lays { OnOk result (HonestAt D.honest pages.new.disk → LaysTunes
-        (stand pages.old work.old) (stand pages.new work.new) rows.old.items rows.new.items
+    ensures lays { IfOk result (λ made. HonestAt D.honest pages.new.disk → LaysTunes
+        (stand pages.old work.old) (stand pages.new work.new) rows.now (rows_after made rows.now)
         (λ tunes. remove tunes place)) }
-    ensures rows { OnOk result (rows.new.items ≡ remove rows.old.items place) }
+    ensures rows { IfOk result (λ made. rows_after made rows.now ≡ remove rows.now place) }
+    ensures single { IfOk result (λ made. IsSingle made rows.now) }
     ensures looks { LooksAt D.honest D.failures D.state result pages.old pages.new }
     ensures answer { AnswersLay result pages.new.closed }
     ensures takes { HonestAt D.honest pages.new.disk → TakesAtMost 0
         result (stand pages.old work.old) (stand pages.new work.new) }
 {
     pages.free_chain(work, first_at(rows, place))?;
-    rows.remove(place);
-    Ok(())
+    Ok(RowChange::Take { place })
 }
 
-// Puts a new tune on a chain, behind the others.
+// Puts a new tune on a chain, behind the others. Its row comes behind those of others like it.
 fn add_tune<D: Disk>(
     alloc: Global,
     pages: &Pages<D>,
     work: &mut Work,
-    rows: &mut Vec<Row>,
+    more: &mut Vec<Row>,
     number: u32,
     text: &TuneText,
 ) -> Result<(), Fault>
     requires open { pages.now.closed ≡ false }
     requires fits { Fits pages.now work.old }
     ensures fits { OnOk result (Fits pages.now work.new) }
-    ensures lays { OnOk result (LaysTunes (stand pages.now work.old) (stand pages.now work.new)
-        rows.old.items rows.new.items (λ tunes. tunes ++ numbered number (text.now ∷ []))) }
-    ensures row { OnOk result (AddsRow number rows.old.items rows.new.items) }
+    ensures lays { OnOk result ((rows : List Row)
+        → LaysTunes (stand pages.now work.old) (stand pages.now work.new)
+        (rows ++ more.old.items) (rows ++ more.new.items)
+        (λ tunes. tunes ++ numbered number (text.now ∷ []))) }
+    ensures row { OnOk result (AddsRow number more.old.items more.new.items) }
     ensures quiet { IfErr result (λ fault. (fault ≢ Device) × (fault ≢ Closed)) }
     ensures takes { TakesAtMost (tune_pages text.now) result
         (stand pages.now work.old) (stand pages.now work.new) }
@@ -158,38 +168,93 @@ fn add_tune<D: Disk>(
         first,
         length: text.bytes().len() as u32,
     };
-    if rows.push(row).is_err() {
+    if more.push(row).is_err() {
         return Err(Fault::OutOfMemory);
     }
     Ok(())
 }
 
-// Puts new tunes of these texts on chains, behind the others, with numbers from `first` on.
-pub(crate) fn add_tunes<D: Disk>(
+// Puts new tunes of these texts on chains, behind the others, with numbers from `first` on, and
+// gives their rows.
+fn add_tunes<D: Disk>(
     alloc: Global,
     pages: &Pages<D>,
     work: &mut Work,
-    rows: &mut Vec<Row>,
     first: u32,
     texts: &[TuneText],
-) -> Result<(), Fault>
+) -> Result<Vec<Row>, Fault>
     requires open { pages.now.closed ≡ false }
     requires fits { Fits pages.now work.old }
     requires numbers { first + length texts.now < 2 ^ 32 }
     ensures fits { OnOk result (Fits pages.now work.new) }
-    ensures lays { OnOk result (LaysTunes (stand pages.now work.old) (stand pages.now work.new)
-        rows.old.items rows.new.items (λ tunes. tunes ++ numbered first texts.now)) }
-    ensures rows { OnOk result (AddsRows first (length texts.now) rows.old.items rows.new.items) }
+    ensures lays { IfOk result (λ more. (rows : List Row)
+        → LaysTunes (stand pages.now work.old) (stand pages.now work.new)
+        rows (rows ++ more.items) (λ tunes. tunes ++ numbered first texts.now)) }
+    ensures rows { IfOk result (λ more.
+        numbers_in more.items ≡ range_with_len first (length texts.now)) }
     ensures quiet { IfErr result (λ fault. (fault ≢ Device) × (fault ≢ Closed)) }
     ensures takes { TakesAtMost (text_pages texts.now) result
         (stand pages.now work.old) (stand pages.now work.new) }
 {
+    let Ok(mut more) = Vec::with_capacity(alloc, texts.len()) else {
+        return Err(Fault::OutOfMemory);
+    };
     let mut number = first;
     for text in texts {
-        add_tune(alloc, pages, work, rows, number, text)?;
+        add_tune(alloc, pages, work, &mut more, number, text)?;
         number += 1;
     }
-    Ok(())
+    Ok(more)
+}
+
+// The change that puts rows behind the others. Where there is no room for them, all are copied.
+fn put_behind(room: &mut Room, rows: &Vec<Row>, more: Vec<Row>) -> Result<RowChange, Fault>
+    ensures behind { IfOk result (λ made. IsBehind made rows.now.items more.items) }
+    ensures fits { IfOk result (λ made. FitsRows made rows.now) }
+    ensures err { IfErr result (λ fault. fault ≡ OutOfMemory) }
+{
+    if rows.capacity() - rows.len() >= more.len() {
+        return Ok(RowChange::Add(more));
+    }
+    match room.copy_rows(rows, &more) {
+        Ok(all) => Ok(RowChange::Whole(all)),
+        Err(fault) => Err(fault),
+    }
+}
+
+// Lays new tunes of these texts, behind the others, with numbers from `first` on.
+pub(crate) fn lay_added<D: Disk>(
+    room: &mut Room,
+    pages: &Pages<D>,
+    work: &mut Work,
+    rows: &Vec<Row>,
+    first: u32,
+    texts: &[TuneText],
+) -> Result<RowChange, Fault>
+    requires open { pages.now.closed ≡ false }
+    requires fits { Fits pages.now work.old }
+    requires numbers { first + length texts.now < 2 ^ 32 }
+    ensures fits { OnOk result (Fits pages.now work.new) }
+    ensures lays { IfOk result (λ made. LaysTunes
+        (stand pages.now work.old) (stand pages.now work.new)
+        rows.now.items (rows_after made rows.now.items)
+        (λ tunes. tunes ++ numbered first texts.now)) }
+    ensures rows { IfOk result (λ made.
+        AddsRows first (length texts.now) rows.now.items (rows_after made rows.now.items)) }
+    ensures made { IfOk result (λ made. IsMadeOf made rows.now.items) }
+    ensures room { IfOk result (λ made. FitsRows made rows.now) }
+    ensures quiet { IfErr result (λ fault. (fault ≢ Device) × (fault ≢ Closed)) }
+    ensures takes { TakesAtMost (text_pages texts.now) result
+        (stand pages.now work.old) (stand pages.now work.new) }
+{
+    let more = match add_tunes(room.alloc, pages, work, first, texts) {
+        Ok(more) => more,
+        Err(fault) => return Err(fault),
+    };
+    let Ok(made) = put_behind(room, rows, more) else {
+        return Err(Fault::OutOfMemory);
+    };
+    Ok(made)
 }
 
 // Puts the set lists on another chain.

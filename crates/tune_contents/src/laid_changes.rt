@@ -18,23 +18,25 @@ ghost use Rattle.tune_contents.specs.LayAnswers.{AnswersLay};
 ghost use Rattle.tune_contents.specs.Claimed.{AreRows};
 ghost use Rattle.tune_contents.specs.Holds.{labels_in, HoldsContents, HoldsSomeState, LaysState};
 ghost use Rattle.tune_contents.specs.Most.{most_part_pages};
+ghost use Rattle.tune_contents.specs.Next.{FitsRows, Follows, rows_after};
+ghost use Rattle.tune_contents.specs.declared.contents.Contents.{Contents};
 ghost use Rattle.tune_contents.specs.Inside.Changes.{RowsAccept, SetsAccept, LaysChange, KeepsRows};
 ghost use Rattle.tune_contents.specs.Inside.Changes.{changes_sets};
 ghost use Rattle.tune_contents.specs.Inside.Indexed.{HoldsIndexed, HoldsSomeIndexed, LaysIndexed};
 ghost use Rattle.tune_contents.specs.Inside.Indexed.{index_pages, keeps_of};
 ghost use Rattle.tune_contents.specs.Inside.Laying.{HoldsSomeTunes};
-ghost use Rattle.tune_contents.specs.Inside.ChangedRows.{ChangesRows};
+ghost use Rattle.tune_contents.specs.Inside.ChangedRows.{IsMadeOf};
 ghost use Rattle.tune_contents.specs.Inside.Searching.{search_pages};
 ghost use Rattle.tune_contents.specs.Inside.Takes.{change_pages};
 
 use crate::contents::Contents;
-use crate::laid_chains::{add_tunes, lay_root, lay_sets_where, put_tune, take_tune};
+use crate::laid_chains::{lay_added, lay_root, lay_sets_where, put_tune, take_tune};
+use crate::next::{Next, RowChange};
 use crate::number_index::{change_numbers, number_runs};
 use crate::room::Room;
 use crate::searching::{change_searches, text_runs};
 use crate::tune_rows::{are_rows, move_row};
 use crate::upgrading::upgrade;
-use std::alloc::Global;
 use tune_disk::Disk;
 use tune_format::{Firsts, Row};
 use tune_index::Index;
@@ -74,40 +76,41 @@ fn change_sets(sets: &mut SetLists, change: &Change) -> Result<(), SetFault>
     Ok(())
 }
 
-// Lays a change of tunes; one of the set lists alone leaves them.
+// Lays a change of tunes, and gives what becomes of their rows; one of the set lists alone leaves
+// them.
 fn lay_tunes<D: Disk>(
-    alloc: Global,
+    room: &mut Room,
     pages: &mut Pages<D>,
     work: &mut Work,
-    rows: &mut Vec<Row>,
+    rows: &Vec<Row>,
     change: &Change,
-) -> Result<(), Fault>
+) -> Result<RowChange, Fault>
     requires open { pages.old.closed ≡ false }
     requires fits { Fits pages.old work.old }
-    requires accept { RowsAccept change.now rows.old.items }
+    requires accept { RowsAccept change.now rows.now.items }
     requires holds { HonestAt D.honest pages.old.disk
-        → HoldsSomeTunes (stand pages.old work.old) rows.old.items }
+        → HoldsSomeTunes (stand pages.old work.old) rows.now.items }
     ensures fits { OnOk result (Fits pages.new work.new) }
-    ensures lays { OnOk result (HonestAt D.honest pages.new.disk → LaysChange
-        (stand pages.old work.old) (stand pages.new work.new) rows.old.items rows.new.items
-        change.now) }
-    ensures changes { OnOk result (ChangesRows change.now rows.old.items rows.new.items) }
-    ensures rows { OnOk result (KeepsRows change.now rows.old.items rows.new.items) }
+    ensures lays { IfOk result (λ made. HonestAt D.honest pages.new.disk → LaysChange
+        (stand pages.old work.old) (stand pages.new work.new) rows.now.items
+        (rows_after made rows.now.items) change.now) }
+    ensures made { IfOk result (λ made. IsMadeOf made rows.now.items) }
+    ensures rows { IfOk result (λ made.
+        KeepsRows change.now rows.now.items (rows_after made rows.now.items)) }
+    ensures room { IfOk result (λ made. FitsRows made rows.now) }
     ensures looks { LooksAt D.honest D.failures D.state result pages.old pages.new }
     ensures answer { AnswersLay result pages.new.closed }
     ensures takes { HonestAt D.honest pages.new.disk → TakesAtMost (change_pages change.now)
         result (stand pages.old work.old) (stand pages.new work.new) }
 {
     match change {
-        Change::Add { first, texts } => add_tunes(alloc, pages, work, rows, *first, texts),
-        Change::Put { place, tune } => put_tune(alloc, pages, work, rows, *place, tune),
+        Change::Add { first, texts } => lay_added(room, pages, work, rows, *first, texts),
+        Change::Put { place, tune } => put_tune(room.alloc, pages, work, rows, *place, tune),
         Change::Take { place } => take_tune(pages, work, rows, *place),
-        Change::Move { number, to } => {
-            move_row(rows, *number, *to);
-            Ok(())
-        }
-        Change::NewSet { .. } | Change::AddPlace { .. } => Ok(()),
-        Change::CutPlace { .. } | Change::DropSet { .. } | Change::Upgrade => Ok(()),
+        Change::Move { number, to } => Ok(move_row(rows, *number, *to)),
+        Change::NewSet { .. } | Change::AddPlace { .. } => Ok(RowChange::Stay),
+        Change::CutPlace { .. } | Change::DropSet { .. } => Ok(RowChange::Stay),
+        Change::Upgrade => Ok(RowChange::Stay),
     }
 }
 
@@ -118,54 +121,56 @@ struct Indexes {
     searches: SearchIndexes,
 }
 
-// Lays a change of tunes and that of the indexes that goes with it, and gives where the lists of
-// the indexes begin; a change of the set lists alone leaves all. `was` are the rows before it.
+// Lays a change of tunes and that of the indexes that goes with it, and gives what becomes of the
+// rows, and where the lists of the indexes begin; a change of the set lists alone leaves all.
 fn lay_indexed<D: Disk>(
-    alloc: Global,
+    room: &mut Room,
     pages: &mut Pages<D>,
     work: &mut Work,
     layout: Layout,
-    was: &[Row],
-    rows: &mut Vec<Row>,
+    rows: &Vec<Row>,
     indexes: &mut Indexes,
     change: &Change,
-) -> Result<(u32, SearchFirsts), Fault>
+) -> Result<(RowChange, u32, SearchFirsts), Fault>
     requires open { pages.old.closed ≡ false }
     requires fits { Fits pages.old work.old }
-    requires accept { RowsAccept change.now was.now }
-    requires same { rows.old.items ≡ was.now }
+    requires accept { RowsAccept change.now rows.now.items }
     requires holds { HonestAt D.honest pages.old.disk → HoldsSomeIndexed layout
-        (stand pages.old work.old) (keeps_of indexes.old.numbers indexes.old.searches was.now) }
+        (stand pages.old work.old)
+        (keeps_of indexes.old.numbers indexes.old.searches rows.now.items) }
     ensures fits { OnOk result (Fits pages.new work.new) }
-    ensures lays { OnOk result (HonestAt D.honest pages.new.disk → LaysIndexed layout
+    ensures lays { IfOk result (λ laid. HonestAt D.honest pages.new.disk → LaysIndexed layout
         (stand pages.old work.old) (stand pages.new work.new)
-        (keeps_of indexes.old.numbers indexes.old.searches was.now)
-        (keeps_of indexes.new.numbers indexes.new.searches rows.new.items) change.now) }
-    ensures lists { IfOk result (λ firsts. (indexes.new.numbers.first ≡ firsts.0)
-        × (indexes.new.numbers.listed ≡ true) × (firsts.1 ≡ firsts_in indexes.new.searches)
+        (keeps_of indexes.old.numbers indexes.old.searches rows.now.items)
+        (keeps_of indexes.new.numbers indexes.new.searches (rows_after laid.0 rows.now.items))
+        change.now) }
+    ensures lists { IfOk result (λ laid. (indexes.new.numbers.first ≡ laid.1)
+        × (indexes.new.numbers.listed ≡ true) × (laid.2 ≡ firsts_in indexes.new.searches)
         × AreListed indexes.new.searches) }
-    ensures rows { OnOk result (KeepsRows change.now was.now rows.new.items) }
+    ensures rows { IfOk result (λ laid.
+        KeepsRows change.now rows.now.items (rows_after laid.0 rows.now.items)) }
+    ensures room { IfOk result (λ laid. FitsRows laid.0 rows.now) }
     ensures notes { OnOk result
         (indexes.new.searches.notes ≡ indexes.old.searches.notes) }
     ensures looks { LooksAt D.honest D.failures D.state result pages.old pages.new }
     ensures answer { AnswersLay result pages.new.closed }
     ensures takes { HonestAt D.honest pages.new.disk → (tunes : List Tune) (sets : List TuneSet)
         → HoldsIndexed layout (stand pages.old work.old)
-        (keeps_of indexes.old.numbers indexes.old.searches was.now) tunes
-        → CanChange change.now layout (labels_in was.now) sets
+        (keeps_of indexes.old.numbers indexes.old.searches rows.now.items) tunes
+        → CanChange change.now layout (labels_in rows.now.items) sets
         → let count = length (changed_tunes change.now tunes) in
         TakesAtMost (change_pages change.now + (index_pages count + search_pages count)) result
         (stand pages.old work.old) (stand pages.new work.new) }
 {
     let notes = indexes.searches.notes();
-    let texts = text_runs(alloc, pages, work, layout, notes, rows, change)?;
-    lay_tunes(alloc, pages, work, rows, change)?;
-    let Ok(entries) = number_runs(alloc, was, rows, change) else {
+    let texts = text_runs(room.alloc, pages, work, layout, notes, rows, change)?;
+    let made = lay_tunes(room, pages, work, rows, change)?;
+    let Ok(entries) = number_runs(room.alloc, rows, &made) else {
         return Err(Fault::OutOfMemory);
     };
-    let numbers = change_numbers(alloc, pages, work, &mut indexes.numbers, &entries)?;
-    let searches = change_searches(alloc, pages, work, &mut indexes.searches, &texts)?;
-    Ok((numbers, searches))
+    let numbers = change_numbers(room.alloc, pages, work, &mut indexes.numbers, &entries)?;
+    let searches = change_searches(room.alloc, pages, work, &mut indexes.searches, &texts)?;
+    Ok((made, numbers, searches))
 }
 
 // The set lists after a change.
@@ -190,7 +195,7 @@ fn lay_change<D: Disk>(
     work: &mut Work,
     contents: &Contents,
     change: &Change,
-) -> Result<Contents, Fault>
+) -> Result<Next, Fault>
     requires open { pages.old.closed ≡ false }
     requires fits { Fits pages.old work.old }
     requires stays { change.now ≢ Upgrade }
@@ -198,11 +203,14 @@ fn lay_change<D: Disk>(
         (labels_in contents.now.rows.items) contents.now.sets }
     requires holds { HonestAt D.honest pages.old.disk
         → HoldsSomeState (stand pages.old work.old) contents.now }
-    ensures lays { IfOk result (λ next. HonestAt D.honest pages.new.disk → LaysState
-        (stand pages.old work.old) (stand pages.new work.new) contents.now next change.now) }
+    ensures lays { IfOk result (λ next. HonestAt D.honest pages.new.disk → (left : Contents)
+        → Follows next contents.now left → LaysState
+        (stand pages.old work.old) (stand pages.new work.new) contents.now left change.now) }
     ensures rows { AreRows contents.now.layout contents.now.rows.items
-        → IfOk result (λ next. AreRows next.layout next.rows.items) }
+        → IfOk result (λ next.
+        AreRows next.layout (rows_after next.rows contents.now.rows.items)) }
     ensures layout { IfOk result (λ next. next.layout ≡ contents.now.layout) }
+    ensures room { IfOk result (λ next. FitsRows next.rows contents.now.rows) }
     ensures fits { OnOk result (Fits pages.new work.new) }
     ensures looks { LooksAt D.honest D.failures D.state result pages.old pages.new }
     ensures answer { AnswersLay result pages.new.closed }
@@ -211,7 +219,6 @@ fn lay_change<D: Disk>(
         → IsState (changed change.now state) → TakesAtMost (most_part_pages contents.now.layout)
         result (stand pages.old work.old) (stand pages.new work.new) }
 {
-    let mut rows = room.copy_rows(&contents.rows)?;
     let mut indexes = Indexes {
         numbers: room.copy_numbers(&contents.numbers)?,
         searches: room.copy_searches(&contents.searches)?,
@@ -220,13 +227,12 @@ fn lay_change<D: Disk>(
     let names = changes_sets(change, &contents.sets);
     let layout = contents.layout;
     let was = contents.firsts;
-    let (numbers, searches) = lay_indexed(
-        room.alloc,
+    let (rows, numbers, searches) = lay_indexed(
+        room,
         pages,
         work,
         layout,
         &contents.rows,
-        &mut rows,
         &mut indexes,
         change,
     )?;
@@ -237,7 +243,7 @@ fn lay_change<D: Disk>(
         sets: sets_first,
     };
     lay_root(pages, work, layout, was, firsts)?;
-    Ok(Contents {
+    Ok(Next {
         layout,
         rows,
         numbers: indexes.numbers,
@@ -247,18 +253,20 @@ fn lay_change<D: Disk>(
     })
 }
 
-/// Lays a change of an archive on its pages, in a work that was begun on them, and gives what is to
-/// be kept in memory once the work is finished. `contents` stays as it is: where the work is
-/// dropped, or not finished, nothing was changed.
+/// Lays a change of an archive on its pages, in a work that was begun on them, and gives what
+/// `contents` is to accept once the work is finished. Until then it stays as it is: where the work
+/// is dropped, or not finished, nothing was changed.
 ///
 /// Chains that go are freed before others are put, so that these may take their pages. The leaves
 /// of the indexes change that the change concerns; the lists of leaves, where leaves come or go;
 /// the set lists, where they change; and the root, where one of these begins elsewhere. `upgrade`
 /// says what changes where the archive comes to layout 2.
 ///
-/// - `lays`: where the pages held a state within the limits, they hold the state after the change.
+/// - `lays`: where the pages held a state within the limits, they hold the state after the change,
+///   with the contents that follow.
 /// - `rows`, `layout`, of every disk: rows by rising number, within the limits, stay so, and the
 ///   layout is that after the change.
+/// - `room`: there is room for what becomes of the rows, as `accept` asks.
 /// - `looks`: no page of the disk changes.
 /// - `fits`: the work may be changed further, or finished.
 /// - `takes`: where the state after the change is within the limits, it takes no more free pages
@@ -276,19 +284,22 @@ pub fn lay<D: Disk>(
     work: &mut Work,
     contents: &Contents,
     change: Change,
-) -> Result<Contents, Fault>
+) -> Result<Next, Fault>
     requires open { pages.old.closed ≡ false }
     requires fits { Fits pages.old work.old }
     requires possible { CanChange change contents.now.layout
         (labels_in contents.now.rows.items) contents.now.sets }
     requires holds { HonestAt D.honest pages.old.disk
         → HoldsSomeState (stand pages.old work.old) contents.now }
-    ensures lays { IfOk result (λ next. HonestAt D.honest pages.new.disk → LaysState
-        (stand pages.old work.old) (stand pages.new work.new) contents.now next change) }
+    ensures lays { IfOk result (λ next. HonestAt D.honest pages.new.disk → (left : Contents)
+        → Follows next contents.now left → LaysState
+        (stand pages.old work.old) (stand pages.new work.new) contents.now left change) }
     ensures rows { AreRows contents.now.layout contents.now.rows.items
-        → IfOk result (λ next. AreRows next.layout next.rows.items) }
+        → IfOk result (λ next.
+        AreRows next.layout (rows_after next.rows contents.now.rows.items)) }
     ensures layout { IfOk result (λ next. next.layout
         ≡ changed_layout change contents.now.layout) }
+    ensures room { IfOk result (λ next. FitsRows next.rows contents.now.rows) }
     ensures fits { OnOk result (Fits pages.new work.new) }
     ensures looks { LooksAt D.honest D.failures D.state result pages.old pages.new }
     ensures answer { AnswersLay result pages.new.closed }

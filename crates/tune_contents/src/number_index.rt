@@ -1,5 +1,5 @@
 // The index of numbers, changed with the rows.
-ghost use Rattle.std.specs.Prelude.{◌≡◌, ◌⊎◌, ◌+◌, ◌*◌, [], ◌∷◌, false, true};
+ghost use Rattle.std.specs.Prelude.{◌≡◌, ◌+◌, ◌*◌, false, true};
 ghost use Rattle.std.specs.Prelude.{length, List, IfOk, OnOk};
 ghost use Rattle.tune_pages.specs.Faults.{pages_for};
 ghost use Rattle.tune_pages.specs.FreePages.{TakesAtMost};
@@ -16,9 +16,10 @@ ghost use Rattle.tune_format.specs.RootOffsets.{number_bytes};
 ghost use Rattle.tune_format.specs.Written.{number_entries, number_key};
 ghost use Rattle.tune_contents.specs.LayAnswers.{AnswersLay};
 ghost use Rattle.tune_contents.specs.Claimed.{RowsRise};
-ghost use Rattle.tune_contents.specs.Inside.ChangedRows.{ChangesRows, PutsRuns};
+ghost use Rattle.tune_contents.specs.Inside.ChangedRows.{IsMadeOf, PutsRuns};
+ghost use Rattle.tune_contents.specs.Next.{rows_after};
 
-use crate::tune_rows::place_of;
+use crate::next::RowChange;
 use std::alloc::{AllocError, Global};
 use std::slice;
 use tune_disk::Disk;
@@ -26,7 +27,6 @@ use tune_format::{Row, key_of_number};
 use tune_index::{Index, IndexKey};
 use tune_pages::{Fault, Pages, Work};
 use tune_search::{put_run, store_list, take_run};
-use tune_store::Change;
 
 // What goes out of the index of numbers with a change, and what comes in, in order.
 #[derive(Drop)]
@@ -78,50 +78,28 @@ fn put_runs(alloc: Global, was: &Row, is: &Row) -> Result<NumberRuns, AllocError
     runs_of(alloc, slice::from_ref(was), slice::from_ref(is))
 }
 
-// The entries of a row that gets another number: the one that goes, and the one that comes.
-fn moved_runs(alloc: Global, row: &Row, to: u32) -> Result<NumberRuns, AllocError>
-    ensures runs { IfOk result (λ runs. (runs.gone.items ≡ number_entries (row.now ∷ []))
-        × (runs.come.items ≡ number_entries (record {
-          number = to;
-          revision = row.now.revision;
-          first = row.now.first;
-          length = row.now.length;
-        } ∷ []))) }
-    ensures fit { IfOk result (λ runs. AllFit key_bytes runs.come.items) }
-{
-    let mut come = Vec::new(alloc);
-    come.push(number_entry(to, row.first))?;
-    Ok(NumberRuns {
-        gone: entries_of(alloc, slice::from_ref(row))?,
-        come,
-    })
-}
-
 // The entries of rows before a change and after it.
 pub(crate) fn number_runs(
     alloc: Global,
     was: &[Row],
-    is: &[Row],
-    change: &Change,
+    made: &RowChange,
 ) -> Result<NumberRuns, AllocError>
-    requires { ChangesRows change.now was.now is.now }
+    requires { IsMadeOf made.now was.now }
     ensures rising { IfOk result (λ runs. IsRising runs.come.items) }
-    ensures entries { IfOk result (λ runs. RowsRise 0 was.now → RowsRise 0 is.now
-        → AllFit key_bytes (number_entries was.now)
+    ensures entries { IfOk result (λ runs. RowsRise 0 was.now
+        → RowsRise 0 (rows_after made.now was.now) → AllFit key_bytes (number_entries was.now)
         → inserted_all runs.come.items (removed_all runs.gone.items (number_entries was.now))
-        ≡ number_entries is.now) }
+        ≡ number_entries (rows_after made.now was.now)) }
 {
-    match change {
-        Change::Add { .. } => runs_of(alloc, &[], &is[was.len()..]),
-        Change::Put { place, .. } => put_runs(alloc, &was[*place], &is[*place]),
-        Change::Take { place } => runs_of(alloc, slice::from_ref(&was[*place]), &[]),
-        Change::Move { number, to } => match place_of(was, *number) {
-            Some(place) => moved_runs(alloc, &was[place], *to),
-            None => runs_of(alloc, &[], &[]),
-        },
-        Change::NewSet { .. } | Change::AddPlace { .. } => runs_of(alloc, &[], &[]),
-        Change::CutPlace { .. } | Change::DropSet { .. } => runs_of(alloc, &[], &[]),
-        Change::Upgrade => runs_of(alloc, &[], &[]),
+    match made {
+        RowChange::Stay => runs_of(alloc, &[], &[]),
+        RowChange::Add(more) => runs_of(alloc, &[], more),
+        RowChange::Put { place, row } => put_runs(alloc, &was[*place], row),
+        RowChange::Take { place } => runs_of(alloc, slice::from_ref(&was[*place]), &[]),
+        RowChange::Move { place, row, .. } => {
+            runs_of(alloc, slice::from_ref(&was[*place]), slice::from_ref(row))
+        }
+        RowChange::Whole(all) => runs_of(alloc, &[], &all[was.len()..]),
     }
 }
 

@@ -1,8 +1,7 @@
 // Memory for changes.
-ghost use Rattle.std.specs.Prelude.{◌≡◌, IfErr, IfOk};
+ghost use Rattle.std.specs.Prelude.{◌≡◌, ◌++◌, IfErr, IfOk};
 ghost use Rattle.tune_pages.specs.declared.fault.Fault.TheVariants.{OutOfMemory};
 
-use crate::contents::Contents;
 use std::alloc::Global;
 use std::mem;
 use tune_format::Row;
@@ -15,9 +14,9 @@ use tune_search::{IncipitNotes, SearchIndexes};
 #[derive(Drop)]
 pub struct Room {
     pub(crate) alloc: Global,
-    // the rows to which a change leads
+    // all rows, where a change brings more than there is room for
     rows: Vec<Row>,
-    // the indexes to which it leads
+    // the indexes to which a change leads
     numbers: Index<32>,
     searches: SearchIndexes,
 }
@@ -33,21 +32,33 @@ impl Room {
         }
     }
 
-    /// Takes the memory of contents that a change left behind.
-    pub fn take(&mut self, behind: Contents) {
-        self.rows = behind.rows;
-        self.numbers = behind.numbers;
-        self.searches = behind.searches;
+    // Keeps the memory of rows for later ones.
+    pub(crate) fn keep_rows(&mut self, rows: Vec<Row>) {
+        self.rows = rows;
     }
 
-    // A copy of rows.
-    pub(crate) fn copy_rows(&mut self, rows: &[Row]) -> Result<Vec<Row>, Fault>
-        ensures rows { IfOk result (λ copy. copy.items ≡ rows.now) }
+    // Keeps that of an index of numbers.
+    pub(crate) fn keep_numbers(&mut self, numbers: Index<32>) {
+        self.numbers = numbers;
+    }
+
+    // Keeps that of search indexes.
+    pub(crate) fn keep_searches(&mut self, searches: SearchIndexes) {
+        self.searches = searches;
+    }
+
+    // A copy of rows with more behind them. Its memory is taken for twice the rows, so that those of
+    // the next changes have room.
+    pub(crate) fn copy_rows(&mut self, rows: &[Row], more: &[Row]) -> Result<Vec<Row>, Fault>
+        ensures rows { IfOk result (λ copy. copy.items ≡ rows.now ++ more.now) }
         ensures err { IfErr result (λ fault. fault ≡ OutOfMemory) }
     {
         let mut copy = mem::replace(&mut self.rows, Vec::new(self.alloc));
         copy.clear();
-        match copy.extend_from_slice(rows) {
+        if copy.extend_from_slice(rows).is_err() {
+            return Err(Fault::OutOfMemory);
+        }
+        match copy.extend_from_slice(more) {
             Ok(()) => Ok(copy),
             Err(_) => Err(Fault::OutOfMemory),
         }

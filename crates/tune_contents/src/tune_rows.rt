@@ -1,14 +1,16 @@
 // Rows of tunes, found by number, and one under another number.
-ghost use Rattle.std.specs.Prelude.{◌≡◌, ◌≢◌, ◌⊎◌, ◌↔◌, ◌<◌, ◌≤◌, ℕ, length, slice_index_or};
+ghost use Rattle.std.specs.Prelude.{◌≡◌, ◌≢◌, ◌↔◌, ◌<◌, ◌≤◌, ℕ, length, slice_index_or};
 ghost use Rattle.std.specs.Prelude.{IfSome, IfNone, IsTrue};
-ghost use Rattle.std.specs.List.{Contains};
+ghost use Rattle.std.specs.List.{Contains, remove};
 ghost use Rattle.tune_store.specs.Limits.{greatest_number};
 ghost use Rattle.tune_format.specs.declared.rows.Row.{Row};
 ghost use Rattle.tune_store.specs.declared.layout.Layout.{Layout};
 ghost use Rattle.tune_contents.specs.Inside.TuneRows.{IsRowAfter, MovesTunes, numbers_in};
-ghost use Rattle.tune_contents.specs.Inside.ChangedRows.{HasNoRow, MovesRow};
+ghost use Rattle.tune_contents.specs.Inside.ChangedRows.{IsSingle};
 ghost use Rattle.tune_contents.specs.Claimed.{AreRows, RowsRise};
+ghost use Rattle.tune_contents.specs.Next.{rows_after};
 
+use crate::next::RowChange;
 use tune_format::Row;
 use tune_store::{GREATEST_NUMBER, Layout};
 
@@ -51,20 +53,32 @@ fn place_after(rows: &[Row], number: u32) -> usize
     }
 }
 
-// Gives the row of a number another one, and moves it to where that belongs.
-pub(crate) fn move_row(rows: &mut Vec<Row>, number: u32, to: u32)
-    ensures moves { MovesTunes rows.old.items rows.new.items number to }
-    ensures row { MovesRow number to rows.old.items rows.new.items
-        ⊎ ((rows.new.items ≡ rows.old.items)
-        × (RowsRise 0 rows.old.items → HasNoRow number rows.old.items)) }
-    ensures rows { (layout : Layout) → AreRows layout rows.old.items
-        → ¬ Contains (numbers_in rows.old.items) to → 0 < to → to ≤ greatest_number
-        → AreRows layout rows.new.items }
+// The same, once the row at a place has gone.
+fn place_among_others(rows: &[Row], place: usize, number: u32) -> usize
+    requires { place < length rows.now }
+    ensures within { result ≤ length (remove rows.now place) }
+    ensures after { RowsRise 0 rows.now → IsRowAfter number (remove rows.now place) result }
 {
-    if let Some(place) = place_of(rows, number) {
-        let mut row = rows.remove(place);
-        row.number = to;
-        let place = place_after(rows, to);
-        rows.insert(place, row).unwrap();
+    let after = place_after(rows, number);
+    if after > place { after - 1 } else { after }
+}
+
+// The change that gives the row of a number another one, and moves it to where that belongs.
+pub(crate) fn move_row(rows: &[Row], number: u32, to: u32) -> RowChange
+    ensures moves { MovesTunes rows.now (rows_after result rows.now) number to }
+    ensures single { IsSingle result rows.now }
+    ensures rows { (layout : Layout) → AreRows layout rows.now
+        → ¬ Contains (numbers_in rows.now) to → 0 < to → to ≤ greatest_number
+        → AreRows layout (rows_after result rows.now) }
+{
+    let Some(place) = place_of(rows, number) else {
+        return RowChange::Stay;
+    };
+    let mut row = rows[place];
+    row.number = to;
+    RowChange::Move {
+        place,
+        to: place_among_others(rows, place, to),
+        row,
     }
 }

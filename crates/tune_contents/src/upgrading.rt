@@ -16,12 +16,15 @@ ghost use Rattle.tune_contents.specs.LayAnswers.{AnswersLay};
 ghost use Rattle.tune_contents.specs.Claimed.{AreRows};
 ghost use Rattle.tune_contents.specs.Holds.{HoldsContents, HoldsSomeState};
 ghost use Rattle.tune_contents.specs.Most.{most_part_pages};
+ghost use Rattle.tune_contents.specs.Next.{FitsRows, Follows, rows_after};
+ghost use Rattle.tune_contents.specs.declared.contents.Contents.{Contents};
 ghost use Rattle.tune_contents.specs.Inside.Changes.{HoldsTunesWithin};
 ghost use Rattle.tune_contents.specs.Inside.Searching.{search_pages};
 ghost use Rattle.tune_contents.specs.Inside.Upgrading.{AreOfTunes, LengthensTexts};
 
 use crate::contents::Contents;
 use crate::laid_chains::lay_root;
+use crate::next::{Next, RowChange};
 use crate::room::Room;
 use crate::tune_reading::read_tune_where;
 use std::alloc::Global;
@@ -113,15 +116,17 @@ fn lengthen<D: Disk>(
 }
 
 /// Lays layout 2 on the pages of an archive of layout 1, in a work that was begun on them, and
-/// gives what is to be kept in memory once the work is finished. `contents` stays as it is: where
-/// the work is dropped, or not finished, nothing was changed.
+/// gives what `contents` is to accept once the work is finished. Until then it stays as it is:
+/// where the work is dropped, or not finished, nothing was changed.
 ///
 /// The text of each tune is read. The index of incipits by eight notes goes, with no page of it
 /// read, its pages are free then, and that by twelve comes in; the root says the new layout and
 /// where that begins.
 ///
-/// - `lays`: where the pages held a state within the limits, they hold it in layout 2.
+/// - `lays`: where the pages held a state within the limits, they hold it in layout 2, with the
+///   contents that follow.
 /// - `rows`, of every disk: rows by rising number, within the limits of layout 2.
+/// - `room`: the rows stay, as `accept` may let them.
 /// - `looks`: no page of the disk changes.
 /// - `fits`: the work may be changed further, or finished.
 /// - `takes`: it takes no more free pages than the chains and leaves of a state of layout 1 have at
@@ -137,18 +142,21 @@ pub fn upgrade<D: Disk>(
     pages: &mut Pages<D>,
     work: &mut Work,
     contents: &Contents,
-) -> Result<Contents, Fault>
+) -> Result<Next, Fault>
     requires open { pages.old.closed ≡ false }
     requires fits { Fits pages.old work.old }
     requires layout { contents.now.layout ≡ One }
     requires rows { AreRows One contents.now.rows.items }
     requires holds { HonestAt D.honest pages.old.disk
         → HoldsSomeState (stand pages.old work.old) contents.now }
-    ensures lays { IfOk result (λ next. HonestAt D.honest pages.new.disk → (state : State)
+    ensures lays { IfOk result (λ next. HonestAt D.honest pages.new.disk → (left : Contents)
+        → Follows next contents.now left → (state : State)
         → IsState state → HoldsContents (stand pages.old work.old) contents.now state
-        → HoldsContents (stand pages.new work.new) next (upgraded_state state)) }
-    ensures rows { IfOk result (λ next. AreRows Two next.rows.items) }
+        → HoldsContents (stand pages.new work.new) left (upgraded_state state)) }
+    ensures rows { IfOk result (λ next.
+        AreRows Two (rows_after next.rows contents.now.rows.items)) }
     ensures layout { IfOk result (λ next. next.layout ≡ Two) }
+    ensures room { IfOk result (λ next. FitsRows next.rows contents.now.rows) }
     ensures fits { OnOk result (Fits pages.new work.new) }
     ensures looks { LooksAt D.honest D.failures D.state result pages.old pages.new }
     ensures answer { AnswersLay result pages.new.closed }
@@ -157,7 +165,6 @@ pub fn upgrade<D: Disk>(
         → TakesAtMost (most_part_pages One) result (stand pages.old work.old)
         (stand pages.new work.new) }
 {
-    let rows = room.copy_rows(&contents.rows)?;
     let numbers = room.copy_numbers(&contents.numbers)?;
     let mut searches = room.copy_searches(&contents.searches)?;
     let Ok(sets) = contents.sets.copy() else {
@@ -176,9 +183,9 @@ pub fn upgrade<D: Disk>(
         sets: was.sets,
     };
     lay_root(pages, work, Layout::Two, was, firsts)?;
-    Ok(Contents {
+    Ok(Next {
         layout: Layout::Two,
-        rows,
+        rows: RowChange::Stay,
         numbers,
         searches,
         sets,

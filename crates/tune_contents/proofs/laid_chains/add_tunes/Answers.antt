@@ -26,13 +26,13 @@ loop-text-preserved g c =
     record {
       fits = call.fits;
       number = omega (arith, kept.number);
-      lays = subst (λ (l : List (List ℕ)). LaysTunes old new c.args.rows.now.items c.add_tune.new.rows.items (λ tunes. tunes ++ numbered c.args.first l))
+      lays = λ rows. subst (λ (l : List (List ℕ)). LaysTunes old new rows (rows ++ c.add_tune.new.more.items) (λ tunes. tunes ++ numbered c.args.first l))
           (sym more)
-          (lays_more old (stand c.args.pages.now c.loop-text.work) new c.args.rows.now.items c.loop-text.rows.items c.add_tune.new.rows.items c.args.first
-          c.loop-text.number (take at texts) text (omega (arith, kept.number, count)) kept.lays call.lays);
+          (lays_more old (stand c.args.pages.now c.loop-text.work) new rows (rows ++ c.loop-text.more.items) (rows ++ c.add_tune.new.more.items)
+          c.args.first c.loop-text.number (take at texts) text (omega (arith, kept.number, count)) (kept.lays rows) (call.lays rows));
       takes = (let all = ap text_pages more in let sum = text_pages_more (take at texts) (text ∷ []) in omega (arith, kept.takes, call.takes, all, sum));
-      rows = adds_next c.args.rows.now.items c.loop-text.rows.items c.add_tune.new.rows.items c.args.first c.loop-text.number at (at + 1) kept.number
-          (omega arith) kept.rows call.row;
+      rows = adds_next c.loop-text.more.items c.add_tune.new.more.items c.args.first c.loop-text.number at (at + 1) kept.number (omega arith) kept.rows
+          call.row;
     }
 
 pub returns-in_err-add_tune-clause-takes : goal.returns-in_err-add_tune-clause-takes

@@ -3,13 +3,10 @@ use Rattle.std.proofs.lemmas.Result.{err_from_is_err_and}
 use Rattle.tune_pages.specs.Work.{stand}
 use Rattle.tune_search.specs.Searches.{SearchShape}
 use Rattle.tune_sets.specs.declared.set_lists.TuneSet.{TuneSet}
-use Rattle.tune_store.specs.Plans.{CanChange}
-use Rattle.tune_format.specs.declared.rows.Row.{Row}
-use Rattle.tune_contents.specs.Holds.{labels_in}
-use Rattle.tune_contents.specs.Inside.Changes.{KeepsRows}
 use Rattle.tune_contents.specs.Inside.Indexed.{HoldsIndexed, HoldsSomeIndexed, Keeps, LaysIndexed, keeps_of}
 use Rattle.tune_contents.specs.Inside.Takes.{sets_pages}
-use Rattle.tune_contents.specs.declared.contents.Contents.{Contents}
+use Rattle.tune_contents.specs.Next.{rows_after}
+use Rattle.tune_contents.specs.declared.next.Next.{Next}
 use Rattle.tune_contents.proofs.ChangePages.{change_count}
 use Rattle.tune_contents.proofs.ContentsLemmas.{SaysWhere, indexed_of, keeps_in, sets_there, some_indexed, state_laid}
 use Rattle.tune_contents.proofs.LookLemmas.{look_fails}
@@ -20,8 +17,8 @@ pub lay_indexed-requires-clause-holds : goal.lay_indexed-requires-clause-holds
 lay_indexed-requires-clause-holds g c = λ h.
     (let s = stand c.args.pages.now c.args.work.now in
     let old = c.args.contents.now in
-    let same : keeps_of c.in_ok-copy_numbers.field-0 c.in_ok-copy_searches.field-0 c.deref-2.result.now ≡ keeps_in old =
-    λ i. keeps_of (c.in_ok-copy_numbers.ensures.numbers i) (c.in_ok-copy_searches.ensures.searches i) (c.deref-2.ensures.value i) in
+    let same : keeps_of c.in_ok-copy_numbers.field-0 c.in_ok-copy_searches.field-0 old.rows.items ≡ keeps_in old =
+    λ i. keeps_of (c.in_ok-copy_numbers.ensures.numbers i) (c.in_ok-copy_searches.ensures.searches i) old.rows.items in
     subst (λ (k : Keeps). HoldsSomeIndexed old.layout s k) (sym same) (some_indexed s old (c.requires.holds h)))
 
 pub lay_sets_where-requires-clause-chain : goal.lay_sets_where-requires-clause-chain
@@ -29,11 +26,11 @@ lay_sets_where-requires-clause-chain g c = λ h.
     (let s = stand c.args.pages.now c.args.work.now in
     let mid = stand c.lay_indexed.new.pages c.lay_indexed.new.work in
     let old = c.args.contents.now in
-    let is = keeps_of c.lay_indexed.new.indexes.numbers c.lay_indexed.new.indexes.searches c.lay_indexed.new.rows.items in
-    let same : keeps_of c.in_ok-copy_numbers.field-0 c.in_ok-copy_searches.field-0 c.deref-2.result.now ≡ keeps_in old =
-    λ i. keeps_of (c.in_ok-copy_numbers.ensures.numbers i) (c.in_ok-copy_searches.ensures.searches i) (c.deref-2.ensures.value i) in
-    let lays = subst (λ (k : Keeps). LaysIndexed old.layout s mid k is c.args.change.now) same (c.in_ok-numbers.ensures.lays h) in
-    sets_there s mid old is c.args.change.now c.requires.possible lays (c.requires.holds (c.in_ok-numbers.ensures.looks.was_honest h)))
+    let is = keeps_of c.lay_indexed.new.indexes.numbers c.lay_indexed.new.indexes.searches (rows_after c.in_ok-rows.rows old.rows.items) in
+    let same : keeps_of c.in_ok-copy_numbers.field-0 c.in_ok-copy_searches.field-0 old.rows.items ≡ keeps_in old =
+    λ i. keeps_of (c.in_ok-copy_numbers.ensures.numbers i) (c.in_ok-copy_searches.ensures.searches i) old.rows.items in
+    let lays = subst (λ (k : Keeps). LaysIndexed old.layout s mid k is c.args.change.now) same (c.in_ok-rows.ensures.lays h) in
+    sets_there s mid old is c.args.change.now c.requires.possible lays (c.requires.holds (c.in_ok-rows.ensures.looks.was_honest h)))
 
 pub returns-clause-lays : goal.returns-clause-lays
 returns-clause-lays g c = λ h.
@@ -42,42 +39,43 @@ returns-clause-lays g c = λ h.
     let late = stand c.lay_sets_where.new.pages c.lay_sets_where.new.work in
     let new = stand c.lay_root.new.pages c.lay_root.new.work in
     let old = c.args.contents.now in
-    let left : Contents = record {
+    let next : Next = record {
       layout = old.layout;
-      rows = c.lay_indexed.new.rows;
+      rows = c.in_ok-rows.rows;
       numbers = c.lay_indexed.new.indexes.numbers;
       searches = c.lay_indexed.new.indexes.searches;
       sets = c.in_ok-sets.sets;
-      firsts = record { numbers = c.in_ok-numbers.numbers; searches = c.in_ok-numbers.searches; sets = c.in_ok-sets_first.sets_first };
+      firsts = record { numbers = c.in_ok-rows.numbers; searches = c.in_ok-rows.searches; sets = c.in_ok-sets_first.sets_first };
     } in
     let h2 = c.in_ok-lay_root.ensures.looks.was_honest h in
     let h1 = c.in_ok-sets_first.ensures.looks.was_honest h2 in
-    let same : keeps_of c.in_ok-copy_numbers.field-0 c.in_ok-copy_searches.field-0 c.deref-2.result.now ≡ keeps_in old =
-    λ i. keeps_of (c.in_ok-copy_numbers.ensures.numbers i) (c.in_ok-copy_searches.ensures.searches i) (c.deref-2.ensures.value i) in
-    let lays = subst (λ (k : Keeps). LaysIndexed old.layout s mid k (keeps_in left) c.args.change.now) same (c.in_ok-numbers.ensures.lays h1) in
+    let same : keeps_of c.in_ok-copy_numbers.field-0 c.in_ok-copy_searches.field-0 old.rows.items ≡ keeps_in old =
+    λ i. keeps_of (c.in_ok-copy_numbers.ensures.numbers i) (c.in_ok-copy_searches.ensures.searches i) old.rows.items in
+    let is = keeps_of next.numbers next.searches (rows_after next.rows old.rows.items) in
+    let lays = subst (λ (k : Keeps). LaysIndexed old.layout s mid k is c.args.change.now) same (c.in_ok-rows.ensures.lays h1) in
     let named = rw c.changes_sets-names.ensures at c.in_ok-sets_first.ensures.lays h2 in
-    let lists = c.in_ok-numbers.ensures.lists in
-    let says : SaysWhere left = record { numbers = lists.0; numbers_listed = lists.1; searches = lists.2; searches_listed = lists.3 } in
-    state_laid s mid late new old left c.args.change.now c.requires.possible lays named (c.in_ok-lay_root.ensures.root h) refl
-    (c.in_ok-numbers.ensures.notes ∙ ap (λ (s : SearchShape). s.notes) c.in_ok-copy_searches.ensures.searches) c.in_ok-sets.ensures.sets says c.requires.stays)
+    let lists = c.in_ok-rows.ensures.lists in
+    let says : SaysWhere next.numbers next.searches next.firsts = record {
+      first = lists.0;
+      numbers_listed = lists.1;
+      others = lists.2;
+      searches_listed = lists.3;
+    } in
+    state_laid s mid late new old next c.args.change.now c.requires.possible lays named (c.in_ok-lay_root.ensures.root h) refl
+    (c.in_ok-rows.ensures.notes ∙ ap (λ (s : SearchShape). s.notes) c.in_ok-copy_searches.ensures.searches) c.in_ok-sets.ensures.sets says c.requires.stays)
 
 pub returns-clause-rows : goal.returns-clause-rows
-returns-clause-rows g c =
-    let old = c.args.contents.now in
-    let left = c.lay_indexed.new.rows.items in
-    (subst (λ (rows : List Row). KeepsRows c.args.change.now rows left) c.deref-2.ensures.value c.in_ok-numbers.ensures.rows) old.layout old.sets
-    c.requires.possible
+returns-clause-rows g c = c.in_ok-rows.ensures.rows c.args.contents.now.layout c.args.contents.now.sets c.requires.possible
 
-pub returns-in_err-numbers-clause-takes : goal.returns-in_err-numbers-clause-takes
-returns-in_err-numbers-clause-takes g c = λ h state holds within is.
-    (let p = err_from_is_err_and c.from_residual-in_err-numbers.result c.from_residual-in_err-numbers.ensures.1 in
+pub returns-in_err-rows-clause-takes : goal.returns-in_err-rows-clause-takes
+returns-in_err-rows-clause-takes g c = λ h state holds within is.
+    (let p = err_from_is_err_and c.from_residual-in_err-rows.result c.from_residual-in_err-rows.ensures.1 in
     let s = stand c.args.pages.now c.args.work.now in
     let old = c.args.contents.now in
-    let same : keeps_of c.in_ok-copy_numbers.field-0 c.in_ok-copy_searches.field-0 c.deref-2.result.now ≡ keeps_in old =
-    λ i. keeps_of (c.in_ok-copy_numbers.ensures.numbers i) (c.in_ok-copy_searches.ensures.searches i) (c.deref-2.ensures.value i) in
-    let can = subst (λ (r : List Row). CanChange c.args.change.now old.layout (labels_in r) old.sets) (sym c.deref-2.ensures.value) c.requires.possible in
-    let first = c.in_err-numbers.ensures.takes h state.tunes old.sets
-    (subst (λ (k : Keeps). HoldsIndexed old.layout s k state.tunes) (sym same) (indexed_of s old state within holds)) can in
+    let same : keeps_of c.in_ok-copy_numbers.field-0 c.in_ok-copy_searches.field-0 old.rows.items ≡ keeps_in old =
+    λ i. keeps_of (c.in_ok-copy_numbers.ensures.numbers i) (c.in_ok-copy_searches.ensures.searches i) old.rows.items in
+    let first = c.in_err-rows.ensures.takes h state.tunes old.sets
+    (subst (λ (k : Keeps). HoldsIndexed old.layout s k state.tunes) (sym same) (indexed_of s old state within holds)) c.requires.possible in
     let most = change_count s old c.args.change.now state holds c.requires.possible is c.requires.stays in
     rw (p.1, p.2) (λ e. (let lt = first e in omega (arith, lt, most))))
 
@@ -87,11 +85,10 @@ returns-in_err-sets_first-clause-takes g c = λ h state holds within is.
     let s = stand c.args.pages.now c.args.work.now in
     let old = c.args.contents.now in
     let h1 = c.in_err-sets_first.ensures.looks.was_honest h in
-    let same : keeps_of c.in_ok-copy_numbers.field-0 c.in_ok-copy_searches.field-0 c.deref-2.result.now ≡ keeps_in old =
-    λ i. keeps_of (c.in_ok-copy_numbers.ensures.numbers i) (c.in_ok-copy_searches.ensures.searches i) (c.deref-2.ensures.value i) in
-    let can = subst (λ (r : List Row). CanChange c.args.change.now old.layout (labels_in r) old.sets) (sym c.deref-2.ensures.value) c.requires.possible in
-    let first = c.in_ok-numbers.ensures.takes h1 state.tunes old.sets
-    (subst (λ (k : Keeps). HoldsIndexed old.layout s k state.tunes) (sym same) (indexed_of s old state within holds)) can in
+    let same : keeps_of c.in_ok-copy_numbers.field-0 c.in_ok-copy_searches.field-0 old.rows.items ≡ keeps_in old =
+    λ i. keeps_of (c.in_ok-copy_numbers.ensures.numbers i) (c.in_ok-copy_searches.ensures.searches i) old.rows.items in
+    let first = c.in_ok-rows.ensures.takes h1 state.tunes old.sets
+    (subst (λ (k : Keeps). HoldsIndexed old.layout s k state.tunes) (sym same) (indexed_of s old state within holds)) c.requires.possible in
     let sets = ap (λ (l : List TuneSet). sets_pages l) c.in_ok-sets.ensures.sets in
     let second = c.in_err-sets_first.ensures.takes h in
     let most = change_count s old c.args.change.now state holds c.requires.possible is c.requires.stays in
@@ -109,11 +106,10 @@ returns-clause-takes g c = λ h state holds within is.
     let old = c.args.contents.now in
     let h2 = c.in_ok-lay_root.ensures.looks.was_honest h in
     let h1 = c.in_ok-sets_first.ensures.looks.was_honest h2 in
-    let same : keeps_of c.in_ok-copy_numbers.field-0 c.in_ok-copy_searches.field-0 c.deref-2.result.now ≡ keeps_in old =
-    λ i. keeps_of (c.in_ok-copy_numbers.ensures.numbers i) (c.in_ok-copy_searches.ensures.searches i) (c.deref-2.ensures.value i) in
-    let can = subst (λ (r : List Row). CanChange c.args.change.now old.layout (labels_in r) old.sets) (sym c.deref-2.ensures.value) c.requires.possible in
-    let first = c.in_ok-numbers.ensures.takes h1 state.tunes old.sets
-    (subst (λ (k : Keeps). HoldsIndexed old.layout s k state.tunes) (sym same) (indexed_of s old state within holds)) can in
+    let same : keeps_of c.in_ok-copy_numbers.field-0 c.in_ok-copy_searches.field-0 old.rows.items ≡ keeps_in old =
+    λ i. keeps_of (c.in_ok-copy_numbers.ensures.numbers i) (c.in_ok-copy_searches.ensures.searches i) old.rows.items in
+    let first = c.in_ok-rows.ensures.takes h1 state.tunes old.sets
+    (subst (λ (k : Keeps). HoldsIndexed old.layout s k state.tunes) (sym same) (indexed_of s old state within holds)) c.requires.possible in
     let sets = ap (λ (l : List TuneSet). sets_pages l) c.in_ok-sets.ensures.sets in
     let second = c.in_ok-sets_first.ensures.takes h2 in
     let third = c.in_ok-lay_root.ensures.takes h in
@@ -124,12 +120,12 @@ pub returns-in_err-sets_first-clause-looks : goal.returns-in_err-sets_first-clau
 returns-in_err-sets_first-clause-looks g c =
     let p = err_from_is_err_and c.from_residual-in_err-sets_first.result c.from_residual-in_err-sets_first.ensures.1 in
     rw (p.1, p.2) (look_fails g.D.Disk.honest g.D.Disk.failures g.D.Disk.state _ _ c.args.pages.now c.lay_indexed.new.pages c.lay_sets_where.new.pages
-    c.in_ok-numbers.ensures.looks c.in_err-sets_first.ensures.looks)
+    c.in_ok-rows.ensures.looks c.in_err-sets_first.ensures.looks)
 
 pub returns-in_err-lay_root-clause-looks : goal.returns-in_err-lay_root-clause-looks
 returns-in_err-lay_root-clause-looks g c =
     let p = err_from_is_err_and c.from_residual-in_err-lay_root.result c.from_residual-in_err-lay_root.ensures.1 in
     let two = look_next g.D.Disk.honest g.D.Disk.failures g.D.Disk.state _ _ c.args.pages.now c.lay_indexed.new.pages c.lay_sets_where.new.pages
-    c.in_ok-numbers.ensures.looks c.in_ok-sets_first.ensures.looks in
+    c.in_ok-rows.ensures.looks c.in_ok-sets_first.ensures.looks in
     rw (p.1, p.2) (look_fails g.D.Disk.honest g.D.Disk.failures g.D.Disk.state _ _ c.args.pages.now c.lay_sets_where.new.pages c.lay_root.new.pages two
     c.in_err-lay_root.ensures.looks)

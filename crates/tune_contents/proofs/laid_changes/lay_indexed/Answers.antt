@@ -1,4 +1,4 @@
-use Rattle.std.proofs.Common.{◌≡◌, ◌∙◌, ℕ, List, Err, Ok, ap, arith, subst, sym}
+use Rattle.std.proofs.Common.{◌≡◌, ℕ, List, Err, Ok, ap, arith, subst, sym}
 use Rattle.std.proofs.lemmas.Result.{err_from_is_err_and}
 use Rattle.tune_pages.specs.Faults.{free_pages}
 use Rattle.tune_pages.specs.Stand.{Stand}
@@ -7,6 +7,7 @@ use Rattle.tune_format.specs.declared.rows.Row.{Row}
 use Rattle.tune_contents.specs.Inside.Changes.{HoldsTunesWithin}
 use Rattle.tune_contents.specs.Inside.Laying.{HoldsSomeTunes}
 use Rattle.tune_contents.specs.Inside.Searching.{IsByNotes}
+use Rattle.tune_contents.specs.Next.{rows_after}
 use Rattle.tune_contents.proofs.IndexedLemmas.{LaidTunes, TextsChange, indexed_laid, laid_tunes, lays_from, numbers_take, searches_take}
 use Rattle.tune_contents.proofs.IndexedLemmas.{TakesFrom, some_numbers, some_searches, some_tunes, some_within}
 use Rattle.tune_contents.proofs.laid_changes.lay_indexed.Goals as goal
@@ -15,18 +16,16 @@ pub text_runs-requires-clause-holds : goal.text_runs-requires-clause-holds
 text_runs-requires-clause-holds g c = λ h.
     (let s = stand c.args.pages.now c.args.work.now in
     let was = c.args.indexes.now in
-    let same = c.deref.ensures.value ∙ c.requires.same in
-    subst (λ (r : List Row). HoldsTunesWithin c.args.layout s r) (sym same)
-    (some_within c.args.layout s was.numbers was.searches c.args.was.now (c.requires.holds h)))
+    subst (λ (r : List Row). HoldsTunesWithin c.args.layout s r) (sym c.deref.ensures.value)
+    (some_within c.args.layout s was.numbers was.searches c.args.rows.now.items (c.requires.holds h)))
 
 pub lay_tunes-requires-clause-holds : goal.lay_tunes-requires-clause-holds
 lay_tunes-requires-clause-holds g c = λ h.
     (let s = stand c.args.pages.now c.args.work.now in
-    let one = stand c.text_runs.new.pages c.args.work.now in
     let was = c.args.indexes.now in
-    let there = some_tunes c.args.layout s was.numbers was.searches c.args.was.now (c.requires.holds (c.in_ok-texts.ensures.looks.was_honest h)) in
-    subst (λ (r : List Row). HoldsSomeTunes one r) (sym c.requires.same)
-    (subst (λ (t : Stand). HoldsSomeTunes t c.args.was.now) (sym (c.in_ok-texts.ensures.stand.same h)) there))
+    let held = c.args.rows.now.items in
+    let there = some_tunes c.args.layout s was.numbers was.searches held (c.requires.holds (c.in_ok-texts.ensures.looks.was_honest h)) in
+    subst (λ (t : Stand). HoldsSomeTunes t held) (sym (c.in_ok-texts.ensures.stand.same h)) there)
 
 pub change_numbers-requires-clause-index : goal.change_numbers-requires-clause-index
 change_numbers-requires-clause-index g c = λ h.
@@ -34,11 +33,12 @@ change_numbers-requires-clause-index g c = λ h.
     let one = stand c.text_runs.new.pages c.args.work.now in
     let mid = stand c.lay_tunes.new.pages c.lay_tunes.new.work in
     let was = c.args.indexes.now in
-    let rows = c.lay_tunes.new.rows.items in
-    let h1 = c.in_ok-lay_tunes.ensures.looks.was_honest h in
-    let lays = lays_from s one mid c.args.was.now c.args.rows.now.items rows c.args.change.now (c.in_ok-texts.ensures.stand.same h1) c.requires.same
-    (c.in_ok-lay_tunes.ensures.lays h) in
-    some_numbers c.args.layout s was.numbers was.searches c.args.was.now (c.requires.holds (c.in_ok-texts.ensures.looks.was_honest h1)) mid rows
+    let held = c.args.rows.now.items in
+    let rows = rows_after c.in_ok-made.made held in
+    let h1 = c.in_ok-made.ensures.looks.was_honest h in
+    let lays = lays_from s one mid held rows c.args.change.now (c.in_ok-texts.ensures.stand.same h1)
+    (c.in_ok-made.ensures.lays h) in
+    some_numbers c.args.layout s was.numbers was.searches held (c.requires.holds (c.in_ok-texts.ensures.looks.was_honest h1)) mid rows
     c.args.change.now lays)
 
 pub change_searches-requires-clause-holds : goal.change_searches-requires-clause-holds
@@ -48,14 +48,15 @@ change_searches-requires-clause-holds g c = λ h.
     let mid = stand c.lay_tunes.new.pages c.lay_tunes.new.work in
     let late = stand c.change_numbers.new.pages c.change_numbers.new.work in
     let was = c.args.indexes.now in
-    let rows = c.lay_tunes.new.rows.items in
+    let held = c.args.rows.now.items in
+    let rows = rows_after c.in_ok-made.made held in
     let h2 = c.in_ok-numbers.ensures.looks.was_honest h in
-    let h1 = c.in_ok-lay_tunes.ensures.looks.was_honest h2 in
-    let lays = lays_from s one mid c.args.was.now c.args.rows.now.items rows c.args.change.now (c.in_ok-texts.ensures.stand.same h1) c.requires.same
-    (c.in_ok-lay_tunes.ensures.lays h2) in
-    let takes = subst (λ (r : List Row). TakesFrom c.args.layout s r c.in_ok-texts.texts.gone) (c.deref.ensures.value ∙ c.requires.same)
+    let h1 = c.in_ok-made.ensures.looks.was_honest h2 in
+    let lays = lays_from s one mid held rows c.args.change.now (c.in_ok-texts.ensures.stand.same h1)
+    (c.in_ok-made.ensures.lays h2) in
+    let takes = subst (λ (r : List Row). TakesFrom c.args.layout s r c.in_ok-texts.texts.gone) c.deref.ensures.value
     (c.in_ok-texts.ensures.gone h1) in
-    some_searches c.args.layout s was.numbers was.searches c.args.was.now (c.requires.holds (c.in_ok-texts.ensures.looks.was_honest h1)) mid late rows
+    some_searches c.args.layout s was.numbers was.searches held (c.requires.holds (c.in_ok-texts.ensures.looks.was_honest h1)) mid late rows
     c.args.change.now c.change_numbers.new.numbers _ c.in_ok-texts.texts.gone lays (c.in_ok-numbers.ensures.lays h) takes)
 
 pub change_searches-requires-clause-gone_notes : goal.change_searches-requires-clause-gone_notes
@@ -74,18 +75,19 @@ returns-clause-lays g c = λ h.
     let late = stand c.change_numbers.new.pages c.change_numbers.new.work in
     let new = stand c.change_searches.new.pages c.change_searches.new.work in
     let was = c.args.indexes.now in
-    let rows = c.lay_tunes.new.rows.items in
+    let held = c.args.rows.now.items in
+    let rows = rows_after c.in_ok-made.made held in
     let gone = c.in-Ok.entries.gone.items in
     let come = c.in-Ok.entries.come.items in
     let h3 = c.in_ok-searches.ensures.looks.was_honest h in
     let h2 = c.in_ok-numbers.ensures.looks.was_honest h3 in
-    let h1 = c.in_ok-lay_tunes.ensures.looks.was_honest h2 in
-    let laid : LaidTunes c.args.layout s mid c.args.was.now rows c.args.change.now gone come = laid_tunes c.args.layout s one mid c.args.was.now
-    c.args.rows.now.items rows c.deref-2.result.now c.args.change.now gone come (c.in_ok-texts.ensures.stand.same h1) c.requires.same
-    c.deref-2.ensures.value (c.in_ok-lay_tunes.ensures.lays h2) c.in_ok-lay_tunes.ensures.rows c.in-Ok.ensures.entries in
+    let h1 = c.in_ok-made.ensures.looks.was_honest h2 in
+    let laid : LaidTunes c.args.layout s mid held rows c.args.change.now gone come = laid_tunes c.args.layout s one mid held c.deref-2.result.now
+    c.in_ok-made.made c.args.change.now gone come (c.in_ok-texts.ensures.stand.same h1) c.deref-2.ensures.value (c.in_ok-made.ensures.lays h2)
+    c.in_ok-made.ensures.rows c.in-Ok.ensures.entries in
     let texts = subst (λ (r : List Row). TextsChange c.args.layout s r c.args.change.now c.in_ok-texts.texts.gone c.in_ok-texts.texts.come)
-    (c.deref.ensures.value ∙ c.requires.same) (c.in_ok-texts.ensures.runs h1) in
-    indexed_laid c.args.layout s mid late new was.numbers c.change_numbers.new.numbers was.searches c.change_searches.new.searches c.args.was.now rows
+    c.deref.ensures.value (c.in_ok-texts.ensures.runs h1) in
+    indexed_laid c.args.layout s mid late new was.numbers c.change_numbers.new.numbers was.searches c.change_searches.new.searches held rows
     c.args.change.now gone come c.in_ok-texts.texts.gone c.in_ok-texts.texts.come laid texts (c.in_ok-numbers.ensures.lays h3)
     (c.in_ok-searches.ensures.lays h))
 
@@ -97,19 +99,20 @@ returns-in_err-numbers-clause-takes g c = λ h tunes sets holds can.
     let mid = stand c.lay_tunes.new.pages c.lay_tunes.new.work in
     let late = stand c.change_numbers.new.pages c.change_numbers.new.work in
     let was = c.args.indexes.now in
-    let rows = c.lay_tunes.new.rows.items in
+    let held = c.args.rows.now.items in
+    let rows = rows_after c.in_ok-made.made held in
     let gone = c.in-Ok.entries.gone.items in
     let come = c.in-Ok.entries.come.items in
     let h2 = c.in_err-numbers.ensures.looks.was_honest h in
-    let h1 = c.in_ok-lay_tunes.ensures.looks.was_honest h2 in
-    let laid : LaidTunes c.args.layout s mid c.args.was.now rows c.args.change.now gone come = laid_tunes c.args.layout s one mid c.args.was.now
-    c.args.rows.now.items rows c.deref-2.result.now c.args.change.now gone come (c.in_ok-texts.ensures.stand.same h1) c.requires.same
-    c.deref-2.ensures.value (c.in_ok-lay_tunes.ensures.lays h2) c.in_ok-lay_tunes.ensures.rows c.in-Ok.ensures.entries in
-    let full = numbers_take c.args.layout s mid late late was.numbers was.numbers was.searches was.searches c.args.was.now rows c.args.change.now gone come
+    let h1 = c.in_ok-made.ensures.looks.was_honest h2 in
+    let laid : LaidTunes c.args.layout s mid held rows c.args.change.now gone come = laid_tunes c.args.layout s one mid held c.deref-2.result.now
+    c.in_ok-made.made c.args.change.now gone come (c.in_ok-texts.ensures.stand.same h1) c.deref-2.ensures.value (c.in_ok-made.ensures.lays h2)
+    c.in_ok-made.ensures.rows c.in-Ok.ensures.entries in
+    let full = numbers_take c.args.layout s mid late late was.numbers was.numbers was.searches was.searches held rows c.args.change.now gone come
     c.in_ok-texts.texts.gone c.in_ok-texts.texts.come laid tunes holds.set_lists sets holds.within can holds.around {T = ℕ} (Err c.in_err-numbers.field-0.0)
     (c.in_err-numbers.ensures.takes h) in
     let used : free_pages one.used ≡ free_pages s.used = ap free_pages c.in_ok-texts.ensures.stand.used in
-    let first = c.in_ok-lay_tunes.ensures.takes h2 in
+    let first = c.in_ok-made.ensures.takes h2 in
     rw (p.1, p.2) (λ e. (let lt = full e in omega (arith, lt, used, first))))
 
 pub returns-in_err-searches-clause-takes : goal.returns-in_err-searches-clause-takes
@@ -121,25 +124,26 @@ returns-in_err-searches-clause-takes g c = λ h tunes sets holds can.
     let late = stand c.change_numbers.new.pages c.change_numbers.new.work in
     let new = stand c.change_searches.new.pages c.change_searches.new.work in
     let was = c.args.indexes.now in
-    let rows = c.lay_tunes.new.rows.items in
+    let held = c.args.rows.now.items in
+    let rows = rows_after c.in_ok-made.made held in
     let gone = c.in-Ok.entries.gone.items in
     let come = c.in-Ok.entries.come.items in
     let h3 = c.in_err-searches.ensures.looks.was_honest h in
     let h2 = c.in_ok-numbers.ensures.looks.was_honest h3 in
-    let h1 = c.in_ok-lay_tunes.ensures.looks.was_honest h2 in
-    let laid : LaidTunes c.args.layout s mid c.args.was.now rows c.args.change.now gone come = laid_tunes c.args.layout s one mid c.args.was.now
-    c.args.rows.now.items rows c.deref-2.result.now c.args.change.now gone come (c.in_ok-texts.ensures.stand.same h1) c.requires.same
-    c.deref-2.ensures.value (c.in_ok-lay_tunes.ensures.lays h2) c.in_ok-lay_tunes.ensures.rows c.in-Ok.ensures.entries in
+    let h1 = c.in_ok-made.ensures.looks.was_honest h2 in
+    let laid : LaidTunes c.args.layout s mid held rows c.args.change.now gone come = laid_tunes c.args.layout s one mid held c.deref-2.result.now
+    c.in_ok-made.made c.args.change.now gone come (c.in_ok-texts.ensures.stand.same h1) c.deref-2.ensures.value (c.in_ok-made.ensures.lays h2)
+    c.in_ok-made.ensures.rows c.in-Ok.ensures.entries in
     let texts = subst (λ (r : List Row). TextsChange c.args.layout s r c.args.change.now c.in_ok-texts.texts.gone c.in_ok-texts.texts.come)
-    (c.deref.ensures.value ∙ c.requires.same) (c.in_ok-texts.ensures.runs h1) in
-    let second = numbers_take c.args.layout s mid late new was.numbers c.change_numbers.new.numbers was.searches was.searches c.args.was.now rows
+    c.deref.ensures.value (c.in_ok-texts.ensures.runs h1) in
+    let second = numbers_take c.args.layout s mid late new was.numbers c.change_numbers.new.numbers was.searches was.searches held rows
     c.args.change.now gone come c.in_ok-texts.texts.gone c.in_ok-texts.texts.come laid tunes holds.set_lists sets holds.within can holds.around {T = ℕ}
     (Ok c.in_ok-numbers.numbers) (c.in_ok-numbers.ensures.takes h3) in
-    let full = searches_take c.args.layout s mid late new was.numbers c.change_numbers.new.numbers was.searches was.searches c.args.was.now rows
+    let full = searches_take c.args.layout s mid late new was.numbers c.change_numbers.new.numbers was.searches was.searches held rows
     c.args.change.now gone come c.in_ok-texts.texts.gone c.in_ok-texts.texts.come laid tunes holds.set_lists sets holds.within can holds.around
     (c.in_ok-numbers.ensures.lays h3) texts {T = ℕ} (Err c.in_err-searches.field-0.0) (c.in_err-searches.ensures.takes h) in
     let used : free_pages one.used ≡ free_pages s.used = ap free_pages c.in_ok-texts.ensures.stand.used in
-    let first = c.in_ok-lay_tunes.ensures.takes h2 in
+    let first = c.in_ok-made.ensures.takes h2 in
     rw (p.1, p.2) (λ e. (let lt = full e in omega (arith, lt, used, first, second))))
 
 pub returns-clause-takes : goal.returns-clause-takes
@@ -150,23 +154,24 @@ returns-clause-takes g c = λ h tunes sets holds can.
     let late = stand c.change_numbers.new.pages c.change_numbers.new.work in
     let new = stand c.change_searches.new.pages c.change_searches.new.work in
     let was = c.args.indexes.now in
-    let rows = c.lay_tunes.new.rows.items in
+    let held = c.args.rows.now.items in
+    let rows = rows_after c.in_ok-made.made held in
     let gone = c.in-Ok.entries.gone.items in
     let come = c.in-Ok.entries.come.items in
     let h3 = c.in_ok-searches.ensures.looks.was_honest h in
     let h2 = c.in_ok-numbers.ensures.looks.was_honest h3 in
-    let h1 = c.in_ok-lay_tunes.ensures.looks.was_honest h2 in
-    let laid : LaidTunes c.args.layout s mid c.args.was.now rows c.args.change.now gone come = laid_tunes c.args.layout s one mid c.args.was.now
-    c.args.rows.now.items rows c.deref-2.result.now c.args.change.now gone come (c.in_ok-texts.ensures.stand.same h1) c.requires.same
-    c.deref-2.ensures.value (c.in_ok-lay_tunes.ensures.lays h2) c.in_ok-lay_tunes.ensures.rows c.in-Ok.ensures.entries in
+    let h1 = c.in_ok-made.ensures.looks.was_honest h2 in
+    let laid : LaidTunes c.args.layout s mid held rows c.args.change.now gone come = laid_tunes c.args.layout s one mid held c.deref-2.result.now
+    c.in_ok-made.made c.args.change.now gone come (c.in_ok-texts.ensures.stand.same h1) c.deref-2.ensures.value (c.in_ok-made.ensures.lays h2)
+    c.in_ok-made.ensures.rows c.in-Ok.ensures.entries in
     let texts = subst (λ (r : List Row). TextsChange c.args.layout s r c.args.change.now c.in_ok-texts.texts.gone c.in_ok-texts.texts.come)
-    (c.deref.ensures.value ∙ c.requires.same) (c.in_ok-texts.ensures.runs h1) in
-    let second = numbers_take c.args.layout s mid late new was.numbers c.change_numbers.new.numbers was.searches was.searches c.args.was.now rows
+    c.deref.ensures.value (c.in_ok-texts.ensures.runs h1) in
+    let second = numbers_take c.args.layout s mid late new was.numbers c.change_numbers.new.numbers was.searches was.searches held rows
     c.args.change.now gone come c.in_ok-texts.texts.gone c.in_ok-texts.texts.come laid tunes holds.set_lists sets holds.within can holds.around {T = ℕ}
     (Ok c.in_ok-numbers.numbers) (c.in_ok-numbers.ensures.takes h3) in
-    let third = searches_take c.args.layout s mid late new was.numbers c.change_numbers.new.numbers was.searches was.searches c.args.was.now rows
+    let third = searches_take c.args.layout s mid late new was.numbers c.change_numbers.new.numbers was.searches was.searches held rows
     c.args.change.now gone come c.in_ok-texts.texts.gone c.in_ok-texts.texts.come laid tunes holds.set_lists sets holds.within can holds.around
     (c.in_ok-numbers.ensures.lays h3) texts {T = ℕ} (Ok 0) (c.in_ok-searches.ensures.takes h) in
     let used : free_pages one.used ≡ free_pages s.used = ap free_pages c.in_ok-texts.ensures.stand.used in
-    let first = c.in_ok-lay_tunes.ensures.takes h2 in
+    let first = c.in_ok-made.ensures.takes h2 in
     omega (arith, third, used, first, second))
