@@ -281,10 +281,23 @@ impl Changes {
         ensures found { IfOk result (λ at. FoundAt page at self.now) }
         ensures missing { IfErr result (λ at. MissingAt page at self.now) }
     {
+        if self.is_past(page) {
+            return Err(self.len());
+        }
         let at = self.changed.partition_point(|changed| changed.page < page);
         match self.changed.get(at) {
             Some(changed) if changed.page == page => Ok(at),
             _ => Err(at),
+        }
+    }
+
+    // Whether all changes are of pages below this one.
+    fn is_past(&self, page: u32) -> bool
+        ensures { IsTrue result → MissingAt page (length self.now) self.now }
+    {
+        match self.changed.back() {
+            Some(last) => last.page < page,
+            None => true,
         }
     }
 }
