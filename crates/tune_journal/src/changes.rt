@@ -1,7 +1,8 @@
 // Pages that change.
 ghost use Rattle.std.specs.Prelude.{◌≡◌, ◌≢◌, ◌<◌, ◌==◌, ℕ, [], length, map, replicate, take, drop};
 ghost use Rattle.std.specs.Prelude.{true, false, IsTrue, None, Some, IsSome, IsOk, OnOk, OnErr};
-ghost use Rattle.std.specs.Prelude.{IfOk, IfErr, All, option_map};
+ghost use Rattle.std.specs.Prelude.{IfOk, IfErr, All, option_map, vec_len, vec_capacity};
+ghost use Rattle.std.specs.Prelude.{◌+◌, ◌≤◌};
 ghost use Rattle.std.specs.List.Sorted.{IsStrictlyIncreasing};
 ghost use Rattle.tune_journal.specs.ChangeList.{with_change, image_of, change_at, changed_page};
 ghost use Rattle.tune_journal.specs.ChangeList.{padded};
@@ -145,7 +146,8 @@ impl Changes {
         ensures { self.new ≡ self.old }
     {
         let room = self.changed.len().saturating_add(more);
-        self.whole.reserve(room - self.whole.len())
+        let wanted = room - self.whole.len();
+        reserve_images(self.alloc, &mut self.whole, wanted)
     }
 
     /// The image that the page changes to; `None` exactly where it is not among the changes.
@@ -240,7 +242,8 @@ impl Changes {
         ensures err { OnErr result (self.new ≡ self.old) }
     {
         let count = self.len() + 1;
-        self.whole.reserve(count - self.whole.len())?;
+        let wanted = count - self.whole.len();
+        reserve_images(self.alloc, &mut self.whole, wanted)?;
         let kept = Kept::Start(Box::new(self.alloc, *start)?);
         self.changed.insert(at, ChangedPage { page, kept })?;
         Ok(())
@@ -281,12 +284,41 @@ impl Changes {
         ensures found { IfOk result (λ at. FoundAt page at self.now) }
         ensures missing { IfErr result (λ at. MissingAt page at self.now) }
     {
+        if self.is_past(page) {
+            return Err(self.len());
+        }
         let at = self.changed.partition_point(|changed| changed.page < page);
         match self.changed.get(at) {
             Some(changed) if changed.page == page => Ok(at),
             _ => Err(at),
         }
     }
+
+    // Whether all changes are of pages below this one.
+    fn is_past(&self, page: u32) -> bool
+        ensures { IsTrue result → MissingAt page (length self.now) self.now }
+    {
+        match self.changed.back() {
+            Some(last) => last.page < page,
+            None => true,
+        }
+    }
+}
+
+// Takes memory for so many more images. Where none stands there, it is taken anew: to make room
+// larger may copy it, and so take up memory of the machine for what holds nothing.
+fn reserve_images(alloc: Global, whole: &mut Vec<PageImage>, more: usize) -> Result<(), AllocError>
+    ensures items { whole.new.items ≡ whole.old.items }
+    ensures len { vec_len whole.new ≡ vec_len whole.old }
+    ensures ok { OnOk result (vec_len whole.new + more ≤ vec_capacity whole.new) }
+    ensures capacity { vec_capacity whole.old ≤ vec_capacity whole.new }
+{
+    if !whole.is_empty() || more <= whole.capacity() {
+        return whole.reserve(more);
+    }
+    let room = whole.capacity().saturating_mul(2).max(more);
+    *whole = Vec::with_capacity(alloc, room)?;
+    Ok(())
 }
 
 // Whether all but its first bytes are zeros.
