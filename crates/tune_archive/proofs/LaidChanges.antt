@@ -11,7 +11,7 @@ use Rattle.tune_pages.specs.declared.work.Work.{Work}
 use Rattle.tune_pages.proofs.Looking.{stand_count, stand_marks}
 use Rattle.tune_store.specs.declared.plans.Change.{Change}
 use Rattle.tune_store.specs.Plans.{changed}
-use Rattle.tune_contents.specs.Holds.{HoldsContents, LaysState}
+use Rattle.tune_contents.specs.Holds.{HoldsContents, LaysMemory, Memory, memory_of}
 use Rattle.tune_contents.specs.declared.contents.Contents.{Contents}
 use Rattle.tune_archive.specs.Inside.Changing.{PassesChange, HasLaid}
 use Rattle.tune_archive.specs.Inside.Holding.{stand_of}
@@ -30,18 +30,18 @@ pub same_marks : {D : Type 0} (honest : D → Type 0) (old mid new : Kept D) (wo
 same_marks honest old mid new work fits same is =
     ap (λ (l : List Bool). length l) is ∙ stand_marks mid.pages mid.used work fits ∙ ap (λ (l : List Bool). length l) same.used
 
-module _ {D : Type 0} (honest : D → Type 0) (state : D → DiskState) (old mid : Kept D) (work : Work) (contents left : Contents) (change : Change)
-    (start : Stand) (begun : start ≡ stand_of old) (lays : LaysState start (stand mid work) contents left change) (fits : Fits mid work)
+module _ {D : Type 0} (honest : D → Type 0) (state : D → DiskState) (old mid : Kept D) (work : Work) (contents : Contents) (memory : Memory) (change : Change)
+    (start : Stand) (begun : start ≡ stand_of old) (lays : LaysMemory start (stand mid work) contents memory change) (fits : Fits mid work)
     (same : SameKept honest old mid) (few : length old.pages ≤ length old.used) where
-  laid_before : LaysState (stand_of old) (stand mid work) contents left change
-  laid_before = subst (λ (s : Stand). LaysState s (stand mid work) contents left change) begun lays
+  laid_before : LaysMemory (stand_of old) (stand mid work) contents memory change
+  laid_before = subst (λ (s : Stand). LaysMemory s (stand mid work) contents memory change) begun lays
 
   pub passes_laid : (new : Kept D) → HonestAt honest mid.disk → state_at state mid.disk ≡ state_at state old.disk
       → SinceThen (state_at state mid.disk) (state_at state new.disk) (StandsForEither mid.pages (stand mid work).pages)
       → PassesChange (state_at state old.disk) (state_at state new.disk) (stand_of old) contents change
   passes_laid new h disk moments = inr (record {
     next = stand mid work;
-    left = left;
+    memory = memory;
     lays = laid_before;
     few = few_pages honest old mid work fits same few;
     moments = subst (λ (d : DiskState). SinceThen d (state_at state new.disk) (StandsForEither old.pages (stand mid work).pages)) disk
@@ -49,10 +49,11 @@ module _ {D : Type 0} (honest : D → Type 0) (state : D → DiskState) (old mid
         moments);
   })
 
-  pub has_laid : (new : Kept D) → new.pages ≡ (stand mid work).pages → new.used ≡ (stand mid work).used
+  pub has_laid : (left : Contents) → memory_of left ≡ memory → (new : Kept D) → new.pages ≡ (stand mid work).pages → new.used ≡ (stand mid work).used
       → LeavesOnly (state_at state new.disk).now (StandsFor (stand mid work).pages) → HasLaid state old new contents left change
-  has_laid new pages used rest = record {
-    lays = subst (λ (s : Stand). LaysState (stand_of old) s contents left change) (λ i. record { pages = sym pages i; used = sym used i }) laid_before;
+  has_laid left is new pages used rest = record {
+    lays = subst (λ (m : Memory). LaysMemory (stand_of old) (stand_of new) contents m change) (sym is)
+        (subst (λ (s : Stand). LaysMemory (stand_of old) s contents memory change) (λ i. record { pages = sym pages i; used = sym used i }) laid_before);
     few = omega (arith, few_pages honest old mid work fits same few, ap (λ (l : List (List ℕ)). length l) pages);
     rest = subst (λ pages. LeavesOnly (state_at state new.disk).now (StandsFor pages)) (sym pages) rest;
   }

@@ -19,7 +19,7 @@ use Rattle.tune_format.specs.States.{IsStateOf, StandsForState, state_in}
 use Rattle.tune_format.proofs.StateLemmas.{file_read, either_state}
 use Rattle.tune_contents.specs.LayAnswers.{IsLayFault}
 use Rattle.tune_contents.specs.Claimed.{AreRows}
-use Rattle.tune_contents.specs.Holds.{HoldsContents}
+use Rattle.tune_contents.specs.Holds.{HoldsContents, HoldsMemory, Memory, memory_of}
 use Rattle.tune_contents.specs.declared.contents.Contents.{Contents}
 use Rattle.tune_archive.specs.Shelf.{Shelf, state_on, state_of, StandsForOneOf}
 use Rattle.tune_archive.specs.Inside.Changing.{CallsWhere, PassesChange, PassesLaid, HasLaid, StaysKept, StaysWithin}
@@ -63,9 +63,9 @@ module _ {D : Type 0} (honest : D → Type 0) (state : D → DiskState) (may_sta
 
     module _ (marks : length old.used ≡ most_pages_of contents.layout) where
       module _ (change : Change) (within : IsState (changed change (state_on state old.disk))) where
-        after_is : (next : Stand) (left : Contents) → HoldsContents next left (changed change (state_on state old.disk))
+        after_is : (next : Stand) (memory : Memory) → HoldsMemory next memory (changed change (state_on state old.disk))
             → length next.pages ≤ length old.used → IsStateOf next.pages (changed change (state_on state old.disk))
-        after_is next left held few =
+        after_is next memory held few =
             let allowed = ap most_pages_of holds.holds.layout in
             let more = no_fewer change (state_on state old.disk).layout in
             record { filed = held.filed; within = within; few = omega (arith, few, marks, allowed, more) }
@@ -75,7 +75,7 @@ module _ {D : Type 0} (honest : D → Type 0) (state : D → DiskState) (may_sta
             → SinceThen (state_at state old.disk) new (StandsForOneOf (state_on state old.disk) (changed change (state_on state old.disk)))
         passes_laid_states new laid =
             let before = state_on state old.disk in
-            let after = after_is laid.next laid.left (laid.lays before holds.within holds.holds) laid.few in
+            let after = after_is laid.next laid.memory (laid.lays before holds.within holds.holds) laid.few in
             since_weaker (StandsForEither old.pages laid.next.pages) (StandsForOneOf before (changed change before))
             (λ file. either_state old.pages laid.next.pages before (changed change before) file before_is after) (state_at state old.disk) new laid.moments
 
@@ -102,7 +102,7 @@ module _ {D : Type 0} (honest : D → Type 0) (state : D → DiskState) (may_sta
             → state_on state new.disk ≡ changed change (state_on state old.disk)
         made_state new left h laid =
             let before = state_on state old.disk in
-            let after = after_is (stand_of new) left (laid.lays before holds.within holds.holds) laid.few in
+            let after = after_is (stand_of new) (memory_of left) (laid.lays before holds.within holds.holds) laid.few in
             state_left new.disk (changed change before) h (λ file may. record { pages = new.pages; stands = laid.rest file may; is = after })
 
         pub made_holds : (new : Kept D) (left : Contents) → HonestAt honest new.disk → HasLaid state old new contents left change
@@ -114,7 +114,7 @@ module _ {D : Type 0} (honest : D → Type 0) (state : D → DiskState) (may_sta
               holds = subst (λ (s : State). HoldsContents (stand_of new) left s) is (laid.lays before holds.within holds.holds);
               within = subst (λ (s : State). IsState s) is within;
               few = subst (λ (s : State). length new.pages ≤ most_pages_of s.layout) is
-                  ((after_is (stand_of new) left (laid.lays before holds.within holds.holds) laid.few).few);
+                  ((after_is (stand_of new) (memory_of left) (laid.lays before holds.within holds.holds) laid.few).few);
               rest = laid.rest;
             }
 
@@ -168,7 +168,7 @@ module _ {D : Type 0} (honest : D → Type 0) (failures : D → ℕ) (state : D 
       (state_at state new.pages.disk) (passes h)
 
   -- what was laid
-  module _ (left : Contents) (calls : CallsWhere honest failures (Ok left) old.pages.disk new.pages.disk)
+  module _ (left : Contents) (calls : CallsWhere {T = Unit {0}} honest failures (Ok tt) old.pages.disk new.pages.disk)
       (laid : HonestAt honest new.pages.disk → HasLaid state old.pages new.pages old.contents left change) where
     pub made_shelf : AreRows left.layout left.rows.items → length new.pages.used ≡ most_pages_of left.layout → new.pages.closed ≡ false
         → IsShelf honest state new.pages left old.closed
@@ -197,7 +197,7 @@ module _ {D : Type 0} (honest : D → Type 0) (failures : D → ℕ) (state : D 
     made still = subst (λ (s : Shelf D). MakesChange (disks_of honest failures state) (Ok tt) s new change) same (made_here (still ∙ is_open))
 
   -- what was refused
-  module _ (fault : Fault) (calls : CallsWhere {T = Contents} honest failures (Err fault) old.pages.disk new.pages.disk)
+  module _ (fault : Fault) (calls : CallsWhere {T = Unit {0}} honest failures (Err fault) old.pages.disk new.pages.disk)
       (shuts : new.closed ≡ closes fault) (answer : IsLayFault fault new.pages.closed)
       (stays : fault ≢ Device → StaysKept honest state old.pages new.pages) (never : HonestAt honest new.pages.disk → fault ≢ FileFull) where
     stays_open : (fault : Fault) → new.closed ≡ closes fault → IsLayFault fault new.pages.closed
@@ -208,8 +208,8 @@ module _ {D : Type 0} (honest : D → Type 0) (failures : D → ℕ) (state : D 
     stays_open Device is answer stays e = absurd (let no : true ≡ false = sym is ∙ e in cc)
     stays_open Closed is answer stays e = absurd answer
 
-    pub kept_shelf : IsShelf honest state new.pages old.contents new.closed
-    kept_shelf =
+    kept_here : IsShelf honest state new.pages old.contents new.closed
+    kept_here =
         let kept = stays_open fault shuts answer stays in
         record {
           rows = shelf.rows;
@@ -218,7 +218,10 @@ module _ {D : Type 0} (honest : D → Type 0) (failures : D → ℕ) (state : D 
           holds = λ h e. kept_holds honest state may_stay old.pages old.contents (shelf.holds (calls.was_honest h) is_open) new.pages h (kept e).0;
         }
 
-    why_unmade : (fault : Fault) → CallsWhere {T = Contents} honest failures (Err fault) old.pages.disk new.pages.disk
+    pub kept_shelf : (contents : Contents) → contents ≡ old.contents → IsShelf honest state new.pages contents new.closed
+    kept_shelf contents is = subst (λ (c : Contents). IsShelf honest state new.pages c new.closed) (sym is) kept_here
+
+    why_unmade : (fault : Fault) → CallsWhere {T = Unit {0}} honest failures (Err fault) old.pages.disk new.pages.disk
         → new.closed ≡ closes fault → IsLayFault fault new.pages.closed → (fault ≢ Device → StaysKept honest state old.pages new.pages)
         → (HonestAt honest new.pages.disk → fault ≢ FileFull) → IsUnmadeChange (disks_of honest failures state) (refusal_of fault) old new change
     why_unmade FileFull calls is answer stays never = inr (refl, is, (λ h. absurd (never h refl)), (λ h. absurd (never h refl)))

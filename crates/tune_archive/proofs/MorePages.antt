@@ -29,9 +29,9 @@ no_fewer (CutPlace name place) layout = omega arith
 no_fewer (DropSet name) layout = omega arith
 
 -- marks for as many pages as there might be before a change are no more than there may be after it
-pub marks_within : (change : Change) (contents left : Contents) (used : List Bool) → length used ≡ most_pages_of contents.layout
-    → left.layout ≡ changed_layout change contents.layout → length used ≤ most_pages_of left.layout
-marks_within change contents left used count is =
+pub marks_within : (change : Change) (contents : Contents) (layout : Layout) (used : List Bool) → length used ≡ most_pages_of contents.layout
+    → layout ≡ changed_layout change contents.layout → length used ≤ most_pages_of layout
+marks_within change contents layout used count is =
     let allowed = ap most_pages_of is in
     let more = no_fewer change contents.layout in
     omega (arith, count, allowed, more)

@@ -1,6 +1,6 @@
 // A change of an archive, made on its pages.
-ghost use Rattle.std.specs.Prelude.{◌≡◌, ◌≢◌, ◌≤◌, ◌-◌, ◌++◌, false, length, replicate, IfOk};
-ghost use Rattle.std.specs.Prelude.{IfErr};
+ghost use Rattle.std.specs.Prelude.{◌≡◌, ◌≢◌, ◌≤◌, ◌-◌, ◌++◌, false, length, replicate};
+ghost use Rattle.std.specs.Prelude.{IfErr, OnErr, OnOk};
 ghost use Rattle.tune_contents.specs.LayAnswers.{AnswersLay};
 ghost use Rattle.tune_contents.specs.Claimed.{AreRows};
 ghost use Rattle.tune_contents.specs.Holds.{labels_in, HoldsSomeState};
@@ -15,7 +15,6 @@ ghost use Rattle.tune_archive.specs.Inside.Changing.{StaysWithin, refusal_of, cl
 ghost use Rattle.tune_archive.specs.Inside.Holding.{stand_of};
 
 use crate::archive::Archive;
-use std::mem;
 use tune_contents::{Contents, Room, law_of_state_pages, lay};
 use tune_disk::Disk;
 use tune_format::most_pages;
@@ -56,32 +55,33 @@ fn give_pages<D: Disk>(pages: &mut Pages<D>, layout: Layout)
     pages.set_limit(most_pages(layout));
 }
 
-// Makes a change in one work, whole or not at all, and gives what is to be kept in memory then.
+// Makes a change in one work, whole or not at all. What is kept in memory changes once it is made.
 fn change_pages<D: Disk>(
     room: &mut Room,
     pages: &mut Pages<D>,
-    contents: &Contents,
+    contents: &mut Contents,
     change: Change,
-) -> Result<Contents, Fault>
+) -> Result<(), Fault>
     requires open { pages.old.closed ≡ false }
-    requires possible { CanChange change contents.now.layout
-        (labels_in contents.now.rows.items) contents.now.sets }
+    requires possible { CanChange change contents.old.layout
+        (labels_in contents.old.rows.items) contents.old.sets }
     requires holds { HonestAt D.honest pages.old.disk
-        → HoldsSomeState (stand_of pages.old) contents.now }
-    requires rows { AreRows contents.now.layout contents.now.rows.items }
+        → HoldsSomeState (stand_of pages.old) contents.old }
+    requires rows { AreRows contents.old.layout contents.old.rows.items }
     requires few { HonestAt D.honest pages.old.disk
         → length pages.old.pages ≤ length pages.old.used }
-    requires many { length pages.old.used ≡ most_pages_of contents.now.layout }
+    requires many { length pages.old.used ≡ most_pages_of contents.old.layout }
     requires within { HonestAt D.honest pages.old.disk
-        → StaysWithin (stand_of pages.old) contents.now change }
+        → StaysWithin (stand_of pages.old) contents.old change }
     ensures calls { CallsWhere D.honest D.failures result pages.old.disk pages.new.disk }
     ensures moments { HonestAt D.honest pages.new.disk → PassesChange
         (state_at D.state pages.old.disk) (state_at D.state pages.new.disk) (stand_of pages.old)
-        contents.now change }
-    ensures laid { IfOk result (λ left. HonestAt D.honest pages.new.disk
-        → HasLaid D.state pages.old pages.new contents.now left change) }
-    ensures rows { IfOk result (λ left. AreRows left.layout left.rows.items) }
-    ensures marks { IfOk result (λ left. length pages.new.used ≡ most_pages_of left.layout) }
+        contents.old change }
+    ensures laid { OnOk result (HonestAt D.honest pages.new.disk
+        → HasLaid D.state pages.old pages.new contents.old contents.new change) }
+    ensures rows { OnOk result (AreRows contents.new.layout contents.new.rows.items) }
+    ensures marks { OnOk result (length pages.new.used ≡ most_pages_of contents.new.layout) }
+    ensures same { OnErr result (contents.new ≡ contents.old) }
     ensures stays { IfErr result (λ fault. fault ≢ Device
         → StaysKept D.honest D.state pages.old pages.new) }
     ensures answer { AnswersLay result pages.new.closed }
@@ -93,10 +93,11 @@ fn change_pages<D: Disk>(
     // For the proof: its contract says that each page has the bytes of a block.
     let _limit = pages.limit();
     let mut work = pages.begin()?;
-    let left = lay(room, pages, &mut work, contents, change)?;
+    let next = lay(room, pages, &mut work, contents, change)?;
     pages.finish(work)?;
-    give_pages(pages, left.layout);
-    Ok(left)
+    give_pages(pages, next.layout);
+    contents.accept(room, next);
+    Ok(())
 }
 
 impl<D: Disk> Archive<D> {
@@ -111,11 +112,8 @@ impl<D: Disk> Archive<D> {
         ensures { MakesChange D.Disk result self.old self.new change }
     {
         self.fetched = None;
-        match change_pages(&mut self.room, &mut self.pages, &self.contents, change) {
-            Ok(contents) => {
-                self.room.take(mem::replace(&mut self.contents, contents));
-                Ok(())
-            }
+        match change_pages(&mut self.room, &mut self.pages, &mut self.contents, change) {
+            Ok(()) => Ok(()),
             Err(fault) => {
                 self.closed = closes(fault);
                 Err(refusal_of(fault))

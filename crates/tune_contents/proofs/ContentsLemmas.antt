@@ -30,11 +30,11 @@ use Rattle.tune_format.specs.Searched.{AreSearchIndexes, IsSearchIndex}
 use Rattle.tune_format.specs.Written.{IsRoot, number_entries}
 use Rattle.tune_format.specs.declared.root.Firsts.{Firsts}
 use Rattle.tune_format.specs.declared.rows.Row.{Row}
-use Rattle.tune_contents.specs.Holds.{label_in, labels_in, HoldsContents, HoldsSomeState, KeepsTexts, LaysState}
+use Rattle.tune_contents.specs.Holds.{label_in, labels_in, HoldsContents, HoldsMemory, HoldsSomeState, KeepsTexts, LaysMemory, Memory}
 use Rattle.tune_contents.specs.Inside.Changes.{RowsAccept, SetsAccept, changes_sets}
 use Rattle.tune_contents.specs.Inside.Indexed.{HoldsIndexed, HoldsSomeIndexed, Keeps, LaysIndexed, StandsAround, keeps_of}
 use Rattle.tune_contents.specs.Inside.Laying.{HoldsSets, LaysRoot, LaysSets}
-use Rattle.tune_contents.specs.Next.{Follows, rows_after}
+use Rattle.tune_contents.specs.Next.{memory_after, rows_after}
 use Rattle.tune_contents.specs.declared.contents.Contents.{Contents}
 use Rattle.tune_contents.specs.declared.next.Next.{Next}
 
@@ -171,7 +171,7 @@ pub record SaysWhere (numbers : Shape) (searches : SearchShape) (firsts : Firsts
   pub others : firsts.searches ≡ firsts_in searches
   pub searches_listed : AreListed searches
 
-firsts_are : (c : Contents) (numbers : IndexParts) (searches : SearchParts) (set_lists : Part) (entries : List Entry) (tunes : List (ℕ × List ℕ))
+firsts_are : (c : Memory) (numbers : IndexParts) (searches : SearchParts) (set_lists : Part) (entries : List Entry) (tunes : List (ℕ × List ℕ))
     → SaysWhere c.numbers c.searches c.firsts → KeepsIndex key_bytes c.numbers numbers entries → KeepsTexts c.searches searches tunes
     → set_lists.first ≡ c.firsts.sets → c.firsts ≡ firsts_of numbers searches set_lists
 firsts_are c numbers searches set_lists entries tunes says index texts sets =
@@ -186,12 +186,12 @@ firsts_are c numbers searches set_lists entries tunes says index texts sets =
     let last : c.firsts.sets ≡ set_lists.first = sym sets in
     λ i. record { numbers = one i; searches = four i; sets = last i }
 
-pub contents_of : (s : Stand) (c : Contents) (layout : Layout) (tunes : List Tune) (sets : List TuneSet) (set_lists : Part) → c.layout ≡ layout
-    → c.searches.notes ≡ notes_of layout → c.sets ≡ sets → SaysWhere c.numbers c.searches c.firsts → StandsAround s (keeps_in c) tunes set_lists
+pub memory_held : (s : Stand) (c : Memory) (layout : Layout) (tunes : List Tune) (sets : List TuneSet) (set_lists : Part) → c.layout ≡ layout
+    → c.searches.notes ≡ notes_of layout → c.sets ≡ sets → SaysWhere c.numbers c.searches c.firsts → StandsAround s (keeps_of c.numbers c.searches c.rows) tunes set_lists
     → set_lists.kind ≡ chain → set_lists.first ≡ c.firsts.sets
     → set_lists.bytes ≡ written_sets c.sets → IsRoot c.layout (page_at s.pages 0) c.firsts
-    → HoldsContents s c (record { layout = layout; tunes = tunes; sets = sets })
-contents_of s c layout tunes sets set_lists known notes same says a kind begins bytes root =
+    → HoldsMemory s c (record { layout = layout; tunes = tunes; sets = sets })
+memory_held s c layout tunes sets set_lists known notes same says a kind begins bytes root =
     let firsts = firsts_are c a.numbers a.searches set_lists (number_entries (rows_of tunes a.texts)) (numbered_texts tunes) says a.keeps_numbers
     a.keeps_searches begins in
     record {
@@ -250,11 +250,11 @@ module _ (s mid : Stand) (c : Contents) (is : Keeps) (change : Change) (can : Ca
       )
 
   -- the set lists, and then the root
-  laid_then : (late new : Stand) (left : Contents) → is ≡ keeps_in left
+  laid_then : (late new : Stand) (left : Memory) → is ≡ keeps_of left.numbers left.searches left.rows
       → LaysSets mid late c.firsts.sets left.firsts.sets (changes_sets change c.sets) left.sets
       → LaysRoot c.layout late new left.firsts → left.layout ≡ c.layout → left.searches.notes ≡ c.searches.notes
       → left.sets ≡ changed_sets change c.sets → SaysWhere left.numbers left.searches left.firsts
-      → HoldsContents new left (record { layout = state.layout; tunes = changed_tunes change state.tunes; sets = changed_sets change state.sets })
+      → HoldsMemory new left (record { layout = state.layout; tunes = changed_tunes change state.tunes; sets = changed_sets change state.sets })
   laid_then late new left same named root known notes sets says =
       let before = before_sets indexed_then.numbers indexed_then.searches in
       let now = named before indexed_then.texts c.sets (λ e. sym (sets ∙ sets_stay change c.sets e)) sets_then in
@@ -269,7 +269,7 @@ module _ (s mid : Stand) (c : Contents) (is : Keeps) (change : Change) (can : Ca
         are_tunes = indexed_then.are_tunes;
         listed = indexed_then.listed;
       } in
-      contents_of new left state.layout (changed_tunes change state.tunes) (changed_sets change state.sets) now.part (known ∙ h.layout) (notes ∙ h.notes)
+      memory_held new left state.layout (changed_tunes change state.tunes) (changed_sets change state.sets) now.part (known ∙ h.layout) (notes ∙ h.notes)
       (sets ∙ ap (λ (l : List TuneSet). changed_sets change l) h.sets) says
       (subst (λ (k : Keeps). StandsAround new k (changed_tunes change state.tunes) now.part) same all) now.is_chain now.is_first now.bytes
       (subst (λ (l : Layout). IsRoot l (page_at new.pages 0) left.firsts) (sym known) root.root)
@@ -284,17 +284,8 @@ pub state_laid : (s mid late new : Stand) (c : Contents) (next : Next) (change :
     → LaysIndexed c.layout s mid (keeps_in c) (keeps_of next.numbers next.searches (rows_after next.rows c.rows.items)) change
     → LaysSets mid late c.firsts.sets next.firsts.sets (changes_sets change c.sets) next.sets → LaysRoot c.layout late new next.firsts
     → next.layout ≡ c.layout → next.searches.notes ≡ c.searches.notes → next.sets ≡ changed_sets change c.sets
-    → SaysWhere next.numbers next.searches next.firsts → change ≢ Upgrade → (left : Contents) → Follows next c left → LaysState s new c left change
-state_laid s mid late new c next change can lays named root known notes sets says other left follows =
+    → SaysWhere next.numbers next.searches next.firsts → change ≢ Upgrade → LaysMemory s new c (memory_after next c) change
+state_laid s mid late new c next change can lays named root known notes sets says other =
     let is : Keeps = keeps_of next.numbers next.searches (rows_after next.rows c.rows.items) in
-    let same : is ≡ keeps_in left = λ i. keeps_of (sym follows.numbers i) (sym follows.searches i) (sym follows.rows i) in
-    let named_then = subst (λ (n : ℕ). LaysSets mid late c.firsts.sets n (changes_sets change c.sets) left.sets)
-    (sym (ap (λ (f : Firsts). f.sets) follows.firsts))
-    (subst (λ (l : List TuneSet). LaysSets mid late c.firsts.sets next.firsts.sets (changes_sets change c.sets) l) (sym follows.sets) named) in
-    let root_then = subst (λ (f : Firsts). LaysRoot c.layout late new f) (sym follows.firsts) root in
-    let says_then = subst (λ (n : Shape). SaysWhere n left.searches left.firsts) (sym follows.numbers)
-    (subst (λ (x : SearchShape). SaysWhere next.numbers x left.firsts) (sym follows.searches)
-    (subst (λ (f : Firsts). SaysWhere next.numbers next.searches f) (sym follows.firsts) says)) in
-    λ state within h. subst (λ (after : State). HoldsContents new left after) (sym (changed_is change state other))
-    (laid_then s mid c is change can lays state within.tunes h late new left same named_then root_then (follows.layout ∙ known)
-    (ap (λ (x : SearchShape). x.notes) follows.searches ∙ notes) (follows.sets ∙ sets) says_then)
+    λ state within h. subst (λ (after : State). HoldsMemory new (memory_after next c) after) (sym (changed_is change state other))
+    (laid_then s mid c is change can lays state within.tunes h late new (memory_after next c) refl named root known notes sets says)

@@ -31,9 +31,9 @@ use Rattle.tune_format.specs.Written.{IsRoot, number_entries}
 use Rattle.tune_format.specs.declared.root.Firsts.{Firsts}
 use Rattle.tune_format.specs.declared.rows.Row.{Row}
 use Rattle.tune_contents.specs.Claimed.{AreRows, RowsRise}
-use Rattle.tune_contents.specs.Holds.{HoldsContents, HoldsSomeState}
+use Rattle.tune_contents.specs.Holds.{HoldsContents, HoldsMemory, HoldsSomeState, Memory}
 use Rattle.tune_contents.specs.Inside.Changes.{HoldsTunesWithin}
-use Rattle.tune_contents.specs.Inside.Indexed.{StandsAround}
+use Rattle.tune_contents.specs.Inside.Indexed.{StandsAround, keeps_of}
 use Rattle.tune_contents.specs.Inside.Laying.{HoldsTunes, LaysRoot}
 use Rattle.tune_contents.specs.Inside.TuneRows.{numbers_in}
 use Rattle.tune_contents.specs.Inside.Searching.{IsTuneAt, search_pages}
@@ -42,7 +42,7 @@ use Rattle.tune_contents.specs.Most.{most_part_pages}
 use Rattle.tune_contents.specs.Texts.{HoldsText}
 use Rattle.tune_contents.specs.declared.contents.Contents.{Contents}
 use Rattle.tune_contents.proofs.ClaimedRowLemmas.{list_at}
-use Rattle.tune_contents.proofs.ContentsLemmas.{SaysWhere, around_of, contents_of, keeps_in, some_indexed}
+use Rattle.tune_contents.proofs.ContentsLemmas.{SaysWhere, around_of, memory_held, some_indexed}
 use Rattle.tune_contents.proofs.IndexedLemmas.{ahead_of, some_within, tunes_around}
 use Rattle.tune_contents.proofs.OldTuneLemmas.{as_many, some_row, some_tune, tune_read}
 use Rattle.tune_contents.proofs.SearchPageLemmas.{few_pages}
@@ -244,9 +244,9 @@ upgrade_takes result s now new c shape run one same copied are takes state h is 
 
 -- THE UPGRADE
 -- what is kept in memory then: the same, but for the search indexes, and where these begin
-pub record IsUpgraded (c left : Contents) : Type 0 where
+pub record IsUpgraded (c : Contents) (left : Memory) : Type 0 where
   pub layout : left.layout ≡ Two
-  pub rows : left.rows.items ≡ c.rows.items
+  pub rows : left.rows ≡ c.rows.items
   pub numbers : left.numbers ≡ c.numbers
   pub sets : left.sets ≡ c.sets
   pub notes : left.searches.notes ≡ 12
@@ -256,9 +256,9 @@ pub record IsUpgraded (c left : Contents) : Type 0 where
   pub first_sets : left.firsts.sets ≡ c.firsts.sets
 
 -- the state is held in layout 2
-pub upgraded : (s mid new : Stand) (c left : Contents) (shape : SearchShape) (run : List Entry) → c.layout ≡ One → shape ≡ c.searches
+pub upgraded : (s mid new : Stand) (c : Contents) (left : Memory) (shape : SearchShape) (run : List Entry) → c.layout ≡ One → shape ≡ c.searches
     → AreOfTunes One s c.rows.items run → LengthensTexts s mid shape left.searches run → LaysRoot Two mid new left.firsts → IsUpgraded c left
-    → (state : State) → IsState state → HoldsContents s c state → HoldsContents new left (upgraded_state state)
+    → (state : State) → IsState state → HoldsContents s c state → HoldsMemory new left (upgraded_state state)
 upgraded s mid new c left shape run one copied are lengthens root kept state is h =
     let filed = h.filed in
     let texts : HoldsTexts s shape (parts_of_index filed.numbers) (filed.set_lists ∷ filed.texts) filed.searches (numbered_texts state.tunes) =
@@ -272,7 +272,7 @@ upgraded s mid new c left shape run one copied are lengthens root kept state is 
       others = kept.first_searches;
       searches_listed = kept.listed;
     } in
-    let around : StandsAround new (keeps_in left) state.tunes filed.set_lists = record {
+    let around : StandsAround new (keeps_of left.numbers left.searches left.rows) state.tunes filed.set_lists = record {
       numbers = filed.numbers;
       searches = longer.0;
       texts = filed.texts;
@@ -283,7 +283,7 @@ upgraded s mid new c left shape run one copied are lengthens root kept state is 
       are_tunes = filed.are_tunes;
       listed = kept.rows ∙ h.listed;
     } in
-    contents_of new left Two state.tunes state.sets filed.set_lists kept.layout kept.notes (kept.sets ∙ h.sets) says around filed.sets_are_chain
+    memory_held new left Two state.tunes state.sets filed.set_lists kept.layout kept.notes (kept.sets ∙ h.sets) says around filed.sets_are_chain
     (sym (ap (λ (f : Firsts). f.sets) h.firsts) ∙ sym kept.first_sets)
     (filed.are_sets ∙ ap (λ (l : List TuneSet). written_sets l) (sym (kept.sets ∙ h.sets)))
     (subst (λ (l : Layout). IsRoot l (page_at new.pages 0) left.firsts) (sym kept.layout) root.root)

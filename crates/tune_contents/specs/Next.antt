@@ -1,9 +1,10 @@
 -- What a change of an archive leads to, in memory.
-use Rattle.std.specs.Prelude.{◌≡◌, ◌+◌, ◌<◌, ◌≤◌, List, ◌++◌, length, slice_set, vec_len, ⊤}
+use Rattle.std.specs.Prelude.{◌+◌, ◌<◌, ◌≤◌, List, ◌++◌, length, slice_set, vec_len, ⊤}
 use Rattle.std.specs.List.{insert, remove}
 use Rattle.std.specs.Vec.{vec_capacity}
 use Rattle.std.specs.declared.vec.Vec.{Vec}
 use Rattle.tune_format.specs.declared.rows.Row.{Row}
+use Rattle.tune_contents.specs.Holds.{Memory}
 use Rattle.tune_contents.specs.declared.contents.Contents.{Contents}
 use Rattle.tune_contents.specs.declared.next.Next.{Next}
 use Rattle.tune_contents.specs.declared.next.RowChange.{RowChange}
@@ -28,11 +29,13 @@ FitsRows (Move place to row) rows =
     (place < length rows.items) × (to ≤ length (remove rows.items place))
 FitsRows change rows = ⊤
 
--- These contents are what it leads to from those.
-pub record Follows (next : Next) (was is : Contents) : Type 0 where
-  pub layout : is.layout ≡ next.layout
-  pub rows : is.rows.items ≡ rows_after next.rows was.rows.items
-  pub numbers : is.numbers ≡ next.numbers
-  pub searches : is.searches ≡ next.searches
-  pub sets : is.sets ≡ next.sets
-  pub firsts : is.firsts ≡ next.firsts
+-- What is kept in memory after it.
+abbrev pub memory_after : Next → Contents → Memory
+memory_after next contents = record {
+  layout = next.layout;
+  rows = rows_after next.rows contents.rows.items;
+  numbers = next.numbers;
+  searches = next.searches;
+  sets = next.sets;
+  firsts = next.firsts;
+}

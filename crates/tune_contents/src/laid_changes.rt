@@ -16,9 +16,9 @@ ghost use Rattle.tune_store.specs.declared.plans.Change.TheVariants.{Upgrade};
 ghost use Rattle.tune_store.specs.declared.tune.Tune.{Tune};
 ghost use Rattle.tune_contents.specs.LayAnswers.{AnswersLay};
 ghost use Rattle.tune_contents.specs.Claimed.{AreRows};
-ghost use Rattle.tune_contents.specs.Holds.{labels_in, HoldsContents, HoldsSomeState, LaysState};
+ghost use Rattle.tune_contents.specs.Holds.{labels_in, HoldsContents, HoldsSomeState, LaysMemory};
 ghost use Rattle.tune_contents.specs.Most.{most_part_pages};
-ghost use Rattle.tune_contents.specs.Next.{FitsRows, Follows, rows_after};
+ghost use Rattle.tune_contents.specs.Next.{FitsRows, memory_after, rows_after};
 ghost use Rattle.tune_contents.specs.declared.contents.Contents.{Contents};
 ghost use Rattle.tune_contents.specs.Inside.Changes.{RowsAccept, SetsAccept, LaysChange, KeepsRows};
 ghost use Rattle.tune_contents.specs.Inside.Changes.{changes_sets};
@@ -203,9 +203,9 @@ fn lay_change<D: Disk>(
         (labels_in contents.now.rows.items) contents.now.sets }
     requires holds { HonestAt D.honest pages.old.disk
         → HoldsSomeState (stand pages.old work.old) contents.now }
-    ensures lays { IfOk result (λ next. HonestAt D.honest pages.new.disk → (left : Contents)
-        → Follows next contents.now left → LaysState
-        (stand pages.old work.old) (stand pages.new work.new) contents.now left change.now) }
+    ensures lays { IfOk result (λ next. HonestAt D.honest pages.new.disk → LaysMemory
+        (stand pages.old work.old) (stand pages.new work.new) contents.now
+        (memory_after next contents.now) change.now) }
     ensures rows { AreRows contents.now.layout contents.now.rows.items
         → IfOk result (λ next.
         AreRows next.layout (rows_after next.rows contents.now.rows.items)) }
@@ -263,7 +263,7 @@ fn lay_change<D: Disk>(
 /// says what changes where the archive comes to layout 2.
 ///
 /// - `lays`: where the pages held a state within the limits, they hold the state after the change,
-///   with the contents that follow.
+///   and memory has that of it which `accept` keeps.
 /// - `rows`, `layout`, of every disk: rows by rising number, within the limits, stay so, and the
 ///   layout is that after the change.
 /// - `room`: there is room for what becomes of the rows, as `accept` asks.
@@ -291,9 +291,9 @@ pub fn lay<D: Disk>(
         (labels_in contents.now.rows.items) contents.now.sets }
     requires holds { HonestAt D.honest pages.old.disk
         → HoldsSomeState (stand pages.old work.old) contents.now }
-    ensures lays { IfOk result (λ next. HonestAt D.honest pages.new.disk → (left : Contents)
-        → Follows next contents.now left → LaysState
-        (stand pages.old work.old) (stand pages.new work.new) contents.now left change) }
+    ensures lays { IfOk result (λ next. HonestAt D.honest pages.new.disk → LaysMemory
+        (stand pages.old work.old) (stand pages.new work.new) contents.now
+        (memory_after next contents.now) change) }
     ensures rows { AreRows contents.now.layout contents.now.rows.items
         → IfOk result (λ next.
         AreRows next.layout (rows_after next.rows contents.now.rows.items)) }

@@ -1,6 +1,7 @@
 // What a change of an archive leads to, in memory.
 ghost use Rattle.std.specs.Prelude.{◌≡◌};
-ghost use Rattle.tune_contents.specs.Next.{FitsRows, Follows, rows_after};
+ghost use Rattle.tune_contents.specs.Holds.{memory_of};
+ghost use Rattle.tune_contents.specs.Next.{FitsRows, memory_after, rows_after};
 
 use crate::contents::Contents;
 use crate::room::Room;
@@ -86,7 +87,7 @@ impl Contents {
     /// over goes into the room, for later changes.
     pub fn accept(&mut self, room: &mut Room, next: Next)
         requires { FitsRows next.rows self.old.rows }
-        ensures { Follows next self.old self.new }
+        ensures { memory_of self.new ≡ memory_after next self.old }
     {
         change_rows(&mut self.rows, room, next.rows);
         self.layout = next.layout;

@@ -14,9 +14,9 @@ ghost use Rattle.tune_store.specs.TuneSteps.{upgraded_state};
 ghost use Rattle.tune_store.specs.declared.layout.Layout.TheVariants.{One, Two};
 ghost use Rattle.tune_contents.specs.LayAnswers.{AnswersLay};
 ghost use Rattle.tune_contents.specs.Claimed.{AreRows};
-ghost use Rattle.tune_contents.specs.Holds.{HoldsContents, HoldsSomeState};
+ghost use Rattle.tune_contents.specs.Holds.{HoldsContents, HoldsMemory, HoldsSomeState};
 ghost use Rattle.tune_contents.specs.Most.{most_part_pages};
-ghost use Rattle.tune_contents.specs.Next.{FitsRows, Follows, rows_after};
+ghost use Rattle.tune_contents.specs.Next.{FitsRows, memory_after, rows_after};
 ghost use Rattle.tune_contents.specs.declared.contents.Contents.{Contents};
 ghost use Rattle.tune_contents.specs.Inside.Changes.{HoldsTunesWithin};
 ghost use Rattle.tune_contents.specs.Inside.Searching.{search_pages};
@@ -123,8 +123,8 @@ fn lengthen<D: Disk>(
 /// read, its pages are free then, and that by twelve comes in; the root says the new layout and
 /// where that begins.
 ///
-/// - `lays`: where the pages held a state within the limits, they hold it in layout 2, with the
-///   contents that follow.
+/// - `lays`: where the pages held a state within the limits, they hold it in layout 2, and
+///   memory has that of it which `accept` keeps.
 /// - `rows`, of every disk: rows by rising number, within the limits of layout 2.
 /// - `room`: the rows stay, as `accept` may let them.
 /// - `looks`: no page of the disk changes.
@@ -149,10 +149,10 @@ pub fn upgrade<D: Disk>(
     requires rows { AreRows One contents.now.rows.items }
     requires holds { HonestAt D.honest pages.old.disk
         → HoldsSomeState (stand pages.old work.old) contents.now }
-    ensures lays { IfOk result (λ next. HonestAt D.honest pages.new.disk → (left : Contents)
-        → Follows next contents.now left → (state : State)
+    ensures lays { IfOk result (λ next. HonestAt D.honest pages.new.disk → (state : State)
         → IsState state → HoldsContents (stand pages.old work.old) contents.now state
-        → HoldsContents (stand pages.new work.new) left (upgraded_state state)) }
+        → HoldsMemory (stand pages.new work.new) (memory_after next contents.now)
+        (upgraded_state state)) }
     ensures rows { IfOk result (λ next.
         AreRows Two (rows_after next.rows contents.now.rows.items)) }
     ensures layout { IfOk result (λ next. next.layout ≡ Two) }

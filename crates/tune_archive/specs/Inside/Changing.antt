@@ -18,7 +18,7 @@ use Rattle.tune_store.specs.StoreStops.{HasFailed}
 use Rattle.tune_store.specs.declared.command.Refusal.{Refusal}
 use Rattle.tune_store.specs.declared.command.Refusal.TheVariants as refusal
 use Rattle.tune_store.specs.declared.plans.Change.{Change}
-use Rattle.tune_contents.specs.Holds.{HoldsContents, LaysState}
+use Rattle.tune_contents.specs.Holds.{HoldsContents, LaysMemory, LaysState, Memory}
 use Rattle.tune_contents.specs.declared.contents.Contents.{Contents}
 use Rattle.tune_archive.specs.Shelf.{Shelf, state_of, StandsForOneOf}
 use Rattle.tune_archive.specs.Inside.Holding.{stand_of}
@@ -46,8 +46,8 @@ pub record CallsWhere {D T : Type 0} (honest : D → Type 0) (failures : D → �
 pub record PassesLaid (old new : DiskState) (before : Stand) (contents : Contents)
     (change : Change) : Type 0 where
   pub next : Stand
-  pub left : Contents
-  pub lays : LaysState before next contents left change
+  pub memory : Memory
+  pub lays : LaysMemory before next contents memory change
   pub few : length next.pages ≤ length before.used
   pub moments : SinceThen old new (StandsForEither before.pages next.pages)
 

@@ -4,9 +4,8 @@ use Rattle.tune_pages.specs.Work.{stand}
 use Rattle.tune_store.specs.declared.plans.Change.{Change}
 use Rattle.tune_format.specs.declared.rows.Row.{Row}
 use Rattle.tune_contents.specs.Claimed.{AreRows}
-use Rattle.tune_contents.specs.Holds.{LaysState}
-use Rattle.tune_contents.specs.Next.{Follows}
-use Rattle.tune_contents.specs.declared.contents.Contents.{Contents}
+use Rattle.tune_contents.specs.Holds.{LaysMemory}
+use Rattle.tune_contents.specs.Next.{memory_after}
 use Rattle.tune_contents.proofs.RowTests.{some_rows}
 use Rattle.tune_contents.proofs.laid_changes.lay.Goals as goal
 
@@ -23,5 +22,5 @@ pub returns-in-Upgrade-clause-lays : goal.returns-in-Upgrade-clause-lays
 returns-in-Upgrade-clause-lays g c =
     let old = stand c.args.pages.now c.args.work.now in
     let new = stand c.upgrade.new.pages c.upgrade.new.work in
-    subst (λ (change : Change). IfOk c.upgrade.result (λ next. HonestAt g.D.Disk.honest c.upgrade.new.pages.disk → (left : Contents)
-    → Follows next c.args.contents.now left → LaysState old new c.args.contents.now left change)) (sym c.in-Upgrade.is) c.upgrade.ensures.lays
+    subst (λ (change : Change). IfOk c.upgrade.result (λ next. HonestAt g.D.Disk.honest c.upgrade.new.pages.disk
+    → LaysMemory old new c.args.contents.now (memory_after next c.args.contents.now) change)) (sym c.in-Upgrade.is) c.upgrade.ensures.lays

@@ -1,15 +1,12 @@
-use Rattle.std.proofs.Common.{ℕ, List, Ok, Err, ◌∙◌, ap, sym, subst, arith}
+use Rattle.std.proofs.Common.{ℕ, List, Ok, Err, refl, sym, subst, arith}
 use Rattle.std.proofs.lemmas.Result.{err_from_is_err_and}
 use Rattle.tune_pages.specs.Stand.{Stand}
 use Rattle.tune_pages.specs.Work.{stand}
 use Rattle.tune_pages.proofs.Looking.{look_next}
 use Rattle.tune_store.specs.declared.layout.Layout.TheVariants.{One, Two}
-use Rattle.tune_format.specs.declared.root.Firsts.{Firsts}
 use Rattle.tune_format.specs.declared.rows.Row.{Row}
-use Rattle.tune_search.specs.SearchPages.{AreListed, firsts_in}
-use Rattle.tune_search.specs.Searches.{SearchShape}
+use Rattle.tune_contents.specs.Holds.{Memory}
 use Rattle.tune_contents.specs.Inside.Changes.{HoldsTunesWithin}
-use Rattle.tune_contents.specs.Inside.Laying.{LaysRoot}
 use Rattle.tune_contents.specs.Inside.Upgrading.{AreOfTunes, LengthensTexts}
 use Rattle.tune_contents.proofs.LookLemmas.{look_fails}
 use Rattle.tune_contents.proofs.UpgradeLemmas.{IsUpgraded, some_incipits, some_tunes_within, upgrade_takes, upgraded}
@@ -56,7 +53,7 @@ returns-in_err-lay_root-clause-takes g c = λ h state holds is.
     rw (p.1, p.2) (λ e. (let lt = none e in absurd (omega (arith, lt)))))
 
 pub returns-clause-lays : goal.returns-clause-lays
-returns-clause-lays g c = λ h left follows.
+returns-clause-lays g c = λ h.
     (let s = stand c.args.pages.now c.args.work.now in
     let mid = stand c.lengthen.new.pages c.lengthen.new.work in
     let new = stand c.lay_root.new.pages c.lay_root.new.work in
@@ -66,23 +63,29 @@ returns-clause-lays g c = λ h left follows.
     let h2 = c.in_ok-lay_root.ensures.looks.was_honest h in
     let h1 = longer.looks.was_honest h2 in
     let are = subst (λ (r : List Row). AreOfTunes One s r c.in_ok-incipits.incipits) c.deref.ensures.value (run.run h1) in
-    let lengthens = subst (λ (t : Stand). LengthensTexts t mid c.in_ok-searches.searches left.searches c.in_ok-incipits.incipits) (run.stand.same h1)
-    (subst (λ (x : SearchShape). LengthensTexts (stand c.incipits_of.new.pages c.args.work.now) mid c.in_ok-searches.searches x c.in_ok-incipits.incipits)
-    (sym follows.searches) (longer.lays h2)) in
-    let root = subst (λ (f : Firsts). LaysRoot Two mid new f) (sym follows.firsts) (c.in_ok-lay_root.ensures.root h) in
-    let kept : IsUpgraded old left = record {
-      layout = follows.layout;
-      rows = follows.rows;
-      numbers = follows.numbers ∙ c.in_ok-numbers.ensures.numbers;
-      sets = follows.sets ∙ c.in-Ok.ensures;
-      notes = ap (λ (x : SearchShape). x.notes) follows.searches ∙ longer.notes;
-      listed = subst AreListed (sym follows.searches) longer.listed;
-      first_numbers = ap (λ (f : Firsts). f.numbers) follows.firsts;
-      first_searches = ap (λ (f : Firsts). f.searches) follows.firsts ∙ longer.firsts ∙ ap firsts_in (sym follows.searches);
-      first_sets = ap (λ (f : Firsts). f.sets) follows.firsts;
+    let left : Memory = record {
+      layout = Two;
+      rows = old.rows.items;
+      numbers = c.in_ok-numbers.numbers;
+      searches = c.lengthen.new.searches;
+      sets = c.in-Ok.sets;
+      firsts = record { numbers = old.firsts.numbers; searches = c.in_ok-lengthen.field-0; sets = old.firsts.sets };
     } in
-    upgraded s mid new old left c.in_ok-searches.searches c.in_ok-incipits.incipits c.requires.layout c.in_ok-searches.ensures.searches are lengthens root
-    kept)
+    let lengthens = subst (λ (t : Stand). LengthensTexts t mid c.in_ok-searches.searches left.searches c.in_ok-incipits.incipits) (run.stand.same h1)
+    (longer.lays h2) in
+    let kept : IsUpgraded old left = record {
+      layout = refl;
+      rows = refl;
+      numbers = c.in_ok-numbers.ensures.numbers;
+      sets = c.in-Ok.ensures;
+      notes = longer.notes;
+      listed = longer.listed;
+      first_numbers = refl;
+      first_searches = longer.firsts;
+      first_sets = refl;
+    } in
+    upgraded s mid new old left c.in_ok-searches.searches c.in_ok-incipits.incipits c.requires.layout c.in_ok-searches.ensures.searches are lengthens
+    (c.in_ok-lay_root.ensures.root h) kept)
 
 pub returns-clause-takes : goal.returns-clause-takes
 returns-clause-takes g c = λ h state holds is.

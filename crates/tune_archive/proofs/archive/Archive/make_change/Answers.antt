@@ -17,45 +17,44 @@ pub invariant_of-self : goal.invariant_of-self
 invariant_of-self g c =
     let new : Shelf g.row.D.Denot = record {
       pages = c.change_pages.new.pages;
-      contents = c.in-Ok.contents;
+      contents = c.change_pages.new.contents;
       fetched = None;
       closed = c.self.inside.closed;
     } in
     let done = c.in-Ok.ensures in
-    rw c.replace.ensures.after
     (made_shelf g.D.Disk.honest g.D.Disk.failures g.D.Disk.state g.met.D.Disk.seen_may_stay _ c.args.self.now c.self.view_is c.self.invariant
-    c.requires.open c.args.change c.requires.within new done.moments c.in-Ok.contents done.calls done.laid done.rows done.marks done.answer)
+    c.requires.open c.args.change c.requires.within new done.moments c.change_pages.new.contents done.calls done.laid done.rows done.marks done.answer)
 
 pub invariant_of-self-in-Err : goal.invariant_of-self-in-Err
 invariant_of-self-in-Err g c =
     let new : Shelf g.row.D.Denot = record {
       pages = c.change_pages.new.pages;
-      contents = c.self.inside.contents;
+      contents = c.change_pages.new.contents;
       fetched = None;
       closed = c.closes-self-inside.result;
     } in
     let done = c.in-Err.ensures in
     kept_shelf g.D.Disk.honest g.D.Disk.failures g.D.Disk.state g.met.D.Disk.seen_may_stay _ c.args.self.now c.self.view_is c.self.invariant c.requires.open
     c.args.change c.requires.within new done.moments c.in-Err.fault done.calls c.closes-self-inside.ensures done.answer done.stays done.never_full
+    c.change_pages.new.contents done.same
 
 pub returns-in-Ok : goal.returns-in-Ok
 returns-in-Ok g c =
     let new : Shelf g.row.D.Denot = record {
       pages = c.change_pages.new.pages;
-      contents = c.in-Ok.contents;
+      contents = c.change_pages.new.contents;
       fetched = None;
       closed = c.self.inside.closed;
     } in
     let done = c.in-Ok.ensures in
-    rw c.replace.ensures.after
     (made g.D.Disk.honest g.D.Disk.failures g.D.Disk.state g.met.D.Disk.seen_may_stay _ c.args.self.now c.self.view_is c.self.invariant
-    c.requires.open c.args.change c.requires.within new done.moments c.in-Ok.contents done.calls done.laid refl)
+    c.requires.open c.args.change c.requires.within new done.moments c.change_pages.new.contents done.calls done.laid refl)
 
 pub returns-in-Err : goal.returns-in-Err
 returns-in-Err g c =
     let new : Shelf g.row.D.Denot = record {
       pages = c.change_pages.new.pages;
-      contents = c.self.inside.contents;
+      contents = c.change_pages.new.contents;
       fetched = None;
       closed = c.closes-self-inside.result;
     } in
