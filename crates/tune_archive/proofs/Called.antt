@@ -97,7 +97,7 @@ module _ {D : Type 0} (honest : D → Type 0) (failures : D → ℕ) (state : D 
   -- what an open archive knows in memory is that of its state
   pub tells : (archive : Shelf D) → Holds archive → archive.closed ≡ false → HonestAt honest archive.pages.disk → Tells honest state archive
   tells archive holds is_open h = (let held = holds.holds h is_open in
-      record { was_honest = h; labels = labels_held _ _ _ held.holds; layout = held.holds.layout; sets = held.holds.sets })
+      record { was_honest = h; labels = labels_held _ archive.contents _ held.holds; layout = held.holds.layout; sets = held.holds.sets })
 
   pub within : (archive : Shelf D) → Holds archive → archive.closed ≡ false → HonestAt honest archive.pages.disk → IsState (state_of state archive)
   within archive holds is_open h = (holds.holds h is_open).within
