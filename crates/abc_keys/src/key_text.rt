@@ -35,6 +35,7 @@ use abc_fields::{is_blank, trim_blanks};
 /// or flats as its count says, in their order, and no others. Spaces and tabs at the ends of a text
 /// say nothing.
 #[tactic(auto, unfolding(crate::specs::Keys::key_of_text))]
+#[inline(always)]
 pub fn key_of(text: &[u8]) -> Key
     ensures key { result ≡ key_of_text text.now }
     ensures is_key { IsKeyText text.now (key_of_text text.now) }
@@ -49,6 +50,7 @@ pub fn key_of(text: &[u8]) -> Key
     key_of_trimmed(trim_blanks(text))
 }
 
+#[inline(always)]
 fn key_of_trimmed(text: &[u8]) -> Key
     ensures { result ≡ key_of_trimmed text.now }
 {
@@ -59,6 +61,7 @@ fn key_of_trimmed(text: &[u8]) -> Key
 }
 
 // The tonic of a text that is nothing else, as most are.
+#[inline(always)]
 fn tonic_alone(text: &[u8]) -> Option<Letter>
     ensures { IfSome result (λ tonic. text.now ≡ tonic_text tonic) }
 {
@@ -68,6 +71,7 @@ fn tonic_alone(text: &[u8]) -> Option<Letter>
     }
 }
 
+#[inline(always)]
 fn major_key(tonic: Letter) -> Key
     ensures { result ≡ key_of_trimmed (tonic_text tonic) }
 {
@@ -79,6 +83,7 @@ fn major_key(tonic: Letter) -> Key
     key_of_scale(scale, b"")
 }
 
+#[inline(never)]
 fn key_of_words(text: &[u8]) -> Key
     ensures { result ≡ key_of_trimmed text.now }
 {
@@ -187,6 +192,7 @@ fn key_of_mode(tonic: Letter, sign: Sign, mode: ModeWord, after: &[u8]) -> Key
     }
 }
 
+#[inline(always)]
 fn key_of_scale(scale: Scale, after: &[u8]) -> Key
     ensures { result ≡ key_of_scale scale after.now }
 {
@@ -200,6 +206,7 @@ fn key_of_scale(scale: Scale, after: &[u8]) -> Key
 }
 
 // The signature after the words behind a mode, of which most texts have none.
+#[inline(always)]
 fn with_any_words(signature: Signature, text: &[u8]) -> Signature
     ensures { result ≡ with_words signature text.now }
 {

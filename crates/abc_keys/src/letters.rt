@@ -56,9 +56,9 @@ const NAMED: [Letter; 7] = [
 pub fn letter_of(byte: u8) -> Option<Letter>
     ensures { result ≡ letter_of byte }
 {
-    match byte {
-        b'A'..=b'G' => Some(NAMED[(byte - b'A') as usize]),
-        b'a'..=b'g' => Some(NAMED[(byte - b'a') as usize]),
+    let capital = byte.to_ascii_uppercase();
+    match capital {
+        b'A'..=b'G' => Some(NAMED[(capital - b'A') as usize]),
         _ => None,
     }
 }

@@ -37,6 +37,7 @@ pub struct Scale {
 impl Scale {
     // How many sharps the scale has, or flats below zero, where it stands in the table of 105
     // scales: from seven flats to seven sharps.
+    #[inline(always)]
     pub(crate) fn sharp_count(self) -> Option<i32>
         ensures value { result ≡ listed_count self }
         ensures few { IfSome result (λ n. (negsuc 6 ≤ℤ n) × (n ≤ℤ pos 7)) }

@@ -42,10 +42,14 @@ fn borne_at(bar: &Bar, bar_events: &TuneEvents, note: WrittenNote) -> Option<Acc
     ensures { result
         ≡ borne (past_of bar.now.since bar_events.now) note.entry.letter note.entry.octave }
 {
-    if is_near(note) {
+    if !is_near(note) {
+        return borne_far(bar, bar_events, note);
+    }
+    // Most bars have no accidentals of their own.
+    if bar.has_near {
         entry(&bar.entries, note)
     } else {
-        borne_far(bar, bar_events, note)
+        None
     }
 }
 

@@ -19,8 +19,8 @@ use std::marker::Model;
 /// The entries of the four search indexes as an opening compares them with the tunes, one tune
 /// after another. A clause sees the numbers of the tunes and the entries of each index.
 ///
-/// Beside these it takes four bytes for each entry, and in each index four for each tune; in that
-/// of incipits one key and a byte for each tune.
+/// Beside these it takes four bytes for each entry and four for each tune, but in the index of
+/// incipits a key and a byte for each tune.
 #[derive(Drop)]
 pub struct SearchClaims {
     // clauses tell the tunes by it; once the entries are linked no call reads it
