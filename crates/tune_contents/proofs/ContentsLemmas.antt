@@ -187,8 +187,8 @@ firsts_are c numbers searches set_lists entries tunes says index texts sets =
     λ i. record { numbers = one i; searches = four i; sets = last i }
 
 pub memory_held : (s : Stand) (c : Memory) (layout : Layout) (tunes : List Tune) (sets : List TuneSet) (set_lists : Part) → c.layout ≡ layout
-    → c.searches.notes ≡ notes_of layout → c.sets ≡ sets → SaysWhere c.numbers c.searches c.firsts → StandsAround s (keeps_of c.numbers c.searches c.rows) tunes set_lists
-    → set_lists.kind ≡ chain → set_lists.first ≡ c.firsts.sets
+    → c.searches.notes ≡ notes_of layout → c.sets ≡ sets → SaysWhere c.numbers c.searches c.firsts
+    → StandsAround s (keeps_of c.numbers c.searches c.rows) tunes set_lists → set_lists.kind ≡ chain → set_lists.first ≡ c.firsts.sets
     → set_lists.bytes ≡ written_sets c.sets → IsRoot c.layout (page_at s.pages 0) c.firsts
     → HoldsMemory s c (record { layout = layout; tunes = tunes; sets = sets })
 memory_held s c layout tunes sets set_lists known notes same says a kind begins bytes root =

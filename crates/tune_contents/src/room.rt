@@ -47,8 +47,8 @@ impl Room {
         self.searches = searches;
     }
 
-    // A copy of rows with more behind them. Its memory is taken for twice the rows, so that those of
-    // the next changes have room.
+    // A copy of rows with more behind them. Memory is taken for twice the rows: so those of later
+    // changes find room.
     pub(crate) fn copy_rows(&mut self, rows: &[Row], more: &[Row]) -> Result<Vec<Row>, Fault>
         ensures rows { IfOk result (λ copy. copy.items ≡ rows.now ++ more.now) }
         ensures err { IfErr result (λ fault. fault ≡ OutOfMemory) }

@@ -27,7 +27,8 @@ pub returns-in_err-finish-clause-moments : goal.returns-in_err-finish-clause-mom
 returns-in_err-finish-clause-moments g c = λ h.
     (let looks = c.in_ok-next.ensures.looks in
     let mid = c.in_err-finish.ensures.calls.was_honest h in
-    passes_laid g.D.Disk.honest g.D.Disk.state c.args.pages.now c.lay.new.pages c.lay.new.work c.args.contents.now (memory_after c.in_ok-next.next c.args.contents.now) c.args.change
+    passes_laid g.D.Disk.honest g.D.Disk.state c.args.pages.now c.lay.new.pages c.lay.new.work c.args.contents.now
+    (memory_after c.in_ok-next.next c.args.contents.now) c.args.change
     (stand c.args.pages.now c.in_ok-work.work) c.in_ok-work.ensures.stand (c.in_ok-next.ensures.lays mid) c.in_ok-next.ensures.fits looks.same
     (c.requires.few (looks.was_honest mid)) c.finish.new.self mid (looks.same_state mid) (c.in_err-finish.ensures.moments h c.in_ok-next.ensures.answer))
 
