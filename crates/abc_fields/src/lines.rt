@@ -8,11 +8,11 @@ ghost use Rattle.abc_fields.specs.LineView.{line_span};
 ghost use Rattle.abc_fields.specs.Inside.LineEndings.{ending_length, has_return};
 ghost use Rattle.abc_fields.specs.Limits.{longest_tune};
 ghost use Rattle.abc_fields.specs.Tunes.{IsTuneText};
-ghost use Rattle.abc_fields.specs.Bytes.{line_feed};
-ghost use Rattle.memchr.specs.Find.{IsFirstByte, is_byte};
+ghost use Rattle.abc_fields.specs.Bytes.{line_feed, carriage_return};
+ghost use Rattle.memchr.specs.Find.{IsFirstByte, is_byte, is_byte2};
 
 use crate::texts::TuneText;
-use memchr::{memchr_iter, memchr2};
+use memchr::{memchr_iter, memchr2_iter};
 use std::marker::Model;
 
 /// A line of a text, without what ends it.
@@ -152,6 +152,15 @@ fn first_feed(text: &[u8]) -> Option<usize>
     memchr_iter(b'\n', text).next()
 }
 
+// Where the first line feed or carriage return stands. It stands apart, so that the way of lines
+// that end at line feeds is short.
+#[inline(never)]
+fn first_ending(text: &[u8]) -> Option<usize>
+    ensures { IsFirstByte (is_byte2 line_feed carriage_return) text.now result }
+{
+    memchr2_iter(b'\n', b'\r', text).next()
+}
+
 // The length of the first line, and of what ends it. Where only line feeds end lines, they alone
 // are looked for.
 fn first_line(text: &[u8], only_feeds: bool) -> (usize, usize)
@@ -169,7 +178,7 @@ fn first_line(text: &[u8], only_feeds: bool) -> (usize, usize)
             Some(len) => (len, 1),
         }
     } else {
-        match memchr2(b'\n', b'\r', text) {
+        match first_ending(text) {
             None => (text.len(), 0),
             Some(len) => (len, ending_len(&text[len..])),
         }

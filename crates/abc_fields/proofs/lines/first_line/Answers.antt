@@ -15,14 +15,14 @@ returns-in-Some-clause-first c =
     first_piece_by_feed c.args.text.now c.in-Some.len (c.requires.feeds c.if-only_feeds.true)
     (λ j l. c.in-Some.ensures.0.before j (omega arith) l) c.in-Some.ensures.0.high c.in-Some.ensures.1
 
-pub returns-in-None-memchr2-clause-first : goal.returns-in-None-memchr2-clause-first
-returns-in-None-memchr2-clause-first c =
+pub returns-in-None-first_ending-clause-first : goal.returns-in-None-first_ending-clause-first
+returns-in-None-first_ending-clause-first c =
     let text = c.args.text.now in
     rw (add-zero, drop_all (length text) text (omega arith), take_all (length text) text (omega arith))
-    (one_piece text (λ j l. c.in-None-memchr2.ensures j (omega arith) l) c.requires.some)
+    (one_piece text (λ j l. c.in-None-first_ending.ensures j (omega arith) l) c.requires.some)
 
-pub returns-in-Some-memchr2-clause-first : goal.returns-in-Some-memchr2-clause-first
-returns-in-Some-memchr2-clause-first c =
-    rw (c.ending_len.ensures.value, take_rest c.args.text.now c.in-Some-memchr2.len)
-    (first_piece c.args.text.now c.in-Some-memchr2.len (λ j l. c.in-Some-memchr2.ensures.0.before j (omega arith) l)
-    c.in-Some-memchr2.ensures.0.high c.in-Some-memchr2.ensures.1)
+pub returns-in-Some-first_ending-clause-first : goal.returns-in-Some-first_ending-clause-first
+returns-in-Some-first_ending-clause-first c =
+    rw (c.ending_len.ensures.value, take_rest c.args.text.now c.in-Some-first_ending.len)
+    (first_piece c.args.text.now c.in-Some-first_ending.len (λ j l. c.in-Some-first_ending.ensures.0.before j (omega arith) l)
+    c.in-Some-first_ending.ensures.0.high c.in-Some-first_ending.ensures.1)
