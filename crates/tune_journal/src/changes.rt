@@ -1,7 +1,7 @@
 // Pages that change.
 ghost use Rattle.std.specs.Prelude.{◌≡◌, ◌≢◌, ◌<◌, ◌==◌, ℕ, [], length, map, replicate, take, drop};
 ghost use Rattle.std.specs.Prelude.{true, false, IsTrue, None, Some, IsSome, IsOk, OnOk, OnErr};
-ghost use Rattle.std.specs.Prelude.{IfOk, IfErr, All, option_map, vec_len, vec_capacity};
+ghost use Rattle.std.specs.Prelude.{IfOk, IfErr, IfSome, All, option_map, vec_len, vec_capacity};
 ghost use Rattle.std.specs.Prelude.{◌+◌, ◌≤◌};
 ghost use Rattle.std.specs.List.Sorted.{IsStrictlyIncreasing};
 ghost use Rattle.tune_journal.specs.ChangeList.{with_change, image_of, change_at, changed_page};
@@ -13,6 +13,7 @@ ghost use Rattle.tune_journal.specs.FileOffsets.{block_bytes};
 use std::alloc::{AllocError, Global};
 use std::collections::VecDeque;
 use std::marker::Model;
+use std::slice;
 
 /// The 4,096 bytes of a page.
 #[derive(Clone, Copy, Drop)]
@@ -234,6 +235,17 @@ impl Changes {
         }
     }
 
+    // The image of the change at this place, where it is held whole.
+    pub(crate) fn whole_at(&self, place: usize) -> Option<&PageImage>
+        requires { place < length self.now }
+        ensures { IfSome result (λ image. image.now.bytes ≡ (change_at self.now place).1) }
+    {
+        match &self.changed[place].kept {
+            Kept::Start(_) => None,
+            Kept::Whole(at) => Some(&self.whole[*at]),
+        }
+    }
+
     // Adds a change to these first bytes, with zeros behind them.
     fn add(&mut self, at: usize, page: u32, start: &[u8; 256]) -> Result<(), AllocError>
         requires { MissingAt page at self.old }
@@ -260,7 +272,7 @@ impl Changes {
             return;
         }
         let place = self.whole.len();
-        match self.whole.push(*image) {
+        match self.whole.extend_from_slice(slice::from_ref(image)) {
             Ok(()) => self.changed[at] = ChangedPage {
                 page,
                 kept: Kept::Whole(place),

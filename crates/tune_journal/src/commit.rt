@@ -65,6 +65,33 @@ fn write_image<D: Disk>(disk: &mut D, page: u32, image: &PageImage) -> Result<()
     disk.write_at(page_offset(page), &image.bytes)
 }
 
+// Writes the image of the change at this place into its page. One that is not held whole is put in
+// the place of `image` before. Of `short` holds what `Changes::fill` says.
+fn write_change<D: Disk>(
+    disk: &mut D,
+    changes: &Changes,
+    place: usize,
+    image: &mut PageImage,
+    short: &mut bool,
+) -> Result<(), DeviceFault>
+    requires place { place < length changes.now }
+    requires pages { All (λ e. e.0 < most_pages) changes.now }
+    requires short { short.old ≡ true → IsShort image.old.bytes }
+    ensures short { short.new ≡ true → IsShort image.new.bytes }
+    ensures size { length (change_at changes.now place).1 ≡ block_bytes }
+    ensures write { let old = D.state disk.old in let new = D.state disk.new in
+        let change = change_at changes.now place in
+        D.honest disk.new → Writes (page_offset change.0) change.1 result old new }
+    ensures calls { Calls D.honest D.failures result disk.old disk.new }
+{
+    let page = changes.page_at(place);
+    if let Some(whole) = changes.whole_at(place) {
+        return write_image(disk, page, whole);
+    }
+    *short = changes.fill(place, &mut image.bytes, *short);
+    write_image(disk, page, image)
+}
+
 // Writes all entries of a log, one behind another.
 fn write_entries<D: Disk>(disk: &mut D, base: u64, changes: &Changes) -> Result<(), DeviceFault>
     requires { base + entry_bytes * length changes.now ≤ 2 ^ 40 }
@@ -99,8 +126,7 @@ fn write_images<D: Disk>(disk: &mut D, changes: &Changes) -> Result<(), DeviceFa
     let mut image = PageImage::blank();
     let mut short = true;
     for place in 0..changes.len() {
-        short = changes.fill(place, &mut image.bytes, short);
-        write_image(disk, changes.page_at(place), &image)?;
+        write_change(disk, changes, place, &mut image, &mut short)?;
     }
     Ok(())
 }

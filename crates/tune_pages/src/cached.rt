@@ -213,7 +213,8 @@ fn replace_in(cache: &mut LruCache<u32, Box<PageImage>>, changes: &Changes, plac
 {
     // For the proof: its contract says that no page has two images.
     let _count = cache.len();
-    if let Some(kept) = cache.get_mut(&changes.page_at(place)) {
-        **kept = changes.image_at(place);
+    let page = changes.page_at(place);
+    if let Some(kept) = cache.get_mut(&page) {
+        let _ = changes.read(page, kept);
     }
 }

@@ -2,6 +2,7 @@ use Rattle.std.proofs.Common.{ℕ, ◌<◌, ◌≤◌, refl, sym, ◌∙◌, ap,
 use Rattle.std.proofs.lemmas.List.{drop-replicate}
 use Rattle.tune_disk.specs.Disk.{Written}
 use Rattle.tune_disk.proofs.Moments.{spares_none, spares_then, spares_write}
+use Rattle.tune_journal.specs.ChangeList.{change_at}
 use Rattle.tune_journal.specs.Image.{pages_of, page_offset}
 use Rattle.tune_journal.specs.Inside.Phases.{IsInNoPage}
 use Rattle.tune_journal.specs.FileOffsets.{most_pages}
@@ -10,22 +11,25 @@ use Rattle.tune_journal.proofs.Loops.{image_more, changed-push, outside_image, t
 use Rattle.tune_journal.proofs.CallRuns.{writes_ok}
 use Rattle.tune_journal.proofs.commit.write_images.Goals as goal
 
-pub write_image-requires : goal.write_image-requires
-write_image-requires g c =
-    entry_below c.args.changes.now most_pages c.loop-place.place c.page_at.result c.requires
-    (omega (arith, c.loop-place-test.true, c.len-place-end.ensures.len)) c.page_at.ensures.page
+pub write_change-requires-clause-place : goal.write_change-requires-clause-place
+write_change-requires-clause-place g c = omega (arith, c.loop-place-test.true, c.len-place-end.ensures.len)
 
-pub returns-in_err-write_image-clause-spares : goal.returns-in_err-write_image-clause-spares
-returns-in_err-write_image-clause-spares g c = λ h.
-    (let lt : c.loop-place.place < length c.args.changes.now = omega (arith, c.loop-place-test.true, c.len-place-end.ensures.len) in
-    spares_then _ _ _ _ (c.loop-place.invariant.spares (c.write_image.ensures.calls.was_honest h))
-    (spares_write (IsInNoPage c.args.changes.now) (page_offset c.page_at.result) c.fill-short.new.image c.write_image.result _ _
-    (c.write_image.ensures.write h)
-    (λ i out.
-    outside_image c.args.changes.now c.loop-place.place c.page_at.result i c.fill-short.new.image lt c.page_at.ensures.page c.write_image.ensures.size out)))
+pub write_change-requires-clause-pages : goal.write_change-requires-clause-pages
+write_change-requires-clause-pages g c = c.requires
 
-pub fill-short-requires-clause-short : goal.fill-short-requires-clause-short
-fill-short-requires-clause-short g c = c.loop-place.invariant.short
+pub write_change-requires-clause-short : goal.write_change-requires-clause-short
+write_change-requires-clause-short g c = c.loop-place.invariant.short
+
+pub returns-in_err-write_change-clause-spares : goal.returns-in_err-write_change-clause-spares
+returns-in_err-write_change-clause-spares g c = λ h.
+    (let log = c.args.changes.now in
+    let k : ℕ = c.loop-place.place in
+    let page : ℕ = (change_at log k).0 in
+    let image : List ℕ = (change_at log k).1 in
+    let lt : k < length log = omega (arith, c.loop-place-test.true, c.len-place-end.ensures.len) in
+    spares_then _ _ _ _ (c.loop-place.invariant.spares (c.write_change.ensures.calls.was_honest h))
+    (spares_write (IsInNoPage log) (page_offset page) image c.write_change.result _ _ (c.write_change.ensures.write h)
+    (λ i out. outside_image log k page i image lt refl c.write_change.ensures.size out)))
 
 pub loop-place-init : goal.loop-place-init
 loop-place-init g c = record {
@@ -40,26 +44,25 @@ pub loop-place-preserved : goal.loop-place-preserved
 loop-place-preserved g c =
     let log = c.args.changes.now in
     let k : ℕ = c.loop-place.place in
-    let page : ℕ = c.page_at.result in
-    let image : List ℕ = c.fill-short.new.image in
+    let page : ℕ = (change_at log k).0 in
+    let image : List ℕ = (change_at log k).1 in
     let lt : k < length log = omega (arith, c.loop-place-test.true, c.len-place-end.ensures.len) in
     record {
-      short = c.fill-short.ensures.short;
-      honest = λ h. c.loop-place.invariant.honest (c.write_image.ensures.calls.was_honest h);
-      spares = λ h. spares_then _ _ _ _ (c.loop-place.invariant.spares (c.write_image.ensures.calls.was_honest h))
-          (spares_write (IsInNoPage log) (page_offset page) image c.write_image.result _ _ (c.write_image.ensures.write h)
-          (λ i out. outside_image log k page i image lt c.page_at.ensures.page c.write_image.ensures.size out));
+      short = c.write_change.ensures.short;
+      honest = λ h. c.loop-place.invariant.honest (c.write_change.ensures.calls.was_honest h);
+      spares = λ h. spares_then _ _ _ _ (c.loop-place.invariant.spares (c.write_change.ensures.calls.was_honest h))
+          (spares_write (IsInNoPage log) (page_offset page) image c.write_change.result _ _ (c.write_change.ensures.write h)
+          (λ i out. outside_image log k page i image lt refl c.write_change.ensures.size out));
       images = λ h n long all.
           (let written : Written (page_offset page) image (g.D.Disk.state c.loop-place.disk).seen
-          (g.D.Disk.state c.write_image.new.disk).seen =
-          writes_ok _ _ c.write_image.result _ _ _ (c.in_ok-write_image.was) (c.write_image.ensures.write h) in
-          let before = c.loop-place.invariant.images (c.write_image.ensures.calls.was_honest h) n long all in
+          (g.D.Disk.state c.write_change.new.disk).seen =
+          writes_ok _ _ c.write_change.result _ _ _ (c.in_ok-write_change.was) (c.write_change.ensures.write h) in
+          let before = c.loop-place.invariant.images (c.write_change.ensures.calls.was_honest h) n long all in
           let long' : page_offset n ≤ length (g.D.Disk.state c.loop-place.disk).seen =
-          omega (arith, long, (c.loop-place.invariant.spares (c.write_image.ensures.calls.was_honest h)).longer) in
-          image_more n page image _ _ c.write_image.ensures.size (entry_below log n k page all lt c.page_at.ensures.page) long' written
+          omega (arith, long, (c.loop-place.invariant.spares (c.write_change.ensures.calls.was_honest h)).longer) in
+          image_more n page image _ _ c.write_change.ensures.size (entry_below log n k page all lt refl) long' written
           ∙ ap (λ (l : List (List ℕ)). set l page image) before
           ∙ sym (changed-push (pages_of n (g.D.Disk.state c.args.disk.now).seen) (take k log) (page, image))
-          ∙ ap (changed (pages_of n (g.D.Disk.state c.args.disk.now).seen))
-          (sym (take_entry log k page image lt c.page_at.ensures.page c.fill-short.ensures.image)));
-      failures = c.in_ok-write_image.ensures.calls.counted ∙ c.loop-place.invariant.failures;
+          ∙ ap (changed (pages_of n (g.D.Disk.state c.args.disk.now).seen)) (sym (take_entry log k page image lt refl refl)));
+      failures = c.in_ok-write_change.ensures.calls.counted ∙ c.loop-place.invariant.failures;
     }

@@ -1,4 +1,4 @@
-use Rattle.std.proofs.Common.{◌≡◌, List, length, set, vec_capacity, refl, sym, ◌∙◌, ap, subst, arith, rules}
+use Rattle.std.proofs.Common.{◌≡◌, ◌++◌, List, length, set, vec_capacity, refl, sym, ◌∙◌, ap, subst, arith, rules}
 use Rattle.tune_journal.specs.declared.changes.ChangedPage.{ChangedPage}
 use Rattle.tune_journal.specs.declared.changes.Kept.TheVariants.{Whole}
 use Rattle.tune_journal.specs.declared.changes.PageImage.{PageImage}
@@ -35,7 +35,8 @@ invariant_of-self-in-Ok c =
     let size : length c.args.image.now.bytes ≡ block_bytes = search rules in
     let last : c.self.inside.whole.len ≡ length whole = search rules in
     let new : ChangedPage = record { page = c.args.page; kept = Whole c.len-place.result } in
-    subst (λ (w : List PageImage). HoldsChanges w (set items c.args.at new) (vec_capacity c.push.new.self)) (sym c.in-Ok.ensures.items)
+    let more = c.in-Ok.ensures.items ∙ ap (λ (w : List PageImage). whole ++ w) c.from_ref.ensures.value in
+    subst (λ (w : List PageImage). HoldsChanges w (set items c.args.at new) (vec_capacity c.extend_from_slice.new.self)) (sym more)
     (kept_in _ _ _ _
     (whole_kept whole items _ c.self.invariant c.args.at c.index.result.now c.index.ensures c.args.page found c.args.image.now size
     (ap start_in c.in_default.is) new refl (ap Whole (c.len-place.ensures ∙ last)))
@@ -61,8 +62,8 @@ returns c =
     let size : length c.args.image.now.bytes ≡ block_bytes = search rules in
     let last : c.self.inside.whole.len ≡ length whole = search rules in
     let new : ChangedPage = record { page = c.args.page; kept = Whole c.len-place.result } in
-    let is : listed c.push.new.self.items (set items c.args.at new) ≡ with_change c.args.page c.args.image.now.bytes c.args.self.now =
-    ap (λ (w : List PageImage). listed w (set items c.args.at new)) c.in-Ok.ensures.items
+    let is : listed c.extend_from_slice.new.self.items (set items c.args.at new) ≡ with_change c.args.page c.args.image.now.bytes c.args.self.now =
+    ap (λ (w : List PageImage). listed w (set items c.args.at new)) (c.in-Ok.ensures.items ∙ ap (λ (w : List PageImage). whole ++ w) c.from_ref.ensures.value)
     ∙ whole_listed whole items _ c.self.invariant c.args.at c.index.result.now c.index.ensures c.args.page found c.args.image.now size
     (ap start_in c.in_default.is) new refl (ap Whole (c.len-place.ensures ∙ last))
     ∙ ap (with_change c.args.page c.args.image.now.bytes) c.self.view_is in
