@@ -3,6 +3,7 @@ pub mod Laid
 pub mod Four
 pub mod Texts
 pub mod Lengthened
+pub mod RunOrders
 pub mod TextRuns
 pub mod AsManyNotes
 pub mod AmongLemmas

@@ -1,6 +1,7 @@
 // The entries of texts, in order, before any page is touched.
-ghost use Rattle.std.specs.Prelude.{◌≡◌, ◌≤◌, ◌+◌, ◌++◌, ◌^◌, length, IfOk, OnOk};
+ghost use Rattle.std.specs.Prelude.{◌≡◌, ◌<◌, ◌≤◌, ◌+◌, ◌++◌, ◌^◌, length, All, IfErr, IfOk, OnOk, IsTrue};
 ghost use Rattle.std.specs.List.Sorted.{IsNonDecreasingBy, IsPermutation};
+ghost use Rattle.std.specs.List.Sorted.{IsSortedByKey, IsStableByKey};
 ghost use Rattle.std.specs.Ordering.{nat_cmp};
 ghost use Rattle.index_keys.specs.Entries.{AllFit, FitsLeaf, rank};
 ghost use Rattle.tune_search.specs.IncipitForms.{notes_in};
@@ -109,6 +110,33 @@ pub(crate) fn in_order<const W: usize>(run: Vec<(IndexKey<W>, u32)>) -> Vec<(Ind
     ensures same { IsPermutation run.entry.items result.items }
     ensures sorted { IsNonDecreasingBy rank result.items }
 {
+    if is_by_number(&run) {
+        in_key_order(run)
+    } else {
+        in_any_order(run)
+    }
+}
+
+// Entries that come by number, as those of texts do, in order. A sort by their keys alone that keeps
+// the order of equal ones is enough, and many tunes share a rhythm or a scale.
+fn in_key_order<const W: usize>(run: Vec<(IndexKey<W>, u32)>) -> Vec<(IndexKey<W>, u32)>
+    requires by_number { IsNonDecreasingBy (λ e. e.1) run.items }
+    requires small { All (λ e. e.1 < 2 ^ 32) run.items }
+    ensures same { IsPermutation run.entry.items result.items }
+    ensures sorted { IsNonDecreasingBy rank result.items }
+{
+    let mut run = run;
+    match sort_by_keys(&mut run) {
+        Ok(()) => run,
+        Err(_) => in_any_order(run),
+    }
+}
+
+// Entries in order, with no memory but theirs.
+fn in_any_order<const W: usize>(run: Vec<(IndexKey<W>, u32)>) -> Vec<(IndexKey<W>, u32)>
+    ensures same { IsPermutation run.entry.items result.items }
+    ensures sorted { IsNonDecreasingBy rank result.items }
+{
     let mut run = run;
     run.sort_unstable_by(
         |one, other|
@@ -116,6 +144,43 @@ pub(crate) fn in_order<const W: usize>(run: Vec<(IndexKey<W>, u32)>) -> Vec<(Ind
         { order_of(one, other) },
     );
     run
+}
+
+// Whether the numbers of entries do not fall.
+fn is_by_number<const W: usize>(run: &[(IndexKey<W>, u32)]) -> bool
+    ensures by_number { IsTrue result → IsNonDecreasingBy (λ e. e.1) run.now }
+    ensures small { IsTrue result → All (λ e. e.1 < 2 ^ 32) run.now }
+{
+    let mut last = 0;
+    for place in 0..run.len() {
+        let number = run[place].1;
+        if number < last {
+            return false;
+        }
+        last = number;
+    }
+    true
+}
+
+// Sorts entries by their keys, equal ones in the order that they have.
+fn sort_by_keys<const W: usize>(run: &mut Vec<(IndexKey<W>, u32)>) -> Result<(), AllocError>
+    ensures same { IsPermutation run.old.items run.new.items }
+    ensures sorted { OnOk result (IsSortedByKey (λ e. e.0) nat_cmp run.new.items) }
+    ensures stable { IsStableByKey (λ e. e.0) nat_cmp run.old.items run.new.items }
+    ensures err { IfErr result (λ _. run.new.items ≡ run.old.items) }
+{
+    run.sort_by(
+        |one, other|
+            ensures { result ≡ nat_cmp one.now.0 other.now.0 }
+        { key_order(one, other) },
+    )
+}
+
+// Which of the keys of two entries comes first.
+fn key_order<const W: usize>(one: &(IndexKey<W>, u32), other: &(IndexKey<W>, u32)) -> Ordering
+    ensures { result ≡ nat_cmp one.now.0 other.now.0 }
+{
+    one.0.compare(0, &other.0, 0)
 }
 
 // Which of two entries comes first.

@@ -1,7 +1,12 @@
-use Rattle.std.proofs.Common.{rules}
-use Rattle.std.proofs.lemmas.List.Sorted.{IsNonDecreasingBy-from_sort_by}
-use Rattle.index_keys.specs.Entries.{rank}
+use Rattle.std.proofs.Common.{◌<◌, ◌^◌, refl, subst, rules, All}
+use Rattle.std.specs.List.Sorted.{IsNonDecreasingBy}
 use Rattle.tune_search.proofs.runs.in_order.Goals as goal
 
-pub returns-clause-sorted : goal.returns-clause-sorted
-returns-clause-sorted g c = IsNonDecreasingBy-from_sort_by rank _ c.sort_unstable_by.ensures.sorted (λ a r q k. search (rules, k))
+pub in_key_order-requires : goal.in_key_order-requires
+in_key_order-requires g c = (
+  search rules,
+  (
+    subst (IsNonDecreasingBy (λ e. e.1)) c.deref.ensures.value (c.if-is_by_number.ensures.by_number refl),
+    subst (All (λ e. e.1 < 2 ^ 32)) c.deref.ensures.value (c.if-is_by_number.ensures.small refl),
+  ),
+)
