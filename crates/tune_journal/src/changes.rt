@@ -1,8 +1,8 @@
 // Pages that change.
-ghost use Rattle.std.specs.Prelude.{◌≡◌, ◌≢◌, ◌<◌, ◌==◌, ℕ, [], length, map, replicate, take, drop};
+ghost use Rattle.std.specs.Prelude.{◌≡◌, ◌≢◌, ◌<◌, ◌==◌, ℕ, List, [], length, map, replicate};
 ghost use Rattle.std.specs.Prelude.{true, false, IsTrue, None, Some, IsSome, IsOk, OnOk, OnErr};
 ghost use Rattle.std.specs.Prelude.{IfOk, IfErr, All, option_map, vec_len, vec_capacity};
-ghost use Rattle.std.specs.Prelude.{◌+◌, ◌≤◌};
+ghost use Rattle.std.specs.Prelude.{◌+◌, ◌≤◌, take, drop};
 ghost use Rattle.std.specs.List.Sorted.{IsStrictlyIncreasing};
 ghost use Rattle.tune_journal.specs.ChangeList.{with_change, image_of, change_at, changed_page};
 ghost use Rattle.tune_journal.specs.ChangeList.{padded};
@@ -53,6 +53,14 @@ enum Kept {
 struct ChangedPage {
     page: u32,
     kept: Kept,
+}
+
+// Where a page stands among the changes.
+#[derive(Clone, Copy, Drop)]
+struct PlaceOfPage {
+    at: usize,
+    // whether it was added just now
+    is_new: bool,
 }
 
 /// The pages that a commit changes, each with its new image. Contracts see a list of (page, image)
@@ -110,15 +118,11 @@ impl Changes {
         ensures err { OnErr result (self.new ≡ self.old) }
         ensures replaces { IsSome (image_of page self.old) → IsOk result }
     {
-        match self.search(page) {
-            Ok(at) => self.replace(at, page, image),
-            Err(at) => {
-                self.add(at, page, &start_of(image))?;
-                if !is_short(image) {
-                    self.replace(at, page, image);
-                }
-            }
+        let found = self.find_or_add(page, &start_of(image))?;
+        if found.is_new && is_short(image) {
+            return Ok(());
         }
+        self.replace(found.at, page, image);
         Ok(())
     }
 
@@ -137,10 +141,11 @@ impl Changes {
         ensures err { OnErr result (self.new ≡ self.old) }
         ensures replaces { IsSome (image_of page self.old) → IsOk result }
     {
-        match self.search(page) {
-            Ok(at) => self.replace_start(at, page, start),
-            Err(at) => self.add(at, page, start)?,
+        let found = self.find_or_add(page, start)?;
+        if found.is_new {
+            return Ok(());
         }
+        self.replace_start(found.at, page, start);
         Ok(())
     }
 
@@ -241,6 +246,26 @@ impl Changes {
             Kept::Whole(at) => {
                 image.copy_from_slice(&self.whole[*at].bytes);
                 false
+            }
+        }
+    }
+
+    // The place of the page. Where it is not among the changes, it is added with these first bytes.
+    fn find_or_add(&mut self, page: u32, start: &[u8; 256]) -> Result<PlaceOfPage, AllocError>
+        ensures place { IfOk result (λ found. FoundAt page found.at self.new) }
+        ensures is_new { IfOk result (λ found.
+            found.is_new ≡ true → self.new ≡ with_change page (padded start.now) self.old) }
+        // What is then put stands in place of both.
+        ensures put { OnOk result ((image : List ℕ)
+            → with_change page image self.new ≡ with_change page image self.old) }
+        ensures err { OnErr result (self.new ≡ self.old) }
+        ensures replaces { IsSome (image_of page self.old) → IsOk result }
+    {
+        match self.search(page) {
+            Ok(at) => Ok(PlaceOfPage { at, is_new: false }),
+            Err(at) => {
+                self.add(at, page, start)?;
+                Ok(PlaceOfPage { at, is_new: true })
             }
         }
     }
