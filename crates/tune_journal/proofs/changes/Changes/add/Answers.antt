@@ -1,9 +1,8 @@
 use Rattle.std.proofs.Common.{◌≡◌, ℕ, ◌<◌, List, [], ◌∷◌, ◌++◌, length, replicate, vec_capacity, length-append, refl, sym, ◌∙◌, ap, subst, arith, rules}
 use Rattle.std.specs.List.{insert}
-use Rattle.std.proofs.lemmas.List.{length-replicate, length-map}
+use Rattle.std.proofs.lemmas.List.{length-replicate}
 use Rattle.tune_journal.specs.declared.changes.ChangedPage.{ChangedPage}
 use Rattle.tune_journal.specs.declared.changes.Kept.TheVariants.{Start}
-use Rattle.tune_journal.specs.declared.changes.PageImage.{PageImage}
 use Rattle.tune_journal.specs.ChangeList.{padded, with_change}
 use Rattle.tune_journal.specs.Inside.ChangeOrder.{FoundAt, MissingAt}
 use Rattle.tune_journal.specs.Inside.ListedChanges.{image_in, listed, HoldsChanges}

@@ -1,4 +1,4 @@
-use Rattle.std.proofs.Common.{◌≡◌, IsSome, List, ℕ, subst, ◌∙◌, ap}
+use Rattle.std.proofs.Common.{IsSome, subst, ◌∙◌, ap}
 use Rattle.std.proofs.lemmas.Bool.{false≢true}
 use Rattle.tune_journal.specs.ChangeList.{padded, with_change}
 use Rattle.tune_journal.proofs.ChangeLists.{image_of_missing}
