@@ -1,7 +1,8 @@
 // Pages that change.
 ghost use Rattle.std.specs.Prelude.{◌≡◌, ◌≢◌, ◌<◌, ◌==◌, ℕ, List, [], length, map, replicate};
 ghost use Rattle.std.specs.Prelude.{true, false, IsTrue, None, Some, IsSome, IsOk, OnOk, OnErr};
-ghost use Rattle.std.specs.Prelude.{IfOk, IfErr, All, option_map, vec_capacity, ◌+◌, ◌≤◌, take, drop};
+ghost use Rattle.std.specs.Prelude.{IfOk, IfErr, All, option_map, vec_capacity};
+ghost use Rattle.std.specs.Prelude.{◌+◌, ◌≤◌, take, drop};
 ghost use Rattle.std.specs.List.Sorted.{IsStrictlyIncreasing};
 ghost use Rattle.tune_journal.specs.ChangeList.{with_change, image_of, change_at, changed_page};
 ghost use Rattle.tune_journal.specs.ChangeList.{padded};
