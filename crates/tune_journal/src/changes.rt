@@ -1,8 +1,8 @@
 // Pages that change.
-ghost use Rattle.std.specs.Prelude.{◌≡◌, ◌≢◌, ◌<◌, ◌==◌, ℕ, [], length, map, replicate, take, drop};
+ghost use Rattle.std.specs.Prelude.{◌≡◌, ◌≢◌, ◌<◌, ◌==◌, ℕ, List, [], length, map, replicate};
 ghost use Rattle.std.specs.Prelude.{true, false, IsTrue, None, Some, IsSome, IsOk, OnOk, OnErr};
-ghost use Rattle.std.specs.Prelude.{IfOk, IfErr, IfSome, All, option_map, vec_len, vec_capacity};
-ghost use Rattle.std.specs.Prelude.{◌+◌, ◌≤◌};
+ghost use Rattle.std.specs.Prelude.{IfOk, IfErr, IfSome, All, option_map, vec_capacity};
+ghost use Rattle.std.specs.Prelude.{◌+◌, ◌≤◌, take, drop};
 ghost use Rattle.std.specs.List.Sorted.{IsStrictlyIncreasing};
 ghost use Rattle.tune_journal.specs.ChangeList.{with_change, image_of, change_at, changed_page};
 ghost use Rattle.tune_journal.specs.ChangeList.{padded};
@@ -37,11 +37,14 @@ const START: usize = 256;
 // The others then.
 static ZEROS: [u8; 3840] = [0; 3840];
 
+// For how many changes room is taken at first.
+const ROOM: usize = 24;
+
 // How the image of a change is held: apart, so that a page among many others moves no images.
 #[derive(Drop)]
 enum Kept {
-    // by its first bytes: the others are zeros
-    Start(Box<[u8; 256]>),
+    // at this place among the images that are held by their first bytes: the others are zeros
+    Start(usize),
     // at this place among the whole images
     Whole(usize),
 }
@@ -53,6 +56,14 @@ struct ChangedPage {
     kept: Kept,
 }
 
+// Where a page stands among the changes.
+#[derive(Clone, Copy, Drop)]
+struct PlaceOfPage {
+    at: usize,
+    // whether it was added just now
+    is_new: bool,
+}
+
 /// The pages that a commit changes, each with its new image. Contracts see a list of (page, image)
 /// by rising page.
 #[derive(Drop)]
@@ -60,6 +71,8 @@ pub struct Changes {
     alloc: Global,
     // by rising page; a page at either end moves none of the others
     changed: VecDeque<ChangedPage>,
+    // A page that got a whole image leaves its place here unused.
+    starts: Vec<[u8; 256]>,
     // There is room for the images of all changes, so that each can be replaced; it takes up no
     // memory of the machine until an image stands there.
     whole: Vec<PageImage>,
@@ -71,9 +84,10 @@ impl Model for Changes {
 
     ghost Value = { List (ℕ × List ℕ) };
 
-    ghost view = { λ c. listed c.whole.items c.changed.items };
+    ghost view = { λ c. listed c.starts.items c.whole.items c.changed.items };
 
-    ghost invariant = { λ c. HoldsChanges c.whole.items c.changed.items (vec_capacity c.whole) };
+    ghost invariant = { λ c.
+        HoldsChanges c.starts.items c.whole.items c.changed.items (vec_capacity c.whole) };
 }
 
 impl Changes {
@@ -84,6 +98,7 @@ impl Changes {
         Changes {
             alloc,
             changed: VecDeque::new(alloc),
+            starts: Vec::new(alloc),
             whole: Vec::new(alloc),
         }
     }
@@ -104,15 +119,11 @@ impl Changes {
         ensures err { OnErr result (self.new ≡ self.old) }
         ensures replaces { IsSome (image_of page self.old) → IsOk result }
     {
-        match self.search(page) {
-            Ok(at) => self.replace(at, page, image),
-            Err(at) => {
-                self.add(at, page, &start_of(image))?;
-                if !is_short(image) {
-                    self.replace(at, page, image);
-                }
-            }
+        let found = self.find_or_add(page, &start_of(image))?;
+        if found.is_new && is_short(image) {
+            return Ok(());
         }
+        self.replace(found.at, page, image);
         Ok(())
     }
 
@@ -131,10 +142,11 @@ impl Changes {
         ensures err { OnErr result (self.new ≡ self.old) }
         ensures replaces { IsSome (image_of page self.old) → IsOk result }
     {
-        match self.search(page) {
-            Ok(at) => self.replace_start(at, page, start),
-            Err(at) => self.add(at, page, start)?,
+        let found = self.find_or_add(page, start)?;
+        if found.is_new {
+            return Ok(());
         }
+        self.replace_start(found.at, page, start);
         Ok(())
     }
 
@@ -146,9 +158,13 @@ impl Changes {
     pub fn reserve(&mut self, more: usize) -> Result<(), AllocError>
         ensures { self.new ≡ self.old }
     {
-        let room = self.changed.len().saturating_add(more);
-        let wanted = room - self.whole.len();
-        reserve_images(self.alloc, &mut self.whole, wanted)
+        take_room(
+            self.alloc,
+            &mut self.changed,
+            &mut self.starts,
+            &mut self.whole,
+            more,
+        )
     }
 
     /// The image that the page changes to; `None` exactly where it is not among the changes.
@@ -208,7 +224,7 @@ impl Changes {
         ensures { result.bytes ≡ (change_at self.now place).1 }
     {
         match &self.changed[place].kept {
-            Kept::Start(start) => restored(start),
+            Kept::Start(at) => restored(&self.starts[*at]),
             Kept::Whole(at) => self.whole[*at],
         }
     }
@@ -224,8 +240,8 @@ impl Changes {
         ensures short { result ≡ true → IsShort image.new }
     {
         match &self.changed[place].kept {
-            Kept::Start(start) => {
-                fill_short(image, start, short);
+            Kept::Start(at) => {
+                fill_short(image, &self.starts[*at], short);
                 true
             }
             Kept::Whole(at) => {
@@ -246,6 +262,26 @@ impl Changes {
         }
     }
 
+    // The place of the page. Where it is not among the changes, it is added with these first bytes.
+    fn find_or_add(&mut self, page: u32, start: &[u8; 256]) -> Result<PlaceOfPage, AllocError>
+        ensures place { IfOk result (λ found. FoundAt page found.at self.new) }
+        ensures is_new { IfOk result (λ found.
+            found.is_new ≡ true → self.new ≡ with_change page (padded start.now) self.old) }
+        // What is then put stands in place of both.
+        ensures put { OnOk result ((image : List ℕ)
+            → with_change page image self.new ≡ with_change page image self.old) }
+        ensures err { OnErr result (self.new ≡ self.old) }
+        ensures replaces { IsSome (image_of page self.old) → IsOk result }
+    {
+        match self.search(page) {
+            Ok(at) => Ok(PlaceOfPage { at, is_new: false }),
+            Err(at) => {
+                self.add(at, page, start)?;
+                Ok(PlaceOfPage { at, is_new: true })
+            }
+        }
+    }
+
     // Adds a change to these first bytes, with zeros behind them.
     fn add(&mut self, at: usize, page: u32, start: &[u8; 256]) -> Result<(), AllocError>
         requires { MissingAt page at self.old }
@@ -253,10 +289,15 @@ impl Changes {
         ensures found { OnOk result (FoundAt page at self.new) }
         ensures err { OnErr result (self.new ≡ self.old) }
     {
-        let count = self.len() + 1;
-        let wanted = count - self.whole.len();
-        reserve_images(self.alloc, &mut self.whole, wanted)?;
-        let kept = Kept::Start(Box::new(self.alloc, *start)?);
+        take_room(
+            self.alloc,
+            &mut self.changed,
+            &mut self.starts,
+            &mut self.whole,
+            1,
+        )?;
+        let kept = Kept::Start(self.starts.len());
+        self.starts.push(*start)?;
         self.changed.insert(at, ChangedPage { page, kept })?;
         Ok(())
     }
@@ -317,18 +358,43 @@ impl Changes {
     }
 }
 
-// Takes memory for so many more images. Where none stands there, it is taken anew: to make room
-// larger may copy it, and so take up memory of the machine for what holds nothing.
-fn reserve_images(alloc: Global, whole: &mut Vec<PageImage>, more: usize) -> Result<(), AllocError>
-    ensures items { whole.new.items ≡ whole.old.items }
-    ensures len { vec_len whole.new ≡ vec_len whole.old }
-    ensures ok { OnOk result (vec_len whole.new + more ≤ vec_capacity whole.new) }
+// Takes memory for so many more changes, and for some more where there is none for these.
+fn take_room(
+    alloc: Global,
+    changed: &mut VecDeque<ChangedPage>,
+    starts: &mut Vec<[u8; 256]>,
+    whole: &mut Vec<PageImage>,
+    more: usize,
+) -> Result<(), AllocError>
+    ensures changed { changed.new.items ≡ changed.old.items }
+    ensures starts { starts.new.items ≡ starts.old.items }
+    ensures whole { whole.new.items ≡ whole.old.items }
+    ensures ok { OnOk result (length changed.old.items + more ≤ vec_capacity whole.new) }
     ensures capacity { vec_capacity whole.old ≤ vec_capacity whole.new }
 {
-    if !whole.is_empty() || more <= whole.capacity() {
-        return whole.reserve(more);
+    let Some(count) = changed.len().checked_add(more) else {
+        return Err(AllocError);
+    };
+    if count <= whole.capacity() {
+        return Ok(());
     }
-    let room = whole.capacity().saturating_mul(2).max(more);
+    let more = more.max(ROOM);
+    reserve_images(alloc, whole, count.max(ROOM))?;
+    starts.reserve(more)?;
+    changed.reserve(more)
+}
+
+// Takes memory for so many images in all. Where none stands there, it is taken anew: to make room
+// larger may copy it, and so take up memory of the machine for what holds nothing.
+fn reserve_images(alloc: Global, whole: &mut Vec<PageImage>, count: usize) -> Result<(), AllocError>
+    ensures items { whole.new.items ≡ whole.old.items }
+    ensures ok { OnOk result (count ≤ vec_capacity whole.new) }
+    ensures capacity { vec_capacity whole.old ≤ vec_capacity whole.new }
+{
+    if !whole.is_empty() || count <= whole.capacity() {
+        return whole.reserve(count.saturating_sub(whole.len()));
+    }
+    let room = whole.capacity().saturating_mul(2).max(count);
     *whole = Vec::with_capacity(alloc, room)?;
     Ok(())
 }

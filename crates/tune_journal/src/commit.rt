@@ -5,7 +5,7 @@ ghost use Rattle.byteorder.specs.Endian.{big_bytes};
 ghost use Rattle.tune_disk.specs.Disk.{Writes, Written, Calls};
 ghost use Rattle.tune_disk.specs.Inside.Spares.{Spares};
 ghost use Rattle.tune_journal.specs.ChangeList.{change_at};
-ghost use Rattle.tune_journal.specs.Image.{count_of, IsLog, number, page_offset, entry_offset};
+ghost use Rattle.tune_journal.specs.Image.{count_of, IsLog, page_offset, entry_offset};
 ghost use Rattle.tune_journal.specs.Image.{pages_of};
 ghost use Rattle.tune_journal.specs.Inside.Phases.{log_entry, WritesAndSyncs, IsNoLog, IsOutside};
 ghost use Rattle.tune_journal.specs.Inside.Phases.{IsInNoPage, HoldsEntries, HoldsDescriptor};

@@ -1,10 +1,10 @@
 // What opening finds in a file that a stop may have left.
 ghost use Rattle.std.specs.Prelude.{◌≡◌, ◌≤◌, ◌^◌, ◌+◌, ◌↔◌, IsTrue, length, OnOk, IfOk};
 ghost use Rattle.tune_disk.specs.Disk.{Calls, Looks};
-ghost use Rattle.tune_journal.specs.Image.{window, number, entry_offset, gate_of, magic_of};
+ghost use Rattle.tune_journal.specs.Image.{number, entry_offset, gate_of, magic_of};
 ghost use Rattle.tune_journal.specs.Inside.Looking.{Climbs, IsSyncedOrSame, Sees, SeesOpen};
 ghost use Rattle.tune_journal.specs.Inside.Looking.{SeesClosed, IsBounded};
-ghost use Rattle.tune_journal.specs.FileOffsets.{magic, magic_offset, magic_bytes, gate_open};
+ghost use Rattle.tune_journal.specs.FileOffsets.{magic, magic_bytes, gate_open};
 ghost use Rattle.tune_journal.specs.FileOffsets.{least_length, most_pages};
 ghost use Rattle.tune_journal.specs.Refusal.{IsSynced};
 

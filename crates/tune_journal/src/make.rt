@@ -3,7 +3,7 @@ ghost use Rattle.std.specs.Prelude.{◌≡◌, ◌<◌, [], ◌∷◌, length, O
 ghost use Rattle.tune_disk.specs.Disk.{Calls, settled};
 ghost use Rattle.tune_disk.specs.Stops.{LeavesOnly, SinceThen};
 ghost use Rattle.tune_journal.specs.Held.{disk_of_opening};
-ghost use Rattle.tune_journal.specs.Image.{StandsFor, pages_of, StandsForNone};
+ghost use Rattle.tune_journal.specs.Image.{pages_of, StandsForNone};
 ghost use Rattle.tune_journal.specs.Inside.LaidFile.{IsCleared, IsLaid};
 ghost use Rattle.tune_journal.specs.Inside.Phases.{WritesAndSyncs};
 ghost use Rattle.tune_journal.specs.Inside.Rest.{IsAtRest};

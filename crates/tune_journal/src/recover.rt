@@ -1,5 +1,5 @@
 // Recovery: the images of a log are copied into their pages.
-ghost use Rattle.std.specs.Prelude.{◌≡◌, ◌<◌, ◌≤◌, ◌+◌, length, OnOk};
+ghost use Rattle.std.specs.Prelude.{◌≡◌, ◌<◌, ◌≤◌, ◌+◌, OnOk};
 ghost use Rattle.tune_disk.specs.Disk.{Writes};
 ghost use Rattle.tune_disk.specs.Inside.Spares.{Spares};
 ghost use Rattle.tune_journal.specs.Image.{window, number, page_offset, entry_offset};

@@ -1,5 +1,5 @@
 // The pages of an open archive.
-ghost use Rattle.std.specs.Prelude.{◌≡◌, ℕ, ◌<◌, ◌≤◌, false, Some, length, IfOk, MatchResult};
+ghost use Rattle.std.specs.Prelude.{◌≡◌, ℕ, ◌<◌, ◌≤◌, false, Some, length, IfOk};
 ghost use Rattle.std.specs.Prelude.{true, All, Err, ◌-◌, ◌++◌, replicate, take};
 ghost use Rattle.tune_journal.specs.FileOffsets.{block_bytes, most_pages};
 ghost use Rattle.tune_journal.specs.Moments.{LeavesPages};

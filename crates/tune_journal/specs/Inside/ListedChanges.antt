@@ -11,42 +11,43 @@ use Rattle.tune_journal.specs.Inside.ChangeOrder.{IsChangeList}
 abbrev pub wholes : List PageImage → List (List ℕ)
 wholes whole = map (λ image. image.bytes) whole
 
-abbrev pub image_in : List PageImage → Kept → List ℕ
-image_in whole (Start start) = padded start.value
-image_in whole (Whole place) = slice_index_or (wholes whole) place []
+abbrev pub image_in : List (List ℕ) → List PageImage → Kept → List ℕ
+image_in starts whole (Start place) = padded (slice_index_or starts place [])
+image_in starts whole (Whole place) = slice_index_or (wholes whole) place []
 
-abbrev pub change_in : List PageImage → ChangedPage → ℕ × List ℕ
-change_in whole c = (c.page, image_in whole c.kept)
+abbrev pub change_in : List (List ℕ) → List PageImage → ChangedPage → ℕ × List ℕ
+change_in starts whole c = (c.page, image_in starts whole c.kept)
 
-abbrev pub listed : List PageImage → List ChangedPage → List (ℕ × List ℕ)
-listed whole changed = map (change_in whole) changed
+abbrev pub listed : List (List ℕ) → List PageImage → List ChangedPage → List (ℕ × List ℕ)
+listed starts whole changed = map (change_in starts whole) changed
 
--- A whole image stands at its place, which has the number of its page.
-abbrev pub HasPlace : List ℕ → ℕ → Kept → Type 0
-HasPlace pages page (Start start) = Unit {0}
-HasPlace pages page (Whole place) = (place < length pages) × (slice_index_or pages place 0 ≡ page)
+-- An image stands at its place: where it is whole, that has the number of its page.
+abbrev pub HasPlace : ℕ → List ℕ → ℕ → Kept → Type 0
+HasPlace n pages page (Start place) = place < n
+HasPlace n pages page (Whole place) =
+    (place < length pages) × (slice_index_or pages place 0 ≡ page)
 
--- and so for each change: no place is that of two
-abbrev pub HavePlaces : List ℕ → List ChangedPage → Type 0
-HavePlaces pages [] = Unit {0}
-HavePlaces pages (c ∷ cs) = HasPlace pages c.page c.kept × HavePlaces pages cs
+-- and so for each change: no place of a whole one is that of two
+abbrev pub HavePlaces : ℕ → List ℕ → List ChangedPage → Type 0
+HavePlaces n pages [] = Unit {0}
+HavePlaces n pages (c ∷ cs) = HasPlace n pages c.page c.kept × HavePlaces n pages cs
 
 abbrev pub start_in : Kept → ℕ
-start_in (Start start) = 1
+start_in (Start place) = 1
 start_in (Whole place) = 0
 
 -- how many changes are held by their first bytes
-abbrev pub starts : List ChangedPage → ℕ
-starts [] = 0
-starts (c ∷ cs) = start_in c.kept + starts cs
+abbrev pub start_count : List ChangedPage → ℕ
+start_count [] = 0
+start_count (c ∷ cs) = start_in c.kept + start_count cs
 
 -- A list of changes, with room for the whole image of each. `pages` has the page of each whole
 -- image.
-pub record HoldsChanges (whole : List PageImage) (changed : List ChangedPage) (room : ℕ)
-    : Type 0 where
+pub record HoldsChanges (starts : List (List ℕ)) (whole : List PageImage)
+    (changed : List ChangedPage) (room : ℕ) : Type 0 where
   pub pages : List ℕ
-  pub order : IsChangeList (listed whole changed)
+  pub order : IsChangeList (listed starts whole changed)
   pub marks : length pages ≡ length whole
-  pub places : HavePlaces pages changed
-  pub count : length whole + starts changed ≡ length changed
+  pub places : HavePlaces (length starts) pages changed
+  pub count : length whole + start_count changed ≡ length changed
   pub fits : length changed ≤ room

@@ -5,7 +5,6 @@ use Rattle.tune_disk.proofs.Moments.{spares_none, spares_then, spares_write}
 use Rattle.tune_journal.specs.ChangeList.{change_at}
 use Rattle.tune_journal.specs.Image.{pages_of, page_offset}
 use Rattle.tune_journal.specs.Inside.Phases.{IsInNoPage}
-use Rattle.tune_journal.specs.FileOffsets.{most_pages}
 use Rattle.tune_journal.specs.Pages.{changed}
 use Rattle.tune_journal.proofs.Loops.{image_more, changed-push, outside_image, take_entry, entry_below}
 use Rattle.tune_journal.proofs.CallRuns.{writes_ok}

@@ -7,4 +7,4 @@ use Rattle.tune_journal.proofs.changes.Changes.len.Goals as goal
 pub returns-clause-rising : goal.returns-clause-rising
 returns-clause-rising c =
     subst (λ (l : List (ℕ × List ℕ)). IsStrictlyIncreasing (map (λ d. d.0) l)) c.self.view_is
-    (increasing_from_rises (listed c.self.inside.whole.items c.self.inside.changed.items) c.self.invariant.order.rising)
+    (increasing_from_rises (listed c.self.inside.starts.items c.self.inside.whole.items c.self.inside.changed.items) c.self.invariant.order.rising)

@@ -1,24 +1,23 @@
-use Rattle.std.proofs.Common.{IsSome, subst}
-use Rattle.std.proofs.lemmas.Bool.{false≢true}
+use Rattle.std.proofs.Common.{◌∙◌}
 use Rattle.tune_journal.specs.ChangeList.{padded}
-use Rattle.tune_journal.proofs.ChangeLists.{image_of_missing}
 use Rattle.tune_journal.proofs.Puts.{put_found, put_others}
 use Rattle.tune_journal.proofs.changes.Changes.put_start.Goals as goal
 
-pub returns-in_err-add-in-Err-clause-replaces : goal.returns-in_err-add-in-Err-clause-replaces
-returns-in_err-add-in-Err-clause-replaces c =
-    λ some. absurd (false≢true (subst IsSome (image_of_missing c.args.page c.in-Err.at c.args.self.now c.in-Err.ensures.missing) some))
+-- a page that was not there
+pub returns-then-found-clause-found : goal.returns-then-found-clause-found
+returns-then-found-clause-found c =
+    put_found c.args.page (padded c.args.start.now) c.args.self.now c.find_or_add.new.self (c.in_ok-found.ensures.is_new c.if-found.true)
 
-pub returns-in-Ok-clause-found : goal.returns-in-Ok-clause-found
-returns-in-Ok-clause-found c = put_found c.args.page (padded c.args.start.now) c.args.self.now c.replace_start.new.self c.replace_start.ensures
+pub returns-then-found-clause-others : goal.returns-then-found-clause-others
+returns-then-found-clause-others c =
+    put_others c.args.page (padded c.args.start.now) c.args.self.now c.find_or_add.new.self (c.in_ok-found.ensures.is_new c.if-found.true)
 
-pub returns-in-Ok-clause-others : goal.returns-in-Ok-clause-others
-returns-in-Ok-clause-others c = put_others c.args.page (padded c.args.start.now) c.args.self.now c.replace_start.new.self c.replace_start.ensures
+-- any other
+pub returns-clause-ok : goal.returns-clause-ok
+returns-clause-ok c = c.replace_start.ensures ∙ c.in_ok-found.ensures.put (padded c.args.start.now)
 
-pub returns-in_ok-add-in-Err-clause-found : goal.returns-in_ok-add-in-Err-clause-found
-returns-in_ok-add-in-Err-clause-found c =
-    put_found c.args.page (padded c.args.start.now) c.args.self.now c.add.new.self c.in_ok-add-in-Err.ensures.ok
+pub returns-clause-found : goal.returns-clause-found
+returns-clause-found c = put_found c.args.page (padded c.args.start.now) c.args.self.now c.replace_start.new.self (returns-clause-ok c)
 
-pub returns-in_ok-add-in-Err-clause-others : goal.returns-in_ok-add-in-Err-clause-others
-returns-in_ok-add-in-Err-clause-others c =
-    put_others c.args.page (padded c.args.start.now) c.args.self.now c.add.new.self c.in_ok-add-in-Err.ensures.ok
+pub returns-clause-others : goal.returns-clause-others
+returns-clause-others c = put_others c.args.page (padded c.args.start.now) c.args.self.now c.replace_start.new.self (returns-clause-ok c)

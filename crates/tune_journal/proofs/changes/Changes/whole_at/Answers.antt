@@ -6,10 +6,11 @@ use Rattle.tune_journal.proofs.changes.Changes.whole_at.Goals as goal
 
 pub index-requires-in-Whole : goal.index-requires-in-Whole
 index-requires-in-Whole c =
+    let starts = c.self.inside.starts.items in
     let whole = c.self.inside.whole.items in
     let items = c.self.inside.changed.items in
     let size : c.self.inside.whole.len ≡ length whole = search rules in
-    let same : length (listed whole items) ≡ length c.args.self.now = ap length c.self.view_is in
-    let within : c.args.place < length items = in_listed whole items c.args.place (omega (arith, same, c.requires)) in
-    let there = place_in whole items _ c.self.invariant c.args.place c.index.result.now c.index.ensures c.in-Whole.at within c.in-Whole.is in
+    let same : length (listed starts whole items) ≡ length c.args.self.now = ap length c.self.view_is in
+    let within : c.args.place < length items = in_listed starts whole items c.args.place (omega (arith, same, c.requires)) in
+    let there = place_in starts whole items _ c.self.invariant c.args.place c.index.result.now c.index.ensures c.in-Whole.at within c.in-Whole.is in
     omega (arith, size, there)
