@@ -13,7 +13,7 @@ unfolding leaf_in
 leaf_in_is width image = refl
 
 -- a number and a count, written and read
-length-value_bytes : (value : ℕ) → length (value_bytes value) ≡ 4
+pub length-value_bytes : (value : ℕ) → length (value_bytes value) ≡ 4
 unfolding value_bytes
 length-value_bytes value = length-bytes_high_first 4 value
 
@@ -25,19 +25,19 @@ value_back : (value : ℕ) (rest : List ℕ) → value < 2 ^ 32 → value_in (va
 unfolding value_in value_bytes
 value_back value rest h = big_number-reads_back 4 value rest h
 
-count_back : (count : ℕ) (rest : List ℕ) → count < 256 ^ 2 → count_in (count_bytes count ++ rest) ≡ count
+pub count_back : (count : ℕ) (rest : List ℕ) → count < 256 ^ 2 → count_in (count_bytes count ++ rest) ≡ count
 unfolding count_in count_bytes
 count_back count rest h = big_number-reads_back 2 count rest h
 
 -- what stands after the first of two lists
-drop_front : (n : ℕ) (xs ys : List ℕ) → length xs ≡ n → drop n (xs ++ ys) ≡ ys
+pub drop_front : (n : ℕ) (xs ys : List ℕ) → length xs ≡ n → drop n (xs ++ ys) ≡ ys
 drop_front zero [] ys e = refl
 drop_front zero (x ∷ xs) ys e = absurd (omega arith)
 drop_front (suc n) [] ys e = absurd (omega arith)
 drop_front (suc n) (x ∷ xs) ys e = drop_front n xs ys (omega arith)
 
 -- the bytes of an entry
-length-entry_bytes : (width : ℕ) (e : Entry) → length (entry_bytes width e) ≡ width + 4
+pub length-entry_bytes : (width : ℕ) (e : Entry) → length (entry_bytes width e) ≡ width + 4
 length-entry_bytes width e =
     let a = length-append (big_bytes width e.0) (value_bytes e.1) in
     let b = length-bytes_high_first width e.0 in
@@ -45,7 +45,7 @@ length-entry_bytes width e =
     omega (arith, a, b, d)
 
 -- the entry that was written is the one that is read
-entry_back : (width : ℕ) (e : Entry) (rest : List ℕ) → FitsLeaf width e → entry_in width (entry_bytes width e ++ rest) ≡ e
+pub entry_back : (width : ℕ) (e : Entry) (rest : List ℕ) → FitsLeaf width e → entry_in width (entry_bytes width e ++ rest) ≡ e
 entry_back width e rest fits =
     let s : entry_bytes width e ++ rest ≡ big_bytes width e.0 ++ (value_bytes e.1 ++ rest) = append_assoc (big_bytes width e.0) (value_bytes e.1) rest in
     let k : big_number width (big_bytes width e.0 ++ (value_bytes e.1 ++ rest)) ≡ e.0 = big_number-reads_back width e.0 (value_bytes e.1 ++ rest) fits.key in
@@ -127,3 +127,7 @@ to_end n xs = take_all (length xs - n) (drop n xs) (omega (arith, length-drop n 
 pub length-entries_in : (width n : ℕ) (bytes : List ℕ) → length (entries_in width n bytes) ≡ n
 length-entries_in width zero bytes = refl
 length-entries_in width (suc n) bytes = let e = length-entries_in width n (drop (width + 4) bytes) in omega arith
+
+pub length-leaf_in : (width : ℕ) (image : List ℕ) → length (leaf_in width image) ≡ count_in image
+unfolding leaf_in
+length-leaf_in width image = length-entries_in width (count_in image) (drop 2 image)

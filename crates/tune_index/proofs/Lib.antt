@@ -17,3 +17,4 @@ pub mod Beside
 pub mod Shares
 pub mod Within
 pub mod Slots
+pub mod LeafBytes

@@ -226,6 +226,13 @@ leaf_at width all [] i l = absurd (omega arith)
 leaf_at width all (p ∷ ps) zero l = refl
 leaf_at width all (p ∷ ps) (suc i) l = leaf_at width all ps i (omega arith)
 
+-- the leaf in an image that was read from the page at a place
+pub read_leaf_at : (width : ℕ) (all : Stand) (shape : Shape) (leaves : List (List Entry)) (i page : ℕ) (image : List ℕ) → i < length shape.pages
+    → page ≡ slice_index shape.pages i → image ≡ image_at all page → HasLeaves width all shape leaves → leaf_in width image ≡ slice_index_or leaves i []
+read_leaf_at width all shape leaves i page image l at read h =
+    ap (leaf_in width) read ∙ ap (λ (x : ℕ). leaf_in width (image_at all x)) at ∙ sym (leaf_at width all shape.pages i l)
+    ∙ ap (λ (x : List (List Entry)). slice_index_or x i []) h.are
+
 -- AN ENTRY TAKEN OUT
 removed_past : (xs ys : List Entry) (e : Entry) → AllBelow (rank e) xs → removed e (xs ++ ys) ≡ xs ++ removed e ys
 removed_past [] ys e b = refl

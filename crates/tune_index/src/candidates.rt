@@ -11,7 +11,7 @@ ghost use Rattle.tune_index.specs.Indexes.{HasPages, IsIndex, entries_of};
 ghost use Rattle.tune_index.specs.Leaves.{IsLeaf, capacity, leaf_in, slice_entry};
 
 use crate::index::{Index, leaf_count, leaf_for};
-use crate::leaf::{Leaf, add_values_of, read_leaf};
+use crate::leaf::{add_values_of, is_leaf};
 use index_keys::IndexKey;
 use std::alloc::Global;
 use tune_disk::Disk;
@@ -44,40 +44,37 @@ fn read_leaf_image<D: Disk>(
     pages.read_page_into(work, page, image)
 }
 
-// The leaf in a page. A page that has none, which an honest disk does not show, closes the pages.
+// Puts the image of the leaf in a page in the place of `image`. A page that has none, which an
+// honest disk does not show, closes the pages.
 pub(crate) fn read_page_leaf<D: Disk, const W: usize>(
-    alloc: Global,
     pages: &mut Pages<D>,
     work: &Work,
     page: u32,
-) -> Result<Leaf<W>, Fault>
+    image: &mut PageImage,
+) -> Result<(), Fault>
     requires width { W ≤ 4090 }
     requires open { pages.old.closed ≡ false }
     requires fits { Fits pages.old work.now }
     requires in_use { HonestAt D.honest pages.old.disk → InUse (stand pages.old work.now) page }
     requires form { HonestAt D.honest pages.old.disk
         → IsLeaf W (image_at (stand pages.old work.now) page) }
-    ensures leaf { IfOk result (λ leaf. HonestAt D.honest pages.new.disk
-        → leaf.items ≡ leaf_in W (image_at (stand pages.old work.now) page)) }
+    ensures image { OnOk result (HonestAt D.honest pages.new.disk
+        → image.new.bytes ≡ image_at (stand pages.old work.now) page) }
+    ensures form { OnOk result (IsLeaf W image.new.bytes) }
     ensures in_use { OnOk result (InUse (stand pages.new work.now) page) }
-    ensures fit { IfOk result (λ leaf. AllFit W leaf.items) }
-    ensures some { IfOk result (λ leaf. 1 ≤ length leaf.items) }
-    ensures within { IfOk result (λ leaf. length leaf.items ≤ capacity W) }
     ensures fits { OnOk result (Fits pages.new work.now) }
     ensures stand { OnOk result (SameStand (HonestAt D.honest pages.new.disk)
         (stand pages.old work.now) (stand pages.new work.now)) }
     ensures looks { LooksAt D.honest D.failures D.state result pages.old pages.new }
     ensures answer { AnswersRead result pages.old.closed pages.new.closed }
 {
-    let mut image = PageImage::blank();
-    if let Err(fault) = read_leaf_image(pages, work, page, &mut image) {
+    if let Err(fault) = read_leaf_image(pages, work, page, image) {
         return Err(fault);
     }
-    match read_leaf(alloc, &image) {
-        Ok(Some(leaf)) => Ok(leaf),
-        Ok(None) => Err(pages.close()),
-        Err(_) => Err(Fault::OutOfMemory),
+    if !is_leaf::<W>(image) {
+        return Err(pages.close());
     }
+    Ok(())
 }
 
 // The values of the entries of the leaf in a page that are in the range go to the end of the list.

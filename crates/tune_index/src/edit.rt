@@ -13,11 +13,40 @@ ghost use Rattle.tune_index.specs.Leaves.{IsLeaf, capacity, leaf_in, slice_entry
 
 use crate::index::{Index, leaf_count, leaf_page};
 use crate::leaf::{capacity_of, write_leaf};
+use crate::leaf_edits::first_in_image;
 use index_keys::IndexKey;
 use std::alloc::{AllocError, Global};
 use tune_disk::Disk;
 use tune_journal::PageImage;
 use tune_pages::{Fault, Pages, Work, law_of_frames, law_of_works};
+
+// The image of a leaf goes into a page.
+fn put_leaf<D: Disk, const W: usize>(
+    pages: &Pages<D>,
+    work: &mut Work,
+    page: u32,
+    image: &PageImage,
+) -> Result<(), Fault>
+    requires open { pages.now.closed ≡ false }
+    requires fits { Fits pages.now work.old }
+    requires in_use { InUse (stand pages.now work.old) page }
+    requires form { IsLeaf W image.now.bytes }
+    ensures fits { OnOk result (Fits pages.now work.new) }
+    ensures leaf { OnOk result (leaf_in W (image_at (stand pages.now work.new) page)
+        ≡ leaf_in W image.now.bytes) }
+    ensures form { OnOk result (IsLeaf W (image_at (stand pages.now work.new) page)) }
+    ensures used { OnOk result
+        ((stand pages.now work.new).used ≡ (stand pages.now work.old).used) }
+    ensures puts { OnOk result (Puts (stand pages.now work.old) (stand pages.now work.new) page
+        (image_at (stand pages.now work.new) page)) }
+    ensures answer { AnswersChange result ⊥ }
+{
+    // For the proof.
+    law_of_works();
+    law_of_frames();
+    pages.put_page(work, page, image)?;
+    Ok(())
+}
 
 // The leaf goes into a page.
 fn write_page_leaf<D: Disk, const W: usize>(
@@ -43,40 +72,35 @@ fn write_page_leaf<D: Disk, const W: usize>(
         (image_at (stand pages.now work.new) page)) }
     ensures answer { AnswersChange result ⊥ }
 {
-    // For the proof.
-    law_of_works();
-    law_of_frames();
     let mut image = PageImage::blank();
     if write_leaf(alloc, leaf, &mut image).is_err() {
         return Err(Fault::OutOfMemory);
     }
-    pages.put_page(work, page, &image)?;
-    Ok(())
+    put_leaf::<D, W>(pages, work, page, &image)
 }
 
-// The leaf goes into the page of the one at the place, and its first entry into memory.
+// The image of a leaf goes into the page of the one at the place, and its first entry into memory.
 fn replace_leaf<D: Disk, const W: usize>(
-    alloc: Global,
     pages: &Pages<D>,
     work: &mut Work,
     index: &mut Index<W>,
     place: usize,
-    leaf: &[(IndexKey<W>, u32)],
+    image: &PageImage,
 ) -> Result<(), Fault>
     requires open { pages.now.closed ≡ false }
     requires fits { Fits pages.now work.old }
     requires place { place < length index.old.pages }
     requires in_use { InUse (stand pages.now work.old) (slice_index index.old.pages place) }
-    requires some { 1 ≤ length leaf.now }
-    requires within { length leaf.now ≤ capacity W }
+    requires form { IsLeaf W image.now.bytes }
     ensures fits { OnOk result (Fits pages.now work.new) }
     ensures pages { OnOk result (index.new.pages ≡ index.old.pages) }
-    ensures heads { OnOk result
-        (index.new.heads ≡ slice_set index.old.heads place (slice_entry leaf.now 0)) }
+    ensures heads { OnOk result (index.new.heads
+        ≡ slice_set index.old.heads place (slice_entry (leaf_in W image.now.bytes) 0)) }
     ensures list { OnOk result ((index.new.first ≡ index.old.first)
         × (index.new.listed ≡ index.old.listed)) }
     ensures leaf { OnOk result (leaf_in W
-        (image_at (stand pages.now work.new) (slice_index index.old.pages place)) ≡ leaf.now) }
+        (image_at (stand pages.now work.new) (slice_index index.old.pages place))
+        ≡ leaf_in W image.now.bytes) }
     ensures form { OnOk result (IsLeaf W
         (image_at (stand pages.now work.new) (slice_index index.old.pages place))) }
     ensures used { OnOk result
@@ -87,9 +111,8 @@ fn replace_leaf<D: Disk, const W: usize>(
     ensures answer { AnswersChange result ⊥ }
 {
     let page = index.pages[place];
-    let first = &leaf[0];
-    let head = (first.0.copy(), first.1);
-    write_page_leaf(alloc, pages, work, page, leaf)?;
+    let head = first_in_image(image);
+    put_leaf::<D, W>(pages, work, page, image)?;
     index.heads[place] = head;
     Ok(())
 }
@@ -126,8 +149,42 @@ fn unlist_leaf<const W: usize>(index: &mut Index<W>, place: usize)
     index.listed = false;
 }
 
+// The image of a leaf goes in place of the one at the place.
+pub(crate) fn set_image<D: Disk, const W: usize>(
+    pages: &Pages<D>,
+    work: &mut Work,
+    index: &mut Index<W>,
+    place: usize,
+    image: &PageImage,
+) -> Result<(), Fault>
+    requires open { pages.now.closed ≡ false }
+    requires fits { Fits pages.now work.old }
+    requires place { place < length index.old.pages }
+    requires in_use { InUse (stand pages.now work.old) (slice_index index.old.pages place) }
+    requires form { IsLeaf W image.now.bytes }
+    ensures fits { OnOk result (Fits pages.now work.new) }
+    ensures same { OnOk result (index.new.pages ≡ index.old.pages) }
+    ensures list { OnOk result (KeepsList index.old index.new) }
+    ensures pages { OnOk result (HasPages (stand pages.now work.old) index.old.pages
+        → HasPages (stand pages.now work.new) index.new.pages) }
+    ensures trades { OnOk result (HasPages (stand pages.now work.old) index.old.pages
+        → TradesPages index.old.pages index.new.pages
+        (stand pages.now work.old) (stand pages.now work.new)) }
+    ensures leaves { OnOk result (HasPages (stand pages.now work.old) index.old.pages
+        → (leaves : List (List Entry))
+        → HasLeaves W (stand pages.now work.old) index.old leaves
+        → HasLeaves W (stand pages.now work.new) index.new
+        (slice_set leaves place (leaf_in W image.now.bytes))) }
+    ensures balance { OnOk result (KeepsBalance (stand pages.now work.old)
+        (stand pages.now work.new) index.old.pages index.new.pages) }
+    ensures answer { AnswersChange result ⊥ }
+{
+    replace_leaf(pages, work, index, place, image)?;
+    Ok(())
+}
+
 // The leaf goes in place of the one at the place.
-pub(crate) fn set_leaf<D: Disk, const W: usize>(
+fn set_leaf<D: Disk, const W: usize>(
     alloc: Global,
     pages: &Pages<D>,
     work: &mut Work,
@@ -157,8 +214,14 @@ pub(crate) fn set_leaf<D: Disk, const W: usize>(
         (stand pages.now work.new) index.old.pages index.new.pages) }
     ensures answer { AnswersChange result ⊥ }
 {
-    replace_leaf(alloc, pages, work, index, place, leaf)?;
-    Ok(())
+    // For the proof.
+    let _count = leaf_count(index);
+    let mut image = PageImage::blank();
+    match write_leaf(alloc, leaf, &mut image) {
+        Ok(()) => {}
+        Err(_) => return Err(Fault::OutOfMemory),
+    }
+    set_image(pages, work, index, place, &image)
 }
 
 // The leaf goes into a page of its own, which comes to the place.

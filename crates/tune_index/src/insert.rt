@@ -1,5 +1,5 @@
 // Entries put into an index and taken out of it.
-ghost use Rattle.std.specs.Prelude.{◌≡◌, false, ℕ, List, [], ◌-◌, ◌≤◌, ◌<◌, ◌+◌, ◌++◌, length};
+ghost use Rattle.std.specs.Prelude.{◌≡◌, false, true, ℕ, List, [], ◌-◌, ◌≤◌, ◌<◌, ◌+◌, ◌++◌, length};
 ghost use Rattle.std.specs.Prelude.{IfOk, OnOk, slice_index, slice_index_or, take, drop};
 ghost use Rattle.tune_pages.specs.Faults.{free_pages};
 ghost use Rattle.tune_pages.specs.Frame.{InUse, TradesPages};
@@ -13,16 +13,18 @@ ghost use Rattle.tune_index.specs.Indexes.{AllLeaves, HasPages, IsIndex, KeepsBa
 ghost use Rattle.tune_index.specs.Indexes.{entries_of};
 ghost use Rattle.tune_index.specs.Inside.LeafLists.{HasLeaves, joined};
 ghost use Rattle.tune_index.specs.Inside.EntryPlaces.{AllBelow, BelongsTo};
-ghost use Rattle.tune_index.specs.Leaves.{capacity, slice_entry};
+ghost use Rattle.tune_index.specs.Leaves.{IsLeaf, capacity, leaf_in, slice_entry};
 
 use crate::candidates::read_page_leaf;
-use crate::edit::{add_leaf, drop_leaf, set_leaf, spread};
+use crate::edit::{add_leaf, drop_leaf, set_image, spread};
 use crate::index::{Index, leaf_count, leaf_for, leaf_page};
-use crate::leaf::{Leaf, capacity_of};
-use crate::search::{insert_in, place_of, remove_in};
+use crate::leaf::{Leaf, capacity_of, leaf_entries};
+use crate::leaf_edits::{insert_in_image, remove_in_image};
+use crate::search::{insert_in, place_of};
 use index_keys::IndexKey;
 use std::alloc::{AllocError, Global};
 use tune_disk::Disk;
+use tune_journal::PageImage;
 use tune_pages::{Fault, Pages, Work, law_of_frames, law_of_looks};
 
 // The entries go into a leaf, each in its place.
@@ -44,6 +46,133 @@ fn insert_each<const W: usize>(
         insert_in(leaf, entry.0.copy(), entry.1)?;
     }
     Ok(())
+}
+
+// The entries go into a leaf whose image was read, and into new leaves behind it where they want
+// those.
+fn spread_in_leaf<D: Disk, const W: usize>(
+    alloc: Global,
+    pages: &Pages<D>,
+    work: &mut Work,
+    index: &mut Index<W>,
+    place: usize,
+    part: &[(IndexKey<W>, u32)],
+    image: &PageImage,
+) -> Result<(), Fault>
+    requires open { pages.now.closed ≡ false }
+    requires fits { Fits pages.now work.old }
+    requires place { place < length index.old.pages }
+    requires in_use { InUse (stand pages.now work.old) (slice_index index.old.pages place) }
+    requires some { 1 ≤ length part.now }
+    requires form { IsLeaf W image.now.bytes }
+    ensures fits { OnOk result (Fits pages.now work.new) }
+    ensures list { OnOk result (KeepsList index.old index.new) }
+    ensures some { OnOk result (0 < length index.new.pages) }
+    ensures pages { OnOk result (HasPages (stand pages.now work.old) index.old.pages
+        → HasPages (stand pages.now work.new) index.new.pages) }
+    ensures trades { OnOk result (HasPages (stand pages.now work.old) index.old.pages
+        → TradesPages index.old.pages index.new.pages
+        (stand pages.now work.old) (stand pages.now work.new)) }
+    ensures fit { OnOk result (AllFit W part.now) }
+    ensures leaves { let leaf = leaf_in W image.now.bytes in
+        OnOk result (HasPages (stand pages.now work.old) index.old.pages
+        → IsRising leaf → (leaves : List (List Entry))
+        → HasLeaves W (stand pages.now work.old) index.old leaves → (more : List (List Entry))
+        × HasLeaves W (stand pages.now work.new) index.new more
+        × (joined more ≡ joined (take place leaves)
+        ++ (inserted_all part.now leaf ++ joined (drop (place + 1) leaves)))) }
+    ensures balance { OnOk result (KeepsBalance (stand pages.now work.old)
+        (stand pages.now work.new) index.old.pages index.new.pages) }
+    ensures answer { let leaf = leaf_in W image.now.bytes in
+        AnswersChange result (IsRising leaf
+        → free_pages (stand pages.now work.old).used + 1 < length (inserted_all part.now leaf)) }
+{
+    // For the proof.
+    let _count = leaf_count(index);
+    let mut leaf = match leaf_entries(alloc, image, part.len()) {
+        Ok(leaf) => leaf,
+        Err(_) => return Err(Fault::OutOfMemory),
+    };
+    if let Err(_) = insert_each(&mut leaf, part) {
+        return Err(Fault::OutOfMemory);
+    }
+    match spread(alloc, pages, work, index, place, &leaf) {
+        Ok(()) => Ok(()),
+        Err(fault) => Err(fault),
+    }
+}
+
+// Entries that are one alone go into the leaf in the image, which changes in its place. Where they
+// are more, or there is no room, it stays, and the answer is false.
+fn insert_alone<const W: usize>(image: &mut PageImage, part: &[(IndexKey<W>, u32)]) -> bool
+    requires width { W ≤ 4090 }
+    requires form { IsLeaf W image.old.bytes }
+    ensures form { IsLeaf W image.new.bytes }
+    ensures entries { result ≡ true → IsRising (leaf_in W image.old.bytes)
+        → leaf_in W image.new.bytes ≡ inserted_all part.now (leaf_in W image.old.bytes) }
+    ensures fit { result ≡ true → AllFit W part.now }
+    ensures full { result ≡ false → image.new.bytes ≡ image.old.bytes }
+{
+    if part.len() != 1 {
+        return false;
+    }
+    let entry = &part[0];
+    // For the proof.
+    check_entry(entry);
+    insert_in_image(image, &entry.0, entry.1)
+}
+
+// The entries go into a leaf whose image was read. Where one alone goes into it, no list is made of
+// its entries.
+fn insert_in_leaf<D: Disk, const W: usize>(
+    alloc: Global,
+    pages: &Pages<D>,
+    work: &mut Work,
+    index: &mut Index<W>,
+    place: usize,
+    part: &[(IndexKey<W>, u32)],
+    image: &mut PageImage,
+) -> Result<(), Fault>
+    requires open { pages.now.closed ≡ false }
+    requires fits { Fits pages.now work.old }
+    requires place { place < length index.old.pages }
+    requires in_use { InUse (stand pages.now work.old) (slice_index index.old.pages place) }
+    requires some { 1 ≤ length part.now }
+    requires form { IsLeaf W image.old.bytes }
+    ensures fits { OnOk result (Fits pages.now work.new) }
+    ensures list { OnOk result (KeepsList index.old index.new) }
+    ensures some { OnOk result (0 < length index.new.pages) }
+    ensures pages { OnOk result (HasPages (stand pages.now work.old) index.old.pages
+        → HasPages (stand pages.now work.new) index.new.pages) }
+    ensures trades { OnOk result (HasPages (stand pages.now work.old) index.old.pages
+        → TradesPages index.old.pages index.new.pages
+        (stand pages.now work.old) (stand pages.now work.new)) }
+    ensures fit { OnOk result (AllFit W part.now) }
+    ensures leaves { let leaf = leaf_in W image.old.bytes in
+        OnOk result (HasPages (stand pages.now work.old) index.old.pages
+        → IsRising leaf → (leaves : List (List Entry))
+        → HasLeaves W (stand pages.now work.old) index.old leaves → (more : List (List Entry))
+        × HasLeaves W (stand pages.now work.new) index.new more
+        × (joined more ≡ joined (take place leaves)
+        ++ (inserted_all part.now leaf ++ joined (drop (place + 1) leaves)))) }
+    ensures balance { OnOk result (KeepsBalance (stand pages.now work.old)
+        (stand pages.now work.new) index.old.pages index.new.pages) }
+    ensures answer { let leaf = leaf_in W image.old.bytes in
+        AnswersChange result (IsRising leaf
+        → free_pages (stand pages.now work.old).used + 1 < length (inserted_all part.now leaf)) }
+{
+    // For the proof.
+    let _count = leaf_count(index);
+    if insert_alone(image, part) {
+        match set_image(pages, work, index, place, image) {
+            Ok(()) => return Ok(()),
+            Err(fault) => return Err(fault),
+        }
+    }
+    match spread_in_leaf(alloc, pages, work, index, place, part, image) {
+        Ok(()) => Ok(()),
+        Err(fault) => Err(fault),
+    }
 }
 
 // The entries of a part of a run go into the leaf where they belong.
@@ -91,14 +220,12 @@ fn insert_part<D: Disk, const W: usize>(
     // For the proof.
     let _count = leaf_count(index);
     let page = leaf_page(index, place);
-    let mut leaf = match read_page_leaf(alloc, pages, work, page) {
-        Ok(leaf) => leaf,
+    let mut image = PageImage::blank();
+    match read_page_leaf::<D, W>(pages, work, page, &mut image) {
+        Ok(()) => {}
         Err(fault) => return Err(fault),
-    };
-    if let Err(_) = insert_each(&mut leaf, part) {
-        return Err(Fault::OutOfMemory);
     }
-    match spread(alloc, pages, work, index, place, &leaf) {
+    match insert_in_leaf(alloc, pages, work, index, place, part, &mut image) {
         Ok(()) => Ok(()),
         Err(fault) => Err(fault),
     }
@@ -396,7 +523,7 @@ impl<const W: usize> Index<W> {
             return Ok(());
         }
         let place = leaf_for(self, key, value);
-        match remove_at(alloc, pages, work, self, place, key, value) {
+        match remove_at(pages, work, self, place, key, value) {
             Ok(()) => Ok(()),
             Err(fault) => Err(fault),
         }
@@ -405,7 +532,6 @@ impl<const W: usize> Index<W> {
 
 // The entry goes out of the leaf at the place.
 fn remove_at<D: Disk, const W: usize>(
-    alloc: Global,
     pages: &mut Pages<D>,
     work: &mut Work,
     index: &mut Index<W>,
@@ -442,18 +568,18 @@ fn remove_at<D: Disk, const W: usize>(
     // For the proof.
     let _count = leaf_count(index);
     let page = leaf_page(index, place);
-    let mut leaf = match read_page_leaf(alloc, pages, work, page) {
-        Ok(leaf) => leaf,
+    let mut image = PageImage::blank();
+    match read_page_leaf::<D, W>(pages, work, page, &mut image) {
+        Ok(()) => {}
         Err(fault) => return Err(fault),
-    };
-    remove_in(&mut leaf, key, value);
-    if leaf.is_empty() {
-        match drop_leaf(pages, work, index, place) {
+    }
+    if remove_in_image(&mut image, key, value) {
+        match set_image(pages, work, index, place, &image) {
             Ok(()) => return Ok(()),
             Err(fault) => return Err(fault),
         }
     }
-    match set_leaf(alloc, pages, work, index, place, &leaf) {
+    match drop_leaf(pages, work, index, place) {
         Ok(()) => Ok(()),
         Err(fault) => Err(fault),
     }

@@ -1,6 +1,6 @@
 // Leaves as bytes of a page.
 ghost use Rattle.std.specs.Prelude.{◌≡◌, ◌↔◌, ℕ, ◌+◌, ◌*◌, ◌≤◌, ◌++◌, List, length};
-ghost use Rattle.std.specs.Prelude.{drop, IfOk, IfSome, IsSome, OnOk, false, true};
+ghost use Rattle.std.specs.Prelude.{drop, IfOk, IfSome, IsSome, IsTrue, OnOk, false, true};
 ghost use Rattle.index_keys.specs.Entries.{AllFit, FitsLeaf, IsRising, rank, values_within};
 ghost use Rattle.tune_index.specs.Inside.EntryPlaces.{IsPlace};
 ghost use Rattle.tune_index.specs.Leaves.{capacity, value_in, value_bytes, count_in, count_bytes};
@@ -72,11 +72,50 @@ fn entry_at<const W: usize>(bytes: &[u8]) -> (IndexKey<W>, u32)
 }
 
 // The bytes of a page.
-fn page_bytes(image: &PageImage) -> &[u8]
+pub(crate) fn page_bytes(image: &PageImage) -> &[u8]
     ensures bytes { result.now ≡ image.now.bytes }
     ensures length { length result.now ≡ 4096 }
 {
     &image.bytes
+}
+
+// Whether a page has the form of a leaf.
+pub(crate) fn is_leaf<const W: usize>(image: &PageImage) -> bool
+    requires { W ≤ 4090 }
+    ensures { IsTrue result ↔ IsLeaf W image.now.bytes }
+{
+    let count = read_count(page_bytes(image));
+    count > 0 && count <= capacity_of(W)
+}
+
+// How many entries a leaf has.
+pub(crate) fn leaf_length<const W: usize>(image: &PageImage) -> usize
+    requires width { W ≤ 4090 }
+    requires form { IsLeaf W image.now.bytes }
+    ensures count { result ≡ length (leaf_in W image.now.bytes) }
+    ensures some { 1 ≤ result }
+    ensures within { result ≤ capacity W }
+    ensures few { result ≤ 1023 }
+    ensures room { 2 + result * (W + 4) ≤ length image.now.bytes }
+{
+    // For the proof.
+    let _most = capacity_of(W);
+    read_count(page_bytes(image))
+}
+
+// The entries of a leaf, in memory that has room for more.
+pub(crate) fn leaf_entries<const W: usize>(
+    alloc: Global,
+    image: &PageImage,
+    more: usize,
+) -> Result<Leaf<W>, AllocError>
+    requires width { W ≤ 4090 }
+    requires form { IsLeaf W image.now.bytes }
+    ensures entries { IfOk result (λ leaf. leaf.items ≡ leaf_in W image.now.bytes) }
+    ensures fit { IfOk result (λ leaf. AllFit W leaf.items) }
+{
+    let count = leaf_length::<W>(image);
+    read_entries(alloc, &page_bytes(image)[2..], count, more)
 }
 
 // The entries of a page, where it has the form of a leaf.
@@ -93,29 +132,25 @@ pub(crate) fn read_leaf<const W: usize>(
     ensures within { IfOk result (λ leaf. IfSome leaf (λ entries.
         length entries.items ≤ capacity W)) }
 {
-    let bytes = page_bytes(image);
-    let count = read_count(bytes);
-    if count == 0 {
+    if !is_leaf::<W>(image) {
         return Ok(None);
     }
-    if count > capacity_of(W) {
-        return Ok(None);
-    }
-    Ok(Some(read_entries(alloc, &bytes[2..], count)?))
+    Ok(Some(leaf_entries(alloc, image, 0)?))
 }
 
-// The first entries in the bytes.
+// The first entries in the bytes, in memory that has room for more.
 fn read_entries<const W: usize>(
     alloc: Global,
     bytes: &[u8],
     count: usize,
+    more: usize,
 ) -> Result<Leaf<W>, AllocError>
     requires width { W ≤ 4090 }
     requires room { count * (W + 4) ≤ length bytes.now }
     ensures entries { IfOk result (λ leaf. leaf.items ≡ entries_in W count bytes.now) }
     ensures fit { IfOk result (λ leaf. AllFit W leaf.items) }
 {
-    let mut entries = Vec::with_capacity(alloc, count)?;
+    let mut entries = Vec::with_capacity(alloc, count.saturating_add(more))?;
     let mut rest = bytes;
     for done in 0..count {
         entries.push(entry_at(rest))?;
@@ -125,7 +160,7 @@ fn read_entries<const W: usize>(
 }
 
 // The entry at a place of the bytes.
-fn entry_of<const W: usize>(bytes: &[u8], place: usize) -> (IndexKey<W>, u32)
+pub(crate) fn entry_of<const W: usize>(bytes: &[u8], place: usize) -> (IndexKey<W>, u32)
     requires width { W ≤ 4090 }
     requires room { (place + 1) * (W + 4) ≤ length bytes.now }
     ensures entry { result ≡ entry_in W (drop (place * (W + 4)) bytes.now) }
@@ -134,20 +169,25 @@ fn entry_of<const W: usize>(bytes: &[u8], place: usize) -> (IndexKey<W>, u32)
     entry_at(&bytes[place * (W + 4)..])
 }
 
-// Where the first of the entries in the bytes stands whose key is not before this one.
-fn first_from<const W: usize>(bytes: &[u8], count: usize, low: &IndexKey<W>) -> usize
+// Where an entry is among the first ones in the bytes, or where it would go.
+pub(crate) fn place_in<const W: usize>(
+    bytes: &[u8],
+    count: usize,
+    key: &IndexKey<W>,
+    value: u32,
+) -> usize
     requires width { W ≤ 4090 }
     requires room { count * (W + 4) ≤ length bytes.now }
     ensures within { result ≤ count }
     ensures place { IsRising (entries_in W count bytes.now)
-        → IsPlace (rank (low.now, 0)) (entries_in W count bytes.now) result }
+        → IsPlace (rank (key.now, value)) (entries_in W count bytes.now) result }
 {
     let mut first = 0;
     let mut last = count;
     while first < last {
         let middle = first + (last - first) / 2;
         let entry = entry_of(bytes, middle);
-        if entry.0.is_before(entry.1, low, 0) {
+        if entry.0.is_before(entry.1, key, value) {
             first = middle + 1;
         } else {
             last = middle;
@@ -171,7 +211,7 @@ fn add_values<const W: usize>(
         → AllFit W (entries_in W count bytes.now) → values.new.items
         ≡ values.old.items ++ values_within low.now high.now (entries_in W count bytes.now)) }
 {
-    let from = first_from(bytes, count, low);
+    let from = place_in(bytes, count, low, 0);
     for place in from..count {
         let entry = entry_of(bytes, place);
         if high.is_before(0, &entry.0, 0) {

@@ -12,6 +12,7 @@ mod index;
 mod insert;
 mod laws;
 mod leaf;
+mod leaf_edits;
 mod listed_leaves;
 mod load;
 mod search;

@@ -91,15 +91,3 @@ pub(crate) fn insert_in<const W: usize>(
     }
     Ok(())
 }
-
-// The entry goes out of the list, if it is there.
-pub(crate) fn remove_in<const W: usize>(entries: &mut Leaf<W>, key: &IndexKey<W>, value: u32)
-    ensures ok { IsRising entries.old.items
-        → entries.new.items ≡ removed (key.now, value) entries.old.items }
-    ensures within { length entries.new.items ≤ length entries.old.items }
-{
-    let place = place_of(entries, key, value);
-    if is_at(entries, place, key, value) {
-        let _gone = entries.remove(place);
-    }
-}

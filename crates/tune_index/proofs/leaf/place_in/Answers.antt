@@ -4,7 +4,7 @@ use Rattle.index_keys.specs.Entries.{Entry, rank}
 use Rattle.tune_index.specs.Leaves.{entries_in}
 use Rattle.tune_index.proofs.Codec.{length-entries_in}
 use Rattle.tune_index.proofs.Slots.{lower, slot_entry, slot_room, upper}
-use Rattle.tune_index.proofs.leaf.first_from.Goals as goal
+use Rattle.tune_index.proofs.leaf.place_in.Goals as goal
 
 pub entry_of-entry-requires : goal.entry_of-entry-requires
 entry_of-entry-requires g c =
@@ -15,7 +15,7 @@ entry_of-entry-requires g c =
 
 pub loop-first-preserved-then-is_before : goal.loop-first-preserved-then-is_before
 loop-first-preserved-then-is_before g c =
-    let r = rank (c.args.low.now, 0) in
+    let r = rank (c.args.key.now, c.args.value) in
     let es : List Entry = entries_in g.row.W c.args.count c.args.bytes.now in
     let n = length-entries_in g.row.W c.args.count c.args.bytes.now in
     let m = c.loop-first.first + (c.loop-first.last - c.loop-first.first) / 2 in
@@ -33,7 +33,7 @@ loop-first-preserved-then-is_before g c =
 
 pub loop-first-preserved : goal.loop-first-preserved
 loop-first-preserved g c =
-    let r = rank (c.args.low.now, 0) in
+    let r = rank (c.args.key.now, c.args.value) in
     let es : List Entry = entries_in g.row.W c.args.count c.args.bytes.now in
     let n = length-entries_in g.row.W c.args.count c.args.bytes.now in
     let m = c.loop-first.first + (c.loop-first.last - c.loop-first.first) / 2 in

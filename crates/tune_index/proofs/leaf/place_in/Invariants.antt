@@ -1,7 +1,7 @@
 use Rattle.std.proofs.Common.{ℕ, ◌-◌, ◌<◌, ◌≤◌, length, get_or}
 use Rattle.index_keys.specs.Entries.{Entry, rank, IsRising}
 use Rattle.tune_index.specs.Leaves.{entries_in}
-use Rattle.tune_index.proofs.leaf.first_from.Given as goal
+use Rattle.tune_index.proofs.leaf.place_in.Given as goal
 
 abbrev pub invariant-loop-first : goal.invariant-loop-first
 invariant-loop-first g l =
@@ -9,8 +9,8 @@ invariant-loop-first g l =
     record {
       ordered : l.first ≤ l.last;
       within : l.last ≤ l.fn.count;
-      before : IsRising es → (k : ℕ) (d : Entry) → k < l.first → rank (get_or es k d) < rank (l.low, 0);
-      after : IsRising es → (k : ℕ) (d : Entry) → l.last ≤ k → k < length es → rank (l.low, 0) ≤ rank (get_or es k d);
+      before : IsRising es → (k : ℕ) (d : Entry) → k < l.first → rank (get_or es k d) < rank (l.key, l.value);
+      after : IsRising es → (k : ℕ) (d : Entry) → l.last ≤ k → k < length es → rank (l.key, l.value) ≤ rank (get_or es k d);
     }
 
 abbrev pub decreases-loop-first : goal.decreases-loop-first
