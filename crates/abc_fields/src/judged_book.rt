@@ -92,7 +92,7 @@ pub fn judge_book(alloc: Global, book: &[u8], longest: usize) -> Result<JudgedBo
     if book.len() > LONGEST_BOOK {
         return Err(BookFault::BookTooLong);
     }
-    let lines = Lines::new(without_mark(book));
+    let lines = Lines::of_whole(without_mark(book));
     let header = FileHeader::of_lines(alloc, lines.again())?;
     let count = judge_tunes(lines.again(), &header, longest)?;
     if count == 0 {

@@ -12,7 +12,7 @@ ghost use Rattle.abc_fields.specs.Bytes.{line_feed, carriage_return};
 ghost use Rattle.memchr.specs.Find.{IsFirstByte, is_byte, is_byte2};
 
 use crate::texts::TuneText;
-use memchr::{memchr_iter, memchr2_iter};
+use memchr::{memchr, memchr_iter, memchr2_iter};
 use std::marker::Model;
 
 /// A line of a text, without what ends it.
@@ -81,6 +81,18 @@ impl<'a> Lines<'a> {
         Lines::without_return(text.bytes())
     }
 
+    // The lines of a text that is read to its end, and more than once: a carriage return is looked
+    // for in all of it first, so that mostly line feeds alone are looked for after that.
+    pub(crate) fn of_whole(text: &'a [u8]) -> Lines<'a>
+        ensures { result ≡ spans_of text.now }
+    {
+        Lines {
+            rest: text,
+            at: 0,
+            only_feeds: !has_return(text),
+        }
+    }
+
     // The lines of a text in which no carriage return stands.
     pub(crate) fn without_return(text: &'a [u8]) -> Lines<'a>
         requires { has_return text.now ≡ false }
@@ -143,6 +155,13 @@ impl<'a> Iterator for Lines<'a> {
     }
 }
 
+// Whether there is a carriage return.
+pub(crate) fn has_return(text: &[u8]) -> bool
+    ensures { result ≡ has_return text.now }
+{
+    memchr(b'\r', text).is_some()
+}
+
 // Where the first line feed stands. Most lines are short: the indices of a byte are looked for near
 // by first.
 #[inline(always)]
@@ -152,9 +171,8 @@ fn first_feed(text: &[u8]) -> Option<usize>
     memchr_iter(b'\n', text).next()
 }
 
-// Where the first line feed or carriage return stands. It stands apart, so that the way of lines
-// that end at line feeds is short.
-#[inline(never)]
+// Where the first line feed or carriage return stands.
+#[inline(always)]
 fn first_ending(text: &[u8]) -> Option<usize>
     ensures { IsFirstByte (is_byte2 line_feed carriage_return) text.now result }
 {
@@ -172,16 +190,29 @@ fn first_line(text: &[u8], only_feeds: bool) -> (usize, usize)
         pieces_of text.now ≡ record { content = content; ending = ending }
         ∷ pieces_of (drop (result.0 + result.1) text.now) }
 {
-    if only_feeds {
-        match first_feed(text) {
-            None => (text.len(), 0),
-            Some(len) => (len, 1),
-        }
-    } else {
-        match first_ending(text) {
-            None => (text.len(), 0),
-            Some(len) => (len, ending_len(&text[len..])),
-        }
+    if !only_feeds {
+        return first_line_of_any(text);
+    }
+    match first_feed(text) {
+        None => (text.len(), 0),
+        Some(len) => (len, 1),
+    }
+}
+
+// The same, whatever ends the lines. It stands apart, so that the way of lines that end at line
+// feeds is short.
+#[inline(never)]
+fn first_line_of_any(text: &[u8]) -> (usize, usize)
+    requires { 0 < length text.now }
+    ensures within { result.0 + result.1 ≤ length text.now }
+    ensures first { let content = take result.0 text.now in
+        let ending = take result.1 (drop result.0 text.now) in
+        pieces_of text.now ≡ record { content = content; ending = ending }
+        ∷ pieces_of (drop (result.0 + result.1) text.now) }
+{
+    match first_ending(text) {
+        None => (text.len(), 0),
+        Some(len) => (len, ending_len(&text[len..])),
     }
 }
 

@@ -2,14 +2,12 @@
 ghost use Rattle.std.specs.Prelude.{◌≡◌, MatchOption, Some, false};
 ghost use Rattle.abc_fields.specs.Lines.{spans_of};
 ghost use Rattle.abc_fields.specs.Tunes.{IsTuneText};
-ghost use Rattle.abc_fields.specs.Inside.LineEndings.{has_return};
 ghost use Rattle.abc_fields.specs.Inside.LinesLeft.{contents_of};
 ghost use Rattle.abc_fields.specs.Inside.HeaderEnds.{key_place, has_end};
 
 use crate::key_place::{KeyPlace, find_key};
-use crate::lines::Lines;
+use crate::lines::{Lines, has_return};
 use crate::tune_lines::ends_tune;
-use memchr::memchr;
 
 // Where the key stands in bytes that are a tune text; none where they are not.
 pub(crate) fn key_of_stored(text: &[u8]) -> Option<KeyPlace>
@@ -24,13 +22,6 @@ pub(crate) fn key_of_stored(text: &[u8]) -> Option<KeyPlace>
         return None;
     };
     if has_end(lines) { None } else { Some(place) }
-}
-
-// Whether there is a carriage return.
-fn has_return(text: &[u8]) -> bool
-    ensures { result ≡ has_return text.now }
-{
-    memchr(b'\r', text).is_some()
 }
 
 // Whether a tune ends before one of these lines.
