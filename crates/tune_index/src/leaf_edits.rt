@@ -132,7 +132,7 @@ pub(crate) fn write_leaf<const W: usize>(entries: &[(IndexKey<W>, u32)], image: 
 }
 
 // The entry comes to the place of a leaf that has room for it.
-fn insert_at<const W: usize>(
+fn insert_entry_at<const W: usize>(
     image: &mut PageImage,
     count: usize,
     place: usize,
@@ -155,7 +155,7 @@ fn insert_at<const W: usize>(
 }
 
 // The entry at the place goes out of a leaf that has others.
-fn remove_at<const W: usize>(image: &mut PageImage, count: usize, place: usize)
+fn remove_entry_at<const W: usize>(image: &mut PageImage, count: usize, place: usize)
     requires width { W ≤ 4090 }
     requires count { count ≡ length (leaf_in W image.old.bytes) }
     requires place { place < count }
@@ -192,7 +192,7 @@ pub(crate) fn insert_in_image<const W: usize>(
     if count >= capacity_of(W) {
         return false;
     }
-    insert_at(image, count, place, key, value);
+    insert_entry_at(image, count, place, key, value);
     true
 }
 
@@ -219,7 +219,7 @@ pub(crate) fn remove_in_image<const W: usize>(
     if count == 1 {
         return false;
     }
-    remove_at::<W>(image, count, place);
+    remove_entry_at::<W>(image, count, place);
     true
 }
 

@@ -42,4 +42,4 @@ returns-clause-entries g c = λ _ up.
       equal = c.stands_at.ensures.equal;
       other = λ no l. c.stands_at.ensures.other no (omega (arith, l, size));
     } in
-    c.insert_at.ensures.entries ∙ inserts _ _ _ _ _ _ h c.if-stands_at.false up
+    c.insert_entry_at.ensures.entries ∙ inserts _ _ _ _ _ _ h c.if-stands_at.false up

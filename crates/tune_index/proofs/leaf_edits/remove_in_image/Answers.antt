@@ -70,4 +70,4 @@ returns-clause-entries g c = λ _ up.
       equal = c.stands_at.ensures.equal;
       other = λ no l. c.stands_at.ensures.other no (omega (arith, l, size));
     } in
-    c.remove_at.ensures.entries ∙ removes _ _ _ _ _ _ h (search rules) up
+    c.remove_entry_at.ensures.entries ∙ removes _ _ _ _ _ _ h (search rules) up
