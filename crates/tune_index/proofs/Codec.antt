@@ -1,12 +1,12 @@
 -- The bytes of a leaf, read and written.
-use Rattle.std.proofs.Common.{◌≡◌, ℕ, zero, suc, ◌+◌, ◌-◌, ◌/◌, ◌*◌, ◌^◌, ◌<◌, ◌≤◌, List, [], ◌∷◌, ◌++◌, length, take, drop, refl, sym, ap, ◌∙◌, arith}
+use Rattle.std.proofs.Common.{◌≡◌, ℕ, zero, suc, ◌+◌, ◌-◌, ◌/◌, ◌*◌, ◌^◌, ◌<◌, ◌≤◌, List, [], ◌∷◌, ◌++◌, length, take, drop, refl, ap, ◌∙◌, arith}
 use Rattle.std.proofs.Common.{append_assoc, length-append, length-drop}
 use Rattle.std.proofs.Math.Nat.{add-mul, div-mul-le_self, mul-le-mul_right}
-use Rattle.std.proofs.lemmas.List.{append-nil, take_all}
+use Rattle.std.proofs.lemmas.List.{take_all}
 use Rattle.byteorder.specs.Endian.{big_number, big_bytes}
 use Rattle.byteorder.specs.Numbers.{big_number-reads_back, length-bytes_high_first}
 use Rattle.index_keys.specs.Entries.{Entry, FitsLeaf, AllFit}
-use Rattle.tune_index.specs.Leaves.{capacity, value_in, value_bytes, count_in, count_bytes, entry_in, entries_in, leaf_in, entry_bytes, entries_bytes, IsLeaf}
+use Rattle.tune_index.specs.Leaves.{capacity, value_in, value_bytes, count_in, count_bytes, entry_in, entries_in, leaf_in, entry_bytes}
 
 pub leaf_in_is : (width : ℕ) (image : List ℕ) → leaf_in width image ≡ entries_in width (count_in image) (drop 2 image)
 unfolding leaf_in
@@ -54,55 +54,9 @@ entry_back width e rest fits =
     let v : value_in (value_bytes e.1 ++ rest) ≡ e.1 = value_back e.1 rest fits.value in
     ap (entry_in width) s ∙ rw (k, d, v) refl
 
--- the entries that were written are those that are read
-entries_back : (width : ℕ) (es : List Entry) (rest : List ℕ) → AllFit width es → entries_in width (length es) (entries_bytes width es ++ rest) ≡ es
-entries_back width [] rest fit = refl
-entries_back width (e ∷ es) rest fit =
-    let s : entries_bytes width (e ∷ es) ++ rest ≡ entry_bytes width e ++ (entries_bytes width es ++ rest) =
-    append_assoc (entry_bytes width e) (entries_bytes width es) rest in
-    let first = entry_back width e (entries_bytes width es ++ rest) fit.0 in
-    let d : drop (width + 4) (entry_bytes width e ++ (entries_bytes width es ++ rest)) ≡ entries_bytes width es ++ rest =
-    drop_front (width + 4) (entry_bytes width e) (entries_bytes width es ++ rest) (length-entry_bytes width e) in
-    let more = entries_back width es rest fit.1 in
-    ap (entries_in width (suc (length es))) s ∙ rw (first, d, more) refl
-
--- a leaf that was written is the one that is read
-pub leaf_back : (width : ℕ) (es : List Entry) (image rest : List ℕ) → AllFit width es → length es < 256 ^ 2
-    → image ≡ (count_bytes (length es) ++ entries_bytes width es) ++ rest → leaf_in width image ≡ es
-unfolding leaf_in
-leaf_back width es image rest fit small e =
-    let s : image ≡ count_bytes (length es) ++ (entries_bytes width es ++ rest) = e ∙ append_assoc (count_bytes (length es)) (entries_bytes width es) rest in
-    let n : count_in image ≡ length es = ap count_in s ∙ count_back (length es) (entries_bytes width es ++ rest) small in
-    let d : drop 2 image ≡ entries_bytes width es ++ rest = ap (drop 2) s
-    ∙ drop_front 2 (count_bytes (length es)) (entries_bytes width es ++ rest) (length-count_bytes (length es)) in
-    rw (n, d) (entries_back width es rest fit)
-
--- and has the form of a leaf
-pub is_leaf_written : (width : ℕ) (es : List Entry) (image rest : List ℕ) → 1 ≤ length es → length es ≤ capacity width → length es < 256 ^ 2
-    → image ≡ (count_bytes (length es) ++ entries_bytes width es) ++ rest → IsLeaf width image
-is_leaf_written width es image rest some within small e =
-    let s : image ≡ count_bytes (length es) ++ (entries_bytes width es ++ rest) = e ∙ append_assoc (count_bytes (length es)) (entries_bytes width es) rest in
-    let n : count_in image ≡ length es = ap count_in s ∙ count_back (length es) (entries_bytes width es ++ rest) small in
-    record { some = omega arith; within = omega arith }
-
--- the bytes of entries, one entry after the other
-pub entries_bytes-push : (width : ℕ) (es : List Entry) (e : Entry) → entries_bytes width (es ++ e ∷ []) ≡ entries_bytes width es ++ entry_bytes width e
-entries_bytes-push width [] e = append-nil (entry_bytes width e)
-entries_bytes-push width (x ∷ xs) e = ap (λ (r : List ℕ). entry_bytes width x ++ r) (entries_bytes-push width xs e)
-    ∙ sym (append_assoc (entry_bytes width x) (entries_bytes width xs) (entry_bytes width e))
-
 pub AllFit-push : (width : ℕ) (es : List Entry) (e : Entry) → AllFit width es → FitsLeaf width e → AllFit width (es ++ e ∷ [])
 AllFit-push width [] e h k = (k, tt)
 AllFit-push width (x ∷ xs) e h k = (h.0, AllFit-push width xs e h.1 k)
-
-pub length-entries_bytes : (width : ℕ) (es : List Entry) → length (entries_bytes width es) ≡ length es * (width + 4)
-length-entries_bytes width [] = omega arith
-length-entries_bytes width (e ∷ es) =
-    let a = length-append (entry_bytes width e) (entries_bytes width es) in
-    let b = length-entry_bytes width e in
-    let d = length-entries_bytes width es in
-    let m : (length es + 1) * (width + 4) ≡ length es * (width + 4) + 1 * (width + 4) = add-mul (length es) 1 (width + 4) in
-    omega (arith, a, b, d, m)
 
 -- entries that go into a page
 pub room_for : (width n : ℕ) → n ≤ capacity width → n * (width + 4) ≤ 4094

@@ -1,14 +1,16 @@
 -- Leaves with an entry more or less, in the bytes of a page.
 use Rattle.std.proofs.Common.{◌≡◌, ℕ, zero, suc, ◌+◌, ◌-◌, ◌*◌, ◌^◌, ◌<◌, ◌≤◌, List, [], ◌∷◌, ◌++◌, length, take, drop, refl, sym, ap, ◌∙◌, arith}
 use Rattle.std.proofs.Common.{append_assoc, append-nil, drop-drop, length-append, length-drop, length-take-le}
-use Rattle.std.proofs.Math.Nat.{add-mul, mul-le-mul_right}
+use Rattle.std.proofs.Math.Nat.{add-mul, mul-le-mul_right, zero-mul}
+use Rattle.std.proofs.lemmas.List.Edits.{insert_end}
 use Rattle.std.proofs.lemmas.List.{drop-append-le, drop-take, drop_all, drop_at, take-append-drop, take-append-le, take-take, take_all, take_at}
 use Rattle.std.specs.List.{insert, remove}
 use Rattle.byteorder.specs.Endian.{big_number}
 use Rattle.byteorder.specs.Numbers.{big_from-append}
 use Rattle.index_keys.specs.Entries.{Entry, FitsLeaf}
 use Rattle.tune_index.specs.Leaves.{count_bytes, count_in, entries_in, entry_bytes, entry_in, leaf_in, value_in}
-use Rattle.tune_index.proofs.Codec.{count_back, drop_front, entry_back, leaf_in_is, length-count_bytes, length-entries_in, length-entry_bytes, length-leaf_in, to_end}
+use Rattle.tune_index.proofs.Codec.{count_back, drop_front, entry_back, leaf_in_is, length-count_bytes}
+use Rattle.tune_index.proofs.Codec.{length-entries_in, length-entry_bytes, length-leaf_in, to_end}
 
 -- ENTRIES IN A FRONT OF BYTES
 -- the first entry is the same whatever follows it
@@ -102,6 +104,20 @@ put_entries width n i m e old new rest s room fits is =
     let after : drop i (A ++ B) ≡ B = drop_at A B i count in
     made ∙ sym (ap (λ (x : List Entry). insert x i e) (halves width n i m old s room)
     ∙ ap (λ (x : List Entry). x ++ e ∷ drop i (A ++ B)) before ∙ ap (λ (x : List Entry). A ++ e ∷ x) after)
+
+-- an entry that is written behind some
+pub next_entry : (width i : ℕ) (e : Entry) (es : List Entry) (old new rest : List ℕ) → (i + 1) * (width + 4) ≤ length old → FitsLeaf width e
+    → entries_in width i old ≡ es → new ≡ take (i * (width + 4)) old ++ (entry_bytes width e ++ rest) → entries_in width (i + 1) new ≡ es ++ e ∷ []
+next_entry width i e es old new rest room fits so_far is =
+    let a : (i + 1) * (width + 4) ≡ i * (width + 4) + 1 * (width + 4) = add-mul i 1 (width + 4) in
+    let z : 0 * (width + 4) ≡ 0 = zero-mul (width + 4) in
+    let n : i ≡ i + 0 = omega arith in
+    let none : entry_bytes width e ++ take (0 * (width + 4)) (drop (i * (width + 4)) old) ≡ entry_bytes width e =
+    ap (λ (k : ℕ). entry_bytes width e ++ take k (drop (i * (width + 4)) old)) z ∙ append-nil (entry_bytes width e) in
+    let made = put_entries width i i 0 e old new rest n (omega (arith, a)) fits
+    (is ∙ ap (λ (x : List ℕ). take (i * (width + 4)) old ++ (x ++ rest)) (sym none)) in
+    let count : length es ≡ i = sym (ap length so_far) ∙ length-entries_in width i old in
+    made ∙ ap (λ (x : List Entry). insert x i e) so_far ∙ sym (ap (λ (k : ℕ). insert es k e) count) ∙ insert_end es e
 
 -- AN ENTRY LESS
 pub take_entries : (width n i m : ℕ) (old new rest : List ℕ) → n ≡ i + (m + 1) → n * (width + 4) ≤ length old

@@ -41,13 +41,9 @@ pub record IsLeaf (width : ℕ) (image : List ℕ) : Type 0 where
   pub some : 1 ≤ count_in image
   pub within : count_in image ≤ capacity width
 
--- the bytes of entries
+-- the bytes of an entry
 abbrev pub entry_bytes : ℕ → Entry → List ℕ
 entry_bytes width e = big_bytes width e.0 ++ value_bytes e.1
-
-abbrev pub entries_bytes : ℕ → List Entry → List ℕ
-entries_bytes width [] = []
-entries_bytes width (e ∷ es) = entry_bytes width e ++ entries_bytes width es
 
 -- the entry at a place, where there is one
 abbrev pub slice_entry : List Entry → ℕ → Entry

@@ -58,7 +58,7 @@ pub(crate) fn read_page_leaf<D: Disk, const W: usize>(
     requires in_use { HonestAt D.honest pages.old.disk → InUse (stand pages.old work.now) page }
     requires form { HonestAt D.honest pages.old.disk
         → IsLeaf W (image_at (stand pages.old work.now) page) }
-    ensures image { OnOk result (HonestAt D.honest pages.new.disk
+    ensures leaf { OnOk result (HonestAt D.honest pages.new.disk
         → image.new.bytes ≡ image_at (stand pages.old work.now) page) }
     ensures form { OnOk result (IsLeaf W image.new.bytes) }
     ensures in_use { OnOk result (InUse (stand pages.new work.now) page) }

@@ -12,10 +12,10 @@ ghost use Rattle.tune_index.specs.Inside.LeafLists.{HasLeaves, joined};
 ghost use Rattle.tune_index.specs.Leaves.{IsLeaf, capacity, leaf_in, slice_entry};
 
 use crate::index::{Index, leaf_count, leaf_page};
-use crate::leaf::{capacity_of, write_leaf};
-use crate::leaf_edits::first_in_image;
+use crate::leaf::capacity_of;
+use crate::leaf_edits::{first_in_image, write_leaf};
 use index_keys::IndexKey;
-use std::alloc::{AllocError, Global};
+use std::alloc::AllocError;
 use tune_disk::Disk;
 use tune_journal::PageImage;
 use tune_pages::{Fault, Pages, Work, law_of_frames, law_of_works};
@@ -50,7 +50,6 @@ fn put_leaf<D: Disk, const W: usize>(
 
 // The leaf goes into a page.
 fn write_page_leaf<D: Disk, const W: usize>(
-    alloc: Global,
     pages: &Pages<D>,
     work: &mut Work,
     page: u32,
@@ -73,9 +72,7 @@ fn write_page_leaf<D: Disk, const W: usize>(
     ensures answer { AnswersChange result ⊥ }
 {
     let mut image = PageImage::blank();
-    if write_leaf(alloc, leaf, &mut image).is_err() {
-        return Err(Fault::OutOfMemory);
-    }
+    write_leaf(leaf, &mut image);
     put_leaf::<D, W>(pages, work, page, &image)
 }
 
@@ -185,7 +182,6 @@ pub(crate) fn set_image<D: Disk, const W: usize>(
 
 // The leaf goes in place of the one at the place.
 fn set_leaf<D: Disk, const W: usize>(
-    alloc: Global,
     pages: &Pages<D>,
     work: &mut Work,
     index: &mut Index<W>,
@@ -217,16 +213,12 @@ fn set_leaf<D: Disk, const W: usize>(
     // For the proof.
     let _count = leaf_count(index);
     let mut image = PageImage::blank();
-    match write_leaf(alloc, leaf, &mut image) {
-        Ok(()) => {}
-        Err(_) => return Err(Fault::OutOfMemory),
-    }
+    write_leaf(leaf, &mut image);
     set_image(pages, work, index, place, &image)
 }
 
 // The leaf goes into a page of its own, which comes to the place.
 pub(crate) fn add_leaf<D: Disk, const W: usize>(
-    alloc: Global,
     pages: &Pages<D>,
     work: &mut Work,
     index: &mut Index<W>,
@@ -267,7 +259,7 @@ pub(crate) fn add_leaf<D: Disk, const W: usize>(
         Ok(page) => page,
         Err(fault) => return Err(fault),
     };
-    match write_page_leaf(alloc, pages, work, page, leaf) {
+    match write_page_leaf(pages, work, page, leaf) {
         Ok(()) => {}
         Err(fault) => return Err(fault),
     }
@@ -334,7 +326,6 @@ fn share_of(count: usize, most: usize) -> usize
 // The entries go in place of those of the leaf at the place, into that leaf and as many new ones
 // behind it as they need.
 pub(crate) fn spread<D: Disk, const W: usize>(
-    alloc: Global,
     pages: &Pages<D>,
     work: &mut Work,
     index: &mut Index<W>,
@@ -372,13 +363,13 @@ pub(crate) fn spread<D: Disk, const W: usize>(
     let mut rest = entries.len();
     while rest > share {
         let from = rest - share;
-        match add_leaf(alloc, pages, work, index, next, &entries[from..rest]) {
+        match add_leaf(pages, work, index, next, &entries[from..rest]) {
             Ok(()) => {}
             Err(fault) => return Err(fault),
         }
         rest = from;
     }
-    match set_leaf(alloc, pages, work, index, place, &entries[..rest]) {
+    match set_leaf(pages, work, index, place, &entries[..rest]) {
         Ok(()) => Ok(()),
         Err(fault) => Err(fault),
     }

@@ -1,6 +1,6 @@
 // Entries put into an index and taken out of it.
-ghost use Rattle.std.specs.Prelude.{◌≡◌, false, true, ℕ, List, [], ◌-◌, ◌≤◌, ◌<◌, ◌+◌, ◌++◌, length};
-ghost use Rattle.std.specs.Prelude.{IfOk, OnOk, slice_index, slice_index_or, take, drop};
+ghost use Rattle.std.specs.Prelude.{◌≡◌, false, true, ℕ, List, [], ◌-◌, ◌≤◌, ◌<◌, ◌+◌, ◌++◌};
+ghost use Rattle.std.specs.Prelude.{length, IfOk, OnOk, slice_index, slice_index_or, take, drop};
 ghost use Rattle.tune_pages.specs.Faults.{free_pages};
 ghost use Rattle.tune_pages.specs.Frame.{InUse, TradesPages};
 ghost use Rattle.tune_pages.specs.Kept.{HonestAt};
@@ -96,7 +96,7 @@ fn spread_in_leaf<D: Disk, const W: usize>(
     if let Err(_) = insert_each(&mut leaf, part) {
         return Err(Fault::OutOfMemory);
     }
-    match spread(alloc, pages, work, index, place, &leaf) {
+    match spread(pages, work, index, place, &leaf) {
         Ok(()) => Ok(()),
         Err(fault) => Err(fault),
     }
@@ -331,7 +331,6 @@ fn check_entry<const W: usize>(entry: &(IndexKey<W>, u32))
 // The first entry of a run makes the first leaf, where there is none; the answer is how many
 // entries went in.
 fn insert_first<D: Disk, const W: usize>(
-    alloc: Global,
     pages: &Pages<D>,
     work: &mut Work,
     index: &mut Index<W>,
@@ -366,7 +365,7 @@ fn insert_first<D: Disk, const W: usize>(
     // For the proof.
     let _room = capacity_of(W);
     check_entry(&run[0]);
-    match add_leaf(alloc, pages, work, index, 0, &run[..1]) {
+    match add_leaf(pages, work, index, 0, &run[..1]) {
         Ok(()) => Ok(1),
         Err(fault) => Err(fault),
     }
@@ -417,7 +416,7 @@ impl<const W: usize> Index<W> {
         if run.is_empty() {
             return Ok(());
         }
-        let mut at = match insert_first(alloc, pages, work, self, run) {
+        let mut at = match insert_first(pages, work, self, run) {
             Ok(at) => at,
             Err(fault) => return Err(fault),
         };

@@ -3,8 +3,8 @@ ghost use Rattle.std.specs.Prelude.{◌≡◌, ◌↔◌, ℕ, ◌+◌, ◌*◌,
 ghost use Rattle.std.specs.Prelude.{drop, IfOk, IfSome, IsSome, IsTrue, OnOk, false, true};
 ghost use Rattle.index_keys.specs.Entries.{AllFit, FitsLeaf, IsRising, rank, values_within};
 ghost use Rattle.tune_index.specs.Inside.EntryPlaces.{IsPlace};
-ghost use Rattle.tune_index.specs.Leaves.{capacity, value_in, value_bytes, count_in, count_bytes};
-ghost use Rattle.tune_index.specs.Leaves.{entry_in, entries_in, entry_bytes, leaf_in, IsLeaf};
+ghost use Rattle.tune_index.specs.Leaves.{capacity, value_in, value_bytes, count_in};
+ghost use Rattle.tune_index.specs.Leaves.{entry_in, entries_in, leaf_in, IsLeaf};
 
 use byteorder::{BigEndian, ByteOrder};
 use index_keys::IndexKey;
@@ -36,15 +36,6 @@ pub(crate) fn push_value(bytes: &mut Vec<u8>, value: u32) -> Result<(), AllocErr
 {
     let mut number = [0; 4];
     BigEndian::write_u32(&mut number, value);
-    bytes.extend_from_slice(&number)
-}
-
-#[tactic(auto, unfolding(crate::specs::Leaves::count_bytes))]
-fn push_count(bytes: &mut Vec<u8>, count: u16) -> Result<(), AllocError>
-    ensures { OnOk result (bytes.new.items ≡ bytes.old.items ++ count_bytes count) }
-{
-    let mut number = [0; 2];
-    BigEndian::write_u16(&mut number, count);
     bytes.extend_from_slice(&number)
 }
 
@@ -169,8 +160,8 @@ pub(crate) fn entry_of<const W: usize>(bytes: &[u8], place: usize) -> (IndexKey<
     entry_at(&bytes[place * (W + 4)..])
 }
 
-// Where an entry is among the first ones in the bytes, or where it would go.
-pub(crate) fn place_in<const W: usize>(
+// Where the first of the entries in the bytes stands that is not before this one.
+pub(crate) fn first_from<const W: usize>(
     bytes: &[u8],
     count: usize,
     key: &IndexKey<W>,
@@ -211,7 +202,7 @@ fn add_values<const W: usize>(
         → AllFit W (entries_in W count bytes.now) → values.new.items
         ≡ values.old.items ++ values_within low.now high.now (entries_in W count bytes.now)) }
 {
-    let from = place_in(bytes, count, low, 0);
+    let from = first_from(bytes, count, low, 0);
     for place in from..count {
         let entry = entry_of(bytes, place);
         if high.is_before(0, &entry.0, 0) {
@@ -247,49 +238,4 @@ pub(crate) fn add_values_of<const W: usize>(
     }
     add_values(&bytes[2..], count, low, high, values)?;
     Ok(true)
-}
-
-// The page begins with the bytes.
-fn fill_page(bytes: &[u8], image: &mut PageImage)
-    requires { length bytes.now ≤ 4096 }
-    ensures { (rest : List ℕ) × (image.new.bytes ≡ bytes.now ++ rest) }
-{
-    image.bytes[..bytes.len()].copy_from_slice(bytes);
-}
-
-// The bytes of an entry go to the end of the list.
-fn push_entry<const W: usize>(
-    bytes: &mut Vec<u8>,
-    entry: &(IndexKey<W>, u32),
-) -> Result<(), AllocError>
-    ensures bytes { OnOk result (bytes.new.items ≡ bytes.old.items ++ entry_bytes W entry.now) }
-    ensures fits { FitsLeaf W entry.now }
-{
-    let key = entry.0.bytes();
-    let value = entry.1;
-    bytes.extend_from_slice(key)?;
-    push_value(bytes, value)
-}
-
-// The image becomes that of a leaf.
-pub(crate) fn write_leaf<const W: usize>(
-    alloc: Global,
-    entries: &[(IndexKey<W>, u32)],
-    image: &mut PageImage,
-) -> Result<(), AllocError>
-    requires width { W ≤ 4090 }
-    requires some { 1 ≤ length entries.now }
-    requires within { length entries.now ≤ capacity W }
-    ensures form { OnOk result (IsLeaf W image.new.bytes) }
-    ensures entries { OnOk result (leaf_in W image.new.bytes ≡ entries.now) }
-{
-    // For the proof.
-    let _most = capacity_of(W);
-    let mut bytes = Vec::with_capacity(alloc, 4096)?;
-    push_count(&mut bytes, entries.len() as u16)?;
-    for entry in entries {
-        push_entry(&mut bytes, entry)?;
-    }
-    fill_page(&bytes, image);
-    Ok(())
 }

@@ -1,4 +1,4 @@
-// Leaves with an entry more or less, as bytes of a page.
+// Leaves written, and with an entry more or less, as bytes of a page.
 ghost use Rattle.std.specs.Prelude.{◌≡◌, ℕ, ◌+◌, ◌-◌, ◌*◌, ◌≤◌, ◌<◌, ◌++◌, List, [], length, drop};
 ghost use Rattle.std.specs.Prelude.{take, IsTrue, false, true};
 ghost use Rattle.std.specs.List.{HoldsAt, insert, remove};
@@ -7,7 +7,7 @@ ghost use Rattle.tune_index.specs.Inside.EntryPlaces.{IsPlace};
 ghost use Rattle.tune_index.specs.Leaves.{capacity, count_bytes, entries_in, entry_bytes, leaf_in};
 ghost use Rattle.tune_index.specs.Leaves.{IsLeaf, slice_entry};
 
-use crate::leaf::{capacity_of, entry_of, leaf_length, page_bytes, place_in};
+use crate::leaf::{capacity_of, entry_of, first_from, leaf_length, page_bytes};
 use byteorder::{BigEndian, ByteOrder};
 use index_keys::IndexKey;
 use tune_journal::PageImage;
@@ -105,8 +105,34 @@ fn write_count(image: &mut PageImage, count: u16)
     BigEndian::write_u16(&mut image.bytes, count);
 }
 
+// The entries are written at the front of the bytes.
+fn write_entries<const W: usize>(bytes: &mut [u8], entries: &[(IndexKey<W>, u32)])
+    requires width { W ≤ 4090 }
+    requires room { length entries.now * (W + 4) ≤ length bytes.old }
+    ensures { entries_in W (length entries.now) bytes.new ≡ entries.now }
+{
+    for place in 0..entries.len() {
+        let entry = &entries[place];
+        write_entry(bytes, place, &entry.0, entry.1);
+    }
+}
+
+// The image becomes that of a leaf.
+pub(crate) fn write_leaf<const W: usize>(entries: &[(IndexKey<W>, u32)], image: &mut PageImage)
+    requires width { W ≤ 4090 }
+    requires some { 1 ≤ length entries.now }
+    requires within { length entries.now ≤ capacity W }
+    ensures form { IsLeaf W image.new.bytes }
+    ensures entries { leaf_in W image.new.bytes ≡ entries.now }
+{
+    // For the proof.
+    let _most = capacity_of(W);
+    write_entries(&mut image.bytes[2..], entries);
+    write_count(image, entries.len() as u16);
+}
+
 // The entry comes to the place of a leaf that has room for it.
-fn insert_at<const W: usize>(
+fn insert_entry_at<const W: usize>(
     image: &mut PageImage,
     count: usize,
     place: usize,
@@ -129,7 +155,7 @@ fn insert_at<const W: usize>(
 }
 
 // The entry at the place goes out of a leaf that has others.
-fn remove_at<const W: usize>(image: &mut PageImage, count: usize, place: usize)
+fn remove_entry_at<const W: usize>(image: &mut PageImage, count: usize, place: usize)
     requires width { W ≤ 4090 }
     requires count { count ≡ length (leaf_in W image.old.bytes) }
     requires place { place < count }
@@ -159,14 +185,14 @@ pub(crate) fn insert_in_image<const W: usize>(
     ensures full { result ≡ false → image.new.bytes ≡ image.old.bytes }
 {
     let count = leaf_length::<W>(image);
-    let place = place_in(&image.bytes[2..], count, key, value);
+    let place = first_from(&image.bytes[2..], count, key, value);
     if stands_at(&image.bytes[2..], count, place, key, value) {
         return true;
     }
     if count >= capacity_of(W) {
         return false;
     }
-    insert_at(image, count, place, key, value);
+    insert_entry_at(image, count, place, key, value);
     true
 }
 
@@ -186,14 +212,14 @@ pub(crate) fn remove_in_image<const W: usize>(
         → removed (key.now, value) (leaf_in W image.old.bytes) ≡ [] }
 {
     let count = leaf_length::<W>(image);
-    let place = place_in(&image.bytes[2..], count, key, value);
+    let place = first_from(&image.bytes[2..], count, key, value);
     if !stands_at(&image.bytes[2..], count, place, key, value) {
         return true;
     }
     if count == 1 {
         return false;
     }
-    remove_at::<W>(image, count, place);
+    remove_entry_at::<W>(image, count, place);
     true
 }
 

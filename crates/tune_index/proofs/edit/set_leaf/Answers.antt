@@ -12,4 +12,4 @@ returns-clause-leaves g c =
     let new = stand c.args.pages.now c.set_image.new.work in
     subst (λ (x : List Entry). OnOk c.set_image.result (HasPages old c.args.index.now.pages → (leaves : List (List Entry))
     → HasLeaves g.row.W old c.args.index.now leaves → HasLeaves g.row.W new c.set_image.new.index (slice_set leaves c.args.place x)))
-    c.in-Ok.ensures.entries c.set_image.ensures.leaves
+    c.write_leaf.ensures.entries c.set_image.ensures.leaves

@@ -35,7 +35,7 @@ returns-in-Ok-insert_in_leaf-clause-leaves g c = λ honest leaves h up.
     let pages = c.args.index.now.pages in
     let call = c.in-Ok.ensures in
     let read = read_leaf_at g.row.W s0 c.args.index.now leaves c.args.place c.leaf_page-page.result c.read_page_leaf.new.image.bytes c.requires.place
-    c.leaf_page-page.ensures.page (call.image honest) h in
+    c.leaf_page-page.ensures.page (call.leaf honest) h in
     let has = subst (λ (x : Stand). HasPages x pages) (sym (call.stand.same honest)) (c.requires.pages (call.looks.was_honest honest)) in
     let h1 : HasLeaves g.row.W s1 c.args.index.now leaves =
     subst (λ (x : Stand). HasLeaves g.row.W x c.args.index.now leaves) (sym (call.stand.same honest)) h in
@@ -53,7 +53,7 @@ returns-in-Err-insert_in_leaf-clause-answer g c =
     change_edit c.in-Err-insert_in_leaf.fault still
     (λ full honest leaves h up.
     let read = read_leaf_at g.row.W s0 c.args.index.now leaves c.args.place c.leaf_page-page.result c.read_page_leaf.new.image.bytes c.requires.place
-    c.leaf_page-page.ensures.page (call.image honest) h in
+    c.leaf_page-page.ensures.page (call.leaf honest) h in
     let more = full (subst (λ (x : List Entry). IsRising x) (sym read) up) in
     let size = ap (λ (x : List Entry). length (inserted_all c.args.part.now x)) read in
     let free = ap free_pages call.stand.used in

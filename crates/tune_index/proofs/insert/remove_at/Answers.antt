@@ -36,7 +36,7 @@ returns-in-Ok-set_image-clause-leaves g c = λ honest leaves h up.
     let e : Entry = (c.args.key.now, c.args.value) in
     let call = c.in-Ok.ensures in
     let read = read_leaf_at g.row.W s0 c.args.index.now leaves c.args.place c.leaf_page-page.result c.read_page_leaf.new.image.bytes c.requires.place
-    c.leaf_page-page.ensures.page (call.image honest) h in
+    c.leaf_page-page.ensures.page (call.leaf honest) h in
     let rises = subst (λ (x : List Entry). IsRising x) (sym read) up in
     let has = subst (λ (x : Stand). HasPages x c.args.index.now.pages) (sym (call.stand.same honest)) (c.requires.pages (call.looks.was_honest honest)) in
     let h1 : HasLeaves g.row.W s1 c.args.index.now leaves =
@@ -57,7 +57,7 @@ returns-in-Ok-drop_leaf-clause-leaves g c = λ honest leaves h up.
     let e : Entry = (c.args.key.now, c.args.value) in
     let call = c.in-Ok.ensures in
     let read = read_leaf_at g.row.W s0 c.args.index.now leaves c.args.place c.leaf_page-page.result c.read_page_leaf.new.image.bytes c.requires.place
-    c.leaf_page-page.ensures.page (call.image honest) h in
+    c.leaf_page-page.ensures.page (call.leaf honest) h in
     let rises = subst (λ (x : List Entry). IsRising x) (sym read) up in
     let has = subst (λ (x : Stand). HasPages x c.args.index.now.pages) (sym (call.stand.same honest)) (c.requires.pages (call.looks.was_honest honest)) in
     let h1 : HasLeaves g.row.W s1 c.args.index.now leaves =

@@ -17,7 +17,7 @@ entry_of-entry-requires g c =
 pub loop-place-init : goal.loop-place-init
 loop-place-init g c = λ up _.
     let es : List Entry = entries_in g.row.W c.args.count c.args.bytes.now in
-    let none = none_until c.args.low.now c.args.high.now c.place_in-from.result es (c.place_in-from.ensures.place up) in
+    let none = none_until c.args.low.now c.args.high.now c.first_from-from.result es (c.first_from-from.ensures.place up) in
     sym (ap (λ (x : List ℕ). c.args.values.now.items ++ x) none ∙ append-nil c.args.values.now.items)
 
 pub returns-then-is_before : goal.returns-then-is_before
@@ -45,7 +45,7 @@ loop-place-preserved g c = λ up fit.
     let l : i < length es = omega (arith, n, c.loop-place-test.true) in
     let is : e ≡ get_or es i e = c.entry_of-entry.ensures.entry ∙ sym (slot_entry g.row.W c.args.count i e c.args.bytes.now c.loop-place-test.true) in
     let t : take (i + 1) es ≡ take i es ++ e ∷ [] = take_more es i e l ∙ ap (λ (x : Entry). take i es ++ x ∷ []) (sym is) in
-    let place = c.place_in-from.ensures.place up in
+    let place = c.first_from-from.ensures.place up in
     let at : rank (low, 0) ≤ rank (get_or es i e) = place.others_after i e (search rules) l in
     let same : rank e ≡ rank (get_or es i e) = ap rank is in
     let value = c.entry_of-entry.ensures.fits.value in

@@ -15,10 +15,10 @@ returns-then-stands_at-clause-entries g c = λ _ up.
     let es : List Entry = entries_in g.row.W n (take 4094 (drop 2 image)) in
     let size = length-entries_in g.row.W n (take 4094 (drop 2 image)) in
     let same = image_leaf g.row.W n image whole c.leaf_length-count.ensures.count in
-    let h : Searched (leaf_in g.row.W image) es es c.place_in-place.result e c.stands_at.result = record {
+    let h : Searched (leaf_in g.row.W image) es es c.first_from-place.result e c.stands_at.result = record {
       first = same;
       second = same;
-      place = c.place_in-place.ensures.place;
+      place = c.first_from-place.ensures.place;
       here = λ t. (let l = c.stands_at.ensures.here t in omega (arith, l, size));
       equal = c.stands_at.ensures.equal;
       other = λ no l. c.stands_at.ensures.other no (omega (arith, l, size));
@@ -34,12 +34,12 @@ returns-clause-entries g c = λ _ up.
     let es : List Entry = entries_in g.row.W n (take 4094 (drop 2 image)) in
     let size = length-entries_in g.row.W n (take 4094 (drop 2 image)) in
     let same = image_leaf g.row.W n image whole c.leaf_length-count.ensures.count in
-    let h : Searched (leaf_in g.row.W image) es es c.place_in-place.result e c.stands_at.result = record {
+    let h : Searched (leaf_in g.row.W image) es es c.first_from-place.result e c.stands_at.result = record {
       first = same;
       second = same;
-      place = c.place_in-place.ensures.place;
+      place = c.first_from-place.ensures.place;
       here = λ t. (let l = c.stands_at.ensures.here t in omega (arith, l, size));
       equal = c.stands_at.ensures.equal;
       other = λ no l. c.stands_at.ensures.other no (omega (arith, l, size));
     } in
-    c.insert_at.ensures.entries ∙ inserts _ _ _ _ _ _ h c.if-stands_at.false up
+    c.insert_entry_at.ensures.entries ∙ inserts _ _ _ _ _ _ h c.if-stands_at.false up

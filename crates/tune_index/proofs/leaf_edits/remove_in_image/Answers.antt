@@ -18,10 +18,10 @@ returns-then-not-stands_at-clause-entries g c = λ _ up.
     let es : List Entry = entries_in g.row.W n (take 4094 (drop 2 image)) in
     let size = length-entries_in g.row.W n (take 4094 (drop 2 image)) in
     let same = image_leaf g.row.W n image whole c.leaf_length-count.ensures.count in
-    let h : Searched (leaf_in g.row.W image) es es c.place_in-place.result e c.stands_at.result = record {
+    let h : Searched (leaf_in g.row.W image) es es c.first_from-place.result e c.stands_at.result = record {
       first = same;
       second = same;
-      place = c.place_in-place.ensures.place;
+      place = c.first_from-place.ensures.place;
       here = λ t. (let l = c.stands_at.ensures.here t in omega (arith, l, size));
       equal = c.stands_at.ensures.equal;
       other = λ no l. c.stands_at.ensures.other no (omega (arith, l, size));
@@ -37,20 +37,20 @@ returns-then-count-eq1-clause-none g c = λ _ up.
     let es : List Entry = entries_in g.row.W n (take 4094 (drop 2 image)) in
     let size = length-entries_in g.row.W n (take 4094 (drop 2 image)) in
     let same = image_leaf g.row.W n image whole c.leaf_length-count.ensures.count in
-    let h : Searched (leaf_in g.row.W image) es es c.place_in-place.result e c.stands_at.result = record {
+    let h : Searched (leaf_in g.row.W image) es es c.first_from-place.result e c.stands_at.result = record {
       first = same;
       second = same;
-      place = c.place_in-place.ensures.place;
+      place = c.first_from-place.ensures.place;
       here = λ t. (let l = c.stands_at.ensures.here t in omega (arith, l, size));
       equal = c.stands_at.ensures.equal;
       other = λ no l. c.stands_at.ensures.other no (omega (arith, l, size));
     } in
     let there : c.stands_at.result ≡ true = search rules in
-    let place : c.place_in-place.result < length (leaf_in g.row.W image) =
+    let place : c.first_from-place.result < length (leaf_in g.row.W image) =
     omega (arith, c.stands_at.ensures.here (search rules), c.leaf_length-count.ensures.count) in
-    let fewer = length-remove (leaf_in g.row.W image) c.place_in-place.result place in
+    let fewer = length-remove (leaf_in g.row.W image) c.first_from-place.result place in
     sym (removes _ _ _ _ _ _ h there up)
-    ∙ nil_from_length (remove (leaf_in g.row.W image) c.place_in-place.result)
+    ∙ nil_from_length (remove (leaf_in g.row.W image) c.first_from-place.result)
     (omega (arith, fewer, c.if-count-eq1.true, c.leaf_length-count.ensures.count))
 
 pub returns-clause-entries : goal.returns-clause-entries
@@ -62,12 +62,12 @@ returns-clause-entries g c = λ _ up.
     let es : List Entry = entries_in g.row.W n (take 4094 (drop 2 image)) in
     let size = length-entries_in g.row.W n (take 4094 (drop 2 image)) in
     let same = image_leaf g.row.W n image whole c.leaf_length-count.ensures.count in
-    let h : Searched (leaf_in g.row.W image) es es c.place_in-place.result e c.stands_at.result = record {
+    let h : Searched (leaf_in g.row.W image) es es c.first_from-place.result e c.stands_at.result = record {
       first = same;
       second = same;
-      place = c.place_in-place.ensures.place;
+      place = c.first_from-place.ensures.place;
       here = λ t. (let l = c.stands_at.ensures.here t in omega (arith, l, size));
       equal = c.stands_at.ensures.equal;
       other = λ no l. c.stands_at.ensures.other no (omega (arith, l, size));
     } in
-    c.remove_at.ensures.entries ∙ removes _ _ _ _ _ _ h (search rules) up
+    c.remove_entry_at.ensures.entries ∙ removes _ _ _ _ _ _ h (search rules) up

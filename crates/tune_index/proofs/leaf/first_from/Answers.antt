@@ -4,7 +4,7 @@ use Rattle.index_keys.specs.Entries.{Entry, rank}
 use Rattle.tune_index.specs.Leaves.{entries_in}
 use Rattle.tune_index.proofs.Codec.{length-entries_in}
 use Rattle.tune_index.proofs.Slots.{lower, slot_entry, slot_room, upper}
-use Rattle.tune_index.proofs.leaf.place_in.Goals as goal
+use Rattle.tune_index.proofs.leaf.first_from.Goals as goal
 
 pub entry_of-entry-requires : goal.entry_of-entry-requires
 entry_of-entry-requires g c =

@@ -4,7 +4,7 @@ use Rattle.std.specs.List.{remove}
 use Rattle.index_keys.specs.Entries.{Entry}
 use Rattle.tune_index.proofs.Codec.{room_for}
 use Rattle.tune_index.proofs.LeafBytes.{image_leaf, image_written}
-use Rattle.tune_index.proofs.leaf_edits.remove_at.Goals as goal
+use Rattle.tune_index.proofs.leaf_edits.remove_entry_at.Goals as goal
 
 pub take_out-requires-clause-room : goal.take_out-requires-clause-room
 take_out-requires-clause-room g c =

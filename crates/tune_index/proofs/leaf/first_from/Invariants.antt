@@ -1,7 +1,7 @@
 use Rattle.std.proofs.Common.{ℕ, ◌-◌, ◌<◌, ◌≤◌, length, get_or}
 use Rattle.index_keys.specs.Entries.{Entry, rank, IsRising}
 use Rattle.tune_index.specs.Leaves.{entries_in}
-use Rattle.tune_index.proofs.leaf.place_in.Given as goal
+use Rattle.tune_index.proofs.leaf.first_from.Given as goal
 
 abbrev pub invariant-loop-first : goal.invariant-loop-first
 invariant-loop-first g l =

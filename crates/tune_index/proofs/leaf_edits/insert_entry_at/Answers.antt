@@ -4,7 +4,7 @@ use Rattle.std.specs.List.{insert}
 use Rattle.index_keys.specs.Entries.{Entry}
 use Rattle.tune_index.proofs.Codec.{room_for}
 use Rattle.tune_index.proofs.LeafBytes.{image_leaf, image_written}
-use Rattle.tune_index.proofs.leaf_edits.insert_at.Goals as goal
+use Rattle.tune_index.proofs.leaf_edits.insert_entry_at.Goals as goal
 
 pub put_in-requires : goal.put_in-requires
 put_in-requires g c =
