@@ -359,6 +359,7 @@ impl Changes {
 }
 
 // Takes memory for so many more changes, and for some more where there is none for these.
+#[inline(always)]
 fn take_room(
     alloc: Global,
     changed: &mut VecDeque<ChangedPage>,
