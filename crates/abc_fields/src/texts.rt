@@ -76,6 +76,18 @@ impl TuneText {
         TuneText { text, key: None }
     }
 
+    // The bytes as a tune text whose key stands here. It takes no memory.
+    pub(crate) fn from_keyed(text: Vec<u8>, key: KeyPlace) -> TuneText
+        requires good { IsTextWithin longest_tune text.items }
+        requires key { key_place false (spans_of text.items) ≡ Some key }
+        ensures { result ≡ text.items }
+    {
+        TuneText {
+            text,
+            key: Some(key),
+        }
+    }
+
     /// The bytes as a tune text, where they are one of at most `longest` bytes, which is at most
     /// 64,000; else the bytes are handed back. It takes no memory.
     pub fn from_stored(bytes: ByteText, longest: usize) -> Result<TuneText, ByteText>
