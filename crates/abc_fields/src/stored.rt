@@ -21,7 +21,7 @@ pub(crate) fn is_plain(text: &[u8]) -> bool
 }
 
 // Whether there is a carriage return, where `plain` says that there is none.
-fn has_return_unless(plain: bool, text: &[u8]) -> bool
+fn holds_return(plain: bool, text: &[u8]) -> bool
     requires { IsTrue plain → has_return text.now ≡ false }
     ensures { result ≡ has_return text.now }
 {
@@ -35,7 +35,7 @@ pub(crate) fn key_of_stored(text: &[u8], plain: bool) -> Option<KeyPlace>
     ensures { MatchOption result (¬ IsTuneText text.now)
         (λ place. IsTuneText text.now × (key_place false (spans_of text.now) ≡ Some place)) }
 {
-    if has_return_unless(plain, text) || !text.ends_with(b"\n") {
+    if holds_return(plain, text) || !text.ends_with(b"\n") {
         return None;
     }
     let mut lines = Lines::without_return(text);

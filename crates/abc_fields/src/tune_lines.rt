@@ -13,7 +13,6 @@ ghost use Rattle.abc_fields.specs.FileHeaders.{before_key, has_letter};
 ghost use Rattle.abc_fields.specs.Books.{Texts, tune_answer};
 ghost use Rattle.abc_fields.specs.Inside.HeaderRows.{with_rows, taken, in_table};
 ghost use Rattle.abc_fields.specs.Inside.CarriedBytes.{KeepsCarried};
-ghost use Rattle.abc_fields.specs.Inside.LinesLeft.{IsRestAfter};
 ghost use Rattle.abc_fields.specs.Fields.{header_of};
 
 use crate::book::{BookFault, TuneFault};

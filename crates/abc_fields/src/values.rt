@@ -20,7 +20,7 @@ pub fn field_value(line: &[u8]) -> &[u8]
     trim_blanks(without_comment(&line[2..]))
 }
 
-// The same, where it is known that no percent sign stands in the line, or is not.
+// The same; `plain` says that no percent sign stands in the line, so that it has no comment.
 pub(crate) fn value_of(line: &[u8], plain: bool) -> &[u8]
     requires { IsTrue plain → has_percent line.now ≡ false }
     ensures { result.now ≡ field_value line.now }
