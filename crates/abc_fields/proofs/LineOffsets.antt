@@ -5,7 +5,7 @@ use Rattle.std.proofs.lemmas.List.{length-append}
 use Rattle.abc_fields.specs.Lines.{Piece, pieces_of, text_of, lines_of, spans_from, spans_of}
 
 -- the spans of pieces have the contents of those pieces
-spans_contents : (at : ℕ) (ps : List Piece) → map (λ s. s.bytes) (spans_from at ps) ≡ map (λ p. p.content) ps
+pub spans_contents : (at : ℕ) (ps : List Piece) → map (λ s. s.bytes) (spans_from at ps) ≡ map (λ p. p.content) ps
 spans_contents at [] = refl
 spans_contents at (p ∷ ps) = ap (λ lines. p.content ∷ lines) (spans_contents (at + length p.content + length p.ending) ps)
 

@@ -33,7 +33,7 @@ returns-append [] ys = refl
 returns-append (x ∷ xs) ys = ap (λ r. eqb x carriage_return || r) (returns-append xs ys) ∙ sym (or_assoc (eqb x carriage_return) (returns xs) (returns ys))
 
 -- LINES OF A TUNE TEXT
-line_first : (line rest : List ℕ) → has_no_ending line ≡ true → lines_of (line ++ (line_feed ∷ rest)) ≡ line ∷ lines_of rest
+pub line_first : (line rest : List ℕ) → has_no_ending line ≡ true → lines_of (line ++ (line_feed ∷ rest)) ≡ line ∷ lines_of rest
 line_first line rest plain = ap (map (λ p. p.content)) (pieces_of_line line (line_feed ∷ []) rest plain (inl refl))
 
 lines_again : (lines : List (List ℕ)) → AllByRecursion IsTuneLine lines → lines_of (joined lines) ≡ lines
@@ -162,13 +162,17 @@ none_ends : (lines : List (List ℕ)) → AllByRecursion IsTuneLine lines → ha
 none_ends [] each = refl
 none_ends (line ∷ lines) each = or_from (ends_tune line) (has_end lines) each.0.inside (none_ends lines each.1)
 
--- where a text ends with a line feed, and has no carriage return, its lines tell whether it is a tune text
+-- where a text ends with a line feed, and has no carriage return, it is its lines
+pub lines_whole : (text : List ℕ) → returns text ≡ false → ends_with eqb text (line_feed ∷ []) ≡ true → joined (lines_of text) ≡ text
+lines_whole text none ends =
+    let divided = pieces_divide text in
+    full_pieces (pieces_of text) divided.pieces (ap returns divided.whole ∙ none) (ap is_fed divided.whole ∙ fed text ends) ∙ divided.whole
+
+-- and they tell whether it is a tune text
 pub tune_text_if : (text : List ℕ) → returns text ≡ false → ends_with eqb text (line_feed ∷ []) ≡ true → has_end (lines_of text) ≡ false
     → has_key (lines_of text) ≡ true → IsTuneText text
 tune_text_if text none ends no_end keyed =
-    let divided = pieces_divide text in
-    let whole = full_pieces (pieces_of text) divided.pieces (ap returns divided.whole ∙ none) (ap is_fed divided.whole ∙ fed text ends) ∙ divided.whole in
-    record { lines = lines_of text; whole = whole; each = each_inside (lines_of text) (lines_plain text) no_end; key = keyed }
+    record { lines = lines_of text; whole = lines_whole text none ends; each = each_inside (lines_of text) (lines_plain text) no_end; key = keyed }
 
 -- a text with one is none
 pub returned : (text : List ℕ) → list_any (λ b. eqb b carriage_return) text ≡ true → ¬ IsTuneText text

@@ -1,4 +1,5 @@
 pub mod LineEndings
+pub mod Percents
 pub mod LinesLeft
 pub mod HeaderRows
 pub mod Shares

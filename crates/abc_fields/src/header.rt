@@ -7,7 +7,7 @@ use crate::header_fields::Fields;
 use crate::line_kinds::is_key_line;
 use crate::lines::Lines;
 use crate::texts::TuneText;
-use crate::values::field_value;
+use crate::values::value_of;
 
 /// What the header of a tune says (ABC 2.1, 3.1; this archive's profile). The header is the lines
 /// up to the first that begins with `K:`, that one included. Case matters, and a line inside a
@@ -18,13 +18,14 @@ pub fn fields(text: &TuneText) -> Fields<'_>
     ensures key { result.key.now ≡ key_text_of text.now }
     ensures key_line { HeaderEndsWithKey (lines_of text.now) result.key.now }
 {
+    let plain = text.is_plain();
     let mut found = Fields::new();
     for line in Lines::of_tune(text) {
         if is_key_line(line.text) {
-            found.key = field_value(line.text);
+            found.key = value_of(line.text, plain);
             return found;
         }
-        found.take_line(line.text);
+        found.take_line(line.text, plain);
     }
     found
 }

@@ -1,11 +1,12 @@
 // What a tune's header says, as parts of its text.
 ghost use Rattle.std.specs.Prelude.{◌≡◌, ℕ, ◌≤◌, ◌↔◌, List, [], ◌∷◌, ◌++◌, length, take, map};
-ghost use Rattle.std.specs.Prelude.{codes, slice_get, option_copied, IsTrue};
+ghost use Rattle.std.specs.Prelude.{codes, slice_get, option_copied, IsTrue, false};
 ghost use Rattle.std.specs.Option.{option_or};
 ghost use Rattle.abc_fields.specs.Fields.{non_empty, non_empty_values};
+ghost use Rattle.abc_fields.specs.Inside.Percents.{has_percent};
 ghost use Rattle.abc_fields.specs.Limits.{most_titles};
 
-use crate::values::field_value;
+use crate::values::value_of;
 use arrayvec::ArrayVec;
 use std::marker::Model;
 
@@ -98,9 +99,11 @@ impl<'a> Fields<'a> {
         }
     }
 
-    // Takes the next line of the header, which does not give the key.
-    pub(crate) fn take_line(&mut self, line: &'a [u8])
-        requires { length self.old.titles ≤ most_titles }
+    // Takes the next line of the header, which does not give the key; `plain` says that no percent
+    // sign stands in it.
+    pub(crate) fn take_line(&mut self, line: &'a [u8], plain: bool)
+        requires few { length self.old.titles ≤ most_titles }
+        requires plain { IsTrue plain → has_percent line.now ≡ false }
         ensures titles { self.new.titles
             ≡ take most_titles (self.old.titles ++ non_empty_values (codes "T:") (line.now ∷ [])) }
         ensures rhythm { option_copied self.new.rhythm
@@ -109,9 +112,9 @@ impl<'a> Fields<'a> {
         ensures key { self.new.key ≡ self.old.key }
     {
         if line.starts_with(b"T:") {
-            self.titles.take_value(field_value(line));
+            self.titles.take_value(value_of(line, plain));
         } else if line.starts_with(b"R:") && self.rhythm.is_none() {
-            self.rhythm = unless_empty(field_value(line));
+            self.rhythm = unless_empty(value_of(line, plain));
         }
     }
 }

@@ -1,13 +1,14 @@
 // The lines of a text.
-ghost use Rattle.std.specs.Prelude.{◌≡◌, ℕ, ◌+◌, ◌^◌, ◌<◌, ◌≤◌, List, ◌∷◌, map, take, drop, length};
-ghost use Rattle.std.specs.Prelude.{IsTrue, false};
+ghost use Rattle.std.specs.Prelude.{◌≡◌, ℕ, ◌+◌, ◌^◌, ◌<◌, ◌≤◌, List, ◌∷◌, ◌++◌, map, length};
+ghost use Rattle.std.specs.Prelude.{take, drop, IsTrue, IfSome, false};
 ghost use Rattle.std.specs.Iterator.{YieldsFirstBy, item_count};
 ghost use Rattle.abc_fields.specs.Lines.{Piece, Span, Divides, SpansRise, SpansFollow, pieces_of};
-ghost use Rattle.abc_fields.specs.Lines.{spans_from, spans_of};
+ghost use Rattle.abc_fields.specs.Lines.{spans_from, spans_of, lines_of};
 ghost use Rattle.abc_fields.specs.LineView.{line_span};
 ghost use Rattle.abc_fields.specs.Inside.LineEndings.{ending_length, has_return};
 ghost use Rattle.abc_fields.specs.Limits.{longest_tune};
-ghost use Rattle.abc_fields.specs.Tunes.{IsTuneText};
+ghost use Rattle.abc_fields.specs.Inside.LinesLeft.{contents_of, HasLines};
+ghost use Rattle.abc_fields.specs.Tunes.{IsTuneText, joined};
 ghost use Rattle.abc_fields.specs.Bytes.{line_feed, carriage_return};
 ghost use Rattle.memchr.specs.Find.{IsFirstByte, is_byte, is_byte2};
 
@@ -118,6 +119,23 @@ impl<'a> Lines<'a> {
         }
     }
 
+    // The part of the text from this reader to a later one, where a line feed ends each line.
+    pub(crate) fn part_before(&self, later: &Lines<'a>) -> Option<&'a [u8]>
+        ensures { IfSome result (λ part. (gone : List (List ℕ))
+            → gone ++ contents_of later.now ≡ contents_of self.now → HasLines part.now gone) }
+    {
+        if !ends_with_feeds(self.rest, self.only_feeds) {
+            return None;
+        }
+        if !ends_with_feeds(later.rest, later.only_feeds) {
+            return None;
+        }
+        if self.rest.len() < later.rest.len() {
+            return None;
+        }
+        Some(&self.rest[..self.rest.len() - later.rest.len()])
+    }
+
     /// A second reader of the lines that are left.
     pub fn again(&self) -> Lines<'a>
         ensures { result ≡ self.now }
@@ -160,6 +178,14 @@ pub(crate) fn has_return(text: &[u8]) -> bool
     ensures { result ≡ has_return text.now }
 {
     memchr(b'\r', text).is_some()
+}
+
+// Whether a line feed ends each line of a text, and nothing else does.
+fn ends_with_feeds(text: &[u8], only_feeds: bool) -> bool
+    requires { IsTrue only_feeds → has_return text.now ≡ false }
+    ensures { IsTrue result → joined (lines_of text.now) ≡ text.now }
+{
+    only_feeds && (text.is_empty() || text.ends_with(b"\n"))
 }
 
 // Where the first line feed stands. Most lines are short: the indices of a byte are looked for near

@@ -1,15 +1,17 @@
 // Bytes that a value owns, and the texts of tunes among them.
-ghost use Rattle.std.specs.Prelude.{◌≡◌, ◌≤◌, ℕ, List, length, map, IfOk, IfErr, Some, false};
+ghost use Rattle.std.specs.Prelude.{◌≡◌, ◌≤◌, ℕ, List, length, map, IfOk, IfErr, Some, IsTrue};
+ghost use Rattle.std.specs.Prelude.{false};
 ghost use Rattle.abc_fields.specs.Lines.{lines_of, spans_of, SpansRise};
 ghost use Rattle.abc_fields.specs.LineKinds.{part_open_after};
 ghost use Rattle.abc_fields.specs.Fields.{header_of, key_text_of, body_spans};
 ghost use Rattle.abc_fields.specs.Inside.HeaderEnds.{key_place, IsKnown};
+ghost use Rattle.abc_fields.specs.Inside.Percents.{has_percent};
 ghost use Rattle.abc_fields.specs.Tunes.{IsTuneText, IsTextWithin};
 ghost use Rattle.abc_fields.specs.Limits.{longest_tune};
 
 use crate::key_place::{KeyPlace, find_key};
 use crate::lines::Lines;
-use crate::stored::key_of_stored;
+use crate::stored::{is_plain, key_of_stored};
 use crate::tune_body::TuneBody;
 use std::alloc::{AllocError, Global};
 use std::marker::Model;
@@ -57,6 +59,8 @@ pub struct TuneText {
     text: Vec<u8>,
     // Where its key stands, if that is known: the test of a stored text finds it.
     key: Option<KeyPlace>,
+    // Whether it is known that no percent sign stands in it, which would begin a comment.
+    plain: bool,
 }
 
 impl Model for TuneText {
@@ -64,7 +68,8 @@ impl Model for TuneText {
 
     ghost view = { λ t. t.text.items };
 
-    ghost invariant = { λ t. IsTextWithin longest_tune t.text.items × IsKnown t.text.items t.key };
+    ghost invariant = { λ t. IsTextWithin longest_tune t.text.items × IsKnown t.text.items t.key
+        × (IsTrue t.plain → has_percent t.text.items ≡ false) };
 }
 
 impl TuneText {
@@ -73,7 +78,25 @@ impl TuneText {
         requires { IsTextWithin longest_tune text.items }
         ensures { result ≡ text.items }
     {
-        TuneText { text, key: None }
+        TuneText {
+            text,
+            key: None,
+            plain: false,
+        }
+    }
+
+    // The bytes as a tune text whose key stands here. It takes no memory.
+    pub(crate) fn from_keyed(text: Vec<u8>, key: KeyPlace) -> TuneText
+        requires good { IsTextWithin longest_tune text.items }
+        requires key { key_place false (spans_of text.items) ≡ Some key }
+        ensures { result ≡ text.items }
+    {
+        let plain = is_plain(text.as_slice());
+        TuneText {
+            text,
+            key: Some(key),
+            plain,
+        }
     }
 
     /// The bytes as a tune text, where they are one of at most `longest` bytes, which is at most
@@ -88,13 +111,15 @@ impl TuneText {
         if bytes.as_slice().len() > longest {
             return Err(bytes);
         }
-        let Some(key) = key_of_stored(bytes.as_slice()) else {
+        let plain = is_plain(bytes.as_slice());
+        let Some(key) = key_of_stored(bytes.as_slice(), plain) else {
             return Err(bytes);
         };
         let ByteText { bytes } = bytes;
         Ok(TuneText {
             text: bytes,
             key: Some(key),
+            plain,
         })
     }
 
@@ -115,7 +140,15 @@ impl TuneText {
         Ok(TuneText {
             text,
             key: self.key,
+            plain: self.plain,
         })
+    }
+
+    // Whether it is known that no percent sign stands in it.
+    pub(crate) fn is_plain(&self) -> bool
+        ensures { IsTrue result → has_percent self.now ≡ false }
+    {
+        self.plain
     }
 
     // Where its key stands.

@@ -1,23 +1,26 @@
 // The lines of one tune.
-ghost use Rattle.std.specs.Prelude.{◌≡◌, ◌≤◌, ◌+◌, ◌++◌, List, [], ◌∷◌, length, true, false};
-ghost use Rattle.std.specs.Prelude.{IfOk, OnOk, MatchOption, MatchResult, Err, ℕ};
+ghost use Rattle.std.specs.Prelude.{◌≡◌, ◌≤◌, ◌+◌, ◌++◌, List, [], ◌∷◌, length, take, drop};
+ghost use Rattle.std.specs.Prelude.{true, false, IfOk, OnOk, IfSome, MatchOption, MatchResult};
+ghost use Rattle.std.specs.Prelude.{Err, ℕ, Some};
+ghost use Rattle.abc_fields.specs.Lines.{spans_of};
 ghost use Rattle.abc_fields.specs.Bytes.{line_feed};
 ghost use Rattle.abc_fields.specs.Limits.{longest_book, longest_tune};
-ghost use Rattle.abc_fields.specs.Inside.LinesLeft.{contents_of, IsRestAfter, still};
+ghost use Rattle.abc_fields.specs.Inside.LinesLeft.{contents_of, IsRestAfter, AreRead, still};
+ghost use Rattle.abc_fields.specs.Inside.HeaderEnds.{key_place, IsKeyRead};
 ghost use Rattle.abc_fields.specs.Tunes.{is_tune_start, ends_tune, tune_run};
 ghost use Rattle.abc_fields.specs.Tunes.{tune_runs, joined, has_key, IsTextWithin};
 ghost use Rattle.abc_fields.specs.FileHeaders.{before_key, has_letter};
 ghost use Rattle.abc_fields.specs.Books.{Texts, tune_answer};
 ghost use Rattle.abc_fields.specs.Inside.HeaderRows.{with_rows, taken, in_table};
 ghost use Rattle.abc_fields.specs.Inside.CarriedBytes.{KeepsCarried};
-ghost use Rattle.abc_fields.specs.Inside.LinesLeft.{IsRestAfter};
 ghost use Rattle.abc_fields.specs.Fields.{header_of};
 
 use crate::book::{BookFault, TuneFault};
 use crate::carried::Carried;
 use crate::file_header::FileHeader;
 use crate::header_letters::Letters;
-use crate::line_kinds::is_key_line;
+use crate::key_place::KeyPlace;
+use crate::line_kinds::{in_part_after, is_key_line};
 use crate::lines::{Line, Lines};
 use crate::texts::TuneText;
 use crate::values::is_all_blank;
@@ -49,12 +52,12 @@ fn next_of_tune<'a>(lines: &mut Lines<'a>) -> Option<Line<'a>>
         (λ line. (ends_tune line.text.now ≡ false)
         × (contents_of lines.old ≡ line.text.now ∷ contents_of lines.new)) }
 {
-    let start = lines.again();
-    let line = lines.next()?;
+    let mut ahead = lines.again();
+    let line = ahead.next()?;
     if ends_tune(line.text) {
-        *lines = start;
         return None;
     }
+    *lines = ahead;
     Some(line)
 }
 
@@ -68,6 +71,7 @@ struct Measured {
 }
 
 // Reads the lines of a tune to their end.
+#[inline(never)]
 fn measure(lines: &mut Lines) -> Measured
     requires { length (joined (contents_of lines.old)) ≤ longest_book + 1 }
     ensures length { result.length ≡ length (joined (tune_run (contents_of lines.old))) }
@@ -77,10 +81,12 @@ fn measure(lines: &mut Lines) -> Measured
 {
     let mut length = 0;
     let mut has_key = false;
-    while let Some(line) = next_of_tune(lines) {
+    let mut left = lines.again();
+    while let Some(line) = next_of_tune(&mut left) {
         length += line.text.len() + 1;
         has_key = has_key || is_key_line(line.text);
     }
+    *lines = left;
     Measured { length, has_key }
 }
 
@@ -141,12 +147,89 @@ pub(crate) fn text_of_tune(
     ensures rest { OnOk result (IsRestAfter (contents_of lines.old) (contents_of lines.new)) }
 {
     carried.change_to(alloc, header, lines.again())?;
+    let put = carried.last.bytes.as_slice();
+    let mut after = lines.again();
+    if let Some(key) = read_to_end(&mut after) {
+        if let Some(part) = lines.part_before(&after) {
+            *lines = after;
+            return text_of_part(alloc, part, key, put);
+        }
+    }
     text.clear();
-    write_tune(text, lines, carried.last.bytes.as_slice())?;
+    write_tune(text, lines, put)?;
     Ok(TuneText::from_vec(Vec::from_slice(alloc, text.as_slice())?))
 }
 
-// Writes the lines of a tune, and these bytes directly before the first that gives the key.
+// The text of a tune whose lines are this part of the book, with these bytes before its key.
+fn text_of_part(
+    alloc: Global,
+    part: &[u8],
+    key: KeyPlace,
+    put: &[u8],
+) -> Result<TuneText, AllocError>
+    requires within { key.from ≤ length part.now }
+    requires good { IsTextWithin longest_tune
+        (take key.from part.now ++ (put.now ++ drop key.from part.now)) }
+    requires key { key_place false (spans_of part.now) ≡ Some key }
+    ensures { IfOk result (λ text.
+        text ≡ take key.from part.now ++ (put.now ++ drop key.from part.now)) }
+{
+    if put.is_empty() {
+        return Ok(TuneText::from_keyed(Vec::from_slice(alloc, part)?, key));
+    }
+    let mut text = Vec::with_capacity(alloc, part.len() + put.len())?;
+    text.extend_from_slice(&part[..key.from])?;
+    text.extend_from_slice(put)?;
+    text.extend_from_slice(&part[key.from..])?;
+    Ok(TuneText::from_vec(text))
+}
+
+// Reads the lines of a tune to their end, where one of them gives the key. It stands apart, so that
+// the reader stays in registers.
+#[inline(never)]
+fn read_to_end(lines: &mut Lines) -> Option<KeyPlace>
+    requires { length (joined (tune_run (contents_of lines.old))) ≤ longest_tune }
+    ensures { IfSome result (λ key. IsKeyRead (contents_of lines.old) (contents_of lines.new) key
+        × (tune_run (contents_of lines.new) ≡ [])) }
+{
+    let mut left = lines.again();
+    let key = read_to_key(&mut left)?;
+    read_rest(&mut left);
+    *lines = left;
+    Some(key)
+}
+
+// Reads the lines of a tune up to the first that gives the key, that one included.
+#[inline(always)]
+fn read_to_key(lines: &mut Lines) -> Option<KeyPlace>
+    requires { length (joined (tune_run (contents_of lines.old))) ≤ longest_tune }
+    ensures { IfSome result (λ key. IsKeyRead (contents_of lines.old) (contents_of lines.new) key) }
+{
+    let mut from = 0;
+    let mut in_part = false;
+    while let Some(line) = next_of_tune(lines) {
+        if is_key_line(line.text) {
+            return Some(KeyPlace { from, in_part });
+        }
+        in_part = in_part_after(in_part, line.text);
+        from += line.text.len() + 1;
+    }
+    None
+}
+
+// Reads the lines of a tune to their end.
+#[inline(always)]
+fn read_rest(lines: &mut Lines)
+    ensures read { AreRead (contents_of lines.old) (tune_run (contents_of lines.old))
+        (contents_of lines.new) }
+    ensures all { tune_run (contents_of lines.new) ≡ [] }
+{
+    while let Some(_line) = next_of_tune(lines) {}
+}
+
+// Writes the lines of a tune, and these bytes directly before the first that gives the key. It
+// stands apart, since most tunes are a part of their book.
+#[inline(never)]
 fn write_tune(out: &mut Vec<u8>, lines: &mut Lines, put: &[u8]) -> Result<(), AllocError>
     ensures text { OnOk result ((carried : List (List ℕ)) → joined carried ≡ put.now → out.new.items
         ≡ out.old.items ++ joined (before_key carried (tune_run (contents_of lines.old)))) }

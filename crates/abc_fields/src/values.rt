@@ -1,8 +1,9 @@
 // The values of fields.
 ghost use Rattle.std.specs.Prelude.{◌≡◌, ℕ, ◌-◌, ◌<◌, List, ◌++◌, length, true, ◌==◌, ◌&&◌};
-ghost use Rattle.std.specs.Prelude.{slice_index, nat_lt};
+ghost use Rattle.std.specs.Prelude.{slice_index, nat_lt, IsTrue, false};
 ghost use Rattle.abc_fields.specs.Bytes.{backslash, is_blank, is_all_blank};
 ghost use Rattle.abc_fields.specs.Values.{uncommented, field_value, IsUncommented, IsTrimmed};
+ghost use Rattle.abc_fields.specs.Inside.Percents.{has_percent};
 ghost use Rattle.abc_fields.specs.Words.{trimmed, trimmed_front, trimmed_back};
 
 use memchr::memchr;
@@ -17,6 +18,20 @@ pub fn field_value(line: &[u8]) -> &[u8]
         return b"";
     }
     trim_blanks(without_comment(&line[2..]))
+}
+
+// The same; `plain` says that no percent sign stands in the line, so that it has no comment.
+pub(crate) fn value_of(line: &[u8], plain: bool) -> &[u8]
+    requires { IsTrue plain → has_percent line.now ≡ false }
+    ensures { result.now ≡ field_value line.now }
+{
+    if !plain {
+        return field_value(line);
+    }
+    if line.len() < 2 {
+        return b"";
+    }
+    trim_blanks(&line[2..])
 }
 
 /// The line up to its comment, if it has one: the first percent sign that no backslash stands

@@ -7,12 +7,12 @@ use Rattle.abc_fields.proofs.LineOffsets.{spans_have_lines}
 use Rattle.abc_fields.proofs.KeyLemmas.{place_keyed}
 use Rattle.abc_fields.proofs.StoredLaw.{tune_text_if, returned, unfed, ended, unkeyed}
 use Rattle.abc_fields.proofs.stored.key_of_stored.Goals as goal
-use Rattle.abc_fields.proofs.stored.key_of_stored.Goals.{then-has_return-via-then-has_return, then-has_return-via-else-has_return+then-not-ends_with}
+use Rattle.abc_fields.proofs.stored.key_of_stored.Goals.{then-holds_return-via-then-holds_return, then-holds_return-via-else-holds_return+then-not-ends_with}
 
-pub returns-then-has_return : goal.returns-then-has_return
-returns-then-has_return c = elim c.then-has_return.branch [
-  | then-has_return-via-then-has_return w ↦ returned c.args.text.now (sym c.has_return.ensures ∙ w.if-has_return.true)
-  | then-has_return-via-else-has_return+then-not-ends_with w ↦ unfed c.args.text.now (sym w.ends_with.ensures.value ∙ w.if-not-ends_with.true)
+pub returns-then-holds_return : goal.returns-then-holds_return
+returns-then-holds_return c = elim c.then-holds_return.branch [
+  | then-holds_return-via-then-holds_return w ↦ returned c.args.text.now (sym c.holds_return.ensures ∙ w.if-holds_return.true)
+  | then-holds_return-via-else-holds_return+then-not-ends_with w ↦ unfed c.args.text.now (sym w.ends_with.ensures.value ∙ w.if-not-ends_with.true)
 ]
 
 pub returns-in_default : goal.returns-in_default
@@ -39,4 +39,5 @@ returns-else-has_end c =
     let here = sym (ap (λ s. has_end (contents_of s)) spans ∙ ap has_end (spans_have_lines text)) in
     let no_end : has_end (lines_of text) ≡ false = here ∙ sym c.in-Some.ensures.1 ∙ sym c.has_end.ensures ∙ c.if-has_end.false in
     let keyed : has_key (lines_of text) ≡ true = ap has_key (sym (spans_have_lines text)) ∙ place_keyed false (spans_of text) c.in-Some.place found in
-    (tune_text_if text (sym c.has_return.ensures ∙ c.if-has_return.false) (sym c.ends_with.ensures.value ∙ c.if-not-ends_with.false) no_end keyed, found)
+    let fed = sym c.ends_with.ensures.value ∙ c.if-not-ends_with.false in
+    (tune_text_if text (sym c.holds_return.ensures ∙ c.if-holds_return.false) fed no_end keyed, found)
