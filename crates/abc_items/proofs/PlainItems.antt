@@ -1,6 +1,7 @@
 -- A byte that begins none of the longer rows is a note with its octave marks, a bar or another byte.
 use Rattle.std.proofs.Common.{◌≡◌, ℕ, ◌<◌, length, slice_index, take, drop, ◌+◌, ◌-◌, List, [], ◌∷◌, Bool, true, false, Some, None, refl, sym, ap, ◌∙◌, arith}
-use Rattle.std.specs.Prelude.{◌==◌, if◌then◌else◌}
+use Rattle.std.specs.Prelude.{◌==◌, ◌&&◌, not, if◌then◌else◌}
+use Rattle.abc_fields.specs.Bytes.{begins}
 use Rattle.std.specs.List.{prefix_len}
 use Rattle.std.proofs.Math.Seq.{take-length}
 use Rattle.std.proofs.lemmas.Bool.Decides.{nat_tests}
@@ -10,7 +11,7 @@ use Rattle.abc_items.specs.declared.kinds.Kind.TheVariants.{Note}
 use Rattle.abc_items.specs.Marks.{quotation_mark, exclamation_mark, plus_sign, opening_brace, closing_brace, opening_bracket, opening_parenthesis, sharp_sign}
 use Rattle.abc_items.specs.Marks.{flat_sign, natural_sign, is_octave_mark}
 use Rattle.abc_items.specs.ItemRows.{own_accidental, is_note_name, enclosed, inline_field, chord, tuplet, note, front, or_else, first_item}
-use Rattle.abc_items.specs.Plain.{begins_longer_row}
+use Rattle.abc_items.specs.Plain.{begins_longer_row, is_plain_byte}
 use Rattle.abc_items.specs.Inside.PlainFronts.{lone_kind, plain_front}
 
 -- the byte is none of the marks that begin the longer rows
@@ -95,3 +96,13 @@ plain_item_at [] some other = absurd (omega arith)
 plain_item_at (byte ∷ text) some other =
     let long : length (byte ∷ text) - 1 ≡ length text = omega arith in
     ap (plain_front byte) (ap (λ n. take n text) long ∙ take-length text) ∙ sym (plain_item byte text other)
+
+not_longer : (longer one : Bool) → (not longer && one) ≡ true → longer ≡ false
+not_longer true one plain = absurd (cc)
+not_longer false one plain = refl
+
+-- a plain byte alone is no accidental
+pub plain_own : (bytes : List ℕ) → (begins is_plain_byte bytes && length bytes == 1) ≡ true → own_accidental bytes ≡ None
+plain_own [] plain = refl
+plain_own (byte ∷ bytes) plain =
+    no_own_accidental byte bytes (lacks_row_marks byte (not_longer (begins_longer_row byte) (length (byte ∷ bytes) == 1) plain))

@@ -1,11 +1,11 @@
 // The item at the front of a text: one function for each row of the table of items.
 ghost use Rattle.std.specs.Prelude.{◌≡◌, ℕ, ◌<◌, ◌≤◌, ◌+◌, ◌==◌, ◌&&◌, is_some, List, length};
-ghost use Rattle.std.specs.Prelude.{IfSome, Some, None, drop, IsTrue};
+ghost use Rattle.std.specs.Prelude.{IfSome, Some, None, IsTrue};
 ghost use Rattle.std.specs.List.{prefix_len};
 ghost use Rattle.std.specs.Char.{is_ascii_digit};
 ghost use Rattle.abc_fields.specs.Bytes.{begins};
 ghost use Rattle.abc_items.specs.Marks.{opening_brace, closing_brace, closing_bracket};
-ghost use Rattle.abc_items.specs.Marks.{is_closing_bracket, is_octave_mark, is_chord_byte, has_no};
+ghost use Rattle.abc_items.specs.Marks.{is_closing_bracket, is_octave_mark, is_chord_byte};
 ghost use Rattle.abc_items.specs.Grammar.{spelling_of, IsNote};
 ghost use Rattle.abc_items.specs.ItemRows.{up_to, enclosed, inline_field, chord, colon_part};
 ghost use Rattle.abc_items.specs.ItemRows.{colon_parts, tuplet, own_accidental, note, first_item};

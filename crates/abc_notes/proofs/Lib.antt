@@ -1,5 +1,8 @@
 pub mod TextParts
 pub mod PastLemmas
+pub mod BareNotes
+pub mod LetterPitches
+pub mod OpeningLemmas
 pub mod RuleLaw
 pub mod ShortLemmas
 pub mod StreamLemmas

@@ -1,6 +1,5 @@
 // The accidental of a note, by what its bar bears so far.
-ghost use Rattle.std.specs.Prelude.{◌≡◌, ◌∷◌, List, ℕ};
-ghost use Rattle.abc_keys.specs.declared.signatures.Signature.{Signature as AnySignature};
+ghost use Rattle.std.specs.Prelude.{◌≡◌, ◌∷◌, List};
 ghost use Rattle.abc_notes.specs.Events.{Event as AnyEvent};
 ghost use Rattle.abc_notes.specs.Inside.EventView.{event_of, written_note};
 ghost use Rattle.abc_notes.specs.Inside.KeptBar.{past_of};

@@ -72,7 +72,7 @@ impl<'a> KeySignature<'a> {
 }
 
 #[inline(never)]
-fn signature_of_text(text: &[u8]) -> Signature
+pub(crate) fn signature_of_text(text: &[u8]) -> Signature
     ensures { result ≡ signature_of (key_of_text text.now) }
 {
     signature(&key_of(text))

@@ -11,12 +11,15 @@ mod chord_events;
 mod events;
 mod item_events;
 mod key_signatures;
+mod letter_pitches;
 mod line_events;
 mod note_tokens;
 mod notes;
+mod openings;
 mod pitches;
 mod tune_events;
 
 pub use abc_keys::{Accidental, Key, Letter, Mode, Scale, Sign, Signature, key_of, signature};
 pub use note_tokens::NoteToken;
 pub use notes::{CountingNotes, Notes};
+pub use openings::OpeningNotes;

@@ -48,6 +48,19 @@ impl<'a> LineEvents<'a> {
         }
     }
 
+    // The events of items of a music line, which begins at `base`.
+    pub fn of_items(items: Items<'a>, base: usize) -> LineEvents<'a>
+        requires { AreShort base items }
+        ensures { result ≡ line_events base items.entry }
+    {
+        LineEvents {
+            base,
+            items,
+            chord: ChordEvents::none(),
+            in_chord: false,
+        }
+    }
+
     // No events.
     #[tactic(auto, unfolding(crate::specs::Music::line_events))]
     pub fn none() -> LineEvents<'a>

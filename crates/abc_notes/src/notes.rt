@@ -90,7 +90,7 @@ impl<'a> Notes<'a> {
     }
 
     #[inline(always)]
-    fn new(start: KeySignature<'a>, events: TuneEvents<'a>) -> Notes<'a>
+    pub(crate) fn new(start: KeySignature<'a>, events: TuneEvents<'a>) -> Notes<'a>
         requires { length events ≤ longest_book }
         ensures { result ≡ sounded_notes start.entry [] events.entry }
     {

@@ -7,12 +7,12 @@ ghost use Rattle.abc_notes.specs.Pitches.{letter_pitch, pitch_of};
 use crate::events::WrittenNote;
 use abc_keys::{Accidental, Letter};
 
-const OCTAVE: i32 = 12;
+pub(crate) const OCTAVE: i32 = 12;
 
 // Those of the letters from C to B.
 const LETTER_PITCHES: [i32; 7] = [0, 2, 4, 5, 7, 9, 11];
 
-fn letter_pitch(letter: Letter) -> i32
+pub(crate) fn letter_pitch(letter: Letter) -> i32
     ensures value { result ≡ letter_pitch letter }
     ensures small { (pos 0 ≤ℤ result) × (result ≤ℤ pos 11) }
 {

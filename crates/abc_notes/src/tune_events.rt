@@ -1,15 +1,15 @@
 // The events of a tune: those of the music lines and the keys of its body.
-ghost use Rattle.std.specs.Prelude.{◌≡◌, ◌+◌, ◌≤◌, ◌++◌, List, [], length, true, false};
+ghost use Rattle.std.specs.Prelude.{◌≡◌, ◌+◌, ◌≤◌, ◌++◌, List, [], length, true, false, IsTrue};
 ghost use Rattle.std.specs.Iterator.{YieldsFirstBy, item_count};
 ghost use Rattle.abc_fields.specs.Limits.{longest_book};
 ghost use Rattle.abc_fields.specs.LineView.{line_span};
 ghost use Rattle.abc_items.specs.ItemSpans.{item_spans_of};
 ghost use Rattle.abc_keys.specs.Keys.{key_of_text, signature_of};
-ghost use Rattle.abc_notes.specs.Inside.Bounds.{LinesAreShort};
+ghost use Rattle.abc_notes.specs.Inside.Bounds.{AreShort, LinesAreShort};
 ghost use Rattle.abc_notes.specs.Events.{Event as AnyEvent};
 ghost use Rattle.abc_notes.specs.Inside.EventView.{event_of, events_of};
 ghost use Rattle.abc_notes.specs.Music.{line_events, line_meaning, body_events};
-ghost use Rattle.abc_notes.specs.Music.{tune_events, tune_signature};
+ghost use Rattle.abc_notes.specs.Music.{tune_events, tune_signature, music_events};
 
 use crate::events::Event;
 use crate::line_events::LineEvents;
@@ -17,6 +17,7 @@ use abc_fields::{
     Line, Lines, TuneBody, TuneText, field_value, in_part_after, is_comment, is_continuation,
     is_field_line, is_key_line, without_comment,
 };
+use abc_items::Items;
 use std::marker::Model;
 
 // The events of a tune that are left. A clause sees their list.
@@ -47,6 +48,24 @@ impl<'a> TuneEvents<'a> {
             line: LineEvents::new(line, 0),
             lines: Lines::new(b""),
             in_part: false,
+        }
+    }
+
+    // The events of items that are left of a line, which begins at `base`, and of the lines after it.
+    pub fn of_parts(
+        items: Items<'a>,
+        base: usize,
+        lines: Lines<'a>,
+        in_part: bool,
+    ) -> TuneEvents<'a>
+        requires items { AreShort base items }
+        requires lines { LinesAreShort lines }
+        ensures { result ≡ line_events base items.entry ++ body_events in_part lines.entry }
+    {
+        TuneEvents {
+            line: LineEvents::of_items(items, base),
+            lines,
+            in_part,
         }
     }
 
@@ -109,6 +128,20 @@ impl<'a> TuneEvents<'a> {
             }
         }
     }
+}
+
+// Whether a line of the body is music.
+#[inline(always)]
+pub(crate) fn is_music(line: Line, in_part: bool) -> bool
+    ensures { IsTrue result → line_meaning in_part (line_span line.entry)
+        ≡ music_events line.entry.from line.entry.text.now }
+{
+    let text = line.text;
+    if in_part || is_key_line(text) {
+        return false;
+    }
+    let is_aside = is_field_line(text) || is_continuation(text) || is_comment(text);
+    !is_aside
 }
 
 // Takes a line of the body, where the line in hand is spent: it means nothing, as within a part, or

@@ -6,21 +6,7 @@ use Rattle.std.proofs.lemmas.List.{append-nil}
 use Rattle.std.proofs.lemmas.Bool.{cases_Bool}
 use Rattle.abc_notes.specs.Pitches.{SoundedNote, counting}
 use Rattle.tune_incipit.specs.Incipits.{counting_pitches, differences, incipit_of}
-use Rattle.tune_incipit.specs.Inside.NextSteps.{steps_and}
-
--- the steps from the last note, if one has come, through these pitches
-unfoldable pub steps_on : Option ℤ → List ℤ → List ℤ
-steps_on None pitches = differences pitches
-steps_on (Some last) pitches = differences (last ∷ pitches)
-
--- how many notes have come, by the last one and the steps
-abbrev pub notes_so_far : Option ℤ → List ℤ → ℕ
-notes_so_far None steps = length steps
-notes_so_far (Some last) steps = length steps + 1
-
--- the steps so far, and those of the notes that are left
-unfoldable pub all_steps : ℕ → Option ℤ → List ℤ → List SoundedNote → List ℤ
-all_steps count last steps notes = steps ++ steps_on last (take (count - notes_so_far last steps) (counting_pitches notes))
+use Rattle.tune_incipit.specs.Inside.NextSteps.{steps_and, steps_on, notes_so_far, all_steps}
 
 counting_no : (n : SoundedNote) (rest : List SoundedNote) → n.counts ≡ false → counting_pitches (n ∷ rest) ≡ counting_pitches rest
 counting_no n rest e = (λ i. map (λ (x : SoundedNote). x.pitch) (cond (e i) (n ∷ filter (λ x. x.counts) rest) (filter (λ x. x.counts) rest)))
@@ -106,3 +92,10 @@ unfolding all_steps steps_on differences
 all_steps-none count None steps notes e = ap (λ p. steps ++ differences p) (take-none _ (counting_pitches notes) (ap counting_pitches e)) ∙ append-nil steps
 all_steps-none count (Some last) steps notes e =
     ap (λ p. steps ++ differences (last ∷ p)) (take-none _ (counting_pitches notes) (ap counting_pitches e)) ∙ append-nil steps
+
+-- the notes that count alone have the same steps
+pub all_steps-counting : (count : ℕ) (last : Option ℤ) (steps : List ℤ) (notes : List SoundedNote)
+    → all_steps count last steps (counting notes) ≡ all_steps count last steps notes
+unfolding all_steps
+all_steps-counting count last steps notes =
+    ap (λ pitches. steps ++ steps_on last (take (count - notes_so_far last steps) pitches)) (counting_again notes)

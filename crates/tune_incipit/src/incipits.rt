@@ -1,18 +1,20 @@
 // The steps between the first notes of tunes and of queries.
 ghost use Rattle.std.specs.Prelude.{◌≡◌, ◌+◌, ◌-◌, ◌<◌, ◌≤◌, ◌↔◌, ◌++◌, ◌∷◌, [], List, ℕ, ℤ};
 ghost use Rattle.std.specs.Prelude.{length, count_by, min, IsTrue, IfOk, IsErr, IsOk, option_map};
+ghost use Rattle.std.specs.Prelude.{Some};
 ghost use Rattle.tune_incipit.specs.Incipits.{incipit_of, tune_notes, query_notes, raised};
-ghost use Rattle.tune_incipit.specs.Inside.NextSteps.{steps_and};
+ghost use Rattle.tune_incipit.specs.Inside.NextSteps.{steps_and, all_steps};
 ghost use Rattle.tune_incipit.specs.Inside.StepRows.{most_steps};
 ghost use Rattle.tune_incipit.specs.Limits.{fewest_notes, most_notes};
 ghost use Rattle.abc_fields.specs.Limits.{longest_book};
 ghost use Rattle.abc_notes.specs.Pitches.{SoundedNote};
 
+use crate::note_pitches::Pitch;
 use crate::some_steps::SomeSteps;
 use crate::step_lists::Steps;
 use abc_fields::TuneText;
 use abc_keys::key_of;
-use abc_notes::{NoteToken, Notes};
+use abc_notes::{NoteToken, Notes, OpeningNotes};
 use thiserror::Error;
 
 /// The fewest notes that an incipit may be asked by (this archive's profile).
@@ -21,35 +23,82 @@ pub const FEWEST_NOTES: usize = 2;
 /// The most notes that an incipit may be asked by (this archive's profile).
 pub const MOST_NOTES: usize = 12;
 
-// Puts the step to one more note behind the others, where this is the last one before it.
+// Puts the step to one more note behind the others, where this is the pitch of the last one before
+// it, and takes the note for the last one.
 #[inline(always)]
-fn add_note(steps: &mut Steps, last: Option<NoteToken>, token: NoteToken)
+fn add_note(steps: &mut Steps, last: &mut Option<Pitch>, token: NoteToken)
     requires { length steps.old < most_steps }
-    ensures { steps.new
-        ≡ steps_and steps.old (option_map (λ note. note.pitch) last.entry) token.entry.pitch }
+    ensures steps { steps.new
+        ≡ steps_and steps.old (option_map (λ p. p.semitones) last.old) token.entry.pitch }
+    ensures last { option_map (λ p. p.semitones) last.new ≡ Some token.entry.pitch }
 {
-    if let Some(before) = last {
-        steps.push(token.pitch - before.pitch);
+    let pitch = Pitch::of(token);
+    if let Some(before) = *last {
+        steps.push(pitch.semitones - before.semitones);
     }
+    *last = Some(pitch);
 }
 
 // The steps between the first of these notes that count.
-#[inline(always)]
 fn first_steps(notes: Notes, count: usize) -> Steps
     requires few { fewest_notes ≤ count }
     requires many { count ≤ most_steps + 1 }
     ensures { result ≡ incipit_of count notes.entry }
 {
-    let mut steps = Steps::new();
-    let mut last: Option<NoteToken> = None;
+    steps_with(notes, count, Steps::new(), None)
+}
+
+// The steps so far, and those on to the first of these notes that count, up to so many notes.
+#[inline(never)]
+fn steps_with(notes: Notes, count: usize, so_far: Steps, last_so_far: Option<Pitch>) -> Steps
+    requires room { length so_far + 1 < count }
+    requires many { count ≤ most_steps + 1 }
+    ensures { result
+        ≡ all_steps count (option_map (λ p. p.semitones) last_so_far) so_far notes.entry }
+{
+    let mut steps = so_far;
+    let mut last = last_so_far;
     for token in notes.counting() {
-        add_note(&mut steps, last, token);
-        last = Some(token);
+        add_note(&mut steps, &mut last, token);
         if steps.len() + 1 == count {
             return steps;
         }
     }
     steps
+}
+
+// The steps between the first notes of a tune that count. Of most tunes they are plain, so that
+// they are read with little work.
+#[inline(always)]
+fn opening_steps(text: &TuneText, count: usize) -> Steps
+    requires few { fewest_notes ≤ count }
+    requires many { count ≤ most_steps + 1 }
+    ensures { result ≡ incipit_of count (tune_notes text.now) }
+{
+    let mut opening = OpeningNotes::of_tune(text);
+    let mut steps = Steps::new();
+    let mut last = None;
+    'notes: loop {
+        let Some(token) = opening.next_plain() else {
+            return steps_of_rest(opening, count, steps, last);
+        };
+        add_note(&mut steps, &mut last, token);
+        if steps.len() + 1 == count {
+            return steps;
+        }
+    }
+}
+
+// The same as `steps_with`, of what is left of a tune after its opening. It stands apart, so that
+// the way of most tunes is short.
+#[inline(never)]
+fn steps_of_rest(rest: OpeningNotes, count: usize, so_far: Steps, last: Option<Pitch>) -> Steps
+    requires room { length so_far + 1 < count }
+    requires many { count ≤ most_steps + 1 }
+    ensures { result
+        ≡ all_steps count (option_map (λ p. p.semitones) last) so_far rest.entry }
+{
+    steps_with(rest.into_notes(), count, so_far, last)
 }
 
 /// The incipit of a tune by its first `notes` notes that count, or by all of them where it has
@@ -67,7 +116,7 @@ pub fn steps(text: &TuneText, notes: usize) -> Steps
     ensures fronts { (fewer : ℕ) (all : List SoundedNote) → fewer ≤ notes
         → (rest : List ℤ) × (incipit_of fewer all ++ rest ≡ incipit_of notes all) }
 {
-    first_steps(Notes::of_tune(text), notes)
+    opening_steps(text, notes)
 }
 
 /// Why a query is refused: it asks for nothing. Of notes it does where fewer than two count.

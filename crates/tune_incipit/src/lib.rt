@@ -8,6 +8,7 @@
 
 mod incipit_keys;
 mod incipits;
+mod note_pitches;
 mod scale_keys;
 mod some_steps;
 mod step_lists;

@@ -1,61 +1,9 @@
-use Rattle.std.proofs.Common.{◌≡◌, ◌+◌, ◌<◌, length, Option, Some, option_map, ap, sym, ◌∙◌, arith, ℤ, List, subst}
-use Rattle.abc_notes.specs.Tokens.{token_note}
-use Rattle.abc_notes.specs.Pitches.{SoundedNote}
-use Rattle.tune_incipit.specs.Incipits.{incipit_of}
-use Rattle.tune_incipit.proofs.Growing.{all_steps, notes_so_far, notes_so_far-le, length-steps_and, all_steps-start, all_steps-more}
-use Rattle.tune_incipit.proofs.Growing.{AllCount, counting_count, incipit-counting}
-use Rattle.tune_incipit.proofs.Growing.{all_steps-full, all_steps-none}
+use Rattle.std.proofs.Common.{◌∙◌, length, ap, arith}
+use Rattle.tune_incipit.proofs.Growing.{all_steps-start}
 use Rattle.tune_incipit.proofs.incipits.first_steps.Goals as goal
 
-pub loop-token-init : goal.loop-token-init
-loop-token-init c =
-    let none : length c.new-steps.result ≡ 0 = ap length c.new-steps.ensures in
-    let left = c.into_iter-token-iterator.ensures.into_iter_gives ∙ c.counting-token-items.ensures in (
-      tt,
-      tt,
-      omega arith,
-      all_steps-start c.args.count c.new-steps.result c.into_iter-token-iterator.result c.new-steps.ensures
-          ∙ ap (incipit_of c.args.count) left ∙ incipit-counting c.args.count c.args.notes,
-      subst AllCount (sym left) (counting_count c.args.notes),
-    )
-
-pub returns-then-len-count : goal.returns-then-len-count
-returns-then-len-count c =
-    let last : Option ℤ = option_map (λ note. note.pitch) c.loop-token.last in
-    let left : List SoundedNote = c.next.new.self in
-    let counts = subst AllCount c.in-Some.ensures.steps c.loop-token.invariant.4 in
-    let room : notes_so_far last c.loop-token.steps < c.args.count = omega (arith, notes_so_far-le last c.loop-token.steps, c.loop-token.invariant.2) in
-    let enough : length c.add_note.new.steps + 1 ≡ c.args.count = omega arith in
-    let more = all_steps-more c.args.count last c.loop-token.steps (token_note c.in-Some.token) left counts.0 room in
-    sym (all_steps-full c.args.count c.in-Some.token.pitch c.add_note.new.steps left enough)
-    ∙ ap (λ s. all_steps c.args.count (Some c.in-Some.token.pitch) s left) c.add_note.ensures
-    ∙ sym more ∙ ap (all_steps c.args.count last c.loop-token.steps) (sym c.in-Some.ensures.steps) ∙ c.loop-token.invariant.3
-
-pub loop-token-preserved : goal.loop-token-preserved
-loop-token-preserved c =
-    let last : Option ℤ = option_map (λ note. note.pitch) c.loop-token.last in
-    let left : List SoundedNote = c.next.new.self in
-    let counts = subst AllCount c.in-Some.ensures.steps c.loop-token.invariant.4 in
-    let room : notes_so_far last c.loop-token.steps < c.args.count = omega (arith, notes_so_far-le last c.loop-token.steps, c.loop-token.invariant.2) in
-    let long : length c.add_note.new.steps ≡ notes_so_far last c.loop-token.steps =
-    ap length c.add_note.ensures ∙ length-steps_and last c.loop-token.steps c.in-Some.token.pitch in
-    let more = all_steps-more c.args.count last c.loop-token.steps (token_note c.in-Some.token) left counts.0 room in (
-      tt,
-      tt,
-      omega arith,
-      ap (λ s. all_steps c.args.count (Some c.in-Some.token.pitch) s left) c.add_note.ensures
-          ∙ sym more ∙ ap (all_steps c.args.count last c.loop-token.steps) (sym c.in-Some.ensures.steps) ∙ c.loop-token.invariant.3,
-      counts.1,
-    )
+pub steps_with-requires-clause-room : goal.steps_with-requires-clause-room
+steps_with-requires-clause-room c = omega (arith, ap length c.new.ensures, c.requires.few)
 
 pub returns : goal.returns
-returns c =
-    let last : Option ℤ = option_map (λ note. note.pitch) c.loop-token.last in
-    sym (all_steps-none c.args.count last c.loop-token.steps c.loop-token.token-iterator c.in-None.ensures.steps.0) ∙ c.loop-token.invariant.3
-
-pub overflow_add-len : goal.overflow_add-len
-overflow_add-len c =
-    let last : Option ℤ = option_map (λ note. note.pitch) c.loop-token.last in
-    let long : length c.add_note.new.steps ≡ notes_so_far last c.loop-token.steps =
-    ap length c.add_note.ensures ∙ length-steps_and last c.loop-token.steps c.in-Some.token.pitch in
-    omega (arith, long, notes_so_far-le last c.loop-token.steps, c.loop-token.invariant.2)
+returns c = c.steps_with.ensures ∙ all_steps-start c.args.count c.new.result c.args.notes c.new.ensures

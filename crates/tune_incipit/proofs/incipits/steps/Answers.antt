@@ -1,11 +1,11 @@
 use Rattle.std.proofs.Common.{ap, ◌∙◌, length}
-use Rattle.tune_incipit.specs.Incipits.{incipit_of, tune_notes}
+use Rattle.tune_incipit.specs.Incipits.{tune_notes}
 use Rattle.tune_incipit.proofs.IncipitLaws.{length-incipit_of, incipit_of-raised, incipit_of-fewer}
 use Rattle.tune_incipit.proofs.incipits.steps.Goals as goal
 
 pub returns-clause-count : goal.returns-clause-count
 returns-clause-count c =
-    ap length (c.first_steps.ensures ∙ ap (incipit_of c.args.notes) c.of_tune.ensures.notes)
+    ap length c.opening_steps.ensures
     ∙ length-incipit_of c.args.notes (tune_notes c.args.text.now)
 
 pub returns-clause-fronts : goal.returns-clause-fronts
