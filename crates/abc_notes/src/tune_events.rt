@@ -51,7 +51,7 @@ impl<'a> TuneEvents<'a> {
         }
     }
 
-    // The events of items that are left of a line, which begins at `base`, and of the lines after it.
+    // The events of items that are left of a line that begins at `base`, and of the lines after it.
     pub fn of_parts(
         items: Items<'a>,
         base: usize,

@@ -18,7 +18,8 @@ use denote.Param.Members.{Mut}
 pub answers_by : {F X : Type 0} (n : X → ℕ) {g : Mut F (Bor X × (Bor X × Unit {0})) Ordering} {f : F}
     → ((a : Bor X × (Bor X × Unit {0})) (r : Ordering) (f' : F) → Called g f a r f' → (r ≡ nat_cmp (n a.0.now) (n a.1.0.now)) × (f' ≡ f))
     → ComparesAs g (λ x y. is_lt (nat_cmp (n x) (n y))) f
-answers_by n {g = g} {f = f} h = always_returns_same g (λ a r. is_lt r ≡ is_lt (nat_cmp (n a.0.now) (n a.1.0.now))) f (λ a r f' k. (ap is_lt (h a r f' k).0, (h a r f' k).1))
+answers_by n {g = g} {f = f} h = always_returns_same g (λ a r. is_lt r ≡ is_lt (nat_cmp (n a.0.now) (n a.1.0.now))) f
+    (λ a r f' k. (ap is_lt (h a r f' k).0, (h a r f' k).1))
 
 -- THE LOOK WHETHER NUMBERS FALL
 -- the front of a list with one element more, whose number is no lower than `last`
@@ -26,7 +27,9 @@ module _ {X : Type 0} (n : X → ℕ) (xs : List X) (k last : ℕ) (d : X) (lt :
   pub still_by_number : IsNonDecreasingBy n (take k xs) → All (λ x. n x ≤ last) (take k xs) → IsNonDecreasingBy n (take (k + 1) xs)
   still_by_number up below = subst (IsNonDecreasingBy n) (sym (take_more xs k d lt))
       (IsNonDecreasingBy-push n (take k xs) (get_or xs k d) up
-      (λ d' some. let last_one = All-get_or (λ (x : X). n x ≤ last) (take k xs) (length (take k xs) - 1) d' (omega (arith, some)) below in omega (arith, last_one, le)))
+      (λ d' some.
+      let last_one = All-get_or (λ (x : X). n x ≤ last) (take k xs) (length (take k xs) - 1) d' (omega (arith, some)) below in
+      omega (arith, last_one, le)))
 
   pub still_below : All (λ x. n x ≤ last) (take k xs) → All (λ x. n x ≤ n (get_or xs k d)) (take (k + 1) xs)
   still_below below = subst (All (λ x. n x ≤ n (get_or xs k d))) (sym (take_more xs k d lt))

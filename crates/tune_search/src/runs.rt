@@ -1,5 +1,6 @@
 // The entries of texts, in order, before any page is touched.
-ghost use Rattle.std.specs.Prelude.{◌≡◌, ◌<◌, ◌≤◌, ◌+◌, ◌++◌, ◌^◌, length, All, IfErr, IfOk, OnOk, IsTrue};
+ghost use Rattle.std.specs.Prelude.{◌≡◌, ◌<◌, ◌≤◌, ◌+◌, ◌++◌, ◌^◌, length, All, IfErr, IfOk};
+ghost use Rattle.std.specs.Prelude.{OnOk, IsTrue};
 ghost use Rattle.std.specs.List.Sorted.{IsNonDecreasingBy, IsPermutation};
 ghost use Rattle.std.specs.List.Sorted.{IsSortedByKey, IsStableByKey};
 ghost use Rattle.std.specs.Ordering.{nat_cmp};
@@ -117,8 +118,8 @@ pub(crate) fn in_order<const W: usize>(run: Vec<(IndexKey<W>, u32)>) -> Vec<(Ind
     }
 }
 
-// Entries that come by number, as those of texts do, in order. A sort by their keys alone that keeps
-// the order of equal ones is enough, and many tunes share a rhythm or a scale.
+// Entries that come by number, as those of texts do, in order. It is enough to sort them by their
+// keys and to keep the order of equal ones: many tunes share a rhythm or a scale.
 fn in_key_order<const W: usize>(run: Vec<(IndexKey<W>, u32)>) -> Vec<(IndexKey<W>, u32)>
     requires by_number { IsNonDecreasingBy (λ e. e.1) run.items }
     requires small { All (λ e. e.1 < 2 ^ 32) run.items }

@@ -11,7 +11,8 @@ loop-place-preserved g c =
     let lt : k < length run = search rules in
     let le : c.loop-place.last ≤ c.index-run-place.result.1 = search rules in
     record {
-      by_number = still_by_number (λ e. e.1) run k c.loop-place.last c.index-run-place.result lt (search (rules, le)) c.loop-place.invariant.by_number c.loop-place.invariant.below;
+      by_number = still_by_number (λ e. e.1) run k c.loop-place.last c.index-run-place.result lt (search (rules, le))
+          c.loop-place.invariant.by_number c.loop-place.invariant.below;
       below = still_below (λ e. e.1) run k c.loop-place.last c.index-run-place.result lt (search (rules, le)) c.loop-place.invariant.below;
       small = search rules;
     }

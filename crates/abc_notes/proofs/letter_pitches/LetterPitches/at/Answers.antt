@@ -10,7 +10,8 @@ use Rattle.abc_notes.proofs.letter_pitches.LetterPitches.at.Goals as goal
 
 pub returns-clause-value : goal.returns-clause-value
 returns-clause-value c = λ letter is.
-    let held = (λ i. slice_index_or (c.self.invariant i) ((c.place_of.ensures.value ∙ ap letter_place is) i) (pos 0)) ∙ pitch_at c.self.inside.signature letter in
+    let held = (λ i. slice_index_or (c.self.invariant i) ((c.place_of.ensures.value ∙ ap letter_place is) i) (pos 0))
+    ∙ pitch_at c.self.inside.signature letter in
     ap (λ z. to_z w32 (of_z w32 z)) held ∙ to_z-of_z (pitch_fits letter (accidental_at c.self.inside.signature letter))
     ∙ ap (λ s. pitch_in letter (accidental_at s letter)) c.self.view_is
 

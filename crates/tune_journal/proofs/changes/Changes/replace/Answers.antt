@@ -69,7 +69,8 @@ returns c =
     let last : c.self.inside.whole.len ≡ length whole = search rules in
     let new : ChangedPage = record { page = c.args.page; kept = Whole c.len-place.result } in
     let is : listed starts c.extend_from_slice.new.self.items (set items c.args.at new) ≡ with_change c.args.page c.args.image.now.bytes c.args.self.now =
-    ap (λ (w : List PageImage). listed starts w (set items c.args.at new)) (c.in-Ok.ensures.items ∙ ap (λ (w : List PageImage). whole ++ w) c.from_ref.ensures.value)
+    ap (λ (w : List PageImage). listed starts w (set items c.args.at new))
+    (c.in-Ok.ensures.items ∙ ap (λ (w : List PageImage). whole ++ w) c.from_ref.ensures.value)
     ∙ whole_listed starts whole items _ c.self.invariant c.args.at c.index.result.now c.index.ensures c.args.page found c.args.image.now size
     (ap start_in c.in_default.is) new refl (ap Whole (c.len-place.ensures ∙ last))
     ∙ ap (with_change c.args.page c.args.image.now.bytes) c.self.view_is in
