@@ -35,6 +35,7 @@ use crate::contents::Contents;
 use crate::layout_notes::incipit_notes;
 use abc_fields::{ByteText, MOST_TITLES, TuneText};
 use std::alloc::{AllocError, Global};
+use std::mem;
 use tune_disk::Disk;
 use tune_format::{Firsts, Row, number_of_key, read_root, read_text};
 use tune_index::{Index, IndexKey};
@@ -227,6 +228,8 @@ fn claim_searches<D: Disk>(
 struct ReadChain {
     image: PageImage,
     bytes: Vec<u8>,
+    // where the text is kept of a tune whose chain it is, so that no tune takes memory of its own
+    text: Vec<u8>,
 }
 
 impl ReadChain {
@@ -235,6 +238,7 @@ impl ReadChain {
         ReadChain {
             image: PageImage::blank(),
             bytes: Vec::new(alloc),
+            text: Vec::new(alloc),
         }
     }
 }
@@ -448,9 +452,11 @@ fn claim_tune<D: Disk>(
 {
     let most = pages_for(layout.longest_text() + REVISION_BYTES);
     claim_part(opening, row.first, most, chain)?;
-    let (revision, text) = text_of(alloc, layout, &chain.bytes)?;
+    let (text, revision) = text_of(alloc, layout, chain)?;
     let length = text.bytes().len() as u32;
-    match claims.claim_tune(alloc, place, &text) {
+    let claimed = claims.claim_tune(alloc, place, &text);
+    chain.text = text.into_vec();
+    match claimed {
         Ok(true) => Ok(Row {
             number: row.number,
             revision,
@@ -462,26 +468,33 @@ fn claim_tune<D: Disk>(
     }
 }
 
-// The revision and the text of the tune of a chain.
-fn text_of(alloc: Global, layout: Layout, bytes: &[u8]) -> Result<(u16, TuneText), ClaimFault>
-    ensures ok { IfOk result (λ read. IsTuneChain layout bytes.now read.0 read.1) }
+// The text of the tune of a chain, in the memory that the chain has for it, and its revision.
+fn text_of(
+    alloc: Global,
+    layout: Layout,
+    chain: &mut ReadChain,
+) -> Result<(TuneText, u16), ClaimFault>
+    ensures ok { IfOk result (λ read.
+        IsTuneChain layout chain.old.bytes.items read.1 read.0) }
     ensures only { IfOk result (λ read. (revision : ℕ) (text : List ℕ)
-        → IsTuneChain layout bytes.now revision text → text ≡ read.1) }
-    ensures damaged { IfErr result (λ fault. IsChainFault fault
-        ((revision : ℕ) × (text : List ℕ) × IsTuneChain layout bytes.now revision text)) }
+        → IsTuneChain layout chain.old.bytes.items revision text → text ≡ read.0) }
+    ensures damaged { IfErr result (λ fault. IsChainFault fault ((revision : ℕ) × (text : List ℕ)
+        × IsTuneChain layout chain.old.bytes.items revision text)) }
     ensures err { IfErr result (λ fault. fault ≢ ClaimFault.Device) }
 {
-    let Some((revision, text)) = read_text(bytes) else {
+    let Some((revision, text)) = read_text(&chain.bytes) else {
         return Err(ClaimFault::Damaged);
     };
     if revision == 0 || revision > GREATEST_REVISION {
         return Err(ClaimFault::Damaged);
     }
-    let Ok(text) = ByteText::copy_of(alloc, text) else {
+    chain.text.clear();
+    if chain.text.extend_from_slice(text).is_err() {
         return Err(ClaimFault::OutOfMemory);
-    };
+    }
+    let text = ByteText::from_vec(mem::replace(&mut chain.text, Vec::new(alloc)));
     match TuneText::from_stored(text, layout.longest_text()) {
-        Ok(text) => Ok((revision, text)),
+        Ok(text) => Ok((text, revision)),
         Err(_) => Err(ClaimFault::Damaged),
     }
 }
