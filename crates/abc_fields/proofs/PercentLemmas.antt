@@ -1,5 +1,5 @@
 -- Texts in which no percent sign stands have no comment.
-use Rattle.std.proofs.Common.{◌≡◌, ℕ, zero, suc, Bool, false, eqb, List, [], ◌∷◌, ◌++◌, map, drop, get_or, refl, ap, ◌∙◌}
+use Rattle.std.proofs.Common.{◌≡◌, ℕ, zero, suc, ◌+◌, length, Bool, false, eqb, List, [], ◌∷◌, ◌++◌, map, drop, get_or, refl, ap, ◌∙◌}
 use Rattle.std.proofs.Common.{None, Some, Option, is_some, arith}
 use Rattle.std.specs.List.{AllByRecursion, list_any}
 use Rattle.std.proofs.lemmas.Bool.{or_parts, or_from, false_from_ne_true}
@@ -7,9 +7,8 @@ use Rattle.std.proofs.lemmas.List.{get_or_default}
 use Rattle.std.proofs.lemmas.List.Folds.{list_any_none}
 use Rattle.memchr.specs.Find.{IsFirstByte, is_byte2}
 use Rattle.abc_fields.specs.Bytes.{percent, backslash}
-use Rattle.abc_fields.specs.Lines.{Piece, pieces_of, lines_of, text_of}
-use Rattle.abc_fields.specs.Values.{uncommented, uncommented_after}
-use Rattle.abc_fields.specs.Inside.Percents.{has_percent}
+use Rattle.abc_fields.specs.Lines.{Piece, Span, pieces_of, lines_of, spans_from, text_of}
+use Rattle.abc_fields.specs.Values.{has_percent, uncommented, uncommented_after}
 use Rattle.abc_fields.proofs.LineLaw.{pieces_divide}
 
 -- each part of such a text is one
@@ -41,6 +40,18 @@ pieces_percents (p ∷ ps) none = (
 
 pub lines_percents : (text : List ℕ) → has_percent text ≡ false → NonePercent (lines_of text)
 lines_percents text none = pieces_percents (pieces_of text) (ap has_percent (pieces_divide text).whole ∙ none)
+
+-- the same for where they stand
+abbrev pub NoneInSpans : List Span → Type 0
+NoneInSpans spans = AllByRecursion (λ s. has_percent s.bytes ≡ false) spans
+
+spans_percents : (at : ℕ) (ps : List Piece) → NonePercent (map (λ p. p.content) ps) → NoneInSpans (spans_from at ps)
+spans_percents at [] none = tt
+spans_percents at (p ∷ ps) none = (none.0, spans_percents (at + length p.content + length p.ending) ps none.1)
+
+-- the lines that stand from an index on
+pub later_percents : (text : List ℕ) (from : ℕ) → has_percent text ≡ false → NoneInSpans (spans_from from (pieces_of (drop from text)))
+later_percents text from none = spans_percents from (pieces_of (drop from text)) (lines_percents (drop from text) (percents_left from text none))
 
 -- the value of a field without one
 uncommented_plain : (escaped : Bool) (text : List ℕ) → has_percent text ≡ false → uncommented_after escaped text ≡ text

@@ -1,5 +1,4 @@
 pub mod LineEndings
-pub mod Percents
 pub mod LinesLeft
 pub mod HeaderRows
 pub mod Shares

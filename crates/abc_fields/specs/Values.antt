@@ -1,8 +1,13 @@
 -- What the value of a field is (ABC 2.1, 2.2 and 3.1; own profile where the standard is silent).
 use Rattle.std.specs.Prelude.{◌≡◌, ℕ, List, [], ◌∷◌, ◌++◌, Bool, true, false, not, ◌==◌, ◌&&◌, ◌⊎◌}
 use Rattle.std.specs.Prelude.{drop, if◌then◌else◌}
+use Rattle.std.specs.List.{list_any}
 use Rattle.abc_fields.specs.Bytes.{percent, backslash, is_blank, is_all_blank}
 use Rattle.abc_fields.specs.Words.{trimmed}
+
+-- whether a percent sign stands in a text, which may begin a comment
+abbrev pub has_percent : List ℕ → Bool
+has_percent text = list_any (λ byte. byte == percent) text
 
 -- the bytes before the first percent sign that no backslash stands directly before; `escaped` says
 -- whether one stands before the first byte

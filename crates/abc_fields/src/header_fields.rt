@@ -3,7 +3,7 @@ ghost use Rattle.std.specs.Prelude.{◌≡◌, ℕ, ◌≤◌, ◌↔◌, List, 
 ghost use Rattle.std.specs.Prelude.{codes, slice_get, option_copied, IsTrue, false};
 ghost use Rattle.std.specs.Option.{option_or};
 ghost use Rattle.abc_fields.specs.Fields.{non_empty, non_empty_values};
-ghost use Rattle.abc_fields.specs.Inside.Percents.{has_percent};
+ghost use Rattle.abc_fields.specs.Values.{has_percent};
 ghost use Rattle.abc_fields.specs.Limits.{most_titles};
 
 use crate::values::value_of;

@@ -31,4 +31,6 @@ pub use line_kinds::{in_part_after, is_comment, is_continuation, is_field_line, 
 pub use lines::{Line, Lines};
 pub use texts::{ByteText, TuneText};
 pub use tune_body::TuneBody;
-pub use values::{field_value, is_all_blank, is_blank, trim_blanks, without_comment};
+pub use values::{
+    field_value, is_all_blank, is_blank, trim_blanks, up_to_comment, without_comment,
+};

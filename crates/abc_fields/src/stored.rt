@@ -2,8 +2,8 @@
 ghost use Rattle.std.specs.Prelude.{◌≡◌, MatchOption, Some, IsTrue, false};
 ghost use Rattle.abc_fields.specs.Lines.{spans_of};
 ghost use Rattle.abc_fields.specs.Tunes.{IsTuneText};
+ghost use Rattle.abc_fields.specs.Values.{has_percent};
 ghost use Rattle.abc_fields.specs.Inside.LineEndings.{has_return};
-ghost use Rattle.abc_fields.specs.Inside.Percents.{has_percent};
 ghost use Rattle.abc_fields.specs.Inside.LinesLeft.{contents_of};
 ghost use Rattle.abc_fields.specs.Inside.HeaderEnds.{key_place, has_end};
 

@@ -1,13 +1,14 @@
 // Bytes that a value owns, and the texts of tunes among them.
 ghost use Rattle.std.specs.Prelude.{◌≡◌, ◌≤◌, ℕ, List, length, map, IfOk, IfErr, Some, IsTrue};
 ghost use Rattle.std.specs.Prelude.{false};
+ghost use Rattle.std.specs.List.{AllByRecursion};
 ghost use Rattle.abc_fields.specs.Lines.{lines_of, spans_of, SpansRise};
 ghost use Rattle.abc_fields.specs.LineKinds.{part_open_after};
 ghost use Rattle.abc_fields.specs.Fields.{header_of, key_text_of, body_spans};
 ghost use Rattle.abc_fields.specs.Inside.HeaderEnds.{key_place, IsKnown};
-ghost use Rattle.abc_fields.specs.Inside.Percents.{has_percent};
 ghost use Rattle.abc_fields.specs.Tunes.{IsTuneText, IsTextWithin};
 ghost use Rattle.abc_fields.specs.Limits.{longest_tune};
+ghost use Rattle.abc_fields.specs.Values.{has_percent};
 
 use crate::key_place::{KeyPlace, find_key};
 use crate::lines::Lines;
@@ -48,6 +49,13 @@ impl ByteText {
         ensures { result.now ≡ self.now }
     {
         self.bytes.as_slice()
+    }
+
+    /// The bytes, in the vector that held them. It takes no memory.
+    pub fn into_vec(self) -> Vec<u8>
+        ensures { result.items ≡ self }
+    {
+        self.bytes
     }
 }
 
@@ -132,6 +140,13 @@ impl TuneText {
         self.text.as_slice()
     }
 
+    /// The bytes of the text, in the vector that held them. It takes no memory.
+    pub fn into_vec(self) -> Vec<u8>
+        ensures { result.items ≡ self }
+    {
+        self.text
+    }
+
     /// A copy of the text. Its only error is out of memory.
     pub fn copy(&self, alloc: Global) -> Result<TuneText, AllocError>
         ensures { IfOk result (λ text. text ≡ self.now) }
@@ -170,10 +185,12 @@ impl TuneText {
         ensures key { result.key.now ≡ key_text_of self.now }
         ensures lines { result.lines ≡ body_spans self.now }
         ensures in_part { result.in_part ≡ part_open_after (header_of (lines_of self.now)) }
+        ensures plain { IsTrue result.plain
+            → AllByRecursion (λ line. has_percent line.bytes ≡ false) result.lines }
         ensures contents { map (λ s. s.bytes) (spans_of self.now) ≡ lines_of self.now }
         ensures rising { SpansRise self.now 0 (spans_of self.now) }
         ensures short { length self.now ≤ longest_tune }
     {
-        TuneBody::from_key(self.bytes(), self.key_place())
+        TuneBody::from_key(self.bytes(), self.key_place(), self.plain)
     }
 }

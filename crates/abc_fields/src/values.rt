@@ -2,8 +2,8 @@
 ghost use Rattle.std.specs.Prelude.{◌≡◌, ℕ, ◌-◌, ◌<◌, List, ◌++◌, length, true, ◌==◌, ◌&&◌};
 ghost use Rattle.std.specs.Prelude.{slice_index, nat_lt, IsTrue, false};
 ghost use Rattle.abc_fields.specs.Bytes.{backslash, is_blank, is_all_blank};
-ghost use Rattle.abc_fields.specs.Values.{uncommented, field_value, IsUncommented, IsTrimmed};
-ghost use Rattle.abc_fields.specs.Inside.Percents.{has_percent};
+ghost use Rattle.abc_fields.specs.Values.{has_percent, uncommented, field_value, IsUncommented};
+ghost use Rattle.abc_fields.specs.Values.{IsTrimmed};
 ghost use Rattle.abc_fields.specs.Words.{trimmed, trimmed_front, trimmed_back};
 
 use memchr::memchr;
@@ -14,10 +14,7 @@ use memchr::memchr;
 pub fn field_value(line: &[u8]) -> &[u8]
     ensures { result.now ≡ field_value line.now }
 {
-    if line.len() < 2 {
-        return b"";
-    }
-    trim_blanks(without_comment(&line[2..]))
+    value_of(line, false)
 }
 
 // The same; `plain` says that no percent sign stands in the line, so that it has no comment.
@@ -25,13 +22,20 @@ pub(crate) fn value_of(line: &[u8], plain: bool) -> &[u8]
     requires { IsTrue plain → has_percent line.now ≡ false }
     ensures { result.now ≡ field_value line.now }
 {
-    if !plain {
-        return field_value(line);
-    }
     if line.len() < 2 {
         return b"";
     }
-    trim_blanks(&line[2..])
+    trim_blanks(up_to_comment(&line[2..], plain))
+}
+
+/// The line up to its comment, as `without_comment` says; `plain` says that no percent sign stands
+/// in it, so that it has none and nothing is looked for.
+#[inline(always)]
+pub fn up_to_comment(line: &[u8], plain: bool) -> &[u8]
+    requires { IsTrue plain → has_percent line.now ≡ false }
+    ensures { result.now ≡ uncommented line.now }
+{
+    if plain { line } else { without_comment(line) }
 }
 
 /// The line up to its comment, if it has one: the first percent sign that no backslash stands
