@@ -1,7 +1,8 @@
 // The notes with which a tune opens.
-ghost use Rattle.std.specs.Prelude.{◌≡◌, ◌+◌, ◌≤◌, ◌++◌, [], List, true, length, IfSome};
+ghost use Rattle.std.specs.Prelude.{◌≡◌, ◌+◌, ◌≤◌, ◌++◌, [], List, true, false, length, IfSome};
+ghost use Rattle.std.specs.Prelude.{IsTrue};
 ghost use Rattle.abc_fields.specs.Limits.{longest_book};
-ghost use Rattle.abc_fields.specs.Values.{uncommented};
+ghost use Rattle.abc_fields.specs.Values.{has_percent, uncommented};
 ghost use Rattle.abc_items.specs.ItemSpans.{item_spans_of};
 ghost use Rattle.abc_notes.specs.Inside.Bounds.{AreShort, LinesAreShort};
 ghost use Rattle.abc_notes.specs.Inside.EventView.{notes_in};
@@ -14,7 +15,7 @@ use crate::letter_pitches::LetterPitches;
 use crate::note_tokens::NoteToken;
 use crate::notes::Notes;
 use crate::tune_events::{TuneEvents, is_music};
-use abc_fields::{Line, Lines, TuneBody, TuneText, in_part_after, without_comment};
+use abc_fields::{Line, Lines, TuneBody, TuneText, in_part_after, up_to_comment};
 use abc_items::Items;
 use std::marker::Model;
 
@@ -52,6 +53,7 @@ impl<'a> OpeningNotes<'a> {
             key,
             lines,
             in_part,
+            plain,
         } = text.body();
         let letters = LetterPitches::new(signature_of_text(key));
         let mut later = lines.again();
@@ -59,7 +61,7 @@ impl<'a> OpeningNotes<'a> {
             if is_music(line, in_part) {
                 return OpeningNotes {
                     letters,
-                    items: music_items(line),
+                    items: music_items(line, plain),
                     base: line.from,
                     lines: later,
                     in_part: in_part_after(in_part, line.text),
@@ -99,12 +101,13 @@ impl<'a> OpeningNotes<'a> {
     }
 }
 
-// The items of a line of music.
+// The items of a line of music; `plain` says that no percent sign stands in it.
 #[inline(always)]
-fn music_items<'a>(line: Line<'a>) -> Items<'a>
-    requires { line.from + length line.text.now ≤ longest_book }
+fn music_items<'a>(line: Line<'a>, plain: bool) -> Items<'a>
+    requires within { line.from + length line.text.now ≤ longest_book }
+    requires plain { IsTrue plain → has_percent line.text.now ≡ false }
     ensures value { result ≡ item_spans_of (uncommented line.entry.text.now) }
     ensures short { AreShort line.entry.from result }
 {
-    Items::new(without_comment(line.text))
+    Items::new(up_to_comment(line.text, plain))
 }

@@ -80,6 +80,7 @@ impl<'a> TuneEvents<'a> {
             key,
             lines,
             in_part,
+            ..
         } = text.body();
         let events = TuneEvents {
             line: LineEvents::none(),

@@ -1,6 +1,8 @@
-use Rattle.std.proofs.Common.{◌≡◌, ◌∙◌, ◌++◌, [], ◌∷◌, List, length, sym, ap, subst, arith, refl}
+use Rattle.std.proofs.Common.{◌≡◌, ◌∙◌, ◌++◌, [], ◌∷◌, List, length, sym, ap, subst, arith, refl, false}
+use Rattle.std.specs.List.{AllByRecursion}
 use Rattle.abc_fields.specs.Lines.{Span as Line}
 use Rattle.abc_fields.specs.LineView.{line_span}
+use Rattle.abc_fields.specs.Values.{has_percent}
 use Rattle.abc_items.specs.ItemSpans.{ItemSpan}
 use Rattle.abc_notes.specs.Inside.Bounds.{AreShort, LinesAreShort}
 use Rattle.abc_notes.specs.Music.{line_events, line_meaning, body_events, tune_events}
@@ -12,14 +14,16 @@ use Rattle.abc_notes.proofs.StreamLemmas.{line_end}
 use Rattle.abc_notes.proofs.OpeningLemmas.{music_first}
 use Rattle.abc_notes.proofs.openings.OpeningNotes.of_tune.Goals as goal
 
-music_requires : goal.music_items-requires
-music_requires c =
+pub music_items-requires-clause-within : goal.music_items-requires-clause-within
+music_items-requires-clause-within c =
     let body = c.body-lines.ensures in
     let all = text_body_short c.args.text.now body.rising (omega (arith, body.short)) in
     (subst (λ (lines : List Line). LinesAreShort lines) (sym body.lines ∙ sym c.again-later.ensures ∙ c.in-Some.ensures.steps) all).0
 
-pub music_items-requires : goal.music_items-requires
-music_items-requires = music_requires
+pub music_items-requires-clause-plain : goal.music_items-requires-clause-plain
+music_items-requires-clause-plain c = λ is.
+    (subst (AllByRecursion (λ (line : Line). has_percent line.bytes ≡ false)) (sym c.again-later.ensures ∙ c.in-Some.ensures.steps)
+    (c.body-lines.ensures.plain is)).0
 
 pub invariant_of-result : goal.invariant_of-result
 invariant_of-result c =
