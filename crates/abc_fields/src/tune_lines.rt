@@ -7,11 +7,11 @@ ghost use Rattle.abc_fields.specs.Bytes.{line_feed};
 ghost use Rattle.abc_fields.specs.Limits.{longest_book, longest_tune};
 ghost use Rattle.abc_fields.specs.Inside.LinesLeft.{contents_of, IsRestAfter, AreRead, still};
 ghost use Rattle.abc_fields.specs.Inside.HeaderEnds.{key_place, IsKeyRead};
-ghost use Rattle.abc_fields.specs.Tunes.{is_tune_start, ends_tune, tune_run};
-ghost use Rattle.abc_fields.specs.Tunes.{tune_runs, joined, has_key, IsTextWithin};
+ghost use Rattle.abc_fields.specs.Tunes.{is_tune_start, ends_tune, tune_run, joined, has_key};
+ghost use Rattle.abc_fields.specs.Tunes.{IsTextWithin};
 ghost use Rattle.abc_fields.specs.FileHeaders.{before_key, has_letter};
 ghost use Rattle.abc_fields.specs.Books.{Texts, tune_answer};
-ghost use Rattle.abc_fields.specs.Inside.HeaderRows.{with_rows, taken, in_table};
+ghost use Rattle.abc_fields.specs.Inside.HeaderRows.{with_rows, taken};
 ghost use Rattle.abc_fields.specs.Inside.CarriedBytes.{KeepsCarried};
 ghost use Rattle.abc_fields.specs.Fields.{header_of};
 

@@ -1,13 +1,12 @@
 // The event that one item of a music line is.
-ghost use Rattle.std.specs.Prelude.{◌≡◌, ◌≤◌, ◌<◌, ◌+◌, ◌∷◌, [], ◌≤ℤ◌, pos, negsuc};
-ghost use Rattle.std.specs.Prelude.{◌++◌, List, IsTrue};
+ghost use Rattle.std.specs.Prelude.{◌≡◌, ◌≤◌, ◌<◌, ◌+◌, ◌∷◌, ◌++◌, [], ◌≤ℤ◌, List, IsTrue};
 ghost use Rattle.std.specs.Prelude.{length, count_by, IfSome};
 ghost use Rattle.std.specs.Iterator.{YieldsFirstBy};
 ghost use Rattle.abc_fields.specs.Limits.{longest_book};
 ghost use Rattle.abc_items.specs.ItemView.{item_span};
 ghost use Rattle.abc_items.specs.Plain.{past_asides};
 ghost use Rattle.abc_fields.specs.Bytes.{is_one_of};
-ghost use Rattle.abc_notes.specs.Inside.EventView.{event_of, written_note, events_of};
+ghost use Rattle.abc_notes.specs.Inside.EventView.{written_note, events_of};
 ghost use Rattle.abc_notes.specs.Inside.Bounds.{lowest_octave, highest_octave, AreShort, IsShort};
 ghost use Rattle.abc_notes.specs.Music.{octave_of, written, plain_events, inline_events};
 ghost use Rattle.abc_notes.specs.Music.{line_events};

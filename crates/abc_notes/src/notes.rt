@@ -1,13 +1,12 @@
 // The notes of tunes and of music lines, with their pitches.
-ghost use Rattle.std.specs.Prelude.{◌≡◌, ◌+◌, ◌≤◌, ◌∷◌, ◌++◌, [], ℕ, List, take, drop, reverse};
-ghost use Rattle.std.specs.Prelude.{length};
+ghost use Rattle.std.specs.Prelude.{◌≡◌, ◌+◌, ◌≤◌, ◌∷◌, ◌++◌, [], List, length};
 ghost use Rattle.std.specs.Iterator.{YieldsFirstBy, item_count};
 ghost use Rattle.abc_fields.specs.Limits.{longest_book};
 ghost use Rattle.abc_fields.specs.Lines.{spans_of as lines_of};
 ghost use Rattle.abc_fields.specs.Values.{uncommented};
 ghost use Rattle.abc_items.specs.Grammar.{ItemText, AreItems};
-ghost use Rattle.abc_items.specs.ItemSpans.{ItemSpan, item_spans_from, item_spans_of};
-ghost use Rattle.abc_keys.specs.Keys.{key_of_text, signature_of};
+ghost use Rattle.abc_items.specs.ItemSpans.{item_spans_from};
+ghost use Rattle.abc_keys.specs.Keys.{signature_of};
 ghost use Rattle.abc_keys.specs.declared.signatures.Signature.{Signature as AnySignature};
 ghost use Rattle.abc_notes.specs.Events.{Event as AnyEvent, WrittenNote as AnyNote};
 ghost use Rattle.abc_notes.specs.Events.{bar as bar_line};
@@ -15,7 +14,7 @@ ghost use Rattle.abc_notes.specs.Inside.EventView.{event_of, notes_in, written_n
 ghost use Rattle.abc_notes.specs.Music.{line_events, music_events, tune_events, tune_signature};
 ghost use Rattle.abc_notes.specs.Pitches.{SoundedNote, sounded, sounded_notes, counting};
 ghost use Rattle.abc_notes.specs.Pitches.{FollowsTheRule};
-ghost use Rattle.abc_notes.specs.Inside.KeptBar.{past_of, notes_left, asked_of, IsKeptBar};
+ghost use Rattle.abc_notes.specs.Inside.KeptBar.{notes_left, asked_of, IsKeptBar};
 ghost use Rattle.abc_notes.specs.NoteParts.{AreNoteParts, NotesRise};
 ghost use Rattle.abc_notes.specs.HeardLines.{AreGiven};
 ghost use Rattle.abc_notes.specs.Inside.BarTables.{IsBarAfter};

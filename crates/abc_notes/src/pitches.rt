@@ -1,5 +1,5 @@
 // Pitches of notes.
-ghost use Rattle.std.specs.Prelude.{◌≡◌, ◌≤ℤ◌, pos, negsuc};
+ghost use Rattle.std.specs.Prelude.{◌≡◌, ◌≤ℤ◌, pos};
 ghost use Rattle.abc_notes.specs.Inside.EventView.{written_note};
 ghost use Rattle.abc_notes.specs.Limits.{lowest_pitch, highest_pitch};
 ghost use Rattle.abc_notes.specs.Pitches.{letter_pitch, pitch_of};
