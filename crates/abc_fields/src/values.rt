@@ -14,7 +14,10 @@ use memchr::memchr;
 pub fn field_value(line: &[u8]) -> &[u8]
     ensures { result.now ≡ field_value line.now }
 {
-    value_of(line, false)
+    if line.len() < 2 {
+        return b"";
+    }
+    trim_blanks(without_comment(&line[2..]))
 }
 
 // The same; `plain` says that no percent sign stands in the line, so that it has no comment.
@@ -22,10 +25,13 @@ pub(crate) fn value_of(line: &[u8], plain: bool) -> &[u8]
     requires { IsTrue plain → has_percent line.now ≡ false }
     ensures { result.now ≡ field_value line.now }
 {
+    if !plain {
+        return field_value(line);
+    }
     if line.len() < 2 {
         return b"";
     }
-    trim_blanks(up_to_comment(&line[2..], plain))
+    trim_blanks(&line[2..])
 }
 
 /// The line up to its comment, as `without_comment` says; `plain` says that no percent sign stands
