@@ -10,6 +10,7 @@ pub mod Ends
 pub mod Answering
 pub mod Changes
 pub mod Storing
+pub mod Joining
 pub mod Loading
 pub mod EachPage
 pub mod Balances

@@ -51,7 +51,7 @@ pub(crate) fn capacity_of(width: usize) -> usize
 }
 
 // The entry that the bytes begin with.
-fn entry_at<const W: usize>(bytes: &[u8]) -> (IndexKey<W>, u32)
+pub(crate) fn entry_at<const W: usize>(bytes: &[u8]) -> (IndexKey<W>, u32)
     requires width { W ≤ 4090 }
     requires room { W + 4 ≤ length bytes.now }
     ensures entry { result ≡ entry_in W bytes.now }
@@ -107,26 +107,6 @@ pub(crate) fn leaf_entries<const W: usize>(
 {
     let count = leaf_length::<W>(image);
     read_entries(alloc, &page_bytes(image)[2..], count, more)
-}
-
-// The entries of a page, where it has the form of a leaf.
-pub(crate) fn read_leaf<const W: usize>(
-    alloc: Global,
-    image: &PageImage,
-) -> Result<Option<Leaf<W>>, AllocError>
-    requires { W ≤ 4090 }
-    ensures form { IfOk result (λ leaf. IsSome leaf ↔ IsLeaf W image.now.bytes) }
-    ensures entries { IfOk result (λ leaf. IfSome leaf (λ entries.
-        entries.items ≡ leaf_in W image.now.bytes)) }
-    ensures fit { IfOk result (λ leaf. IfSome leaf (λ entries. AllFit W entries.items)) }
-    ensures some { IfOk result (λ leaf. IfSome leaf (λ entries. 1 ≤ length entries.items)) }
-    ensures within { IfOk result (λ leaf. IfSome leaf (λ entries.
-        length entries.items ≤ capacity W)) }
-{
-    if !is_leaf::<W>(image) {
-        return Ok(None);
-    }
-    Ok(Some(leaf_entries(alloc, image, 0)?))
 }
 
 // The first entries in the bytes, in memory that has room for more.

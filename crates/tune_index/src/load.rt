@@ -4,16 +4,18 @@ ghost use Rattle.std.specs.Prelude.{drop, slice_set, ℕ, IfOk, IfErr, IfSome, N
 ghost use Rattle.tune_journal.specs.Pages.{page_at};
 ghost use Rattle.tune_pages.specs.Claim.{IsChainFault, LooksOpening};
 ghost use Rattle.tune_pages.specs.Stand.{IsFree};
-ghost use Rattle.index_keys.specs.Entries.{IsRising};
+ghost use Rattle.index_keys.specs.Entries.{AllFit, IsRising};
 ghost use Rattle.tune_index.specs.Inside.Loading.{LoadsLeaf};
-ghost use Rattle.tune_index.specs.Leaves.{slice_entry, leaf_in, value_in, IsLeaf};
+ghost use Rattle.tune_index.specs.Leaves.{leaf_in, value_in, IsLeaf};
 ghost use Rattle.tune_index.specs.ListedLeaves.{IsStored, LoadsIndex, listed_bytes, numbers_in};
 
 use crate::index::Index;
-use crate::leaf::{Leaf, capacity_of, read_leaf, read_value};
+use crate::leaf::{Leaf, capacity_of, entry_at, is_leaf, leaf_length, page_bytes, read_value};
+use crate::leaf_edits::first_in_image;
 use index_keys::IndexKey;
 use std::alloc::{AllocError, Global};
 use tune_disk::Disk;
+use tune_journal::PageImage;
 use tune_pages::{ClaimFault, Opening, pages_for};
 
 // How many numbers are listed in the bytes, where these are such a list.
@@ -52,21 +54,26 @@ fn follows<const W: usize>(entries: &[(IndexKey<W>, u32)], entry: &(IndexKey<W>,
 }
 
 // The entries of a leaf come behind the others, where all rise; otherwise false.
-fn join_leaf<const W: usize>(
-    entries: &mut Leaf<W>,
-    leaf: &[(IndexKey<W>, u32)],
-) -> Result<bool, AllocError>
-    requires { IsRising entries.old.items }
+fn join_leaf<const W: usize>(entries: &mut Leaf<W>, image: &PageImage) -> Result<bool, AllocError>
+    requires width { W ≤ 4090 }
+    requires form { IsLeaf W image.now.bytes }
+    requires rising { IsRising entries.old.items }
     ensures yes { IfOk result (λ joined. joined ≡ true
-        → (entries.new.items ≡ entries.old.items ++ leaf.now) × IsRising entries.new.items) }
+        → (entries.new.items ≡ entries.old.items ++ leaf_in W image.now.bytes)
+        × IsRising entries.new.items) }
+    ensures fit { IfOk result (λ joined. joined ≡ true → AllFit W (leaf_in W image.now.bytes)) }
     ensures no { IfOk result (λ joined. joined ≡ false
-        → IsRising (entries.old.items ++ leaf.now) → ⊥) }
+        → IsRising (entries.old.items ++ leaf_in W image.now.bytes) → ⊥) }
 {
-    for entry in leaf {
-        if !follows(entries, entry) {
+    let count = leaf_length::<W>(image);
+    let mut rest = &page_bytes(image)[2..];
+    for done in 0..count {
+        let entry = entry_at(rest);
+        if !follows(entries, &entry) {
             return Ok(false);
         }
-        entries.push((entry.0.copy(), entry.1))?;
+        entries.push(entry)?;
+        rest = &rest[W + 4..];
     }
     Ok(true)
 }
@@ -95,21 +102,13 @@ fn most_entries(leaves: usize, width: usize) -> usize
     leaves.saturating_mul(capacity_of(width))
 }
 
-// The entry that begins a leaf.
-fn head_of<const W: usize>(leaf: &[(IndexKey<W>, u32)]) -> (IndexKey<W>, u32)
-    requires { 1 ≤ length leaf.now }
-    ensures { result ≡ slice_entry leaf.now 0 }
-{
-    let head = &leaf[0];
-    (head.0.copy(), head.1)
-}
-
-// Claims the page of the next leaf, and adds its entries to those before it.
+// Claims the page of the next leaf, and adds its entries to those before it. The image is where the
+// page is read.
 fn load_leaf<D: Disk, const W: usize>(
-    alloc: Global,
     opening: &mut Opening<D>,
     page: u32,
     most: usize,
+    image: &mut PageImage,
     index: &mut Index<W>,
     entries: &mut Leaf<W>,
 ) -> Result<(), ClaimFault>
@@ -127,13 +126,11 @@ fn load_leaf<D: Disk, const W: usize>(
         × (length (entries.old.items ++ leaf_in W (page_at opening.old.pages page)) ≤ most))) }
     ensures looks { LooksOpening D.honest D.failures D.state result opening.old opening.new }
 {
-    let image = opening.claim_page(page)?;
-    let leaf = match read_leaf(alloc, &image) {
-        Ok(Some(leaf)) => leaf,
-        Ok(None) => return Err(ClaimFault::Damaged),
-        Err(_) => return Err(ClaimFault::OutOfMemory),
-    };
-    match join_leaf(entries, &leaf) {
+    opening.claim_page_into(page, image)?;
+    if !is_leaf::<W>(image) {
+        return Err(ClaimFault::Damaged);
+    }
+    match join_leaf(entries, image) {
         Ok(true) => {}
         Ok(false) => return Err(ClaimFault::Damaged),
         Err(_) => return Err(ClaimFault::OutOfMemory),
@@ -141,7 +138,7 @@ fn load_leaf<D: Disk, const W: usize>(
     if entries.len() > most {
         return Err(ClaimFault::Damaged);
     }
-    match push_leaf(index, page, head_of(&leaf)) {
+    match push_leaf(index, page, first_in_image(image)) {
         Ok(()) => Ok(()),
         Err(_) => Err(ClaimFault::OutOfMemory),
     }
@@ -186,9 +183,10 @@ impl<const W: usize> Index<W> {
             Ok(entries) => entries,
             Err(_) => return Err(ClaimFault::OutOfMemory),
         };
+        let mut image = PageImage::blank();
         for place in 0..count {
             let page = number_at(&bytes, place);
-            match load_leaf(alloc, opening, page, most, &mut index, &mut entries) {
+            match load_leaf(opening, page, most, &mut image, &mut index, &mut entries) {
                 Ok(()) => {}
                 Err(fault) => return Err(fault),
             }

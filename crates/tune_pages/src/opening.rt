@@ -91,8 +91,12 @@ fn read_image<D: Disk>(
 }
 
 impl<D: Disk> Opening<D> {
-    // Claims a page, and reads it into the image.
-    fn claim_into(&mut self, page: u32, image: &mut PageImage) -> Result<(), ClaimFault>
+    /// Claims a page, and reads it into the image: who claims many pages has one for all.
+    ///
+    /// # Errors
+    ///
+    /// Those of [`Opening::claim_page`].
+    pub fn claim_page_into(&mut self, page: u32, image: &mut PageImage) -> Result<(), ClaimFault>
         ensures image { OnOk result (D.honest self.new.disk
             → image.new.bytes ≡ page_at self.old.pages page) }
         ensures free { OnOk result (IsFree self.old.claimed page
@@ -129,7 +133,7 @@ impl<D: Disk> Opening<D> {
             → IsChainFault fault (CanLink self.old.pages self.old.claimed page)) }
         ensures looks { LooksOpening D.honest D.failures D.state result self.old self.new }
     {
-        self.claim_into(page, image)?;
+        self.claim_page_into(page, image)?;
         if !is_link(image) {
             return Err(ClaimFault::Damaged);
         }
@@ -256,7 +260,7 @@ impl<D: Disk> Opening<D> {
         ensures looks { LooksOpening D.honest D.failures D.state result self.old self.new }
     {
         let mut image = PageImage::blank();
-        self.claim_into(page, &mut image)?;
+        self.claim_page_into(page, &mut image)?;
         Ok(image)
     }
 
