@@ -163,7 +163,7 @@ word_before (x ∷ word) later is blank =
     let more = word_before word later both.1 blank in
     (rw ink (ap (λ t. x ∷ t) more.0), rw ink more.1)
 
-parts_some : (is : Bool) (article rest : List ℕ) (p : Parts) → parts_if is article rest ≡ Some p → (is ≡ true) × (record { article = article; rest = rest } ≡ p)
+pub parts_some : (is : Bool) (article rest : List ℕ) (p : Parts) → parts_if is article rest ≡ Some p → (is ≡ true) × (record { article = article; rest = rest } ≡ p)
 parts_some true article rest p e = (refl, cc)
 parts_some false article rest p e = cc
 
@@ -233,11 +233,11 @@ cut_onto x text None later c e = ⊎_elim
     (λ other. let nothing : None ≡ Some c = sym (cond-false (eqb x comma) (Some ([], text)) None other) ∙ e in cc)
     (cases_Bool (eqb x comma))
 
-cut_whole : (text : List ℕ) (c : List ℕ × List ℕ) → last_cut text ≡ Some c → c.0 ++ (comma ∷ c.1) ≡ text
+pub cut_whole : (text : List ℕ) (c : List ℕ × List ℕ) → last_cut text ≡ Some c → c.0 ++ (comma ∷ c.1) ≡ text
 cut_whole [] c e = cc
 cut_whole (x ∷ text) c e = cut_onto x text (last_cut text) (cut_whole text) c e
 
-both_parts : (a b c : Bool) → (a && (b && c)) ≡ true → (a ≡ true) × (b ≡ true) × (c ≡ true)
+pub both_parts : (a b c : Bool) → (a && (b && c)) ≡ true → (a ≡ true) × (b ≡ true) × (c ≡ true)
 both_parts a b c e = let first = and_parts a (b && c) e in let later = and_parts b c first.1 in (first.0, later.0, later.1)
 
 trailing_at-is : (before tail article rest : List ℕ) → begins is_blank tail ≡ true → trimmed tail ≡ article → trimmed before ≡ rest → is_article article ≡ true
@@ -313,7 +313,7 @@ law_of_articles text = record {
   );
 }
 
-none_found : (o : Option Parts) → ((p : Parts) → o ≡ Some p → ⊥) → o ≡ None
+pub none_found : (o : Option Parts) → ((p : Parts) → o ≡ Some p → ⊥) → o ≡ None
 none_found None never = refl
 none_found (Some p) never = absurd (never p refl)
 

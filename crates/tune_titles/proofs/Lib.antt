@@ -1,6 +1,7 @@
 pub mod CutLemmas
 pub mod FrontLemmas
 pub mod ArticleLaw
+pub mod EndLemmas
 pub mod SortLaw
 pub mod OrderLemmas
 pub mod FrontOrder

@@ -1,1 +1,2 @@
+pub mod ArticleEnds
 pub mod KindLaws

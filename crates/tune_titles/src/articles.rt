@@ -4,6 +4,7 @@ ghost use Rattle.std.specs.Str.{bytes_eq};
 ghost use Rattle.abc_fields.specs.Bytes.{begins, is_blank};
 ghost use Rattle.tune_titles.specs.Articles.{small_letters, is_article, title_rest};
 ghost use Rattle.tune_titles.specs.Articles.{leading, leading_at, trailing, trailing_at};
+ghost use Rattle.tune_titles.specs.Inside.ArticleEnds.{ends_article};
 
 use abc_fields::{is_blank, trim_blanks};
 use memchr::{memchr2, memrchr};
@@ -73,15 +74,36 @@ fn leading_at<'a>(word: &'a [u8], later: &'a [u8]) -> Option<Parts<'a>>
 }
 
 // The article at the end of a title, which has no blanks at its ends.
+#[inline(always)]
 pub(crate) fn trailing(title: &[u8]) -> Option<Parts<'_>>
     ensures none { IfNone result (trailing title.now ≡ None) }
     ensures some { IfSome result (λ parts. trailing title.now
         ≡ Some (record { article = parts.article.now; rest = parts.rest.now })) }
 {
+    if !ends_as_article(title) {
+        return None;
+    }
     let Some(at) = memrchr(b',', title) else {
         return None;
     };
     trailing_at(&title[..at], after(title, at))
+}
+
+// Whether an article may stand at the end. Most titles end with another letter.
+fn ends_as_article(title: &[u8]) -> bool
+    ensures { result ≡ false → trailing title.now ≡ None }
+{
+    match title {
+        [.., last] => ends_article(*last),
+        [] => false,
+    }
+}
+
+// Whether a byte is the last of an article in any capitals, or a blank, which may follow one.
+fn ends_article(byte: u8) -> bool
+    ensures { result ≡ ends_article byte }
+{
+    matches!(byte, b'A' | b'a' | b'E' | b'e' | b'N' | b'n' | b' ' | b'\t')
 }
 
 // The bytes after an index.
