@@ -1,9 +1,8 @@
 -- Where a search finds the first blank and the last comma of a title.
-use Rattle.std.proofs.Common.{◌≡◌, ℕ, zero, suc, ◌<◌, Bool, true, false, eqb, List, [], ◌∷◌, length, take, drop, get_or, Some, None, refl, ap, arith}
-use Rattle.std.specs.Prelude.{◌&&◌}
+use Rattle.std.proofs.Common.{◌≡◌, ℕ, zero, suc, ◌<◌, true, false, eqb, List, [], ◌∷◌, length, take, drop, get_or, Some, None, refl, ap, arith}
 use Rattle.std.proofs.lemmas.Bool.{false_from_ne_true}
 use Rattle.abc_fields.specs.Bytes.{is_blank}
-use Rattle.tune_titles.specs.Articles.{first_word, from_blank, leading_at, is_article, onto_cut, last_cut, comma}
+use Rattle.tune_titles.specs.Articles.{first_word, from_blank, onto_cut, last_cut, comma}
 
 -- THE FIRST BLANK
 pub word_at : (text : List ℕ) (k : ℕ) → ((j : ℕ) → j < k → is_blank (get_or text j 0) ≡ true → ⊥) → k < length text → is_blank (get_or text k 0) ≡ true
@@ -18,13 +17,6 @@ word_at (byte ∷ text) (suc k) none within is =
 pub no_blank : (text : List ℕ) → ((j : ℕ) → j < length text → is_blank (get_or text j 0) ≡ true → ⊥) → from_blank text ≡ []
 no_blank [] none = refl
 no_blank (byte ∷ text) none = rw (false_from_ne_true (is_blank byte) (none 0 (omega arith))) (no_blank text (λ j lt. none (suc j) (omega arith)))
-
-and_false : (a : Bool) → (a && false) ≡ false
-and_false true = refl
-and_false false = refl
-
-pub no_later : (word : List ℕ) → leading_at word [] ≡ None
-no_later word = rw (and_false (is_article word)) refl
 
 -- THE LAST COMMA
 pub no_cut : (text : List ℕ) → ((j : ℕ) → j < length text → eqb (get_or text j 0) comma ≡ true → ⊥) → last_cut text ≡ None

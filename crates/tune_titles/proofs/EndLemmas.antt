@@ -13,7 +13,7 @@ use Rattle.abc_fields.specs.Fields.{has_bytes}
 use Rattle.abc_fields.specs.Words.{trimmed}
 use Rattle.abc_fields.proofs.TrimLaw.{is_trimmed}
 use Rattle.tune_titles.specs.Articles.{small_letters, comma, is_article, Parts, last_cut, trailing_at, trailing}
-use Rattle.tune_titles.specs.Inside.ArticleEnds.{ends_article}
+use Rattle.tune_titles.specs.Inside.ArticleBytes.{ends_article}
 use Rattle.tune_titles.proofs.ArticleLaw.{parts_some, both_parts, cut_whole, none_found}
 
 -- THE LAST BYTE

@@ -1,2 +1,2 @@
-pub mod ArticleEnds
+pub mod ArticleBytes
 pub mod KindLaws

@@ -1,13 +1,15 @@
 // The articles of titles.
-ghost use Rattle.std.specs.Prelude.{◌≡◌, ◌<◌, suc, length, drop, None, Some, IfNone, IfSome, false};
+ghost use Rattle.std.specs.Prelude.{◌≡◌, ◌==◌, ◌<◌, ◌≤◌, suc, length, take, drop, codes};
+ghost use Rattle.std.specs.Prelude.{None, Some, IfNone, IfSome, true, false};
+ghost use Rattle.std.specs.Char.{to_ascii_lowercase};
 ghost use Rattle.std.specs.Str.{bytes_eq};
 ghost use Rattle.abc_fields.specs.Bytes.{begins, is_blank};
 ghost use Rattle.tune_titles.specs.Articles.{small_letters, is_article, title_rest};
 ghost use Rattle.tune_titles.specs.Articles.{leading, leading_at, trailing, trailing_at};
-ghost use Rattle.tune_titles.specs.Inside.ArticleEnds.{ends_article};
+ghost use Rattle.tune_titles.specs.Inside.ArticleBytes.{begins_word, ends_article};
 
 use abc_fields::{is_blank, trim_blanks};
-use memchr::{memchr2, memrchr};
+use memchr::memrchr;
 
 // An article of a title, and the rest of the title.
 #[derive(Clone, Copy, Debug)]
@@ -37,40 +39,89 @@ pub(crate) fn leading(title: &[u8]) -> Option<Parts<'_>>
     ensures some { IfSome result (λ parts. leading title.now
         ≡ Some (record { article = parts.article.now; rest = parts.rest.now })) }
 {
-    if !begins_as_article(title) {
+    let end = article_length(title);
+    if end == 0 {
         return None;
     }
-    let Some(end) = memchr2(b' ', b'\t', title) else {
-        return None;
-    };
-    let (word, later) = title.split_at(end);
-    leading_at(word, later)
+    let (article, later) = title.split_at(end);
+    leading_at(article, later)
 }
 
-// Whether the first letter is that of an article. Most titles have another.
-fn begins_as_article(title: &[u8]) -> bool
-    ensures { result ≡ false → leading title.now ≡ None }
+// The length of the article that begins a title with a blank behind it, and 0 where none does.
+fn article_length(title: &[u8]) -> usize
+    ensures none { result ≡ 0 → leading title.now ≡ None }
+    ensures some { 1 ≤ result → leading title.now
+        ≡ leading_at (take result title.now) (drop result title.now) }
+    ensures article { 1 ≤ result → is_article (take result title.now) ≡ true }
+    ensures within { result ≤ length title.now }
+{
+    if begins_with_the(title) {
+        3
+    } else if begins_with_an(title) {
+        2
+    } else if begins_with_a(title) {
+        1
+    } else {
+        0
+    }
+}
+
+// Whether the article begins the title, in any capitals, and a blank follows it.
+fn begins_with_the(title: &[u8]) -> bool
+    ensures { result ≡ begins_word (codes "the") title.now }
 {
     match title {
-        [b'T' | b't' | b'A' | b'a', ..] => true,
+        [first, second, third, after, ..] => {
+            is_letter(*first, b't')
+                && is_letter(*second, b'h')
+                && is_letter(*third, b'e')
+                && is_blank(char::from(*after))
+        }
         _ => false,
     }
 }
 
-// The article, where the word is one and the bytes after it have more than blanks.
-fn leading_at<'a>(word: &'a [u8], later: &'a [u8]) -> Option<Parts<'a>>
-    ensures none { IfNone result (leading_at word.now later.now ≡ None) }
-    ensures some { IfSome result (λ parts. leading_at word.now later.now
+fn begins_with_an(title: &[u8]) -> bool
+    ensures { result ≡ begins_word (codes "an") title.now }
+{
+    match title {
+        [first, second, after, ..] => {
+            is_letter(*first, b'a') && is_letter(*second, b'n') && is_blank(char::from(*after))
+        }
+        _ => false,
+    }
+}
+
+fn begins_with_a(title: &[u8]) -> bool
+    ensures { result ≡ begins_word (codes "a") title.now }
+{
+    match title {
+        [first, after, ..] => is_letter(*first, b'a') && is_blank(char::from(*after)),
+        _ => false,
+    }
+}
+
+// Whether a byte is this small letter or its capital, which stands 32 before it.
+fn is_letter(byte: u8, small: u8) -> bool
+    requires from { 97 ≤ small }
+    requires to { small ≤ 122 }
+    ensures { result ≡ (to_ascii_lowercase byte == small) }
+{
+    byte == small || byte == small - 32
+}
+
+// The article, where the bytes after it have more than blanks.
+fn leading_at<'a>(article: &'a [u8], later: &'a [u8]) -> Option<Parts<'a>>
+    requires { is_article article.now ≡ true }
+    ensures none { IfNone result (leading_at article.now later.now ≡ None) }
+    ensures some { IfSome result (λ parts. leading_at article.now later.now
         ≡ Some (record { article = parts.article.now; rest = parts.rest.now })) }
 {
     let rest = trim_blanks(later);
-    if !is_article(word) || rest.is_empty() {
+    if rest.is_empty() {
         return None;
     }
-    Some(Parts {
-        article: word,
-        rest,
-    })
+    Some(Parts { article, rest })
 }
 
 // The article at the end of a title, which has no blanks at its ends.
