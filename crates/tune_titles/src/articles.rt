@@ -134,6 +134,17 @@ pub(crate) fn trailing(title: &[u8]) -> Option<Parts<'_>>
     if !ends_as_article(title) {
         return None;
     }
+    trailing_after_comma(title)
+}
+
+// The same, for a title that may end as an article. It is kept out of line, so that other titles do
+// not pay for the registers of the search.
+#[inline(never)]
+fn trailing_after_comma(title: &[u8]) -> Option<Parts<'_>>
+    ensures none { IfNone result (trailing title.now ≡ None) }
+    ensures some { IfSome result (λ parts. trailing title.now
+        ≡ Some (record { article = parts.article.now; rest = parts.rest.now })) }
+{
     let Some(at) = memrchr(b',', title) else {
         return None;
     };
