@@ -12,7 +12,7 @@ use Rattle.abc_fields.specs.Values.{has_percent, uncommented, uncommented_after}
 use Rattle.abc_fields.proofs.LineLaw.{pieces_divide}
 
 -- each part of such a text is one
-percents_front : (xs ys : List ℕ) → has_percent (xs ++ ys) ≡ false → has_percent xs ≡ false
+pub percents_front : (xs ys : List ℕ) → has_percent (xs ++ ys) ≡ false → has_percent xs ≡ false
 percents_front [] ys none = refl
 percents_front (x ∷ xs) ys none =
     let parts = or_parts (eqb x percent) (has_percent (xs ++ ys)) none in

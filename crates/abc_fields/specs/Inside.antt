@@ -4,3 +4,4 @@ pub mod HeaderRows
 pub mod Shares
 pub mod CarriedBytes
 pub mod HeaderEnds
+pub mod ToldLines

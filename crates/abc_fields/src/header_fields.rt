@@ -1,9 +1,10 @@
 // What a tune's header says, as parts of its text.
 ghost use Rattle.std.specs.Prelude.{◌≡◌, ℕ, ◌≤◌, ◌↔◌, List, [], ◌∷◌, ◌++◌, length, take, map};
-ghost use Rattle.std.specs.Prelude.{codes, slice_get, option_copied, IsTrue, false};
+ghost use Rattle.std.specs.Prelude.{codes, slice_get, option_copied, IsTrue, true, false};
 ghost use Rattle.std.specs.Option.{option_or};
 ghost use Rattle.abc_fields.specs.Fields.{non_empty, non_empty_values};
 ghost use Rattle.abc_fields.specs.Values.{has_percent};
+ghost use Rattle.abc_fields.specs.Inside.ToldLines.{is_told};
 ghost use Rattle.abc_fields.specs.Limits.{most_titles};
 
 use crate::values::value_of;
@@ -114,6 +115,26 @@ impl<'a> Fields<'a> {
         if line.starts_with(b"T:") {
             self.titles.take_value(value_of(line, plain));
         } else if line.starts_with(b"R:") && self.rhythm.is_none() {
+            self.rhythm = unless_empty(value_of(line, plain));
+        }
+    }
+
+    // The same of a line that is known to give a title or the rhythm.
+    #[inline(always)]
+    pub(crate) fn take_told(&mut self, line: &'a [u8], plain: bool)
+        requires told { is_told line.now ≡ true }
+        requires few { length self.old.titles ≤ most_titles }
+        requires plain { IsTrue plain → has_percent line.now ≡ false }
+        ensures titles { self.new.titles
+            ≡ take most_titles (self.old.titles ++ non_empty_values (codes "T:") (line.now ∷ [])) }
+        ensures rhythm { option_copied self.new.rhythm
+            ≡ option_or (option_copied self.old.rhythm)
+            (slice_get (non_empty_values (codes "R:") (line.now ∷ [])) 0) }
+        ensures key { self.new.key ≡ self.old.key }
+    {
+        if line[0] == b'T' {
+            self.titles.take_value(value_of(line, plain));
+        } else if self.rhythm.is_none() {
             self.rhythm = unless_empty(value_of(line, plain));
         }
     }

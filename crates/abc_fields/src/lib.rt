@@ -18,6 +18,7 @@ mod lines;
 mod shares;
 mod stored;
 mod texts;
+mod told_lines;
 mod tune_body;
 mod tune_lines;
 mod values;

@@ -1,14 +1,17 @@
 // Whether bytes that were stored are a tune text.
-ghost use Rattle.std.specs.Prelude.{◌≡◌, MatchOption, Some, IsTrue, false};
+ghost use Rattle.std.specs.Prelude.{◌≡◌, ◌≤◌, MatchOption, Some, IsTrue, false, length};
 ghost use Rattle.abc_fields.specs.Lines.{spans_of};
 ghost use Rattle.abc_fields.specs.Tunes.{IsTuneText};
 ghost use Rattle.abc_fields.specs.Values.{has_percent};
 ghost use Rattle.abc_fields.specs.Inside.LineEndings.{has_return};
 ghost use Rattle.abc_fields.specs.Inside.LinesLeft.{contents_of};
 ghost use Rattle.abc_fields.specs.Inside.HeaderEnds.{key_place, has_end};
+ghost use Rattle.abc_fields.specs.Inside.ToldLines.{IsTold};
+ghost use Rattle.abc_fields.specs.Limits.{longest_tune};
 
-use crate::key_place::{KeyPlace, find_key};
+use crate::key_place::KeyPlace;
 use crate::lines::{Lines, has_return};
+use crate::told_lines::{ToldLines, find_told};
 use crate::tune_lines::ends_tune;
 use memchr::memchr2;
 
@@ -28,21 +31,23 @@ fn holds_return(plain: bool, text: &[u8]) -> bool
     !plain && has_return(text)
 }
 
-// Where the key stands in bytes that are a tune text; none where they are not. `plain` says that
-// no carriage return stands in them.
-pub(crate) fn key_of_stored(text: &[u8], plain: bool) -> Option<KeyPlace>
-    requires { IsTrue plain → has_return text.now ≡ false }
+// Where the key stands in bytes that are a tune text, and the lines that say what `fields` tells;
+// none where they are not. `plain` says that no carriage return stands in them.
+pub(crate) fn key_of_stored(text: &[u8], plain: bool) -> Option<(KeyPlace, ToldLines)>
+    requires plain { IsTrue plain → has_return text.now ≡ false }
+    requires short { length text.now ≤ longest_tune }
     ensures { MatchOption result (¬ IsTuneText text.now)
-        (λ place. IsTuneText text.now × (key_place false (spans_of text.now) ≡ Some place)) }
+        (λ found. IsTuneText text.now × (key_place false (spans_of text.now) ≡ Some found.0)
+        × (IsTold text.now found.1)) }
 {
     if holds_return(plain, text) || !text.ends_with(b"\n") {
         return None;
     }
     let mut lines = Lines::without_return(text);
-    let Some(place) = find_key(&mut lines) else {
+    let Some(found) = find_told(&mut lines) else {
         return None;
     };
-    if has_end(lines) { None } else { Some(place) }
+    if has_end(lines) { None } else { Some(found) }
 }
 
 // Whether a tune ends before one of these lines.

@@ -1,11 +1,12 @@
 // Bytes that a value owns, and the texts of tunes among them.
-ghost use Rattle.std.specs.Prelude.{◌≡◌, ◌≤◌, ℕ, List, length, map, IfOk, IfErr, Some, IsTrue};
-ghost use Rattle.std.specs.Prelude.{false};
+ghost use Rattle.std.specs.Prelude.{◌≡◌, ◌≤◌, ℕ, List, length, map, IfOk, IfErr, IfSome, Some};
+ghost use Rattle.std.specs.Prelude.{IsTrue, false};
 ghost use Rattle.std.specs.List.{AllByRecursion};
 ghost use Rattle.abc_fields.specs.Lines.{lines_of, spans_of, SpansRise};
 ghost use Rattle.abc_fields.specs.LineKinds.{part_open_after};
 ghost use Rattle.abc_fields.specs.Fields.{header_of, key_text_of, body_spans};
 ghost use Rattle.abc_fields.specs.Inside.HeaderEnds.{key_place, IsKnown};
+ghost use Rattle.abc_fields.specs.Inside.ToldLines.{IsTold, AreTold};
 ghost use Rattle.abc_fields.specs.Tunes.{IsTuneText, IsTextWithin};
 ghost use Rattle.abc_fields.specs.Limits.{longest_tune};
 ghost use Rattle.abc_fields.specs.Values.{has_percent};
@@ -13,6 +14,7 @@ ghost use Rattle.abc_fields.specs.Values.{has_percent};
 use crate::key_place::{KeyPlace, find_key};
 use crate::lines::Lines;
 use crate::stored::{is_plain, key_of_stored};
+use crate::told_lines::ToldLines;
 use crate::tune_body::TuneBody;
 use std::alloc::{AllocError, Global};
 use std::marker::Model;
@@ -67,6 +69,8 @@ pub struct TuneText {
     text: Vec<u8>,
     // Where its key stands, if that is known: the test of a stored text finds it.
     key: Option<KeyPlace>,
+    // Where its titles, its rhythm and its key stand, if that is known.
+    told: ToldLines,
     // Whether it is known that no percent sign stands in it, which would begin a comment.
     plain: bool,
 }
@@ -77,7 +81,7 @@ impl Model for TuneText {
     ghost view = { λ t. t.text.items };
 
     ghost invariant = { λ t. IsTextWithin longest_tune t.text.items × IsKnown t.text.items t.key
-        × (IsTrue t.plain → has_percent t.text.items ≡ false) };
+        × IsTold t.text.items t.told × (IsTrue t.plain → has_percent t.text.items ≡ false) };
 }
 
 impl TuneText {
@@ -89,6 +93,7 @@ impl TuneText {
         TuneText {
             text,
             key: None,
+            told: ToldLines::unknown(),
             plain: false,
         }
     }
@@ -103,6 +108,7 @@ impl TuneText {
         TuneText {
             text,
             key: Some(key),
+            told: ToldLines::unknown(),
             plain,
         }
     }
@@ -120,13 +126,14 @@ impl TuneText {
             return Err(bytes);
         }
         let plain = is_plain(bytes.as_slice());
-        let Some(key) = key_of_stored(bytes.as_slice(), plain) else {
+        let Some((key, told)) = key_of_stored(bytes.as_slice(), plain) else {
             return Err(bytes);
         };
         let ByteText { bytes } = bytes;
         Ok(TuneText {
             text: bytes,
             key: Some(key),
+            told,
             plain,
         })
     }
@@ -155,6 +162,7 @@ impl TuneText {
         Ok(TuneText {
             text,
             key: self.key,
+            told: self.told,
             plain: self.plain,
         })
     }
@@ -164,6 +172,18 @@ impl TuneText {
         ensures { IsTrue result → has_percent self.now ≡ false }
     {
         self.plain
+    }
+
+    // Where the lines stand that give its titles, its rhythm and its key, if that is known.
+    #[inline(always)]
+    pub(crate) fn told(&self) -> Option<&ToldLines>
+        ensures { IfSome result (λ told. AreTold (spans_of self.now) told.now) }
+    {
+        if self.told.is_known() {
+            Some(&self.told)
+        } else {
+            None
+        }
     }
 
     // Where its key stands.
@@ -181,6 +201,7 @@ impl TuneText {
 
     /// What follows the header, which ends with the first line that gives the key (ABC 2.1,
     /// 3.1.14). It takes no memory.
+    #[inline(always)]
     pub fn body(&self) -> TuneBody<'_>
         ensures key { result.key.now ≡ key_text_of self.now }
         ensures lines { result.lines ≡ body_spans self.now }

@@ -1,59 +1,81 @@
-use Rattle.std.proofs.Common.{true, rules, ◌≡◌, ◌∙◌, ◌++◌, take, ap, sym, subst, false}
-use Rattle.std.specs.Prelude.{codes, slice_get, option_copied}
+use Rattle.std.proofs.Common.{rules, ◌≡◌, ◌∙◌, ◌+◌, ◌++◌, ◌∷◌, [], ap, sym, subst, take, drop, get_or}
+use Rattle.std.specs.Prelude.{codes, slice_get, slice_range, option_copied}
+use Rattle.std.specs.List.{AllByRecursion}
 use Rattle.std.specs.Option.{option_or}
-use Rattle.abc_fields.specs.Tunes.{is_key_line}
-use Rattle.abc_fields.specs.Fields.{header_of, non_empty_values, first_key, key_text_of}
+use Rattle.std.proofs.lemmas.List.{drop_more}
+use Rattle.std.proofs.Math.ListN.{drop_of_length-le}
+use Rattle.abc_fields.specs.Fields.{key_text_of, non_empty_values}
+use Rattle.abc_fields.specs.Lines.{spans_of}
 use Rattle.abc_fields.specs.Limits.{most_titles}
-use Rattle.abc_fields.specs.Inside.LinesLeft.{contents_of}
-use Rattle.abc_fields.proofs.FieldLemmas.{few_taken, titles_step, first_step, header_more, key_here, key_later, tune_key}
-use Rattle.abc_fields.proofs.PercentLemmas.{NonePercent, lines_percents}
+use Rattle.abc_fields.specs.Inside.ToldLines.{told_places, lines_at, IsToldAt}
+use Rattle.abc_fields.specs.declared.told_lines.LinePlace.{LinePlace}
+use Rattle.abc_fields.proofs.FieldLemmas.{few_taken, few_titles, titles_step, first_step, tune_key}
+use Rattle.abc_fields.proofs.ToldLemmas.{told_titles, told_rhythms, told_in, key_at, part_percents}
 use Rattle.abc_fields.proofs.header.fields.Goals as goal
 
-pub loop-line-init : goal.loop-line-init
-loop-line-init c = record {
-  within = search rules;
-  titles = search rules;
-  rhythm = search rules;
-  plain = λ is. rw (c.into_iter-line-iterator.ensures.into_iter_gives, c.of_tune-line-items.ensures.lines, c.of_tune-line-items.ensures.contents)
-      (lines_percents c.args.text.now (c.is_plain-plain.ensures is));
-  no_key = search rules;
-  key = search rules;
-}
-
-pub loop-line-preserved : goal.loop-line-preserved
-loop-line-preserved c =
-    let line = c.in-Some.line.text.now in
-    let old = c.loop-line.found in
-    let rest = contents_of c.next.new.self in
-    let other : is_key_line line ≡ false = sym c.is_key_line.ensures ∙ c.if-is_key_line.false in
-    let header = ap (λ spans. header_of (contents_of spans)) c.in-Some.ensures.steps ∙ header_more line rest other in
+pub loop-place-init : goal.loop-place-init
+loop-place-init c =
+    let text = c.args.text.now in
+    let same : c.places-place-items.result.now ≡ told_places (spans_of text) = c.places-place-items.ensures ∙ c.in-Some.ensures.places in
     record {
-      within = rw c.take_line.ensures.titles (few_taken most_titles _);
-      titles = rw c.take_line.ensures.titles (titles_step most_titles old.titles (codes "T:") line (header_of rest))
-          ∙ ap (λ lines. take most_titles (old.titles ++ non_empty_values (codes "T:") lines)) (sym header) ∙ c.loop-line.invariant.titles;
-      rhythm = rw c.take_line.ensures.rhythm (first_step (option_copied old.rhythm) (codes "R:") line (header_of rest))
-          ∙ ap (λ lines. option_or (option_copied old.rhythm) (slice_get (non_empty_values (codes "R:") lines) 0)) (sym header) ∙ c.loop-line.invariant.rhythm;
-      plain = λ is. (subst NonePercent (ap contents_of c.in-Some.ensures.steps) (c.loop-line.invariant.plain is)).1;
-      no_key = rw c.take_line.ensures.key c.loop-line.invariant.no_key;
-      key = sym (ap (λ spans. first_key (contents_of spans)) c.in-Some.ensures.steps ∙ key_later line rest other) ∙ c.loop-line.invariant.key;
+      few = search rules;
+      titles = rw (c.new-found.ensures.titles, same) (ap (take most_titles) (told_titles text));
+      rhythm = rw (c.new-found.ensures.rhythm, same) (ap (λ values. slice_get values 0) (told_rhythms text));
+      places = rw same (told_in text);
     }
 
-pub returns-then-is_key_line-clause-key_line : goal.returns-then-is_key_line-clause-key_line
-returns-then-is_key_line-clause-key_line c =
-    let line = c.in-Some.line.text.now in
-    let is : is_key_line line ≡ true = sym c.is_key_line.ensures ∙ c.if-is_key_line.true in
-    let first = ap (λ spans. first_key (contents_of spans)) c.in-Some.ensures.steps ∙ key_here line (contents_of c.next.new.self) is in
-    let value : c.value_of-found.result.now ≡ key_text_of c.args.text.now = c.value_of-found.ensures ∙ sym first ∙ c.loop-line.invariant.key in
-    rw value (tune_key c.args.text.now c.of_tune-line-items.ensures.tune_text)
+pub line_in-requires-2-clause-ordered : goal.line_in-requires-2-clause-ordered
+line_in-requires-2-clause-ordered c = (key_at c.args.text.now c.in-Some.told.now.key c.in-Some.ensures.key).ordered
+
+pub line_in-requires-2-clause-within : goal.line_in-requires-2-clause-within
+line_in-requires-2-clause-within c = rw c.bytes-bytes.ensures.value (key_at c.args.text.now c.in-Some.told.now.key c.in-Some.ensures.key).within
+
+pub take_told-requires-clause-plain : goal.take_told-requires-clause-plain
+take_told-requires-clause-plain c = λ is. rw (c.line_in.ensures, c.bytes-bytes.ensures.value)
+    (part_percents c.args.text.now _ _ (c.is_plain-plain.ensures is))
+
+pub value_of-found-requires : goal.value_of-found-requires
+value_of-found-requires c = λ is. rw (c.line_in-2.ensures, c.bytes-bytes.ensures.value)
+    (part_percents c.args.text.now c.in-Some.told.now.key.from c.in-Some.told.now.key.to (c.is_plain-plain.ensures is))
+
+pub returns-clause-key : goal.returns-clause-key
+returns-clause-key c = c.value_of-found.ensures
+    ∙ rw (c.line_in-2.ensures, c.bytes-bytes.ensures.value) (key_at c.args.text.now c.in-Some.told.now.key c.in-Some.ensures.key).value
 
 pub returns-clause-key_line : goal.returns-clause-key_line
 returns-clause-key_line c =
-    let none = ap (λ spans. first_key (contents_of spans)) c.in-None.ensures.steps.0 in
-    let value : c.loop-line.found.key.now ≡ key_text_of c.args.text.now = c.loop-line.invariant.no_key ∙ sym none ∙ c.loop-line.invariant.key in
-    rw value (tune_key c.args.text.now c.of_tune-line-items.ensures.tune_text)
+    let value : c.value_of-found.result.now ≡ key_text_of c.args.text.now = c.value_of-found.ensures
+    ∙ rw (c.line_in-2.ensures, c.bytes-bytes.ensures.value) (key_at c.args.text.now c.in-Some.told.now.key c.in-Some.ensures.key).value in
+    rw value (tune_key c.args.text.now c.bytes-bytes.ensures.tune_text)
 
-pub value_of-found-requires : goal.value_of-found-requires
-value_of-found-requires c = λ is. (subst NonePercent (ap contents_of c.in-Some.ensures.steps) (c.loop-line.invariant.plain is)).0
+pub loop-place-preserved : goal.loop-place-preserved
+loop-place-preserved c =
+    let text = c.args.text.now in
+    let items = c.places-place-items.result.now in
+    let at = c.loop-place.place-index in
+    let line = c.line_in.result.now in
+    let old = c.loop-place.found in
+    let later = drop (at + 1) items in
+    let none : LinePlace = record { from = 0; to = 0 } in
+    let more : drop at items ≡ get_or items at none ∷ later = drop_more items at none c.loop-place-test.true in
+    let here : line ≡ slice_range text (get_or items at none).from (get_or items at none).to =
+    c.line_in.ensures ∙ ap (λ t. slice_range t (get_or items at none).from (get_or items at none).to) c.bytes-bytes.ensures.value in
+    let lines : lines_at text (drop at items) ≡ line ∷ lines_at text later =
+    ap (lines_at text) more ∙ ap (λ l. l ∷ lines_at text later) (sym here) in
+    record {
+      few = rw c.take_told.ensures.titles (few_taken most_titles _);
+      titles = rw c.take_told.ensures.titles (titles_step most_titles old.titles (codes "T:") line (lines_at text later))
+          ∙ ap (λ ls. take most_titles (old.titles ++ non_empty_values (codes "T:") ls)) (sym lines) ∙ c.loop-place.invariant.titles;
+      rhythm = rw c.take_told.ensures.rhythm (first_step (option_copied old.rhythm) (codes "R:") line (lines_at text later))
+          ∙ ap (λ ls. option_or (option_copied old.rhythm) (slice_get (non_empty_values (codes "R:") ls) 0)) (sym lines) ∙ c.loop-place.invariant.rhythm;
+      places = (subst (AllByRecursion (IsToldAt text)) more c.loop-place.invariant.places).1;
+    }
 
-pub take_line-requires-clause-plain : goal.take_line-requires-clause-plain
-take_line-requires-clause-plain c = λ is. (subst NonePercent (ap contents_of c.in-Some.ensures.steps) (c.loop-line.invariant.plain is)).0
+pub returns-clause-titles : goal.returns-clause-titles
+returns-clause-titles c =
+    let none : drop c.loop-place.place-index c.places-place-items.result.now ≡ [] =
+    drop_of_length-le c.places-place-items.result.now c.loop-place-test.false in
+    let rest : c.loop-place.found.titles ≡ take most_titles (c.loop-place.found.titles ++ []) =
+    few_titles most_titles c.loop-place.found.titles c.loop-place.invariant.few in
+    rest ∙ ap (λ ls. take most_titles (c.loop-place.found.titles ++ non_empty_values (codes "T:") (lines_at c.args.text.now ls))) (sym none)
+    ∙ c.loop-place.invariant.titles

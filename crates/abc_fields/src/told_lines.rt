@@ -1,0 +1,129 @@
+// Where the lines of a header stand that say what `fields` tells.
+ghost use Rattle.std.specs.Prelude.{◌≡◌, ◌<◌, ◌≤◌, ◌⊎◌, MatchOption, Some, IsTrue, true, false};
+ghost use Rattle.std.specs.Prelude.{take, slice_range, length};
+ghost use Rattle.std.specs.List.{AllByRecursion};
+ghost use Rattle.abc_fields.specs.Tunes.{has_key};
+ghost use Rattle.abc_fields.specs.Inside.LinesLeft.{contents_of};
+ghost use Rattle.abc_fields.specs.Inside.HeaderEnds.{key_place, has_end};
+ghost use Rattle.abc_fields.specs.Inside.ToldLines.{most_told, is_told, IsNear, AreTold};
+
+use crate::key_place::KeyPlace;
+use crate::line_kinds::{in_part_after, is_key_line};
+use crate::lines::Lines;
+use crate::tune_lines::ends_tune;
+
+// How many lines of titles and rhythms are kept at most.
+const MOST_TOLD: u16 = 4;
+
+// Where a line stands in the text of a tune, which has at most 64,000 bytes.
+#[derive(Clone, Copy, Debug)]
+pub(crate) struct LinePlace {
+    // The index of its first byte.
+    pub(crate) from: u16,
+    // The index past its last byte.
+    pub(crate) to: u16,
+}
+
+impl LinePlace {
+    // The line that stands here in a text.
+    #[inline(always)]
+    pub(crate) fn line_in<'a>(&self, text: &'a [u8]) -> &'a [u8]
+        requires ordered { self.now.from ≤ self.now.to }
+        requires within { self.now.to ≤ length text.now }
+        ensures { result.now ≡ slice_range text.now self.now.from self.now.to }
+    {
+        &text[usize::from(self.from)..usize::from(self.to)]
+    }
+}
+
+// Where the lines of a header stand that give the titles, the rhythm and the key.
+#[derive(Clone, Copy, Debug)]
+pub(crate) struct ToldLines {
+    // Those of titles and rhythms, in order.
+    places: [LinePlace; 4],
+    // How many of these there are; where there are more than places, nothing is known.
+    count: u16,
+    // The line of the key.
+    pub(crate) key: LinePlace,
+}
+
+impl ToldLines {
+    // Nothing is known.
+    pub(crate) fn unknown() -> ToldLines
+        ensures { most_told < result.count }
+    {
+        ToldLines {
+            places: [LinePlace { from: 0, to: 0 }; 4],
+            count: MOST_TOLD + 1,
+            key: LinePlace { from: 0, to: 0 },
+        }
+    }
+
+    // Whether anything is known.
+    #[inline(always)]
+    pub(crate) fn is_known(&self) -> bool
+        ensures { IsTrue result → self.now.count ≤ most_told }
+    {
+        self.count <= MOST_TOLD
+    }
+
+    // The lines of titles and rhythms, from the first on.
+    #[inline(always)]
+    pub(crate) fn places(&self) -> &[LinePlace]
+        requires { self.now.count ≤ most_told }
+        ensures { result.now ≡ take self.now.count self.now.places }
+    {
+        &self.places[..usize::from(self.count)]
+    }
+}
+
+// Whether a line gives a title or the rhythm.
+#[inline(always)]
+fn is_told(line: &[u8]) -> bool
+    ensures { result ≡ is_told line.now }
+{
+    line.starts_with(b"T:") || line.starts_with(b"R:")
+}
+
+// Reads the header of a tune to its end, as `find_key` does, and tells where the lines stand that
+// give the titles, the rhythm and the key.
+#[inline(always)]
+pub(crate) fn find_told(lines: &mut Lines) -> Option<(KeyPlace, ToldLines)>
+    requires { AllByRecursion IsNear lines.old }
+    ensures { MatchOption result
+        ((has_end (contents_of lines.old) ≡ true) ⊎ (has_key (contents_of lines.old) ≡ false))
+        (λ found. (key_place false lines.old ≡ Some found.0)
+        × (found.1.count ≤ most_told → AreTold lines.old found.1)
+        × (has_end (contents_of lines.new) ≡ has_end (contents_of lines.old))) }
+{
+    let mut in_part = false;
+    let mut places = [LinePlace { from: 0, to: 0 }; 4];
+    let mut count = 0;
+    while let Some(line) = lines.next() {
+        if is_key_line(line.text) {
+            let from = line.from;
+            let key = LinePlace {
+                from: line.from as u16,
+                to: line.to as u16,
+            };
+            return Some((KeyPlace { from, in_part }, ToldLines { places, count, key }));
+        }
+        if is_told(line.text) {
+            if count < MOST_TOLD {
+                places[usize::from(count)] = LinePlace {
+                    from: line.from as u16,
+                    to: line.to as u16,
+                };
+                count += 1;
+            } else {
+                count = MOST_TOLD + 1;
+            }
+            continue;
+        }
+        if ends_tune(line.text) {
+            return None;
+        }
+        in_part = in_part_after(in_part, line.text);
+    }
+    None
+}
