@@ -1,6 +1,6 @@
 // The item at the front of a text: one function for each row of the table of items.
 ghost use Rattle.std.specs.Prelude.{◌≡◌, ℕ, ◌<◌, ◌≤◌, ◌+◌, ◌==◌, ◌&&◌, is_some, List, length};
-ghost use Rattle.std.specs.Prelude.{IfSome, Some, None, IsTrue};
+ghost use Rattle.std.specs.Prelude.{IfSome, Some, None, IsTrue, true};
 ghost use Rattle.std.specs.List.{prefix_len};
 ghost use Rattle.std.specs.Char.{is_ascii_digit};
 ghost use Rattle.abc_fields.specs.Bytes.{begins};
@@ -270,6 +270,8 @@ fn note(bytes: &[u8]) -> Option<usize>
 pub(crate) fn plain_kind(bytes: &[u8]) -> Option<Kind>
     ensures value { IfSome result (λ kind. front kind 1 ≡ first_item bytes.now) }
     ensures within { IfSome result (λ kind. 0 < length bytes.now) }
+    ensures name { IfSome result (λ kind. kind ≡ Kind.Note
+        → begins is_note_name bytes.now ≡ true) }
     ensures plain { is_some result
         ≡ (begins is_plain_byte bytes.now && (first_item bytes.now).length == 1) }
 {
@@ -337,7 +339,7 @@ fn lone_kind(byte: u8) -> Kind
 fn is_note_name(byte: u8) -> bool
     ensures { result ≡ is_note_name byte }
 {
-    matches!(byte.to_ascii_uppercase(), b'A'..=b'G')
+    matches!(byte, b'A'..=b'G' | b'a'..=b'g')
 }
 
 // The item at the front of a text: the first row that fits.

@@ -1,9 +1,11 @@
 // The items of a text.
 ghost use Rattle.std.specs.Prelude.{◌≡◌, ℕ, ◌+◌, ◌^◌, ◌<◌, ◌≤◌, ◌++◌, List, map, length, is_some};
+ghost use Rattle.std.specs.Prelude.{IfSome, true};
 ghost use Rattle.std.specs.Iterator.{YieldsFirstBy, item_count};
 ghost use Rattle.std.specs.List.{All};
 ghost use Rattle.abc_items.specs.Grammar.{ItemText, AreItems};
-ghost use Rattle.abc_items.specs.ItemRows.{items_of};
+ghost use Rattle.abc_fields.specs.Bytes.{begins};
+ghost use Rattle.abc_items.specs.ItemRows.{items_of, is_note_name};
 ghost use Rattle.abc_items.specs.ItemSpans.{ItemSpan, item_spans_from, item_spans_of};
 ghost use Rattle.abc_items.specs.ItemSpans.{item_text_of, ItemSpansFill, FitsItsRow};
 ghost use Rattle.abc_items.specs.Inside.Misses.{AreMissing};
@@ -80,6 +82,8 @@ impl<'a> Items<'a> {
     pub fn next_plain(&mut self) -> Option<Item<'a>>
         ensures steps { self.old ≡ item_spans_in result ++ self.new }
         ensures plain { is_some result ≡ begin_plain self.old }
+        ensures name { IfSome result (λ item. item.kind ≡ Kind.Note
+            → begins is_note_name item.text.now ≡ true) }
     {
         let Some(kind) = plain_kind(self.rest) else {
             return None;
