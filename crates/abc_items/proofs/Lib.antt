@@ -6,6 +6,7 @@ pub mod NoteRow
 pub mod FirstItem
 pub mod PlainItems
 pub mod ItemLaw
+pub mod NoteNames
 pub mod PlainBytes
 pub mod ItemSpans
 pub mod MarkedItems

@@ -339,7 +339,7 @@ fn lone_kind(byte: u8) -> Kind
 fn is_note_name(byte: u8) -> bool
     ensures { result ≡ is_note_name byte }
 {
-    matches!(byte, b'A'..=b'G' | b'a'..=b'g')
+    matches!(byte | b' ', b'a'..=b'g')
 }
 
 // The item at the front of a text: the first row that fits.
