@@ -1,7 +1,7 @@
 pub mod TextParts
 pub mod PastLemmas
 pub mod BareNotes
-pub mod LetterPitches
+pub mod PlainPitches
 pub mod OpeningLemmas
 pub mod RuleLaw
 pub mod ShortLemmas

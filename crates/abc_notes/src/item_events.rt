@@ -1,5 +1,5 @@
 // The event that one item of a music line is.
-ghost use Rattle.std.specs.Prelude.{◌≡◌, ◌≤◌, ◌<◌, ◌+◌, ◌∷◌, ◌++◌, [], ◌≤ℤ◌, List, IsTrue};
+ghost use Rattle.std.specs.Prelude.{◌≡◌, ◌≤◌, ◌<◌, ◌+◌, ◌∷◌, [], ◌≤ℤ◌, IsTrue};
 ghost use Rattle.std.specs.Prelude.{length, count_by, IfSome};
 ghost use Rattle.std.specs.Iterator.{YieldsFirstBy};
 ghost use Rattle.abc_fields.specs.Limits.{longest_book};
@@ -9,11 +9,6 @@ ghost use Rattle.abc_fields.specs.Bytes.{is_one_of};
 ghost use Rattle.abc_notes.specs.Inside.EventView.{written_note, events_of};
 ghost use Rattle.abc_notes.specs.Inside.Bounds.{lowest_octave, highest_octave, AreShort, IsShort};
 ghost use Rattle.abc_notes.specs.Music.{octave_of, written, plain_events, inline_events};
-ghost use Rattle.abc_notes.specs.Music.{line_events};
-ghost use Rattle.abc_notes.specs.Events.{Event as AnyEvent};
-ghost use Rattle.abc_notes.specs.Inside.BareNotes.{IsBare, bare_notes};
-ghost use Rattle.abc_notes.specs.Pitches.{sounded_notes};
-ghost use Rattle.abc_keys.specs.declared.signatures.Signature.{Signature as AnySignature};
 
 use crate::events::{Event, WrittenNote};
 use abc_items::{Item, Items, Kind, own_accidental, spelling_length};
@@ -87,30 +82,7 @@ fn written<'a>(item: Item<'a>, base: usize, counts: bool) -> WrittenNote<'a>
     }
 }
 
-// Takes the first note of items of a line where it is an item of one byte, and so are those before
-// it. Else it takes none, but may pass over items that are no notes.
-#[inline(always)]
-pub(crate) fn bare_note<'a>(items: &mut Items<'a>, base: usize) -> Option<Item<'a>>
-    requires { AreShort base items.old }
-    ensures notes { (s : AnySignature) (tail : List AnyEvent)
-        → sounded_notes s [] (line_events base items.old ++ tail)
-        ≡ bare_notes s base result ++ sounded_notes s [] (line_events base items.new ++ tail) }
-    ensures bare { IfSome result (λ item. IsBare item) }
-    ensures one { IfSome result (λ item. IsShort base (item_span item)) }
-    ensures short { AreShort base items.new }
-    ensures fewer { length (line_events base items.new) ≤ length (line_events base items.old) }
-{
-    'items: loop {
-        let Some(item) = items.next_plain() else {
-            return None;
-        };
-        if is_note(item.kind) {
-            return Some(item);
-        }
-    }
-}
-
-fn is_note(kind: Kind) -> bool
+pub(crate) fn is_note(kind: Kind) -> bool
     ensures yes { IsTrue result → kind ≡ Kind.Note }
     ensures no { kind ≡ Kind.Note → IsTrue result }
 {

@@ -17,6 +17,7 @@ mod note_tokens;
 mod notes;
 mod openings;
 mod pitches;
+mod plain_pitches;
 mod tune_events;
 
 pub use abc_keys::{Accidental, Key, Letter, Mode, Scale, Sign, Signature, key_of, signature};

@@ -1,19 +1,19 @@
 // The notes with which a tune opens.
-ghost use Rattle.std.specs.Prelude.{◌≡◌, ◌+◌, ◌≤◌, ◌++◌, [], List, true, false, length, IfSome};
-ghost use Rattle.std.specs.Prelude.{IsTrue};
+ghost use Rattle.std.specs.Prelude.{◌≡◌, ◌+◌, ◌<◌, ◌≤◌, ◌++◌, [], List, false, length, map, take};
+ghost use Rattle.std.specs.Prelude.{FitsSigned, IsTrue};
+ghost use Rattle.std.specs.Int.{w8};
+ghost use Rattle.std.specs.List.{AllWithin};
 ghost use Rattle.abc_fields.specs.Limits.{longest_book};
 ghost use Rattle.abc_fields.specs.Values.{has_percent, uncommented};
 ghost use Rattle.abc_items.specs.ItemSpans.{item_spans_of};
 ghost use Rattle.abc_notes.specs.Inside.Bounds.{AreShort, LinesAreShort};
-ghost use Rattle.abc_notes.specs.Inside.EventView.{notes_in};
 ghost use Rattle.abc_notes.specs.Music.{line_events, body_events, tune_events, tune_signature};
-ghost use Rattle.abc_notes.specs.Pitches.{SoundedNote, sounded_notes};
+ghost use Rattle.abc_notes.specs.Pitches.{SoundedNote, counting, sounded_notes};
 
-use crate::item_events::bare_note;
 use crate::key_signatures::{KeySignature, signature_of_text};
 use crate::letter_pitches::LetterPitches;
-use crate::note_tokens::NoteToken;
 use crate::notes::Notes;
+use crate::plain_pitches::take_bare_pitches;
 use crate::tune_events::{TuneEvents, is_music};
 use abc_fields::{Line, Lines, TuneBody, TuneText, in_part_after, up_to_comment};
 use abc_items::Items;
@@ -77,16 +77,32 @@ impl<'a> OpeningNotes<'a> {
         }
     }
 
-    /// Takes the first note that is left where it is plain and plain bytes alone come before it;
-    /// such a note counts. Else it takes none, but may pass over what is no note.
+    /// Takes the first notes that are left, up to `most`, while they are plain and plain bytes
+    /// alone come before them; such notes count. Puts their pitches into a row, and gives how many
+    /// they are. Behind the last it may pass over what is no note.
     #[inline(always)]
-    pub fn next_plain(&mut self) -> Option<NoteToken<'a>>
-        ensures notes { self.old ≡ notes_in result ++ self.new }
-        ensures counts { IfSome result (λ note. note.counts ≡ true) }
+    pub fn take_plain(&mut self, pitches: &mut [i8], most: usize) -> usize
+        requires some { 0 < most }
+        requires room { most ≤ length pitches.old }
+        ensures few { result ≤ most }
+        ensures fit { AllWithin (FitsSigned w8) pitches.new 0 result }
+        ensures notes { map (λ note. note.pitch) (counting self.old)
+            ≡ take result pitches.new ++ map (λ note. note.pitch) (counting self.new) }
     {
-        match bare_note(&mut self.items, self.base) {
-            Some(item) => Some(self.letters.token(item, self.base)),
-            None => None,
+        take_bare_pitches(&mut self.items, self.base, &self.letters, pitches, most)
+    }
+
+    /// A second reader of the notes that are left.
+    #[inline(always)]
+    pub fn again(&self) -> OpeningNotes<'a>
+        ensures { result ≡ self.now }
+    {
+        OpeningNotes {
+            letters: LetterPitches::new(self.letters.signature()),
+            items: self.items.again(),
+            base: self.base,
+            lines: self.lines.again(),
+            in_part: self.in_part,
         }
     }
 

@@ -7,7 +7,7 @@ ghost use Rattle.abc_notes.specs.Pitches.{letter_pitch, pitch_of};
 use crate::events::WrittenNote;
 use abc_keys::{Accidental, Letter};
 
-pub(crate) const OCTAVE: i32 = 12;
+const OCTAVE: i32 = 12;
 
 // Those of the letters from C to B.
 const LETTER_PITCHES: [i32; 7] = [0, 2, 4, 5, 7, 9, 11];

@@ -1,28 +1,31 @@
 -- How high letters sound in a signature.
-use Rattle.std.specs.Prelude.{ℕ, List, [], ◌∷◌, ℤ, ◌+ℤ◌}
+use Rattle.std.specs.Prelude.{ℕ, ◌+◌, List, [], set, replicate, unwrap_or, ℤ, pos, ◌+ℤ◌, ◌*ℤ◌}
 use Rattle.abc_keys.specs.declared.letters.Letter.{Letter}
 use Rattle.abc_keys.specs.declared.letters.Letter.TheVariants.{C, D, E, F, G, A, B}
 use Rattle.abc_keys.specs.declared.letters.Accidental.{Accidental}
 use Rattle.abc_keys.specs.declared.signatures.Signature.{Signature}
-use Rattle.abc_keys.specs.Letters.{semitones_of}
+use Rattle.abc_keys.specs.Letters.{letter_of, semitones_of}
+use Rattle.abc_keys.specs.Signatures.{accidental_at}
+use Rattle.abc_notes.specs.Music.{octave_of}
 use Rattle.abc_notes.specs.Pitches.{letter_pitch}
 
 -- the pitch of a letter with an accidental, in octave 0
 abbrev pub pitch_in : Letter → Accidental → ℤ
 pitch_in letter accidental = letter_pitch letter +ℤ semitones_of accidental
 
--- those of the letters from A to G
-abbrev pub pitches_in : Signature → List ℤ
-pitches_in s =
-    pitch_in A s.a ∷ pitch_in B s.b ∷ pitch_in C s.c ∷ pitch_in D s.d ∷ pitch_in E s.e
-    ∷ pitch_in F s.f ∷ pitch_in G s.g ∷ []
+-- a row of pitches with that of a letter, as a capital and as a small letter
+abbrev pub with_letter : ℕ → ℤ → List ℤ → List ℤ
+with_letter place pitch row = set (set row place pitch) (place + 32) (pitch +ℤ pos 12)
 
--- where a letter stands among them
-abbrev pub letter_place : Letter → ℕ
-letter_place A = 0
-letter_place B = 1
-letter_place C = 2
-letter_place D = 3
-letter_place E = 4
-letter_place F = 5
-letter_place G = 6
+-- those of the bytes from A to g
+abbrev pub name_pitches : Signature → List ℤ
+name_pitches s =
+    with_letter 6 (pitch_in G s.g) (with_letter 5 (pitch_in F s.f) (with_letter 4 (pitch_in E s.e)
+    (with_letter 3 (pitch_in D s.d) (with_letter 2 (pitch_in C s.c) (with_letter 1 (pitch_in B s.b)
+    (with_letter 0 (pitch_in A s.a) (replicate 39 (pos 0))))))))
+
+-- the pitch of a note that is this byte alone
+abbrev pub name_pitch : Signature → ℕ → ℤ
+name_pitch s name =
+    let letter = unwrap_or (letter_of name) C in
+    letter_pitch letter +ℤ pos 12 *ℤ octave_of name [] +ℤ semitones_of (accidental_at s letter)
