@@ -1,11 +1,13 @@
 -- The steps so far, and the notes that are left, are together the incipit.
 use Rattle.std.proofs.Common.{◌≡◌, ℕ, zero, suc, ◌+◌, ◌-◌, ◌<◌, ◌≤◌, List, [], ◌∷◌, ◌++◌, length, take, refl, ap, sym, ◌∙◌, arith, true, Option, Some, inl, inr}
-use Rattle.std.proofs.Common.{None, ℤ, ◌-ℤ◌, append_assoc, length-append, map, filter}
+use Rattle.std.proofs.Common.{None, ℤ, pos, ◌-ℤ◌, append_assoc, length-append, map, filter, get_or}
 use Rattle.std.specs.Prelude.{cond, Bool, false}
-use Rattle.std.proofs.lemmas.List.{append-nil}
+use Rattle.std.proofs.Math.Seq.{take-append-add}
+use Rattle.std.proofs.lemmas.List.{append-nil, take_more, length-take-le}
 use Rattle.std.proofs.lemmas.Bool.{cases_Bool}
 use Rattle.abc_notes.specs.Pitches.{SoundedNote, counting}
 use Rattle.tune_incipit.specs.Incipits.{counting_pitches, differences, incipit_of}
+use Rattle.tune_incipit.proofs.IncipitLaws.{length-differences}
 use Rattle.tune_incipit.specs.Inside.NextSteps.{steps_and, steps_on, notes_so_far, all_steps}
 
 counting_no : (n : SoundedNote) (rest : List SoundedNote) → n.counts ≡ false → counting_pitches (n ∷ rest) ≡ counting_pitches rest
@@ -99,3 +101,61 @@ pub all_steps-counting : (count : ℕ) (last : Option ℤ) (steps : List ℤ) (n
 unfolding all_steps
 all_steps-counting count last steps notes =
     ap (λ pitches. steps ++ steps_on last (take (count - notes_so_far last steps) pitches)) (counting_again notes)
+
+-- STEPS BETWEEN THE PITCHES IN A ROW
+pub differences_few : (pitches : List ℤ) → length pitches ≤ 1 → differences pitches ≡ []
+unfolding differences
+differences_few [] few = refl
+differences_few (only ∷ []) few = refl
+differences_few (first ∷ second ∷ pitches) few = absurd (omega arith)
+
+-- the steps before a pitch, and those from it on
+pub differences_from : (front : List ℤ) (pitch : ℤ) (rest : List ℤ)
+    → differences (front ++ pitch ∷ rest) ≡ differences (front ++ pitch ∷ []) ++ differences (pitch ∷ rest)
+unfolding differences
+differences_from [] pitch rest = refl
+differences_from (only ∷ []) pitch rest = refl
+differences_from (first ∷ second ∷ front) pitch rest = ap (λ steps. (second -ℤ first) ∷ steps) (differences_from (second ∷ front) pitch rest)
+
+-- one more pitch
+pub differences_more : (pitches : List ℤ) (place : ℕ) → place + 1 < length pitches
+    → differences (take (place + 1 + 1) pitches)
+    ≡ differences (take (place + 1) pitches) ++ (get_or pitches (place + 1) (pos 0) -ℤ get_or pitches place (pos 0)) ∷ []
+unfolding differences
+differences_more pitches place room =
+    let front : List ℤ = take place pitches in
+    let before : ℤ = get_or pitches place (pos 0) in
+    let after : ℤ = get_or pitches (place + 1) (pos 0) in
+    let one : take (place + 1) pitches ≡ front ++ before ∷ [] = take_more pitches place (pos 0) (omega arith) in
+    ap differences (take_more pitches (place + 1) (pos 0) (omega arith) ∙ ap (λ p. p ++ after ∷ []) one ∙ append_assoc front (before ∷ []) (after ∷ []))
+    ∙ differences_from front before (after ∷ [])
+    ∙ ap (λ p. differences p ++ (after -ℤ before) ∷ []) (sym one)
+
+take_behind : (n m : ℕ) (xs ys : List ℤ) → length xs ≡ n → n ≤ m → take m (xs ++ ys) ≡ xs ++ take (m - n) ys
+take_behind n m xs ys long less =
+    let k : m ≡ length xs + (m - n) = omega arith in
+    ap (λ j. take j (xs ++ ys)) k ∙ take-append-add xs ys (m - n)
+
+-- the pitches of so many notes, and the notes that are left, have the steps of all
+pub steps_of_taken : (count taken : ℕ) (pitches : List ℤ) (rest : List SoundedNote) → 0 < taken → taken < count → taken ≤ length pitches
+    → all_steps count (Some (get_or pitches (taken - 1) (pos 0))) (differences (take taken pitches)) rest
+    ≡ differences (take count (take taken pitches ++ counting_pitches rest))
+unfolding all_steps steps_on
+steps_of_taken count taken pitches rest some less within =
+    let last : ℤ = get_or pitches (taken - 1) (pos 0) in
+    let front : List ℤ = take (taken - 1) pitches in
+    let n : taken - 1 + 1 ≡ taken = omega arith in
+    let one : take taken pitches ≡ front ++ last ∷ [] = ap (λ k. take k pitches) (sym n) ∙ take_more pitches (taken - 1) (pos 0) (omega arith) in
+    let long : length (take taken pitches) ≡ taken = length-take-le taken pitches within in
+    let k : count - (length (differences (take taken pitches)) + 1) ≡ count - taken = omega (arith, length-differences (take taken pitches), long) in
+    let later : List ℤ = take (count - taken) (counting_pitches rest) in
+    ap (λ j. differences (take taken pitches) ++ differences (last ∷ take j (counting_pitches rest))) k
+    ∙ ap (λ p. differences p ++ differences (last ∷ later)) one
+    ∙ sym (differences_from front last later)
+    ∙ ap differences (sym (append_assoc front (last ∷ []) later) ∙ ap (λ p. p ++ later) (sym one))
+    ∙ ap differences (sym (take_behind taken count (take taken pitches) (counting_pitches rest) long (omega arith)))
+
+-- where none has come, those that are left have all
+pub steps_of_none : (count : ℕ) (steps : List ℤ) (rest : List SoundedNote) → steps ≡ [] → all_steps count None steps rest ≡ differences (take count (counting_pitches rest))
+unfolding incipit_of
+steps_of_none count steps rest e = all_steps-start count steps rest e

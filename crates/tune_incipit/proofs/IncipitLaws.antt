@@ -10,7 +10,7 @@ use Rattle.abc_keys.specs.Signatures.{no_accidentals}
 use Rattle.abc_notes.specs.Pitches.{SoundedNote}
 use Rattle.tune_incipit.specs.Incipits.{counting_pitches, differences, incipit_of, raised, raised_note}
 
-length-differences : (pitches : List ℤ) → length (differences pitches) ≡ length pitches - 1
+pub length-differences : (pitches : List ℤ) → length (differences pitches) ≡ length pitches - 1
 unfolding differences
 length-differences [] = refl
 length-differences (only ∷ []) = refl

@@ -1,4 +1,4 @@
 pub mod StepRows
-pub mod Growing
 pub mod IncipitLaws
+pub mod Growing
 pub mod Examples

@@ -131,6 +131,7 @@ pub fn key_of_twelve_notes(text: &TuneText) -> Option<IndexKey<48>>
 }
 
 // The key of a tune by its first `notes` notes that count, where it has a step.
+#[inline(always)]
 fn key_of_notes<const W: usize>(notes: usize, text: &TuneText) -> Option<IndexKey<W>>
     requires few { fewest_notes ≤ notes }
     requires many { notes ≤ most_notes }

@@ -1,8 +1,10 @@
 // The steps between the first notes of tunes and of queries.
 ghost use Rattle.std.specs.Prelude.{◌≡◌, ◌+◌, ◌-◌, ◌<◌, ◌≤◌, ◌↔◌, ◌++◌, ◌∷◌, [], List, ℕ, ℤ};
 ghost use Rattle.std.specs.Prelude.{length, count_by, min, IsTrue, IfOk, IsErr, IsOk, option_map};
-ghost use Rattle.std.specs.Prelude.{Some};
-ghost use Rattle.tune_incipit.specs.Incipits.{incipit_of, tune_notes, query_notes, raised};
+ghost use Rattle.std.specs.Prelude.{FitsSigned, Some, take};
+ghost use Rattle.std.specs.Int.{w8};
+ghost use Rattle.std.specs.List.{AllWithin};
+ghost use Rattle.tune_incipit.specs.Incipits.{counting_pitches, differences, incipit_of, tune_notes, query_notes, raised};
 ghost use Rattle.tune_incipit.specs.Inside.NextSteps.{steps_and, all_steps};
 ghost use Rattle.tune_incipit.specs.Inside.StepRows.{most_steps};
 ghost use Rattle.tune_incipit.specs.Limits.{fewest_notes, most_notes};
@@ -72,37 +74,68 @@ fn steps_with(notes: Notes, count: usize, so_far: Steps, last_so_far: Option<Pit
 #[inline(always)]
 fn opening_steps(text: &TuneText, count: usize) -> Steps
     requires few { fewest_notes ≤ count }
-    requires many { count ≤ most_steps + 1 }
+    requires many { count ≤ most_notes }
     ensures { result ≡ incipit_of count (tune_notes text.now) }
 {
     let mut opening = OpeningNotes::of_tune(text);
-    let mut steps = Steps::new();
-    let mut last = None;
-    'notes: loop {
-        let Some(token) = opening.next_plain() else {
-            return steps_of_rest(opening, count, steps, last);
-        };
-        add_note(&mut steps, &mut last, token);
-        if steps.len() + 1 == count {
-            return steps;
-        }
+    let mut pitches = [0; MOST_NOTES];
+    let taken = opening.take_plain(&mut pitches, count);
+    if taken == count {
+        return Steps::between(&pitches, taken);
     }
+    steps_with_rest(&opening, count, &pitches, taken)
 }
 
-// The same as `steps_with`, of what is left of a tune after its opening. It stands apart, so that
-// the way of most tunes is short.
-#[inline(never)]
-fn steps_of_rest(rest: OpeningNotes, count: usize, so_far: Steps, last: Option<Pitch>) -> Steps
-    requires room { length so_far + 1 < count }
-    requires many { count ≤ most_steps + 1 }
+// The same, of the pitches of so many notes and what is left of a tune after them. What is left is
+// copied here alone, so that it need not lie in memory before.
+#[inline(always)]
+fn steps_with_rest(
+    rest: &OpeningNotes,
+    count: usize,
+    pitches: &[i8; MOST_NOTES],
+    taken: usize,
+) -> Steps
+    requires few { fewest_notes ≤ count }
+    requires many { count ≤ most_notes }
+    requires room { taken < count }
+    requires fit { AllWithin (FitsSigned w8) pitches.now 0 taken }
     ensures { result
-        ≡ all_steps count (option_map (λ p. p.semitones) last) so_far rest.entry }
+        ≡ differences (take count (take taken pitches.now ++ counting_pitches rest.now)) }
 {
-    steps_with(rest.into_notes(), count, so_far, last)
+    steps_of_rest(rest.again(), count, pitches, taken)
+}
+
+// The same. It stands apart, so that the way of most tunes is short.
+#[inline(never)]
+fn steps_of_rest(
+    rest: OpeningNotes,
+    count: usize,
+    pitches: &[i8; MOST_NOTES],
+    taken: usize,
+) -> Steps
+    requires few { fewest_notes ≤ count }
+    requires many { count ≤ most_notes }
+    requires room { taken < count }
+    requires fit { AllWithin (FitsSigned w8) pitches.now 0 taken }
+    ensures { result
+        ≡ differences (take count (take taken pitches.now ++ counting_pitches rest.entry)) }
+{
+    let last = if taken == 0 {
+        None
+    } else {
+        Some(Pitch::of_small(pitches[taken - 1]))
+    };
+    steps_with(
+        rest.into_notes(),
+        count,
+        Steps::between(pitches, taken),
+        last,
+    )
 }
 
 /// The incipit of a tune by its first `notes` notes that count, or by all of them where it has
 /// fewer: one step less than notes, and none of no note.
+#[inline(always)]
 pub fn steps(text: &TuneText, notes: usize) -> Steps
     requires few { fewest_notes ≤ notes }
     requires many { notes ≤ most_notes }

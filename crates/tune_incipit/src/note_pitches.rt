@@ -21,4 +21,12 @@ impl Pitch {
             semitones: note.pitch,
         }
     }
+
+    pub fn of_small(semitones: i8) -> Pitch
+        ensures { result.semitones ≡ semitones }
+    {
+        Pitch {
+            semitones: i32::from(semitones),
+        }
+    }
 }

@@ -1,8 +1,13 @@
 // Lists of steps.
-ghost use Rattle.std.specs.Prelude.{◌≡◌, ◌+◌, ◌<◌, ◌≤◌, ◌↔◌, ◌++◌, ◌∷◌, [], length, IsTrue};
+ghost use Rattle.std.specs.Prelude.{◌≡◌, ◌+◌, ◌<◌, ◌≤◌, ◌↔◌, ◌++◌, ◌∷◌, [], length, take, IsTrue};
+ghost use Rattle.std.specs.Prelude.{FitsSigned};
+ghost use Rattle.std.specs.Int.{w8};
+ghost use Rattle.std.specs.List.{AllWithin};
+ghost use Rattle.tune_incipit.specs.Incipits.{differences};
 ghost use Rattle.tune_incipit.specs.Limits.{most_notes};
 ghost use Rattle.tune_incipit.specs.Inside.StepRows.{most_steps};
 
+use crate::incipits::MOST_NOTES;
 use std::marker::Model;
 
 // How many steps there is room for: those between twelve notes.
@@ -45,6 +50,21 @@ impl Steps {
             items: [0; MOST_STEPS],
             count: 0,
         }
+    }
+
+    // The steps between the first so many pitches.
+    #[inline(always)]
+    pub(crate) fn between(pitches: &[i8; MOST_NOTES], notes: usize) -> Steps
+        requires few { notes ≤ most_notes }
+        requires fit { AllWithin (FitsSigned w8) pitches.now 0 notes }
+        ensures { result ≡ differences (take notes pitches.now) }
+    {
+        let count = notes.saturating_sub(1);
+        let mut items = [0; MOST_STEPS];
+        for place in 0..count {
+            items[place] = i32::from(pitches[place + 1]) - i32::from(pitches[place]);
+        }
+        Steps { items, count }
     }
 
     /// The steps, in order.
