@@ -1,7 +1,6 @@
-use Rattle.std.proofs.Common.{◌≡◌, ◌+◌, ◌-◌, ◌<◌, ◌≤◌, ◌∙◌, ◌++◌, [], List, ℤ, length, take, get_or, pos, option_map, Option, Some, None, ap, sym, arith, w8, FitsSigned, to_z, of_z}
+use Rattle.std.proofs.Common.{◌≡◌, ◌-◌, ◌<◌, ◌≤◌, ◌∙◌, ◌++◌, [], ℤ, length, take, get_or, pos, option_map, Some, ap, sym, arith, w8, FitsSigned}
 use Rattle.std.proofs.Math.Facts.{to_z-of_z}
 use Rattle.std.proofs.lemmas.List.{length-take-le}
-use Rattle.abc_notes.specs.Pitches.{SoundedNote}
 use Rattle.tune_incipit.specs.Incipits.{counting_pitches, differences}
 use Rattle.tune_incipit.specs.Inside.NextSteps.{all_steps}
 use Rattle.tune_incipit.proofs.Growing.{differences_few, steps_of_taken, steps_of_none}

@@ -1,10 +1,10 @@
-use Rattle.std.proofs.Common.{◌≡◌, ◌+◌, ◌<◌, ◌∙◌, ◌++◌, ◌∷◌, [], length, take, set, get_or, ℤ, pos, ◌-ℤ◌, w8, w32, FitsSigned, to_z, of_z, ap, sym, subst, refl, arith, inl, inr}
+use Rattle.std.proofs.Common.{◌≡◌, ◌+◌, ◌<◌, ◌∙◌, ◌++◌, ◌∷◌, [], length, take, get_or, ℤ, pos, ◌-ℤ◌, w8, w32, FitsSigned, to_z, of_z, ap, sym, refl, arith, inl, inr}
 use Rattle.std.proofs.Math.Facts.{to_z-of_z}
 use Rattle.std.proofs.lemmas.Bool.{cases_lt}
 use Rattle.std.proofs.lemmas.Int.{ints}
 use Rattle.std.proofs.lemmas.List.{take_more_set, length-take-le}
 use Rattle.tune_incipit.specs.Incipits.{differences}
-use Rattle.tune_incipit.specs.Inside.StepRows.{IsPadded, length-row}
+use Rattle.tune_incipit.specs.Inside.StepRows.{length-row}
 use Rattle.tune_incipit.proofs.Growing.{differences_few, differences_more}
 use Rattle.tune_incipit.proofs.StepRows.{padded_more}
 use Rattle.tune_incipit.proofs.step_lists.Steps.between.Goals as goal
