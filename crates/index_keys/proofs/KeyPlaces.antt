@@ -1,5 +1,5 @@
 -- Keys that rise: a key put in, and what a search says of its place.
-use Rattle.std.proofs.Common.{◌≡◌, ℕ, zero, suc, ◌+◌, ◌<◌, ◌≤◌, List, [], ◌∷◌, length, get_or, refl, sym, ap, subst, ◌∙◌, arith, Bool, true, false, IsTrue}
+use Rattle.std.proofs.Common.{◌≡◌, ℕ, zero, suc, ◌+◌, ◌<◌, ◌≤◌, List, [], ◌∷◌, ◌++◌, length, get_or, refl, sym, ap, subst, ◌∙◌, arith, Bool, true, false, IsTrue}
 use Rattle.std.specs.List.{insert, HoldsAt}
 use Rattle.index_keys.specs.KeyLists.{KeysRise, with_key}
 use Rattle.index_keys.specs.Inside.KeyOrder.{with_front, with_later, with_there}
@@ -65,3 +65,17 @@ pub keeps : (keys s t : List ℕ) (i : ℕ) (key : ℕ) (b : Bool) → Searched 
 keeps keys s t i key b h is up =
     subst (λ (x : List ℕ). x ≡ with_key key x) h.second
     (sym (with-same t i key (found keys s t i key b h up) (h.here is) (λ d. h.equal (found keys s t i key b h up) is d)))
+
+-- behind the others
+with_last : (keys : List ℕ) (key : ℕ) → IsKeyPlace key keys (length keys) → with_key key keys ≡ keys ++ key ∷ []
+with_last [] key p = refl
+with_last (x ∷ xs) key p =
+    with_later key x xs (p.smaller_before 0 0 (omega arith))
+    ∙ ap (λ (r : List ℕ). x ∷ r) (with_last xs key (place_tail key x xs (length xs) p))
+
+pub puts_last : (keys s more : List ℕ) (i : ℕ) (key : ℕ) → s ≡ keys → (KeysRise 0 s → IsKeyPlace key s i) → i ≡ length keys → more ≡ keys ++ key ∷ []
+    → KeysRise 0 keys → more ≡ with_key key keys
+puts_last keys s more i key first place last e up =
+    let at : IsKeyPlace key s i = place (subst (λ (x : List ℕ). KeysRise 0 x) (sym first) up) in
+    let own : IsKeyPlace key keys i = subst (λ (x : List ℕ). IsKeyPlace key x i) first at in
+    e ∙ sym (with_last keys key (subst (λ (n : ℕ). IsKeyPlace key keys n) last own))

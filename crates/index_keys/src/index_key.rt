@@ -35,6 +35,13 @@ impl<const W: usize> Model for IndexKey<W> {
     ghost inverse_ok = { λ key is i. record { bytes = bytes_back W key.bytes is i } };
 }
 
+impl<const W: usize> Default for IndexKey<W> {
+    /// The key of zeros, which fills the places of a row that have no key yet.
+    fn default() -> Self {
+        IndexKey::new([0; W])
+    }
+}
+
 impl<const W: usize> IndexKey<W> {
     /// The key of these bytes.
     pub fn new(bytes: [u8; W]) -> Self

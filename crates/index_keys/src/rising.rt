@@ -1,11 +1,12 @@
 // Keys in rising order, each once.
-ghost use Rattle.std.specs.Prelude.{◌≡◌, ◌≤◌, ◌<◌, length, IfErr, OnOk, IsTrue, false};
+ghost use Rattle.std.specs.Prelude.{◌≡◌, ◌≤◌, ◌<◌, ◌+◌, length, IsTrue, false};
 ghost use Rattle.std.specs.List.{HoldsAt};
+ghost use Rattle.arrayvec.specs.ArrayVec.{array_vec_len};
 ghost use Rattle.index_keys.specs.KeyLists.{KeysRise, with_key};
 ghost use Rattle.index_keys.specs.Inside.KeyPlaces.{IsKeyPlace};
 
 use crate::index_key::IndexKey;
-use std::alloc::AllocError;
+use arrayvec::ArrayVec;
 
 // Where a key is, or where it would go.
 fn place_of<const W: usize>(keys: &[IndexKey<W>], key: &IndexKey<W>) -> usize
@@ -40,22 +41,21 @@ fn is_at<const W: usize>(keys: &[IndexKey<W>], place: usize, key: &IndexKey<W>) 
     }
 }
 
-/// Puts a key into keys that rise, unless it is there.
-///
-/// # Errors
-///
-/// There is no memory: the keys are as they were.
-pub fn add_key<const W: usize>(
-    keys: &mut Vec<IndexKey<W>>,
+/// Puts a key into keys that rise, unless it is there: they are one more at most.
+pub fn add_key<const W: usize, const N: usize>(
+    keys: &mut ArrayVec<IndexKey<W>, N>,
     key: IndexKey<W>,
-) -> Result<(), AllocError>
+)
+    requires room { array_vec_len keys.old < N }
     ensures added { KeysRise 0 keys.old.items
-        → OnOk result (keys.new.items ≡ with_key key.entry keys.old.items) }
-    ensures kept { IfErr result (λ _. keys.new.items ≡ keys.old.items) }
+        → keys.new.items ≡ with_key key.entry keys.old.items }
+    ensures most { array_vec_len keys.new ≤ array_vec_len keys.old + 1 }
 {
-    let place = place_of(keys, &key);
-    if !is_at(keys, place, &key) {
-        keys.insert(place, key)?;
+    let place = place_of(keys.as_slice(), &key);
+    // Behind the others, where most keys go, nothing has to move.
+    if place == keys.len() {
+        keys.push(key);
+    } else if !is_at(keys.as_slice(), place, &key) {
+        keys.insert(place, key);
     }
-    Ok(())
 }

@@ -17,7 +17,7 @@ mod title_rows;
 
 pub use lists::{TitleList, titles_of};
 pub use matching::{TitlePrefix, prefix_matches, rhythm_matches, title_matches_tune};
-pub use search_keys::{RhythmKeys, TitleKeys, key_of_rhythm, keys_of_titles};
+pub use search_keys::{RhythmKeys, TitleKeys, key_of_rhythm, key_of_title, row_of_title_keys};
 pub use shown::{index_title, sort_title};
 pub use shown_rows::{ShownRow, sort_shown};
 pub use title_rows::{TitleRow, sort_rows};

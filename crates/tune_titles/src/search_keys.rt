@@ -8,7 +8,8 @@ ghost use Rattle.tune_titles.specs.Titles.{sorting_title};
 
 use crate::articles::rest_of;
 use crate::matching::{TitlePrefix, rhythm_matches};
-use abc_fields::{Titles, TuneText, fields, trim_blanks};
+use abc_fields::{MOST_TITLES, Titles, TuneText, fields, trim_blanks};
+use arrayvec::ArrayVec;
 use index_keys::{IndexKey, Keyed, add_key};
 use std::alloc::{AllocError, Global};
 use std::marker::PhantomData;
@@ -50,7 +51,7 @@ impl<'a> Keyed<32> for TitleKeys<'a> {
     fn keys(alloc: Global, text: &TuneText) -> Result<Vec<IndexKey<32>>, AllocError>
         ensures { IfOk result (λ keys. keys.items ≡ title_keys text.now) }
     {
-        keys_of_titles(alloc, &fields(text).titles)
+        Vec::from_slice(alloc, row_of_title_keys(&fields(text).titles).as_slice())
     }
 
     fn range(query: &TitlePrefix<'a>) -> (IndexKey<32>, IndexKey<32>)
@@ -109,32 +110,30 @@ impl<'a> Keyed<32> for RhythmKeys<'a> {
     }
 }
 
-// The key of a title.
-fn title_key(title: &[u8]) -> IndexKey<32>
+/// The key of a tune by one of its titles.
+#[inline(always)]
+pub fn key_of_title(title: &[u8]) -> IndexKey<32>
     ensures { result ≡ cut_number 32 0 (sorting_title title.now) }
 {
     IndexKey::cut_small(rest_of(trim_blanks(title)), 0)
 }
 
 /// The keys of a tune that has these titles, rising, each once.
-///
-/// # Errors
-///
-/// There is no memory.
-pub fn keys_of_titles(alloc: Global, titles: &Titles) -> Result<Vec<IndexKey<32>>, AllocError>
-    ensures { IfOk result (λ keys. keys.items ≡ title_keys_of titles.now) }
+pub fn row_of_title_keys(titles: &Titles) -> ArrayVec<IndexKey<32>, MOST_TITLES>
+    ensures { result.items ≡ title_keys_of titles.now }
 {
-    let titles = titles.as_slice();
-    let mut keys = Vec::with_capacity(alloc, titles.len())?;
+    let mut keys = ArrayVec::new();
     let mut left = titles.len();
+    let titles = titles.as_slice();
     while left > 0 {
         left -= 1;
-        add_key(&mut keys, title_key(titles[left]))?;
+        add_key(&mut keys, key_of_title(titles[left]));
     }
-    Ok(keys)
+    keys
 }
 
 /// The key of a tune that has this rhythm, where it has one.
+#[inline(always)]
 pub fn key_of_rhythm(rhythm: Option<&[u8]>) -> Option<IndexKey<32>>
     ensures { option_to_list result ≡ rhythm_keys_of (option_copied rhythm.entry) }
 {

@@ -4,7 +4,7 @@ use Rattle.index_keys.specs.Cuts.{cut_number}
 use Rattle.index_keys.specs.KeyLists.{with_key, rising_keys}
 use Rattle.index_keys.specs.Inside.KeyOrder.{keys_rise}
 use Rattle.tune_titles.specs.Titles.{sorting_title}
-use Rattle.tune_titles.proofs.search_keys.keys_of_titles.Goals as goal
+use Rattle.tune_titles.proofs.search_keys.row_of_title_keys.Goals as goal
 
 abbrev keys_from : List (Bor (List ℕ)) → ℕ → List ℕ
 keys_from titles from = rising_keys (map (λ title. cut_number 32 0 (sorting_title title.now)) (drop from titles))
@@ -29,8 +29,9 @@ loop-left-preserved c =
     let inv = c.loop-left.invariant in
     record {
       within = omega (arith, inv.within);
-      keys = c.in_ok-add_key.ensures.added (rw inv.keys (keys_rise (map (λ title. cut_number 32 0 (sorting_title title.now)) (drop c.loop-left.left titles))))
-          ∙ ap (λ (key : ℕ). with_key key c.loop-left.keys.items) c.title_key.ensures
+      room = omega (arith, c.add_key.ensures.most, inv.room, c.loop-left-test.true);
+      keys = c.add_key.ensures.added (rw inv.keys (keys_rise (map (λ title. cut_number 32 0 (sorting_title title.now)) (drop c.loop-left.left titles))))
+          ∙ ap (λ (key : ℕ). with_key key c.loop-left.keys.items) c.key_of_title.ensures
           ∙ ap (λ (keys : List ℕ). with_key (cut_number 32 0 (sorting_title (get_or titles (c.loop-left.left - 1) (record { ref_ptr = (0, 0); now = [] })).now))
           keys) inv.keys
           ∙ sym (one_more titles c.loop-left.left (record { ref_ptr = (0, 0); now = [] }) (omega (arith, c.loop-left-test.true)) inv.within);
