@@ -3,5 +3,4 @@ pub mod EntryLinks
 pub mod HeldKeys
 pub mod IncipitLinks
 pub mod TextEntries
-pub mod TextKeys
 pub mod Lengthening

@@ -1,8 +1,13 @@
 // What an opening compares: the entries of the search indexes are those of the tunes.
-ghost use Rattle.std.specs.Prelude.{◌≡◌, ◌↔◌, ◌^◌, ◌<◌, ℕ, List, length, map, slice_index};
-ghost use Rattle.std.specs.Prelude.{Contains, IfOk, IfSome, IsTrue, None};
+ghost use Rattle.std.specs.Prelude.{◌≡◌, ◌↔◌, ◌^◌, ◌<◌, ℕ, List, [], ◌∷◌, length, map};
+ghost use Rattle.std.specs.Prelude.{slice_index, Contains, IfOk, IfSome, IsTrue, None};
 ghost use Rattle.std.specs.List.{AllByRecursion};
 ghost use Rattle.std.specs.List.Sorted.{IsStrictlyIncreasing};
+ghost use Rattle.std.specs.Option.{option_to_list};
+ghost use Rattle.index_keys.specs.Holdings.{keys_at};
+ghost use Rattle.index_keys.specs.KeyLists.{rising_keys};
+ghost use Rattle.tune_titles.specs.TitleAndRhythmKeys.{title_keys_of};
+ghost use Rattle.tune_search.specs.Inside.EntryLinks.{AreNexts, place_from};
 ghost use Rattle.tune_search.specs.SearchClaims.{AreAllKnown, HoldByNumber, StandsAtKeys, runs_of};
 ghost use Rattle.tune_search.specs.IncipitForms.{entries_in, notes_of_entries};
 ghost use Rattle.tune_search.specs.Searches.{SearchRuns};
@@ -10,11 +15,13 @@ ghost use Rattle.tune_search.specs.Searches.{SearchRuns};
 use crate::incipit_claims::{IncipitClaims, has_incipit, incipit_claims_of};
 use crate::incipit_entries::IncipitEntries;
 use crate::key_claims::{KeyClaims, claims_of, has_keys};
-use crate::text_keys::TextKeys;
-use abc_fields::TuneText;
+use abc_fields::{Titles, TuneText, fields};
 use index_keys::IndexKey;
 use std::alloc::{AllocError, Global};
+use std::cmp::Ordering;
 use std::marker::Model;
+use tune_incipit::key_of_scale;
+use tune_titles::{key_of_rhythm, key_of_title, row_of_title_keys};
 
 /// The entries of the four search indexes as an opening compares them with the tunes, one tune
 /// after another. A clause sees the numbers of the tunes and the entries of each index.
@@ -118,27 +125,80 @@ impl SearchClaims {
 
     /// Whether the number at this place stands at exactly the keys of the text, in each of the four
     /// indexes. It compares the keys of the text and the entries of the number alone.
-    ///
-    /// # Errors
-    ///
-    /// There is no memory.
-    pub fn claim_tune(
-        &self,
-        alloc: Global,
-        place: usize,
-        text: &TuneText,
-    ) -> Result<bool, AllocError>
+    pub fn claim_tune(&self, place: usize, text: &TuneText) -> bool
         requires { place < length self.now.numbers }
-        ensures { IfOk result (λ claimed. IsTrue claimed
-            ↔ StandsAtKeys self.now.runs (slice_index self.now.numbers place) text.now) }
+        ensures { IsTrue result
+            ↔ StandsAtKeys self.now.runs (slice_index self.now.numbers place) text.now }
     {
-        let keys = TextKeys::of(alloc, text)?;
-        Ok(
-            has_keys(&self.titles, place, &keys.titles)
-                && has_keys(&self.rhythms, place, keys.rhythm.as_slice())
-                && has_keys(&self.scales, place, keys.scale.as_slice())
-                && has_incipit(&self.incipits, place, text),
-        )
+        let fields = fields(text);
+        has_titles(&self.titles, place, &fields.titles)
+            && has_single(&self.rhythms, place, key_of_rhythm(fields.rhythm))
+            && has_single(&self.scales, place, key_of_scale(fields.key))
+            && has_incipit(&self.incipits, place, text)
+    }
+}
+
+// Whether the number at this place stands at exactly the keys of these titles. Most tunes have one
+// title or two, whose keys need no row.
+#[inline(always)]
+fn has_titles(claims: &KeyClaims<32>, place: usize, titles: &Titles) -> bool
+    requires place { place < length claims.now.firsts.items }
+    requires nexts { AreNexts claims.now.entries.items claims.now.nexts.items }
+    ensures { let entries = claims.now.entries.items in
+        let first = slice_index claims.now.firsts.items place in
+        (number : ℕ) → first ≡ place_from number 0 entries
+        → (IsTrue result ↔ (keys_at number entries ≡ title_keys_of titles.now)) }
+{
+    match titles.as_slice() {
+        [one] => has_keys(claims, place, &[key_of_title(one)]),
+        [one, other] => has_pair(claims, place, key_of_title(one), key_of_title(other)),
+        _ => has_row(claims, place, titles),
+    }
+}
+
+// The same of any number of titles. A row is large, so only the call that needs it makes room.
+#[inline(never)]
+fn has_row(claims: &KeyClaims<32>, place: usize, titles: &Titles) -> bool
+    requires place { place < length claims.now.firsts.items }
+    requires nexts { AreNexts claims.now.entries.items claims.now.nexts.items }
+    ensures { let entries = claims.now.entries.items in
+        let first = slice_index claims.now.firsts.items place in
+        (number : ℕ) → first ≡ place_from number 0 entries
+        → (IsTrue result ↔ (keys_at number entries ≡ title_keys_of titles.now)) }
+{
+    has_keys(claims, place, row_of_title_keys(titles).as_slice())
+}
+
+// Whether the number at this place stands at exactly these two keys, which may be the same.
+#[inline(always)]
+fn has_pair(claims: &KeyClaims<32>, place: usize, one: IndexKey<32>, other: IndexKey<32>) -> bool
+    requires place { place < length claims.now.firsts.items }
+    requires nexts { AreNexts claims.now.entries.items claims.now.nexts.items }
+    ensures { let entries = claims.now.entries.items in
+        let first = slice_index claims.now.firsts.items place in
+        (number : ℕ) → first ≡ place_from number 0 entries
+        → (IsTrue result ↔ (keys_at number entries ≡ rising_keys (one ∷ other ∷ []))) }
+{
+    match one.compare(0, &other, 0) {
+        Ordering::Less => has_keys(claims, place, &[one, other]),
+        Ordering::Equal => has_keys(claims, place, &[one]),
+        Ordering::Greater => has_keys(claims, place, &[other, one]),
+    }
+}
+
+// Whether the number at this place stands at exactly this key, or at none.
+#[inline(always)]
+fn has_single(claims: &KeyClaims<32>, place: usize, key: Option<IndexKey<32>>) -> bool
+    requires place { place < length claims.now.firsts.items }
+    requires nexts { AreNexts claims.now.entries.items claims.now.nexts.items }
+    ensures { let entries = claims.now.entries.items in
+        let first = slice_index claims.now.firsts.items place in
+        (number : ℕ) → first ≡ place_from number 0 entries
+        → (IsTrue result ↔ (keys_at number entries ≡ option_to_list key)) }
+{
+    match key {
+        Some(key) => has_keys(claims, place, &[key]),
+        None => has_keys(claims, place, &[]),
     }
 }
 

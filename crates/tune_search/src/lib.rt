@@ -20,7 +20,6 @@ mod runs;
 mod searches;
 mod single_claims;
 mod storing;
-mod text_keys;
 
 pub use claims::{SearchClaims, law_of_claims};
 pub use incipit_entries::{IncipitEntries, IncipitNotes};

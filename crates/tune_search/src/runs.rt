@@ -10,12 +10,13 @@ ghost use Rattle.tune_search.specs.Inside.TextEntries.{entries_at};
 ghost use Rattle.tune_search.specs.Searches.{AreRunsOf, numbered};
 
 use crate::incipit_entries::{IncipitEntries, IncipitNotes};
-use crate::text_keys::TextKeys;
-use abc_fields::TuneText;
+use abc_fields::{TuneText, fields};
 use index_keys::IndexKey;
 use std::alloc::{AllocError, Global};
 use std::cmp::Ordering;
 use std::marker::Model;
+use tune_incipit::key_of_scale;
+use tune_titles::{key_of_rhythm, row_of_title_keys};
 
 /// The entries of some texts in each of the search indexes, in order: what goes into these indexes
 /// or out of them.
@@ -64,11 +65,19 @@ impl Runs {
         let mut scales = Vec::with_capacity(alloc, texts.len())?;
         let mut incipits = IncipitEntries::with_capacity(alloc, notes, texts.len())?;
         for (place, text) in texts.iter().enumerate() {
-            let keys = TextKeys::of(alloc, text)?;
+            let fields = fields(text);
             let number = first + place as u32;
-            add_entries(number, &keys.titles, &mut titles)?;
-            add_entries(number, keys.rhythm.as_slice(), &mut rhythms)?;
-            add_entries(number, keys.scale.as_slice(), &mut scales)?;
+            add_entries(
+                number,
+                row_of_title_keys(&fields.titles).as_slice(),
+                &mut titles,
+            )?;
+            add_entries(
+                number,
+                key_of_rhythm(fields.rhythm).as_slice(),
+                &mut rhythms,
+            )?;
+            add_entries(number, key_of_scale(fields.key).as_slice(), &mut scales)?;
             incipits.add_text(number, text)?;
         }
         Ok(Runs {

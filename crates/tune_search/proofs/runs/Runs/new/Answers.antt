@@ -1,11 +1,12 @@
-use Rattle.std.proofs.Common.{◌≡◌, ◌∙◌, sym}
+use Rattle.std.proofs.Common.{◌≡◌, ℕ, List, ◌∙◌, ap, sym}
 use Rattle.tune_incipit.specs.Incipits.{incipit_of, tune_notes}
 use Rattle.tune_incipit.specs.Inside.KeyLaws.{incipit_rises, scales_rise}
-use Rattle.tune_incipit.specs.ScaleAndIncipitKeys.{incipit_keys, scale_keys}
+use Rattle.tune_incipit.specs.Scales.{scale_of_text}
+use Rattle.tune_incipit.specs.ScaleAndIncipitKeys.{incipit_keys, scale_keys, scale_keys_of}
 use Rattle.tune_search.specs.IncipitForms.{entries_in, notes_in, notes_of_entries}
 use Rattle.tune_search.specs.Searches.{incipit_bytes, key_bytes, numbered}
 use Rattle.tune_titles.specs.Inside.KindLaws.{rhythm_rises, titles_rise}
-use Rattle.tune_titles.specs.TitleAndRhythmKeys.{rhythm_keys, title_keys}
+use Rattle.tune_titles.specs.TitleAndRhythmKeys.{rhythm_keys, rhythm_keys_of, title_keys, title_keys_of}
 use Rattle.tune_search.proofs.TextRuns.{gathered_more, is_run_of, shown_alone}
 use Rattle.tune_search.proofs.AsManyNotes.{notes_more, notes_run}
 use Rattle.tune_search.proofs.runs.Runs.new.Goals as goal
@@ -18,14 +19,16 @@ loop-place-preserved c =
     let text = c.index-texts-place.result in
     let l = c.loop-place-test.true in
     let is = c.index-texts-place.is in
-    let keys = c.in_ok-keys.ensures in
+    let header = c.fields-fields.ensures in
     let was = c.loop-place in
-    let slice = c.deref.result.now in
-    let rhythm = c.as_slice.result.now in
-    let scale = c.as_slice-in-loop-place.result.now in
-    let own_title = c.deref.ensures.value ∙ keys.titles in
-    let own_rhythm = shown_alone c.in_ok-keys.keys.rhythm rhythm c.as_slice.ensures ∙ keys.rhythm in
-    let own_scale = shown_alone c.in_ok-keys.keys.scale scale c.as_slice-in-loop-place.ensures ∙ keys.scale in
+    let slice = c.as_slice.result.now in
+    let rhythm = c.as_slice-in-loop-place.result.now in
+    let scale = c.as_slice-in-loop-place-2.result.now in
+    let own_title = c.as_slice.ensures.value ∙ c.row_of_title_keys.ensures ∙ ap title_keys_of header.titles in
+    let own_rhythm = shown_alone c.key_of_rhythm.result rhythm c.as_slice-in-loop-place.ensures ∙ c.key_of_rhythm.ensures
+    ∙ ap rhythm_keys_of header.rhythm in
+    let own_scale = shown_alone c.key_of_scale.result scale c.as_slice-in-loop-place-2.ensures ∙ c.key_of_scale.ensures
+    ∙ ap (λ (key : List ℕ). scale_keys_of (scale_of_text key)) header.key in
     let titles = c.add_entries.new.run.items in
     let rhythms = c.add_entries-in-loop-place.new.run.items in
     let scales = c.add_entries-in-loop-place-2.new.run.items in
