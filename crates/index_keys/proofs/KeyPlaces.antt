@@ -1,5 +1,6 @@
 -- Keys that rise: a key put in, and what a search says of its place.
-use Rattle.std.proofs.Common.{◌≡◌, ℕ, zero, suc, ◌+◌, ◌<◌, ◌≤◌, List, [], ◌∷◌, ◌++◌, length, get_or, refl, sym, ap, subst, ◌∙◌, arith, Bool, true, false, IsTrue}
+use Rattle.std.proofs.Common.{◌≡◌, ℕ, zero, suc, ◌+◌, ◌<◌, ◌≤◌, List, [], ◌∷◌, ◌++◌}
+use Rattle.std.proofs.Common.{length, get_or, refl, sym, ap, subst, ◌∙◌, arith, Bool, true, false, IsTrue}
 use Rattle.std.specs.List.{insert, HoldsAt}
 use Rattle.index_keys.specs.KeyLists.{KeysRise, with_key}
 use Rattle.index_keys.specs.Inside.KeyOrder.{with_front, with_later, with_there}

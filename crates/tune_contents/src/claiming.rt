@@ -454,18 +454,17 @@ fn claim_tune<D: Disk>(
     claim_part(opening, row.first, most, chain)?;
     let (text, revision) = text_of(alloc, layout, chain)?;
     let length = text.bytes().len() as u32;
-    let claimed = claims.claim_tune(alloc, place, &text);
+    let claimed = claims.claim_tune(place, &text);
     chain.text = text.into_vec();
-    match claimed {
-        Ok(true) => Ok(Row {
-            number: row.number,
-            revision,
-            first: row.first,
-            length,
-        }),
-        Ok(false) => Err(ClaimFault::Damaged),
-        Err(_) => Err(ClaimFault::OutOfMemory),
+    if !claimed {
+        return Err(ClaimFault::Damaged);
     }
+    Ok(Row {
+        number: row.number,
+        revision,
+        first: row.first,
+        length,
+    })
 }
 
 // The text of the tune of a chain, in the memory that the chain has for it, and its revision.

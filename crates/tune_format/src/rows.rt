@@ -41,9 +41,8 @@ pub fn number_of_key(key: &IndexKey<32>) -> Option<u32>
     ensures some { IfSome result (λ number. number_key number ≡ key.now) }
     ensures none { IfNone result ((number : ℕ) → number < 2 ^ 32 → number_key number ≢ key.now) }
 {
-    let bytes = key.bytes();
-    let number = BigEndian::read_u32(bytes);
-    if key_of_number(number).bytes() == bytes {
+    let number = BigEndian::read_u32(key.bytes());
+    if key_of_number(number).is_same(key) {
         Some(number)
     } else {
         None

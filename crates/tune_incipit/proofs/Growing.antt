@@ -156,6 +156,7 @@ steps_of_taken count taken pitches rest some less within =
     ∙ ap differences (sym (take_behind taken count (take taken pitches) (counting_pitches rest) long (omega arith)))
 
 -- where none has come, those that are left have all
-pub steps_of_none : (count : ℕ) (steps : List ℤ) (rest : List SoundedNote) → steps ≡ [] → all_steps count None steps rest ≡ differences (take count (counting_pitches rest))
+pub steps_of_none : (count : ℕ) (steps : List ℤ) (rest : List SoundedNote) → steps ≡ []
+    → all_steps count None steps rest ≡ differences (take count (counting_pitches rest))
 unfolding incipit_of
 steps_of_none count steps rest e = all_steps-start count steps rest e

@@ -4,7 +4,8 @@ ghost use Rattle.std.specs.Prelude.{length, count_by, min, IsTrue, IfOk, IsErr, 
 ghost use Rattle.std.specs.Prelude.{FitsSigned, Some, take};
 ghost use Rattle.std.specs.Int.{w8};
 ghost use Rattle.std.specs.List.{AllWithin};
-ghost use Rattle.tune_incipit.specs.Incipits.{counting_pitches, differences, incipit_of, tune_notes, query_notes, raised};
+ghost use Rattle.tune_incipit.specs.Incipits.{counting_pitches, differences, incipit_of};
+ghost use Rattle.tune_incipit.specs.Incipits.{query_notes, raised, tune_notes};
 ghost use Rattle.tune_incipit.specs.Inside.NextSteps.{steps_and, all_steps};
 ghost use Rattle.tune_incipit.specs.Inside.StepRows.{most_steps};
 ghost use Rattle.tune_incipit.specs.Limits.{fewest_notes, most_notes};

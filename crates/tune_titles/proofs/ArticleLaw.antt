@@ -163,7 +163,8 @@ word_before (x ∷ word) later is blank =
     let more = word_before word later both.1 blank in
     (rw ink (ap (λ t. x ∷ t) more.0), rw ink more.1)
 
-pub parts_some : (is : Bool) (article rest : List ℕ) (p : Parts) → parts_if is article rest ≡ Some p → (is ≡ true) × (record { article = article; rest = rest } ≡ p)
+pub parts_some : (is : Bool) (article rest : List ℕ) (p : Parts) → parts_if is article rest ≡ Some p
+    → (is ≡ true) × (record { article = article; rest = rest } ≡ p)
 parts_some true article rest p e = (refl, cc)
 parts_some false article rest p e = cc
 

@@ -4,7 +4,8 @@ use Rattle.index_keys.proofs.rising.add_key.Goals as goal
 
 pub returns-then-not-is_at-clause-added : goal.returns-then-not-is_at-clause-added
 returns-then-not-is_at-clause-added g c = λ up.
-    let h : Searched c.args.keys.now.items c.as_slice.result.now c.as_slice-else-place-len.result.now c.place_of-place.result c.args.key c.is_at.result = record {
+    let h : Searched c.args.keys.now.items c.as_slice.result.now c.as_slice-else-place-len.result.now c.place_of-place.result
+    c.args.key c.is_at.result = record {
       first = c.as_slice.ensures.value;
       second = c.as_slice-else-place-len.ensures.value;
       place = c.place_of-place.ensures.place;
@@ -16,7 +17,8 @@ returns-then-not-is_at-clause-added g c = λ up.
 
 pub returns-else-not-is_at-clause-added : goal.returns-else-not-is_at-clause-added
 returns-else-not-is_at-clause-added g c = λ up.
-    let h : Searched c.args.keys.now.items c.as_slice.result.now c.as_slice-else-place-len.result.now c.place_of-place.result c.args.key c.is_at.result = record {
+    let h : Searched c.args.keys.now.items c.as_slice.result.now c.as_slice-else-place-len.result.now c.place_of-place.result
+    c.args.key c.is_at.result = record {
       first = c.as_slice.ensures.value;
       second = c.as_slice-else-place-len.ensures.value;
       place = c.place_of-place.ensures.place;
