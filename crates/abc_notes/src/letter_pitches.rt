@@ -12,6 +12,9 @@ use abc_items::Item;
 use abc_keys::{Accidental, Letter, Signature};
 use std::marker::Model;
 
+// The first of the bytes that name letters, `A`.
+const FIRST: usize = 65;
+
 // How many bytes there are from `A` to `g`.
 const NAMES: usize = 39;
 
@@ -93,7 +96,7 @@ fn pitch_of_name(row: &[i8; NAMES], name: u8) -> i8
     requires { is_note_name name ≡ true }
     ensures { (s : AnySignature) → row.now ≡ name_pitches s → result ≡ name_pitch s name }
 {
-    row[(name - b'A') as usize]
+    row[name as usize - FIRST]
 }
 
 // The pitch of a letter with an accidental, in octave 0.
