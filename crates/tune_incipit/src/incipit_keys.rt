@@ -138,6 +138,11 @@ fn key_of_notes<const W: usize>(notes: usize, text: &TuneText) -> Option<IndexKe
     ensures { option_to_list result ≡ incipit_keys_of W (incipit_of notes (tune_notes text.now)) }
 {
     let own = steps(text, notes);
+    // Most tunes have all the notes. Where the number of steps is known, their bytes are put with
+    // less work.
+    if own.len() == MOST_STEPS {
+        return Some(key_of_steps(&own, 0));
+    }
     if own.is_empty() {
         None
     } else {
