@@ -336,10 +336,11 @@ fn lone_kind(byte: u8) -> Kind
     }
 }
 
+// Whether a byte names a letter. A small letter is its capital with one bit more.
 fn is_note_name(byte: u8) -> bool
     ensures { result ≡ is_note_name byte }
 {
-    matches!(byte | b' ', b'a'..=b'g')
+    matches!(byte | 0x20, b'a'..=b'g')
 }
 
 // The item at the front of a text: the first row that fits.
