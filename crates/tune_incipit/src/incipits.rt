@@ -1,5 +1,5 @@
 // The steps between the first notes of tunes and of queries.
-ghost use Rattle.std.specs.Prelude.{◌≡◌, ◌+◌, ◌-◌, ◌<◌, ◌≤◌, ◌↔◌, ◌++◌, ◌∷◌, [], List, ℕ, ℤ};
+ghost use Rattle.std.specs.Prelude.{◌≡◌, ◌+◌, ◌-◌, ◌<◌, ◌≤◌, ◌↔◌, ◌++◌, List, ℕ, ℤ};
 ghost use Rattle.std.specs.Prelude.{length, count_by, min, IsTrue, IfOk, IsErr, IsOk, option_map};
 ghost use Rattle.std.specs.Prelude.{FitsSigned, Some, take};
 ghost use Rattle.std.specs.Int.{w8};
