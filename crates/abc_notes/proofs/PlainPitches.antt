@@ -7,9 +7,10 @@ use Rattle.abc_notes.specs.Inside.BareNotes.{bare_note}
 use Rattle.abc_notes.specs.Music.{written}
 use Rattle.abc_notes.specs.Pitches.{SoundedNote, counting}
 
-pub pitches_more : (s : Signature) (base : ℕ) (span : ItemSpan) (rest : List SoundedNote) (row : List ℤ) (taken : ℕ) (put : ℤ) → taken < length row
-    → put ≡ (bare_note s base span).pitch
-    → take taken row ++ map (λ n. n.pitch) (counting (bare_note s base span ∷ rest)) ≡ take (taken + 1) (set row taken put) ++ map (λ n. n.pitch) (counting rest)
+pub pitches_more : (s : Signature) (base : ℕ) (span : ItemSpan) (rest : List SoundedNote) (row : List ℤ) (taken : ℕ) (put : ℤ)
+    → taken < length row → put ≡ (bare_note s base span).pitch
+    → take taken row ++ map (λ n. n.pitch) (counting (bare_note s base span ∷ rest))
+    ≡ take (taken + 1) (set row taken put) ++ map (λ n. n.pitch) (counting rest)
 unfolding written
 pitches_more s base span rest row taken put room is =
     let later : List ℤ = map (λ n. n.pitch) (counting rest) in

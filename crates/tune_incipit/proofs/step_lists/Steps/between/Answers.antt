@@ -1,5 +1,5 @@
-use Rattle.std.proofs.Common.{◌≡◌, ◌+◌, ◌<◌, ◌∙◌, ◌++◌, ◌∷◌, [], length, take, get_or, ℤ, pos, ◌-ℤ◌, w8, w32}
-use Rattle.std.proofs.Common.{FitsSigned, to_z, of_z, ap, sym, refl, arith, inl, inr}
+use Rattle.std.proofs.Common.{◌≡◌, ◌+◌, ◌<◌, ◌∙◌, ◌++◌, ◌∷◌, [], length, take, get_or, ℤ, pos, ◌-ℤ◌}
+use Rattle.std.proofs.Common.{w8, w32, FitsSigned, to_z, of_z, ap, sym, refl, arith, inl, inr}
 use Rattle.std.proofs.Math.Facts.{to_z-of_z}
 use Rattle.std.proofs.lemmas.Bool.{cases_lt}
 use Rattle.std.proofs.lemmas.Int.{ints}
@@ -54,7 +54,8 @@ returns c =
     ∙ elim (cases_lt 0 c.args.notes) [
       | inl some ↦ ap (λ n. differences (take n row)) (omega (arith, end, some, c.saturating_sub-count.ensures))
       | inr none ↦
-          differences_few (take (c.loop-place.place + 1) row) (omega (
+          differences_few (take (c.loop-place.place + 1) row)
+          (omega (
             arith,
             length-take-le (c.loop-place.place + 1) row (omega (arith, c.told-pitches, end, none, c.saturating_sub-count.ensures)),
             end,
