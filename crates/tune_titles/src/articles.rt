@@ -4,7 +4,7 @@ ghost use Rattle.std.specs.Prelude.{None, Some, IfNone, IfSome, true, false};
 ghost use Rattle.std.specs.Char.{to_ascii_lowercase};
 ghost use Rattle.std.specs.Str.{bytes_eq};
 ghost use Rattle.abc_fields.specs.Bytes.{begins, is_blank};
-ghost use Rattle.tune_titles.specs.Articles.{small_letters, is_article, title_rest};
+ghost use Rattle.tune_titles.specs.Articles.{small_letters, is_article, rest_or, title_rest};
 ghost use Rattle.tune_titles.specs.Articles.{leading, leading_at, trailing, trailing_at};
 ghost use Rattle.tune_titles.specs.Inside.ArticleBytes.{begins_word, ends_article};
 
@@ -125,22 +125,7 @@ fn leading_at<'a>(article: &'a [u8], later: &'a [u8]) -> Option<Parts<'a>>
 }
 
 // The article at the end of a title, which has no blanks at its ends.
-#[inline(always)]
-pub(crate) fn trailing(title: &[u8]) -> Option<Parts<'_>>
-    ensures none { IfNone result (trailing title.now ≡ None) }
-    ensures some { IfSome result (λ parts. trailing title.now
-        ≡ Some (record { article = parts.article.now; rest = parts.rest.now })) }
-{
-    if !ends_as_article(title) {
-        return None;
-    }
-    trailing_after_comma(title)
-}
-
-// The same, for a title that may end as an article. It is kept out of line, so that other titles do
-// not pay for the registers of the search.
-#[inline(never)]
-fn trailing_after_comma(title: &[u8]) -> Option<Parts<'_>>
+fn trailing(title: &[u8]) -> Option<Parts<'_>>
     ensures none { IfNone result (trailing title.now ≡ None) }
     ensures some { IfSome result (λ parts. trailing title.now
         ≡ Some (record { article = parts.article.now; rest = parts.rest.now })) }
@@ -206,6 +191,18 @@ pub(crate) fn rest_of(title: &[u8]) -> &[u8]
     if let Some(parts) = leading(title) {
         return parts.rest;
     }
+    if !ends_as_article(title) {
+        return title;
+    }
+    rest_before_article(title)
+}
+
+// The title without a trailing article. It stands out of line, so that a title that ends otherwise
+// does not pay for the registers of the search.
+#[inline(never)]
+fn rest_before_article(title: &[u8]) -> &[u8]
+    ensures { result.now ≡ rest_or title.now (trailing title.now) }
+{
     match trailing(title) {
         Some(parts) => parts.rest,
         None => title,

@@ -20,21 +20,19 @@ returns-in_err-claim_part-clause-damaged g c =
     (sym p.2)
     (fault_as c.in_err-claim_part.field-0.0 _ _ (λ is. is.there) (rw most at c.in_err-claim_part.ensures.damaged h front has)))
 
-pub returns-in_err-revision-clause-damaged : goal.returns-in_err-revision-clause-damaged
-returns-in_err-revision-clause-damaged g c =
-    let p = err_from_is_err_and c.from_residual-in_err-revision.result c.from_residual-in_err-revision.ensures.1 in
+pub returns-in_err-text-clause-damaged : goal.returns-in_err-text-clause-damaged
+returns-in_err-text-clause-damaged g c =
+    let p = err_from_is_err_and c.from_residual-in_err-text.result c.from_residual-in_err-text.ensures.1 in
     rw p.1 (λ h front has. subst (λ (f : ClaimFault). IsChainFault f
     (IsTuneThere c.args.layout c.args.opening.now.pages front c.args.claims.now.runs c.args.row.now.number c.args.row.now.first))
     (sym p.2)
-    (fault_as c.in_err-revision.field-0.0 _ _
-    (λ is. subst (λ l. (revision : ℕ) × (text : List ℕ) × IsTuneChain c.args.layout l revision text) (sym c.deref.ensures.value)
-    (is.revision, is.text, tune_claimed _ front _ _ _ _ _ (c.in_ok-claim_part.ensures.claims h front has) is))
-    c.in_err-revision.ensures.damaged))
+    (fault_as c.in_err-text.field-0.0 _ _
+    (λ is. (is.revision, is.text, tune_claimed _ front _ _ _ _ _ (c.in_ok-claim_part.ensures.claims h front has) is))
+    c.in_err-text.ensures.damaged))
 
-pub returns-in-Ok-false-clause-damaged : goal.returns-in-Ok-false-clause-damaged
-returns-in-Ok-false-clause-damaged g c = λ h front has is.
+pub returns-then-not-claim_tune-clause-damaged : goal.returns-then-not-claim_tune-clause-damaged
+returns-then-not-claim_tune-clause-damaged g c = λ h front has is.
     tune_refused {layout = c.args.layout} _ front c.args.claims.now.runs _ c.args.row.now.number _ c.args.row.now.first _ _
     (c.in_ok-claim_part.ensures.claims h front has)
-    (λ revision text its. c.in_ok-revision.ensures.only revision text
-    (subst (λ l. IsTuneChain c.args.layout l revision text) (sym c.deref.ensures.value) its))
-    c.requires.number (λ stands. (let yes = c.in-Ok-false.ensures.1 stands in let no = c.in-Ok-false.field-0-test in cc)) is
+    (λ revision text its. c.in_ok-text.ensures.only revision text its)
+    c.requires.number (λ stands. (let yes = c.claim_tune-claimed.ensures.1 stands in let no = c.if-not-claimed.true in cc)) is

@@ -1,7 +1,7 @@
 use Rattle.std.proofs.Common.{◌≡◌, ◌∙◌, sym, ap, arith, Some, take, refl}
 use Rattle.tune_titles.specs.Articles.{last_cut}
 use Rattle.tune_titles.proofs.CutLemmas.{no_cut, cut_at}
-use Rattle.tune_titles.proofs.articles.trailing_after_comma.Goals as goal
+use Rattle.tune_titles.proofs.articles.trailing.Goals as goal
 
 pub returns-in_default-clause-none : goal.returns-in_default-clause-none
 returns-in_default-clause-none c = rw (no_cut c.args.title.now (λ j lt. c.in_default.ensures j (omega arith) lt)) refl
