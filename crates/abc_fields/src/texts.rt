@@ -115,6 +115,7 @@ impl TuneText {
 
     /// The bytes as a tune text, where they are one of at most `longest` bytes, which is at most
     /// 64,000; else the bytes are handed back. It takes no memory.
+    #[inline(always)]
     pub fn from_stored(bytes: ByteText, longest: usize) -> Result<TuneText, ByteText>
         requires { longest ≤ longest_tune }
         ensures text { IfOk result (λ text. text ≡ bytes) }

@@ -468,6 +468,7 @@ fn claim_tune<D: Disk>(
 }
 
 // The text of the tune of a chain, in the memory that the chain has for it, and its revision.
+#[inline(always)]
 fn text_of(
     alloc: Global,
     layout: Layout,

@@ -30,8 +30,8 @@ returns-in_err-text-clause-damaged g c =
     (λ is. (is.revision, is.text, tune_claimed _ front _ _ _ _ _ (c.in_ok-claim_part.ensures.claims h front has) is))
     c.in_err-text.ensures.damaged))
 
-pub returns-then-not-claim_tune-clause-damaged : goal.returns-then-not-claim_tune-clause-damaged
-returns-then-not-claim_tune-clause-damaged g c = λ h front has is.
+pub returns-then-not-claimed-clause-damaged : goal.returns-then-not-claimed-clause-damaged
+returns-then-not-claimed-clause-damaged g c = λ h front has is.
     tune_refused {layout = c.args.layout} _ front c.args.claims.now.runs _ c.args.row.now.number _ c.args.row.now.first _ _
     (c.in_ok-claim_part.ensures.claims h front has)
     (λ revision text its. c.in_ok-text.ensures.only revision text its)
