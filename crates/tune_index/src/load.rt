@@ -137,8 +137,8 @@ fn load_leaf<D: Disk, L: EntryList<W>, const W: usize>(
 
 impl<const W: usize> Index<W> {
     /// Claims the pages of the index whose leaves are listed on the chain that begins at `first`,
-    /// and gives it with its entries, in order. Of an index of more than `most` entries it claims
-    /// no more pages than one of so many may have.
+    /// and gives it with its entries, in order, in a list of the kind that is wanted. Of an index
+    /// of more than `most` entries it claims no more pages than one of so many may have.
     ///
     /// # Errors
     ///
