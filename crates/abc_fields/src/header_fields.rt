@@ -65,6 +65,12 @@ impl<'a> Titles<'a> {
         self.as_slice().first().copied()
     }
 
+    fn clear(&mut self)
+        ensures { self.new ≡ [] }
+    {
+        self.list.clear();
+    }
+
     // Takes the value of the next title line: it counts unless it is empty or there are enough.
     fn take_value(&mut self, value: &'a [u8])
         ensures { self.new ≡ take most_titles (self.old ++ non_empty (value.now ∷ [])) }
@@ -88,7 +94,9 @@ pub struct Fields<'a> {
 }
 
 impl<'a> Fields<'a> {
-    pub(crate) fn new() -> Fields<'a>
+    /// Fields that say nothing: no title, no rhythm and an empty key.
+    #[inline(always)]
+    pub fn new() -> Fields<'a>
         ensures titles { result.titles ≡ [] }
         ensures rhythm { option_copied result.rhythm ≡ None }
         ensures key { result.key.now ≡ [] }
@@ -98,6 +106,18 @@ impl<'a> Fields<'a> {
             rhythm: None,
             key: b"",
         }
+    }
+
+    // They say nothing then.
+    #[inline(always)]
+    pub(crate) fn clear(&mut self)
+        ensures titles { self.new.titles ≡ [] }
+        ensures rhythm { option_copied self.new.rhythm ≡ None }
+        ensures key { self.new.key.now ≡ [] }
+    {
+        self.titles.clear();
+        self.rhythm = None;
+        self.key = b"";
     }
 
     // Takes the next line of the header, which does not give the key; `plain` says that no percent

@@ -25,7 +25,7 @@ mod values;
 
 pub use book::{BookFault, LONGEST_BOOK, TuneFault, split_book};
 pub use carry_rules::CarryRule;
-pub use header::fields;
+pub use header::{fields, read_fields};
 pub use header_fields::{Fields, MOST_TITLES, Titles};
 pub use judged_book::{JudgedBook, judge_book};
 pub use line_kinds::{in_part_after, is_comment, is_continuation, is_field_line, is_key_line};

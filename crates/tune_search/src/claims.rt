@@ -15,7 +15,7 @@ ghost use Rattle.tune_search.specs.Searches.{SearchRuns};
 use crate::incipit_claims::{IncipitClaims, has_incipit, incipit_claims_of};
 use crate::incipit_entries::IncipitEntries;
 use crate::key_claims::{KeyClaims, claims_of, has_keys};
-use abc_fields::{Titles, TuneText, fields};
+use abc_fields::{Fields, Titles, TuneText, read_fields};
 use index_keys::IndexKey;
 use std::alloc::{AllocError, Global};
 use std::cmp::Ordering;
@@ -130,7 +130,8 @@ impl SearchClaims {
         ensures { IsTrue result
             ↔ StandsAtKeys self.now.runs (slice_index self.now.numbers place) text.now }
     {
-        let fields = fields(text);
+        let mut fields = Fields::new();
+        read_fields(text, &mut fields);
         has_titles(&self.titles, place, &fields.titles)
             && has_single(&self.rhythms, place, key_of_rhythm(fields.rhythm))
             && has_single(&self.scales, place, key_of_scale(fields.key))

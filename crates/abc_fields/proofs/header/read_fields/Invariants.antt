@@ -5,7 +5,7 @@ use Rattle.std.specs.List.{AllByRecursion}
 use Rattle.abc_fields.specs.Fields.{non_empty_values, titles_of, rhythm_of}
 use Rattle.abc_fields.specs.Limits.{most_titles}
 use Rattle.abc_fields.specs.Inside.ToldLines.{IsToldAt, lines_at}
-use Rattle.abc_fields.proofs.header.fields.Given as goal
+use Rattle.abc_fields.proofs.header.read_fields.Given as goal
 
 abbrev pub invariant-loop-place : goal.invariant-loop-place
 invariant-loop-place l = record {

@@ -11,7 +11,7 @@ use Rattle.abc_fields.specs.Inside.ToldLines.{told_places, lines_at, IsToldAt}
 use Rattle.abc_fields.specs.declared.told_lines.LinePlace.{LinePlace}
 use Rattle.abc_fields.proofs.FieldLemmas.{few_taken, few_titles, titles_step, first_step, tune_key}
 use Rattle.abc_fields.proofs.ToldLemmas.{told_titles, told_rhythms, told_in, key_at, part_percents}
-use Rattle.abc_fields.proofs.header.fields.Goals as goal
+use Rattle.abc_fields.proofs.header.read_fields.Goals as goal
 
 pub loop-place-init : goal.loop-place-init
 loop-place-init c =
@@ -19,8 +19,8 @@ loop-place-init c =
     let same : c.places-place-items.result.now ≡ told_places (spans_of text) = c.places-place-items.ensures ∙ c.in-Some.ensures.places in
     record {
       few = search rules;
-      titles = rw (c.new-found.ensures.titles, same) (ap (take most_titles) (told_titles text));
-      rhythm = rw (c.new-found.ensures.rhythm, same) (ap (λ values. slice_get values 0) (told_rhythms text));
+      titles = rw (c.clear.ensures.titles, same) (ap (take most_titles) (told_titles text));
+      rhythm = rw (c.clear.ensures.rhythm, same) (ap (λ values. slice_get values 0) (told_rhythms text));
       places = rw same (told_in text);
     }
 
