@@ -24,7 +24,7 @@ pub(crate) struct SingleClaims<const W: usize> {
 }
 
 // One more, up to 2.
-fn one_more(count: u8) -> u8
+pub(crate) fn one_more(count: u8) -> u8
     ensures none { count ≡ 0 → result ≡ 1 }
     ensures some { 0 < count → result ≡ 2 }
 {
