@@ -34,6 +34,7 @@ ghost use Rattle.tune_contents.specs.declared.contents.Contents.{Contents};
 use crate::contents::Contents;
 use crate::layout_notes::incipit_notes;
 use abc_fields::{ByteText, MOST_TITLES, TuneText};
+use index_keys::EntryList;
 use std::alloc::{AllocError, Global};
 use std::mem;
 use tune_disk::Disk;

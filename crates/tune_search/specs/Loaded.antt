@@ -1,5 +1,6 @@
 -- Search indexes as an opening claims them, one after another.
 use Rattle.std.specs.Prelude.{◌≡◌, ℕ, Bool, true, List}
+use Rattle.index_keys.specs.Groups.{grouped_entries}
 use Rattle.tune_index.specs.ListedLeaves.{IsStored, LoadsIndex, StoredIndex}
 use Rattle.tune_pages.specs.Stand.{marked}
 use Rattle.tune_search.specs.IncipitForms.{entries_in, notes_of_entries}
@@ -12,8 +13,8 @@ abbrev pub runs_in : SearchEntries → SearchRuns
 runs_in entries = record {
   notes = notes_of_entries entries.incipits;
   titles = entries.titles.items;
-  rhythms = entries.rhythms.items;
-  scales = entries.scales.items;
+  rhythms = grouped_entries entries.rhythms;
+  scales = grouped_entries entries.scales;
   incipits = entries_in entries.incipits;
 }
 

@@ -3,7 +3,7 @@ ghost use Rattle.std.specs.Prelude.{◌≡◌, ◌↔◌, ◌^◌, ◌<◌, ℕ,
 ghost use Rattle.std.specs.Prelude.{slice_index, Contains, IfOk, IfSome, IsTrue, None};
 ghost use Rattle.std.specs.List.{AllByRecursion};
 ghost use Rattle.std.specs.List.Sorted.{IsStrictlyIncreasing};
-ghost use Rattle.std.specs.Option.{option_to_list};
+ghost use Rattle.index_keys.specs.Groups.{grouped_entries};
 ghost use Rattle.index_keys.specs.Holdings.{keys_at};
 ghost use Rattle.index_keys.specs.KeyLists.{rising_keys};
 ghost use Rattle.tune_titles.specs.TitleAndRhythmKeys.{title_keys_of};
@@ -12,11 +12,12 @@ ghost use Rattle.tune_search.specs.SearchClaims.{AreAllKnown, HoldByNumber, Stan
 ghost use Rattle.tune_search.specs.IncipitForms.{entries_in, notes_of_entries};
 ghost use Rattle.tune_search.specs.Searches.{SearchRuns};
 
+use crate::group_claims::{GroupClaims, group_claims_of, has_group};
 use crate::incipit_claims::{IncipitClaims, has_incipit, incipit_claims_of};
 use crate::incipit_entries::IncipitEntries;
 use crate::key_claims::{KeyClaims, claims_of, has_keys};
 use abc_fields::{Fields, Titles, TuneText, read_fields};
-use index_keys::IndexKey;
+use index_keys::{GroupedEntries, IndexKey};
 use std::alloc::{AllocError, Global};
 use std::cmp::Ordering;
 use std::marker::Model;
@@ -26,22 +27,24 @@ use tune_titles::{key_of_rhythm, key_of_title, row_of_title_keys};
 /// The entries of the four search indexes as an opening compares them with the tunes, one tune
 /// after another. A clause sees the numbers of the tunes and the entries of each index.
 ///
-/// Beside these it takes four bytes for each entry and four for each tune, but in the index of
-/// incipits a key and a byte for each tune.
+/// Beside these it takes in the index of titles four bytes for each entry and four for each tune,
+/// in that of rhythms and in that of scales five for each tune, and in that of incipits a key and a
+/// byte for each tune.
 #[derive(Drop)]
 pub struct SearchClaims {
     // clauses tell the tunes by it; once the entries are linked no call reads it
     numbers: Vec<u32>,
     titles: KeyClaims<32>,
-    rhythms: KeyClaims<32>,
-    scales: KeyClaims<32>,
+    rhythms: GroupClaims<32>,
+    scales: GroupClaims<32>,
     incipits: IncipitClaims,
 }
 
 impl Model for SearchClaims {
+    ghost use Rattle.index_keys.specs.Groups.{grouped_entries};
     ghost use Rattle.tune_search.specs.SearchClaims.{ClaimShape};
     ghost use Rattle.tune_search.specs.Inside.EntryLinks.{AreLinked};
-    ghost use Rattle.tune_search.specs.Inside.HeldKeys.{AreHeld};
+    ghost use Rattle.tune_search.specs.Inside.HeldKeys.{AreHeld, AreHeldInGroups};
     ghost use Rattle.tune_search.specs.Inside.IncipitLinks.{entries_claimed, counts_claimed};
     ghost use Rattle.tune_search.specs.Inside.IncipitLinks.{keys_claimed, notes_of_claims};
 
@@ -52,8 +55,8 @@ impl Model for SearchClaims {
       runs = record {
         notes = notes_of_claims claims.incipits;
         titles = claims.titles.entries.items;
-        rhythms = claims.rhythms.entries.items;
-        scales = claims.scales.entries.items;
+        rhythms = grouped_entries claims.rhythms.entries;
+        scales = grouped_entries claims.scales.entries;
         incipits = entries_claimed claims.incipits;
       };
     } };
@@ -61,10 +64,10 @@ impl Model for SearchClaims {
     ghost invariant = { λ claims.
         AreLinked claims.numbers.items claims.titles.entries.items
         claims.titles.firsts.items claims.titles.nexts.items
-        × AreLinked claims.numbers.items claims.rhythms.entries.items
-        claims.rhythms.firsts.items claims.rhythms.nexts.items
-        × AreLinked claims.numbers.items claims.scales.entries.items
-        claims.scales.firsts.items claims.scales.nexts.items
+        × AreHeldInGroups claims.numbers.items claims.rhythms.entries
+        claims.rhythms.counts.items claims.rhythms.ids.items
+        × AreHeldInGroups claims.numbers.items claims.scales.entries
+        claims.scales.counts.items claims.scales.ids.items
         × AreHeld claims.numbers.items (entries_claimed claims.incipits)
         (counts_claimed claims.incipits) (keys_claimed claims.incipits) };
 }
@@ -81,34 +84,34 @@ impl SearchClaims {
         alloc: Global,
         numbers: Vec<u32>,
         titles: Vec<(IndexKey<32>, u32)>,
-        rhythms: Vec<(IndexKey<32>, u32)>,
-        scales: Vec<(IndexKey<32>, u32)>,
+        rhythms: GroupedEntries<32>,
+        scales: GroupedEntries<32>,
         incipits: IncipitEntries,
     ) -> Result<Option<SearchClaims>, AllocError>
         requires rising { IsStrictlyIncreasing numbers.items }
         requires titles { length titles.items < 2 ^ 32 }
-        requires rhythms { length rhythms.items < 2 ^ 32 }
-        requires scales { length scales.items < 2 ^ 32 }
+        requires rhythms { length (grouped_entries rhythms) < 2 ^ 32 }
+        requires scales { length (grouped_entries scales) < 2 ^ 32 }
         requires incipits { length (entries_in incipits) < 2 ^ 32 }
         ensures numbers { IfOk result (λ made. IfSome made (λ claims.
             claims.numbers ≡ numbers.items)) }
         ensures runs { IfOk result (λ made. IfSome made (λ claims. claims.runs
-            ≡ runs_of (notes_of_entries incipits) titles.items rhythms.items scales.items
-            (entries_in incipits))) }
+            ≡ runs_of (notes_of_entries incipits) titles.items (grouped_entries rhythms)
+            (grouped_entries scales) (entries_in incipits))) }
         ensures known { IfOk result (λ made. IfSome made (λ _. AreAllKnown numbers.items
-            (runs_of (notes_of_entries incipits) titles.items rhythms.items scales.items
-            (entries_in incipits)))) }
+            (runs_of (notes_of_entries incipits) titles.items (grouped_entries rhythms)
+            (grouped_entries scales) (entries_in incipits)))) }
         ensures unknown { IfOk result (λ made. made ≡ None → AreAllKnown numbers.items
-            (runs_of (notes_of_entries incipits) titles.items rhythms.items scales.items
-            (entries_in incipits)) → ⊥) }
+            (runs_of (notes_of_entries incipits) titles.items (grouped_entries rhythms)
+            (grouped_entries scales) (entries_in incipits)) → ⊥) }
     {
         let Some(titles) = claims_of(alloc, &numbers, titles)? else {
             return Ok(None);
         };
-        let Some(rhythms) = claims_of(alloc, &numbers, rhythms)? else {
+        let Some(rhythms) = group_claims_of(alloc, &numbers, rhythms)? else {
             return Ok(None);
         };
-        let Some(scales) = claims_of(alloc, &numbers, scales)? else {
+        let Some(scales) = group_claims_of(alloc, &numbers, scales)? else {
             return Ok(None);
         };
         let Some(incipits) = incipit_claims_of(alloc, &numbers, incipits)? else {
@@ -133,8 +136,8 @@ impl SearchClaims {
         let mut fields = Fields::new();
         read_fields(text, &mut fields);
         has_titles(&self.titles, place, &fields.titles)
-            && has_single(&self.rhythms, place, key_of_rhythm(fields.rhythm))
-            && has_single(&self.scales, place, key_of_scale(fields.key))
+            && has_group(&self.rhythms, place, key_of_rhythm(fields.rhythm))
+            && has_group(&self.scales, place, key_of_scale(fields.key))
             && has_incipit(&self.incipits, place, text)
     }
 }
@@ -184,22 +187,6 @@ fn has_pair(claims: &KeyClaims<32>, place: usize, one: IndexKey<32>, other: Inde
         Ordering::Less => has_keys(claims, place, &[one, other]),
         Ordering::Equal => has_keys(claims, place, &[one]),
         Ordering::Greater => has_keys(claims, place, &[other, one]),
-    }
-}
-
-// Whether the number at this place stands at exactly this key, or at none.
-#[inline(always)]
-fn has_single(claims: &KeyClaims<32>, place: usize, key: Option<IndexKey<32>>) -> bool
-    requires place { place < length claims.now.firsts.items }
-    requires nexts { AreNexts claims.now.entries.items claims.now.nexts.items }
-    ensures { let entries = claims.now.entries.items in
-        let first = slice_index claims.now.firsts.items place in
-        (number : ℕ) → first ≡ place_from number 0 entries
-        → (IsTrue result ↔ (keys_at number entries ≡ option_to_list key)) }
-{
-    match key {
-        Some(key) => has_keys(claims, place, &[key]),
-        None => has_keys(claims, place, &[]),
     }
 }
 

@@ -6,6 +6,7 @@
 mod changing;
 mod claims;
 mod finding;
+mod group_claims;
 mod incipit_claims;
 mod incipit_entries;
 mod incipit_index;

@@ -7,9 +7,10 @@ ghost use Rattle.tune_search.specs.Loaded.{AreStored, LoadsSearch, runs_in};
 use crate::incipit_entries::{IncipitEntries, IncipitNotes};
 use crate::incipit_index::IncipitIndex;
 use crate::searches::SearchIndexes;
+use index_keys::{GroupedEntries, IndexKey};
 use std::alloc::Global;
 use tune_disk::Disk;
-use tune_index::{Index, IndexKey};
+use tune_index::Index;
 use tune_pages::{ClaimFault, Opening};
 
 /// Where the chains begin that list the leaves of the four indexes; 0 where an index has none.
@@ -21,12 +22,13 @@ pub struct SearchFirsts {
     pub incipits: u32,
 }
 
-/// The entries of the four indexes, each list in order: keys with the numbers of tunes.
+/// The entries of the four indexes, each list in order: keys with the numbers of tunes. Rhythms and
+/// scales are few, so each of their keys is kept once.
 #[derive(Drop)]
 pub struct SearchEntries {
     pub titles: Vec<(IndexKey<32>, u32)>,
-    pub rhythms: Vec<(IndexKey<32>, u32)>,
-    pub scales: Vec<(IndexKey<32>, u32)>,
+    pub rhythms: GroupedEntries<32>,
+    pub scales: GroupedEntries<32>,
     pub incipits: IncipitEntries,
 }
 
