@@ -2,4 +2,3 @@ pub mod StepRows
 pub mod IncipitLaws
 pub mod Growing
 pub mod Examples
-pub mod StepKeys

@@ -1,10 +1,6 @@
 // Incipits as keys. But for the last lines all of it is for any width and any number of notes.
-ghost use Rattle.std.specs.Prelude.{◌≡◌, ◌↔◌, ◌+◌, ◌*◌, ◌<◌, ◌≤◌, ◌++◌, ◌+ℤ◌, pos, length, take};
-ghost use Rattle.std.specs.Prelude.{◌==◌, drop, IfOk, IsTrue};
-ghost use Rattle.std.specs.Int.{w32, cast_unsigned};
-ghost use Rattle.std.specs.List.{list_all};
+ghost use Rattle.std.specs.Prelude.{◌≡◌, ◌+◌, ◌*◌, ◌<◌, ◌≤◌, ◌++◌, length, take, IfOk};
 ghost use Rattle.std.specs.Option.{option_to_list};
-ghost use Rattle.byteorder.specs.Endian.{big_number};
 ghost use Rattle.index_keys.specs.Cuts.{cut_number};
 ghost use Rattle.tune_incipit.specs.Incipits.{incipit_of, tune_notes, finds_steps};
 ghost use Rattle.tune_incipit.specs.Limits.{fewest_notes, most_notes};
@@ -16,7 +12,6 @@ use crate::incipits::{begins, steps};
 use crate::some_steps::SomeSteps;
 use crate::step_lists::{MOST_STEPS, Steps};
 use abc_fields::TuneText;
-use byteorder::{BigEndian, ByteOrder};
 use index_keys::{IndexKey, Keyed};
 use std::alloc::{AllocError, Global};
 
@@ -183,38 +178,6 @@ fn key_of_steps<const W: usize>(steps: &Steps, fill: u8) -> IndexKey<W>
     IndexKey::cut(&bytes[..STEP_BYTES * all.len()], fill)
 }
 
-/// Whether a key is that of these steps: their bytes, and zeros behind them. No key is made for it,
-/// since that takes longer than to compare them.
-#[inline(always)]
-pub fn is_key_of_steps<const W: usize>(key: &IndexKey<W>, steps: &Steps) -> bool
-    requires { 4 * length steps.now ≤ W }
-    ensures { IsTrue result ↔ (key.now ≡ cut_number W 0 (bytes_of_steps steps.now)) }
-{
-    let bytes = key.bytes();
-    let all = steps.as_slice();
-    for (place, step) in all.iter().enumerate() {
-        if number_at(bytes, place) != step_number(*step) {
-            return false;
-        }
-    }
-    are_zeros(&bytes[STEP_BYTES * all.len()..])
-}
-
-// Whether each of these bytes is zero.
-fn are_zeros(bytes: &[u8]) -> bool
-    ensures { result ≡ list_all (λ byte. byte == 0) bytes.now }
-{
-    bytes.iter().all(|byte| *byte == 0)
-}
-
-// The number of the four bytes at the place of a step.
-fn number_at(bytes: &[u8], place: usize) -> u32
-    requires { 4 * place + 4 ≤ length bytes.now }
-    ensures { result ≡ big_number 4 (drop (4 * place) bytes.now) }
-{
-    BigEndian::read_u32(&bytes[STEP_BYTES * place..])
-}
-
 // Puts the bytes of a step behind those of the steps before it.
 fn put_step(bytes: &mut [u8], place: usize, step: i32)
     requires { 4 * place + 4 ≤ length bytes.old }
@@ -229,12 +192,6 @@ fn put_step(bytes: &mut [u8], place: usize, step: i32)
 fn step_bytes(step: i32) -> [u8; STEP_BYTES]
     ensures { result ≡ step_bytes step }
 {
-    step_number(step).to_be_bytes()
-}
-
-// A step and 2^31.
-fn step_number(step: i32) -> u32
-    ensures { result ≡ cast_unsigned w32 (step +ℤ pos 2147483648) }
-{
-    (i64::from(step) + 2_147_483_648) as u32
+    let raised = i64::from(step) + 2_147_483_648;
+    (raised as u32).to_be_bytes()
 }

@@ -14,8 +14,7 @@ mod some_steps;
 mod step_lists;
 
 pub use incipit_keys::{
-    EightNoteKeys, TwelveNoteKeys, finds_steps, is_key_of_steps, key_of_incipit,
-    key_of_twelve_notes,
+    EightNoteKeys, TwelveNoteKeys, finds_steps, key_of_incipit, key_of_twelve_notes,
 };
 pub use incipits::{BadQuery, FEWEST_NOTES, MOST_NOTES, begins, query_steps, steps};
 pub use scale_keys::{ScaleKeys, key_of_scale};

@@ -13,7 +13,7 @@ use crate::incipit_entries::IncipitEntries;
 use crate::single_claims::{SingleClaims, has_key, single_claims_of};
 use abc_fields::TuneText;
 use std::alloc::{AllocError, Global};
-use tune_incipit::steps;
+use tune_incipit::{key_of_incipit, key_of_twelve_notes};
 
 // The entries of incipits, by eight notes or by twelve, with the key of each number.
 #[derive(Drop)]
@@ -63,7 +63,7 @@ pub(crate) fn has_incipit(claims: &IncipitClaims, place: usize, text: &TuneText)
         → (IsTrue result ↔ (keys ≡ incipit_keys (notes_of_claims claims.now) text.now)) }
 {
     match claims {
-        IncipitClaims::Eight(claims) => has_key(claims, place, &steps(text, 8)),
-        IncipitClaims::Twelve(claims) => has_key(claims, place, &steps(text, 12)),
+        IncipitClaims::Eight(claims) => has_key(claims, place, key_of_incipit(text)),
+        IncipitClaims::Twelve(claims) => has_key(claims, place, key_of_twelve_notes(text)),
     }
 }

@@ -1,16 +1,15 @@
 // The entries of an index in which a tune has one key at most, as an opening compares them with the
 // tunes.
-ghost use Rattle.std.specs.Prelude.{◌≡◌, ◌↔◌, ◌*◌, ◌<◌, ◌≤◌, ℕ, List, length, replicate};
-ghost use Rattle.std.specs.Prelude.{slice_index, IfOk, IfSome, IsTrue, None};
+ghost use Rattle.std.specs.Prelude.{◌≡◌, ◌↔◌, ◌<◌, ℕ, List, length, replicate, slice_index};
+ghost use Rattle.std.specs.Prelude.{IfOk, IfSome, IsTrue, None};
 ghost use Rattle.std.specs.List.Sorted.{IsStrictlyIncreasing};
-ghost use Rattle.tune_incipit.specs.ScaleAndIncipitKeys.{incipit_keys_of};
+ghost use Rattle.std.specs.Option.{option_to_list};
 ghost use Rattle.tune_search.specs.Inside.HeldKeys.{AreHeld, HasKeys};
 ghost use Rattle.tune_search.specs.SearchClaims.{AreKnown};
 
 use crate::key_claims::place_of;
 use index_keys::IndexKey;
 use std::alloc::{AllocError, Global};
-use tune_incipit::{Steps, is_key_of_steps};
 
 // The entries of one index, and the key of each number in the order of the numbers: an opening asks
 // for them in that order, and an entry that it met there would seldom be near the one before it.
@@ -87,21 +86,21 @@ pub(crate) fn single_claims_of<const W: usize>(
     }))
 }
 
-// Whether the number at this place has exactly the key of these steps, or none where there is no
-// step.
-#[inline(always)]
-pub(crate) fn has_key<const W: usize>(claims: &SingleClaims<W>, place: usize, steps: &Steps) -> bool
+// Whether the number at this place has exactly this key, or none.
+pub(crate) fn has_key<const W: usize>(
+    claims: &SingleClaims<W>,
+    place: usize,
+    key: Option<IndexKey<W>>,
+) -> bool
     requires counted { place < length claims.now.counts.items }
     requires keyed { place < length claims.now.keys.items }
-    requires width { W ≤ 48 }
-    requires few { 4 * length steps.now ≤ W }
     ensures { (keys : List ℕ) → HasKeys keys (slice_index claims.now.counts.items place)
         (slice_index claims.now.keys.items place)
-        → (IsTrue result ↔ (keys ≡ incipit_keys_of W steps.now)) }
+        → (IsTrue result ↔ (keys ≡ option_to_list key.entry)) }
 {
     let count = claims.counts[place];
-    if steps.is_empty() {
-        return count == 0;
+    match key {
+        Some(key) => count == 1 && claims.keys[place].is_same(&key),
+        None => count == 0,
     }
-    count == 1 && is_key_of_steps(&claims.keys[place], steps)
 }
