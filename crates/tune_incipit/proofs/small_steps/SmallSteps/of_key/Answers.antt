@@ -1,5 +1,6 @@
 use borrow.Author.Tests.{tests}
-use Rattle.std.proofs.Common.{length-append, List, ◌-◌, ◌≡◌, ◌≢◌, ℕ, ◌++◌, ◌∷◌, [], length, take, drop, sym, ap, ◌∙◌, arith, rules, ℤ, to_z, of_z, w8, FitsSigned}
+use Rattle.std.proofs.Common.{length-append, List}
+use Rattle.std.proofs.Common.{◌-◌, ◌≡◌, ◌≢◌, ℕ, ◌++◌, ◌∷◌, [], length, take, drop, sym, ap, ◌∙◌, arith, rules, ℤ, to_z, of_z, w8, FitsSigned}
 use Rattle.std.proofs.Math.Facts.{to_z-of_z}
 use Rattle.std.proofs.lemmas.Iterator.{cases_from_all, YieldsList-from_slice}
 use Rattle.tune_incipit.specs.ScaleAndIncipitKeys.{bytes_of_steps, step_bytes}
