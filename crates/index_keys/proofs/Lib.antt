@@ -6,3 +6,4 @@ pub mod KeyLists
 pub mod Entering
 pub mod Holding
 pub mod ByNumber
+pub mod Grouping

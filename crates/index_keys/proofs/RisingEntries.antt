@@ -1,5 +1,5 @@
 -- Lists of entries that rise: an entry put in or taken out, and what stands where.
-use Rattle.std.proofs.Common.{◌≡◌, ◌≢◌, ℕ, zero, suc, ◌+◌, ◌<◌, ◌≤◌, List, [], ◌∷◌, ◌++◌, length, get_or, arith, inl, inr}
+use Rattle.std.proofs.Common.{◌≡◌, ◌≢◌, ℕ, zero, suc, ◌+◌, ◌<◌, ◌≤◌, List, [], ◌∷◌, ◌++◌, length, get_or, arith, ap, subst, inl, inr}
 use Rattle.std.proofs.lemmas.Bool.{cases_lt, cases_eq}
 use Rattle.std.proofs.lemmas.Bool.Decides.{nat_tests}
 use Rattle.index_keys.specs.Entries.{Entry, rank, RisesFrom, IsRising, inserted, inserted_all, removed, removed_all, FitsLeaf, AllFit}
@@ -104,3 +104,24 @@ inserted_all_fit width (e ∷ run) es f h = inserted_all_fit width run (inserted
 pub removed_all_fit : (width : ℕ) (run es : List Entry) → AllFit width es → AllFit width (removed_all run es)
 removed_all_fit width [] es h = h
 removed_all_fit width (e ∷ run) es h = removed_all_fit width run (removed e es) (removed_fit width es e h)
+
+push_up : (low : ℕ) (x : Entry) (es : List Entry) (e d : Entry) → RisesFrom low (x ∷ es) → rank (get_or (x ∷ es) (length es) d) < rank e
+    → RisesFrom low (x ∷ (es ++ e ∷ []))
+push_up low x [] e d r l = (r.0, (omega (arith, l), tt))
+push_up low x (y ∷ es) e d r l = (r.0, push_up (rank x + 1) y es e d r.1 l)
+
+push_down : (low : ℕ) (x : Entry) (es : List Entry) (e d : Entry) → RisesFrom low (x ∷ (es ++ e ∷ [])) → rank (get_or (x ∷ es) (length es) d) < rank e
+push_down low x [] e d r = omega (arith, r.1.0)
+push_down low x (y ∷ es) e d r = push_down (rank x + 1) y es e d r.1
+
+-- an entry comes behind a list that rises just where its last one stands before it
+pub rises_push : (es : List Entry) (i : ℕ) (e l : Entry) → i + 1 ≡ length es → l ≡ get_or es i l → IsRising es
+    → (rank l < rank e → IsRising (es ++ e ∷ [])) × (IsRising (es ++ e ∷ []) → rank l < rank e)
+rises_push [] i e l n is r = absurd (omega (arith, n))
+rises_push (x ∷ es) i e l n is r =
+    let k : i ≡ length es = omega (arith, n) in
+    let here : l ≡ get_or (x ∷ es) (length es) l = subst (λ (j : ℕ). l ≡ get_or (x ∷ es) j l) k is in
+    let s : rank l ≡ rank (get_or (x ∷ es) (length es) l) = ap rank here in (
+      (λ lt. push_up 0 x es e l r (omega (arith, s, lt))),
+      (λ up. let d = push_down 0 x es e l up in omega (arith, s, d)),
+    )

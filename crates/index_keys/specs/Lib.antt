@@ -1,5 +1,6 @@
 pub mod Entries
 pub mod Cuts
 pub mod KeyLists
+pub mod Groups
 pub mod Holdings
 pub mod Inside

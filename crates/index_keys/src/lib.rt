@@ -5,11 +5,15 @@
 //! `AllocError`, its only error.
 #![tactic(auto)]
 
+mod entry_lists;
+mod grouped_entries;
 mod index_key;
 mod keyed;
 mod laws;
 mod rising;
 
+pub use entry_lists::EntryList;
+pub use grouped_entries::GroupedEntries;
 pub use index_key::IndexKey;
 pub use keyed::Keyed;
 pub use laws::{law_of_cuts, law_of_entries, law_of_holdings, law_of_keys};
