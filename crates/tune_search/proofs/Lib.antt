@@ -17,3 +17,4 @@ pub mod LoadLemmas
 pub mod ClaimedParts
 pub mod LoadedIndex
 pub mod LoadedFour
+pub mod HeldEntries
