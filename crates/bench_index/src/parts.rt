@@ -176,7 +176,7 @@ fn loaded<D: Disk>(
     let Ok(mut opening) = Pages::open(alloc, disk) else {
         return None;
     };
-    let Ok((index, entries)) = Index::load(alloc, &mut opening, first, u32::MAX) else {
+    let Ok((index, entries)) = Index::load::<_, Vec<_>>(alloc, &mut opening, first, u32::MAX) else {
         return None;
     };
     let Ok(pages) = opening.done(LIMIT) else {

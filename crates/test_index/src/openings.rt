@@ -48,7 +48,7 @@ fn load<const W: usize>(
 ) -> Result<Index<W>, AllocError>
     requires { W ≤ 4090 }
 {
-    match Index::load(alloc, opening, first, most) {
+    match Index::load::<_, Vec<_>>(alloc, opening, first, most) {
         Ok((loaded, found)) => {
             if are_same(&found, &read_entries(alloc, entries)?) {
                 answer.push_str("done")?;

@@ -1,5 +1,5 @@
 -- The entries of a leaf that come behind others, one after another.
-use Rattle.std.proofs.Common.{◌≡◌, ℕ, zero, suc, ◌+◌, List, [], ◌∷◌, ◌++◌, append_assoc, append-nil, drop, refl, sym, ap, ◌∙◌, subst}
+use Rattle.std.proofs.Common.{◌≡◌, ℕ, zero, suc, ◌+◌, List, [], ◌∷◌, ◌++◌, append_assoc, append-nil, drop, sym, ap, ◌∙◌, subst}
 use Rattle.index_keys.specs.Entries.{AllFit, Entry, FitsLeaf, IsRising}
 use Rattle.index_keys.proofs.RisingEntries.{rises_front}
 use Rattle.tune_index.specs.Leaves.{entries_in, entry_in}

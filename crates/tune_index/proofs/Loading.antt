@@ -1,5 +1,5 @@
 -- Leaves that are read one after another.
-use Rattle.std.proofs.Common.{◌≡◌, ℕ, zero, suc, ◌+◌, ◌*◌, ◌^◌, ◌<◌, ◌≤◌, List, [], ◌∷◌, ◌++◌, Bool, true, All, length, drop, get_or, set, slice_index}
+use Rattle.std.proofs.Common.{◌≡◌, ℕ, zero, suc, ◌+◌, ◌*◌, ◌^◌, ◌<◌, ◌≤◌, List, [], ◌∷◌, ◌++◌, Bool, true, All, length, drop, set, slice_index}
 use Rattle.std.proofs.Common.{append_assoc, refl, sym, ap, ◌∙◌, subst, arith}
 use Rattle.std.proofs.lemmas.List.{drop-drop, length-append, length-set}
 use Rattle.std.proofs.Math.Seq.{drop-append_seam}
@@ -15,7 +15,7 @@ use Rattle.tune_pages.proofs.FreePages.{chain_count}
 use Rattle.tune_pages.proofs.Marks.{free_in}
 use Rattle.index_keys.specs.Inside.KeyNumbers.{bytes_back}
 use Rattle.index_keys.specs.Inside.KeyBytes.{AreBytes}
-use Rattle.index_keys.specs.Entries.{Entry, rank, RisesFrom, IsRising, AllFit}
+use Rattle.index_keys.specs.Entries.{Entry, IsRising, AllFit}
 use Rattle.index_keys.proofs.RisingEntries.{rises_front}
 use Rattle.tune_index.specs.Indexes.{AllLeaves, Shape, entries_of, heads_of}
 use Rattle.tune_index.specs.Inside.Loading.{LoadsLeaf}
@@ -25,27 +25,6 @@ use Rattle.tune_index.proofs.Puts.{leaves_within}
 use Rattle.tune_index.proofs.Storing.{length-listed}
 use Rattle.tune_index.proofs.Ranges.{entries_of-push}
 use Rattle.tune_index.proofs.Splits.{entries_of-append}
-
-push_up : (low : ℕ) (x : Entry) (es : List Entry) (e d : Entry) → RisesFrom low (x ∷ es) → rank (get_or (x ∷ es) (length es) d) < rank e
-    → RisesFrom low (x ∷ (es ++ e ∷ []))
-push_up low x [] e d r l = (r.0, (omega (arith, l), tt))
-push_up low x (y ∷ es) e d r l = (r.0, push_up (rank x + 1) y es e d r.1 l)
-
-push_down : (low : ℕ) (x : Entry) (es : List Entry) (e d : Entry) → RisesFrom low (x ∷ (es ++ e ∷ [])) → rank (get_or (x ∷ es) (length es) d) < rank e
-push_down low x [] e d r = omega (arith, r.1.0)
-push_down low x (y ∷ es) e d r = push_down (rank x + 1) y es e d r.1
-
--- an entry comes behind a list that rises just where its last one stands before it
-pub rises_push : (es : List Entry) (i : ℕ) (e l : Entry) → i + 1 ≡ length es → l ≡ get_or es i l → IsRising es
-    → (rank l < rank e → IsRising (es ++ e ∷ [])) × (IsRising (es ++ e ∷ []) → rank l < rank e)
-rises_push [] i e l n is r = absurd (omega (arith, n))
-rises_push (x ∷ es) i e l n is r =
-    let k : i ≡ length es = omega (arith, n) in
-    let here : l ≡ get_or (x ∷ es) (length es) l = subst (λ (j : ℕ). l ≡ get_or (x ∷ es) j l) k is in
-    let s : rank l ≡ rank (get_or (x ∷ es) (length es) l) = ap rank here in (
-      (λ lt. push_up 0 x es e l r (omega (arith, s, lt))),
-      (λ up. let d = push_down 0 x es e l up in omega (arith, s, d)),
-    )
 
 -- LISTS OF NUMBERS IN BYTES
 numbers-push : (i : ℕ) (bytes : List ℕ) → numbers_in (suc i) bytes ≡ numbers_in i bytes ++ value_in (drop (4 * i) bytes) ∷ []

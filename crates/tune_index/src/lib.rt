@@ -18,5 +18,5 @@ mod load;
 mod search;
 
 pub use index::Index;
-pub use index_keys::{IndexKey, Keyed};
+pub use index_keys::{EntryList, GroupedEntries, IndexKey, Keyed};
 pub use laws::law_of_indexes;

@@ -1,6 +1,6 @@
 // An index that is opened: its leaves are claimed, and read.
-ghost use Rattle.std.specs.Prelude.{◌≡◌, ◌↔◌, ◌+◌, ◌*◌, ◌≤◌, ◌++◌, [], ◌∷◌, true, false, length};
-ghost use Rattle.std.specs.Prelude.{drop, slice_set, ℕ, IfOk, IfErr, IfSome, None, OnOk, IsTrue};
+ghost use Rattle.std.specs.Prelude.{◌≡◌, ◌+◌, ◌*◌, ◌^◌, ◌<◌, ◌≤◌, ◌++◌, [], ◌∷◌, true, false};
+ghost use Rattle.std.specs.Prelude.{length, drop, slice_set, ℕ, IfOk, IfErr, IfSome, None, OnOk};
 ghost use Rattle.tune_journal.specs.Pages.{page_at};
 ghost use Rattle.tune_pages.specs.Claim.{IsChainFault, LooksOpening};
 ghost use Rattle.tune_pages.specs.Stand.{IsFree};
@@ -10,9 +10,9 @@ ghost use Rattle.tune_index.specs.Leaves.{leaf_in, value_in, IsLeaf};
 ghost use Rattle.tune_index.specs.ListedLeaves.{IsStored, LoadsIndex, listed_bytes, numbers_in};
 
 use crate::index::Index;
-use crate::leaf::{Leaf, capacity_of, entry_at, is_leaf, leaf_length, page_bytes, read_value};
+use crate::leaf::{capacity_of, entry_at, is_leaf, leaf_length, page_bytes, read_value};
 use crate::leaf_edits::first_in_image;
-use index_keys::IndexKey;
+use index_keys::{EntryList, IndexKey};
 use std::alloc::{AllocError, Global};
 use tune_disk::Disk;
 use tune_journal::PageImage;
@@ -40,39 +40,29 @@ fn number_at(bytes: &[u8], place: usize) -> u32
     read_value(&bytes[4 * place..])
 }
 
-// Whether an entry may come behind these.
-fn follows<const W: usize>(entries: &[(IndexKey<W>, u32)], entry: &(IndexKey<W>, u32)) -> bool
-    ensures { IsRising entries.now
-        → (IsTrue result ↔ IsRising (entries.now ++ entry.now ∷ [])) }
-{
-    let count = entries.len();
-    if count == 0 {
-        return true;
-    }
-    let last = &entries[count - 1];
-    last.0.is_before(last.1, &entry.0, entry.1)
-}
-
 // The entries of a leaf come behind the others, where all rise; otherwise false.
-fn join_leaf<const W: usize>(entries: &mut Leaf<W>, image: &PageImage) -> Result<bool, AllocError>
+fn join_leaf<L: EntryList<W>, const W: usize>(
+    entries: &mut L,
+    image: &PageImage,
+) -> Result<bool, AllocError>
     requires width { W ≤ 4090 }
     requires form { IsLeaf W image.now.bytes }
-    requires rising { IsRising entries.old.items }
+    requires rising { IsRising (L.entries entries.old) }
+    requires room { length (L.entries entries.old) + length (leaf_in W image.now.bytes) < 2 ^ 32 }
     ensures yes { IfOk result (λ joined. joined ≡ true
-        → (entries.new.items ≡ entries.old.items ++ leaf_in W image.now.bytes)
-        × IsRising entries.new.items) }
+        → (L.entries entries.new ≡ L.entries entries.old ++ leaf_in W image.now.bytes)
+        × IsRising (L.entries entries.new)) }
     ensures fit { IfOk result (λ joined. joined ≡ true → AllFit W (leaf_in W image.now.bytes)) }
     ensures no { IfOk result (λ joined. joined ≡ false
-        → IsRising (entries.old.items ++ leaf_in W image.now.bytes) → ⊥) }
+        → IsRising (L.entries entries.old ++ leaf_in W image.now.bytes) → ⊥) }
 {
     let count = leaf_length::<W>(image);
     let mut rest = &page_bytes(image)[2..];
     for done in 0..count {
-        let entry = entry_at(rest);
-        if !follows(entries, &entry) {
+        let (key, value) = entry_at(rest);
+        if !entries.put_behind(key, value)? {
             return Ok(false);
         }
-        entries.push(entry)?;
         rest = &rest[W + 4..];
     }
     Ok(true)
@@ -104,39 +94,40 @@ fn most_entries(leaves: usize, width: usize) -> usize
 
 // Claims the page of the next leaf, and adds its entries to those before it. The image is where the
 // page is read.
-fn load_leaf<D: Disk, const W: usize>(
+fn load_leaf<D: Disk, L: EntryList<W>, const W: usize>(
     opening: &mut Opening<D>,
     page: u32,
-    most: usize,
+    most: u32,
     image: &mut PageImage,
     index: &mut Index<W>,
-    entries: &mut Leaf<W>,
+    entries: &mut L,
 ) -> Result<(), ClaimFault>
     requires width { W ≤ 4090 }
-    requires rising { IsRising entries.old.items }
+    requires rising { IsRising (L.entries entries.old) }
+    requires few { length (L.entries entries.old) ≤ most }
     ensures free { OnOk result (IsFree opening.old.claimed page
         × (opening.new.claimed ≡ slice_set opening.old.claimed page true)) }
     ensures leaf { OnOk result (D.honest opening.new.disk → LoadsLeaf W opening.old.pages page
-        index.old index.new entries.old.items entries.new.items) }
-    ensures rising { OnOk result (IsRising entries.new.items) }
-    ensures few { OnOk result (length entries.new.items ≤ most) }
+        index.old index.new (L.entries entries.old) (L.entries entries.new)) }
+    ensures rising { OnOk result (IsRising (L.entries entries.new)) }
+    ensures few { OnOk result (length (L.entries entries.new) ≤ most) }
     ensures damaged { IfErr result (λ fault. D.honest opening.new.disk → IsChainFault fault
         (IsFree opening.old.claimed page × IsLeaf W (page_at opening.old.pages page)
-        × IsRising (entries.old.items ++ leaf_in W (page_at opening.old.pages page))
-        × (length (entries.old.items ++ leaf_in W (page_at opening.old.pages page)) ≤ most))) }
+        × IsRising (L.entries entries.old ++ leaf_in W (page_at opening.old.pages page))
+        × (length (L.entries entries.old ++ leaf_in W (page_at opening.old.pages page)) ≤ most))) }
     ensures looks { LooksOpening D.honest D.failures D.state result opening.old opening.new }
 {
     opening.claim_page_into(page, image)?;
     if !is_leaf::<W>(image) {
         return Err(ClaimFault::Damaged);
     }
+    if entries.len() + leaf_length::<W>(image) > most as usize {
+        return Err(ClaimFault::Damaged);
+    }
     match join_leaf(entries, image) {
         Ok(true) => {}
         Ok(false) => return Err(ClaimFault::Damaged),
         Err(_) => return Err(ClaimFault::OutOfMemory),
-    }
-    if entries.len() > most {
-        return Err(ClaimFault::Damaged);
     }
     match push_leaf(index, page, first_in_image(image)) {
         Ok(()) => Ok(()),
@@ -146,31 +137,30 @@ fn load_leaf<D: Disk, const W: usize>(
 
 impl<const W: usize> Index<W> {
     /// Claims the pages of the index whose leaves are listed on the chain that begins at `first`,
-    /// and gives it with its entries, in order. Of an index of more than `most` entries it claims
-    /// no more pages than one of so many may have.
+    /// and gives it with its entries, in order, in a list of the kind that is wanted. Of an index
+    /// of more than `most` entries it claims no more pages than one of so many may have.
     ///
     /// # Errors
     ///
     /// `Damaged` exactly where no index of at most `most` entries is stored there on pages that
     /// are all still to be claimed; `OutOfMemory`; `Device` where the disk failed.
-    pub fn load<D: Disk>(
+    pub fn load<D: Disk, L: EntryList<W>>(
         alloc: Global,
         opening: &mut Opening<D>,
         first: u32,
         most: u32,
-    ) -> Result<(Index<W>, Vec<(IndexKey<W>, u32)>), ClaimFault>
+    ) -> Result<(Index<W>, L), ClaimFault>
         requires { W ≤ 4090 }
         ensures loads { IfOk result (λ loaded. D.honest opening.new.disk → LoadsIndex W most
             opening.old.pages opening.old.claimed opening.new.claimed first loaded.0
-            loaded.1.items) }
+            (L.entries loaded.1)) }
         ensures damaged { IfErr result (λ fault. D.honest opening.new.disk → IsChainFault fault
             (IsStored W most opening.old.pages opening.old.claimed first)) }
         ensures looks { LooksOpening D.honest D.failures D.state result opening.old opening.new }
     {
         // For the proof.
         let _count = opening.count();
-        let most = most as usize;
-        let bytes = match opening.claim_chain_within(first, pages_for(most * 4)) {
+        let bytes = match opening.claim_chain_within(first, pages_for(most as usize * 4)) {
             Ok(bytes) => bytes,
             Err(fault) => return Err(fault),
         };
@@ -179,7 +169,7 @@ impl<const W: usize> Index<W> {
             None => return Err(ClaimFault::Damaged),
         };
         let mut index = Index::at(alloc, first);
-        let mut entries = match Vec::with_capacity(alloc, most_entries(count, W).min(most)) {
+        let mut entries = match L::with_room(alloc, most_entries(count, W).min(most as usize)) {
             Ok(entries) => entries,
             Err(_) => return Err(ClaimFault::OutOfMemory),
         };

@@ -1,5 +1,5 @@
 use Rattle.std.proofs.Common.{◌-◌, length, rules}
-use Rattle.tune_index.proofs.Loading.{rises_push}
+use Rattle.index_keys.proofs.RisingEntries.{rises_push}
 use Rattle.bench_index.proofs.entries.follows.Goals as goal
 
 pub returns : goal.returns

@@ -11,9 +11,9 @@ invariant-loop-place g l = record {
   pages : g.D.Disk.honest l.opening.disk → l.opening.pages ≡ l.initial.opening.pages;
   count : length l.opening.pages ≡ length l.initial.opening.pages;
   failures : g.D.Disk.failures l.opening.disk ≡ g.D.Disk.failures l.initial.opening.disk;
-  rising : IsRising l.entries.items;
-  few : length l.entries.items ≤ l.most;
-  so_far : g.D.Disk.honest l.opening.disk → LoadedSoFar g.row.W l.initial.opening.pages l.bytes.items l.first l.place l.index l.entries.items;
+  rising : IsRising (g.L.EntryList.entries l.entries);
+  few : length (g.L.EntryList.entries l.entries) ≤ l.most;
+  so_far : g.D.Disk.honest l.opening.disk → LoadedSoFar g.row.W l.initial.opening.pages l.bytes.items l.first l.place l.index (g.L.EntryList.entries l.entries);
   after : g.D.Disk.honest l.opening.disk → l.opening.claimed ≡ marked true l.index.pages l.initial.opening.claimed;
   free : g.D.Disk.honest l.opening.disk → AllFree l.index.pages l.initial.opening.claimed;
 }
