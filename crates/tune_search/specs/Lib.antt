@@ -1,4 +1,4 @@
-pub mod HeldEntries
+pub mod HeldShapes
 pub mod IndexParts
 pub mod Searches
 pub mod IncipitForms

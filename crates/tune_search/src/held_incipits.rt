@@ -2,7 +2,7 @@
 ghost use Rattle.std.specs.Prelude.{◌≡◌, ◌↔◌, ◌^◌, ◌<◌, ◌≤◌, ◌++◌, [], ◌∷◌, true, false, length};
 ghost use Rattle.std.specs.Prelude.{ℕ, List, IfOk, IsTrue, OnErr};
 ghost use Rattle.index_keys.specs.Entries.{IsRising};
-ghost use Rattle.tune_search.specs.HeldEntries.{IsKept, held_entries, whole_key};
+ghost use Rattle.tune_search.specs.HeldShapes.{IsKept, held_entries, whole_key};
 
 use crate::held_keys::HeldKey;
 use index_keys::{EntryList, IndexKey};
@@ -23,7 +23,7 @@ pub struct HeldIncipits<const W: usize> {
 }
 
 impl<const W: usize> Model for HeldIncipits<W> {
-    ghost use Rattle.tune_search.specs.HeldEntries.{AreHeldEntries, HeldShape};
+    ghost use Rattle.tune_search.specs.HeldShapes.{AreHeldEntries, HeldShape};
 
     ghost Value = { HeldShape };
 

@@ -6,6 +6,7 @@
 mod changing;
 mod claims;
 mod finding;
+mod held_entries;
 mod held_incipits;
 mod held_keys;
 mod incipit_claims;
@@ -24,6 +25,7 @@ mod single_claims;
 mod storing;
 
 pub use claims::{SearchClaims, law_of_claims};
+pub use held_entries::HeldEntries;
 pub use held_incipits::HeldIncipits;
 pub use incipit_entries::{IncipitEntries, IncipitNotes};
 pub use incipit_run::IncipitRun;

@@ -1,8 +1,7 @@
-use Rattle.std.proofs.Common.{◌≡◌, ℕ, ◌++◌, [], ◌∷◌, List, rules, sym, ap, subst, ◌∙◌}
+use Rattle.std.proofs.Common.{◌≡◌, ◌++◌, [], ◌∷◌, List, rules, sym, ap, subst, ◌∙◌}
 use Rattle.index_keys.specs.Entries.{Entry, IsRising}
-use Rattle.tune_search.specs.HeldEntries.{HeldShape, held_entries, whole_entry}
-use Rattle.tune_search.specs.declared.held_keys.HeldKey.{HeldKey}
-use Rattle.tune_search.proofs.HeldEntries.{IsPut, is_put}
+use Rattle.tune_search.specs.HeldShapes.{HeldShape, held_entries}
+use Rattle.tune_search.proofs.HeldPuts.{is_put}
 use Rattle.tune_search.proofs.held_incipits.HeldIncipitsEntryList.put_behind.Goals as goal
 
 pub invariant_of-self-2 : goal.invariant_of-self-2

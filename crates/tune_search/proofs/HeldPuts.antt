@@ -1,5 +1,5 @@
 -- Held entries, and an entry that comes behind them.
-use Rattle.std.proofs.Common.{◌≡◌, ℕ, zero, suc, ◌+◌, ◌*◌, ◌^◌, ◌<◌, ◌≤◌, List, [], ◌∷◌, ◌++◌, map, length, get_or, slice_index, arith, refl, sym, ap, ◌∙◌, subst}
+use Rattle.std.proofs.Common.{◌≡◌, ℕ, zero, suc, ◌+◌, ◌<◌, ◌≤◌, List, [], ◌∷◌, ◌++◌, map, length, get_or, arith, refl, sym, ap, ◌∙◌, subst}
 use Rattle.std.proofs.lemmas.List.{get_or_append_left, length-append, length-map, map-append}
 use Rattle.std.proofs.Math.Seq.{get_or-append_seam}
 use Rattle.std.specs.List.{AllByRecursion}
@@ -8,7 +8,7 @@ use Rattle.index_keys.specs.Entries.{Entry, IsRising, rank}
 use Rattle.index_keys.proofs.RisingEntries.{rises_push}
 use Rattle.tune_search.specs.declared.held_keys.HeldKey.{HeldKey}
 use Rattle.tune_search.specs.declared.held_keys.HeldKey.TheVariants as held
-use Rattle.tune_search.specs.HeldEntries.{AreHeldEntries, IsKept, whole_entry, whole_key}
+use Rattle.tune_search.specs.HeldShapes.{AreHeldEntries, IsKept, whole_entry, whole_key}
 
 -- MORE KEYS KEPT WHOLE
 -- they change no key that was held before
