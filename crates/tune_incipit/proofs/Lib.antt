@@ -2,3 +2,4 @@ pub mod StepRows
 pub mod IncipitLaws
 pub mod Growing
 pub mod Examples
+pub mod SmallKeys

@@ -167,7 +167,7 @@ const STEP_BYTES: usize = 4;
 const MOST_BYTES: usize = STEP_BYTES * MOST_STEPS;
 
 // The key cut from the bytes of these steps and filled up with one byte.
-fn key_of_steps<const W: usize>(steps: &Steps, fill: u8) -> IndexKey<W>
+pub(crate) fn key_of_steps<const W: usize>(steps: &Steps, fill: u8) -> IndexKey<W>
     ensures { result ≡ cut_number W fill (bytes_of_steps steps.now) }
 {
     let mut bytes = [0; MOST_BYTES];

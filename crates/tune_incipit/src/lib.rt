@@ -10,6 +10,7 @@ mod incipit_keys;
 mod incipits;
 mod note_pitches;
 mod scale_keys;
+mod small_steps;
 mod some_steps;
 mod step_lists;
 
@@ -18,5 +19,6 @@ pub use incipit_keys::{
 };
 pub use incipits::{BadQuery, FEWEST_NOTES, MOST_NOTES, begins, query_steps, steps};
 pub use scale_keys::{ScaleKeys, key_of_scale};
+pub use small_steps::SmallSteps;
 pub use some_steps::SomeSteps;
 pub use step_lists::Steps;

@@ -5,7 +5,7 @@ ghost use Rattle.std.specs.Int.{w8};
 ghost use Rattle.std.specs.List.{AllWithin};
 ghost use Rattle.tune_incipit.specs.Incipits.{differences};
 ghost use Rattle.tune_incipit.specs.Limits.{most_notes};
-ghost use Rattle.tune_incipit.specs.Inside.StepRows.{most_steps};
+ghost use Rattle.tune_incipit.specs.Inside.StepRows.{most_steps, padded};
 
 use crate::incipits::MOST_NOTES;
 use std::marker::Model;
@@ -73,6 +73,13 @@ impl Steps {
         ensures few { length self.now < most_notes }
     {
         &self.items[..self.len()]
+    }
+
+    // The steps, and zeros behind them.
+    pub(crate) fn row(&self) -> &[i32; MOST_STEPS]
+        ensures { result.now ≡ padded most_steps self.now }
+    {
+        &self.items
     }
 
     /// How many there are.

@@ -13,7 +13,9 @@ pub mod Takes
 pub mod ClaimLinks
 pub mod ClaimKeys
 pub mod LaidKeys
+pub mod LaidHeld
 pub mod LoadLemmas
 pub mod ClaimedParts
 pub mod LoadedIndex
 pub mod LoadedFour
+pub mod HeldPuts

@@ -2,6 +2,9 @@
 use Rattle.std.specs.Prelude.{ℕ, List}
 use Rattle.index_keys.specs.Entries.{Entry}
 use Rattle.tune_index.specs.Indexes.{Shape}
+use Rattle.tune_search.specs.HeldShapes.{held_entries}
+use Rattle.tune_search.specs.declared.held_entries.HeldEntries.{HeldEntries}
+use Rattle.tune_search.specs.declared.held_entries.HeldEntries.TheVariants as held
 use Rattle.tune_search.specs.declared.incipit_entries.IncipitEntries.{IncipitEntries}
 use Rattle.tune_search.specs.declared.incipit_entries.IncipitEntries.TheVariants as list
 use Rattle.tune_search.specs.declared.incipit_entries.IncipitNotes.{IncipitNotes}
@@ -24,6 +27,17 @@ notes_of_entries (list.Twelve run) = 12
 abbrev pub entries_in : IncipitEntries → List Entry
 entries_in (list.Eight run) = run.items
 entries_in (list.Twelve run) = run.items
+
+-- HELD ENTRIES
+-- by how many notes they are
+abbrev pub notes_held : HeldEntries → ℕ
+notes_held (held.Eight run) = 8
+notes_held (held.Twelve run) = 12
+
+-- their list
+abbrev pub entries_held : HeldEntries → List Entry
+entries_held (held.Eight run) = held_entries 32 run
+entries_held (held.Twelve run) = held_entries 48 run
 
 -- AN INDEX
 -- by how many notes it is

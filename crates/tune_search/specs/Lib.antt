@@ -1,3 +1,4 @@
+pub mod HeldShapes
 pub mod IndexParts
 pub mod Searches
 pub mod IncipitForms

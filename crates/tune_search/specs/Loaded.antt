@@ -3,7 +3,7 @@ use Rattle.std.specs.Prelude.{◌≡◌, ℕ, Bool, true, List}
 use Rattle.index_keys.specs.Groups.{grouped_entries}
 use Rattle.tune_index.specs.ListedLeaves.{IsStored, LoadsIndex, StoredIndex}
 use Rattle.tune_pages.specs.Stand.{marked}
-use Rattle.tune_search.specs.IncipitForms.{entries_in, notes_of_entries}
+use Rattle.tune_search.specs.IncipitForms.{entries_held, notes_held}
 use Rattle.tune_search.specs.Searches.{SearchRuns, SearchShape, incipit_bytes, key_bytes}
 use Rattle.tune_search.specs.declared.loading.SearchEntries.{SearchEntries}
 use Rattle.tune_search.specs.declared.loading.SearchFirsts.{SearchFirsts}
@@ -11,11 +11,11 @@ use Rattle.tune_search.specs.declared.loading.SearchFirsts.{SearchFirsts}
 -- the entries, as contracts see them
 abbrev pub runs_in : SearchEntries → SearchRuns
 runs_in entries = record {
-  notes = notes_of_entries entries.incipits;
+  notes = notes_held entries.incipits;
   titles = entries.titles.items;
   rhythms = grouped_entries entries.rhythms;
   scales = grouped_entries entries.scales;
-  incipits = entries_in entries.incipits;
+  incipits = entries_held entries.incipits;
 }
 
 -- What is loaded are the four indexes that are stored there, with their entries, and their pages

@@ -9,12 +9,12 @@ ghost use Rattle.index_keys.specs.KeyLists.{rising_keys};
 ghost use Rattle.tune_titles.specs.TitleAndRhythmKeys.{title_keys_of};
 ghost use Rattle.tune_search.specs.Inside.EntryLinks.{AreNexts, place_from};
 ghost use Rattle.tune_search.specs.SearchClaims.{AreAllKnown, HoldByNumber, StandsAtKeys, runs_of};
-ghost use Rattle.tune_search.specs.IncipitForms.{entries_in, notes_of_entries};
+ghost use Rattle.tune_search.specs.IncipitForms.{entries_held, notes_held};
 ghost use Rattle.tune_search.specs.Searches.{SearchRuns};
 
 use crate::group_claims::{GroupClaims, group_claims_of, has_group};
+use crate::held_entries::HeldEntries;
 use crate::incipit_claims::{IncipitClaims, has_incipit, incipit_claims_of};
-use crate::incipit_entries::IncipitEntries;
 use crate::key_claims::{KeyClaims, claims_of, has_keys};
 use abc_fields::{Fields, Titles, TuneText, read_fields};
 use index_keys::{GroupedEntries, IndexKey};
@@ -28,8 +28,8 @@ use tune_titles::{key_of_rhythm, key_of_title, row_of_title_keys};
 /// after another. A clause sees the numbers of the tunes and the entries of each index.
 ///
 /// Beside these it takes in the index of titles four bytes for each entry and four for each tune,
-/// in that of rhythms and in that of scales five for each tune, and in that of incipits a key and a
-/// byte for each tune.
+/// in that of rhythms and in that of scales five for each tune, and in that of incipits a held
+/// key and a byte for each tune.
 #[derive(Drop)]
 pub struct SearchClaims {
     // clauses tell the tunes by it; once the entries are linked no call reads it
@@ -86,24 +86,24 @@ impl SearchClaims {
         titles: Vec<(IndexKey<32>, u32)>,
         rhythms: GroupedEntries<32>,
         scales: GroupedEntries<32>,
-        incipits: IncipitEntries,
+        incipits: HeldEntries,
     ) -> Result<Option<SearchClaims>, AllocError>
         requires rising { IsStrictlyIncreasing numbers.items }
         requires titles { length titles.items < 2 ^ 32 }
         requires rhythms { length (grouped_entries rhythms) < 2 ^ 32 }
         requires scales { length (grouped_entries scales) < 2 ^ 32 }
-        requires incipits { length (entries_in incipits) < 2 ^ 32 }
+        requires incipits { length (entries_held incipits) < 2 ^ 32 }
         ensures numbers { IfOk result (λ made. IfSome made (λ claims.
             claims.numbers ≡ numbers.items)) }
         ensures runs { IfOk result (λ made. IfSome made (λ claims. claims.runs
-            ≡ runs_of (notes_of_entries incipits) titles.items (grouped_entries rhythms)
-            (grouped_entries scales) (entries_in incipits))) }
+            ≡ runs_of (notes_held incipits) titles.items (grouped_entries rhythms)
+            (grouped_entries scales) (entries_held incipits))) }
         ensures known { IfOk result (λ made. IfSome made (λ _. AreAllKnown numbers.items
-            (runs_of (notes_of_entries incipits) titles.items (grouped_entries rhythms)
-            (grouped_entries scales) (entries_in incipits)))) }
+            (runs_of (notes_held incipits) titles.items (grouped_entries rhythms)
+            (grouped_entries scales) (entries_held incipits)))) }
         ensures unknown { IfOk result (λ made. made ≡ None → AreAllKnown numbers.items
-            (runs_of (notes_of_entries incipits) titles.items (grouped_entries rhythms)
-            (grouped_entries scales) (entries_in incipits)) → ⊥) }
+            (runs_of (notes_held incipits) titles.items (grouped_entries rhythms)
+            (grouped_entries scales) (entries_held incipits)) → ⊥) }
     {
         let Some(titles) = claims_of(alloc, &numbers, titles)? else {
             return Ok(None);

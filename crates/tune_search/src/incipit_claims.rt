@@ -4,16 +4,16 @@ ghost use Rattle.std.specs.Prelude.{IfOk, IfSome, IsTrue, None};
 ghost use Rattle.std.specs.List.Sorted.{IsStrictlyIncreasing};
 ghost use Rattle.tune_incipit.specs.ScaleAndIncipitKeys.{incipit_keys};
 ghost use Rattle.tune_search.specs.SearchClaims.{AreKnown};
-ghost use Rattle.tune_search.specs.IncipitForms.{entries_in, notes_of_entries};
+ghost use Rattle.tune_search.specs.IncipitForms.{entries_held, notes_held};
 ghost use Rattle.tune_search.specs.Inside.HeldKeys.{AreHeld, HasKeys};
 ghost use Rattle.tune_search.specs.Inside.IncipitLinks.{entries_claimed, counts_claimed};
 ghost use Rattle.tune_search.specs.Inside.IncipitLinks.{keys_claimed, notes_of_claims};
 
-use crate::incipit_entries::IncipitEntries;
-use crate::single_claims::{SingleClaims, has_key, single_claims_of};
+use crate::held_entries::HeldEntries;
+use crate::single_claims::{SingleClaims, has_key, has_steps, single_claims_of};
 use abc_fields::TuneText;
 use std::alloc::{AllocError, Global};
-use tune_incipit::{key_of_incipit, key_of_twelve_notes};
+use tune_incipit::{key_of_incipit, key_of_twelve_notes, steps};
 
 // The entries of incipits, by eight notes or by twelve, with the key of each number.
 #[derive(Drop)]
@@ -27,27 +27,27 @@ pub(crate) enum IncipitClaims {
 pub(crate) fn incipit_claims_of(
     alloc: Global,
     numbers: &[u32],
-    entries: IncipitEntries,
+    entries: HeldEntries,
 ) -> Result<Option<IncipitClaims>, AllocError>
     requires { IsStrictlyIncreasing numbers.now }
     ensures notes { IfOk result (λ made. IfSome made (λ claims.
-        notes_of_claims claims ≡ notes_of_entries entries)) }
+        notes_of_claims claims ≡ notes_held entries)) }
     ensures same { IfOk result (λ made. IfSome made (λ claims.
-        entries_claimed claims ≡ entries_in entries)) }
+        entries_claimed claims ≡ entries_held entries)) }
     ensures known { IfOk result (λ made. IfSome made (λ _.
-        AreKnown numbers.now (entries_in entries))) }
+        AreKnown numbers.now (entries_held entries))) }
     ensures held { IfOk result (λ made. IfSome made (λ claims.
-        AreHeld numbers.now (entries_in entries) (counts_claimed claims)
+        AreHeld numbers.now (entries_held entries) (counts_claimed claims)
         (keys_claimed claims))) }
     ensures unknown { IfOk result (λ made. made ≡ None
-        → AreKnown numbers.now (entries_in entries) → ⊥) }
+        → AreKnown numbers.now (entries_held entries) → ⊥) }
 {
     match entries {
-        IncipitEntries::Eight(entries) => match single_claims_of(alloc, numbers, entries)? {
+        HeldEntries::Eight(entries) => match single_claims_of(alloc, numbers, entries)? {
             Some(claims) => Ok(Some(IncipitClaims::Eight(claims))),
             None => Ok(None),
         },
-        IncipitEntries::Twelve(entries) => match single_claims_of(alloc, numbers, entries)? {
+        HeldEntries::Twelve(entries) => match single_claims_of(alloc, numbers, entries)? {
             Some(claims) => Ok(Some(IncipitClaims::Twelve(claims))),
             None => Ok(None),
         },
@@ -62,8 +62,15 @@ pub(crate) fn has_incipit(claims: &IncipitClaims, place: usize, text: &TuneText)
         (slice_index (keys_claimed claims.now) place)
         → (IsTrue result ↔ (keys ≡ incipit_keys (notes_of_claims claims.now) text.now)) }
 {
+    // Most often the steps are small and the same, which is soon seen.
     match claims {
-        IncipitClaims::Eight(claims) => has_key(claims, place, key_of_incipit(text)),
-        IncipitClaims::Twelve(claims) => has_key(claims, place, key_of_twelve_notes(text)),
+        IncipitClaims::Eight(claims) => {
+            has_steps(claims, place, &steps(text, 8))
+                || has_key(claims, place, key_of_incipit(text))
+        }
+        IncipitClaims::Twelve(claims) => {
+            has_steps(claims, place, &steps(text, 12))
+                || has_key(claims, place, key_of_twelve_notes(text))
+        }
     }
 }

@@ -17,12 +17,13 @@ ghost use Rattle.tune_index.specs.ListedLeaves.{IsStored, LoadsIndex};
 ghost use Rattle.tune_parts.specs.Parts.{Part};
 ghost use Rattle.tune_search.specs.Empty.{no_leaves};
 ghost use Rattle.tune_search.specs.IncipitForms.{entries_in, notes_in, notes_of_entries};
-ghost use Rattle.tune_search.specs.IncipitForms.{notes_of_index, shape_of};
+ghost use Rattle.tune_search.specs.IncipitForms.{entries_held, notes_held, notes_of_index, shape_of};
 ghost use Rattle.tune_search.specs.IndexParts.{HoldsIndexAmong, HoldsSomeIndex, IndexParts};
 ghost use Rattle.tune_search.specs.IndexParts.{LaysIndex};
 ghost use Rattle.tune_search.specs.Searches.{incipit_bytes};
 
 use crate::finding::values_for;
+use crate::held_entries::HeldEntries;
 use crate::incipit_entries::{IncipitEntries, IncipitNotes};
 use crate::index_changes::{put_run, store_list, take_run};
 use std::alloc::{AllocError, Global};
@@ -94,12 +95,12 @@ impl IncipitIndex {
         notes: IncipitNotes,
         first: u32,
         most: u32,
-    ) -> Result<(IncipitIndex, IncipitEntries), ClaimFault>
+    ) -> Result<(IncipitIndex, HeldEntries), ClaimFault>
         ensures notes { IfOk result (λ loaded. notes_of_index loaded.0 ≡ notes_in notes) }
-        ensures same { IfOk result (λ loaded. notes_of_entries loaded.1 ≡ notes_in notes) }
+        ensures same { IfOk result (λ loaded. notes_held loaded.1 ≡ notes_in notes) }
         ensures loads { IfOk result (λ loaded. D.honest opening.new.disk → LoadsIndex
             (incipit_bytes (notes_in notes)) most opening.old.pages opening.old.claimed
-            opening.new.claimed first (shape_of loaded.0) (entries_in loaded.1)) }
+            opening.new.claimed first (shape_of loaded.0) (entries_held loaded.1)) }
         ensures damaged { IfErr result (λ fault. D.honest opening.new.disk → IsChainFault fault
             (IsStored (incipit_bytes (notes_in notes)) most opening.old.pages
             opening.old.claimed first)) }
@@ -108,13 +109,13 @@ impl IncipitIndex {
         match notes {
             IncipitNotes::Eight => match Index::load(alloc, opening, first, most) {
                 Ok((index, entries)) => {
-                    Ok((IncipitIndex::Eight(index), IncipitEntries::Eight(entries)))
+                    Ok((IncipitIndex::Eight(index), HeldEntries::Eight(entries)))
                 }
                 Err(fault) => Err(fault),
             },
             IncipitNotes::Twelve => match Index::load(alloc, opening, first, most) {
                 Ok((index, entries)) => {
-                    Ok((IncipitIndex::Twelve(index), IncipitEntries::Twelve(entries)))
+                    Ok((IncipitIndex::Twelve(index), HeldEntries::Twelve(entries)))
                 }
                 Err(fault) => Err(fault),
             },

@@ -7,6 +7,9 @@ mod changing;
 mod claims;
 mod finding;
 mod group_claims;
+mod held_entries;
+mod held_incipits;
+mod held_keys;
 mod incipit_claims;
 mod incipit_entries;
 mod incipit_index;
@@ -23,6 +26,8 @@ mod single_claims;
 mod storing;
 
 pub use claims::{SearchClaims, law_of_claims};
+pub use held_entries::HeldEntries;
+pub use held_incipits::HeldIncipits;
 pub use incipit_entries::{IncipitEntries, IncipitNotes};
 pub use incipit_run::IncipitRun;
 pub use index_changes::{put_run, store_list, take_run};

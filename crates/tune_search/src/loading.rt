@@ -4,7 +4,8 @@ ghost use Rattle.tune_pages.specs.Claim.{IsChainFault, LooksOpening};
 ghost use Rattle.tune_search.specs.IncipitForms.{notes_in};
 ghost use Rattle.tune_search.specs.Loaded.{AreStored, LoadsSearch, runs_in};
 
-use crate::incipit_entries::{IncipitEntries, IncipitNotes};
+use crate::held_entries::HeldEntries;
+use crate::incipit_entries::IncipitNotes;
 use crate::incipit_index::IncipitIndex;
 use crate::searches::SearchIndexes;
 use index_keys::{GroupedEntries, IndexKey};
@@ -29,7 +30,7 @@ pub struct SearchEntries {
     pub titles: Vec<(IndexKey<32>, u32)>,
     pub rhythms: GroupedEntries<32>,
     pub scales: GroupedEntries<32>,
-    pub incipits: IncipitEntries,
+    pub incipits: HeldEntries,
 }
 
 impl SearchIndexes {
