@@ -1,6 +1,6 @@
-use Rattle.std.proofs.Common.{◌≡◌, ◌*◌, sym, ◌∙◌, subst, arith}
+use Rattle.std.proofs.Common.{◌≡◌, ℕ, ◌*◌, sym, ◌∙◌, subst, arith}
 use Rattle.std.proofs.lemmas.Result.{err_from_is_err_and}
-use Rattle.tune_pages.specs.Claim.{IsChainFault}
+use Rattle.tune_pages.specs.Claim.{CountsClaimFault, IsChainFault}
 use Rattle.tune_pages.specs.declared.fault.ClaimFault.{ClaimFault}
 use Rattle.tune_store.specs.Limits.{most_tunes}
 use Rattle.tune_contents.specs.Inside.ClaimedParts.{IsStateThere}
@@ -57,6 +57,28 @@ returns-in_err-claim_part-clause-damaged g c =
     (omega (arith, same)) (omega (arith, same)) (c.requires.sized (read.looks.was_honest two)) (searches.notes ∙ c.incipit_notes-notes.ensures)
     (λ some. both_claimed _ _ _ _ _ _ c.in-Some.firsts c.most_tunes-most.result (8 * c.most_tunes-most.result) _ _ _ _ (read.looks.same_pages two) on
     (read.claimed ∙ c.requires.root) some (numbers.claims one) (searches.claims zero)) (call.damaged h)))
+
+pub returns-in_err-claim_part-clause-looks : goal.returns-in_err-claim_part-clause-looks
+returns-in_err-claim_part-clause-looks g c =
+    let p = err_from_is_err_and c.from_residual-in_err-claim_part.result c.from_residual-in_err-claim_part.ensures.1 in
+    let call = c.in_err-claim_part.ensures.looks in
+    let searches = c.in_ok-searches.ensures.looks in
+    let numbers = c.in_ok-numbers.ensures.looks in
+    let read = c.in_ok-root.ensures.looks in
+    rw (p.1, p.2) (record {
+      was_honest = λ h. read.was_honest (numbers.was_honest (searches.was_honest (call.was_honest h)));
+      same_state = λ h.
+          let zero = call.was_honest h in
+          let one = searches.was_honest zero in
+          call.same_state h ∙ searches.same_state zero ∙ numbers.same_state one ∙ read.same_state (numbers.was_honest one);
+      same_pages = λ h.
+          let zero = call.was_honest h in
+          let one = searches.was_honest zero in
+          call.same_pages h ∙ searches.same_pages zero ∙ numbers.same_pages one ∙ read.same_pages (numbers.was_honest one);
+      count = call.count ∙ searches.count ∙ numbers.count ∙ read.count;
+      counted = subst (λ (n : ℕ). CountsClaimFault c.in_err-claim_part.field-0.0 n (g.D.Disk.failures c.claim_part.new.opening.disk))
+          (searches.counted ∙ numbers.counted ∙ read.counted) call.counted;
+    })
 
 pub returns-clause-claims : goal.returns-clause-claims
 returns-clause-claims g c = λ h some.
