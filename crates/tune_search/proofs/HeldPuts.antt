@@ -65,7 +65,8 @@ is_put width es now others more whole last own key value before is all few same 
 -- an entry comes behind them just where the last one stands before it
 pub joins_last : (width : ℕ) (es : List (HeldKey × ℕ)) (others : List ℕ) (last e : Entry) → AreHeldEntries width es others last → 0 < length es
     → IsRising (map (whole_entry width others) es)
-    → (rank last < rank e → IsRising (map (whole_entry width others) es ++ e ∷ [])) × (IsRising (map (whole_entry width others) es ++ e ∷ []) → rank last < rank e)
+    → (rank last < rank e → IsRising (map (whole_entry width others) es ++ e ∷ []))
+    × (IsRising (map (whole_entry width others) es ++ e ∷ []) → rank last < rank e)
 joins_last width [] others last e before some up = absurd (omega (arith, some))
 joins_last width (x ∷ es) others last e before some up =
     let all : List Entry = map (whole_entry width others) (x ∷ es) in

@@ -32,8 +32,8 @@ abbrev pub IsKept : ℕ → HeldKey → Type 0
 IsKept count (held.Steps steps) = Unit {0}
 IsKept count (held.Other place) = place < count
 
--- Each key is there, no more keys are kept whole than there are entries, and this is the last entry,
--- where there is one.
+-- Each key is there, no more keys are kept whole than there are entries, and this is the last
+-- entry, where there is one.
 pub record AreHeldEntries (width : ℕ) (entries : List (HeldKey × ℕ)) (others : List ℕ)
     (last : Entry) : Type 0 where
   pub kept : AllByRecursion (λ entry. IsKept (length others) entry.0) entries
