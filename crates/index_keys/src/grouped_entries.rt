@@ -82,13 +82,6 @@ impl<const W: usize> EntryList<W> for GroupedEntries<W> {
 }
 
 impl<const W: usize> GroupedEntries<W> {
-    /// How many keys are kept.
-    pub fn key_count(&self) -> usize
-        ensures { result ≡ length self.now.keys }
-    {
-        self.keys.len()
-    }
-
     /// The number of the key of the entry at a place, among the keys, from 0 on.
     #[inline(always)]
     pub fn id_at(&self, place: usize) -> u32
