@@ -56,6 +56,10 @@ OF_NOTES = [
     tune_of(b'CCCC|CCCC|C^C_CC|', *[0] * 7, 0, 1, -2, 0),
     tune_of(b'CDEF GAB|[K:D]cdef|C', 2, 2, 1, 2, 2, 2, 2, 1, 2, 2, -17),
     tune_of(b"C,,c''C,,c''|C,,c''C,,c''|C,,c''C,,c''", *[60, -60] * 5, 60),
+    # steps at either end of what a byte holds, and past it
+    tune_of(b"C,,,,,g''''C,,,,,", 127, -127), tune_of(b"^g''''C,,,,,", -128),
+    tune_of(b"C,,,,,^g''''C,,,,,", 128, -128), tune_of(b"a''''C,,,,,C", -129, 60),
+    tune_of(b"C,,,,,c''''''C,,,,,c''''''C,,,,,C", 144, -144, 144, -144, 60),
 ]
 EIGHT_TITLES = Tune(b''.join(b'T:%d\n' % n for n in range(8)) + b'R:jig\nK:C\nCDEFGABcdefg|\n',
                     tuple(b'%d' % n for n in range(8)), b'jig', b'C 0',
