@@ -33,7 +33,7 @@ use crate::room::Room;
 use abc_fields::TuneText;
 use std::alloc::Global;
 use tune_disk::Disk;
-use tune_format::{Firsts, Row, read_root, write_root, write_text};
+use tune_format::{Firsts, Row, put_text, read_root, write_root, write_text};
 use tune_pages::{Fault, Pages, Work, law_of_works};
 use tune_sets::SetLists;
 use tune_store::{Layout, Tune};
@@ -137,11 +137,12 @@ pub(crate) fn take_tune<D: Disk>(
     Ok(RowChange::Take { place })
 }
 
-// Puts a new tune on a chain, behind the others. Its row comes behind those of others like it.
+// Puts a new tune on a chain, behind the others. Its row comes behind those of others like it. The
+// bytes of the chain come in the place of those that are in `bytes`.
 fn add_tune<D: Disk>(
-    alloc: Global,
     pages: &Pages<D>,
     work: &mut Work,
+    bytes: &mut Vec<u8>,
     more: &mut Vec<Row>,
     number: u32,
     text: &TuneText,
@@ -158,10 +159,10 @@ fn add_tune<D: Disk>(
     ensures takes { TakesAtMost (tune_pages text.now) result
         (stand pages.now work.old) (stand pages.now work.new) }
 {
-    let Ok(bytes) = write_text(alloc, 1, text.bytes()) else {
+    let Ok(()) = put_text(bytes, 1, text.bytes()) else {
         return Err(Fault::OutOfMemory);
     };
-    let first = pages.put_chain(work, &bytes)?;
+    let first = pages.put_chain(work, bytes)?;
     let row = Row {
         number,
         revision: 1,
@@ -172,6 +173,15 @@ fn add_tune<D: Disk>(
         return Err(Fault::OutOfMemory);
     }
     Ok(())
+}
+
+// How many bytes stand on the chains of these texts.
+fn chain_bytes(texts: &[TuneText]) -> usize {
+    let mut bytes: usize = 0;
+    for text in texts {
+        bytes = bytes.saturating_add(2 + text.bytes().len());
+    }
+    bytes
 }
 
 // Puts new tunes of these texts on chains, behind the others, with numbers from `first` on, and
@@ -199,9 +209,10 @@ fn add_tunes<D: Disk>(
     let Ok(mut more) = Vec::with_capacity(alloc, texts.len()) else {
         return Err(Fault::OutOfMemory);
     };
+    let mut bytes = Vec::new(alloc);
     let mut number = first;
     for text in texts {
-        add_tune(alloc, pages, work, &mut more, number, text)?;
+        add_tune(pages, work, &mut bytes, &mut more, number, text)?;
         number += 1;
     }
     Ok(more)

@@ -1,5 +1,5 @@
 // The chain of a tune.
-ghost use Rattle.std.specs.Prelude.{◌≡◌, ◌≢◌, ℕ, ◌^◌, ◌<◌, List, ◌++◌, IfOk, IfSome, IfNone};
+ghost use Rattle.std.specs.Prelude.{◌≡◌, ◌≢◌, ℕ, ◌^◌, ◌<◌, List, ◌++◌, IfOk, IfSome, IfNone, OnOk};
 ghost use Rattle.tune_format.specs.Written.{written_text};
 
 use byteorder::{BigEndian, ByteOrder};
@@ -13,12 +13,21 @@ const REVISION_BYTES: usize = 2;
 pub fn write_text(alloc: Global, revision: u16, text: &[u8]) -> Result<Vec<u8>, AllocError>
     ensures { IfOk result (λ bytes. bytes.items ≡ written_text revision text.now) }
 {
+    let mut bytes = Vec::with_capacity(alloc, REVISION_BYTES + text.len())?;
+    put_text(&mut bytes, revision, text)?;
+    Ok(bytes)
+}
+
+/// Puts the bytes of a tune's chain, as [`write_text`] gives them, in the place of these bytes, so
+/// that many texts, one after another, are written in one memory. The error is out of memory.
+pub fn put_text(bytes: &mut Vec<u8>, revision: u16, text: &[u8]) -> Result<(), AllocError>
+    ensures { OnOk result (bytes.new.items ≡ written_text revision text.now) }
+{
     let mut head = [0; REVISION_BYTES];
     BigEndian::write_u16(&mut head, revision);
-    let mut bytes = Vec::with_capacity(alloc, REVISION_BYTES + text.len())?;
+    bytes.clear();
     bytes.extend_from_slice(&head)?;
-    bytes.extend_from_slice(text)?;
-    Ok(bytes)
+    bytes.extend_from_slice(text)
 }
 
 /// The revision and the text that a tune's chain holds. `None` exactly where no revision stands

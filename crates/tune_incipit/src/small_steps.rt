@@ -58,8 +58,8 @@ impl SmallSteps {
         self.count += 1;
     }
 
-    /// The steps that a key is cut from, or `None`: always where the key is that of no steps or one
-    /// of them is not from -128 to 127, and it may be so elsewhere.
+    /// The steps that a key is cut from, or `None`: always where no list of steps has this key, or
+    /// one of its steps is not from -128 to 127, and it may be so elsewhere.
     pub fn of_key<const W: usize>(key: &IndexKey<W>) -> Option<SmallSteps>
         ensures { IfSome result (λ steps. key.now ≡ cut_number W 0 (bytes_of_steps steps)) }
     {

@@ -105,6 +105,10 @@ impl SearchClaims {
             (runs_of (notes_held incipits) titles.items (grouped_entries rhythms)
             (grouped_entries scales) (entries_held incipits)) → ⊥) }
     {
+        // The longest list comes first, so that it finds room where entries of others were let go.
+        let Some(incipits) = incipit_claims_of(alloc, &numbers, incipits)? else {
+            return Ok(None);
+        };
         let Some(titles) = claims_of(alloc, &numbers, titles)? else {
             return Ok(None);
         };
@@ -112,9 +116,6 @@ impl SearchClaims {
             return Ok(None);
         };
         let Some(scales) = group_claims_of(alloc, &numbers, scales)? else {
-            return Ok(None);
-        };
-        let Some(incipits) = incipit_claims_of(alloc, &numbers, incipits)? else {
             return Ok(None);
         };
         Ok(Some(SearchClaims {

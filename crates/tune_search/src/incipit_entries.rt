@@ -40,16 +40,6 @@ pub enum IncipitEntries {
 }
 
 impl IncipitEntries {
-    /// How many entries there are.
-    pub fn len(&self) -> usize
-        ensures { result ≡ length (entries_in self.now) }
-    {
-        match self {
-            IncipitEntries::Eight(entries) => entries.len(),
-            IncipitEntries::Twelve(entries) => entries.len(),
-        }
-    }
-
     // No entry, and room for so many.
     pub(crate) fn with_capacity(
         alloc: Global,

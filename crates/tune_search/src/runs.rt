@@ -60,7 +60,8 @@ impl Runs {
         ensures notes { IfOk result (λ runs. runs.notes ≡ notes_in notes) }
         ensures runs { IfOk result (λ runs. AreRunsOf (numbered first texts.now) runs) }
     {
-        let mut titles = Vec::with_capacity(alloc, texts.len())?;
+        // Most tunes have a title or two.
+        let mut titles = Vec::with_capacity(alloc, texts.len().saturating_mul(2))?;
         let mut rhythms = Vec::with_capacity(alloc, texts.len())?;
         let mut scales = Vec::with_capacity(alloc, texts.len())?;
         let mut incipits = IncipitEntries::with_capacity(alloc, notes, texts.len())?;
