@@ -1,10 +1,10 @@
 -- Which lines of a header give its titles, its rhythm and its key, and where they stand.
-use Rattle.std.proofs.Common.{◌≡◌, ◌≤◌, ◌-◌, ◌+◌, ℕ, Bool, true, false, eqb, List, [], ◌∷◌, length, take, drop, Some, refl, ap, sym, ◌∙◌, arith, subst}
+use Rattle.std.proofs.Common.{◌≡◌, ◌≤◌, ◌-◌, ◌+◌, ℕ, Bool, true, false, eqb, List, [], ◌∷◌, ◌++◌, length, take, drop, Some, refl, ap, sym, ◌∙◌, arith, subst}
 use Rattle.std.proofs.Common.{⊎_elim}
 use Rattle.std.specs.Prelude.{codes, slice_range}
 use Rattle.std.specs.List.{AllByRecursion}
 use Rattle.std.proofs.lemmas.Bool.{cases_Bool, or_cases, or_parts, and_parts, eqb-true}
-use Rattle.std.proofs.lemmas.List.{take-append-drop}
+use Rattle.std.proofs.lemmas.List.{take-append-drop, append_assoc, append-nil}
 use Rattle.abc_fields.specs.Bytes.{begins_with}
 use Rattle.abc_fields.specs.Lines.{Span, SpansRise, lines_of, spans_of}
 use Rattle.abc_fields.specs.LineKinds.{in_part_after}
@@ -13,8 +13,9 @@ use Rattle.abc_fields.specs.Tunes.{is_key_line, ends_tune}
 use Rattle.abc_fields.specs.Values.{field_value, has_percent}
 use Rattle.abc_fields.specs.Fields.{header_of, values_of, non_empty, non_empty_values, first_key, key_text_of}
 use Rattle.abc_fields.specs.Inside.LinesLeft.{contents_of}
-use Rattle.abc_fields.specs.Inside.ToldLines.{is_told, told_places, IsNear, told_key, IsToldAt, lines_at}
+use Rattle.abc_fields.specs.Inside.ToldLines.{most_told, is_told, told_places, IsNear, told_key, AreTold, IsToldAt, lines_at}
 use Rattle.abc_fields.specs.declared.told_lines.LinePlace.{LinePlace}
+use Rattle.abc_fields.specs.declared.told_lines.ToldLines.{ToldLines}
 use Rattle.abc_fields.proofs.LineLaw.{spans_rise}
 use Rattle.abc_fields.proofs.LineOffsets.{spans_have_lines}
 use Rattle.abc_fields.proofs.FieldLemmas.{key_here, key_later}
@@ -64,6 +65,49 @@ told_more line lines other is = rw (other, is) refl
 pub told_later : (line : Span) (lines : List Span) → is_key_line line.bytes ≡ false → is_told line.bytes ≡ false
     → told_places (line ∷ lines) ≡ told_places lines
 told_later line lines other none = rw (other, none) refl
+
+-- what was told of lines before these, so far
+pub record IsToldSoFar (all left : List Span) (told : ToldLines) : Type 0 where
+  pub places : told.count ≤ most_told → take told.count told.places ++ told_places left ≡ told_places all
+  pub key : told_key left ≡ told_key all
+
+-- one place more was put behind the others, if there was room
+abbrev pub IsPushed : ToldLines → ToldLines → LinePlace → Type 0
+IsPushed old new place =
+    new.count ≤ most_told → (old.count ≤ most_told) × (take new.count new.places ≡ take old.count old.places ++ place ∷ [])
+
+pub so_far_none : (all : List Span) (told : ToldLines) → told.count ≡ 0 → IsToldSoFar all all told
+so_far_none all told none = record { places = λ few. rw none refl; key = refl }
+
+pub so_far_more : (all old : List Span) (line : Span) (new : List Span) (told later : ToldLines) → IsToldSoFar all old told → old ≡ line ∷ new
+    → is_key_line line.bytes ≡ false → is_told line.bytes ≡ true → IsPushed told later (place_of line) → IsToldSoFar all new later
+so_far_more all old line new told later is step other this pushed = record {
+  places = λ few.
+      let at = pushed few in
+      ap (λ front. front ++ told_places new) at.1 ∙ append_assoc (take told.count told.places) (place_of line ∷ []) (told_places new)
+      ∙ ap (λ more. take told.count told.places ++ more) (sym (ap told_places step ∙ told_more line new other this))
+      ∙ is.places at.0;
+  key = sym (ap told_key step ∙ rw other refl) ∙ is.key;
+}
+
+pub so_far_other : (all old : List Span) (line : Span) (new : List Span) (told : ToldLines) → IsToldSoFar all old told → old ≡ line ∷ new
+    → is_key_line line.bytes ≡ false → is_told line.bytes ≡ false → IsToldSoFar all new told
+so_far_other all old line new told is step other none = record {
+  places = λ few.
+      ap (λ more. take told.count told.places ++ more) (sym (ap told_places step ∙ told_later line new other none)) ∙ is.places few;
+  key = sym (ap told_key step ∙ rw other refl) ∙ is.key;
+}
+
+-- the key comes
+pub so_far_key : (all old : List Span) (line : Span) (new : List Span) (told : ToldLines) → IsToldSoFar all old told → old ≡ line ∷ new
+    → is_key_line line.bytes ≡ true → told.count ≤ most_told
+    → AreTold all (record { places = told.places; count = told.count; key = place_of line })
+so_far_key all old line new told is step this few = record {
+  few = few;
+  places = sym (append-nil (take told.count told.places))
+      ∙ ap (λ more. take told.count told.places ++ more) (sym (ap told_places step ∙ key_first line new this)) ∙ is.places few;
+  key = sym is.key ∙ ap told_key step ∙ rw this refl;
+}
 
 -- the lines of a short text stand where two bytes say it
 all_near : (text : List ℕ) (low : ℕ) (lines : List Span) → length text ≤ longest_tune → SpansRise text low lines → AllByRecursion IsNear lines

@@ -1,6 +1,6 @@
 // Where the lines of a header stand that say what `fields` tells.
-ghost use Rattle.std.specs.Prelude.{◌≡◌, ◌<◌, ◌≤◌, ◌⊎◌, MatchOption, Some, IsTrue, true, false};
-ghost use Rattle.std.specs.Prelude.{take, slice_range, length};
+ghost use Rattle.std.specs.Prelude.{◌≡◌, ◌<◌, ◌≤◌, ◌^◌, ◌⊎◌, [], ◌∷◌, ◌++◌, take, length};
+ghost use Rattle.std.specs.Prelude.{MatchOption, Some, IsTrue, true, false, slice_range};
 ghost use Rattle.std.specs.List.{AllByRecursion};
 ghost use Rattle.abc_fields.specs.Tunes.{has_key};
 ghost use Rattle.abc_fields.specs.Inside.LinesLeft.{contents_of};
@@ -25,6 +25,19 @@ pub(crate) struct LinePlace {
 }
 
 impl LinePlace {
+    // From the index of its first byte up to the index past its last byte.
+    #[inline(always)]
+    pub(crate) fn new(from: usize, to: usize) -> LinePlace
+        requires from { from < 2 ^ 16 }
+        requires to { to < 2 ^ 16 }
+        ensures { result ≡ record { from = from; to = to } }
+    {
+        LinePlace {
+            from: from as u16,
+            to: to as u16,
+        }
+    }
+
     // The line that stands here in a text.
     #[inline(always)]
     pub(crate) fn line_in<'a>(&self, text: &'a [u8]) -> &'a [u8]
@@ -48,14 +61,40 @@ pub(crate) struct ToldLines {
 }
 
 impl ToldLines {
+    // No line has come yet.
+    #[inline(always)]
+    pub(crate) fn none() -> ToldLines
+        ensures { result.count ≡ 0 }
+    {
+        ToldLines {
+            places: [LinePlace { from: 0, to: 0 }; 4],
+            count: 0,
+            key: LinePlace { from: 0, to: 0 },
+        }
+    }
+
     // Nothing is known.
     pub(crate) fn unknown() -> ToldLines
         ensures { most_told < result.count }
     {
         ToldLines {
-            places: [LinePlace { from: 0, to: 0 }; 4],
             count: MOST_TOLD + 1,
-            key: LinePlace { from: 0, to: 0 },
+            ..ToldLines::none()
+        }
+    }
+
+    // Keeps where the next line of a title or a rhythm stands, if there is a place for it.
+    #[inline(always)]
+    pub(crate) fn push(&mut self, line: LinePlace)
+        ensures { self.new.count ≤ most_told → (self.old.count ≤ most_told)
+            × (take self.new.count self.new.places
+            ≡ take self.old.count self.old.places ++ line ∷ []) }
+    {
+        if self.count < MOST_TOLD {
+            self.places[usize::from(self.count)] = line;
+            self.count += 1;
+        } else {
+            self.count = MOST_TOLD + 1;
         }
     }
 
@@ -79,7 +118,7 @@ impl ToldLines {
 
 // Whether a line gives a title or the rhythm.
 #[inline(always)]
-fn is_told(line: &[u8]) -> bool
+pub(crate) fn is_told(line: &[u8]) -> bool
     ensures { result ≡ is_told line.now }
 {
     line.starts_with(b"T:") || line.starts_with(b"R:")
@@ -97,27 +136,15 @@ pub(crate) fn find_told(lines: &mut Lines) -> Option<(KeyPlace, ToldLines)>
         × (has_end (contents_of lines.new) ≡ has_end (contents_of lines.old))) }
 {
     let mut in_part = false;
-    let mut places = [LinePlace { from: 0, to: 0 }; 4];
-    let mut count = 0;
+    let mut told = ToldLines::none();
     while let Some(line) = lines.next() {
         if is_key_line(line.text) {
             let from = line.from;
-            let key = LinePlace {
-                from: line.from as u16,
-                to: line.to as u16,
-            };
-            return Some((KeyPlace { from, in_part }, ToldLines { places, count, key }));
+            told.key = LinePlace::new(line.from, line.to);
+            return Some((KeyPlace { from, in_part }, told));
         }
         if is_told(line.text) {
-            if count < MOST_TOLD {
-                places[usize::from(count)] = LinePlace {
-                    from: line.from as u16,
-                    to: line.to as u16,
-                };
-                count += 1;
-            } else {
-                count = MOST_TOLD + 1;
-            }
+            told.push(LinePlace::new(line.from, line.to));
             continue;
         }
         if ends_tune(line.text) {
