@@ -13,9 +13,8 @@ use Rattle.abc_fields.specs.Tunes.{is_key_line, ends_tune}
 use Rattle.abc_fields.specs.Values.{field_value, has_percent}
 use Rattle.abc_fields.specs.Fields.{header_of, values_of, non_empty, non_empty_values, first_key, key_text_of}
 use Rattle.abc_fields.specs.Inside.LinesLeft.{contents_of}
-use Rattle.abc_fields.specs.Inside.ToldLines.{most_told, is_told, told_places, IsNear, told_key, AreTold, IsToldAt, lines_at}
+use Rattle.abc_fields.specs.Inside.ToldLines.{most_told, is_told, told_places, IsNear, told_key, AreTold, IsPlaceKept, IsToldAt, lines_at}
 use Rattle.abc_fields.specs.declared.told_lines.LinePlace.{LinePlace}
-use Rattle.abc_fields.specs.declared.told_lines.ToldLines.{ToldLines}
 use Rattle.abc_fields.proofs.LineLaw.{spans_rise}
 use Rattle.abc_fields.proofs.LineOffsets.{spans_have_lines}
 use Rattle.abc_fields.proofs.FieldLemmas.{key_here, key_later}
@@ -67,45 +66,40 @@ pub told_later : (line : Span) (lines : List Span) → is_key_line line.bytes �
 told_later line lines other none = rw (other, none) refl
 
 -- what was told of lines before these, so far
-pub record IsToldSoFar (all left : List Span) (told : ToldLines) : Type 0 where
-  pub places : told.count ≤ most_told → take told.count told.places ++ told_places left ≡ told_places all
+pub record IsToldSoFar (all left : List Span) (places : List LinePlace) (count : ℕ) : Type 0 where
+  pub told : count ≤ most_told → take count places ++ told_places left ≡ told_places all
   pub key : told_key left ≡ told_key all
 
--- one place more was put behind the others, if there was room
-abbrev pub IsPushed : ToldLines → ToldLines → LinePlace → Type 0
-IsPushed old new place =
-    new.count ≤ most_told → (old.count ≤ most_told) × (take new.count new.places ≡ take old.count old.places ++ place ∷ [])
+pub so_far_none : (all : List Span) (places : List LinePlace) → IsToldSoFar all all places 0
+so_far_none all places = record { told = λ few. refl; key = refl }
 
-pub so_far_none : (all : List Span) (told : ToldLines) → told.count ≡ 0 → IsToldSoFar all all told
-so_far_none all told none = record { places = λ few. rw none refl; key = refl }
-
-pub so_far_more : (all old : List Span) (line : Span) (new : List Span) (told later : ToldLines) → IsToldSoFar all old told → old ≡ line ∷ new
-    → is_key_line line.bytes ≡ false → is_told line.bytes ≡ true → IsPushed told later (place_of line) → IsToldSoFar all new later
-so_far_more all old line new told later is step other this pushed = record {
-  places = λ few.
-      let at = pushed few in
-      ap (λ front. front ++ told_places new) at.1 ∙ append_assoc (take told.count told.places) (place_of line ∷ []) (told_places new)
-      ∙ ap (λ more. take told.count told.places ++ more) (sym (ap told_places step ∙ told_more line new other this))
-      ∙ is.places at.0;
+pub so_far_more : (all old : List Span) (line : Span) (new : List Span) (places later : List LinePlace) (count more : ℕ) → IsToldSoFar all old places count
+    → old ≡ line ∷ new → is_key_line line.bytes ≡ false → is_told line.bytes ≡ true → IsPlaceKept places count later more (place_of line)
+    → IsToldSoFar all new later more
+so_far_more all old line new places later count more is step other this kept = record {
+  told = λ few.
+      let at = kept few in
+      ap (λ front. front ++ told_places new) at.1 ∙ append_assoc (take count places) (place_of line ∷ []) (told_places new)
+      ∙ ap (λ ps. take count places ++ ps) (sym (ap told_places step ∙ told_more line new other this))
+      ∙ is.told at.0;
   key = sym (ap told_key step ∙ rw other refl) ∙ is.key;
 }
 
-pub so_far_other : (all old : List Span) (line : Span) (new : List Span) (told : ToldLines) → IsToldSoFar all old told → old ≡ line ∷ new
-    → is_key_line line.bytes ≡ false → is_told line.bytes ≡ false → IsToldSoFar all new told
-so_far_other all old line new told is step other none = record {
-  places = λ few.
-      ap (λ more. take told.count told.places ++ more) (sym (ap told_places step ∙ told_later line new other none)) ∙ is.places few;
+pub so_far_other : (all old : List Span) (line : Span) (new : List Span) (places : List LinePlace) (count : ℕ) → IsToldSoFar all old places count
+    → old ≡ line ∷ new → is_key_line line.bytes ≡ false → is_told line.bytes ≡ false → IsToldSoFar all new places count
+so_far_other all old line new places count is step other none = record {
+  told = λ few. ap (λ ps. take count places ++ ps) (sym (ap told_places step ∙ told_later line new other none)) ∙ is.told few;
   key = sym (ap told_key step ∙ rw other refl) ∙ is.key;
 }
 
 -- the key comes
-pub so_far_key : (all old : List Span) (line : Span) (new : List Span) (told : ToldLines) → IsToldSoFar all old told → old ≡ line ∷ new
-    → is_key_line line.bytes ≡ true → told.count ≤ most_told
-    → AreTold all (record { places = told.places; count = told.count; key = place_of line })
-so_far_key all old line new told is step this few = record {
+pub so_far_key : (all old : List Span) (line : Span) (new : List Span) (places : List LinePlace) (count : ℕ) → IsToldSoFar all old places count
+    → old ≡ line ∷ new → is_key_line line.bytes ≡ true → count ≤ most_told
+    → AreTold all (record { places = places; count = count; key = place_of line })
+so_far_key all old line new places count is step this few = record {
   few = few;
-  places = sym (append-nil (take told.count told.places))
-      ∙ ap (λ more. take told.count told.places ++ more) (sym (ap told_places step ∙ key_first line new this)) ∙ is.places few;
+  places = sym (append-nil (take count places)) ∙ ap (λ ps. take count places ++ ps) (sym (ap told_places step ∙ key_first line new this))
+      ∙ is.told few;
   key = sym is.key ∙ ap told_key step ∙ rw this refl;
 }
 

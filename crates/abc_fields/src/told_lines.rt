@@ -5,7 +5,7 @@ ghost use Rattle.std.specs.List.{AllByRecursion};
 ghost use Rattle.abc_fields.specs.Tunes.{has_key};
 ghost use Rattle.abc_fields.specs.Inside.LinesLeft.{contents_of};
 ghost use Rattle.abc_fields.specs.Inside.HeaderEnds.{key_place, has_end};
-ghost use Rattle.abc_fields.specs.Inside.ToldLines.{most_told, is_told, IsNear, AreTold};
+ghost use Rattle.abc_fields.specs.Inside.ToldLines.{most_told, is_told, IsNear, AreTold, IsPlaceKept};
 
 use crate::key_place::KeyPlace;
 use crate::line_kinds::{in_part_after, is_key_line};
@@ -49,52 +49,29 @@ impl LinePlace {
     }
 }
 
+// Where lines stand of which none has come yet.
+pub(crate) const NO_PLACES: [LinePlace; 4] = [LinePlace { from: 0, to: 0 }; 4];
+
 // Where the lines of a header stand that give the titles, the rhythm and the key.
 #[derive(Clone, Copy, Debug)]
 pub(crate) struct ToldLines {
     // Those of titles and rhythms, in order.
-    places: [LinePlace; 4],
+    pub(crate) places: [LinePlace; 4],
     // How many of these there are; where there are more than places, nothing is known.
-    count: u16,
+    pub(crate) count: u16,
     // The line of the key.
     pub(crate) key: LinePlace,
 }
 
 impl ToldLines {
-    // No line has come yet.
-    #[inline(always)]
-    pub(crate) fn none() -> ToldLines
-        ensures { result.count ≡ 0 }
-    {
-        ToldLines {
-            places: [LinePlace { from: 0, to: 0 }; 4],
-            count: 0,
-            key: LinePlace { from: 0, to: 0 },
-        }
-    }
-
     // Nothing is known.
     pub(crate) fn unknown() -> ToldLines
         ensures { most_told < result.count }
     {
         ToldLines {
+            places: NO_PLACES,
             count: MOST_TOLD + 1,
-            ..ToldLines::none()
-        }
-    }
-
-    // Keeps where the next line of a title or a rhythm stands, if there is a place for it.
-    #[inline(always)]
-    pub(crate) fn push(&mut self, line: LinePlace)
-        ensures { self.new.count ≤ most_told → (self.old.count ≤ most_told)
-            × (take self.new.count self.new.places
-            ≡ take self.old.count self.old.places ++ line ∷ []) }
-    {
-        if self.count < MOST_TOLD {
-            self.places[usize::from(self.count)] = line;
-            self.count += 1;
-        } else {
-            self.count = MOST_TOLD + 1;
+            key: NO_PLACES[0],
         }
     }
 
@@ -113,6 +90,20 @@ impl ToldLines {
         ensures { result.now ≡ take self.now.count self.now.places }
     {
         &self.places[..usize::from(self.count)]
+    }
+}
+
+// Keeps where the next line of a title or a rhythm stands, behind so many others, if there is a
+// place for it, and tells how many there are then.
+#[inline(always)]
+pub(crate) fn keep_place(places: &mut [LinePlace; 4], count: u16, line: LinePlace) -> u16
+    ensures { IsPlaceKept places.old count places.new result line }
+{
+    if count < MOST_TOLD {
+        places[usize::from(count)] = line;
+        count + 1
+    } else {
+        MOST_TOLD + 1
     }
 }
 
@@ -136,15 +127,16 @@ pub(crate) fn find_told(lines: &mut Lines) -> Option<(KeyPlace, ToldLines)>
         × (has_end (contents_of lines.new) ≡ has_end (contents_of lines.old))) }
 {
     let mut in_part = false;
-    let mut told = ToldLines::none();
+    let mut places = NO_PLACES;
+    let mut count = 0;
     while let Some(line) = lines.next() {
         if is_key_line(line.text) {
             let from = line.from;
-            told.key = LinePlace::new(line.from, line.to);
-            return Some((KeyPlace { from, in_part }, told));
+            let key = LinePlace::new(line.from, line.to);
+            return Some((KeyPlace { from, in_part }, ToldLines { places, count, key }));
         }
         if is_told(line.text) {
-            told.push(LinePlace::new(line.from, line.to));
+            count = keep_place(&mut places, count, LinePlace::new(line.from, line.to));
             continue;
         }
         if ends_tune(line.text) {

@@ -24,7 +24,7 @@ use crate::key_place::KeyPlace;
 use crate::line_kinds::{in_part_after, is_key_line};
 use crate::lines::{Line, Lines};
 use crate::texts::TuneText;
-use crate::told_lines::{LinePlace, ToldLines, is_told};
+use crate::told_lines::{LinePlace, NO_PLACES, ToldLines, is_told, keep_place};
 use crate::values::is_all_blank;
 use std::alloc::{AllocError, Global};
 
@@ -216,15 +216,16 @@ fn read_to_key(lines: &mut Lines) -> Option<(KeyPlace, ToldLines)>
 {
     let mut from = 0;
     let mut in_part = false;
-    let mut told = ToldLines::none();
+    let mut places = NO_PLACES;
+    let mut count = 0;
     while let Some(line) = next_of_tune(lines) {
         let place = LinePlace::new(from, from + line.text.len());
         if is_key_line(line.text) {
-            told.key = place;
-            return Some((KeyPlace { from, in_part }, told));
+            let key = place;
+            return Some((KeyPlace { from, in_part }, ToldLines { places, count, key }));
         }
         if is_told(line.text) {
-            told.push(place);
+            count = keep_place(&mut places, count, place);
         }
         in_part = in_part_after(in_part, line.text);
         from += line.text.len() + 1;

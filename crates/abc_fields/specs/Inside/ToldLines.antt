@@ -1,6 +1,6 @@
 -- Where the lines of a header stand that give the titles, the rhythm and the key.
-use Rattle.std.specs.Prelude.{◌≡◌, ◌≤◌, ◌<◌, ◌^◌, ◌+◌, ℕ, List, [], ◌∷◌, length, map, take}
-use Rattle.std.specs.Prelude.{slice_range, codes, Bool, true, ◌||◌, if◌then◌else◌, Option, None}
+use Rattle.std.specs.Prelude.{◌≡◌, ◌≤◌, ◌<◌, ◌^◌, ◌+◌, ℕ, List, [], ◌∷◌, ◌++◌, length, map}
+use Rattle.std.specs.Prelude.{take, slice_range, codes, Bool, true, ◌||◌, if◌then◌else◌, Option, None}
 use Rattle.std.specs.Prelude.{Some}
 use Rattle.abc_fields.specs.Bytes.{begins_with}
 use Rattle.abc_fields.specs.Lines.{Span, spans_of}
@@ -45,6 +45,11 @@ pub record AreTold (lines : List Span) (told : ToldLines) : Type 0 where
 -- what is known of a text is that, or nothing
 abbrev pub IsTold : List ℕ → ToldLines → Type 0
 IsTold text told = told.count ≤ most_told → AreTold (spans_of text) told
+
+-- one place more was put behind so many others, if there was room
+abbrev pub IsPlaceKept : List LinePlace → ℕ → List LinePlace → ℕ → LinePlace → Type 0
+IsPlaceKept old count new more place =
+    more ≤ most_told → (count ≤ most_told) × (take more new ≡ take count old ++ place ∷ [])
 
 -- where lines stand, of which the first begins at this index, and a line feed ends each
 abbrev pub spans_at : ℕ → List (List ℕ) → List Span

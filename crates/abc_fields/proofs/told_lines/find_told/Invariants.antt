@@ -14,7 +14,7 @@ invariant-loop-line l = record {
   key : has_key (contents_of l.lines) ≡ has_key (contents_of l.fn.lines);
   ends : has_end (contents_of l.lines) ≡ has_end (contents_of l.fn.lines);
   near : AllByRecursion IsNear l.lines;
-  told : IsToldSoFar l.fn.lines l.lines l.told;
+  told : IsToldSoFar l.fn.lines l.lines l.places l.count;
 }
 
 abbrev pub decreases-loop-line : goal.decreases-loop-line

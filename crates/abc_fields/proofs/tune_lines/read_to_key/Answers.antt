@@ -23,7 +23,7 @@ returns-then-is_key_line c =
     let is = sym c.is_key_line.ensures ∙ c.if-is_key_line.true in (
       header_key _ _ _ _ _ c.loop-line.invariant.header c.in-Some.ensures.1 c.in-Some.ensures.0 is,
       λ few. rw c.new-place.ensures
-          (so_far_key _ _ _ _ _ c.loop-line.invariant.told (spans_more _ _ _ _ c.in-Some.ensures.1 c.in-Some.ensures.0) is few),
+          (so_far_key _ _ _ _ _ _ c.loop-line.invariant.told (spans_more _ _ _ _ c.in-Some.ensures.1 c.in-Some.ensures.0) is few),
     )
 
 pub loop-line-preserved : goal.loop-line-preserved
@@ -39,11 +39,11 @@ loop-line-preserved c =
           (header_more _ _ _ _ _ _ c.loop-line.invariant.header c.in-Some.ensures.1 c.in-Some.ensures.0 other);
       told = elim c.if-is_told.branch [
         | then-is_told w ↦
-            rw w.told-is
-            (so_far_more all _ _ left c.loop-line.told _ c.loop-line.invariant.told step other (sym c.is_told.ensures ∙ w.if-is_told.true)
-            (rw c.new-place.ensures at w.push.ensures))
+            rw (w.places-is, w.count-is)
+            (so_far_more all _ _ left c.loop-line.places _ c.loop-line.count _ c.loop-line.invariant.told step other (sym c.is_told.ensures ∙ w.if-is_told.true)
+            (rw c.new-place.ensures at w.keep_place-count.ensures))
         | else-is_told w ↦
-            rw w.told-is
-            (so_far_other all _ _ left c.loop-line.told c.loop-line.invariant.told step other (sym c.is_told.ensures ∙ w.if-is_told.false))
+            rw (w.places-is, w.count-is)
+            (so_far_other all _ _ left c.loop-line.places c.loop-line.count c.loop-line.invariant.told step other (sym c.is_told.ensures ∙ w.if-is_told.false))
       ];
     }

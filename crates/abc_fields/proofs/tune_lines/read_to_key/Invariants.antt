@@ -9,7 +9,7 @@ use Rattle.abc_fields.proofs.tune_lines.read_to_key.Given as goal
 abbrev pub invariant-loop-line : goal.invariant-loop-line
 invariant-loop-line l = record {
   header : IsHeaderOpen (contents_of l.fn.lines) (contents_of l.lines) (record { from = l.from; in_part = l.in_part });
-  told : IsToldSoFar (spans_at 0 (tune_run (contents_of l.fn.lines))) (spans_at l.from (tune_run (contents_of l.lines))) l.told;
+  told : IsToldSoFar (spans_at 0 (tune_run (contents_of l.fn.lines))) (spans_at l.from (tune_run (contents_of l.lines))) l.places l.count;
 }
 
 abbrev pub decreases-loop-line : goal.decreases-loop-line
