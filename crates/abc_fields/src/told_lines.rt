@@ -5,7 +5,8 @@ ghost use Rattle.std.specs.List.{AllByRecursion};
 ghost use Rattle.abc_fields.specs.Tunes.{has_key};
 ghost use Rattle.abc_fields.specs.Inside.LinesLeft.{contents_of};
 ghost use Rattle.abc_fields.specs.Inside.HeaderEnds.{key_place, has_end};
-ghost use Rattle.abc_fields.specs.Inside.ToldLines.{most_told, is_told, IsNear, AreTold, IsPlaceKept};
+ghost use Rattle.abc_fields.specs.Inside.ToldLines.{most_told, is_told, IsNear, AreTold};
+ghost use Rattle.abc_fields.specs.Inside.ToldLines.{IsPlaceKept};
 
 use crate::key_place::KeyPlace;
 use crate::line_kinds::{in_part_after, is_key_line};

@@ -1,7 +1,7 @@
 -- Where the lines of a header stand that give the titles, the rhythm and the key.
 use Rattle.std.specs.Prelude.{◌≡◌, ◌≤◌, ◌<◌, ◌^◌, ◌+◌, ℕ, List, [], ◌∷◌, ◌++◌, length, map}
-use Rattle.std.specs.Prelude.{take, slice_range, codes, Bool, true, ◌||◌, if◌then◌else◌, Option, None}
-use Rattle.std.specs.Prelude.{Some}
+use Rattle.std.specs.Prelude.{take, slice_range, codes, Bool, true, ◌||◌, if◌then◌else◌, Option}
+use Rattle.std.specs.Prelude.{None, Some}
 use Rattle.abc_fields.specs.Bytes.{begins_with}
 use Rattle.abc_fields.specs.Lines.{Span, spans_of}
 use Rattle.abc_fields.specs.Tunes.{is_key_line}
