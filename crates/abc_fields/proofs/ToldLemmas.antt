@@ -1,10 +1,10 @@
 -- Which lines of a header give its titles, its rhythm and its key, and where they stand.
-use Rattle.std.proofs.Common.{◌≡◌, ◌≤◌, ◌-◌, ◌+◌, ℕ, Bool, true, false, eqb, List, [], ◌∷◌, length, take, drop, Some, refl, ap, sym, ◌∙◌, arith, subst}
+use Rattle.std.proofs.Common.{◌≡◌, ◌≤◌, ◌-◌, ◌+◌, ℕ, Bool, true, false, eqb, List, [], ◌∷◌, ◌++◌, length, take, drop, Some, refl, ap, sym, ◌∙◌, arith, subst}
 use Rattle.std.proofs.Common.{⊎_elim}
 use Rattle.std.specs.Prelude.{codes, slice_range}
 use Rattle.std.specs.List.{AllByRecursion}
 use Rattle.std.proofs.lemmas.Bool.{cases_Bool, or_cases, or_parts, and_parts, eqb-true}
-use Rattle.std.proofs.lemmas.List.{take-append-drop}
+use Rattle.std.proofs.lemmas.List.{take-append-drop, append_assoc, append-nil}
 use Rattle.abc_fields.specs.Bytes.{begins_with}
 use Rattle.abc_fields.specs.Lines.{Span, SpansRise, lines_of, spans_of}
 use Rattle.abc_fields.specs.LineKinds.{in_part_after}
@@ -13,7 +13,7 @@ use Rattle.abc_fields.specs.Tunes.{is_key_line, ends_tune}
 use Rattle.abc_fields.specs.Values.{field_value, has_percent}
 use Rattle.abc_fields.specs.Fields.{header_of, values_of, non_empty, non_empty_values, first_key, key_text_of}
 use Rattle.abc_fields.specs.Inside.LinesLeft.{contents_of}
-use Rattle.abc_fields.specs.Inside.ToldLines.{is_told, told_places, IsNear, told_key, IsToldAt, lines_at}
+use Rattle.abc_fields.specs.Inside.ToldLines.{most_told, is_told, told_places, IsNear, told_key, AreTold, IsPlaceKept, IsToldAt, lines_at}
 use Rattle.abc_fields.specs.declared.told_lines.LinePlace.{LinePlace}
 use Rattle.abc_fields.proofs.LineLaw.{spans_rise}
 use Rattle.abc_fields.proofs.LineOffsets.{spans_have_lines}
@@ -64,6 +64,44 @@ told_more line lines other is = rw (other, is) refl
 pub told_later : (line : Span) (lines : List Span) → is_key_line line.bytes ≡ false → is_told line.bytes ≡ false
     → told_places (line ∷ lines) ≡ told_places lines
 told_later line lines other none = rw (other, none) refl
+
+-- what was told of lines before these, so far
+pub record IsToldSoFar (all left : List Span) (places : List LinePlace) (count : ℕ) : Type 0 where
+  pub told : count ≤ most_told → take count places ++ told_places left ≡ told_places all
+  pub key : told_key left ≡ told_key all
+
+pub so_far_none : (all : List Span) (places : List LinePlace) → IsToldSoFar all all places 0
+so_far_none all places = record { told = λ few. refl; key = refl }
+
+pub so_far_more : (all old : List Span) (line : Span) (new : List Span) (places later : List LinePlace) (count more : ℕ) → IsToldSoFar all old places count
+    → old ≡ line ∷ new → is_key_line line.bytes ≡ false → is_told line.bytes ≡ true → IsPlaceKept places count later more (place_of line)
+    → IsToldSoFar all new later more
+so_far_more all old line new places later count more is step other this kept = record {
+  told = λ few.
+      let at = kept few in
+      ap (λ front. front ++ told_places new) at.1 ∙ append_assoc (take count places) (place_of line ∷ []) (told_places new)
+      ∙ ap (λ ps. take count places ++ ps) (sym (ap told_places step ∙ told_more line new other this))
+      ∙ is.told at.0;
+  key = sym (ap told_key step ∙ rw other refl) ∙ is.key;
+}
+
+pub so_far_other : (all old : List Span) (line : Span) (new : List Span) (places : List LinePlace) (count : ℕ) → IsToldSoFar all old places count
+    → old ≡ line ∷ new → is_key_line line.bytes ≡ false → is_told line.bytes ≡ false → IsToldSoFar all new places count
+so_far_other all old line new places count is step other none = record {
+  told = λ few. ap (λ ps. take count places ++ ps) (sym (ap told_places step ∙ told_later line new other none)) ∙ is.told few;
+  key = sym (ap told_key step ∙ rw other refl) ∙ is.key;
+}
+
+-- the key comes
+pub so_far_key : (all old : List Span) (line : Span) (new : List Span) (places : List LinePlace) (count : ℕ) → IsToldSoFar all old places count
+    → old ≡ line ∷ new → is_key_line line.bytes ≡ true → count ≤ most_told
+    → AreTold all (record { places = places; count = count; key = place_of line })
+so_far_key all old line new places count is step this few = record {
+  few = few;
+  places = sym (append-nil (take count places)) ∙ ap (λ ps. take count places ++ ps) (sym (ap told_places step ∙ key_first line new this))
+      ∙ is.told few;
+  key = sym is.key ∙ ap told_key step ∙ rw this refl;
+}
 
 -- the lines of a short text stand where two bytes say it
 all_near : (text : List ℕ) (low : ℕ) (lines : List Span) → length text ≤ longest_tune → SpansRise text low lines → AllByRecursion IsNear lines

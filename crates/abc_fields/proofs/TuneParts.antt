@@ -1,5 +1,5 @@
 -- The text of a tune as a part of its book.
-use Rattle.std.proofs.Common.{◌≡◌, ℕ, ◌+◌, ◌≤◌, Bool, true, false, List, [], ◌∷◌, ◌++◌, length, take, drop, Some, refl}
+use Rattle.std.proofs.Common.{◌≡◌, ℕ, ◌+◌, ◌≤◌, ◌<◌, ◌^◌, Bool, true, false, List, [], ◌∷◌, ◌++◌, length, take, drop, Some, refl}
 use Rattle.std.proofs.Common.{ap, sym, ◌∙◌, subst, inl, arith, add-zero}
 use Rattle.std.specs.List.{fold}
 use Rattle.std.proofs.Math.Seq.{take-append_seam, drop-append_seam}
@@ -8,12 +8,15 @@ use Rattle.std.proofs.lemmas.List.Sums.{fold-append}
 use Rattle.std.proofs.lemmas.Bool.{cond_both, or_parts, or_from}
 use Rattle.abc_fields.specs.Bytes.{line_feed}
 use Rattle.abc_fields.specs.Lines.{pieces_of, lines_of, spans_from, spans_of}
+use Rattle.abc_fields.specs.Limits.{longest_tune}
 use Rattle.abc_fields.specs.LineKinds.{in_part_after, part_open_after}
 use Rattle.abc_fields.specs.Tunes.{is_key_line, ends_tune, tune_run, joined, has_key}
 use Rattle.abc_fields.specs.FileHeaders.{before_key}
 use Rattle.abc_fields.specs.Inside.LinesLeft.{AreRead, IsRestAfter, HasLines}
 use Rattle.abc_fields.specs.Inside.HeaderEnds.{key_place, IsBefore, IsKeyRead}
+use Rattle.abc_fields.specs.Inside.ToldLines.{AreTold, IsTold, IsToldOf, spans_at}
 use Rattle.abc_fields.specs.declared.key_place.KeyPlace.{KeyPlace}
+use Rattle.abc_fields.specs.declared.told_lines.ToldLines.{ToldLines}
 use Rattle.abc_fields.proofs.BookLemmas.{AllPlain, lines_plain}
 use Rattle.abc_fields.proofs.LineLaw.{pieces_of_line}
 use Rattle.abc_fields.proofs.RuleSums.{joined-append, joined-length}
@@ -103,6 +106,16 @@ header_room all old line new place is step within = omega (
   ap (λ ls. length (joined ls)) (run_more old line new step within),
   joined-length line (tune_run new),
 )
+
+-- and that two bytes say where the line stands
+pub header_near : (all old : List (List ℕ)) (line : List ℕ) (new : List (List ℕ)) (place : KeyPlace) → IsHeaderOpen all old place → old ≡ line ∷ new
+    → ends_tune line ≡ false → length (joined (tune_run all)) ≤ longest_tune → place.from + length line < 2 ^ 16
+header_near all old line new place is step within short = omega (arith, header_room all old line new place is step within, short)
+
+-- where the lines of a tune stand, from one of them on
+pub spans_more : (at : ℕ) (old : List (List ℕ)) (line : List ℕ) (new : List (List ℕ)) → old ≡ line ∷ new → ends_tune line ≡ false
+    → spans_at at (tune_run old) ≡ record { from = at; to = at + length line; bytes = line } ∷ spans_at (at + (length line + 1)) (tune_run new)
+spans_more at old line new step within = ap (spans_at at) (run_more old line new step within)
 
 -- the key comes
 pub header_key : (all old : List (List ℕ)) (line : List ℕ) (new : List (List ℕ)) (place : KeyPlace) → IsHeaderOpen all old place → old ≡ line ∷ new
@@ -228,6 +241,27 @@ put_longer put (line ∷ run) =
     cond_both (is_key_line line) (put ++ (line ∷ run)) (line ∷ before_key put run) (λ ls. length (joined (line ∷ run)) ≤ length (joined ls))
     (λ is. omega (arith, ap length (joined-append put (line ∷ run)), length-append (joined put) (joined (line ∷ run))))
     (λ other. omega (arith, put_longer put run, joined-length line (before_key put run), joined-length line run))
+
+-- where the lines stand of the text of plain lines
+spans_joined : (at : ℕ) (lines : List (List ℕ)) → AllPlain lines → spans_from at (pieces_of (joined lines)) ≡ spans_at at lines
+spans_joined at [] plain = refl
+spans_joined at (line ∷ lines) plain =
+    let head = ap pieces_of (append_assoc line (line_feed ∷ []) (joined lines))
+    ∙ pieces_of_line line (line_feed ∷ []) (joined lines) plain.0 (inl refl) in
+    let sum : at + length line + 1 ≡ at + (length line + 1) = omega arith in
+    let later = ap (λ n. spans_from n (pieces_of (joined lines))) sum ∙ spans_joined (at + (length line + 1)) lines plain.1 in
+    ap (spans_from at) head ∙ ap (λ ls. record { from = at; to = at + length line; bytes = line } ∷ ls) later
+
+-- where the lines stand in the part that give the titles, the rhythm and the key
+pub told_part : (all new : List (List ℕ)) (part : List ℕ) (place : KeyPlace) (told : ToldLines) → IsKeyRead all new place → tune_run new ≡ []
+    → ((gone : List (List ℕ)) → gone ++ new ≡ all → HasLines part gone) → IsToldOf (tune_run all) told → IsTold part told
+told_part all new part place told is none stands told_of =
+    let front = is.before ++ is.line ∷ is.later in
+    let has = stands front is.read.whole in
+    let run : front ≡ tune_run all = sym (append-nil front) ∙ ap (λ ls. front ++ ls) (sym none) ∙ is.read.run in
+    let plain = subst AllPlain has.lines (lines_plain part) in
+    let spans : spans_of part ≡ spans_at 0 (tune_run all) = ap (λ t. spans_of t) (sym has.whole) ∙ spans_joined 0 front plain ∙ ap (spans_at 0) run in
+    λ few. subst (λ ls. AreTold ls told) (sym spans) (told_of few)
 
 -- what a tune that is a part of its book comes to, with the bytes of lines put before its key
 pub record IsPlaced (part bytes : List ℕ) (put run : List (List ℕ)) (place : KeyPlace) : Type 0 where

@@ -98,17 +98,19 @@ impl TuneText {
         }
     }
 
-    // The bytes as a tune text whose key stands here. It takes no memory.
-    pub(crate) fn from_keyed(text: Vec<u8>, key: KeyPlace) -> TuneText
+    // The bytes as a tune text whose key stands here, and whose titles and rhythm stand there, if
+    // that is known. It takes no memory.
+    pub(crate) fn from_keyed(text: Vec<u8>, key: KeyPlace, told: ToldLines) -> TuneText
         requires good { IsTextWithin longest_tune text.items }
         requires key { key_place false (spans_of text.items) ≡ Some key }
+        requires told { IsTold text.items told }
         ensures { result ≡ text.items }
     {
         let plain = is_plain(text.as_slice());
         TuneText {
             text,
             key: Some(key),
-            told: ToldLines::unknown(),
+            told,
             plain,
         }
     }

@@ -1,11 +1,12 @@
 // Where the lines of a header stand that say what `fields` tells.
-ghost use Rattle.std.specs.Prelude.{◌≡◌, ◌<◌, ◌≤◌, ◌⊎◌, MatchOption, Some, IsTrue, true, false};
-ghost use Rattle.std.specs.Prelude.{take, slice_range, length};
+ghost use Rattle.std.specs.Prelude.{◌≡◌, ◌<◌, ◌≤◌, ◌^◌, ◌⊎◌, [], ◌∷◌, ◌++◌, take, length};
+ghost use Rattle.std.specs.Prelude.{MatchOption, Some, IsTrue, true, false, slice_range};
 ghost use Rattle.std.specs.List.{AllByRecursion};
 ghost use Rattle.abc_fields.specs.Tunes.{has_key};
 ghost use Rattle.abc_fields.specs.Inside.LinesLeft.{contents_of};
 ghost use Rattle.abc_fields.specs.Inside.HeaderEnds.{key_place, has_end};
 ghost use Rattle.abc_fields.specs.Inside.ToldLines.{most_told, is_told, IsNear, AreTold};
+ghost use Rattle.abc_fields.specs.Inside.ToldLines.{IsPlaceKept};
 
 use crate::key_place::KeyPlace;
 use crate::line_kinds::{in_part_after, is_key_line};
@@ -25,6 +26,19 @@ pub(crate) struct LinePlace {
 }
 
 impl LinePlace {
+    // From the index of its first byte up to the index past its last byte.
+    #[inline(always)]
+    pub(crate) fn new(from: usize, to: usize) -> LinePlace
+        requires from { from < 2 ^ 16 }
+        requires to { to < 2 ^ 16 }
+        ensures { result ≡ record { from = from; to = to } }
+    {
+        LinePlace {
+            from: from as u16,
+            to: to as u16,
+        }
+    }
+
     // The line that stands here in a text.
     #[inline(always)]
     pub(crate) fn line_in<'a>(&self, text: &'a [u8]) -> &'a [u8]
@@ -36,13 +50,16 @@ impl LinePlace {
     }
 }
 
+// Where lines stand of which none has come yet.
+pub(crate) const NO_PLACES: [LinePlace; 4] = [LinePlace { from: 0, to: 0 }; 4];
+
 // Where the lines of a header stand that give the titles, the rhythm and the key.
 #[derive(Clone, Copy, Debug)]
 pub(crate) struct ToldLines {
     // Those of titles and rhythms, in order.
-    places: [LinePlace; 4],
+    pub(crate) places: [LinePlace; 4],
     // How many of these there are; where there are more than places, nothing is known.
-    count: u16,
+    pub(crate) count: u16,
     // The line of the key.
     pub(crate) key: LinePlace,
 }
@@ -53,9 +70,9 @@ impl ToldLines {
         ensures { most_told < result.count }
     {
         ToldLines {
-            places: [LinePlace { from: 0, to: 0 }; 4],
+            places: NO_PLACES,
             count: MOST_TOLD + 1,
-            key: LinePlace { from: 0, to: 0 },
+            key: NO_PLACES[0],
         }
     }
 
@@ -77,9 +94,23 @@ impl ToldLines {
     }
 }
 
+// Keeps where the next line of a title or a rhythm stands, behind so many others, if there is a
+// place for it, and tells how many there are then.
+#[inline(always)]
+pub(crate) fn keep_place(places: &mut [LinePlace; 4], count: u16, line: LinePlace) -> u16
+    ensures { IsPlaceKept places.old count places.new result line }
+{
+    if count < MOST_TOLD {
+        places[usize::from(count)] = line;
+        count + 1
+    } else {
+        MOST_TOLD + 1
+    }
+}
+
 // Whether a line gives a title or the rhythm.
 #[inline(always)]
-fn is_told(line: &[u8]) -> bool
+pub(crate) fn is_told(line: &[u8]) -> bool
     ensures { result ≡ is_told line.now }
 {
     line.starts_with(b"T:") || line.starts_with(b"R:")
@@ -97,27 +128,16 @@ pub(crate) fn find_told(lines: &mut Lines) -> Option<(KeyPlace, ToldLines)>
         × (has_end (contents_of lines.new) ≡ has_end (contents_of lines.old))) }
 {
     let mut in_part = false;
-    let mut places = [LinePlace { from: 0, to: 0 }; 4];
+    let mut places = NO_PLACES;
     let mut count = 0;
     while let Some(line) = lines.next() {
         if is_key_line(line.text) {
             let from = line.from;
-            let key = LinePlace {
-                from: line.from as u16,
-                to: line.to as u16,
-            };
+            let key = LinePlace::new(line.from, line.to);
             return Some((KeyPlace { from, in_part }, ToldLines { places, count, key }));
         }
         if is_told(line.text) {
-            if count < MOST_TOLD {
-                places[usize::from(count)] = LinePlace {
-                    from: line.from as u16,
-                    to: line.to as u16,
-                };
-                count += 1;
-            } else {
-                count = MOST_TOLD + 1;
-            }
+            count = keep_place(&mut places, count, LinePlace::new(line.from, line.to));
             continue;
         }
         if ends_tune(line.text) {

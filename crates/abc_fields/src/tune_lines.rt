@@ -7,6 +7,7 @@ ghost use Rattle.abc_fields.specs.Bytes.{line_feed};
 ghost use Rattle.abc_fields.specs.Limits.{longest_book, longest_tune};
 ghost use Rattle.abc_fields.specs.Inside.LinesLeft.{contents_of, IsRestAfter, AreRead, still};
 ghost use Rattle.abc_fields.specs.Inside.HeaderEnds.{key_place, IsKeyRead};
+ghost use Rattle.abc_fields.specs.Inside.ToldLines.{IsTold, IsToldOf};
 ghost use Rattle.abc_fields.specs.Tunes.{is_tune_start, ends_tune, tune_run, joined, has_key};
 ghost use Rattle.abc_fields.specs.Tunes.{IsTextWithin};
 ghost use Rattle.abc_fields.specs.FileHeaders.{before_key, has_letter};
@@ -23,6 +24,7 @@ use crate::key_place::KeyPlace;
 use crate::line_kinds::{in_part_after, is_key_line};
 use crate::lines::{Line, Lines};
 use crate::texts::TuneText;
+use crate::told_lines::{LinePlace, NO_PLACES, ToldLines, is_told, keep_place};
 use crate::values::is_all_blank;
 use std::alloc::{AllocError, Global};
 
@@ -149,10 +151,10 @@ pub(crate) fn text_of_tune(
     carried.change_to(alloc, header, lines.again())?;
     let put = carried.last.bytes.as_slice();
     let mut after = lines.again();
-    if let Some(key) = read_to_end(&mut after) {
+    if let Some((key, told)) = read_to_end(&mut after) {
         if let Some(part) = lines.part_before(&after) {
             *lines = after;
-            return text_of_part(alloc, part, key, put);
+            return text_of_part(alloc, part, key, told, put);
         }
     }
     text.clear();
@@ -165,17 +167,19 @@ fn text_of_part(
     alloc: Global,
     part: &[u8],
     key: KeyPlace,
+    told: ToldLines,
     put: &[u8],
 ) -> Result<TuneText, AllocError>
     requires within { key.from ≤ length part.now }
     requires good { IsTextWithin longest_tune
         (take key.from part.now ++ (put.now ++ drop key.from part.now)) }
     requires key { key_place false (spans_of part.now) ≡ Some key }
+    requires told { IsTold part.now told }
     ensures { IfOk result (λ text.
         text ≡ take key.from part.now ++ (put.now ++ drop key.from part.now)) }
 {
     if put.is_empty() {
-        return Ok(TuneText::from_keyed(Vec::from_slice(alloc, part)?, key));
+        return Ok(TuneText::from_keyed(Vec::from_slice(alloc, part)?, key, told));
     }
     let mut text = Vec::with_capacity(alloc, part.len() + put.len())?;
     text.extend_from_slice(&part[..key.from])?;
@@ -184,32 +188,44 @@ fn text_of_part(
     Ok(TuneText::from_vec(text))
 }
 
-// Reads the lines of a tune to their end, where one of them gives the key. It stands apart, so that
+// Reads the lines of a tune to their end, where one of them gives the key, and tells where the
+// lines stand in its text that give the titles, the rhythm and the key. It stands apart, so that
 // the reader stays in registers.
 #[inline(never)]
-fn read_to_end(lines: &mut Lines) -> Option<KeyPlace>
+fn read_to_end(lines: &mut Lines) -> Option<(KeyPlace, ToldLines)>
     requires { length (joined (tune_run (contents_of lines.old))) ≤ longest_tune }
-    ensures { IfSome result (λ key. IsKeyRead (contents_of lines.old) (contents_of lines.new) key
-        × (tune_run (contents_of lines.new) ≡ [])) }
+    ensures { IfSome result (λ found.
+        IsKeyRead (contents_of lines.old) (contents_of lines.new) found.0
+        × (tune_run (contents_of lines.new) ≡ [])
+        × IsToldOf (tune_run (contents_of lines.old)) found.1) }
 {
     let mut left = lines.again();
-    let key = read_to_key(&mut left)?;
+    let found = read_to_key(&mut left)?;
     read_rest(&mut left);
     *lines = left;
-    Some(key)
+    Some(found)
 }
 
 // Reads the lines of a tune up to the first that gives the key, that one included.
 #[inline(always)]
-fn read_to_key(lines: &mut Lines) -> Option<KeyPlace>
+fn read_to_key(lines: &mut Lines) -> Option<(KeyPlace, ToldLines)>
     requires { length (joined (tune_run (contents_of lines.old))) ≤ longest_tune }
-    ensures { IfSome result (λ key. IsKeyRead (contents_of lines.old) (contents_of lines.new) key) }
+    ensures { IfSome result (λ found.
+        IsKeyRead (contents_of lines.old) (contents_of lines.new) found.0
+        × IsToldOf (tune_run (contents_of lines.old)) found.1) }
 {
     let mut from = 0;
     let mut in_part = false;
+    let mut places = NO_PLACES;
+    let mut count = 0;
     while let Some(line) = next_of_tune(lines) {
+        let place = LinePlace::new(from, from + line.text.len());
         if is_key_line(line.text) {
-            return Some(KeyPlace { from, in_part });
+            let key = place;
+            return Some((KeyPlace { from, in_part }, ToldLines { places, count, key }));
+        }
+        if is_told(line.text) {
+            count = keep_place(&mut places, count, place);
         }
         in_part = in_part_after(in_part, line.text);
         from += line.text.len() + 1;

@@ -1,6 +1,7 @@
 -- Where the lines of a header stand that give the titles, the rhythm and the key.
-use Rattle.std.specs.Prelude.{◌≡◌, ◌≤◌, ◌<◌, ◌^◌, ℕ, List, [], ◌∷◌, length, map, take, slice_range}
-use Rattle.std.specs.Prelude.{codes, Bool, true, ◌||◌, if◌then◌else◌, Option, None, Some}
+use Rattle.std.specs.Prelude.{◌≡◌, ◌≤◌, ◌<◌, ◌^◌, ◌+◌, ℕ, List, [], ◌∷◌, ◌++◌, length, map}
+use Rattle.std.specs.Prelude.{take, slice_range, codes, Bool, true, ◌||◌, if◌then◌else◌, Option}
+use Rattle.std.specs.Prelude.{None, Some}
 use Rattle.abc_fields.specs.Bytes.{begins_with}
 use Rattle.abc_fields.specs.Lines.{Span, spans_of}
 use Rattle.abc_fields.specs.Tunes.{is_key_line}
@@ -44,6 +45,22 @@ pub record AreTold (lines : List Span) (told : ToldLines) : Type 0 where
 -- what is known of a text is that, or nothing
 abbrev pub IsTold : List ℕ → ToldLines → Type 0
 IsTold text told = told.count ≤ most_told → AreTold (spans_of text) told
+
+-- one place more was put behind so many others, if there was room
+abbrev pub IsPlaceKept : List LinePlace → ℕ → List LinePlace → ℕ → LinePlace → Type 0
+IsPlaceKept old count new more place =
+    more ≤ most_told → (count ≤ most_told) × (take more new ≡ take count old ++ place ∷ [])
+
+-- where lines stand, of which the first begins at this index, and a line feed ends each
+abbrev pub spans_at : ℕ → List (List ℕ) → List Span
+spans_at at [] = []
+spans_at at (line ∷ lines) =
+    record { from = at; to = at + length line; bytes = line }
+    ∷ spans_at (at + (length line + 1)) lines
+
+-- what is known of the text of these lines is that, or nothing
+abbrev pub IsToldOf : List (List ℕ) → ToldLines → Type 0
+IsToldOf lines told = told.count ≤ most_told → AreTold (spans_at 0 lines) told
 
 -- a line that gives a title or the rhythm stands here in a text
 pub record IsToldAt (text : List ℕ) (place : LinePlace) : Type 0 where

@@ -4,7 +4,7 @@ use Rattle.abc_fields.specs.Fields.{header_of}
 use Rattle.abc_fields.specs.FileHeaders.{has_letter}
 use Rattle.abc_fields.specs.Inside.LinesLeft.{contents_of}
 use Rattle.abc_fields.specs.Inside.HeaderRows.{taken, with_rows}
-use Rattle.abc_fields.proofs.TuneParts.{IsPlaced, tune_part, put_longer}
+use Rattle.abc_fields.proofs.TuneParts.{IsPlaced, tune_part, told_part, put_longer}
 use Rattle.abc_fields.proofs.tune_lines.text_of_tune.Goals as goal
 
 pub read_to_end-requires : goal.read_to_end-requires
@@ -32,6 +32,12 @@ text_of_part-requires-clause-good c = rw (placed c).text c.requires.good
 
 pub text_of_part-requires-clause-key : goal.text_of_part-requires-clause-key
 text_of_part-requires-clause-key c = (placed c).key
+
+pub text_of_part-requires-clause-told : goal.text_of_part-requires-clause-told
+text_of_part-requires-clause-told c =
+    let read = rw c.again-after.ensures at c.in-Some.ensures in
+    told_part (contents_of c.args.lines.now) (contents_of c.read_to_end.new.lines) c.in-Some-part_before.part.now c.in-Some.key c.in-Some.told
+    read.0 read.1 c.in-Some-part_before.ensures read.2
 
 pub returns-in-Some-part_before-clause-text : goal.returns-in-Some-part_before-clause-text
 returns-in-Some-part_before-clause-text c =
