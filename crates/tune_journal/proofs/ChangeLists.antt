@@ -174,15 +174,15 @@ pub rises_from_increasing : (l : List Change) → IsStrictlyIncreasing (map (λ 
 rises_from_increasing l rising = rises_from_sorted l (sorted_from_strictly_increasing (map (λ c. c.0) l) rising)
 
 -- What a value holds, at a place.
-pub in_listed : (s : List (List ℕ)) (w : List PageImage) (items : List ChangedPage) (at : ℕ) → at < length (listed s w items) → at < length items
+pub in_listed : (s : List ℕ) (w : List PageImage) (items : List ChangedPage) (at : ℕ) → at < length (listed s w items) → at < length items
 in_listed s w items at lt = omega (arith, length-map items (change_in s w))
 
-pub change_there : (s : List (List ℕ)) (w : List PageImage) (items : List ChangedPage) (at : ℕ) (x : ChangedPage) → at < length (listed s w items)
+pub change_there : (s : List ℕ) (w : List PageImage) (items : List ChangedPage) (at : ℕ) (x : ChangedPage) → at < length (listed s w items)
     → x ≡ get_or items at x
     → change_at (listed s w items) at ≡ change_in s w x
 change_there s w items at x lt is = get_or-map (change_in s w) items at x (0, []) (in_listed s w items at lt) ∙ ap (change_in s w) (sym is)
 
-pub listed_inserted : (s : List (List ℕ)) (w : List PageImage) (at : ℕ) (items : List ChangedPage) (new : ChangedPage)
+pub listed_inserted : (s : List ℕ) (w : List PageImage) (at : ℕ) (items : List ChangedPage) (new : ChangedPage)
     → MissingAt new.page at (listed s w items)
     → listed s w (insert items at new) ≡ with_change new.page (image_in s w new.kept) (listed s w items)
 listed_inserted s w at items new missing =

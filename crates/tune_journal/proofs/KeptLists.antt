@@ -1,7 +1,8 @@
 -- Changes by the first bytes of their images, and by whole ones: where these stand, and how many there are.
-use Rattle.std.proofs.Common.{◌≡◌, ◌≢◌, ℕ, zero, suc, ◌+◌, ◌-◌, ◌<◌, ◌≤◌, List, [], ◌∷◌, ◌++◌, length, get_or, set, refl, sym, ◌∙◌, ap, subst, arith}
-use Rattle.std.proofs.Common.{length-append}
+use Rattle.std.proofs.Common.{◌≡◌, ◌≢◌, ℕ, zero, suc, ◌+◌, ◌-◌, ◌<◌, ◌≤◌, List, [], ◌∷◌, ◌++◌, length, get_or, set, take, drop, replicate}
+use Rattle.std.proofs.Common.{refl, sym, ◌∙◌, ap, subst, arith, length-append}
 use Rattle.std.specs.List.{insert}
+use Rattle.std.proofs.lemmas.List.{drop-append-le, take-append-le, length-drop, length-replicate, drop_at, take_all}
 use Rattle.std.proofs.lemmas.List.{map-append, map-set, length-map, get_or_append_left, get_or-append_right, get_or-set_same, get_or-set_other, length-set}
 use Rattle.tune_journal.specs.declared.changes.ChangedPage.{ChangedPage}
 use Rattle.tune_journal.specs.declared.changes.Kept.{Kept}
@@ -14,10 +15,10 @@ use Rattle.tune_journal.specs.FileOffsets.{block_bytes}
 use Rattle.tune_journal.proofs.ChangeLists.{Change, with_change_found, with_change_missing, in_listed, change_there, listed_inserted}
 use Rattle.tune_journal.proofs.ChangeLists.{found_inserted, keeps_order}
 
-module _ (s : List (List ℕ)) where
+module _ (s : List ℕ) where
   -- ONE MORE WHOLE IMAGE behind the others: what is held stays
   place_more : (pages : List ℕ) (p page : ℕ) (kept : Kept) → HasPlace (length s) pages page kept → HasPlace (length s) (pages ++ p ∷ []) page kept
-  place_more pages p page (Start place) has = has
+  place_more pages p page (Start from size) has = has
   place_more pages p page (Whole place) has =
       (omega (arith, has.0, length-append pages (p ∷ [])), get_or_append_left pages (p ∷ []) 0 place has.0 ∙ has.1)
 
@@ -27,7 +28,7 @@ module _ (s : List (List ℕ)) where
 
   image_more : (pages : List ℕ) (w : List PageImage) (i : PageImage) (page : ℕ) (kept : Kept) → length pages ≡ length w → HasPlace (length s) pages page kept
       → image_in s (w ++ i ∷ []) kept ≡ image_in s w kept
-  image_more pages w i page (Start place) marks has = refl
+  image_more pages w i page (Start from size) marks has = refl
   image_more pages w i page (Whole place) marks has =
       ap (λ (l : List (List ℕ)). get_or l place []) (map-append (λ (i : PageImage). i.bytes) w (i ∷ []))
       ∙ get_or_append_left (wholes w) (i.bytes ∷ []) [] place (omega (arith, marks, has.0, length-map w (λ (i : PageImage). i.bytes)))
@@ -57,7 +58,7 @@ module _ (s : List (List ℕ)) where
   image_apart : (pages : List ℕ) (w : List PageImage) (k : ℕ) (i : PageImage) (page other : ℕ) (kept : Kept) → HasPlace (length s) pages other kept
       → get_or pages k 0 ≡ page
       → other ≢ page → image_in s (set w k i) kept ≡ image_in s w kept
-  image_apart pages w k i page other (Start place) has its ne = refl
+  image_apart pages w k i page other (Start from size) has its ne = refl
   image_apart pages w k i page other (Whole place) has its ne =
       ap (λ (l : List (List ℕ)). get_or l place []) (map-set (λ (i : PageImage). i.bytes) w k i)
       ∙ get_or-set_other (wholes w) k place i.bytes [] (λ same. ne (sym has.1 ∙ ap (λ (n : ℕ). get_or pages n 0) same ∙ its))
@@ -151,8 +152,8 @@ module _ (s : List (List ℕ)) where
         subst (HasPlace (length s) kept.pages x.page) whole (place_there kept.pages items at x kept.places within is) in
         omega (arith, has.0, kept.marks)
 
-    pub start_place_in : (k : ℕ) → at < length items → x.kept ≡ Start k → k < length s
-    start_place_in k within short = subst (HasPlace (length s) kept.pages x.page) short (place_there kept.pages items at x kept.places within is)
+    pub start_place_in : (from size : ℕ) → at < length items → x.kept ≡ Start from size → (from + size ≤ length s) × (size ≤ block_bytes)
+    start_place_in from size within short = subst (HasPlace (length s) kept.pages x.page) short (place_there kept.pages items at x kept.places within is)
 
     -- it gets another image
     module _ (page : ℕ) (found : FoundAt page at (listed s w items)) (i : PageImage) (size : length i.bytes ≡ block_bytes) where
@@ -244,52 +245,56 @@ module _ (s : List (List ℕ)) where
       fits = omega (arith, fits, length-inserted items at new);
     }
 
--- ONE MORE START behind the others: what is held stays
+-- MORE BYTES behind the others: what is held stays
 place_further : (n m : ℕ) (pages : List ℕ) (page : ℕ) (kept : Kept) → n ≤ m → HasPlace n pages page kept → HasPlace m pages page kept
-place_further n m pages page (Start place) le has = omega (arith, le, has)
+place_further n m pages page (Start from size) le has = (omega (arith, le, has.0), has.1)
 place_further n m pages page (Whole place) le has = has
 
 places_further : (n m : ℕ) (pages : List ℕ) (items : List ChangedPage) → n ≤ m → HavePlaces n pages items → HavePlaces m pages items
 places_further n m pages [] le have = tt
 places_further n m pages (c ∷ cs) le have = (place_further n m pages c.page c.kept le have.0, places_further n m pages cs le have.1)
 
-image_further : (s : List (List ℕ)) (b : List ℕ) (w : List PageImage) (pages : List ℕ) (page : ℕ) (kept : Kept) → HasPlace (length s) pages page kept
-    → image_in (s ++ b ∷ []) w kept ≡ image_in s w kept
-image_further s b w pages page (Start place) has = ap padded (get_or_append_left s (b ∷ []) [] place has)
+bytes_further : (s b : List ℕ) (from size : ℕ) → from + size ≤ length s → take size (drop from (s ++ b)) ≡ take size (drop from s)
+bytes_further s b from size within =
+    ap (λ (l : List ℕ). take size l) (drop-append-le from s b (omega (arith, within)))
+    ∙ take-append-le size (drop from s) b (omega (arith, within, length-drop from s))
+
+image_further : (s b : List ℕ) (w : List PageImage) (pages : List ℕ) (page : ℕ) (kept : Kept) → HasPlace (length s) pages page kept
+    → image_in (s ++ b) w kept ≡ image_in s w kept
+image_further s b w pages page (Start from size) has = ap padded (bytes_further s b from size has.0)
 image_further s b w pages page (Whole place) has = refl
 
-pub listed_further : (s : List (List ℕ)) (b : List ℕ) (w : List PageImage) (pages : List ℕ) (items : List ChangedPage) → HavePlaces (length s) pages items
-    → listed (s ++ b ∷ []) w items ≡ listed s w items
+pub listed_further : (s b : List ℕ) (w : List PageImage) (pages : List ℕ) (items : List ChangedPage) → HavePlaces (length s) pages items
+    → listed (s ++ b) w items ≡ listed s w items
 listed_further s b w pages [] have = refl
 listed_further s b w pages (c ∷ cs) have =
-    ap (λ (i : List ℕ). (c.page, i) ∷ listed (s ++ b ∷ []) w cs) (image_further s b w pages c.page c.kept have.0)
+    ap (λ (i : List ℕ). (c.page, i) ∷ listed (s ++ b) w cs) (image_further s b w pages c.page c.kept have.0)
     ∙ ap (λ (l : List Change). change_in s w c ∷ l) (listed_further s b w pages cs have.1)
 
-pub image_of_start : (s : List (List ℕ)) (b : List ℕ) (w : List PageImage) → image_in (s ++ b ∷ []) w (Start (length s)) ≡ padded b
-image_of_start s b w =
-    ap padded
-    (get_or-append_right s (b ∷ []) (length s) (length s) [] refl (omega arith)
-    ∙ (let none : length s - length s ≡ 0 = omega arith in ap (λ (n : ℕ). get_or (b ∷ []) n []) none))
+pub image_of_start : (s b : List ℕ) (w : List PageImage) (size : ℕ) → length b ≡ size → image_in (s ++ b) w (Start (length s) size) ≡ padded b
+image_of_start s b w size is = ap padded (ap (λ (l : List ℕ). take size l) (drop_at s b (length s) refl) ∙ take_all size b (omega (arith, is)))
 
-pub kept_further : (s : List (List ℕ)) (b : List ℕ) (w : List PageImage) (items : List ChangedPage) (room : ℕ) → HoldsChanges s w items room
-    → HoldsChanges (s ++ b ∷ []) w items room
+pub length-padded : (start : List ℕ) → length start ≤ block_bytes → length (padded start) ≡ block_bytes
+length-padded start few = omega (arith, few, length-append start (replicate (4096 - length start) 0), length-replicate {A = ℕ})
+
+pub kept_further : (s b : List ℕ) (w : List PageImage) (items : List ChangedPage) (room : ℕ) → HoldsChanges s w items room → HoldsChanges (s ++ b) w items room
 kept_further s b w items room kept = record {
   pages = kept.pages;
   order = subst IsChangeList (sym (listed_further s b w kept.pages items kept.places)) kept.order;
   marks = kept.marks;
-  places = places_further (length s) (length (s ++ b ∷ [])) kept.pages items (omega (arith, length-append s (b ∷ []))) kept.places;
+  places = places_further (length s) (length (s ++ b)) kept.pages items (omega (arith, length-append s b)) kept.places;
   count = kept.count;
   fits = kept.fits;
 }
 
 -- THE SAME LISTS under other names
-module _ (s t : List (List ℕ)) (w v : List PageImage) (items others : List ChangedPage) (starts : t ≡ s) (wholes : v ≡ w) (same : others ≡ items) where
+module _ (s t : List ℕ) (w v : List PageImage) (items others : List ChangedPage) (starts : t ≡ s) (wholes : v ≡ w) (same : others ≡ items) where
   pub listed_same : listed t v others ≡ listed s w items
   listed_same =
-      ap (λ (t : List (List ℕ)). listed t v others) starts ∙ ap (λ (v : List PageImage). listed s v others) wholes ∙ ap (listed s w) same
+      ap (λ (t : List ℕ). listed t v others) starts ∙ ap (λ (v : List PageImage). listed s v others) wholes ∙ ap (listed s w) same
 
   pub kept_same : (room : ℕ) → HoldsChanges s w items room → HoldsChanges t v others room
   kept_same room kept =
-      subst (λ (t : List (List ℕ)). HoldsChanges t v others room) (sym starts)
+      subst (λ (t : List ℕ). HoldsChanges t v others room) (sym starts)
       (subst (λ (v : List PageImage). HoldsChanges s v others room) (sym wholes)
       (subst (λ (l : List ChangedPage). HoldsChanges s w l room) (sym same) kept))

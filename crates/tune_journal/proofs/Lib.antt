@@ -2,6 +2,7 @@ pub mod Above
 mod AfterParts
 mod Agreeing
 mod Applying
+mod Blanks
 mod CallRuns
 mod Chain
 pub mod ChangeLists

@@ -1,6 +1,6 @@
 -- Which pages change, and to which images: by rising page.
-use Rattle.std.specs.Prelude.{ℕ, ◌==◌, nat_lt, slice_index_or, List, [], ◌∷◌, ◌++◌, Option, Some}
-use Rattle.std.specs.Prelude.{None, replicate, if◌then◌else◌}
+use Rattle.std.specs.Prelude.{ℕ, ◌==◌, ◌-◌, nat_lt, slice_index_or, List, [], ◌∷◌, ◌++◌, length}
+use Rattle.std.specs.Prelude.{Option, Some, None, replicate, if◌then◌else◌}
 
 -- the list with this image for the page, in place of the one that is there
 abbrev pub with_change : ℕ → List ℕ → List (ℕ × List ℕ) → List (ℕ × List ℕ)
@@ -23,6 +23,6 @@ change_at changes i = slice_index_or changes i (0, [])
 abbrev pub changed_page : List (ℕ × List ℕ) → ℕ → ℕ
 changed_page changes i = (change_at changes i).0
 
--- the first 256 bytes of an image, and zeros behind them
+-- the first bytes of an image, and zeros behind them
 abbrev pub padded : List ℕ → List ℕ
-padded start = start ++ replicate 3840 0
+padded start = start ++ replicate (4096 - length start) 0

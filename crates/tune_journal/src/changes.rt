@@ -2,13 +2,14 @@
 ghost use Rattle.std.specs.Prelude.{◌≡◌, ◌≢◌, ◌<◌, ◌==◌, ℕ, List, [], length, map, replicate};
 ghost use Rattle.std.specs.Prelude.{true, false, IsTrue, None, Some, IsSome, IsOk, OnOk, OnErr};
 ghost use Rattle.std.specs.Prelude.{IfOk, IfErr, IfSome, All, option_map, vec_capacity};
-ghost use Rattle.std.specs.Prelude.{◌+◌, ◌≤◌, take, drop};
+ghost use Rattle.std.specs.Prelude.{◌+◌, ◌-◌, ◌≤◌, ◌++◌, take, drop};
 ghost use Rattle.std.specs.List.Sorted.{IsStrictlyIncreasing};
 ghost use Rattle.tune_journal.specs.ChangeList.{with_change, image_of, change_at, changed_page};
 ghost use Rattle.tune_journal.specs.ChangeList.{padded};
 ghost use Rattle.tune_journal.specs.Inside.ChangeOrder.{FoundAt, MissingAt};
-ghost use Rattle.tune_journal.specs.Inside.ShortImages.{IsShort};
+ghost use Rattle.tune_journal.specs.Inside.ShortImages.{IsBlankFrom};
 ghost use Rattle.tune_journal.specs.FileOffsets.{block_bytes};
+ghost use Rattle.tune_journal.specs.declared.changes.Kept.TheVariants.{Start};
 
 use std::alloc::{AllocError, Global};
 use std::collections::VecDeque;
@@ -31,20 +32,15 @@ impl PageImage {
     }
 }
 
-// How many bytes of an image are held where the others are zeros.
-const START: usize = 256;
-
-// The others then.
-static ZEROS: [u8; 3840] = [0; 3840];
-
 // For how many changes room is taken at first.
 const ROOM: usize = 24;
 
 // How the image of a change is held: apart, so that a page among many others moves no images.
 #[derive(Drop)]
 enum Kept {
-    // at this place among the images that are held by their first bytes: the others are zeros
-    Start(usize),
+    // by so many first bytes, which stand from this place on behind those of others: the rest of
+    // the image is zeros
+    Start { from: usize, size: u16 },
     // at this place among the whole images
     Whole(usize),
 }
@@ -71,8 +67,9 @@ pub struct Changes {
     alloc: Global,
     // by rising page; a page at either end moves none of the others
     changed: VecDeque<ChangedPage>,
-    // A page that got a whole image leaves its place here unused.
-    starts: Vec<[u8; 256]>,
+    // The first bytes of images, one behind another. Those of a page that got a whole image stay
+    // here unused.
+    starts: Vec<u8>,
     // There is room for the images of all changes, so that each can be replaced; it takes up no
     // memory of the machine until an image stands there.
     whole: Vec<PageImage>,
@@ -119,52 +116,48 @@ impl Changes {
         ensures err { OnErr result (self.new ≡ self.old) }
         ensures replaces { IsSome (image_of page self.old) → IsOk result }
     {
-        let found = self.find_or_add(page, &start_of(image))?;
-        if found.is_new && is_short(image) {
-            return Ok(());
-        }
+        let found = self.find_or_add(page, &[], &[])?;
         self.replace(found.at, page, image);
         Ok(())
     }
 
-    /// Has the page change to these first bytes with zeros behind them, in place of an image that
-    /// was put for it before.
+    /// Has the page change to the bytes of `head` and those of `rest` behind them, with zeros
+    /// behind both, in place of an image that was put for it before.
     ///
     /// # Errors
     ///
     /// Those of [`Changes::put`].
-    pub fn put_start(&mut self, page: u32, start: &[u8; 256]) -> Result<(), AllocError>
-        ensures ok { OnOk result (self.new ≡ with_change page (padded start.now) self.old) }
-        ensures found { OnOk result (image_of page self.new ≡ Some (padded start.now)) }
+    pub fn put_front(&mut self, page: u32, head: &[u8], rest: &[u8]) -> Result<(), AllocError>
+        requires { length head.now + length rest.now ≤ block_bytes }
+        ensures ok { OnOk result
+            (self.new ≡ with_change page (padded (head.now ++ rest.now)) self.old) }
+        ensures found { OnOk result
+            (image_of page self.new ≡ Some (padded (head.now ++ rest.now))) }
         ensures others { (other : ℕ) → other ≢ page
             → image_of other self.new ≡ image_of other self.old }
         ensures some { OnOk result (0 < length self.new) }
         ensures err { OnErr result (self.new ≡ self.old) }
         ensures replaces { IsSome (image_of page self.old) → IsOk result }
     {
-        let found = self.find_or_add(page, start)?;
+        let found = self.find_or_add(page, head, rest)?;
         if found.is_new {
             return Ok(());
         }
-        self.replace_start(found.at, page, start);
+        self.replace_front(found.at, page, head, rest);
         Ok(())
     }
 
-    /// Takes memory for so many more pages. What they change to stays as it is.
+    /// Takes memory for so many more pages, and for so many bytes of those that are put by
+    /// [`Changes::put_front`]. What the pages change to stays as it is.
     ///
     /// # Errors
     ///
     /// `AllocError` where there is no such memory.
-    pub fn reserve(&mut self, more: usize) -> Result<(), AllocError>
+    pub fn reserve(&mut self, more: usize, bytes: usize) -> Result<(), AllocError>
         ensures { self.new ≡ self.old }
     {
-        take_room(
-            self.alloc,
-            &mut self.changed,
-            &mut self.starts,
-            &mut self.whole,
-            more,
-        )
+        take_room(self.alloc, &mut self.changed, &mut self.whole, more)?;
+        self.starts.reserve(bytes)
     }
 
     /// The image that the page changes to; `None` exactly where it is not among the changes.
@@ -186,7 +179,7 @@ impl Changes {
     {
         match self.search(page) {
             Ok(at) => {
-                let _ = self.fill(at, &mut image.bytes, false);
+                let _ = self.fill(at, &mut image.bytes, 4096);
                 true
             }
             Err(_) => false,
@@ -223,30 +216,28 @@ impl Changes {
         requires { place < length self.now }
         ensures { result.bytes ≡ (change_at self.now place).1 }
     {
-        match &self.changed[place].kept {
-            Kept::Start(at) => restored(&self.starts[*at]),
-            Kept::Whole(at) => self.whole[*at],
-        }
+        let mut image = PageImage::blank();
+        let _ = self.fill(place, &mut image.bytes, 0);
+        image
     }
 
-    // Puts the image of the change at this place in the place of `image`. Where `short` says that
-    // all but the first bytes of that are zeros, they are not cleared again; the answer says so of
-    // the new one.
-    pub(crate) fn fill(&self, place: usize, image: &mut [u8], short: bool) -> bool
+    // Puts the image of the change at this place in the place of `image`, whose bytes from `used`
+    // on are zeros. These are not cleared again; the answer says from where on the new one has
+    // zeros.
+    pub(crate) fn fill(&self, place: usize, image: &mut [u8], used: usize) -> usize
         requires place { place < length self.now }
         requires size { length image.old ≡ block_bytes }
-        requires short { short ≡ true → IsShort image.old }
+        requires used { IsBlankFrom used image.old }
         ensures image { image.new ≡ (change_at self.now place).1 }
-        ensures short { result ≡ true → IsShort image.new }
+        ensures used { IsBlankFrom result image.new }
     {
         match &self.changed[place].kept {
-            Kept::Start(at) => {
-                fill_short(image, &self.starts[*at], short);
-                true
+            Kept::Start { from, size } => {
+                fill_front(image, bytes_at(&self.starts, *from, *size), used)
             }
             Kept::Whole(at) => {
                 image.copy_from_slice(&self.whole[*at].bytes);
-                false
+                4096
             }
         }
     }
@@ -257,16 +248,22 @@ impl Changes {
         ensures { IfSome result (λ image. image.now.bytes ≡ (change_at self.now place).1) }
     {
         match &self.changed[place].kept {
-            Kept::Start(_) => None,
+            Kept::Start { .. } => None,
             Kept::Whole(at) => Some(&self.whole[*at]),
         }
     }
 
     // The place of the page. Where it is not among the changes, it is added with these first bytes.
-    fn find_or_add(&mut self, page: u32, start: &[u8; 256]) -> Result<PlaceOfPage, AllocError>
+    fn find_or_add(
+        &mut self,
+        page: u32,
+        head: &[u8],
+        rest: &[u8],
+    ) -> Result<PlaceOfPage, AllocError>
+        requires { length head.now + length rest.now ≤ block_bytes }
         ensures place { IfOk result (λ found. FoundAt page found.at self.new) }
-        ensures is_new { IfOk result (λ found.
-            found.is_new ≡ true → self.new ≡ with_change page (padded start.now) self.old) }
+        ensures is_new { IfOk result (λ found. found.is_new ≡ true
+            → self.new ≡ with_change page (padded (head.now ++ rest.now)) self.old) }
         // What is then put stands in place of both.
         ensures put { OnOk result ((image : List ℕ)
             → with_change page image self.new ≡ with_change page image self.old) }
@@ -276,28 +273,24 @@ impl Changes {
         match self.search(page) {
             Ok(at) => Ok(PlaceOfPage { at, is_new: false }),
             Err(at) => {
-                self.add(at, page, start)?;
+                self.add(at, page, head, rest)?;
                 Ok(PlaceOfPage { at, is_new: true })
             }
         }
     }
 
-    // Adds a change to these first bytes, with zeros behind them.
-    fn add(&mut self, at: usize, page: u32, start: &[u8; 256]) -> Result<(), AllocError>
-        requires { MissingAt page at self.old }
-        ensures ok { OnOk result (self.new ≡ with_change page (padded start.now) self.old) }
+    // Adds a change to these first bytes, with zeros behind them. Where there is no memory, some of
+    // them may stand among the others unused.
+    fn add(&mut self, at: usize, page: u32, head: &[u8], rest: &[u8]) -> Result<(), AllocError>
+        requires missing { MissingAt page at self.old }
+        requires size { length head.now + length rest.now ≤ block_bytes }
+        ensures ok { OnOk result
+            (self.new ≡ with_change page (padded (head.now ++ rest.now)) self.old) }
         ensures found { OnOk result (FoundAt page at self.new) }
         ensures err { OnErr result (self.new ≡ self.old) }
     {
-        take_room(
-            self.alloc,
-            &mut self.changed,
-            &mut self.starts,
-            &mut self.whole,
-            1,
-        )?;
-        let kept = Kept::Start(self.starts.len());
-        self.starts.push(*start)?;
+        take_room(self.alloc, &mut self.changed, &mut self.whole, 1)?;
+        let kept = add_bytes(&mut self.starts, head, rest)?;
         self.changed.insert(at, ChangedPage { page, kept })?;
         Ok(())
     }
@@ -325,11 +318,12 @@ impl Changes {
     // The same, with these first bytes and zeros behind them. It is apart, so that no room for an
     // image is cleared on the way of a page that is not among the changes.
     #[inline(never)]
-    fn replace_start(&mut self, at: usize, page: u32, start: &[u8; 256])
-        requires { FoundAt page at self.old }
-        ensures { self.new ≡ with_change page (padded start.now) self.old }
+    fn replace_front(&mut self, at: usize, page: u32, head: &[u8], rest: &[u8])
+        requires found { FoundAt page at self.old }
+        requires size { length head.now + length rest.now ≤ block_bytes }
+        ensures { self.new ≡ with_change page (padded (head.now ++ rest.now)) self.old }
     {
-        self.replace(at, page, &restored(start));
+        self.replace(at, page, &restored(head, rest));
     }
 
     // Where the page is, or where it would go.
@@ -363,12 +357,10 @@ impl Changes {
 fn take_room(
     alloc: Global,
     changed: &mut VecDeque<ChangedPage>,
-    starts: &mut Vec<[u8; 256]>,
     whole: &mut Vec<PageImage>,
     more: usize,
 ) -> Result<(), AllocError>
     ensures changed { changed.new.items ≡ changed.old.items }
-    ensures starts { starts.new.items ≡ starts.old.items }
     ensures whole { whole.new.items ≡ whole.old.items }
     ensures ok { OnOk result (length changed.old.items + more ≤ vec_capacity whole.new) }
     ensures capacity { vec_capacity whole.old ≤ vec_capacity whole.new }
@@ -381,7 +373,6 @@ fn take_room(
     }
     let more = more.max(ROOM);
     reserve_images(alloc, whole, count.max(ROOM))?;
-    starts.reserve(more)?;
     changed.reserve(more)
 }
 
@@ -400,65 +391,86 @@ fn reserve_images(alloc: Global, whole: &mut Vec<PageImage>, count: usize) -> Re
     Ok(())
 }
 
-// Whether all but its first bytes are zeros.
-fn is_short(image: &PageImage) -> bool
-    ensures { IsTrue result → image.now.bytes ≡ padded (take 256 image.now.bytes) }
+// Puts these bytes behind those of other images. Where there is no memory for all of them, some
+// may stand there unused.
+fn add_bytes(starts: &mut Vec<u8>, head: &[u8], rest: &[u8]) -> Result<Kept, AllocError>
+    requires { length head.now + length rest.now ≤ block_bytes }
+    ensures kept { IfOk result (λ kept.
+        kept ≡ Start (length starts.old.items) (length head.now + length rest.now)) }
+    ensures ok { OnOk result
+        (starts.new.items ≡ starts.old.items ++ (head.now ++ rest.now)) }
+    ensures err { OnErr result
+        ((more : List ℕ) × (starts.new.items ≡ starts.old.items ++ more)) }
 {
-    is_same(rest_of(image), &ZEROS)
+    let from = starts.len();
+    let size = (head.len() + rest.len()) as u16;
+    starts.extend_from_slice(head)?;
+    starts.extend_from_slice(rest)?;
+    Ok(Kept::Start { from, size })
 }
 
-fn is_same(some: &[u8], others: &[u8]) -> bool
-    ensures { IsTrue result → some.now ≡ others.now }
+// The bytes at this place.
+fn bytes_at(starts: &[u8], from: usize, size: u16) -> &[u8]
+    requires { from + size ≤ length starts.now }
+    ensures { result.now ≡ take size (drop from starts.now) }
 {
-    some == others
-}
-
-// All but the first bytes of an image.
-fn rest_of(image: &PageImage) -> &[u8]
-    ensures { result.now ≡ drop 256 image.now.bytes }
-{
-    &image.bytes[START..]
-}
-
-// The first bytes of an image.
-fn start_of(image: &PageImage) -> [u8; 256]
-    ensures { result ≡ take 256 image.now.bytes }
-{
-    let mut start = [0; START];
-    start.copy_from_slice(&image.bytes[..START]);
-    start
+    &starts[from..from + size as usize]
 }
 
 // The image of these first bytes.
-fn restored(start: &[u8; 256]) -> PageImage
-    ensures { result.bytes ≡ padded start.now }
+fn restored(head: &[u8], rest: &[u8]) -> PageImage
+    requires { length head.now + length rest.now ≤ block_bytes }
+    ensures { result.bytes ≡ padded (head.now ++ rest.now) }
 {
     let mut bytes = [0; 4096];
-    bytes[..START].copy_from_slice(start);
+    put_both(&mut bytes, head, rest);
     PageImage { bytes }
 }
 
-// Puts the image of these first bytes in the place of `image`. Where `short` says that all but the
-// first bytes of that are zeros, they are not cleared again.
-fn fill_short(image: &mut [u8], start: &[u8; 256], short: bool)
-    requires size { length image.old ≡ block_bytes }
-    requires short { short ≡ true → IsShort image.old }
-    ensures image { image.new ≡ padded start.now }
-    ensures short { IsShort image.new }
+// Puts the bytes of `head` and those of `rest` behind them in front of an image of zeros.
+fn put_both(image: &mut [u8], head: &[u8], rest: &[u8])
+    requires zeros { image.old ≡ replicate block_bytes 0 }
+    requires size { length head.now + length rest.now ≤ block_bytes }
+    ensures { image.new ≡ padded (head.now ++ rest.now) }
 {
-    clear_rest(image, short);
-    image[..START].copy_from_slice(start);
+    put_before(&mut image[head.len()..], rest);
+    image[..head.len()].copy_from_slice(head);
 }
 
-// Clears all but the first bytes of an image, where they are not zeros.
-fn clear_rest(image: &mut [u8], short: bool)
-    requires size { length image.old ≡ block_bytes }
-    requires short { short ≡ true → IsShort image.old }
-    ensures size { length image.new ≡ block_bytes }
-    ensures short { IsShort image.new }
+// Puts bytes in front of zeros.
+fn put_before(zeros: &mut [u8], bytes: &[u8])
+    requires zeros { zeros.old ≡ replicate (length zeros.old) 0 }
+    requires size { length bytes.now ≤ length zeros.old }
+    ensures { zeros.new ≡ bytes.now ++ replicate (length zeros.old - length bytes.now) 0 }
 {
-    if short {
+    zeros[..bytes.len()].copy_from_slice(bytes);
+}
+
+// Puts the image of these first bytes in the place of `image`, whose bytes from `used` on are
+// zeros. The answer is how many first bytes there are.
+fn fill_front(image: &mut [u8], start: &[u8], used: usize) -> usize
+    requires image { length image.old ≡ block_bytes }
+    requires start { length start.now ≤ block_bytes }
+    requires used { IsBlankFrom used image.old }
+    ensures image { image.new ≡ padded start.now }
+    ensures used { IsBlankFrom result image.new }
+{
+    let size = start.len();
+    clear_from(image, size, used);
+    image[..size].copy_from_slice(start);
+    size
+}
+
+// Clears all bytes of an image from `size` on; those from `used` on are zeros before.
+fn clear_from(image: &mut [u8], size: usize, used: usize)
+    requires image { length image.old ≡ block_bytes }
+    requires size { size ≤ block_bytes }
+    requires used { IsBlankFrom used image.old }
+    ensures image { length image.new ≡ block_bytes }
+    ensures used { IsBlankFrom size image.new }
+{
+    if used <= size {
         return;
     }
-    image[START..].copy_from_slice(&ZEROS);
+    image[size..used].fill(0);
 }

@@ -1,6 +1,6 @@
 // The disk calls of a commit.
 ghost use Rattle.std.specs.Prelude.{◌≡◌, ◌<◌, ◌≤◌, ◌^◌, ◌+◌, ◌*◌, ◌++◌, ℕ, All, length, drop};
-ghost use Rattle.std.specs.Prelude.{true, OnOk};
+ghost use Rattle.std.specs.Prelude.{OnOk};
 ghost use Rattle.byteorder.specs.Endian.{big_bytes};
 ghost use Rattle.tune_disk.specs.Disk.{Writes, Written, Calls};
 ghost use Rattle.tune_disk.specs.Inside.Spares.{Spares};
@@ -10,7 +10,7 @@ ghost use Rattle.tune_journal.specs.Image.{pages_of};
 ghost use Rattle.tune_journal.specs.Inside.Phases.{log_entry, WritesAndSyncs, IsNoLog, IsOutside};
 ghost use Rattle.tune_journal.specs.Inside.Phases.{IsInNoPage, HoldsEntries, HoldsDescriptor};
 ghost use Rattle.tune_journal.specs.Inside.Phases.{KeepsBoth};
-ghost use Rattle.tune_journal.specs.Inside.ShortImages.{IsShort};
+ghost use Rattle.tune_journal.specs.Inside.ShortImages.{IsBlankFrom};
 ghost use Rattle.tune_journal.specs.FileOffsets.{block_bytes, entry_bytes, most_pages};
 ghost use Rattle.tune_journal.specs.Pages.{changed};
 
@@ -20,17 +20,17 @@ use crate::file_offsets::{
 };
 use tune_disk::{DeviceFault, Disk};
 
-// Puts an entry of the log in the place of another. Of `short` and the answer holds what
+// Puts an entry of the log in the place of another. Of `used` and the answer holds what
 // `Changes::fill` says.
-fn fill_entry(entry: &mut [u8; 4100], changes: &Changes, place: usize, short: bool) -> bool
+fn fill_entry(entry: &mut [u8; 4100], changes: &Changes, place: usize, used: usize) -> usize
     requires place { place < length changes.now }
-    requires short { short ≡ true → IsShort (drop 4 entry.old) }
+    requires used { IsBlankFrom used (drop 4 entry.old) }
     ensures entry { entry.new
         ≡ log_entry (change_at changes.now place).0 (change_at changes.now place).1 }
-    ensures short { result ≡ true → IsShort (drop 4 entry.new) }
+    ensures used { IsBlankFrom result (drop 4 entry.new) }
 {
     entry[..4].copy_from_slice(&number_bytes(changes.page_at(place)));
-    changes.fill(place, &mut entry[4..], short)
+    changes.fill(place, &mut entry[4..], used)
 }
 
 // The descriptor of a log.
@@ -66,18 +66,18 @@ fn write_image<D: Disk>(disk: &mut D, page: u32, image: &PageImage) -> Result<()
 }
 
 // Writes the image of the change at this place into its page. One that is not held whole is put in
-// the place of `image` before. Of `short` holds what `Changes::fill` says.
+// the place of `image` before. Of `used` holds what `Changes::fill` says.
 fn write_change<D: Disk>(
     disk: &mut D,
     changes: &Changes,
     place: usize,
     image: &mut PageImage,
-    short: &mut bool,
+    used: &mut usize,
 ) -> Result<(), DeviceFault>
     requires place { place < length changes.now }
     requires pages { All (λ e. e.0 < most_pages) changes.now }
-    requires short { short.old ≡ true → IsShort image.old.bytes }
-    ensures short { short.new ≡ true → IsShort image.new.bytes }
+    requires used { IsBlankFrom used.old image.old.bytes }
+    ensures used { IsBlankFrom used.new image.new.bytes }
     ensures size { length (change_at changes.now place).1 ≡ block_bytes }
     ensures write { let old = D.state disk.old in let new = D.state disk.new in
         let change = change_at changes.now place in
@@ -88,7 +88,7 @@ fn write_change<D: Disk>(
     if let Some(whole) = changes.whole_at(place) {
         return write_image(disk, page, whole);
     }
-    *short = changes.fill(place, &mut image.bytes, *short);
+    *used = changes.fill(place, &mut image.bytes, *used);
     write_image(disk, page, image)
 }
 
@@ -102,10 +102,10 @@ fn write_entries<D: Disk>(disk: &mut D, base: u64, changes: &Changes) -> Result<
     ensures calls { Calls D.honest D.failures result disk.old disk.new }
 {
     let mut entry = [0; ENTRY_BYTES];
-    let mut short = true;
+    let mut used = 0;
     let mut at = base;
     for place in 0..changes.len() {
-        short = fill_entry(&mut entry, changes, place, short);
+        used = fill_entry(&mut entry, changes, place, used);
         write_entry(disk, at, &entry)?;
         at += ENTRY_BYTES as u64;
     }
@@ -124,9 +124,9 @@ fn write_images<D: Disk>(disk: &mut D, changes: &Changes) -> Result<(), DeviceFa
     ensures calls { Calls D.honest D.failures result disk.old disk.new }
 {
     let mut image = PageImage::blank();
-    let mut short = true;
+    let mut used = 0;
     for place in 0..changes.len() {
-        write_change(disk, changes, place, &mut image, &mut short)?;
+        write_change(disk, changes, place, &mut image, &mut used)?;
     }
     Ok(())
 }

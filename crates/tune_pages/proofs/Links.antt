@@ -1,7 +1,7 @@
 -- Pages of chains, as bytes.
-use Rattle.std.proofs.Common.{◌≡◌, ◌≢◌, ℕ, ◌+◌, ◌-◌, ◌^◌, ◌<◌, ◌≤◌, List, [], ◌++◌, length, take, drop, replicate, refl, sym, ◌∙◌, ap, subst}
-use Rattle.std.proofs.Common.{arith, append_assoc}
-use Rattle.std.proofs.lemmas.List.{append-nil, take_at, drop_at, drop-drop, replicate-append-replicate}
+use Rattle.std.proofs.Common.{◌≡◌, ◌≢◌, ℕ, ◌+◌, ◌-◌, ◌^◌, ◌<◌, ◌≤◌, List, ◌++◌, length, take, drop, replicate, refl, sym, ◌∙◌, ap, subst}
+use Rattle.std.proofs.Common.{arith, append_assoc, length-append}
+use Rattle.std.proofs.lemmas.List.{take_at, drop_at, drop-drop}
 use Rattle.byteorder.specs.Endian.{big_bytes, big_number}
 use Rattle.byteorder.specs.Numbers.{big_number-reads_back}
 use Rattle.tune_journal.specs.ChangeList.{padded}
@@ -75,17 +75,12 @@ link_last piece image some few is =
       padded-link 0 piece (omega arith) few,
     )
 
--- the first bytes of a page that ends a chain, with zeros behind them
-pub start_padded : (head body piece : List ℕ) → head ≡ big_bytes 4 0 ++ big_bytes 2 (length piece) → body ≡ piece ++ replicate (250 - length piece) 0
-    → length piece ≤ 250 → padded (head ++ (body ++ [])) ≡ link_bytes 0 piece
+-- a page that ends a chain, by its bytes alone, with zeros behind them
+pub link_padded : (head piece : List ℕ) → head ≡ big_bytes 4 0 ++ big_bytes 2 (length piece) → padded (head ++ piece) ≡ link_bytes 0 piece
 unfolding link_bytes
-start_padded head body piece is_head is_body few =
-    let few_zeros : List ℕ = replicate (250 - length piece) 0 in
-    let zeros : List ℕ = replicate 3840 0 in
-    let count : 250 - length piece + 3840 ≡ 4090 - length piece = omega (arith, few) in
-    ap (λ (l : List ℕ). (head ++ l) ++ zeros) (append-nil body)
-    ∙ append_assoc head body zeros
-    ∙ ap (λ (l : List ℕ). head ++ (l ++ zeros)) is_body
-    ∙ ap (λ (l : List ℕ). head ++ l) (append_assoc piece few_zeros zeros
-    ∙ ap (λ (l : List ℕ). piece ++ l) (replicate-append-replicate (250 - length piece) 3840 0 ∙ ap (λ (n : ℕ). replicate n 0) count))
+link_padded head piece is_head =
+    let size : length head ≡ 6 = ap length is_head in
+    let count : 4096 - length (head ++ piece) ≡ 4090 - length piece = omega (arith, size, length-append head piece) in
+    append_assoc head piece (replicate (4096 - length (head ++ piece)) 0)
+    ∙ ap (λ (n : ℕ). head ++ (piece ++ replicate n 0)) count
     ∙ ap (λ (l : List ℕ). l ++ (piece ++ replicate (4090 - length piece) 0)) is_head

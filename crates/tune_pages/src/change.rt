@@ -1,8 +1,8 @@
 // What a work changes.
-ghost use Rattle.std.specs.Prelude.{◌≡◌, ◌<◌, ◌≤◌, ℕ, List, [], false, Err, length, IfOk, OnOk};
-ghost use Rattle.std.specs.Prelude.{IfSome, IfNone};
+ghost use Rattle.std.specs.Prelude.{◌≡◌, ◌<◌, ◌≤◌, ◌+◌, ◌++◌, ℕ, List, [], false, Err, length};
+ghost use Rattle.std.specs.Prelude.{IfOk, OnOk, IfSome, IfNone};
 ghost use Rattle.tune_journal.specs.ChangeList.{padded};
-ghost use Rattle.tune_journal.specs.FileOffsets.{most_pages};
+ghost use Rattle.tune_journal.specs.FileOffsets.{block_bytes, most_pages};
 ghost use Rattle.tune_pages.specs.Faults.{AnswersWork, free_pages, pages_for};
 ghost use Rattle.tune_pages.specs.Inside.NextFree.{IsNextFree};
 ghost use Rattle.tune_pages.specs.Stand.{IsUsed, IsFull, IsLeastFree, PutsChain};
@@ -11,7 +11,7 @@ ghost use Rattle.tune_pages.specs.declared.fault.Fault.TheVariants.{FileFull};
 ghost use Rattle.tune_pages.specs.Work.{stand, Fits, IsIdle, used_in};
 
 use crate::fault::Fault;
-use crate::link::{ROOM, START_ROOM, link, link_start};
+use crate::link::{HEAD, ROOM, head_of, link};
 use crate::pages::Pages;
 use crate::work::Work;
 use tune_disk::Disk;
@@ -38,18 +38,20 @@ impl<D: Disk> Pages<D> {
         ensures full { IsFull (stand self.now work.old).used → self.now.closed ≡ false
             → result ≡ Err FileFull }
     {
-        self.take_least(work, &[0; 256])
+        self.take_least(work, &[], &[])
     }
 
-    // Takes the least free page, with these first bytes on it and zeros behind them.
-    fn take_least(&self, work: &mut Work, start: &[u8; 256]) -> Result<u32, Fault>
-        requires { Fits self.now work.old }
+    // Takes the least free page, with the bytes of `head` on it, those of `rest` behind them, and
+    // zeros behind both.
+    fn take_least(&self, work: &mut Work, head: &[u8], rest: &[u8]) -> Result<u32, Fault>
+        requires fits { Fits self.now work.old }
+        requires size { length head.now + length rest.now ≤ block_bytes }
         ensures fits { OnOk result (Fits self.now work.new) }
         ensures least { IfOk result (λ page. IsLeastFree (stand self.now work.old).used page) }
         ensures within { IfOk result (λ page. (0 < page) × (page < most_pages)
             × (page ≤ length (stand self.now work.old).pages)) }
         ensures stand { IfOk result (λ page. stand self.now work.new
-            ≡ taken_with page (padded start.now) (stand self.now work.old)) }
+            ≡ taken_with page (padded (head.now ++ rest.now)) (stand self.now work.old)) }
         ensures answer { AnswersWork result self.now.closed
             (IsFull (stand self.now work.old).used) }
         ensures full { IsFull (stand self.now work.old).used → self.now.closed ≡ false
@@ -62,7 +64,7 @@ impl<D: Disk> Pages<D> {
             Some(page) => page,
             None => return Err(Fault::FileFull),
         };
-        match work.take(page, start) {
+        match work.take(page, head, rest) {
             Ok(()) => Ok(page),
             Err(_) => Err(Fault::OutOfMemory),
         }
@@ -127,6 +129,27 @@ impl<D: Disk> Pages<D> {
         }
     }
 
+    /// Takes memory for the images of so many more pages, and for so many bytes of chains of one
+    /// page each. The work stays as it is.
+    ///
+    /// # Errors
+    ///
+    /// `OutOfMemory` where there is no such memory; `Closed` exactly where the pages are closed.
+    pub fn reserve(&self, work: &mut Work, pages: usize, bytes: usize) -> Result<(), Fault>
+        requires { Fits self.now work.old }
+        ensures work { work.new ≡ work.old }
+        ensures answer { AnswersWork result self.now.closed ⊥ }
+    {
+        if self.closed {
+            return Err(Fault::Closed);
+        }
+        let bytes = bytes.saturating_add(pages.saturating_mul(HEAD));
+        match work.changes.reserve(pages, bytes) {
+            Ok(()) => Ok(()),
+            Err(_) => Err(Fault::OutOfMemory),
+        }
+    }
+
     /// Puts bytes on a chain of the least free pages, and gives its first page: 0 for no bytes.
     ///
     /// # Errors
@@ -150,11 +173,11 @@ impl<D: Disk> Pages<D> {
         if bytes.is_empty() {
             return Ok(0);
         }
-        if bytes.len() <= START_ROOM {
-            return self.take_least(work, &link_start(bytes));
+        if bytes.len() <= ROOM {
+            return self.take_least(work, &head_of(0, bytes.len() as u16), bytes);
         }
         // Room for its images at once, and for that of a page that names it.
-        if bytes.len() > ROOM && work.changes.reserve(bytes.len() / ROOM + 2).is_err() {
+        if work.changes.reserve(bytes.len() / ROOM + 2, 0).is_err() {
             return Err(Fault::OutOfMemory);
         }
         self.put_links(work, bytes)

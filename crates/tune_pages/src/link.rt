@@ -2,7 +2,6 @@
 ghost use Rattle.std.specs.Prelude.{◌≡◌, ◌↔◌, ◌≤◌, ◌-◌, ◌++◌, length, replicate};
 ghost use Rattle.std.specs.Prelude.{IfNone, IfSome, IsTrue, OnErr, OnOk};
 ghost use Rattle.byteorder.specs.Endian.{big_bytes};
-ghost use Rattle.tune_journal.specs.ChangeList.{padded};
 ghost use Rattle.tune_pages.specs.Chain.{next_of, size_of, piece_of, IsLink};
 ghost use Rattle.tune_pages.specs.Faults.{pages_for};
 ghost use Rattle.tune_pages.specs.Inside.Link.{link_bytes};
@@ -15,8 +14,8 @@ use tune_journal::PageImage;
 // The most bytes that a page of a chain holds.
 pub(crate) const ROOM: usize = 4090;
 
-// The most of them that are among the first bytes of its image.
-pub(crate) const START_ROOM: usize = 250;
+// How many bytes stand before these.
+pub(crate) const HEAD: usize = 6;
 
 /// How many pages the chain of so many bytes has.
 pub fn pages_for(bytes: usize) -> usize
@@ -87,7 +86,7 @@ pub(crate) fn add_link(image: &PageImage, bytes: &mut Vec<u8>) -> Option<u32>
 }
 
 // The next page, and how many bytes count.
-fn head_of(next: u32, size: u16) -> [u8; 6]
+pub(crate) fn head_of(next: u32, size: u16) -> [u8; 6]
     ensures { result ≡ big_bytes 4 next ++ big_bytes 2 size }
 {
     let mut head = [0; 6];
@@ -115,16 +114,4 @@ pub(crate) fn link(next: u32, piece: &[u8]) -> PageImage
     put_piece(&mut bytes[6..], piece);
     bytes[..6].copy_from_slice(&head_of(next, piece.len() as u16));
     PageImage { bytes }
-}
-
-// The first bytes of a page of a chain, the last and short enough that its others are zeros.
-#[tactic(auto, unfolding(crate::specs::Inside::Link::link_bytes))]
-pub(crate) fn link_start(piece: &[u8]) -> [u8; 256]
-    requires { length piece.now ≤ 250 }
-    ensures { padded result ≡ link_bytes 0 piece.now }
-{
-    let mut start = [0; 256];
-    put_piece(&mut start[6..], piece);
-    start[..6].copy_from_slice(&head_of(0, piece.len() as u16));
-    start
 }

@@ -1,9 +1,9 @@
 // A change of pages that is not made yet.
-ghost use Rattle.std.specs.Prelude.{◌≡◌, ◌<◌, ◌≤◌, ◌+◌, ℕ, length, max, OnOk, OnErr};
+ghost use Rattle.std.specs.Prelude.{◌≡◌, ◌<◌, ◌≤◌, ◌+◌, ◌++◌, ℕ, length, max, OnOk, OnErr};
 ghost use Rattle.std.specs.Prelude.{◌↔◌, slice_index_or, All, Contains, IsTrue};
 ghost use Rattle.std.specs.VecDeque.{deque_len};
 ghost use Rattle.tune_journal.specs.ChangeList.{padded, with_change};
-ghost use Rattle.tune_journal.specs.FileOffsets.{most_pages};
+ghost use Rattle.tune_journal.specs.FileOffsets.{block_bytes, most_pages};
 ghost use Rattle.tune_pages.specs.Inside.Freed.{Unfrees, IsEnd, IsPutIn};
 ghost use Rattle.tune_pages.specs.Work.{Falls};
 
@@ -63,17 +63,18 @@ impl Work {
         at < self.freed.len() && self.freed[at] == page
     }
 
-    // Takes the next free page, with these first bytes on it and zeros behind them. Where there is
-    // no memory nothing changes.
-    pub(crate) fn take(&mut self, page: u32, start: &[u8; 256]) -> Result<(), AllocError>
-        requires { page < most_pages }
-        ensures changes { OnOk result
-            (self.new.changes ≡ with_change page (padded start.now) self.old.changes) }
+    // Takes the next free page, with the bytes of `head` on it, those of `rest` behind them, and
+    // zeros behind both. Where there is no memory nothing changes.
+    pub(crate) fn take(&mut self, page: u32, head: &[u8], rest: &[u8]) -> Result<(), AllocError>
+        requires page { page < most_pages }
+        requires size { length head.now + length rest.now ≤ block_bytes }
+        ensures changes { let image = padded (head.now ++ rest.now) in OnOk result
+            (self.new.changes ≡ with_change page image self.old.changes) }
         ensures frontier { OnOk result (self.new.frontier ≡ max self.old.frontier (page + 1)) }
         ensures freed { OnOk result (Unfrees page self.old.freed.items self.new.freed.items) }
         ensures err { OnErr result (self.new ≡ self.old) }
     {
-        self.changes.put_start(page, start)?;
+        self.changes.put_front(page, head, rest)?;
         if self.freed.back() == Some(&page) {
             let _ = self.freed.pop_back();
         }

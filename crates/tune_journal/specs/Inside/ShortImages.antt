@@ -1,6 +1,8 @@
--- Images of which the first 256 bytes are enough.
-use Rattle.std.specs.Prelude.{◌≡◌, ℕ, List, drop, replicate}
+-- Images that end in zeros.
+use Rattle.std.specs.Prelude.{◌≡◌, ℕ, ◌-◌, ◌≤◌, List, drop, replicate}
+use Rattle.tune_journal.specs.FileOffsets.{block_bytes}
 
--- all but the first 256 bytes are zeros
-abbrev pub IsShort : List ℕ → Type 0
-IsShort image = drop 256 image ≡ replicate 3840 0
+-- all bytes of the image from this one on are zeros
+pub record IsBlankFrom (used : ℕ) (image : List ℕ) : Type 0 where
+  pub within : used ≤ block_bytes
+  pub zeros : drop used image ≡ replicate (block_bytes - used) 0

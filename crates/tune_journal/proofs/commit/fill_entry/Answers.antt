@@ -2,18 +2,18 @@ use Rattle.std.proofs.Common.{◌≡◌, ℕ, List, ◌++◌, length, drop, sym,
 use Rattle.std.proofs.lemmas.List.{length-drop, drop_at}
 use Rattle.byteorder.specs.Endian.{big_bytes}
 use Rattle.tune_journal.specs.ChangeList.{change_at}
-use Rattle.tune_journal.specs.Inside.ShortImages.{IsShort}
+use Rattle.tune_journal.specs.Inside.ShortImages.{IsBlankFrom}
 use Rattle.tune_journal.proofs.Entries.{tail_of, with_tail}
 use Rattle.tune_journal.proofs.commit.fill_entry.Goals as goal
 
-pub fill-requires-clause-short : goal.fill-requires-clause-short
-fill-requires-clause-short c =
+pub fill-requires-clause-used : goal.fill-requires-clause-used
+fill-requires-clause-used c =
     let head : List ℕ = c.copy_from_slice.new.self in
     let tail : List ℕ = drop 4 c.args.entry.now in
     let four : length head ≡ 4 = ap length (c.copy_from_slice.ensures.after ∙ c.number_bytes.ensures) in
     let long : length c.args.entry.now ≡ 4100 = search rules in
     let size : length tail ≡ 4096 = omega (arith, long, length-drop 4 c.args.entry.now) in
-    λ is. subst IsShort (sym (tail_of head tail four size)) (c.requires.short is)
+    subst (IsBlankFrom c.args.used) (sym (tail_of head tail four size)) c.requires.used
 
 pub returns-clause-entry : goal.returns-clause-entry
 returns-clause-entry c =
@@ -27,12 +27,13 @@ returns-clause-entry c =
     ∙ ap (λ (l : List ℕ). l ++ c.fill.new.image) (its ∙ ap (big_bytes 4) c.page_at.ensures.page)
     ∙ ap (λ (l : List ℕ). big_bytes 4 (change_at c.args.changes.now c.args.place).0 ++ l) c.fill.ensures.image
 
-pub returns-clause-short : goal.returns-clause-short
-returns-clause-short c =
+pub returns-clause-used : goal.returns-clause-used
+returns-clause-used c =
     let head : List ℕ = c.copy_from_slice.new.self in
     let tail : List ℕ = drop 4 c.args.entry.now in
     let four : length head ≡ 4 = ap length (c.copy_from_slice.ensures.after ∙ c.number_bytes.ensures) in
     let long : length c.args.entry.now ≡ 4100 = search rules in
     let size : length tail ≡ 4096 = omega (arith, long, length-drop 4 c.args.entry.now) in
-    λ is. subst IsShort (sym (ap (λ (l : List ℕ). drop 4 l) (with_tail head tail four size c.fill.new.image) ∙ drop_at head c.fill.new.image 4 four))
-    (c.fill.ensures.short is)
+    subst (IsBlankFrom c.fill.result)
+    (sym (ap (λ (l : List ℕ). drop 4 l) (with_tail head tail four size c.fill.new.image) ∙ drop_at head c.fill.new.image 4 four))
+    c.fill.ensures.used

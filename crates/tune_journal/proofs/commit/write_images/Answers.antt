@@ -1,5 +1,4 @@
-use Rattle.std.proofs.Common.{ℕ, ◌<◌, ◌≤◌, refl, sym, ◌∙◌, ap, length, List, set, take, drop, arith}
-use Rattle.std.proofs.lemmas.List.{drop-replicate}
+use Rattle.std.proofs.Common.{ℕ, ◌<◌, ◌≤◌, refl, sym, ◌∙◌, ap, length, List, set, take, arith}
 use Rattle.tune_disk.specs.Disk.{Written}
 use Rattle.tune_disk.proofs.Moments.{spares_none, spares_then, spares_write}
 use Rattle.tune_journal.specs.ChangeList.{change_at}
@@ -16,8 +15,8 @@ write_change-requires-clause-place g c = omega (arith, c.loop-place-test.true, c
 pub write_change-requires-clause-pages : goal.write_change-requires-clause-pages
 write_change-requires-clause-pages g c = c.requires
 
-pub write_change-requires-clause-short : goal.write_change-requires-clause-short
-write_change-requires-clause-short g c = c.loop-place.invariant.short
+pub write_change-requires-clause-used : goal.write_change-requires-clause-used
+write_change-requires-clause-used g c = c.loop-place.invariant.used
 
 pub returns-in_err-write_change-clause-spares : goal.returns-in_err-write_change-clause-spares
 returns-in_err-write_change-clause-spares g c = λ h.
@@ -32,7 +31,7 @@ returns-in_err-write_change-clause-spares g c = λ h.
 
 pub loop-place-init : goal.loop-place-init
 loop-place-init g c = record {
-  short = λ is. ap (λ (l : List ℕ). drop 256 l) c.blank-image.ensures ∙ drop-replicate 256 4096 0;
+  used = record { within = omega arith; zeros = c.blank-image.ensures };
   honest = λ h. h;
   spares = λ h. spares_none _ _;
   images = λ h n long all. refl;
@@ -47,7 +46,7 @@ loop-place-preserved g c =
     let image : List ℕ = (change_at log k).1 in
     let lt : k < length log = omega (arith, c.loop-place-test.true, c.len-place-end.ensures.len) in
     record {
-      short = c.write_change.ensures.short;
+      used = c.write_change.ensures.used;
       honest = λ h. c.loop-place.invariant.honest (c.write_change.ensures.calls.was_honest h);
       spares = λ h. spares_then _ _ _ _ (c.loop-place.invariant.spares (c.write_change.ensures.calls.was_honest h))
           (spares_write (IsInNoPage log) (page_offset page) image c.write_change.result _ _ (c.write_change.ensures.write h)

@@ -8,7 +8,7 @@ use Rattle.tune_journal.specs.Inside.ListedChanges.{listed}
 use Rattle.tune_journal.proofs.changes.Changes.is_past.Goals as goal
 
 -- where the last change is of a page below this one, all are
-all_below : (s : List (List ℕ)) (w : List PageImage) (page n : ℕ) (items : List ChangedPage) (x : ChangedPage) → PagesRise (listed s w items)
+all_below : (s : List ℕ) (w : List PageImage) (page n : ℕ) (items : List ChangedPage) (x : ChangedPage) → PagesRise (listed s w items)
     → length items ≡ suc n
     → x ≡ get_or items n x → x.page < page → AreBelow page (listed s w items)
 all_below s w page n [] x rises size is lt = absurd (omega (arith, size))

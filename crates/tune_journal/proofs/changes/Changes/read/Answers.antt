@@ -1,4 +1,6 @@
-use Rattle.std.proofs.Common.{ℕ, List, Some, sym, ◌∙◌, ap}
+use Rattle.std.proofs.Common.{◌≡◌, ℕ, List, length, Some, sym, ◌∙◌, ap, rules}
+use Rattle.tune_journal.specs.FileOffsets.{block_bytes}
+use Rattle.tune_journal.proofs.Blanks.{blank_end}
 use Rattle.tune_journal.proofs.ChangeLists.{image_of_found, image_of_missing}
 use Rattle.tune_journal.proofs.changes.Changes.read.Goals as goal
 
@@ -8,3 +10,8 @@ returns-in-Ok-clause-found c = λ is.
 
 pub returns-in-Err-clause-missing : goal.returns-in-Err-clause-missing
 returns-in-Err-clause-missing c = λ is. image_of_missing c.args.page c.in-Err.field-0 c.args.self.now c.in-Err.ensures.missing
+
+pub fill-requires-clause-used : goal.fill-requires-clause-used
+fill-requires-clause-used c =
+    let size : length c.args.image.now.bytes ≡ block_bytes = search rules in
+    blank_end c.args.image.now.bytes size

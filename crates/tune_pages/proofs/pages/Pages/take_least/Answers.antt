@@ -1,4 +1,4 @@
-use Rattle.std.proofs.Common.{◌≡◌, ℕ, List, Bool, false, length, sym, ◌∙◌, ap, subst, arith}
+use Rattle.std.proofs.Common.{◌≡◌, ◌++◌, ℕ, List, Bool, false, length, sym, ◌∙◌, ap, subst, arith}
 use Rattle.tune_journal.specs.ChangeList.{padded}
 use Rattle.tune_pages.specs.Kept.{Kept}
 use Rattle.tune_pages.specs.Stand.{IsFull, IsLeastFree}
@@ -13,12 +13,12 @@ returns-in-None-clause-answer g c =
     let shut : c.args.self.now.closed ≡ false = sym (ap (λ (k : Kept _). k.closed) c.self.view_is) ∙ c.if-self.false in
     (subst (λ (m : List Bool). IsFull m) (sym (stand_used c.args.self.now.pages c.args.self.now.used c.args.work.now)) c.in-None.ensures.none, shut)
 
-pub take-requires : goal.take-requires
-take-requires g c =
+pub take-requires-clause-page : goal.take-requires-clause-page
+take-requires-clause-page g c =
     let shut : c.args.self.now.closed ≡ false = sym (ap (λ (k : Kept _). k.closed) c.self.view_is) ∙ c.if-self.false in
     let P : Kept _ → Type 0 = λ k. k.closed ≡ false → Facts k.pages k.used in
     let facts = subst P c.self.view_is (kept_facts _ _ _ _ _ c.self.invariant.0) shut in
-    let lt = free_in c.args.self.now.pages c.args.self.now.used c.args.work.now c.in-Some.page c.requires c.in-Some.ensures.some.least.free in
+    let lt = free_in c.args.self.now.pages c.args.self.now.used c.args.work.now c.in-Some.page c.requires.fits c.in-Some.ensures.some.least.free in
     omega (arith, lt, facts.few)
 
 pub returns-in-Ok-clause-fits : goal.returns-in-Ok-clause-fits
@@ -26,8 +26,9 @@ returns-in-Ok-clause-fits g c =
     let shut : c.args.self.now.closed ≡ false = sym (ap (λ (k : Kept _). k.closed) c.self.view_is) ∙ c.if-self.false in
     let P : Kept _ → Type 0 = λ k. k.closed ≡ false → Facts k.pages k.used in
     let facts = subst P c.self.view_is (kept_facts _ _ _ _ _ c.self.invariant.0) shut in
-    let lt = free_in c.args.self.now.pages c.args.self.now.used c.args.work.now c.in-Some.page c.requires c.in-Some.ensures.some.least.free in
-    take_fits c.args.self.now.pages c.args.self.now.used c.args.work.now c.take.new.self c.in-Some.page (padded c.args.start.now) c.requires facts.below lt
+    let lt = free_in c.args.self.now.pages c.args.self.now.used c.args.work.now c.in-Some.page c.requires.fits c.in-Some.ensures.some.least.free in
+    let image : List ℕ = padded (c.args.head.now ++ c.args.rest.now) in
+    take_fits c.args.self.now.pages c.args.self.now.used c.args.work.now c.take.new.self c.in-Some.page image c.requires.fits facts.below lt
     c.in-Some.ensures.some
     c.in-Ok.ensures.changes c.in-Ok.ensures.frontier c.in-Ok.ensures.freed
 
@@ -41,14 +42,14 @@ returns-in-Ok-clause-within g c =
     let shut : c.args.self.now.closed ≡ false = sym (ap (λ (k : Kept _). k.closed) c.self.view_is) ∙ c.if-self.false in
     let P : Kept _ → Type 0 = λ k. k.closed ≡ false → Facts k.pages k.used in
     let facts = subst P c.self.view_is (kept_facts _ _ _ _ _ c.self.invariant.0) shut in
-    let lt = free_in c.args.self.now.pages c.args.self.now.used c.args.work.now c.in-Some.page c.requires c.in-Some.ensures.some.least.free in
-    let most = take_within c.args.self.now.pages c.args.self.now.used c.args.work.now c.take.new.self c.in-Some.page (padded c.args.start.now) c.requires
-    facts.below lt
+    let lt = free_in c.args.self.now.pages c.args.self.now.used c.args.work.now c.in-Some.page c.requires.fits c.in-Some.ensures.some.least.free in
+    let image : List ℕ = padded (c.args.head.now ++ c.args.rest.now) in
+    let most = take_within c.args.self.now.pages c.args.self.now.used c.args.work.now c.take.new.self c.in-Some.page image c.requires.fits facts.below lt
     c.in-Some.ensures.some c.in-Ok.ensures.changes c.in-Ok.ensures.frontier c.in-Ok.ensures.freed in
     let size : length (stand_on c.args.self.now.pages c.args.self.now.used c.args.work.now).pages ≡ count_in c.args.self.now.pages c.args.work.now =
     ap (λ (l : List (List ℕ)). length l) (stand_pages c.args.self.now.pages c.args.self.now.used c.args.work.now)
     ∙ length-pages_after c.args.self.now.pages (count_in c.args.self.now.pages c.args.work.now) c.args.work.now.changes (omega arith) in (
-      not_root c.args.self.now.pages c.args.self.now.used c.args.work.now c.in-Some.page c.requires facts.root c.in-Some.ensures.some.least.free,
+      not_root c.args.self.now.pages c.args.self.now.used c.args.work.now c.in-Some.page c.requires.fits facts.root c.in-Some.ensures.some.least.free,
       omega
           (arith, lt, facts.few),
       omega (arith, most, size),
@@ -59,8 +60,9 @@ returns-in-Ok-clause-stand g c =
     let shut : c.args.self.now.closed ≡ false = sym (ap (λ (k : Kept _). k.closed) c.self.view_is) ∙ c.if-self.false in
     let P : Kept _ → Type 0 = λ k. k.closed ≡ false → Facts k.pages k.used in
     let facts = subst P c.self.view_is (kept_facts _ _ _ _ _ c.self.invariant.0) shut in
-    let lt = free_in c.args.self.now.pages c.args.self.now.used c.args.work.now c.in-Some.page c.requires c.in-Some.ensures.some.least.free in
-    take_stand c.args.self.now.pages c.args.self.now.used c.args.work.now c.take.new.self c.in-Some.page (padded c.args.start.now) c.requires facts.below lt
+    let lt = free_in c.args.self.now.pages c.args.self.now.used c.args.work.now c.in-Some.page c.requires.fits c.in-Some.ensures.some.least.free in
+    let image : List ℕ = padded (c.args.head.now ++ c.args.rest.now) in
+    take_stand c.args.self.now.pages c.args.self.now.used c.args.work.now c.take.new.self c.in-Some.page image c.requires.fits facts.below lt
     c.in-Some.ensures.some
     c.in-Ok.ensures.changes c.in-Ok.ensures.frontier c.in-Ok.ensures.freed
 
