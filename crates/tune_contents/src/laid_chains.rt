@@ -209,6 +209,8 @@ fn add_tunes<D: Disk>(
     let Ok(mut more) = Vec::with_capacity(alloc, texts.len()) else {
         return Err(Fault::OutOfMemory);
     };
+    // Memory for all chains at once, so that none is moved, and for some leaves of the indexes.
+    pages.reserve(work, texts.len() + texts.len() / 8, chain_bytes(texts))?;
     let mut bytes = Vec::new(alloc);
     let mut number = first;
     for text in texts {
