@@ -67,7 +67,8 @@ impl ByteText {
 #[derive(Debug, Drop)]
 pub struct TuneText {
     text: Vec<u8>,
-    // Where its key stands, if that is known: the test of a stored text finds it.
+    // Where its key stands, if that is known: the test of a stored text finds it, and so does the
+    // reading of a book.
     key: Option<KeyPlace>,
     // Where its titles, its rhythm and its key stand, if that is known.
     told: ToldLines,
@@ -98,8 +99,8 @@ impl TuneText {
         }
     }
 
-    // The bytes as a tune text whose key stands here, and whose titles and rhythm stand there, if
-    // that is known. It takes no memory.
+    // The bytes as a tune text whose key stands here; of its titles, its rhythm and its key this is
+    // told. It takes no memory.
     pub(crate) fn from_keyed(text: Vec<u8>, key: KeyPlace, told: ToldLines) -> TuneText
         requires good { IsTextWithin longest_tune text.items }
         requires key { key_place false (spans_of text.items) ≡ Some key }

@@ -95,7 +95,8 @@ impl ToldLines {
 }
 
 // Keeps where the next line of a title or a rhythm stands, behind so many others, if there is a
-// place for it, and tells how many there are then.
+// place for it, and tells how many there are then. No struct holds both, so that the count stays in
+// a register.
 #[inline(always)]
 pub(crate) fn keep_place(places: &mut [LinePlace; 4], count: u16, line: LinePlace) -> u16
     ensures { IsPlaceKept places.old count places.new result line }

@@ -34,10 +34,16 @@ pub(crate) fn starts_tune(line: &[u8]) -> bool
     line.starts_with(b"X:")
 }
 
+// Whether a tune ends before a line. The first byte of most lines tells that it does not.
 pub(crate) fn ends_tune(line: &[u8]) -> bool
     ensures { result ≡ ends_tune line.now }
 {
-    is_all_blank(line) || starts_tune(line)
+    match line {
+        [] => true,
+        [b' ' | b'\t', ..] => is_all_blank(line),
+        [b'X', ..] => starts_tune(line),
+        _ => false,
+    }
 }
 
 pub(crate) fn push_line(out: &mut Vec<u8>, line: &[u8]) -> Result<(), AllocError>
