@@ -45,6 +45,7 @@ pub(crate) enum WorkCall<'a> {
     PutLink(u32, u32, u16),
     PutChain(Bytes<'a>),
     FreeChain(u32),
+    Reserve(usize, usize),
     ReadPage(u32),
     ReadBytes(u32, usize, usize),
     ReadChain(u32),
@@ -116,6 +117,10 @@ impl<'a> WorkCall<'a> {
             "put-link" => put_link(rest, at),
             "put-chain" => Some(WorkCall::PutChain(Bytes::read(rest)?)),
             "free-chain" => Some(WorkCall::FreeChain(page(rest, at)?)),
+            "reserve" => {
+                let (pages, bytes) = rest.split_once(' ')?;
+                Some(WorkCall::Reserve(pages.parse().ok()?, bytes.parse().ok()?))
+            }
             "read-page" => Some(WorkCall::ReadPage(page(rest, at)?)),
             "read-bytes" => read_bytes(rest, at),
             "read-chain" => Some(WorkCall::ReadChain(page(rest, at)?)),

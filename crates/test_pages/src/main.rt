@@ -23,7 +23,8 @@
 //!
 //! Those of a work are `allocate`, `free PAGE`, `put-page PAGE BYTES`, `put-chain BYTES`,
 //! `free-chain FIRST`, `read-page PAGE`, `read-bytes PAGE FROM TO`, `read-chain FIRST`,
-//! `in-use COUNT` (which of the first pages are in use: `+`, or else `-`), `finish`, and
+//! `in-use COUNT` (which of the first pages are in use: `+`, or else `-`), `reserve PAGES BYTES`
+//! (memory for so many more pages, and for so many bytes of chains), `finish`, and
 //! `put-link PAGE NEXT SIZE`, a page of a chain that somebody forged, of bytes 0x41. A work of
 //! which a call is refused is dropped.
 //!

@@ -24,6 +24,7 @@ pub(crate) fn call_work(
         WorkCall::PutLink(page, next, size) => put_page(begun, page, &link(next, size), answer),
         WorkCall::PutChain(bytes) => put_chain(alloc, begun, bytes, answer),
         WorkCall::FreeChain(first) => free_chain(begun, first, answer),
+        WorkCall::Reserve(count, bytes) => reserve(begun, count, bytes, answer),
         WorkCall::ReadPage(page) => read_page(begun, page, 0, 4096, answer),
         WorkCall::ReadBytes(page, from, to) => read_page(begun, page, from, to, answer),
         WorkCall::ReadChain(first) => read_chain(begun, first, answer),
@@ -118,6 +119,20 @@ fn free_chain(begun: Begun, first: u32, answer: &mut String) -> Result<Held, All
         mut work,
     } = begun;
     match pages.free_chain(&mut work, first) {
+        Ok(()) => done(Held::Begun(Begun { pages, work }), answer),
+        Err(fault) => refused(pages, fault, answer),
+    }
+}
+
+// Takes memory for so many pages, and for so many bytes on some of them.
+fn reserve(
+    begun: Begun,
+    count: usize,
+    bytes: usize,
+    answer: &mut String,
+) -> Result<Held, AllocError> {
+    let Begun { pages, mut work } = begun;
+    match pages.reserve(&mut work, count, bytes) {
         Ok(()) => done(Held::Begun(Begun { pages, work }), answer),
         Err(fault) => refused(pages, fault, answer),
     }
