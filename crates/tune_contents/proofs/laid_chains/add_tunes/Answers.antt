@@ -37,7 +37,7 @@ loop-text-preserved g c =
 
 pub returns-in_err-add_tune-clause-takes : goal.returns-in_err-add_tune-clause-takes
 returns-in_err-add_tune-clause-takes g c =
-    let p = err_from_is_err_and c.from_residual.result c.from_residual.ensures.1 in
+    let p = err_from_is_err_and c.from_residual-in_err-add_tune.result c.from_residual-in_err-add_tune.ensures.1 in
     let kept = c.loop-text.invariant in
     let texts = c.args.texts.now in
     let text = c.text-item.result in
