@@ -122,7 +122,7 @@ fn begins_above<const W: usize>(index: &Index<W>, place: usize, high: &IndexKey<
 {
     // For the proof.
     let _leaves = leaf_count(index);
-    let head = &index.heads[place];
+    let head = &index.heads.as_slice()[place];
     high.is_before(0, &head.0, 0)
 }
 

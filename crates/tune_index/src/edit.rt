@@ -110,8 +110,10 @@ fn replace_leaf<D: Disk, const W: usize>(
     let page = index.pages[place];
     let head = first_in_image(image);
     put_leaf::<D, W>(pages, work, page, image)?;
-    index.heads[place] = head;
-    Ok(())
+    match index.heads.set(place, head) {
+        Ok(()) => Ok(()),
+        Err(_) => Err(Fault::OutOfMemory),
+    }
 }
 
 // A page comes into the list of leaves, with the entry that begins it.
@@ -127,23 +129,23 @@ fn list_leaf<const W: usize>(
     ensures list { OnOk result (KeepsList index.old index.new) }
 {
     index.pages.reserve(1)?;
-    index.heads.reserve(1)?;
+    index.heads.insert(place, head)?;
     index.pages.insert(place, page).unwrap();
-    index.heads.insert(place, head).unwrap();
     index.listed = false;
     Ok(())
 }
 
 // A page goes out of the list of leaves.
-fn unlist_leaf<const W: usize>(index: &mut Index<W>, place: usize)
+fn unlist_leaf<const W: usize>(index: &mut Index<W>, place: usize) -> Result<(), AllocError>
     requires { place < length index.old.pages }
-    ensures pages { index.new.pages ≡ remove index.old.pages place }
-    ensures heads { index.new.heads ≡ remove index.old.heads place }
-    ensures list { KeepsList index.old index.new }
+    ensures pages { OnOk result (index.new.pages ≡ remove index.old.pages place) }
+    ensures heads { OnOk result (index.new.heads ≡ remove index.old.heads place) }
+    ensures list { OnOk result (KeepsList index.old index.new) }
 {
+    index.heads.remove(place)?;
     let _page = index.pages.remove(place);
-    let _head = index.heads.remove(place);
     index.listed = false;
+    Ok(())
 }
 
 // The image of a leaf goes in place of the one at the place.
@@ -304,8 +306,10 @@ pub(crate) fn drop_leaf<D: Disk, const W: usize>(
         Ok(()) => {}
         Err(fault) => return Err(fault),
     }
-    unlist_leaf(index, place);
-    Ok(())
+    match unlist_leaf(index, place) {
+        Ok(()) => Ok(()),
+        Err(_) => Err(Fault::OutOfMemory),
+    }
 }
 
 // How many entries go into each leaf where so many are spread over leaves: the fewest that want

@@ -4,7 +4,7 @@ ghost use Rattle.std.specs.Prelude.{slice_index, vec_capacity, vec_len, ◌+◌}
 ghost use Rattle.index_keys.specs.Entries.{IsRising};
 ghost use Rattle.tune_index.specs.Inside.EntryPlaces.{BelongsTo};
 
-use crate::leaf::Leaf;
+use crate::heads::Heads;
 use crate::search::{is_at, place_of};
 use index_keys::IndexKey;
 use std::alloc::{AllocError, Global};
@@ -15,7 +15,7 @@ use std::marker::Model;
 #[derive(Drop)]
 pub struct Index<const W: usize> {
     pub(crate) pages: Vec<u32>,
-    pub(crate) heads: Leaf<W>,
+    pub(crate) heads: Heads<W>,
     // where the chain begins that lists the pages, as it was stored last
     pub(crate) first: u32,
     // no leaf came or went since
@@ -30,13 +30,13 @@ impl<const W: usize> Model for Index<W> {
 
     ghost view = { λ index. record {
       pages = index.pages.items;
-      heads = index.heads.items;
+      heads = index.heads;
       first = index.first;
       listed = index.listed;
     } };
 
     ghost invariant = { λ index.
-        (W ≤ 4090) × (length index.heads.items ≡ length index.pages.items) };
+        (W ≤ 4090) × (length index.heads ≡ length index.pages.items) };
 }
 
 impl<const W: usize> Index<W> {
@@ -59,7 +59,7 @@ impl<const W: usize> Index<W> {
     {
         Index {
             pages: Vec::new(alloc),
-            heads: Vec::new(alloc),
+            heads: Heads::new(alloc),
             first: other.first,
             listed: other.listed,
         }
@@ -73,7 +73,7 @@ impl<const W: usize> Index<W> {
     {
         Index {
             pages: Vec::new(alloc),
-            heads: Vec::new(alloc),
+            heads: Heads::new(alloc),
             first,
             listed: true,
         }
@@ -107,11 +107,9 @@ impl<const W: usize> Index<W> {
     {
         let count = other.pages.len();
         self.pages.reserve(count.saturating_sub(self.pages.len()))?;
-        self.heads.reserve(count.saturating_sub(self.heads.len()))?;
+        self.heads.copy_from(&other.heads)?;
         self.pages.clear();
-        self.heads.clear();
         self.pages.extend_from_slice(&other.pages).unwrap();
-        self.heads.extend_from_slice(&other.heads).unwrap();
         self.first = other.first;
         self.listed = other.listed;
         Ok(())
@@ -160,5 +158,5 @@ pub(crate) fn leaf_for<const W: usize>(index: &Index<W>, key: &IndexKey<W>, valu
     ensures belongs { IsRising index.now.heads
         → BelongsTo (key.now, value) index.now.heads result }
 {
-    leaf_before(&index.heads, key, value)
+    leaf_before(index.heads.as_slice(), key, value)
 }

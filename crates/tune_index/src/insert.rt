@@ -262,7 +262,7 @@ fn part_end<const W: usize>(
 {
     let leaves = leaf_count(index);
     if place + 1 < leaves {
-        let next = &index.heads[place + 1];
+        let next = &index.heads.as_slice()[place + 1];
         at + count_below(&run[at..], &next.0, next.1)
     } else {
         run.len()

@@ -8,6 +8,7 @@
 mod candidates;
 mod clearing;
 mod edit;
+mod heads;
 mod index;
 mod insert;
 mod laws;

@@ -48,6 +48,13 @@ fn list_of<const W: usize>(index: &Index<W>) -> (u32, bool)
     (index.first, index.listed)
 }
 
+// Copies of the index share the heads from now on.
+fn share_heads<const W: usize>(index: &mut Index<W>) -> Result<(), AllocError>
+    ensures { index.new ≡ index.old }
+{
+    index.heads.share()
+}
+
 impl<const W: usize> Index<W> {
     /// Puts the list of the leaves on a chain in the place of the one that was stored last, and
     /// gives its first page: 0 where there is no leaf. Where no leaf came or went since, it stays.
@@ -83,6 +90,10 @@ impl<const W: usize> Index<W> {
     {
         // For the proof.
         law_of_chains();
+        match share_heads(self) {
+            Ok(()) => {}
+            Err(_) => return Err(Fault::OutOfMemory),
+        }
         let (first, listed) = list_of(self);
         if listed {
             return Ok(first);

@@ -2,6 +2,7 @@ use Rattle.std.proofs.Common.{◌≡◌, ◌≤◌, ◌*◌, ◌∙◌, ℕ, Lis
 use Rattle.tune_pages.specs.Faults.{free_pages, pages_for}
 use Rattle.tune_pages.specs.Stand.{Stand, HasChain, marked, without_pages}
 use Rattle.tune_pages.specs.Work.{stand}
+use Rattle.tune_index.specs.Indexes.{Shape}
 use Rattle.tune_index.specs.ListedLeaves.{StoresList, listed_bytes}
 use Rattle.tune_pages.proofs.Counting.{marked_less}
 use Rattle.tune_pages.proofs.FreePages.{freed_more}
@@ -15,7 +16,7 @@ returns-then-listed-clause-stores g c = λ h.
     let was = c.args.self.now in
     let has = c.requires.list h in
     let on : was.listed ≡ true = search rules in
-    let same : c.list_of-first.result.0 ≡ was.first = c.list_of-first.ensures.0 in
+    let same : c.list_of-first.result.0 ≡ was.first = c.list_of-first.ensures.0 ∙ ap (λ (x : Shape). x.first) c.share_heads.ensures in
     subst (λ (n : ℕ). StoresList s s was.first n was.pages) (sym same)
     (stores_none s was.first was.pages has.0 has.1 has.2 (has.3 on) (λ t u a b x y. c.law_of_chains.ensures.once s.pages was.first t u a b x.chain y.chain))
 
@@ -39,8 +40,10 @@ returns-in-Err-put_chain-clause-takes g c = λ h is.
     let mid = stand c.free_chain.new.self c.free_chain.new.work in
     let was = c.args.self.now in
     let has = c.requires.list (c.in-Ok-free_chain.ensures.looks.was_honest h) in
-    let least = freed_list s mid was.first c.list_of-first.result.0 has.0 has.1 c.list_of-first.ensures.0 has.2 (c.in-Ok-free_chain.ensures.stand h) in
-    let bytes : c.deref.result.now ≡ listed_bytes was.pages = c.deref.ensures.value ∙ c.in-Ok.ensures in
+    let same : c.list_of-first.result.0 ≡ was.first = c.list_of-first.ensures.0 ∙ ap (λ (x : Shape). x.first) c.share_heads.ensures in
+    let least = freed_list s mid was.first c.list_of-first.result.0 has.0 has.1 same has.2 (c.in-Ok-free_chain.ensures.stand h) in
+    let bytes : c.deref.result.now ≡ listed_bytes was.pages = c.deref.ensures.value ∙ c.in-Ok-write_list.ensures
+    ∙ ap (λ (x : Shape). listed_bytes x.pages) c.share_heads.ensures in
     let size : pages_for (length c.deref.result.now) ≡ pages_for (4 * length was.pages) = ap (λ (x : List ℕ). pages_for (length x)) bytes
     ∙ ap pages_for (length-listed was.pages) in
     let full = full_work c.in-Err-put_chain.fault c.free_chain.new.self.closed is c.in-Err-put_chain.ensures.answer in
@@ -53,8 +56,10 @@ returns-clause-takes g c = λ h.
     let new = stand c.free_chain.new.self c.put_chain.new.work in
     let was = c.args.self.now in
     let has = c.requires.list (c.in-Ok-free_chain.ensures.looks.was_honest h) in
-    let least = freed_list s mid was.first c.list_of-first.result.0 has.0 has.1 c.list_of-first.ensures.0 has.2 (c.in-Ok-free_chain.ensures.stand h) in
-    let bytes : c.deref.result.now ≡ listed_bytes was.pages = c.deref.ensures.value ∙ c.in-Ok.ensures in
+    let same : c.list_of-first.result.0 ≡ was.first = c.list_of-first.ensures.0 ∙ ap (λ (x : Shape). x.first) c.share_heads.ensures in
+    let least = freed_list s mid was.first c.list_of-first.result.0 has.0 has.1 same has.2 (c.in-Ok-free_chain.ensures.stand h) in
+    let bytes : c.deref.result.now ≡ listed_bytes was.pages = c.deref.ensures.value ∙ c.in-Ok-write_list.ensures
+    ∙ ap (λ (x : Shape). listed_bytes x.pages) c.share_heads.ensures in
     let size : pages_for (length c.deref.result.now) ≡ pages_for (4 * length was.pages) = ap (λ (x : List ℕ). pages_for (length x)) bytes
     ∙ ap pages_for (length-listed was.pages) in
     let chain = c.in-Ok-put_chain.ensures.chain in
@@ -68,8 +73,9 @@ returns-clause-stores g c = λ h.
     let mid = stand c.free_chain.new.self c.free_chain.new.work in
     let new = stand c.free_chain.new.self c.put_chain.new.work in
     let was = c.args.self.now in
-    let same : c.list_of-first.result.0 ≡ was.first = c.list_of-first.ensures.0 in
-    let bytes : c.deref.result.now ≡ listed_bytes was.pages = c.deref.ensures.value ∙ c.in-Ok.ensures in
+    let same : c.list_of-first.result.0 ≡ was.first = c.list_of-first.ensures.0 ∙ ap (λ (x : Shape). x.first) c.share_heads.ensures in
+    let bytes : c.deref.result.now ≡ listed_bytes was.pages = c.deref.ensures.value ∙ c.in-Ok-write_list.ensures
+    ∙ ap (λ (x : Shape). listed_bytes x.pages) c.share_heads.ensures in
     subst (λ (n : ℕ). StoresList s new n c.in-Ok-put_chain.next was.pages) same
     (stores s mid new c.list_of-first.result.0 c.in-Ok-put_chain.next was.pages c.deref.result.now bytes (c.in-Ok-free_chain.ensures.stand h)
     c.in-Ok-put_chain.ensures.chain)
