@@ -2,3 +2,4 @@ pub mod EntryPlaces
 pub mod LeafLists
 pub mod EachPage
 pub mod Loading
+pub mod SharedHeads
