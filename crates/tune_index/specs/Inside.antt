@@ -2,4 +2,3 @@ pub mod EntryPlaces
 pub mod LeafLists
 pub mod EachPage
 pub mod Loading
-pub mod SharedHeads

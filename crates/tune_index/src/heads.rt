@@ -1,9 +1,7 @@
 // The first entries of leaves, which copies of an index share until one of them changes.
-ghost use Rattle.std.specs.Prelude.{◌≡◌, ◌<◌, ◌≤◌, ◌++◌, [], ◌∷◌, length, map, slice_set};
-ghost use Rattle.std.specs.Prelude.{slice_index};
-ghost use Rattle.std.specs.Prelude.{IsTrue, OnErr, OnOk};
+ghost use Rattle.std.specs.Prelude.{◌≡◌, ◌<◌, ◌≤◌, ◌++◌, [], ◌∷◌, length, slice_set, slice_index};
+ghost use Rattle.std.specs.Prelude.{None, option_map, unwrap_or, IsTrue, OnErr, OnOk};
 ghost use Rattle.std.specs.List.{insert, remove};
-ghost use Rattle.tune_index.specs.Inside.SharedHeads.{heads_in};
 
 use crate::leaf::Leaf;
 use index_keys::IndexKey;
@@ -13,26 +11,35 @@ use std::mem;
 use std::rc::Rc;
 
 // The first entry of each leaf, in the order of the leaves. Contracts see a list of entries.
-#[derive(Drop)]
 pub(crate) struct Heads<const W: usize> {
     alloc: Global,
     // the heads, unless they are shared: then this is room alone
     own: Leaf<W>,
-    // the heads, where they are shared: one list or none
-    shared: Vec<Rc<Leaf<W>>>,
+    // the heads, where they are shared
+    shared: Option<Rc<Leaf<W>>>,
 }
 
 impl<const W: usize> Model for Heads<W> {
-    ghost use Rattle.std.specs.Prelude.{◌≤◌, List, map};
+    ghost use Rattle.std.specs.Prelude.{◌≤◌, List, option_map, unwrap_or};
     ghost use Rattle.index_keys.specs.Entries.{Entry};
-    ghost use Rattle.tune_index.specs.Inside.SharedHeads.{heads_in};
 
     ghost Value = { List Entry };
 
-    ghost view = { λ heads.
-        heads_in heads.own.items (map (λ rc. rc.value.items) heads.shared.items) };
+    ghost view = { λ heads. unwrap_or (option_map (λ rc. rc.value.items) heads.shared)
+        heads.own.items };
 
     ghost invariant = { λ _. W ≤ 4090 };
+}
+
+// By hand, so that the proofs of what lets an index go do not see that heads may be shared.
+impl<const W: usize> Drop for Heads<W> {
+    fn drop(self) {
+        let Heads {
+            alloc: _alloc,
+            own: _own,
+            shared: _shared,
+        } = self;
+    }
 }
 
 // The list becomes that of these entries, in the memory that it has, and more where that is not
@@ -54,19 +61,19 @@ fn fill<const W: usize>(
 // Heads that are shared are copied, so that the own ones count.
 fn make_own<const W: usize>(
     own: &mut Leaf<W>,
-    shared: &mut Vec<Rc<Leaf<W>>>,
+    shared: &mut Option<Rc<Leaf<W>>>,
 ) -> Result<(), AllocError>
     requires { W ≤ 4090 }
-    ensures none { OnOk result (shared.new.items ≡ []) }
+    ensures none { OnOk result (shared.new ≡ None) }
     ensures same { OnOk result (own.new.items
-        ≡ heads_in own.old.items (map (λ rc. rc.value.items) shared.old.items)) }
+        ≡ unwrap_or (option_map (λ rc. rc.value.items) shared.old) own.old.items) }
     ensures kept { OnErr result
-        ((shared.new.items ≡ shared.old.items) × (own.new.items ≡ own.old.items)) }
+        ((shared.new ≡ shared.old) × (own.new.items ≡ own.old.items)) }
 {
-    if let Some(heads) = shared.first() {
+    if let Some(heads) = &*shared {
         fill(own, heads)?;
     }
-    shared.clear();
+    *shared = None;
     Ok(())
 }
 
@@ -93,7 +100,7 @@ impl<const W: usize> Heads<W> {
         Heads {
             alloc,
             own: Vec::new(alloc),
-            shared: Vec::new(alloc),
+            shared: None,
         }
     }
 
@@ -101,7 +108,7 @@ impl<const W: usize> Heads<W> {
     pub(crate) fn as_slice(&self) -> &[(IndexKey<W>, u32)]
         ensures { result.now ≡ self.now }
     {
-        match self.shared.first() {
+        match &self.shared {
             Some(heads) => heads,
             None => &self.own,
         }
@@ -161,16 +168,15 @@ impl<const W: usize> Heads<W> {
     pub(crate) fn share(&mut self) -> Result<(), AllocError>
         ensures { self.new ≡ self.old }
     {
-        if !self.shared.is_empty() {
+        if self.shared.is_some() {
             return Ok(());
         }
-        self.shared.reserve(1)?;
         match Rc::new(
             self.alloc,
             mem::replace(&mut self.own, Vec::new(self.alloc)),
         ) {
             Ok(heads) => {
-                self.shared.push(heads).unwrap();
+                self.shared = Some(heads);
                 Ok(())
             }
             Err(failed) => {
@@ -186,15 +192,12 @@ impl<const W: usize> Heads<W> {
         ensures same { OnOk result (self.new ≡ other.now) }
         ensures kept { OnErr result (self.new ≡ self.old) }
     {
-        if let Some(heads) = other.shared.first() {
-            let heads = heads.clone()?;
-            self.shared.reserve(1)?;
-            self.shared.clear();
-            self.shared.push(heads).unwrap();
+        if let Some(heads) = &other.shared {
+            self.shared = Some(heads.clone()?);
             return Ok(());
         }
         fill(&mut self.own, &other.own)?;
-        self.shared.clear();
+        self.shared = None;
         Ok(())
     }
 }
