@@ -67,6 +67,12 @@ returns-clause-lays g c = λ h.
 pub returns-clause-rows : goal.returns-clause-rows
 returns-clause-rows g c = c.in_ok-rows.ensures.rows c.args.contents.now.layout c.args.contents.now.sets c.requires.possible
 
+pub returns-in_err-sets-clause-takes : goal.returns-in_err-sets-clause-takes
+returns-in_err-sets-clause-takes g c = λ h state holds within is.
+    (let p = err_from_is_err_and c.from_residual-in_err-sets.result c.from_residual-in_err-sets.ensures.1 in
+    let err = c.in_err-sets.ensures.err in
+    rw (p.1, p.2) (λ e. cc))
+
 pub returns-in_err-rows-clause-takes : goal.returns-in_err-rows-clause-takes
 returns-in_err-rows-clause-takes g c = λ h state holds within is.
     (let p = err_from_is_err_and c.from_residual-in_err-rows.result c.from_residual-in_err-rows.ensures.1 in
