@@ -43,7 +43,7 @@ impl<const W: usize> Drop for Heads<W> {
 }
 
 // The list becomes that of these entries, in the memory that it has, and more where that is not
-// enough.
+// enough, with room for one entry more: a leaf that is split is told next.
 fn fill<const W: usize>(
     list: &mut Leaf<W>,
     entries: &[(IndexKey<W>, u32)],
@@ -52,7 +52,8 @@ fn fill<const W: usize>(
     ensures same { OnOk result (list.new.items ≡ entries.now) }
     ensures kept { OnErr result (list.new.items ≡ list.old.items) }
 {
-    list.reserve(entries.len().saturating_sub(list.len()))?;
+    let more = entries.len().saturating_sub(list.len());
+    list.reserve(more.saturating_add(1))?;
     list.clear();
     list.extend_from_slice(entries).unwrap();
     Ok(())

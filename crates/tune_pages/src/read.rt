@@ -72,7 +72,8 @@ impl<D: Disk> Pages<D> {
         self.read_image(work, page, image, true)
     }
 
-    // The same. An image that the disk shows is kept where `keeps` says so.
+    // The same. An image that the disk shows is kept where `keeps` says so, and the work changes no
+    // page yet: what is read to be changed is seldom read again before its image would have to go.
     pub(crate) fn read_image(
         &mut self,
         work: &Work,
@@ -96,7 +97,7 @@ impl<D: Disk> Pages<D> {
         if work.changes.read(page, image) {
             return Ok(());
         }
-        self.fetch(page, image, keeps)
+        self.fetch(page, image, keeps && work.changes.is_empty())
     }
 
     // Reads a page that no work changes.
