@@ -5,6 +5,7 @@ ghost use Rattle.tune_store.specs.declared.layout.Layout.TheVariants.{One};
 use crate::disks::TestDisk;
 use abc_fields::{ByteText, TuneText};
 use std::alloc::Global;
+use std::collections::VecDeque;
 use std::process::Abort;
 use std::test::Fail;
 use tune_contents::{Contents, Room, lay};
@@ -43,7 +44,7 @@ fn nothing(alloc: Global) -> Contents
 {
     Contents {
         layout: Layout::One,
-        rows: Vec::new(alloc),
+        rows: VecDeque::new(alloc),
         numbers: Index::new(alloc),
         searches: SearchIndexes::new(alloc, IncipitNotes::Eight),
         sets: SetLists::new(alloc),

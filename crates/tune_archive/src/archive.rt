@@ -105,7 +105,7 @@ impl<D: Disk> Archive<D> {
         }
         Ok(Counts {
             layout: self.contents.layout.number(),
-            tunes: self.contents.rows.as_slice().len(),
+            tunes: self.contents.rows.len(),
             sets: self.contents.sets.as_slice().len(),
         })
     }

@@ -7,6 +7,7 @@ ghost use Rattle.tune_contents.specs.Claimed.{RowsRise};
 ghost use Rattle.tune_contents.specs.Holds.{labels_in};
 
 use std::alloc::{AllocError, Global};
+use std::collections::VecDeque;
 use tune_contents::place_of;
 use tune_format::Row;
 
@@ -14,14 +15,14 @@ use tune_format::Row;
 // and may repeat. A number that no row has is passed over. The error is out of memory.
 pub(crate) fn places_of_numbers(
     alloc: Global,
-    rows: &[Row],
+    rows: &VecDeque<Row>,
     mut numbers: Vec<u32>,
 ) -> Result<Vec<usize>, AllocError>
-    requires { RowsRise 0 rows.now }
+    requires { RowsRise 0 rows.now.items }
     ensures rise { IfOk result
-        (λ places. PlacesRise 0 (length (labels_in rows.now)) places.items) }
+        (λ places. PlacesRise 0 (length (labels_in rows.now.items)) places.items) }
     ensures places { IfOk result
-        (λ places. ArePlacesOf numbers.items (labels_in rows.now) places.items) }
+        (λ places. ArePlacesOf numbers.items (labels_in rows.now.items) places.items) }
 {
     numbers.sort_unstable();
     numbers.dedup();
@@ -29,13 +30,17 @@ pub(crate) fn places_of_numbers(
 }
 
 // The same, of numbers that rise.
-fn places_of_rising(alloc: Global, rows: &[Row], numbers: &[u32]) -> Result<Vec<usize>, AllocError>
-    requires rows { RowsRise 0 rows.now }
+fn places_of_rising(
+    alloc: Global,
+    rows: &VecDeque<Row>,
+    numbers: &[u32],
+) -> Result<Vec<usize>, AllocError>
+    requires rows { RowsRise 0 rows.now.items }
     requires numbers { IsStrictlySortedBy nat_cmp numbers.now }
     ensures rise { IfOk result
-        (λ places. PlacesRise 0 (length (labels_in rows.now)) places.items) }
+        (λ places. PlacesRise 0 (length (labels_in rows.now.items)) places.items) }
     ensures places { IfOk result
-        (λ places. ArePlacesOf numbers.now (labels_in rows.now) places.items) }
+        (λ places. ArePlacesOf numbers.now (labels_in rows.now.items) places.items) }
 {
     let most = rows.len().min(numbers.len());
     let mut places = Vec::with_capacity(alloc, most)?;

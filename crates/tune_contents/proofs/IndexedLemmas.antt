@@ -224,16 +224,15 @@ pub lays_from : (s one mid : Stand) (was rows : List Row) (change : Change) → 
 lays_from s one mid was rows change same lays = subst (λ (t : Stand). LaysChange t mid was rows change) same lays
 
 -- by what is ensured of it, of rows that are those
-pub laid_tunes : (layout : Layout) (s one mid : Stand) (was held : List Row) (made : RowChange) (change : Change) (gone come : List Entry) → one ≡ s
-    → held ≡ was → LaysChange one mid was (rows_after made was) change → KeepsRows change was (rows_after made was)
-    → (RowsRise 0 held → RowsRise 0 (rows_after made held) → AllFit key_bytes (number_entries held)
-    → inserted_all come (removed_all gone (number_entries held)) ≡ number_entries (rows_after made held))
+pub laid_tunes : (layout : Layout) (s one mid : Stand) (was : List Row) (made : RowChange) (change : Change) (gone come : List Entry) → one ≡ s
+    → LaysChange one mid was (rows_after made was) change → KeepsRows change was (rows_after made was)
+    → (RowsRise 0 was → RowsRise 0 (rows_after made was) → AllFit key_bytes (number_entries was)
+    → inserted_all come (removed_all gone (number_entries was)) ≡ number_entries (rows_after made was))
     → LaidTunes layout s mid was (rows_after made was) change gone come
-laid_tunes layout s one mid was held made change gone come same begun lays kept entries = record {
+laid_tunes layout s one mid was made change gone come same lays kept entries = record {
   lays = lays_from s one mid was (rows_after made was) change same lays;
   kept = kept;
-  entries = subst (λ (r : List Row). RowsRise 0 r → RowsRise 0 (rows_after made r) → AllFit key_bytes (number_entries r)
-      → inserted_all come (removed_all gone (number_entries r)) ≡ number_entries (rows_after made r)) begun entries;
+  entries = entries;
 }
 
 abbrev pub TextsChange : Layout → Stand → List Row → Change → Option SearchRuns → Option SearchRuns → Type 0

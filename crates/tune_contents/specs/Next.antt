@@ -1,8 +1,6 @@
 -- What a change of an archive leads to, in memory.
-use Rattle.std.specs.Prelude.{◌+◌, ◌<◌, ◌≤◌, List, ◌++◌, length, slice_set, vec_len, ⊤}
+use Rattle.std.specs.Prelude.{ℕ, ◌+◌, ◌<◌, ◌≤◌, List, ◌++◌, length, slice_set, vec_len, ⊤}
 use Rattle.std.specs.List.{insert, remove}
-use Rattle.std.specs.Vec.{vec_capacity}
-use Rattle.std.specs.declared.vec.Vec.{Vec}
 use Rattle.tune_format.specs.declared.rows.Row.{Row}
 use Rattle.tune_contents.specs.Holds.{Memory}
 use Rattle.tune_contents.specs.declared.contents.Contents.{Contents}
@@ -20,14 +18,15 @@ rows_after (Take place) rows = remove rows place
 rows_after (Move place to row) rows = insert (remove rows place) to row
 rows_after (Whole all) rows = all.items
 
--- It can be made of them: there is room for those that come, and its places are there.
-abbrev pub FitsRows : {A : Type 0} → RowChange → Vec Row A → Type 0
-FitsRows (Add more) rows = vec_len rows + vec_len more ≤ vec_capacity rows
-FitsRows (Put place row) rows = place < length rows.items
-FitsRows (Take place) rows = place < length rows.items
-FitsRows (Move place to row) rows =
-    (place < length rows.items) × (to ≤ length (remove rows.items place))
-FitsRows change rows = ⊤
+-- It can be made of rows in memory that has room for so many: there is room for those that come,
+-- and its places are there.
+abbrev pub FitsRows : RowChange → List Row → ℕ → Type 0
+FitsRows (Add more) rows room = length rows + vec_len more ≤ room
+FitsRows (Put place row) rows room = place < length rows
+FitsRows (Take place) rows room = place < length rows
+FitsRows (Move place to row) rows room =
+    (place < length rows) × (to ≤ length (remove rows place))
+FitsRows change rows room = ⊤
 
 -- What is kept in memory after it.
 abbrev pub memory_after : Next → Contents → Memory

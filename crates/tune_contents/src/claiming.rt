@@ -36,6 +36,7 @@ use crate::layout_notes::incipit_notes;
 use abc_fields::{ByteText, MOST_TITLES, TuneText};
 use index_keys::EntryList;
 use std::alloc::{AllocError, Global};
+use std::collections::VecDeque;
 use std::mem;
 use tune_disk::Disk;
 use tune_format::{Firsts, Row, number_of_key, read_root, read_text};
@@ -102,7 +103,7 @@ pub fn claim<D: Disk>(alloc: Global, opening: &mut Opening<D>) -> Result<Content
     let (rows, sets) = claim_texts(alloc, opening, layout, tunes, entries, &sets)?;
     Ok(Contents {
         layout,
-        rows,
+        rows: VecDeque::from(rows),
         numbers,
         searches,
         sets,

@@ -3,6 +3,7 @@ ghost use Rattle.std.specs.Prelude.{◌≡◌, ◌≢◌, ◌+◌, ◌^◌, ◌<
 ghost use Rattle.std.specs.Prelude.{slice_set};
 ghost use Rattle.std.specs.Prelude.{IfOk, IfErr, OnOk, IsTrue};
 ghost use Rattle.std.specs.List.{range_with_len, remove};
+ghost use Rattle.std.specs.VecDeque.{deque_capacity};
 ghost use Rattle.tune_pages.specs.Faults.{pages_for};
 ghost use Rattle.tune_pages.specs.FreePages.{TakesAtMost};
 ghost use Rattle.tune_pages.specs.Kept.{HonestAt};
@@ -32,6 +33,7 @@ use crate::next::RowChange;
 use crate::room::Room;
 use abc_fields::TuneText;
 use std::alloc::Global;
+use std::collections::VecDeque;
 use tune_disk::Disk;
 use tune_format::{Firsts, Row, put_text, read_root, write_root, write_text};
 use tune_pages::{Fault, Pages, Work, law_of_works};
@@ -63,9 +65,9 @@ fn swap_chain<D: Disk>(
 }
 
 // Where the chain of the tune at a place begins.
-fn first_at(rows: &[Row], place: usize) -> u32
-    requires { place < length rows.now }
-    ensures { (before after : List Row) (row : Row) → rows.now ≡ before ++ row ∷ after
+fn first_at(rows: &VecDeque<Row>, place: usize) -> u32
+    requires { place < length rows.now.items }
+    ensures { (before after : List Row) (row : Row) → rows.now.items ≡ before ++ row ∷ after
         → length before ≡ place → result ≡ row.first }
 {
     rows[place].first
@@ -76,22 +78,23 @@ pub(crate) fn put_tune<D: Disk>(
     alloc: Global,
     pages: &mut Pages<D>,
     work: &mut Work,
-    rows: &[Row],
+    rows: &VecDeque<Row>,
     place: usize,
     tune: &Tune,
 ) -> Result<RowChange, Fault>
     requires open { pages.old.closed ≡ false }
     requires fits { Fits pages.old work.old }
-    requires place { place < length rows.now }
+    requires place { place < length rows.now.items }
     requires holds { HonestAt D.honest pages.old.disk
-        → HoldsSomeTunes (stand pages.old work.old) rows.now }
+        → HoldsSomeTunes (stand pages.old work.old) rows.now.items }
     ensures fits { OnOk result (Fits pages.new work.new) }
     ensures lays { IfOk result (λ made. HonestAt D.honest pages.new.disk → LaysTunes
-        (stand pages.old work.old) (stand pages.new work.new) rows.now (rows_after made rows.now)
+        (stand pages.old work.old) (stand pages.new work.new) rows.now.items
+        (rows_after made rows.now.items)
         (λ tunes. slice_set tunes place tune.now)) }
     ensures row { IfOk result (λ made.
-        PutsRow place tune.now.number rows.now (rows_after made rows.now)) }
-    ensures single { IfOk result (λ made. IsSingle made rows.now) }
+        PutsRow place tune.now.number rows.now.items (rows_after made rows.now.items)) }
+    ensures single { IfOk result (λ made. IsSingle made rows.now.items) }
     ensures looks { LooksAt D.honest D.failures D.state result pages.old pages.new }
     ensures answer { AnswersLay result pages.new.closed }
     ensures takes { HonestAt D.honest pages.new.disk → TakesAtMost (tune_pages tune.now.text)
@@ -114,20 +117,22 @@ pub(crate) fn put_tune<D: Disk>(
 pub(crate) fn take_tune<D: Disk>(
     pages: &mut Pages<D>,
     work: &mut Work,
-    rows: &[Row],
+    rows: &VecDeque<Row>,
     place: usize,
 ) -> Result<RowChange, Fault>
     requires open { pages.old.closed ≡ false }
     requires fits { Fits pages.old work.old }
-    requires place { place < length rows.now }
+    requires place { place < length rows.now.items }
     requires holds { HonestAt D.honest pages.old.disk
-        → HoldsSomeTunes (stand pages.old work.old) rows.now }
+        → HoldsSomeTunes (stand pages.old work.old) rows.now.items }
     ensures fits { OnOk result (Fits pages.new work.new) }
     ensures lays { IfOk result (λ made. HonestAt D.honest pages.new.disk → LaysTunes
-        (stand pages.old work.old) (stand pages.new work.new) rows.now (rows_after made rows.now)
+        (stand pages.old work.old) (stand pages.new work.new) rows.now.items
+        (rows_after made rows.now.items)
         (λ tunes. remove tunes place)) }
-    ensures rows { IfOk result (λ made. rows_after made rows.now ≡ remove rows.now place) }
-    ensures single { IfOk result (λ made. IsSingle made rows.now) }
+    ensures rows { IfOk result (λ made.
+        rows_after made rows.now.items ≡ remove rows.now.items place) }
+    ensures single { IfOk result (λ made. IsSingle made rows.now.items) }
     ensures looks { LooksAt D.honest D.failures D.state result pages.old pages.new }
     ensures answer { AnswersLay result pages.new.closed }
     ensures takes { HonestAt D.honest pages.new.disk → TakesAtMost 0
@@ -221,9 +226,9 @@ fn add_tunes<D: Disk>(
 }
 
 // The change that puts rows behind the others. Where there is no room for them, all are copied.
-fn put_behind(room: &mut Room, rows: &Vec<Row>, more: Vec<Row>) -> Result<RowChange, Fault>
+fn put_behind(room: &mut Room, rows: &VecDeque<Row>, more: Vec<Row>) -> Result<RowChange, Fault>
     ensures behind { IfOk result (λ made. IsBehind made rows.now.items more.items) }
-    ensures fits { IfOk result (λ made. FitsRows made rows.now) }
+    ensures fits { IfOk result (λ made. FitsRows made rows.now.items (deque_capacity rows.now)) }
     ensures err { IfErr result (λ fault. fault ≡ OutOfMemory) }
 {
     if rows.capacity() - rows.len() >= more.len() {
@@ -240,7 +245,7 @@ pub(crate) fn lay_added<D: Disk>(
     room: &mut Room,
     pages: &Pages<D>,
     work: &mut Work,
-    rows: &Vec<Row>,
+    rows: &VecDeque<Row>,
     first: u32,
     texts: &[TuneText],
 ) -> Result<RowChange, Fault>
@@ -255,7 +260,7 @@ pub(crate) fn lay_added<D: Disk>(
     ensures rows { IfOk result (λ made.
         AddsRows first (length texts.now) rows.now.items (rows_after made rows.now.items)) }
     ensures made { IfOk result (λ made. IsMadeOf made rows.now.items) }
-    ensures room { IfOk result (λ made. FitsRows made rows.now) }
+    ensures room { IfOk result (λ made. FitsRows made rows.now.items (deque_capacity rows.now)) }
     ensures quiet { IfErr result (λ fault. (fault ≢ Device) × (fault ≢ Closed)) }
     ensures takes { TakesAtMost (text_pages texts.now) result
         (stand pages.now work.old) (stand pages.now work.new) }

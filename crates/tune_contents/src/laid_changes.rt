@@ -1,6 +1,7 @@
 // A change of an archive, laid on its pages.
 ghost use Rattle.std.specs.Prelude.{◌≡◌, ◌≢◌, ◌+◌, List, false, true, length};
 ghost use Rattle.std.specs.Prelude.{IfOk, IfErr, OnOk};
+ghost use Rattle.std.specs.VecDeque.{deque_capacity};
 ghost use Rattle.tune_pages.specs.FreePages.{TakesAtMost};
 ghost use Rattle.tune_pages.specs.Kept.{HonestAt};
 ghost use Rattle.tune_pages.specs.PageLooks.{LooksAt};
@@ -37,6 +38,7 @@ use crate::room::Room;
 use crate::searching::{change_searches, text_runs};
 use crate::tune_rows::{are_rows, move_row};
 use crate::upgrading::upgrade;
+use std::collections::VecDeque;
 use tune_disk::Disk;
 use tune_format::{Firsts, Row};
 use tune_index::Index;
@@ -82,7 +84,7 @@ fn lay_tunes<D: Disk>(
     room: &mut Room,
     pages: &mut Pages<D>,
     work: &mut Work,
-    rows: &Vec<Row>,
+    rows: &VecDeque<Row>,
     change: &Change,
 ) -> Result<RowChange, Fault>
     requires open { pages.old.closed ≡ false }
@@ -97,7 +99,7 @@ fn lay_tunes<D: Disk>(
     ensures made { IfOk result (λ made. IsMadeOf made rows.now.items) }
     ensures rows { IfOk result (λ made.
         KeepsRows change.now rows.now.items (rows_after made rows.now.items)) }
-    ensures room { IfOk result (λ made. FitsRows made rows.now) }
+    ensures room { IfOk result (λ made. FitsRows made rows.now.items (deque_capacity rows.now)) }
     ensures looks { LooksAt D.honest D.failures D.state result pages.old pages.new }
     ensures answer { AnswersLay result pages.new.closed }
     ensures takes { HonestAt D.honest pages.new.disk → TakesAtMost (change_pages change.now)
@@ -128,7 +130,7 @@ fn lay_indexed<D: Disk>(
     pages: &mut Pages<D>,
     work: &mut Work,
     layout: Layout,
-    rows: &Vec<Row>,
+    rows: &VecDeque<Row>,
     indexes: &mut Indexes,
     change: &Change,
 ) -> Result<(RowChange, u32, SearchFirsts), Fault>
@@ -149,7 +151,7 @@ fn lay_indexed<D: Disk>(
         × AreListed indexes.new.searches) }
     ensures rows { IfOk result (λ laid.
         KeepsRows change.now rows.now.items (rows_after laid.0 rows.now.items)) }
-    ensures room { IfOk result (λ laid. FitsRows laid.0 rows.now) }
+    ensures room { IfOk result (λ laid. FitsRows laid.0 rows.now.items (deque_capacity rows.now)) }
     ensures notes { OnOk result
         (indexes.new.searches.notes ≡ indexes.old.searches.notes) }
     ensures looks { LooksAt D.honest D.failures D.state result pages.old pages.new }
@@ -210,7 +212,8 @@ fn lay_change<D: Disk>(
         → IfOk result (λ next.
         AreRows next.layout (rows_after next.rows contents.now.rows.items)) }
     ensures layout { IfOk result (λ next. next.layout ≡ contents.now.layout) }
-    ensures room { IfOk result (λ next. FitsRows next.rows contents.now.rows) }
+    ensures room { IfOk result (λ next.
+        FitsRows next.rows contents.now.rows.items (deque_capacity contents.now.rows)) }
     ensures fits { OnOk result (Fits pages.new work.new) }
     ensures looks { LooksAt D.honest D.failures D.state result pages.old pages.new }
     ensures answer { AnswersLay result pages.new.closed }
@@ -299,7 +302,8 @@ pub fn lay<D: Disk>(
         AreRows next.layout (rows_after next.rows contents.now.rows.items)) }
     ensures layout { IfOk result (λ next. next.layout
         ≡ changed_layout change contents.now.layout) }
-    ensures room { IfOk result (λ next. FitsRows next.rows contents.now.rows) }
+    ensures room { IfOk result (λ next.
+        FitsRows next.rows contents.now.rows.items (deque_capacity contents.now.rows)) }
     ensures fits { OnOk result (Fits pages.new work.new) }
     ensures looks { LooksAt D.honest D.failures D.state result pages.old pages.new }
     ensures answer { AnswersLay result pages.new.closed }

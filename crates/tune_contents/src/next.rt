@@ -1,10 +1,12 @@
 // What a change of an archive leads to, in memory.
 ghost use Rattle.std.specs.Prelude.{◌≡◌};
+ghost use Rattle.std.specs.VecDeque.{deque_capacity};
 ghost use Rattle.tune_contents.specs.Holds.{memory_of};
 ghost use Rattle.tune_contents.specs.Next.{FitsRows, memory_after, rows_after};
 
 use crate::contents::Contents;
 use crate::room::Room;
+use std::collections::VecDeque;
 use std::mem;
 use tune_format::{Firsts, Row};
 use tune_index::Index;
@@ -63,13 +65,13 @@ pub struct Next {
 }
 
 // Makes a change of rows. Memory of theirs that is left over goes into the room.
-fn change_rows(rows: &mut Vec<Row>, room: &mut Room, change: RowChange)
-    requires { FitsRows change rows.old }
+fn change_rows(rows: &mut VecDeque<Row>, room: &mut Room, change: RowChange)
+    requires { FitsRows change rows.old.items (deque_capacity rows.old) }
     ensures { rows.new.items ≡ rows_after change rows.old.items }
 {
     match change {
         RowChange::Stay => {}
-        RowChange::Add(more) => rows.extend_from_slice(&more).unwrap(),
+        RowChange::Add(more) => rows.append(&mut VecDeque::from(more)).unwrap(),
         RowChange::Put { place, row } => rows[place] = row,
         RowChange::Take { place } => {
             rows.remove(place);
@@ -78,7 +80,7 @@ fn change_rows(rows: &mut Vec<Row>, room: &mut Room, change: RowChange)
             rows.remove(place);
             rows.insert(to, row).unwrap();
         }
-        RowChange::Whole(all) => room.keep_rows(mem::replace(rows, all)),
+        RowChange::Whole(all) => room.keep_rows(mem::replace(rows, VecDeque::from(all))),
     }
 }
 
@@ -86,7 +88,7 @@ impl Contents {
     /// Becomes what a change leads to, once its work is finished. It takes no memory: what is left
     /// over goes into the room, for later changes.
     pub fn accept(&mut self, room: &mut Room, next: Next)
-        requires { FitsRows next.rows self.old.rows }
+        requires { FitsRows next.rows self.old.rows.items (deque_capacity self.old.rows) }
         ensures { memory_of self.new ≡ memory_after next self.old }
     {
         change_rows(&mut self.rows, room, next.rows);

@@ -21,6 +21,7 @@ ghost use Rattle.tune_contents.specs.Next.{rows_after};
 
 use crate::next::RowChange;
 use std::alloc::{AllocError, Global};
+use std::collections::VecDeque;
 use std::slice;
 use tune_disk::Disk;
 use tune_format::{Row, key_of_number};
@@ -81,15 +82,16 @@ fn put_runs(alloc: Global, was: &Row, is: &Row) -> Result<NumberRuns, AllocError
 // The entries of rows before a change and after it.
 pub(crate) fn number_runs(
     alloc: Global,
-    was: &[Row],
+    was: &VecDeque<Row>,
     made: &RowChange,
 ) -> Result<NumberRuns, AllocError>
-    requires { IsMadeOf made.now was.now }
+    requires { IsMadeOf made.now was.now.items }
     ensures rising { IfOk result (λ runs. IsRising runs.come.items) }
-    ensures entries { IfOk result (λ runs. RowsRise 0 was.now
-        → RowsRise 0 (rows_after made.now was.now) → AllFit key_bytes (number_entries was.now)
-        → inserted_all runs.come.items (removed_all runs.gone.items (number_entries was.now))
-        ≡ number_entries (rows_after made.now was.now)) }
+    ensures entries { IfOk result (λ runs. RowsRise 0 was.now.items
+        → RowsRise 0 (rows_after made.now was.now.items)
+        → AllFit key_bytes (number_entries was.now.items)
+        → inserted_all runs.come.items (removed_all runs.gone.items (number_entries was.now.items))
+        ≡ number_entries (rows_after made.now was.now.items)) }
 {
     match made {
         RowChange::Stay => runs_of(alloc, &[], &[]),

@@ -3,6 +3,7 @@ ghost use Rattle.std.specs.Prelude.{◌≡◌, ◌++◌, IfErr, IfOk};
 ghost use Rattle.tune_pages.specs.declared.fault.Fault.TheVariants.{OutOfMemory};
 
 use std::alloc::Global;
+use std::collections::VecDeque;
 use std::mem;
 use tune_format::Row;
 use tune_index::Index;
@@ -33,8 +34,8 @@ impl Room {
     }
 
     // Keeps the memory of rows for later ones.
-    pub(crate) fn keep_rows(&mut self, rows: Vec<Row>) {
-        self.rows = rows;
+    pub(crate) fn keep_rows(&mut self, rows: VecDeque<Row>) {
+        self.rows = Vec::from(rows);
     }
 
     // Keeps that of an index of numbers.
@@ -49,13 +50,18 @@ impl Room {
 
     // A copy of rows with more behind them. Memory is taken for twice the rows: so those of later
     // changes find room.
-    pub(crate) fn copy_rows(&mut self, rows: &[Row], more: &[Row]) -> Result<Vec<Row>, Fault>
-        ensures rows { IfOk result (λ copy. copy.items ≡ rows.now ++ more.now) }
+    pub(crate) fn copy_rows(
+        &mut self,
+        rows: &VecDeque<Row>,
+        more: &[Row],
+    ) -> Result<Vec<Row>, Fault>
+        ensures rows { IfOk result (λ copy. copy.items ≡ rows.now.items ++ more.now) }
         ensures err { IfErr result (λ fault. fault ≡ OutOfMemory) }
     {
         let mut copy = mem::replace(&mut self.rows, Vec::new(self.alloc));
         copy.clear();
-        if copy.extend_from_slice(rows).is_err() {
+        let (front, back) = rows.as_slices();
+        if copy.extend_from_slice(front).is_err() || copy.extend_from_slice(back).is_err() {
             return Err(Fault::OutOfMemory);
         }
         match copy.extend_from_slice(more) {

@@ -34,6 +34,7 @@ use crate::tune_reading::read_tune;
 use crate::tune_rows::place_of;
 use abc_fields::TuneText;
 use std::alloc::Global;
+use std::collections::VecDeque;
 use std::slice;
 use tune_disk::Disk;
 use tune_format::Row;
@@ -49,10 +50,10 @@ pub(crate) struct TextRuns {
 }
 
 // Where the row stands of a tune that a change replaces, takes out or moves.
-fn old_place(rows: &[Row], change: &Change) -> Option<usize>
-    requires { RowsAccept change.now rows.now }
-    ensures within { IfSome result (λ place. place < length rows.now) }
-    ensures place { IsOldPlace change.now rows.now result }
+fn old_place(rows: &VecDeque<Row>, change: &Change) -> Option<usize>
+    requires { RowsAccept change.now rows.now.items }
+    ensures within { IfSome result (λ place. place < length rows.now.items) }
+    ensures place { IsOldPlace change.now rows.now.items result }
 {
     match change {
         Change::Put { place, .. } => Some(*place),
@@ -69,19 +70,19 @@ fn tune_at<D: Disk>(
     pages: &mut Pages<D>,
     work: &Work,
     layout: Layout,
-    rows: &[Row],
+    rows: &VecDeque<Row>,
     place: usize,
 ) -> Result<(u32, TuneText), Fault>
     requires open { pages.old.closed ≡ false }
     requires fits { Fits pages.old work.now }
-    requires place { place < length rows.now }
+    requires place { place < length rows.now.items }
     requires holds { HonestAt D.honest pages.old.disk
-        → HoldsTunesWithin layout (stand pages.old work.now) rows.now }
+        → HoldsTunesWithin layout (stand pages.old work.now) rows.now.items }
     ensures number { IfOk result (λ tune. (d : Row)
-        → (slice_index_or rows.now place d).number ≡ tune.0) }
+        → (slice_index_or rows.now.items place d).number ≡ tune.0) }
     ensures tune { IfOk result (λ tune. HonestAt D.honest pages.new.disk
         → (ahead : List Part) (tunes : List Tune) → IsTunes layout tunes
-        → HoldsTunes (stand pages.old work.now) ahead tunes rows.now
+        → HoldsTunes (stand pages.old work.now) ahead tunes rows.now.items
         → IsTuneAt place tunes (Some tune)) }
     ensures fits { OnOk result (Fits pages.new work.now) }
     ensures stand { OnOk result (SameStand (HonestAt D.honest pages.new.disk)
@@ -103,17 +104,17 @@ fn old_tune<D: Disk>(
     pages: &mut Pages<D>,
     work: &Work,
     layout: Layout,
-    rows: &[Row],
+    rows: &VecDeque<Row>,
     change: &Change,
 ) -> Result<Option<(u32, TuneText)>, Fault>
     requires open { pages.old.closed ≡ false }
     requires fits { Fits pages.old work.now }
-    requires accept { RowsAccept change.now rows.now }
+    requires accept { RowsAccept change.now rows.now.items }
     requires holds { HonestAt D.honest pages.old.disk
-        → HoldsTunesWithin layout (stand pages.old work.now) rows.now }
+        → HoldsTunesWithin layout (stand pages.old work.now) rows.now.items }
     ensures tune { IfOk result (λ old. HonestAt D.honest pages.new.disk
         → (ahead : List Part) (tunes : List Tune) → IsTunes layout tunes
-        → HoldsTunes (stand pages.old work.now) ahead tunes rows.now
+        → HoldsTunes (stand pages.old work.now) ahead tunes rows.now.items
         → IsOldTune change.now tunes old) }
     ensures fits { OnOk result (Fits pages.new work.now) }
     ensures stand { OnOk result (SameStand (HonestAt D.honest pages.new.disk)
@@ -198,22 +199,22 @@ pub(crate) fn text_runs<D: Disk>(
     work: &Work,
     layout: Layout,
     notes: IncipitNotes,
-    rows: &[Row],
+    rows: &VecDeque<Row>,
     change: &Change,
 ) -> Result<TextRuns, Fault>
     requires open { pages.old.closed ≡ false }
     requires fits { Fits pages.old work.now }
-    requires accept { RowsAccept change.now rows.now }
+    requires accept { RowsAccept change.now rows.now.items }
     requires holds { HonestAt D.honest pages.old.disk
-        → HoldsTunesWithin layout (stand pages.old work.now) rows.now }
+        → HoldsTunesWithin layout (stand pages.old work.now) rows.now.items }
     ensures gone { IfOk result (λ runs. HonestAt D.honest pages.new.disk
         → (ahead : List Part) (tunes : List Tune) → IsTunes layout tunes
-        → HoldsTunes (stand pages.old work.now) ahead tunes rows.now
+        → HoldsTunes (stand pages.old work.now) ahead tunes rows.now.items
         → TakesSome runs.gone (numbered_texts tunes)) }
     ensures runs { IfOk result (λ runs. HonestAt D.honest pages.new.disk
         → (ahead : List Part) (tunes : List Tune) (sets : List TuneSet) → IsTunes layout tunes
-        → HoldsTunes (stand pages.old work.now) ahead tunes rows.now
-        → CanChange change.now layout (labels_in rows.now) sets
+        → HoldsTunes (stand pages.old work.now) ahead tunes rows.now.items
+        → CanChange change.now layout (labels_in rows.now.items) sets
         → ChangesTexts runs.gone runs.come (numbered_texts tunes)
         (numbered_texts (changed_tunes change.now tunes))) }
     ensures come { IfOk result (λ runs. IsSomeRun runs.come) }

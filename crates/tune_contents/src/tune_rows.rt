@@ -11,12 +11,13 @@ ghost use Rattle.tune_contents.specs.Claimed.{AreRows, RowsRise};
 ghost use Rattle.tune_contents.specs.Next.{rows_after};
 
 use crate::next::RowChange;
+use std::collections::VecDeque;
 use tune_format::Row;
 use tune_store::{GREATEST_NUMBER, Layout};
 
 // Whether these are rows by rising number, within the limits.
-pub(crate) fn are_rows(layout: Layout, rows: &[Row]) -> bool
-    ensures { IsTrue result ↔ AreRows layout rows.now }
+pub(crate) fn are_rows(layout: Layout, rows: &VecDeque<Row>) -> bool
+    ensures { IsTrue result ↔ AreRows layout rows.now.items }
 {
     let mut low = 0;
     for row in rows {
@@ -29,12 +30,12 @@ pub(crate) fn are_rows(layout: Layout, rows: &[Row]) -> bool
 }
 
 /// The place of the row of a number. It is found wherever the rows rise by number.
-pub fn place_of(rows: &[Row], number: u32) -> Option<usize>
-    ensures within { IfSome result (λ place. place < length rows.now) }
+pub fn place_of(rows: &VecDeque<Row>, number: u32) -> Option<usize>
+    ensures within { IfSome result (λ place. place < length rows.now.items) }
     ensures found { IfSome result (λ place. (d : Row)
-        → (slice_index_or rows.now place d).number ≡ number) }
-    ensures none { IfNone result (RowsRise 0 rows.now → (place : ℕ) (d : Row)
-        → place < length rows.now → (slice_index_or rows.now place d).number ≢ number) }
+        → (slice_index_or rows.now.items place d).number ≡ number) }
+    ensures none { IfNone result (RowsRise 0 rows.now.items → (place : ℕ) (d : Row)
+        → place < length rows.now.items → (slice_index_or rows.now.items place d).number ≢ number) }
 {
     match rows.binary_search_by_key(&number, |row| row.number) {
         Ok(place) => Some(place),
@@ -43,9 +44,9 @@ pub fn place_of(rows: &[Row], number: u32) -> Option<usize>
 }
 
 // The place of the first row of a greater number, or behind the last.
-fn place_after(rows: &[Row], number: u32) -> usize
-    ensures within { result ≤ length rows.now }
-    ensures after { RowsRise 0 rows.now → IsRowAfter number rows.now result }
+fn place_after(rows: &VecDeque<Row>, number: u32) -> usize
+    ensures within { result ≤ length rows.now.items }
+    ensures after { RowsRise 0 rows.now.items → IsRowAfter number rows.now.items result }
 {
     match rows.binary_search_by_key(&number, |row| row.number) {
         Ok(place) => place + 1,
@@ -54,22 +55,23 @@ fn place_after(rows: &[Row], number: u32) -> usize
 }
 
 // The same, once the row at a place has gone.
-fn place_among_others(rows: &[Row], place: usize, number: u32) -> usize
-    requires { place < length rows.now }
-    ensures within { result ≤ length (remove rows.now place) }
-    ensures after { RowsRise 0 rows.now → IsRowAfter number (remove rows.now place) result }
+fn place_among_others(rows: &VecDeque<Row>, place: usize, number: u32) -> usize
+    requires { place < length rows.now.items }
+    ensures within { result ≤ length (remove rows.now.items place) }
+    ensures after { RowsRise 0 rows.now.items
+        → IsRowAfter number (remove rows.now.items place) result }
 {
     let after = place_after(rows, number);
     if after > place { after - 1 } else { after }
 }
 
 // The change that gives the row of a number another one, and moves it to where that belongs.
-pub(crate) fn move_row(rows: &[Row], number: u32, to: u32) -> RowChange
-    ensures moves { MovesTunes rows.now (rows_after result rows.now) number to }
-    ensures single { IsSingle result rows.now }
-    ensures rows { (layout : Layout) → AreRows layout rows.now
-        → ¬ Contains (numbers_in rows.now) to → 0 < to → to ≤ greatest_number
-        → AreRows layout (rows_after result rows.now) }
+pub(crate) fn move_row(rows: &VecDeque<Row>, number: u32, to: u32) -> RowChange
+    ensures moves { MovesTunes rows.now.items (rows_after result rows.now.items) number to }
+    ensures single { IsSingle result rows.now.items }
+    ensures rows { (layout : Layout) → AreRows layout rows.now.items
+        → ¬ Contains (numbers_in rows.now.items) to → 0 < to → to ≤ greatest_number
+        → AreRows layout (rows_after result rows.now.items) }
 {
     let Some(place) = place_of(rows, number) else {
         return RowChange::Stay;

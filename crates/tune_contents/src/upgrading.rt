@@ -1,5 +1,6 @@
 // Layout 2, laid on the pages of an archive of layout 1.
 ghost use Rattle.std.specs.Prelude.{◌≡◌, ℕ, List, false, length, IfOk, OnOk};
+ghost use Rattle.std.specs.VecDeque.{deque_capacity};
 ghost use Rattle.tune_pages.specs.Faults.{AnswersRead};
 ghost use Rattle.tune_pages.specs.FreePages.{TakesAtMost};
 ghost use Rattle.tune_pages.specs.Kept.{HonestAt};
@@ -28,6 +29,7 @@ use crate::next::{Next, RowChange};
 use crate::room::Room;
 use crate::tune_reading::read_tune_where;
 use std::alloc::Global;
+use std::collections::VecDeque;
 use tune_disk::Disk;
 use tune_format::{Firsts, Row};
 use tune_pages::{Fault, Pages, Work};
@@ -41,16 +43,16 @@ fn incipits_of<D: Disk>(
     pages: &mut Pages<D>,
     work: &Work,
     layout: Layout,
-    rows: &[Row],
+    rows: &VecDeque<Row>,
 ) -> Result<IncipitRun, Fault>
     requires open { pages.old.closed ≡ false }
     requires fits { Fits pages.old work.now }
-    requires rows { AreRows layout rows.now }
+    requires rows { AreRows layout rows.now.items }
     requires holds { HonestAt D.honest pages.old.disk
-        → HoldsTunesWithin layout (stand pages.old work.now) rows.now }
+        → HoldsTunesWithin layout (stand pages.old work.now) rows.now.items }
     ensures some { IfOk result (λ run. (tunes : List (ℕ × List ℕ)) × AreIncipitsOf tunes run) }
     ensures run { IfOk result (λ run. HonestAt D.honest pages.new.disk
-        → AreOfTunes layout (stand pages.old work.now) rows.now run) }
+        → AreOfTunes layout (stand pages.old work.now) rows.now.items run) }
     ensures fits { OnOk result (Fits pages.new work.now) }
     ensures stand { OnOk result (SameStand (HonestAt D.honest pages.new.disk)
         (stand pages.old work.now) (stand pages.new work.now)) }
@@ -60,7 +62,8 @@ fn incipits_of<D: Disk>(
     let Ok(mut run) = IncipitRun::with_capacity(alloc, rows.len()) else {
         return Err(Fault::OutOfMemory);
     };
-    for row in rows {
+    for place in 0..rows.len() {
+        let row = &rows[place];
         let text = match read_tune_where(alloc, pages, work, layout, row.first, false) {
             Ok(text) => text,
             Err(fault) => return Err(fault),
@@ -156,7 +159,8 @@ pub fn upgrade<D: Disk>(
     ensures rows { IfOk result (λ next.
         AreRows Two (rows_after next.rows contents.now.rows.items)) }
     ensures layout { IfOk result (λ next. next.layout ≡ Two) }
-    ensures room { IfOk result (λ next. FitsRows next.rows contents.now.rows) }
+    ensures room { IfOk result (λ next.
+        FitsRows next.rows contents.now.rows.items (deque_capacity contents.now.rows)) }
     ensures fits { OnOk result (Fits pages.new work.new) }
     ensures looks { LooksAt D.honest D.failures D.state result pages.old pages.new }
     ensures answer { AnswersLay result pages.new.closed }

@@ -9,7 +9,7 @@ use Rattle.tune_archive.proofs.places.places_of_rising.Goals.{in-Some+in_ok-push
 
 pub loop-number-preserved : goal.loop-number-preserved
 loop-number-preserved c =
-    let rows = c.args.rows.now in
+    let rows = c.args.rows.now.items in
     let labels = labels_in rows in
     let numbers = c.args.numbers.now in
     let i = c.loop-number.number-index in
@@ -41,4 +41,4 @@ loop-number-preserved c =
 pub returns-clause-places : goal.returns-clause-places
 returns-clause-places c =
     let all : take c.loop-number.number-index c.args.numbers.now ≡ c.args.numbers.now = take_all _ _ c.loop-number-test.false in
-    subst (λ ns. ArePlacesOf ns (labels_in c.args.rows.now) c.loop-number.places.items) all c.loop-number.invariant.are
+    subst (λ ns. ArePlacesOf ns (labels_in c.args.rows.now.items) c.loop-number.places.items) all c.loop-number.invariant.are

@@ -5,6 +5,6 @@ use Rattle.tune_archive.proofs.places.places_of_rising.Given as goal
 
 abbrev pub invariant-loop-number : goal.invariant-loop-number
 invariant-loop-number l = record {
-  rise : PlacesRise 0 (length (labels_in l.rows)) l.places.items;
-  are : ArePlacesOf (take l.number-index l.numbers) (labels_in l.rows) l.places.items;
+  rise : PlacesRise 0 (length (labels_in l.rows.items)) l.places.items;
+  are : ArePlacesOf (take l.number-index l.numbers) (labels_in l.rows.items) l.places.items;
 }

@@ -29,12 +29,12 @@ returns-clause-claimed g c = λ h some.
     let named = c.in_ok-layout.field-0 in
     let contents : Contents = record {
       layout = named.layout;
-      rows = c.in_ok-rows.rows;
+      rows = c.from.result;
       numbers = named.numbers;
       searches = named.searches;
       sets = c.in_ok-rows.sets;
       firsts = named.firsts;
     } in
     subst (λ l. IsClaimed l contents c.claim_texts.new.opening.claimed) on
-    (rows.claimed h contents refl refl refl
+    (rows.claimed h contents refl c.from.ensures.0 refl
     (lists_as _ c.args.opening.now.pages _ _ _ _ _ _ _ _ _ on refl c.deref.ensures.value (lists.claims one some)))

@@ -7,7 +7,7 @@ use Rattle.tune_contents.proofs.laid_chains.put_tune.Goals as goal
 
 pub swap_chain-requires-clause-chain : goal.swap_chain-requires-clause-chain
 swap_chain-requires-clause-chain g c = λ h.
-    some_chain (stand c.args.pages.now c.args.work.now) c.args.rows.now c.args.place c.first_at.result c.requires.place
+    some_chain (stand c.args.pages.now c.args.work.now) c.args.rows.now.items c.args.place c.first_at.result c.requires.place
     c.first_at.ensures (c.requires.holds h)
 
 pub returns-clause-lays : goal.returns-clause-lays
@@ -17,7 +17,7 @@ returns-clause-lays g c = λ h. rw c.bytes-2.ensures.value
     ∙ ap (λ (text : List ℕ). written_text tune.revision text) c.bytes.ensures.value in
     let old = stand c.args.pages.now c.args.work.now in
     let new = stand c.swap_chain.new.pages c.swap_chain.new.work in
-    puts_tune old new c.args.rows.now c.args.place c.first_at.result c.in_ok-first.first tune c.requires.place
+    puts_tune old new c.args.rows.now.items c.args.place c.first_at.result c.in_ok-first.first tune c.requires.place
     c.first_at.ensures
     (subst (SwapsChain old new c.first_at.result c.in_ok-first.first) bytes (c.in_ok-first.ensures.swaps h)))
 

@@ -1,9 +1,7 @@
-use Rattle.std.proofs.Common.{IfOk, List, subst, sym}
+use Rattle.std.proofs.Common.{IfOk, subst, sym}
 use Rattle.tune_pages.specs.Kept.{HonestAt}
 use Rattle.tune_pages.specs.Work.{stand}
 use Rattle.tune_store.specs.declared.plans.Change.{Change}
-use Rattle.tune_format.specs.declared.rows.Row.{Row}
-use Rattle.tune_contents.specs.Claimed.{AreRows}
 use Rattle.tune_contents.specs.Holds.{LaysMemory}
 use Rattle.tune_contents.specs.Next.{memory_after}
 use Rattle.tune_contents.proofs.RowTests.{some_rows}
@@ -14,7 +12,7 @@ pub close-requires : goal.close-requires
 close-requires g c = λ h.
     (let contents = c.args.contents.now in
     let are = some_rows (stand c.args.pages.now c.args.work.now) contents (c.requires.holds h) in
-    let yes = c.are_rows.ensures.1 (subst (λ (rows : List Row). AreRows contents.layout rows) (sym c.deref.ensures.value) are) in
+    let yes = c.are_rows.ensures.1 are in
     let no = c.if-not-are_rows.true in cc)
 
 -- the state after it is the one in layout 2

@@ -1,23 +1,20 @@
-use Rattle.std.proofs.Common.{◌≡◌, ℕ, List, Err, Ok, ap, arith, subst, sym}
+use Rattle.std.proofs.Common.{◌≡◌, ℕ, Err, Ok, ap, arith, subst, sym}
 use Rattle.std.proofs.lemmas.Result.{err_from_is_err_and}
 use Rattle.tune_pages.specs.Faults.{free_pages}
 use Rattle.tune_pages.specs.Stand.{Stand}
 use Rattle.tune_pages.specs.Work.{stand}
-use Rattle.tune_format.specs.declared.rows.Row.{Row}
-use Rattle.tune_contents.specs.Inside.Changes.{HoldsTunesWithin}
 use Rattle.tune_contents.specs.Inside.Laying.{HoldsSomeTunes}
 use Rattle.tune_contents.specs.Inside.Searching.{IsByNotes}
 use Rattle.tune_contents.specs.Next.{rows_after}
-use Rattle.tune_contents.proofs.IndexedLemmas.{LaidTunes, TextsChange, indexed_laid, laid_tunes, lays_from, numbers_take, searches_take}
-use Rattle.tune_contents.proofs.IndexedLemmas.{TakesFrom, some_numbers, some_searches, some_tunes, some_within}
+use Rattle.tune_contents.proofs.IndexedLemmas.{LaidTunes, indexed_laid, laid_tunes, lays_from, numbers_take, searches_take}
+use Rattle.tune_contents.proofs.IndexedLemmas.{some_numbers, some_searches, some_tunes, some_within}
 use Rattle.tune_contents.proofs.laid_changes.lay_indexed.Goals as goal
 
 pub text_runs-requires-clause-holds : goal.text_runs-requires-clause-holds
 text_runs-requires-clause-holds g c = λ h.
     (let s = stand c.args.pages.now c.args.work.now in
     let was = c.args.indexes.now in
-    subst (λ (r : List Row). HoldsTunesWithin c.args.layout s r) (sym c.deref.ensures.value)
-    (some_within c.args.layout s was.numbers was.searches c.args.rows.now.items (c.requires.holds h)))
+    some_within c.args.layout s was.numbers was.searches c.args.rows.now.items (c.requires.holds h))
 
 pub lay_tunes-requires-clause-holds : goal.lay_tunes-requires-clause-holds
 lay_tunes-requires-clause-holds g c = λ h.
@@ -54,8 +51,7 @@ change_searches-requires-clause-holds g c = λ h.
     let h1 = c.in_ok-made.ensures.looks.was_honest h2 in
     let lays = lays_from s one mid held rows c.args.change.now (c.in_ok-texts.ensures.stand.same h1)
     (c.in_ok-made.ensures.lays h2) in
-    let takes = subst (λ (r : List Row). TakesFrom c.args.layout s r c.in_ok-texts.texts.gone) c.deref.ensures.value
-    (c.in_ok-texts.ensures.gone h1) in
+    let takes = c.in_ok-texts.ensures.gone h1 in
     some_searches c.args.layout s was.numbers was.searches held (c.requires.holds (c.in_ok-texts.ensures.looks.was_honest h1)) mid late rows
     c.args.change.now c.change_numbers.new.numbers _ c.in_ok-texts.texts.gone lays (c.in_ok-numbers.ensures.lays h) takes)
 
@@ -82,11 +78,10 @@ returns-clause-lays g c = λ h.
     let h3 = c.in_ok-searches.ensures.looks.was_honest h in
     let h2 = c.in_ok-numbers.ensures.looks.was_honest h3 in
     let h1 = c.in_ok-made.ensures.looks.was_honest h2 in
-    let laid : LaidTunes c.args.layout s mid held rows c.args.change.now gone come = laid_tunes c.args.layout s one mid held c.deref-2.result.now
-    c.in_ok-made.made c.args.change.now gone come (c.in_ok-texts.ensures.stand.same h1) c.deref-2.ensures.value (c.in_ok-made.ensures.lays h2)
+    let laid : LaidTunes c.args.layout s mid held rows c.args.change.now gone come = laid_tunes c.args.layout s one mid held c.in_ok-made.made
+    c.args.change.now gone come (c.in_ok-texts.ensures.stand.same h1) (c.in_ok-made.ensures.lays h2)
     c.in_ok-made.ensures.rows c.in-Ok.ensures.entries in
-    let texts = subst (λ (r : List Row). TextsChange c.args.layout s r c.args.change.now c.in_ok-texts.texts.gone c.in_ok-texts.texts.come)
-    c.deref.ensures.value (c.in_ok-texts.ensures.runs h1) in
+    let texts = c.in_ok-texts.ensures.runs h1 in
     indexed_laid c.args.layout s mid late new was.numbers c.change_numbers.new.numbers was.searches c.change_searches.new.searches held rows
     c.args.change.now gone come c.in_ok-texts.texts.gone c.in_ok-texts.texts.come laid texts (c.in_ok-numbers.ensures.lays h3)
     (c.in_ok-searches.ensures.lays h))
@@ -105,8 +100,8 @@ returns-in_err-numbers-clause-takes g c = λ h tunes sets holds can.
     let come = c.in-Ok.entries.come.items in
     let h2 = c.in_err-numbers.ensures.looks.was_honest h in
     let h1 = c.in_ok-made.ensures.looks.was_honest h2 in
-    let laid : LaidTunes c.args.layout s mid held rows c.args.change.now gone come = laid_tunes c.args.layout s one mid held c.deref-2.result.now
-    c.in_ok-made.made c.args.change.now gone come (c.in_ok-texts.ensures.stand.same h1) c.deref-2.ensures.value (c.in_ok-made.ensures.lays h2)
+    let laid : LaidTunes c.args.layout s mid held rows c.args.change.now gone come = laid_tunes c.args.layout s one mid held c.in_ok-made.made
+    c.args.change.now gone come (c.in_ok-texts.ensures.stand.same h1) (c.in_ok-made.ensures.lays h2)
     c.in_ok-made.ensures.rows c.in-Ok.ensures.entries in
     let full = numbers_take c.args.layout s mid late late was.numbers was.numbers was.searches was.searches held rows c.args.change.now gone come
     c.in_ok-texts.texts.gone c.in_ok-texts.texts.come laid tunes holds.set_lists sets holds.within can holds.around {T = ℕ} (Err c.in_err-numbers.field-0.0)
@@ -131,11 +126,10 @@ returns-in_err-searches-clause-takes g c = λ h tunes sets holds can.
     let h3 = c.in_err-searches.ensures.looks.was_honest h in
     let h2 = c.in_ok-numbers.ensures.looks.was_honest h3 in
     let h1 = c.in_ok-made.ensures.looks.was_honest h2 in
-    let laid : LaidTunes c.args.layout s mid held rows c.args.change.now gone come = laid_tunes c.args.layout s one mid held c.deref-2.result.now
-    c.in_ok-made.made c.args.change.now gone come (c.in_ok-texts.ensures.stand.same h1) c.deref-2.ensures.value (c.in_ok-made.ensures.lays h2)
+    let laid : LaidTunes c.args.layout s mid held rows c.args.change.now gone come = laid_tunes c.args.layout s one mid held c.in_ok-made.made
+    c.args.change.now gone come (c.in_ok-texts.ensures.stand.same h1) (c.in_ok-made.ensures.lays h2)
     c.in_ok-made.ensures.rows c.in-Ok.ensures.entries in
-    let texts = subst (λ (r : List Row). TextsChange c.args.layout s r c.args.change.now c.in_ok-texts.texts.gone c.in_ok-texts.texts.come)
-    c.deref.ensures.value (c.in_ok-texts.ensures.runs h1) in
+    let texts = c.in_ok-texts.ensures.runs h1 in
     let second = numbers_take c.args.layout s mid late new was.numbers c.change_numbers.new.numbers was.searches was.searches held rows
     c.args.change.now gone come c.in_ok-texts.texts.gone c.in_ok-texts.texts.come laid tunes holds.set_lists sets holds.within can holds.around {T = ℕ}
     (Ok c.in_ok-numbers.numbers) (c.in_ok-numbers.ensures.takes h3) in
@@ -161,11 +155,10 @@ returns-clause-takes g c = λ h tunes sets holds can.
     let h3 = c.in_ok-searches.ensures.looks.was_honest h in
     let h2 = c.in_ok-numbers.ensures.looks.was_honest h3 in
     let h1 = c.in_ok-made.ensures.looks.was_honest h2 in
-    let laid : LaidTunes c.args.layout s mid held rows c.args.change.now gone come = laid_tunes c.args.layout s one mid held c.deref-2.result.now
-    c.in_ok-made.made c.args.change.now gone come (c.in_ok-texts.ensures.stand.same h1) c.deref-2.ensures.value (c.in_ok-made.ensures.lays h2)
+    let laid : LaidTunes c.args.layout s mid held rows c.args.change.now gone come = laid_tunes c.args.layout s one mid held c.in_ok-made.made
+    c.args.change.now gone come (c.in_ok-texts.ensures.stand.same h1) (c.in_ok-made.ensures.lays h2)
     c.in_ok-made.ensures.rows c.in-Ok.ensures.entries in
-    let texts = subst (λ (r : List Row). TextsChange c.args.layout s r c.args.change.now c.in_ok-texts.texts.gone c.in_ok-texts.texts.come)
-    c.deref.ensures.value (c.in_ok-texts.ensures.runs h1) in
+    let texts = c.in_ok-texts.ensures.runs h1 in
     let second = numbers_take c.args.layout s mid late new was.numbers c.change_numbers.new.numbers was.searches was.searches held rows
     c.args.change.now gone come c.in_ok-texts.texts.gone c.in_ok-texts.texts.come laid tunes holds.set_lists sets holds.within can holds.around {T = ℕ}
     (Ok c.in_ok-numbers.numbers) (c.in_ok-numbers.ensures.takes h3) in

@@ -1,8 +1,8 @@
-use Rattle.std.proofs.Common.{◌≡◌, ℕ, List, length, IfOk, arith, subst, sym, vec_len}
+use Rattle.std.proofs.Common.{◌≡◌, ℕ, length, IfOk, arith, subst, sym, vec_len}
 use Rattle.std.specs.List.{remove}
+use Rattle.std.specs.VecDeque.{deque_capacity}
 use Rattle.tune_store.specs.declared.plans.Change.{Change}
 use Rattle.tune_store.specs.declared.plans.Change.TheVariants.{Add, Put, Take, Move}
-use Rattle.tune_format.specs.declared.rows.Row.{Row}
 use Rattle.tune_contents.specs.Claimed.{AreRows}
 use Rattle.tune_contents.specs.Inside.Changes.{KeepsRows}
 use Rattle.tune_contents.specs.Inside.ChangedRows.{AddsRows, IsMadeOf, IsSingle, PutsRow}
@@ -34,20 +34,20 @@ returns-in-Put-clause-rows g c =
     (ok_one c.put_tune.result (λ made. PutsRow place number rows (rows_after made rows))
     (λ made. KeepsRows (Put place c.in-Put.tune) rows (rows_after made rows))
     (λ made put layout sets can are. rows_put rows (rows_after made rows) place number can.1 (numbers_put rows (rows_after made rows) place number put) are)
-    (subst (λ (r : List Row). IfOk c.put_tune.result (λ made. PutsRow place number r (rows_after made r))) c.deref-in-Put.ensures.value
-    c.put_tune.ensures.row))
+    c.put_tune.ensures.row)
 
 pub returns-in-Put-clause-made : goal.returns-in-Put-clause-made
 returns-in-Put-clause-made g c =
     let rows = c.args.rows.now.items in
     ok_one c.put_tune.result (λ made. IsSingle made rows) (λ made. IsMadeOf made rows) (λ made. single_made made rows)
-    (subst (λ (r : List Row). IfOk c.put_tune.result (λ made. IsSingle made r)) c.deref-in-Put.ensures.value c.put_tune.ensures.single)
+    c.put_tune.ensures.single
 
 pub returns-in-Put-clause-room : goal.returns-in-Put-clause-room
 returns-in-Put-clause-room g c =
     let rows = c.args.rows.now in
-    ok_one c.put_tune.result (λ made. IsSingle made rows.items) (λ made. FitsRows made rows) (λ made. single_fits made rows)
-    (subst (λ (r : List Row). IfOk c.put_tune.result (λ made. IsSingle made r)) c.deref-in-Put.ensures.value c.put_tune.ensures.single)
+    ok_one c.put_tune.result (λ made. IsSingle made rows.items) (λ made. FitsRows made rows.items (deque_capacity rows))
+    (λ made. single_fits made rows.items (deque_capacity rows))
+    c.put_tune.ensures.single
 
 pub returns-in-Take-clause-rows : goal.returns-in-Take-clause-rows
 returns-in-Take-clause-rows g c =
@@ -56,20 +56,20 @@ returns-in-Take-clause-rows g c =
     subst (λ (change : Change). IfOk c.take_tune.result (λ made. KeepsRows change rows (rows_after made rows))) (sym c.in-Take.is)
     (ok_one c.take_tune.result (λ made. rows_after made rows ≡ remove rows place) (λ made. KeepsRows (Take place) rows (rows_after made rows))
     (λ made taken layout sets can are. subst (AreRows layout) (sym taken) (rows_taken rows place can are))
-    (subst (λ (r : List Row). IfOk c.take_tune.result (λ made. rows_after made r ≡ remove r place)) c.deref-in-Take.ensures.value
-    c.take_tune.ensures.rows))
+    c.take_tune.ensures.rows)
 
 pub returns-in-Take-clause-made : goal.returns-in-Take-clause-made
 returns-in-Take-clause-made g c =
     let rows = c.args.rows.now.items in
     ok_one c.take_tune.result (λ made. IsSingle made rows) (λ made. IsMadeOf made rows) (λ made. single_made made rows)
-    (subst (λ (r : List Row). IfOk c.take_tune.result (λ made. IsSingle made r)) c.deref-in-Take.ensures.value c.take_tune.ensures.single)
+    c.take_tune.ensures.single
 
 pub returns-in-Take-clause-room : goal.returns-in-Take-clause-room
 returns-in-Take-clause-room g c =
     let rows = c.args.rows.now in
-    ok_one c.take_tune.result (λ made. IsSingle made rows.items) (λ made. FitsRows made rows) (λ made. single_fits made rows)
-    (subst (λ (r : List Row). IfOk c.take_tune.result (λ made. IsSingle made r)) c.deref-in-Take.ensures.value c.take_tune.ensures.single)
+    ok_one c.take_tune.result (λ made. IsSingle made rows.items) (λ made. FitsRows made rows.items (deque_capacity rows))
+    (λ made. single_fits made rows.items (deque_capacity rows))
+    c.take_tune.ensures.single
 
 pub returns-in-Move-clause-rows : goal.returns-in-Move-clause-rows
 returns-in-Move-clause-rows g c =
@@ -77,17 +77,16 @@ returns-in-Move-clause-rows g c =
     let made = c.move_row.result in
     let number = c.in-Move.number in
     let to = c.in-Move.to in
-    let moved : KeepsRows (Move number to) c.deref-in-Move.result.now (rows_after made c.deref-in-Move.result.now) =
-    λ layout sets can are. c.move_row.ensures.rows layout are (none_labelled c.deref-in-Move.result.now to can.1) can.2 can.3 in
-    subst (λ (change : Change). KeepsRows change rows (rows_after made rows)) (sym c.in-Move.is)
-    (subst (λ (r : List Row). KeepsRows (Move number to) r (rows_after made r)) c.deref-in-Move.ensures.value moved)
+    let moved : KeepsRows (Move number to) rows (rows_after made rows) =
+    λ layout sets can are. c.move_row.ensures.rows layout are (none_labelled rows to can.1) can.2 can.3 in
+    subst (λ (change : Change). KeepsRows change rows (rows_after made rows)) (sym c.in-Move.is) moved
 
 pub returns-in-Move-clause-made : goal.returns-in-Move-clause-made
 returns-in-Move-clause-made g c =
     let rows = c.args.rows.now.items in
-    single_made c.move_row.result rows (subst (λ (r : List Row). IsSingle c.move_row.result r) c.deref-in-Move.ensures.value c.move_row.ensures.single)
+    single_made c.move_row.result rows c.move_row.ensures.single
 
 pub returns-in-Move-clause-room : goal.returns-in-Move-clause-room
 returns-in-Move-clause-room g c =
     let rows = c.args.rows.now in
-    single_fits c.move_row.result rows (subst (λ (r : List Row). IsSingle c.move_row.result r) c.deref-in-Move.ensures.value c.move_row.ensures.single)
+    single_fits c.move_row.result rows.items (deque_capacity rows) c.move_row.ensures.single

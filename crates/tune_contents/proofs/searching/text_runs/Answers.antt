@@ -3,7 +3,7 @@ use Rattle.tune_contents.proofs.SearchingLemmas.{changes_texts, small_numbers, s
 use Rattle.tune_contents.proofs.searching.text_runs.Goals as goal
 
 pub runs_in-requires : goal.runs_in-requires
-runs_in-requires g c = small_numbers c.args.change.now c.args.rows.now c.requires.accept
+runs_in-requires g c = small_numbers c.args.change.now c.args.rows.now.items c.requires.accept
 
 pub returns-clause-gone : goal.returns-clause-gone
 returns-clause-gone g c = λ h ahead tunes are holds.

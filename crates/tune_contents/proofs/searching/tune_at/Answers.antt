@@ -1,12 +1,22 @@
+use Rattle.std.proofs.Common.{◌≡◌, ℕ, List, Some, subst, sym}
 use Rattle.tune_pages.specs.Work.{stand}
-use Rattle.tune_contents.proofs.OldTuneLemmas.{some_row, some_text_there, tune_read}
+use Rattle.tune_format.specs.declared.rows.Row.{Row}
+use Rattle.tune_contents.specs.Inside.Searching.{IsTuneAt}
+use Rattle.tune_contents.specs.Texts.{HoldsSomeText, HoldsText}
+use Rattle.tune_contents.proofs.OldTuneLemmas.{some_text_there, tune_read}
 use Rattle.tune_contents.proofs.searching.tune_at.Goals as goal
 
 pub read_tune-requires-clause-there : goal.read_tune-requires-clause-there
 read_tune-requires-clause-there g c = λ h.
-    some_text_there c.args.layout (stand c.args.pages.now c.args.work.now) c.args.rows.now c.args.place some_row c.requires.place (c.requires.holds h)
+    (let s = stand c.args.pages.now c.args.work.now in
+    subst (λ (r : Row). HoldsSomeText c.args.layout s r.first) (sym c.index-row.ensures)
+    (some_text_there c.args.layout s c.args.rows.now.items c.args.place c.index-row.result.now c.requires.place (c.requires.holds h)))
 
 pub returns-in-Ok-clause-tune : goal.returns-in-Ok-clause-tune
 returns-in-Ok-clause-tune g c = λ h ahead tunes are holds.
-    tune_read c.args.layout (stand c.args.pages.now c.args.work.now) ahead tunes c.args.rows.now c.args.place some_row c.in-Ok.text c.requires.place are holds
-    (c.in-Ok.ensures.text h)
+    (let s = stand c.args.pages.now c.args.work.now in
+    let text : List ℕ = c.in-Ok.text in
+    let read = subst (λ (r : Row). (revision : ℕ) (other : List ℕ) → HoldsText c.args.layout s r.first revision other → text ≡ other) c.index-row.ensures
+    (c.in-Ok.ensures.text h) in
+    subst (λ (r : Row). IsTuneAt c.args.place tunes (Some (r.number, text))) (sym c.index-row.ensures)
+    (tune_read c.args.layout s ahead tunes c.args.rows.now.items c.args.place c.index-row.result.now text c.requires.place are holds read))

@@ -1,4 +1,4 @@
-use Rattle.std.proofs.Common.{ℕ, sym, rules}
+use Rattle.std.proofs.Common.{ℕ, arith, sym, rules}
 use Rattle.std.specs.Cmp.{ranked}
 use Rattle.std.proofs.lemmas.Fn.{always_returns_same}
 use Rattle.tune_format.specs.declared.rows.Row.{Row}
@@ -10,12 +10,13 @@ pub returns-in-Ok-clause-after : goal.returns-in-Ok-clause-after
 returns-in-Ok-clause-after c = λ rises.
     (let key : Row → ℕ = λ row. row.number in
     let equal = c.in-Ok.ensures.position key (always_returns_same _ _ _ (λ a r f' k. (search rules, search rules))) in
-    row_behind c.args.number c.args.rows.now c.in-Ok.place rises c.in-Ok.ensures.bound (λ e. ranked _ _ _ (sym (equal e))))
+    row_behind c.args.number c.args.rows.now.items c.in-Ok.place rises
+    (omega (arith, c.in-Ok.ensures.bound, c.args.rows.now.ok.0)) (λ e. ranked _ _ _ (sym (equal e))))
 
 pub returns-in-Err-clause-after : goal.returns-in-Err-clause-after
 returns-in-Err-clause-after c = λ rises.
     (let key : Row → ℕ = λ row. row.number in
     let parts =
     c.in-Err.ensures.position key (always_returns_same _ _ _ (λ a r f' k. (search rules, search rules)))
-    (λ i j d le l. cmp_rises _ _ _ (ordered 0 c.args.rows.now i j d rises le l)) in
-    row_between c.args.number c.args.rows.now c.in-Err.place parts.0 parts.1)
+    (λ i j d le l. cmp_rises _ _ _ (ordered 0 c.args.rows.now.items i j d rises le l)) in
+    row_between c.args.number c.args.rows.now.items c.in-Err.place parts.0 parts.1)

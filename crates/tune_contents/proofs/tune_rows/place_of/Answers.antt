@@ -17,5 +17,5 @@ returns-in-Err-clause-none c = λ rises.
     (let key : Row → ℕ = λ row. row.number in
     let parts =
     c.in-Err.ensures.position key (always_returns_same _ _ _ (λ a r f' k. (search rules, search rules)))
-    (λ i j d le l. cmp_rises _ _ _ (ordered 0 c.args.rows.now i j d rises le l)) in
-    λ place d. no_row c.args.number c.args.rows.now c.in-Err.field-0 parts.0 parts.1 place d)
+    (λ i j d le l. cmp_rises _ _ _ (ordered 0 c.args.rows.now.items i j d rises le l)) in
+    λ place d. no_row c.args.number c.args.rows.now.items c.in-Err.field-0 parts.0 parts.1 place d)

@@ -1,56 +1,66 @@
-use Rattle.std.proofs.Common.{ℕ, List, ◌++◌, ◌∷◌, [], get_or, sym, subst, ◌∙◌}
+use Rattle.std.proofs.Common.{◌≡◌, ℕ, ◌<◌, List, arith, length, ◌++◌, ◌∷◌, [], get_or, sym, subst, ◌∙◌}
+use Rattle.std.proofs.lemmas.List.{get_or_default}
 use Rattle.tune_pages.specs.Kept.{HonestAt}
 use Rattle.tune_pages.specs.Stand.{Stand}
 use Rattle.tune_pages.specs.Work.{stand}
 use Rattle.tune_pages.proofs.Looking.{looked_more, stand_kept}
 use Rattle.tune_search.specs.IncipitRuns.{GathersIncipits}
-use Rattle.tune_contents.specs.Texts.{HoldsSomeText}
+use Rattle.tune_format.specs.declared.rows.Row.{Row}
+use Rattle.tune_contents.specs.Texts.{HoldsSomeText, HoldsText}
 use Rattle.tune_contents.proofs.OldTuneLemmas.{some_row, some_text_there}
 use Rattle.tune_contents.proofs.UpgradeLemmas.{gathers_more, not_refused, texts_ordered, tunes_ordered}
 use Rattle.tune_contents.proofs.upgrading.incipits_of.Goals as goal
 
 pub read_tune_where-requires-clause-there : goal.read_tune_where-requires-clause-there
 read_tune_where-requires-clause-there g c = λ h.
-    (let looked = c.loop-row.invariant.looked in
-    let rows = c.args.rows.now in
-    let at = c.loop-row.row-index in
-    let same = stand_kept g.D.Disk.honest c.args.pages.now c.loop-row.pages c.args.work.now looked.same in
-    subst (λ (s : Stand). HoldsSomeText c.args.layout s (get_or rows at some_row).first) (sym (same.same h))
-    (some_text_there c.args.layout (stand c.args.pages.now c.args.work.now) rows at some_row c.loop-row-test.true
-    (c.requires.holds (looked.was_honest h))))
+    (let looked = c.loop-place.invariant.looked in
+    let rows = c.args.rows.now.items in
+    let at = c.loop-place.place in
+    let same = stand_kept g.D.Disk.honest c.args.pages.now c.loop-place.pages c.args.work.now looked.same in
+    let within : at < length rows = omega (arith, c.loop-place-test.true, c.args.rows.now.ok.0) in
+    let there = some_text_there c.args.layout (stand c.args.pages.now c.args.work.now) rows at c.index-row.result.now within
+    (c.requires.holds (looked.was_honest h)) in
+    subst (λ (s : Stand). HoldsSomeText c.args.layout s c.index-row.result.now.first) (sym (same.same h))
+    (subst (λ (r : Row). HoldsSomeText c.args.layout (stand c.args.pages.now c.args.work.now) r.first) (sym c.index-row.ensures) there))
 
-pub loop-row-preserved : goal.loop-row-preserved
-loop-row-preserved g c =
-    let inv = c.loop-row.invariant in
+pub loop-place-preserved : goal.loop-place-preserved
+loop-place-preserved g c =
+    let inv = c.loop-place.invariant in
     let call = c.in-Ok-read_tune_where.ensures in
-    let rows = c.args.rows.now in
-    let at = c.loop-row.row-index in
+    let rows = c.args.rows.now.items in
+    let at = c.loop-place.place in
     let text : List ℕ = c.in-Ok-read_tune_where.text in
-    let same = stand_kept g.D.Disk.honest c.args.pages.now c.loop-row.pages c.args.work.now inv.looked.same in
-    let added : (tunes : List (ℕ × List ℕ)) → GathersIncipits tunes c.loop-row.run
-    → GathersIncipits (tunes ++ ((get_or rows at some_row).number, text) ∷ []) c.add.new.self =
-    not_refused c.add.result _ (sym c.is_err.ensures.value ∙ c.if-is_err.false) c.add.ensures in
+    let same = stand_kept g.D.Disk.honest c.args.pages.now c.loop-place.pages c.args.work.now inv.looked.same in
+    let within : at < length rows = omega (arith, c.loop-place-test.true, c.args.rows.now.ok.0) in
+    let is : c.index-row.result.now ≡ get_or rows at some_row = c.index-row.ensures ∙ get_or_default rows at _ some_row within in
+    let read = subst (λ (r : Row). HonestAt g.D.Disk.honest c.read_tune_where.new.pages.disk → (revision : ℕ) (other : List ℕ)
+    → HoldsText c.args.layout (stand c.loop-place.pages c.args.work.now) r.first revision other → text ≡ other) is call.text in
+    let added = subst (λ (r : Row). (tunes : List (ℕ × List ℕ)) → GathersIncipits tunes c.loop-place.run
+    → GathersIncipits (tunes ++ (r.number, text) ∷ []) c.add.new.self) is (
+    not_refused c.add.result _ (sym c.is_err.ensures.value ∙ c.if-is_err.false) c.add.ensures) in
     record {
-      looked = looked_more g.D.Disk.honest g.D.Disk.failures g.D.Disk.state text c.args.pages.now c.loop-row.pages c.read_tune_where.new.pages
+      looked = looked_more g.D.Disk.honest g.D.Disk.failures g.D.Disk.state text c.args.pages.now c.loop-place.pages c.read_tune_where.new.pages
           inv.looked call.looks;
       fits = call.fits;
-      gathers = gathers_more (HonestAt g.D.Disk.honest c.loop-row.pages.disk) (HonestAt g.D.Disk.honest c.read_tune_where.new.pages.disk) c.args.layout
-          (stand c.args.pages.now c.args.work.now) (stand c.loop-row.pages c.args.work.now) rows at c.loop-row.run c.add.new.self text
-          call.looks.was_honest same.same c.loop-row-test.true inv.gathers call.text added;
+      gathers = gathers_more (HonestAt g.D.Disk.honest c.loop-place.pages.disk) (HonestAt g.D.Disk.honest c.read_tune_where.new.pages.disk) c.args.layout
+          (stand c.args.pages.now c.args.work.now) (stand c.loop-place.pages c.args.work.now) rows at c.loop-place.run c.add.new.self text
+          call.looks.was_honest same.same within inv.gathers read added;
     }
 
 pub returns-clause-some : goal.returns-clause-some
 returns-clause-some g c =
-    let so = c.loop-row.invariant.gathers in (
+    let so = c.loop-place.invariant.gathers in (
       so.texts,
-      texts_ordered (HonestAt g.D.Disk.honest c.loop-row.pages.disk) c.args.layout (stand c.args.pages.now c.args.work.now) c.args.rows.now
-          c.loop-row.row-index c.loop-row.run c.in_order.result c.loop-row-test.false c.requires.rows so c.in_order.ensures,
+      texts_ordered (HonestAt g.D.Disk.honest c.loop-place.pages.disk) c.args.layout (stand c.args.pages.now c.args.work.now) c.args.rows.now.items
+          c.loop-place.place c.loop-place.run c.in_order.result (omega (arith, c.loop-place-test.false, c.args.rows.now.ok.0))
+          c.requires.rows so c.in_order.ensures,
     )
 
 pub returns-clause-run : goal.returns-clause-run
 returns-clause-run g c =
-    tunes_ordered (HonestAt g.D.Disk.honest c.loop-row.pages.disk) c.args.layout (stand c.args.pages.now c.args.work.now) c.args.rows.now
-    c.loop-row.row-index c.loop-row.run c.in_order.result c.loop-row-test.false c.requires.rows c.loop-row.invariant.gathers c.in_order.ensures
+    tunes_ordered (HonestAt g.D.Disk.honest c.loop-place.pages.disk) c.args.layout (stand c.args.pages.now c.args.work.now) c.args.rows.now.items
+    c.loop-place.place c.loop-place.run c.in_order.result (omega (arith, c.loop-place-test.false, c.args.rows.now.ok.0))
+    c.requires.rows c.loop-place.invariant.gathers c.in_order.ensures
 
 pub returns-clause-stand : goal.returns-clause-stand
-returns-clause-stand g c = stand_kept g.D.Disk.honest c.args.pages.now c.loop-row.pages c.args.work.now c.loop-row.invariant.looked.same
+returns-clause-stand g c = stand_kept g.D.Disk.honest c.args.pages.now c.loop-place.pages c.args.work.now c.loop-place.invariant.looked.same

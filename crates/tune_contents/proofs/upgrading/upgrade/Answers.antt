@@ -1,13 +1,11 @@
-use Rattle.std.proofs.Common.{ℕ, List, Ok, Err, refl, sym, subst, arith}
+use Rattle.std.proofs.Common.{ℕ, Ok, Err, refl, subst, arith}
 use Rattle.std.proofs.lemmas.Result.{err_from_is_err_and}
 use Rattle.tune_pages.specs.Stand.{Stand}
 use Rattle.tune_pages.specs.Work.{stand}
 use Rattle.tune_pages.proofs.Looking.{look_next}
-use Rattle.tune_store.specs.declared.layout.Layout.TheVariants.{One, Two}
-use Rattle.tune_format.specs.declared.rows.Row.{Row}
+use Rattle.tune_store.specs.declared.layout.Layout.TheVariants.{Two}
 use Rattle.tune_contents.specs.Holds.{Memory}
-use Rattle.tune_contents.specs.Inside.Changes.{HoldsTunesWithin}
-use Rattle.tune_contents.specs.Inside.Upgrading.{AreOfTunes, LengthensTexts}
+use Rattle.tune_contents.specs.Inside.Upgrading.{LengthensTexts}
 use Rattle.tune_contents.proofs.LookLemmas.{look_fails}
 use Rattle.tune_contents.proofs.UpgradeLemmas.{IsUpgraded, some_incipits, some_tunes_within, upgrade_takes, upgraded}
 use Rattle.tune_contents.proofs.upgrading.upgrade.Goals as goal
@@ -15,14 +13,13 @@ use Rattle.tune_contents.proofs.upgrading.upgrade.Goals as goal
 pub incipits_of-requires-clause-holds : goal.incipits_of-requires-clause-holds
 incipits_of-requires-clause-holds g c = λ h.
     (let s = stand c.args.pages.now c.args.work.now in
-    subst (λ (r : List Row). HoldsTunesWithin One s r) (sym c.deref.ensures.value)
-    (some_tunes_within s c.args.contents.now c.requires.layout (c.requires.holds h)))
+    some_tunes_within s c.args.contents.now c.requires.layout (c.requires.holds h))
 
 pub lengthen-requires-clause-holds : goal.lengthen-requires-clause-holds
 lengthen-requires-clause-holds g c = λ h.
     (let s = stand c.args.pages.now c.args.work.now in
     let run = c.in_ok-incipits.ensures in
-    let are = subst (λ (r : List Row). AreOfTunes One s r c.in_ok-incipits.incipits) c.deref.ensures.value (run.run h) in
+    let are = run.run h in
     some_incipits s (stand c.incipits_of.new.pages c.args.work.now) c.args.contents.now c.in_ok-searches.searches c.in_ok-incipits.incipits c.requires.layout
     (run.stand.same h) c.in_ok-searches.ensures.searches are (c.requires.holds (run.looks.was_honest h)))
 
@@ -32,7 +29,7 @@ returns-in_err-lengthen-clause-takes g c = λ h state holds is.
     let s = stand c.args.pages.now c.args.work.now in
     let run = c.in_ok-incipits.ensures in
     let back = c.in_err-lengthen.ensures.looks.was_honest h in
-    let are = subst (λ (r : List Row). AreOfTunes One s r c.in_ok-incipits.incipits) c.deref.ensures.value (run.run back) in
+    let are = run.run back in
     let takes = upgrade_takes {T = ℕ} (Err c.in_err-lengthen.field-0.0) s (stand c.incipits_of.new.pages c.args.work.now)
     (stand c.lengthen.new.pages c.lengthen.new.work) c.args.contents.now c.in_ok-searches.searches c.in_ok-incipits.incipits c.requires.layout
     (run.stand.same back) c.in_ok-searches.ensures.searches are (c.in_err-lengthen.ensures.takes h) state holds is in
@@ -62,7 +59,7 @@ returns-clause-lays g c = λ h.
     let longer = c.in_ok-lengthen.ensures in
     let h2 = c.in_ok-lay_root.ensures.looks.was_honest h in
     let h1 = longer.looks.was_honest h2 in
-    let are = subst (λ (r : List Row). AreOfTunes One s r c.in_ok-incipits.incipits) c.deref.ensures.value (run.run h1) in
+    let are = run.run h1 in
     let left : Memory = record {
       layout = Two;
       rows = old.rows.items;
@@ -94,7 +91,7 @@ returns-clause-takes g c = λ h state holds is.
     let longer = c.in_ok-lengthen.ensures in
     let h2 = c.in_ok-lay_root.ensures.looks.was_honest h in
     let h1 = longer.looks.was_honest h2 in
-    let are = subst (λ (r : List Row). AreOfTunes One s r c.in_ok-incipits.incipits) c.deref.ensures.value (run.run h1) in
+    let are = run.run h1 in
     let first = upgrade_takes {T = ℕ} (Ok 0) s (stand c.incipits_of.new.pages c.args.work.now) (stand c.lengthen.new.pages c.lengthen.new.work)
     c.args.contents.now c.in_ok-searches.searches c.in_ok-incipits.incipits c.requires.layout (run.stand.same h1) c.in_ok-searches.ensures.searches are
     (longer.takes h2) state holds is in

@@ -1,6 +1,5 @@
-use Rattle.std.proofs.Common.{List, length, refl, subst, Ok, Err}
-use Rattle.tune_format.specs.declared.rows.Row.{Row}
-use Rattle.tune_store.specs.Candidates.{ArePlacesOf, HoldsFound, PlacesRise}
+use Rattle.std.proofs.Common.{length, refl, subst, Ok, Err}
+use Rattle.tune_store.specs.Candidates.{HoldsFound, PlacesRise}
 use Rattle.tune_store.specs.Limits.{notes_of}
 use Rattle.tune_contents.specs.Holds.{labels_in}
 use Rattle.tune_archive.specs.Shelf.{Shelf, state_of, state_on}
@@ -49,9 +48,9 @@ returns-in_ok-places_of_numbers-in-Ok g c =
     × (Tells honest state new → HoldsFound (notes_of s.contents.layout) c.args.sought.now (state_of state s).tunes places))
     c.self.view_is (
       record { was_honest = looks.was_honest; same_state = looks.same_state; counted = looks.counted; contents = refl; closed = refl },
-      subst (λ (rows : List Row). PlacesRise 0 (length (labels_in rows)) places) c.deref.ensures.value given.rise,
+      given.rise,
       λ told.
           found_in_archive honest state old c.args.sought.now c.in-Ok.numbers.items places c.self.invariant c.if-self.false
           (looks.was_honest told.was_honest) (c.in-Ok.ensures.finds told.was_honest)
-          (subst (λ (rows : List Row). ArePlacesOf c.in-Ok.numbers.items (labels_in rows) places) c.deref.ensures.value given.places),
+          given.places,
     )
