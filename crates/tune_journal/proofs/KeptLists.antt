@@ -155,6 +155,17 @@ module _ (s : List ℕ) where
     pub start_place_in : (from size : ℕ) → at < length items → x.kept ≡ Start from size → (from + size ≤ length s) × (size ≤ block_bytes)
     start_place_in from size within short = subst (HasPlace (length s) kept.pages x.page) short (place_there kept.pages items at x kept.places within is)
 
+    -- the same of a place among the changes that contracts see
+    module _ (seen : List Change) (are : listed s w items ≡ seen) (lt : at < length seen) where
+      among : at < length items
+      among = in_listed s w items at (omega (arith, ap length are, lt))
+
+      pub place_at : (k : ℕ) → x.kept ≡ Whole k → k < length w
+      place_at k whole = place_in k among whole
+
+      pub start_place_at : (from size : ℕ) → x.kept ≡ Start from size → (from + size ≤ length s) × (size ≤ block_bytes)
+      start_place_at from size short = start_place_in from size among short
+
     -- it gets another image
     module _ (page : ℕ) (found : FoundAt page at (listed s w items)) (i : PageImage) (size : length i.bytes ≡ block_bytes) where
       within : at < length items

@@ -242,6 +242,59 @@ impl Changes {
         }
     }
 
+    // Does what `fill` does, for a commit that writes one image after another. These writes drive
+    // the first bytes of all others out of the processor's cache; so those of the next changes are
+    // read in one go, where this one stands at `ahead`, up to which that was done before.
+    pub(crate) fn fill_next(
+        &self,
+        place: usize,
+        image: &mut [u8],
+        used: usize,
+        ahead: &mut usize,
+    ) -> usize
+        requires place { place < length self.now }
+        requires size { length image.old ≡ block_bytes }
+        requires used { IsBlankFrom used image.old }
+        ensures image { image.new ≡ (change_at self.now place).1 }
+        ensures used { IsBlankFrom result image.new }
+    {
+        let used = self.read_ahead(place, image, used, ahead);
+        self.fill(place, image, used)
+    }
+
+    // Copies the first bytes of the change at this place and of those behind it into `image`,
+    // unless it stands before `ahead`. Of `used` and the answer holds what `fill` says.
+    fn read_ahead(&self, place: usize, image: &mut [u8], used: usize, ahead: &mut usize) -> usize
+        requires place { place < length self.now }
+        requires size { length image.old ≡ block_bytes }
+        requires used { IsBlankFrom used image.old }
+        ensures size { length image.new ≡ block_bytes }
+        ensures used { IsBlankFrom result image.new }
+    {
+        if place < *ahead {
+            return used;
+        }
+        match &self.changed[place].kept {
+            Kept::Start { from, .. } => {
+                let end = copy_from(&self.starts, *from, image);
+                *ahead = self.first_outside(place, *from, end);
+                4096
+            }
+            Kept::Whole(_) => used,
+        }
+    }
+
+    // Where the first change from this place on stands that has no first bytes between these.
+    fn first_outside(&self, place: usize, from: usize, end: usize) -> usize {
+        for next in place..self.changed.len() {
+            match &self.changed[next].kept {
+                Kept::Start { from: start, .. } if *start >= from && *start < end => {}
+                _ => return next,
+            }
+        }
+        self.changed.len()
+    }
+
     // The image of the change at this place, where it is held whole.
     pub(crate) fn whole_at(&self, place: usize) -> Option<&PageImage>
         requires { place < length self.now }
@@ -415,6 +468,18 @@ fn bytes_at(starts: &[u8], from: usize, size: u16) -> &[u8]
     ensures { result.now ≡ take size (drop from starts.now) }
 {
     &starts[from..from + size as usize]
+}
+
+// Copies the bytes from this place on into the image, as many as it holds; the answer is where they
+// end.
+fn copy_from(starts: &[u8], from: usize, image: &mut [u8]) -> usize
+    requires image { length image.old ≡ block_bytes }
+    requires from { from ≤ length starts.now }
+    ensures { length image.new ≡ block_bytes }
+{
+    let end = starts.len().min(from + image.len());
+    image[..end - from].copy_from_slice(&starts[from..end]);
+    end
 }
 
 // The image of these first bytes.

@@ -20,9 +20,15 @@ use crate::file_offsets::{
 };
 use tune_disk::{DeviceFault, Disk};
 
-// Puts an entry of the log in the place of another. Of `used` and the answer holds what
-// `Changes::fill` says.
-fn fill_entry(entry: &mut [u8; 4100], changes: &Changes, place: usize, used: usize) -> usize
+// Puts an entry of the log in the place of another. Of `used`, `ahead` and the answer holds what
+// `Changes::fill_next` says.
+fn fill_entry(
+    entry: &mut [u8; 4100],
+    changes: &Changes,
+    place: usize,
+    used: usize,
+    ahead: &mut usize,
+) -> usize
     requires place { place < length changes.now }
     requires used { IsBlankFrom used (drop 4 entry.old) }
     ensures entry { entry.new
@@ -30,7 +36,7 @@ fn fill_entry(entry: &mut [u8; 4100], changes: &Changes, place: usize, used: usi
     ensures used { IsBlankFrom result (drop 4 entry.new) }
 {
     entry[..4].copy_from_slice(&number_bytes(changes.page_at(place)));
-    changes.fill(place, &mut entry[4..], used)
+    changes.fill_next(place, &mut entry[4..], used, ahead)
 }
 
 // The descriptor of a log.
@@ -66,13 +72,14 @@ fn write_image<D: Disk>(disk: &mut D, page: u32, image: &PageImage) -> Result<()
 }
 
 // Writes the image of the change at this place into its page. One that is not held whole is put in
-// the place of `image` before. Of `used` holds what `Changes::fill` says.
+// the place of `image` before. Of `used` and `ahead` holds what `Changes::fill_next` says.
 fn write_change<D: Disk>(
     disk: &mut D,
     changes: &Changes,
     place: usize,
     image: &mut PageImage,
     used: &mut usize,
+    ahead: &mut usize,
 ) -> Result<(), DeviceFault>
     requires place { place < length changes.now }
     requires pages { All (λ e. e.0 < most_pages) changes.now }
@@ -88,7 +95,7 @@ fn write_change<D: Disk>(
     if let Some(whole) = changes.whole_at(place) {
         return write_image(disk, page, whole);
     }
-    *used = changes.fill(place, &mut image.bytes, *used);
+    *used = changes.fill_next(place, &mut image.bytes, *used, ahead);
     write_image(disk, page, image)
 }
 
@@ -103,9 +110,10 @@ fn write_entries<D: Disk>(disk: &mut D, base: u64, changes: &Changes) -> Result<
 {
     let mut entry = [0; ENTRY_BYTES];
     let mut used = 0;
+    let mut ahead = 0;
     let mut at = base;
     for place in 0..changes.len() {
-        used = fill_entry(&mut entry, changes, place, used);
+        used = fill_entry(&mut entry, changes, place, used, &mut ahead);
         write_entry(disk, at, &entry)?;
         at += ENTRY_BYTES as u64;
     }
@@ -125,8 +133,9 @@ fn write_images<D: Disk>(disk: &mut D, changes: &Changes) -> Result<(), DeviceFa
 {
     let mut image = PageImage::blank();
     let mut used = 0;
+    let mut ahead = 0;
     for place in 0..changes.len() {
-        write_change(disk, changes, place, &mut image, &mut used)?;
+        write_change(disk, changes, place, &mut image, &mut used, &mut ahead)?;
     }
     Ok(())
 }
