@@ -12,7 +12,8 @@ use tune_store::Layout;
 pub struct Contents {
     /// The layout.
     pub layout: Layout,
-    /// Where each tune stands, by rising number. Where a row goes or comes, the fewer move.
+    /// Where each tune stands, by rising number. Where a row goes or comes, the fewer of
+    /// the others move.
     pub rows: VecDeque<Row>,
     /// The index of numbers: where the chain of each tune begins.
     pub numbers: Index<32>,

@@ -14,30 +14,23 @@ use Rattle.tune_index.proofs.LeafLists.{leaves_of_index, length-leaves}
 use Rattle.tune_index.proofs.Runs.{AllBegun, are_begun, inserted_all-append, run_middle}
 
 -- ENTRIES THAT GO IN TAKE NONE OUT
-inserted_least : (e : Entry) (es : List Entry) → (length es ≤ length (inserted e es)) × (0 < length (inserted e es))
-inserted_least e [] = (omega arith, omega arith)
+inserted_least : (e : Entry) (es : List Entry) → length es ≤ length (inserted e es)
+inserted_least e [] = omega arith
 inserted_least e (x ∷ xs) = elim (cases_lt (rank e) (rank x)) [
-  | inl front ↦ (let s : length (inserted e (x ∷ xs)) ≡ length (e ∷ x ∷ xs) = ap length (inserted_front e x xs front) in (omega (arith, s), omega (arith, s)))
+  | inl front ↦ (let s : length (inserted e (x ∷ xs)) ≡ length (e ∷ x ∷ xs) = ap length (inserted_front e x xs front) in omega (arith, s))
   | inr rest ↦ elim (cases_lt (rank x) (rank e)) [
     | inl later ↦
         let s : length (inserted e (x ∷ xs)) ≡ length (x ∷ inserted e xs) = ap length (inserted_later e x xs later) in
-        let r = (inserted_least e xs).0 in (omega (arith, s, r), omega (arith, s))
+        let r = inserted_least e xs in omega (arith, s, r)
     | inr there ↦
-        let s : length (inserted e (x ∷ xs)) ≡ length (x ∷ xs) = ap length (inserted_there e x xs (omega arith)) in (omega (arith, s), omega (arith, s))
+        let s : length (inserted e (x ∷ xs)) ≡ length (x ∷ xs) = ap length (inserted_there e x xs (omega arith)) in omega (arith, s)
   ]
 ]
 
 inserted_all_least : (run es : List Entry) → length es ≤ length (inserted_all run es)
 inserted_all_least [] es = omega arith
 inserted_all_least (e ∷ run) es =
-    let one = (inserted_least e es).0 in
-    let more = inserted_all_least run (inserted e es) in
-    omega (arith, one, more)
-
-pub inserted_all_some : (run es : List Entry) → 0 < length run → 0 < length (inserted_all run es)
-inserted_all_some [] es l = absurd (omega arith)
-inserted_all_some (e ∷ run) es l =
-    let one = (inserted_least e es).1 in
+    let one = inserted_least e es in
     let more = inserted_all_least run (inserted e es) in
     omega (arith, one, more)
 

@@ -1,13 +1,14 @@
 -- Entries of a run that belong into one leaf.
-use Rattle.std.proofs.Common.{◌≡◌, ℕ, zero, suc, ◌+◌, ◌<◌, ◌≤◌, ◌⊎◌, List, [], ◌∷◌, ◌++◌, length, take, drop, get_or, slice_index, refl, sym, ap, ◌∙◌, arith}
-use Rattle.std.proofs.Common.{append_assoc, inl, inr, subst}
+use Rattle.std.proofs.Common.{◌≡◌, ℕ, zero, suc, ◌+◌, ◌<◌, ◌≤◌, ◌⊎◌, List, [], ◌∷◌, ◌++◌, length, take, drop, slice_index, refl, sym, ap, ◌∙◌, arith}
+use Rattle.std.proofs.Common.{append_assoc, append-nil, inl, inr, subst}
 use Rattle.std.specs.Prelude.{slice_index_or}
-use Rattle.std.specs.List.{insert, remove}
+use Rattle.std.specs.List.{remove}
+use Rattle.std.proofs.Math.Seq.{take-length}
 use Rattle.std.proofs.lemmas.List.{get_or-drop}
 use Rattle.std.proofs.lemmas.Bool.{cases_lt}
 use Rattle.tune_pages.specs.Stand.{Stand}
 use Rattle.tune_pages.specs.Frame.{image_at}
-use Rattle.index_keys.specs.Entries.{Entry, rank, RisesFrom, IsRising, inserted, removed, AllFit, FitsLeaf, inserted_all}
+use Rattle.index_keys.specs.Entries.{Entry, rank, RisesFrom, IsRising, inserted, removed, AllFit, inserted_all}
 use Rattle.index_keys.proofs.RisingEntries.{inserted_all_fit, inserted_all_rises, inserted_later, removed-rises, removed_fit, removed_later, rises_back}
 use Rattle.index_keys.proofs.RisingEntries.{rises_front, rises_lower}
 use Rattle.tune_index.specs.Indexes.{AllLeaves, IsIndex, Shape, entries_of}
@@ -15,6 +16,7 @@ use Rattle.tune_index.specs.Inside.LeafLists.{HasLeaves, joined, firsts, leaves_
 use Rattle.tune_index.specs.Inside.EntryPlaces.{IsPlace, AllBelow}
 use Rattle.tune_index.specs.Leaves.{slice_entry, leaf_in}
 use Rattle.tune_index.proofs.Lists.{inserted-before, removed-before}
+use Rattle.tune_index.proofs.Ends.{inserted_end}
 use Rattle.tune_index.proofs.Lists.{BeginsAfter}
 use Rattle.tune_index.proofs.Ranges.{Begun, leaf_begun}
 use Rattle.tune_index.proofs.LeafLists.{leaves_of_index, leaves_entries, index_of_leaves, length-leaves}
@@ -288,22 +290,39 @@ entry_removed width old new was is i e more ix l from to h eq =
     let fit2 : AllFit width (joined more) = subst (λ (x : List Entry). AllFit width x) (sym put) (removed_fit width (joined leaves) e all_fit) in
     (index_of_leaves width new is more h up2 fit2, leaves_entries width new is more h ∙ put ∙ ap (removed e) (sym entries))
 
--- THE FIRST LEAF
+-- THE FIRST LEAVES
 pub none_at_all : {X : Type 0} (xs : List X) → length xs ≤ 0 → xs ≡ []
 none_at_all [] l = refl
 none_at_all (x ∷ xs) l = absurd (omega arith)
 
-pub first_leaf : (width : ℕ) (old new : Stand) (was is : Shape) (run : List Entry) (e : Entry) → 1 ≤ length run → e ≡ get_or run 0 e → FitsLeaf width e
-    → length was.pages ≤ 0
-    → HasLeaves width new is (insert (leaves_of width old was.pages) 0 (take 1 run))
-    → IsIndex width new is × (entries_of width new is.pages ≡ inserted_all (take 1 run) (entries_of width old was.pages))
-first_leaf width old new was is [] e l k f n h = absurd (omega arith)
-first_leaf width old new was is (x ∷ run) e l k f n h =
+-- entries that rise go in one behind another
+below_push : (r : ℕ) (es : List Entry) (e : Entry) → AllBelow r es → rank e < r → AllBelow r (es ++ e ∷ [])
+below_push r [] e b l = (l, tt)
+below_push r (x ∷ xs) e b l = (b.0, below_push r xs e b.1 l)
+
+inserted_behind : (low : ℕ) (before run : List Entry) → AllBelow low before → RisesFrom low run → inserted_all run before ≡ before ++ run
+inserted_behind low before [] b r = sym (append-nil before)
+inserted_behind low before (e ∷ run) b r =
+    let here : AllBelow (rank e) before = below_more low (rank e) before r.0 b in
+    let one : inserted e before ≡ before ++ e ∷ [] = inserted_end before e here in
+    ap (inserted_all run) one
+    ∙ inserted_behind (rank e + 1) (before ++ e ∷ []) run
+    (below_push (rank e + 1) before e (below_more (rank e) (rank e + 1) before (omega arith) here) (omega arith)) r.1
+    ∙ append_assoc before (e ∷ []) run
+
+pub inserted_in_none : (run : List Entry) → IsRising run → inserted_all run [] ≡ run
+inserted_in_none run up = inserted_behind 0 [] run tt up
+
+pub first_leaves : (width : ℕ) (old new : Stand) (was is : Shape) (run : List Entry) (more : List (List Entry)) → IsRising run → AllFit width run
+    → length was.pages ≤ 0 → HasLeaves width new is more → joined more ≡ run
+    → IsIndex width new is × (entries_of width new is.pages ≡ inserted_all (take (length run) run) (entries_of width old was.pages))
+first_leaves width old new was is run more up fit n h e =
     let none : was.pages ≡ [] = none_at_all was.pages n in
-    let h2 : HasLeaves width new is ((x ∷ []) ∷ []) = subst (λ (ps : List ℕ). HasLeaves width new is (insert (leaves_of width old ps) 0 (x ∷ []))) none h in
-    let fx : FitsLeaf width x = subst (λ (z : Entry). FitsLeaf width z) k f in (
-      index_of_leaves width new is ((x ∷ []) ∷ []) h2 (omega arith, tt) (fx, tt),
-      leaves_entries width new is ((x ∷ []) ∷ []) h2 ∙ sym (ap (λ (ps : List ℕ). inserted x (entries_of width old ps)) none),
+    let all : inserted_all (take (length run) run) (entries_of width old was.pages) ≡ run =
+    ap (λ (ps : List ℕ). inserted_all (take (length run) run) (entries_of width old ps)) none
+    ∙ ap (λ (x : List Entry). inserted_all x []) (take-length run) ∙ inserted_in_none run up in (
+      index_of_leaves width new is more h (subst (λ (x : List Entry). IsRising x) (sym e) up) (subst (λ (x : List Entry). AllFit width x) (sym e) fit),
+      leaves_entries width new is more h ∙ e ∙ sym all,
     )
 
 -- A LEAF THAT LOST AN ENTRY

@@ -328,8 +328,18 @@ fn check_entry<const W: usize>(entry: &(IndexKey<W>, u32))
     let _value = entry.1;
 }
 
-// The first entry of a run makes the first leaf, where there is none; the answer is how many
-// entries went in.
+// How great the keys of a run and their values are at most.
+fn check_run<const W: usize>(run: &[(IndexKey<W>, u32)])
+    ensures { AllFit W run.now }
+{
+    // For the proof.
+    for entry in run {
+        check_entry(entry);
+    }
+}
+
+// The entries of a run make the leaves, where there is none: a leaf of the first one, in whose
+// place they all go, so that no list is made of them. The answer is how many went in.
 fn insert_first<D: Disk, const W: usize>(
     pages: &Pages<D>,
     work: &mut Work,
@@ -339,6 +349,7 @@ fn insert_first<D: Disk, const W: usize>(
     requires open { pages.now.closed ≡ false }
     requires fits { Fits pages.now work.old }
     requires some { 1 ≤ length run.now }
+    requires rising { IsRising run.now }
     ensures fits { OnOk result (Fits pages.now work.new) }
     ensures list { OnOk result (KeepsList index.old index.new) }
     ensures pages { OnOk result (HasPages (stand pages.now work.old) index.old.pages
@@ -355,8 +366,8 @@ fn insert_first<D: Disk, const W: usize>(
         × (entries_of W (stand pages.now work.new) index.new.pages
         ≡ inserted_all (take at run.now)
         (entries_of W (stand pages.now work.old) index.old.pages))) }
-    ensures answer { AnswersChange result
-        ((length index.old.pages ≡ 0) × (free_pages (stand pages.now work.old).used ≡ 0)) }
+    ensures answer { AnswersChange result ((length index.old.pages ≡ 0)
+        × (free_pages (stand pages.now work.old).used < length run.now)) }
 {
     let leaves = leaf_count(index);
     if leaves > 0 {
@@ -364,9 +375,13 @@ fn insert_first<D: Disk, const W: usize>(
     }
     // For the proof.
     let _room = capacity_of(W);
-    check_entry(&run[0]);
+    check_run(run);
     match add_leaf(pages, work, index, 0, &run[..1]) {
-        Ok(()) => Ok(1),
+        Ok(()) => {}
+        Err(fault) => return Err(fault),
+    }
+    match spread(pages, work, index, 0, run) {
+        Ok(()) => Ok(run.len()),
         Err(fault) => Err(fault),
     }
 }

@@ -1,4 +1,4 @@
-use Rattle.std.proofs.Common.{◌≡◌, ℕ, ◌+◌, List, ap, ◌∙◌, sym, subst}
+use Rattle.std.proofs.Common.{◌≡◌, ℕ, ◌+◌, ap, ◌∙◌, sym, subst}
 use Rattle.std.proofs.lemmas.Result.{err_from_is_err_and}
 use Rattle.tune_pages.specs.Claim.{IsChainFault}
 use Rattle.tune_pages.specs.declared.fault.ClaimFault.{ClaimFault}
@@ -6,7 +6,7 @@ use Rattle.tune_pages.proofs.Claiming.{fault_as}
 use Rattle.tune_pages.specs.Faults.{pages_for}
 use Rattle.tune_format.specs.RootOffsets.{revision_bytes}
 use Rattle.tune_contents.specs.Most.{most_tune_pages}
-use Rattle.tune_contents.specs.Inside.ClaimedParts.{IsTuneChain, IsTuneThere}
+use Rattle.tune_contents.specs.Inside.ClaimedParts.{IsTuneThere}
 use Rattle.tune_contents.proofs.ClaimLemmas.{tune_claimed, tune_refused}
 use Rattle.tune_contents.proofs.claiming.claim_tune.Goals as goal
 

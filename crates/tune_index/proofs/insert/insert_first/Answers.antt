@@ -1,37 +1,92 @@
-use Rattle.std.proofs.Common.{◌≡◌, ◌≤◌, ℕ, List, [], ◌∷◌, length, refl, sym, subst, arith}
+use Rattle.std.proofs.Common.{◌≡◌, ◌≤◌, ◌<◌, ◌++◌, ℕ, List, [], ◌∷◌, length, take, drop, append-nil, sym, ◌∙◌, subst, arith, rules}
+use Rattle.std.specs.List.{insert}
 use Rattle.tune_pages.specs.Stand.{Stand}
 use Rattle.tune_pages.specs.Work.{stand}
-use Rattle.tune_pages.proofs.Frames.{trades_none}
-use Rattle.index_keys.specs.Entries.{FitsLeaf}
+use Rattle.tune_pages.proofs.Frames.{trades_none, trades_then}
+use Rattle.index_keys.specs.Entries.{Entry}
 use Rattle.tune_index.specs.Indexes.{HasPages}
-use Rattle.tune_index.specs.Inside.LeafLists.{leaves_of}
+use Rattle.tune_index.specs.Inside.LeafLists.{joined, leaves_of}
 use Rattle.tune_index.proofs.Answering.{change_more}
+use Rattle.tune_index.proofs.Changes.{list_then}
+use Rattle.tune_index.proofs.EachPage.{each_of}
 use Rattle.tune_index.proofs.LeafLists.{leaves_of_index}
-use Rattle.tune_index.proofs.Runs.{first_leaf}
+use Rattle.tune_index.proofs.Ranges.{page_in_use}
+use Rattle.tune_index.proofs.Runs.{first_leaves, none_at_all}
 use Rattle.tune_index.proofs.insert.insert_first.Goals as goal
 
 pub returns-then-leaves-gt0-clause-trades : goal.returns-then-leaves-gt0-clause-trades
 returns-then-leaves-gt0-clause-trades g c = λ has. trades_none c.args.index.now.pages (stand c.args.pages.now c.args.work.now)
 
 -- there is no leaf
-no_pages : (ps : List ℕ) → length ps ≤ 0 → ps ≡ []
-no_pages [] l = refl
-no_pages (p ∷ ps) l = absurd (omega arith)
-
 none_has : (s : Stand) (ps : List ℕ) → length ps ≤ 0 → HasPages s ps
-none_has s ps l = subst (λ (x : List ℕ). HasPages s x) (sym (no_pages ps l)) (tt, tt)
+none_has s ps l = subst (λ (x : List ℕ). HasPages s x) (sym (none_at_all ps l)) (tt, tt)
 
-pub returns-in-Ok-clause-entries : goal.returns-in-Ok-clause-entries
-returns-in-Ok-clause-entries g c = λ ix.
+-- the entries that took the place of the only leaf are all
+only_leaf : (s : Stand) (width : ℕ) (ps : List ℕ) (leaf run all : List Entry) → length ps ≤ 0
+    → all ≡ joined (take 0 (insert (leaves_of width s ps) 0 leaf)) ++ (run ++ joined (drop 1 (insert (leaves_of width s ps) 0 leaf)))
+    → all ≡ run
+only_leaf s width [] leaf run all l e = e ∙ append-nil run
+only_leaf s width (p ∷ ps) leaf run all l e = absurd (omega arith)
+
+pub spread-requires : goal.spread-requires
+spread-requires g c =
     let s0 = stand c.args.pages.now c.args.work.now in
+    let s1 = stand c.args.pages.now c.add_leaf.new.work in
     let none : length c.args.index.now.pages ≤ 0 = omega (arith, c.leaf_count-leaves.ensures.count, c.if-leaves-gt0.false) in
-    let fits : FitsLeaf g.row.W c.index-run-0.result = c.check_entry.ensures in
-    first_leaf g.row.W s0 (stand c.args.pages.now c.add_leaf.new.work) c.args.index.now c.add_leaf.new.index c.args.run.now c.index-run-0.result
-    c.requires.some c.index-run-0.is fits none
-    (c.in-Ok.ensures.leaves (none_has s0 c.args.index.now.pages none) (leaves_of g.row.W s0 c.args.index.now.pages)
-    (leaves_of_index g.row.W s0 c.args.index.now ix))
+    let has = c.in-Ok.ensures.pages (none_has s0 c.args.index.now.pages none) in
+    let place : 0 < length c.add_leaf.new.index.pages = omega (arith, c.in-Ok.ensures.count) in (
+      search rules,
+      (
+        search rules,
+        (
+          c.requires.open,
+          (
+            c.in-Ok.ensures.fits,
+            (
+              place,
+              (
+                page_in_use s1 c.add_leaf.new.index.pages 0 (each_of s1 c.add_leaf.new.index.pages has) place,
+                c.requires.some,
+              ),
+            ),
+          ),
+        ),
+      ),
+    )
+
+pub returns-in-Ok-spread-clause-list : goal.returns-in-Ok-spread-clause-list
+returns-in-Ok-spread-clause-list g c =
+    list_then c.args.index.now c.add_leaf.new.index c.spread.new.index c.in-Ok.ensures.list c.in-Ok-spread.ensures.list
+
+pub returns-in-Ok-spread-clause-pages : goal.returns-in-Ok-spread-clause-pages
+returns-in-Ok-spread-clause-pages g c = λ has. c.in-Ok-spread.ensures.pages (c.in-Ok.ensures.pages has)
+
+pub returns-in-Ok-spread-clause-trades : goal.returns-in-Ok-spread-clause-trades
+returns-in-Ok-spread-clause-trades g c = λ has.
+    trades_then c.args.index.now.pages c.add_leaf.new.index.pages c.spread.new.index.pages (stand c.args.pages.now c.args.work.now)
+    (stand c.args.pages.now c.add_leaf.new.work) (stand c.args.pages.now c.spread.new.work) (c.in-Ok.ensures.trades has)
+    (c.in-Ok-spread.ensures.trades (c.in-Ok.ensures.pages has))
+
+pub returns-in-Ok-spread-clause-balance : goal.returns-in-Ok-spread-clause-balance
+returns-in-Ok-spread-clause-balance g c = c.in-Ok.ensures.balance ∙ c.in-Ok-spread.ensures.balance
+
+pub returns-in-Ok-spread-clause-entries : goal.returns-in-Ok-spread-clause-entries
+returns-in-Ok-spread-clause-entries g c = λ ix.
+    let s0 = stand c.args.pages.now c.args.work.now in
+    let was = c.args.index.now in
+    let none : length was.pages ≤ 0 = omega (arith, c.leaf_count-leaves.ensures.count, c.if-leaves-gt0.false) in
+    let has0 = none_has s0 was.pages none in
+    let one = c.in-Ok.ensures.leaves has0 (leaves_of g.row.W s0 was.pages) (leaves_of_index g.row.W s0 was ix) in
+    let all = c.in-Ok-spread.ensures.leaves (c.in-Ok.ensures.pages has0) _ one in
+    first_leaves g.row.W s0 (stand c.args.pages.now c.spread.new.work) was c.spread.new.index c.args.run.now all.0 c.requires.rising c.check_run.ensures none
+    all.1 (only_leaf s0 g.row.W was.pages (take 1 c.args.run.now) c.args.run.now (joined all.0) none all.2)
 
 pub returns-in-Err-clause-answer : goal.returns-in-Err-clause-answer
 returns-in-Err-clause-answer g c =
     let none : length c.args.index.now.pages ≡ 0 = omega (arith, c.leaf_count-leaves.ensures.count, c.if-leaves-gt0.false) in
-    change_more c.in-Err.fault (λ full. (none, full)) c.in-Err.ensures.answer
+    change_more c.in-Err.fault (λ full. (none, omega (arith, full, c.requires.some))) c.in-Err.ensures.answer
+
+pub returns-in-Err-spread-clause-answer : goal.returns-in-Err-spread-clause-answer
+returns-in-Err-spread-clause-answer g c =
+    let none : length c.args.index.now.pages ≡ 0 = omega (arith, c.leaf_count-leaves.ensures.count, c.if-leaves-gt0.false) in
+    change_more c.in-Err-spread.fault (λ full. (none, omega (arith, full, none, c.in-Ok.ensures.balance, c.in-Ok.ensures.count))) c.in-Err-spread.ensures.answer

@@ -1,6 +1,7 @@
-use Rattle.std.proofs.Common.{◌≡◌, ℕ, ◌+◌, ◌-◌, ◌<◌, ◌++◌, List, length, take, drop, rules, arith, sym, ap, ◌∙◌, subst}
+use Rattle.std.proofs.Common.{◌≡◌, ℕ, ◌+◌, ◌-◌, ◌++◌, List, [], ◌∷◌, length, take, drop, rules, arith, sym, ap, ◌∙◌, subst}
 use Rattle.std.proofs.Math.Seq.{take-add}
 use Rattle.std.proofs.lemmas.List.{take-append-drop}
+use Rattle.tune_pages.specs.Stand.{Stand}
 use Rattle.tune_pages.specs.Work.{stand}
 use Rattle.tune_pages.proofs.Frames.{trades_none, trades_then}
 use Rattle.tune_pages.proofs.Looking.{looked_more}
@@ -8,20 +9,24 @@ use Rattle.index_keys.specs.Entries.{Entry, IsRising, inserted_all}
 use Rattle.index_keys.proofs.RisingEntries.{rises_back}
 use Rattle.tune_index.specs.Indexes.{entries_of}
 use Rattle.tune_index.proofs.Answering.{change_edit, edit_more}
-use Rattle.tune_index.proofs.Balances.{inserted_all_some}
 use Rattle.tune_index.proofs.Changes.{list_then}
-use Rattle.tune_index.proofs.Runs.{inserted_all-append}
+use Rattle.tune_index.proofs.Runs.{inserted_all-append, inserted_in_none}
 use Rattle.tune_index.proofs.index.Index.insert_all.Goals as goal
 
 pub returns-then-is_empty-clause-trades : goal.returns-then-is_empty-clause-trades
 returns-then-is_empty-clause-trades g c = λ h. trades_none c.args.self.now.pages (stand c.args.pages.now c.args.work.now)
 
+-- a run goes whole into an index without leaves
+none_first : (width : ℕ) (all : Stand) (pages : List ℕ) (run : List Entry) → length pages ≡ 0 → IsRising run
+    → length (inserted_all run (entries_of width all pages)) ≡ length run
+none_first width all [] run none up = ap length (inserted_in_none run up)
+none_first width all (p ∷ ps) run none up = absurd (omega arith)
+
 pub returns-in-Err-clause-answer : goal.returns-in-Err-clause-answer
 returns-in-Err-clause-answer g c =
-    let entries = entries_of g.row.W (stand c.args.pages.now c.args.work.now) c.args.self.now.pages in
-    let some : 0 < length c.args.run.now = search rules in
     change_edit c.in-Err.fault c.requires.open
-    (λ full honest. (let more = inserted_all_some c.args.run.now entries some in omega (arith, full.0, full.1, more)))
+    (λ full honest. (let all = none_first g.row.W (stand c.args.pages.now c.args.work.now) c.args.self.now.pages c.args.run.now full.0 c.requires.rising in
+    omega (arith, full.0, full.1, all)))
     c.in-Err.ensures.answer
 
 -- what is left of a run rises
