@@ -7,10 +7,11 @@
 # deletes; and over a file of 19,500, since 20,000 is the most, 500 imports of one tune each. 5 runs
 # of each by turns, the file's bytes in the system's cache. A time of the program is that of its
 # whole run, with its start and the opening; of C that of the calls alone. Prints milliseconds, the
-# least and the middle of each, and how the program's compare with C's; the same part in memory, by
-# `list`, less the import before it; what is wanted; and the calls of each part. Without strace no
-# calls are known, and C has none to make. Of fewer tunes all counts are in proportion, and nothing
-# is wanted.
+# least and the middle of each, and how the program's compare with C's, with the opening and, for
+# changes, less that of both; the same part in memory, by `list`, less the import before it; and
+# what is wanted. Then, since times may swing, the middle of what each run of the program is to the
+# run from C beside it; and the calls of each part. Without strace no calls are known, and C has
+# none to make. Of fewer tunes all counts are in proportion, and nothing is wanted.
 set -u
 root=$(CDPATH='' cd -- "$(dirname -- "$0")/.." && pwd) || exit 1
 folder=${1:-$root/bench/work}
@@ -240,17 +241,39 @@ for ((run = 0; run < runs; run++)); do
     done
 done
 
-sort -k2,2 -k1,1 -k3,3n "$work/archive_times" | awk -v parts="$parts" -v tunes="$tunes" '
+awk -v parts="$parts" -v tunes="$tunes" '
     { spent[$1 " " $2, ++n[$1 " " $2]] = $3 / 1000 }
+    # Puts the values of a name in order.
+    function put_in_order(name,    i, j, value) {
+        for (i = 2; i <= n[name]; i++) {
+            value = spent[name, i]
+            for (j = i; j > 1 && spent[name, j - 1] > value; j--)
+                spent[name, j] = spent[name, j - 1]
+            spent[name, j] = value
+        }
+    }
+    # How much more the run of this place of the one name took than that of the other.
+    function longer(place, name, less) { return spent[name, place] - spent[less, place] }
+    # Keeps the ratio of each pair of runs of a part, and the same less the opening of both.
+    function pair(part,    i, there) {
+        for (i = 1; i <= n["c " part]; i++) {
+            spent["pairs " part, ++n["pairs " part]] = \
+                spent["ours " part, i] / spent["c " part, i]
+            there = longer(i, "c " part, "c check")
+            if (part in changes && there > 0)
+                spent["changes " part, ++n["changes " part]] = \
+                    longer(i, "ours " part, "ours check") / there
+        }
+    }
     function chosen(name, way) {
         return n[name] ? spent[name, way == "least" ? 1 : int((n[name] + 1) / 2)] : ""
     }
     function shown(value) { return value == "" ? "-" : sprintf("%.2f", value) }
-    # What is wanted, and whether it is so.
+    # What is wanted, and whether it is so: of a change, less the opening.
     function judged(part, time, ratio,    text, over) {
         if (tunes != 20000) return "-"
         if (part in ratios) {
-            text = "ratio " ratios[part]
+            text = "ratio " ratios[part] (part in changes ? " less the opening" : "")
             over = ratio != "" && ratio > ratios[part]
         }
         if (part in times) {
@@ -265,21 +288,25 @@ sort -k2,2 -k1,1 -k3,3n "$work/archive_times" | awk -v parts="$parts" -v tunes="
         if (part == "import" || all == "") return all
         return all - chosen("memory " (part == "imports" ? "most" : "import"), way)
     }
-    function row(part, way,    time, there, memory, ratio) {
+    function row(part, way,    time, there, ratio, less) {
         time = chosen("ours " part, way)
         there = chosen("c " part, way)
-        memory = in_memory(part, way)
         ratio = there == "" ? "" : time / there
-        printf "%-10s %10s %10s %8s %10s  %s\n", part, shown(time), shown(there), shown(ratio),
-            shown(memory), judged(part, time, ratio)
+        if (part in changes && there != "")
+            less = (time - chosen("ours check", way)) / (there - chosen("c check", way))
+        printf "%-10s %10s %10s %8s %8s %10s  %s\n", part, shown(time), shown(there),
+            shown(ratio), shown(less), shown(in_memory(part, way)),
+            judged(part, time, less == "" ? ratio : less)
     }
-    function table(way,    i, count, names) {
-        printf "%-10s %10s %10s %8s %10s  %s\n", way, "tunes ms", "C ms", "ratio", "memory ms",
-            "wanted at most"
-        count = split(parts, names)
+    function table(way,    i) {
+        printf "%-10s %10s %10s %8s %8s %10s  %s\n", way, "tunes ms", "C ms", "ratio", "less",
+            "memory ms", "wanted at most"
         for (i = 1; i <= count; i++) row(names[i], way)
     }
     BEGIN {
+        count = split(parts, names)
+        split("imports replaces renumbers deletes", words)
+        for (i in words) changes[words[i]]
         ratios["import"] = ratios["imports"] = 1.2
         ratios["replaces"] = ratios["renumbers"] = ratios["deletes"] = 1.2
         ratios["check"] = 1.8
@@ -288,11 +315,17 @@ sort -k2,2 -k1,1 -k3,3n "$work/archive_times" | awk -v parts="$parts" -v tunes="
         times["shows"] = 80
     }
     END {
+        for (i = 1; i <= count; i++) pair(names[i])
+        for (name in n) put_in_order(name)
         table("least")
         table("middle")
+        printf "%-10s %30s %8s\n", "pairs", "middle ratio", "less"
+        for (i = 1; i <= count; i++)
+            printf "%-10s %30s %8s\n", names[i], shown(chosen("pairs " names[i], "middle")),
+                shown(chosen("changes " names[i], "middle"))
         printf "the start of the program alone: least %s ms, middle %s ms\n",
             shown(chosen("ours start", "least")), shown(chosen("ours start", "middle"))
-    }'
+    }' "$work/archive_times"
 if [ ! -s "$work/archive_calls_import" ]; then
     echo 'no strace here: no calls are counted, and none are made from C'
     exit 0
