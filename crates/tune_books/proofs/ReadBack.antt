@@ -2,8 +2,8 @@
 use Rattle.std.proofs.Common.{◌≡◌, ◌≢◌, ℕ, suc, ◌+◌, ◌^◌, ◌<◌, ◌≤◌, true, false, not, ltb, List, [], ◌∷◌, ◌++◌, length, map, get_or, Ok, refl, ap, sym}
 use Rattle.std.proofs.Common.{◌∙◌, subst, arith, inl, append_assoc, append-nil}
 use Rattle.std.specs.Prelude.{codes, decimal}
-use Rattle.std.specs.List.{AllByRecursion, list_all}
-use Rattle.std.proofs.lemmas.Bool.{ne_eqb, eqb-true, le-ltb, or_parts, and_parts, cond_both, cases_Bool, true≢false}
+use Rattle.std.specs.List.{AllByRecursion}
+use Rattle.std.proofs.lemmas.Bool.{ne_eqb, le-ltb, or_parts, cond_both}
 use Rattle.std.proofs.lemmas.Fmt.{decimal_is_IsNumeral}
 use Rattle.std.proofs.lemmas.Str.Parse.{digit_from_value}
 use Rattle.std.specs.Str.Parse.{AllDigits}
@@ -12,9 +12,9 @@ use Rattle.abc_fields.specs.Limits.{longest_book}
 use Rattle.abc_fields.specs.Lines.{lines_of, has_no_ending, ends_line}
 use Rattle.abc_fields.specs.Tunes.{is_empty_line, is_tune_start, is_key_line, tune_run, tune_runs, joined, has_key, IsTuneLine, IsTuneText}
 use Rattle.abc_fields.specs.FileHeaders.{block_of, file_header, before_key, with_header}
-use Rattle.abc_fields.specs.Books.{whole_runs, book_runs, tune_texts, runs_answer, book_of_runs, book_answer}
+use Rattle.abc_fields.specs.Books.{whole_runs, book_runs, runs_answer, book_of_runs}
 use Rattle.abc_fields.proofs.LineLaw.{pieces_of_line}
-use Rattle.tune_books.specs.WrittenBooks.{book_header, written_tune, written_tunes, written_book, places_from, written_set}
+use Rattle.tune_books.specs.WrittenBooks.{written_tunes, written_book, places_from, written_set}
 use Rattle.tune_books.specs.ReadBack.{GivesBack}
 
 -- BYTES THAT END NO LINE

@@ -3,9 +3,9 @@ use Rattle.std.proofs.Common.{◌≡◌, ◌≢◌, Bool, true, false, not, Ok, 
 use Rattle.std.specs.Prelude.{⊤}
 use Rattle.tune_store.specs.State.{State, IsState, Standing}
 use Rattle.tune_store.specs.TuneSteps.{Outcome}
-use Rattle.tune_store.specs.Answers.{Answers, IsRefusalOfOwn, takes_memory, stays_open}
+use Rattle.tune_store.specs.Answers.{Answers, takes_memory, stays_open}
 use Rattle.tune_store.specs.Answers.{open_at, stepped, no_memory, failed_before, failed_after, is_closed}
-use Rattle.tune_store.specs.Plans.{Decides, EndsFetch, IsRefusalOfPlan, grows}
+use Rattle.tune_store.specs.Plans.{Decides, EndsFetch, grows}
 use Rattle.tune_store.specs.Revisions.{RaisesReplaced}
 use Rattle.tune_store.specs.Inside.Lists.{CarriedOut}
 use Rattle.tune_store.specs.declared.plans.Plan.{Plan}

@@ -1,4 +1,4 @@
-use Rattle.std.proofs.Common.{◌≡◌, ℕ, ◌<◌, ◌≤◌, ◌^◌, subst, arith, rules, length, List, All, take}
+use Rattle.std.proofs.Common.{ℕ, ◌<◌, ◌≤◌, subst, arith, rules, length, All}
 use Rattle.std.proofs.lemmas.List.{take_all}
 use Rattle.std.specs.List.Sorted.{IsNonDecreasingBy}
 use Rattle.tune_search.proofs.RunOrders.{still_below, still_by_number}
