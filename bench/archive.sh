@@ -288,12 +288,13 @@ awk -v parts="$parts" -v tunes="$tunes" '
         if (part == "import" || all == "") return all
         return all - chosen("memory " (part == "imports" ? "most" : "import"), way)
     }
-    function row(part, way,    time, there, ratio, less) {
+    function row(part, way,    time, there, ratio, less, beside) {
         time = chosen("ours " part, way)
         there = chosen("c " part, way)
         ratio = there == "" ? "" : time / there
-        if (part in changes && there != "")
-            less = (time - chosen("ours check", way)) / (there - chosen("c check", way))
+        beside = there - chosen("c check", way)
+        if (part in changes && beside > 0)
+            less = (time - chosen("ours check", way)) / beside
         printf "%-10s %10s %10s %8s %8s %10s  %s\n", part, shown(time), shown(there),
             shown(ratio), shown(less), shown(in_memory(part, way)),
             judged(part, time, less == "" ? ratio : less)
