@@ -5,9 +5,9 @@ ghost use Rattle.tune_store.specs.declared.layout.Layout.TheVariants.{One};
 use crate::disks::TestDisk;
 use abc_fields::{ByteText, TuneText};
 use std::alloc::Global;
-use std::collections::VecDeque;
 use std::process::Abort;
 use std::test::Fail;
+use tiered_vector::TieredVector;
 use tune_contents::{Contents, Room, lay};
 use tune_format::{Firsts, write_root};
 use tune_index::Index;
@@ -44,7 +44,7 @@ fn nothing(alloc: Global) -> Contents
 {
     Contents {
         layout: Layout::One,
-        rows: VecDeque::new(alloc),
+        rows: TieredVector::new(alloc),
         numbers: Index::new(alloc),
         searches: SearchIndexes::new(alloc, IncipitNotes::Eight),
         sets: SetLists::new(alloc),

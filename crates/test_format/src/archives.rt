@@ -141,7 +141,8 @@ pub(crate) fn open_archive(
 fn show_contents(contents: &Contents, answer: &mut String) -> Result<(), AllocError> {
     write!(answer, "layout {} firsts ", contents.layout.number())?;
     show_firsts(contents.firsts, answer)?;
-    for row in &contents.rows {
+    for place in 0..contents.rows.len() {
+        let row = contents.rows.at(place);
         let (number, revision, first) = (row.number, row.revision, row.first);
         write!(answer, ", tune {number} {revision} {first}")?;
     }

@@ -73,7 +73,7 @@ impl<D: Disk> Catalog for Archive<D> {
     }
 
     fn label(&self, place: usize) -> Label {
-        let row = &self.contents.rows[place];
+        let row = self.contents.rows.at(place);
         Label {
             number: row.number,
             revision: row.revision,
@@ -98,7 +98,7 @@ impl<D: Disk> Catalog for Archive<D> {
             return Err(Refusal::Device);
         }
         let layout = self.contents.layout;
-        let first = self.contents.rows[place].first;
+        let first = self.contents.rows.at(place).first;
         self.fetched = None;
         match read_text(self.alloc, &mut self.pages, layout, first) {
             Ok(text) => {

@@ -21,7 +21,7 @@ ghost use Rattle.tune_archive.specs.Shelf.{state_of, IsSound};
 
 use crate::archive::Archive;
 use std::alloc::Global;
-use std::collections::VecDeque;
+use tiered_vector::TieredVector;
 use tune_contents::{Contents, claim};
 use tune_disk::Disk;
 use tune_format::{Firsts, most_pages, write_root};
@@ -43,7 +43,7 @@ fn nothing(alloc: Global) -> Contents
 {
     Contents {
         layout: Layout::Two,
-        rows: VecDeque::new(alloc),
+        rows: TieredVector::new(alloc),
         numbers: Index::new(alloc),
         searches: SearchIndexes::new(alloc, IncipitNotes::Twelve),
         sets: SetLists::new(alloc),

@@ -7,7 +7,7 @@ ghost use Rattle.tune_contents.specs.Claimed.{RowsRise};
 ghost use Rattle.tune_contents.specs.Holds.{labels_in};
 
 use std::alloc::{AllocError, Global};
-use std::collections::VecDeque;
+use tiered_vector::TieredVector;
 use tune_contents::place_of;
 use tune_format::Row;
 
@@ -15,7 +15,7 @@ use tune_format::Row;
 // and may repeat. A number that no row has is passed over. The error is out of memory.
 pub(crate) fn places_of_numbers(
     alloc: Global,
-    rows: &VecDeque<Row>,
+    rows: &TieredVector<Row>,
     mut numbers: Vec<u32>,
 ) -> Result<Vec<usize>, AllocError>
     requires { RowsRise 0 rows.now.items }
@@ -32,7 +32,7 @@ pub(crate) fn places_of_numbers(
 // The same, of numbers that rise.
 fn places_of_rising(
     alloc: Global,
-    rows: &VecDeque<Row>,
+    rows: &TieredVector<Row>,
     numbers: &[u32],
 ) -> Result<Vec<usize>, AllocError>
     requires rows { RowsRise 0 rows.now.items }

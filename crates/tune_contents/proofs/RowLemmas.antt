@@ -1,10 +1,8 @@
 -- Rows of tunes, found by number.
 use Rattle.std.proofs.Common.{◌≡◌, ℕ, zero, suc, ◌+◌, ◌-◌, ◌<◌, ◌≤◌, List, [], ◌∷◌, length, ◌++◌, get_or, refl, ap, sym, ◌∙◌, subst, arith, inl, inr}
-use Rattle.std.specs.List.{AllWithin, insert, remove}
-use Rattle.std.specs.Cmp.{ranked}
-use Rattle.std.specs.Ordering.{nat_cmp}
-use Rattle.std.specs.declared.cmp.Ordering.TheVariants.{Less, Greater}
-use Rattle.std.proofs.lemmas.Bool.{cases_lt}
+use Rattle.std.specs.List.{insert, remove}
+use Rattle.std.proofs.lemmas.Bool.{cases_eq, cases_lt}
+use Rattle.std.proofs.lemmas.List.{get_or_default}
 use Rattle.std.proofs.lemmas.List.Edits.{get_or-remove_above, get_or-remove_below, length-remove}
 use Rattle.std.proofs.Math.Seq.{get_or-append_seam}
 use Rattle.tune_pages.specs.Stand.{Stand}
@@ -55,13 +53,46 @@ row_behind number rows place rises l named = record {
   behind = λ k d from to. let less = strictly 0 rows place k d rises (omega arith) to in let e = named d in omega arith;
 }
 
--- between the lesser numbers and the greater ones
-pub row_between : (number : ℕ) (rows : List Row) (place : ℕ) → AllWithin (λ row. nat_cmp row.number number ≡ Less) rows 0 place
-    → AllWithin (λ row. nat_cmp row.number number ≡ Greater) rows place (length rows) → IsRowAfter number rows place
-row_between number rows place less greater = record {
-  before = λ k d from below. let lower : (get_or rows k d).number < number = ranked _ _ _ (sym (less k d from below)) in omega arith;
-  behind = λ k d from to. ranked _ _ _ (sym (greater k d from to));
-}
+-- up to a row of a lesser number all are lesser, and from one that is not lesser on none is
+pub lesser : (number : ℕ) (rows : List Row) (place : ℕ) (row : Row) → RowsRise 0 rows → place < length rows → row ≡ get_or rows place row → row.number < number
+    → (k : ℕ) (d : Row) → k < place + 1 → (get_or rows k d).number < number
+lesser number rows place row rises l is less k d below =
+    let le = ordered 0 rows k place d rises (omega arith) l in
+    let same : row.number ≡ (get_or rows place d).number = ap (λ (r : Row). r.number) (is ∙ get_or_default rows place row d l) in
+    omega arith
+
+pub not_lesser : (number : ℕ) (rows : List Row) (place : ℕ) (row : Row) → RowsRise 0 rows → place < length rows → row ≡ get_or rows place row
+    → number ≤ row.number → (k : ℕ) (d : Row) → place ≤ k → k < length rows → number ≤ (get_or rows k d).number
+not_lesser number rows place row rises l is le k d from to =
+    let later = ordered 0 rows place k d rises from to in
+    let same : row.number ≡ (get_or rows place d).number = ap (λ (r : Row). r.number) (is ∙ get_or_default rows place row d l) in
+    omega arith
+
+module _ (number : ℕ) (rows : List Row) (place : ℕ) (rises : RowsRise 0 rows) (before : (k : ℕ) (d : Row) → k < place → (get_or rows k d).number < number)
+    (after : (k : ℕ) (d : Row) → place ≤ k → k < length rows → number ≤ (get_or rows k d).number)
+    (other : place < length rows → (d : Row) → (get_or rows place d).number ≡ number → ⊥) where
+  -- where the first row that is not lesser has another number, those from it on are greater
+  greater : (k : ℕ) (d : Row) → place ≤ k → k < length rows → number < (get_or rows k d).number
+  greater k d from to =
+      let first = after place d (omega arith) (omega arith) in
+      let later = ordered 0 rows place k d rises from to in
+      elim (cases_eq (get_or rows place d).number number) [
+        | inl same ↦ absurd (other (omega arith) d same)
+        | inr differs ↦ omega arith
+      ]
+
+  pub row_between : IsRowAfter number rows place
+  row_between = record {
+    before = λ k d from below. let less = before k d below in omega arith;
+    behind = λ k d from to. greater k d from to;
+  }
+
+  -- and no row has the number
+  pub no_row : (n : ℕ) (d : Row) → n < length rows → (get_or rows n d).number ≡ number → ⊥
+  no_row n d l e = elim (cases_lt n place) [
+    | inl below ↦ let less = before n d below in omega arith
+    | inr from ↦ let more = greater n d from l in omega arith
+  ]
 
 -- behind the row at a place, once that has gone
 pub after_gone : (number : ℕ) (rows : List Row) (place at : ℕ) → place < length rows → place < at → at ≤ length rows → IsRowAfter number rows at
@@ -90,15 +121,6 @@ before_gone number rows place at l under after = record {
         (after.behind (k + 1) d (omega arith) (omega (arith, to, length-remove rows place l)))
   ];
 }
-
--- where all numbers are less below a place, and greater from it on, none is equal
-pub no_row : (number : ℕ) (rows : List Row) (place : ℕ) → AllWithin (λ row. nat_cmp row.number number ≡ Less) rows 0 place
-    → AllWithin (λ row. nat_cmp row.number number ≡ Greater) rows place (length rows)
-    → (n : ℕ) (d : Row) → n < length rows → (get_or rows n d).number ≡ number → ⊥
-no_row number rows place less greater n d l e = elim (cases_lt n place) [
-  | inl below ↦ let lower : (get_or rows n d).number < number = ranked _ _ _ (sym (less n d (omega arith) below)) in omega arith
-  | inr from ↦ let higher : number < (get_or rows n d).number = ranked _ _ _ (sym (greater n d from l)) in omega arith
-]
 
 -- ROWS OF TUNES
 -- they have the numbers of the tunes

@@ -36,8 +36,8 @@ use crate::layout_notes::incipit_notes;
 use abc_fields::{ByteText, MOST_TITLES, TuneText};
 use index_keys::EntryList;
 use std::alloc::{AllocError, Global};
-use std::collections::VecDeque;
 use std::mem;
+use tiered_vector::TieredVector;
 use tune_disk::Disk;
 use tune_format::{Firsts, Row, number_of_key, read_root, read_text};
 use tune_index::{Index, IndexKey};
@@ -103,7 +103,7 @@ pub fn claim<D: Disk>(alloc: Global, opening: &mut Opening<D>) -> Result<Content
     let (rows, sets) = claim_texts(alloc, opening, layout, tunes, entries, &sets)?;
     Ok(Contents {
         layout,
-        rows: VecDeque::from(rows),
+        rows: TieredVector::from(rows),
         numbers,
         searches,
         sets,

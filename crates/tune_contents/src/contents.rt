@@ -1,5 +1,5 @@
 // What an archive keeps in memory of what its pages hold.
-use std::collections::VecDeque;
+use tiered_vector::TieredVector;
 use tune_format::{Firsts, Row};
 use tune_index::Index;
 use tune_search::SearchIndexes;
@@ -12,9 +12,8 @@ use tune_store::Layout;
 pub struct Contents {
     /// The layout.
     pub layout: Layout,
-    /// Where each tune stands, by rising number. Where a row goes or comes, the fewer of
-    /// the others move.
-    pub rows: VecDeque<Row>,
+    /// Where each tune stands, by rising number.
+    pub rows: TieredVector<Row>,
     /// The index of numbers: where the chain of each tune begins.
     pub numbers: Index<32>,
     /// The search indexes.

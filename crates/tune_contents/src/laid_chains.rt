@@ -3,7 +3,6 @@ ghost use Rattle.std.specs.Prelude.{◌≡◌, ◌≢◌, ◌+◌, ◌^◌, ◌<
 ghost use Rattle.std.specs.Prelude.{slice_set};
 ghost use Rattle.std.specs.Prelude.{IfOk, IfErr, OnOk, IsTrue};
 ghost use Rattle.std.specs.List.{range_with_len, remove};
-ghost use Rattle.std.specs.VecDeque.{deque_capacity};
 ghost use Rattle.tune_pages.specs.Faults.{pages_for};
 ghost use Rattle.tune_pages.specs.FreePages.{TakesAtMost};
 ghost use Rattle.tune_pages.specs.Kept.{HonestAt};
@@ -33,7 +32,7 @@ use crate::next::RowChange;
 use crate::room::Room;
 use abc_fields::TuneText;
 use std::alloc::Global;
-use std::collections::VecDeque;
+use tiered_vector::TieredVector;
 use tune_disk::Disk;
 use tune_format::{Firsts, Row, put_text, read_root, write_root, write_text};
 use tune_pages::{Fault, Pages, Work, law_of_works};
@@ -65,12 +64,12 @@ fn swap_chain<D: Disk>(
 }
 
 // Where the chain of the tune at a place begins.
-fn first_at(rows: &VecDeque<Row>, place: usize) -> u32
+fn first_at(rows: &TieredVector<Row>, place: usize) -> u32
     requires { place < length rows.now.items }
     ensures { (before after : List Row) (row : Row) → rows.now.items ≡ before ++ row ∷ after
         → length before ≡ place → result ≡ row.first }
 {
-    rows[place].first
+    rows.at(place).first
 }
 
 // Lays a tune on another chain, in the place of the one there.
@@ -78,7 +77,7 @@ pub(crate) fn put_tune<D: Disk>(
     alloc: Global,
     pages: &mut Pages<D>,
     work: &mut Work,
-    rows: &VecDeque<Row>,
+    rows: &TieredVector<Row>,
     place: usize,
     tune: &Tune,
 ) -> Result<RowChange, Fault>
@@ -117,7 +116,7 @@ pub(crate) fn put_tune<D: Disk>(
 pub(crate) fn take_tune<D: Disk>(
     pages: &mut Pages<D>,
     work: &mut Work,
-    rows: &VecDeque<Row>,
+    rows: &TieredVector<Row>,
     place: usize,
 ) -> Result<RowChange, Fault>
     requires open { pages.old.closed ≡ false }
@@ -226,9 +225,9 @@ fn add_tunes<D: Disk>(
 }
 
 // The change that puts rows behind the others. Where there is no room for them, all are copied.
-fn put_behind(room: &mut Room, rows: &VecDeque<Row>, more: Vec<Row>) -> Result<RowChange, Fault>
+fn put_behind(room: &mut Room, rows: &TieredVector<Row>, more: Vec<Row>) -> Result<RowChange, Fault>
     ensures behind { IfOk result (λ made. IsBehind made rows.now.items more.items) }
-    ensures fits { IfOk result (λ made. FitsRows made rows.now.items (deque_capacity rows.now)) }
+    ensures fits { IfOk result (λ made. FitsRows made rows.now.items rows.now.room) }
     ensures err { IfErr result (λ fault. fault ≡ OutOfMemory) }
 {
     if rows.capacity() - rows.len() >= more.len() {
@@ -245,7 +244,7 @@ pub(crate) fn lay_added<D: Disk>(
     room: &mut Room,
     pages: &Pages<D>,
     work: &mut Work,
-    rows: &VecDeque<Row>,
+    rows: &TieredVector<Row>,
     first: u32,
     texts: &[TuneText],
 ) -> Result<RowChange, Fault>
@@ -260,7 +259,7 @@ pub(crate) fn lay_added<D: Disk>(
     ensures rows { IfOk result (λ made.
         AddsRows first (length texts.now) rows.now.items (rows_after made rows.now.items)) }
     ensures made { IfOk result (λ made. IsMadeOf made rows.now.items) }
-    ensures room { IfOk result (λ made. FitsRows made rows.now.items (deque_capacity rows.now)) }
+    ensures room { IfOk result (λ made. FitsRows made rows.now.items rows.now.room) }
     ensures quiet { IfErr result (λ fault. (fault ≢ Device) × (fault ≢ Closed)) }
     ensures takes { TakesAtMost (text_pages texts.now) result
         (stand pages.now work.old) (stand pages.now work.new) }

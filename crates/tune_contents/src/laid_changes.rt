@@ -1,7 +1,6 @@
 // A change of an archive, laid on its pages.
 ghost use Rattle.std.specs.Prelude.{◌≡◌, ◌≢◌, ◌+◌, List, false, true, length};
 ghost use Rattle.std.specs.Prelude.{IfOk, IfErr, OnOk};
-ghost use Rattle.std.specs.VecDeque.{deque_capacity};
 ghost use Rattle.tune_pages.specs.FreePages.{TakesAtMost};
 ghost use Rattle.tune_pages.specs.Kept.{HonestAt};
 ghost use Rattle.tune_pages.specs.PageLooks.{LooksAt};
@@ -38,7 +37,7 @@ use crate::room::Room;
 use crate::searching::{change_searches, text_runs};
 use crate::tune_rows::{are_rows, move_row};
 use crate::upgrading::upgrade;
-use std::collections::VecDeque;
+use tiered_vector::TieredVector;
 use tune_disk::Disk;
 use tune_format::{Firsts, Row};
 use tune_index::Index;
@@ -84,7 +83,7 @@ fn lay_tunes<D: Disk>(
     room: &mut Room,
     pages: &mut Pages<D>,
     work: &mut Work,
-    rows: &VecDeque<Row>,
+    rows: &TieredVector<Row>,
     change: &Change,
 ) -> Result<RowChange, Fault>
     requires open { pages.old.closed ≡ false }
@@ -99,7 +98,7 @@ fn lay_tunes<D: Disk>(
     ensures made { IfOk result (λ made. IsMadeOf made rows.now.items) }
     ensures rows { IfOk result (λ made.
         KeepsRows change.now rows.now.items (rows_after made rows.now.items)) }
-    ensures room { IfOk result (λ made. FitsRows made rows.now.items (deque_capacity rows.now)) }
+    ensures room { IfOk result (λ made. FitsRows made rows.now.items rows.now.room) }
     ensures looks { LooksAt D.honest D.failures D.state result pages.old pages.new }
     ensures answer { AnswersLay result pages.new.closed }
     ensures takes { HonestAt D.honest pages.new.disk → TakesAtMost (change_pages change.now)
@@ -130,7 +129,7 @@ fn lay_indexed<D: Disk>(
     pages: &mut Pages<D>,
     work: &mut Work,
     layout: Layout,
-    rows: &VecDeque<Row>,
+    rows: &TieredVector<Row>,
     indexes: &mut Indexes,
     change: &Change,
 ) -> Result<(RowChange, u32, SearchFirsts), Fault>
@@ -151,7 +150,7 @@ fn lay_indexed<D: Disk>(
         × AreListed indexes.new.searches) }
     ensures rows { IfOk result (λ laid.
         KeepsRows change.now rows.now.items (rows_after laid.0 rows.now.items)) }
-    ensures room { IfOk result (λ laid. FitsRows laid.0 rows.now.items (deque_capacity rows.now)) }
+    ensures room { IfOk result (λ laid. FitsRows laid.0 rows.now.items rows.now.room) }
     ensures notes { OnOk result
         (indexes.new.searches.notes ≡ indexes.old.searches.notes) }
     ensures looks { LooksAt D.honest D.failures D.state result pages.old pages.new }
@@ -213,7 +212,7 @@ fn lay_change<D: Disk>(
         AreRows next.layout (rows_after next.rows contents.now.rows.items)) }
     ensures layout { IfOk result (λ next. next.layout ≡ contents.now.layout) }
     ensures room { IfOk result (λ next.
-        FitsRows next.rows contents.now.rows.items (deque_capacity contents.now.rows)) }
+        FitsRows next.rows contents.now.rows.items contents.now.rows.room) }
     ensures fits { OnOk result (Fits pages.new work.new) }
     ensures looks { LooksAt D.honest D.failures D.state result pages.old pages.new }
     ensures answer { AnswersLay result pages.new.closed }
@@ -303,7 +302,7 @@ pub fn lay<D: Disk>(
     ensures layout { IfOk result (λ next. next.layout
         ≡ changed_layout change contents.now.layout) }
     ensures room { IfOk result (λ next.
-        FitsRows next.rows contents.now.rows.items (deque_capacity contents.now.rows)) }
+        FitsRows next.rows contents.now.rows.items contents.now.rows.room) }
     ensures fits { OnOk result (Fits pages.new work.new) }
     ensures looks { LooksAt D.honest D.failures D.state result pages.old pages.new }
     ensures answer { AnswersLay result pages.new.closed }

@@ -1,13 +1,12 @@
 // What a change of an archive leads to, in memory.
 ghost use Rattle.std.specs.Prelude.{◌≡◌};
-ghost use Rattle.std.specs.VecDeque.{deque_capacity};
 ghost use Rattle.tune_contents.specs.Holds.{memory_of};
 ghost use Rattle.tune_contents.specs.Next.{FitsRows, memory_after, rows_after};
 
 use crate::contents::Contents;
 use crate::room::Room;
-use std::collections::VecDeque;
 use std::mem;
+use tiered_vector::TieredVector;
 use tune_format::{Firsts, Row};
 use tune_index::Index;
 use tune_search::SearchIndexes;
@@ -65,22 +64,24 @@ pub struct Next {
 }
 
 // Makes a change of rows. Memory of theirs that is left over goes into the room.
-fn change_rows(rows: &mut VecDeque<Row>, room: &mut Room, change: RowChange)
-    requires { FitsRows change rows.old.items (deque_capacity rows.old) }
+fn change_rows(rows: &mut TieredVector<Row>, room: &mut Room, change: RowChange)
+    requires { FitsRows change rows.old.items rows.old.room }
     ensures { rows.new.items ≡ rows_after change rows.old.items }
 {
     match change {
         RowChange::Stay => {}
-        RowChange::Add(more) => rows.append(&mut VecDeque::from(more)).unwrap(),
-        RowChange::Put { place, row } => rows[place] = row,
+        RowChange::Add(more) => rows.append(&more),
+        RowChange::Put { place, row } => rows.put(place, row),
         RowChange::Take { place } => {
             rows.remove(place);
         }
         RowChange::Move { place, to, row } => {
+            // For the proof: there is room for as many rows as there are.
+            let _room = rows.capacity();
             rows.remove(place);
-            rows.insert(to, row).unwrap();
+            rows.insert(to, row);
         }
-        RowChange::Whole(all) => room.keep_rows(mem::replace(rows, VecDeque::from(all))),
+        RowChange::Whole(all) => room.keep_rows(mem::replace(rows, TieredVector::from(all))),
     }
 }
 
@@ -88,7 +89,7 @@ impl Contents {
     /// Becomes what a change leads to, once its work is finished. It takes no memory: what is left
     /// over goes into the room, for later changes.
     pub fn accept(&mut self, room: &mut Room, next: Next)
-        requires { FitsRows next.rows self.old.rows.items (deque_capacity self.old.rows) }
+        requires { FitsRows next.rows self.old.rows.items self.old.rows.room }
         ensures { memory_of self.new ≡ memory_after next self.old }
     {
         change_rows(&mut self.rows, room, next.rows);

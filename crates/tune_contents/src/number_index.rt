@@ -21,8 +21,8 @@ ghost use Rattle.tune_contents.specs.Next.{rows_after};
 
 use crate::next::RowChange;
 use std::alloc::{AllocError, Global};
-use std::collections::VecDeque;
 use std::slice;
+use tiered_vector::TieredVector;
 use tune_disk::Disk;
 use tune_format::{Row, key_of_number};
 use tune_index::{Index, IndexKey};
@@ -82,7 +82,7 @@ fn put_runs(alloc: Global, was: &Row, is: &Row) -> Result<NumberRuns, AllocError
 // The entries of rows before a change and after it.
 pub(crate) fn number_runs(
     alloc: Global,
-    was: &VecDeque<Row>,
+    was: &TieredVector<Row>,
     made: &RowChange,
 ) -> Result<NumberRuns, AllocError>
     requires { IsMadeOf made.now was.now.items }
@@ -96,10 +96,14 @@ pub(crate) fn number_runs(
     match made {
         RowChange::Stay => runs_of(alloc, &[], &[]),
         RowChange::Add(more) => runs_of(alloc, &[], more),
-        RowChange::Put { place, row } => put_runs(alloc, &was[*place], row),
-        RowChange::Take { place } => runs_of(alloc, slice::from_ref(&was[*place]), &[]),
+        RowChange::Put { place, row } => put_runs(alloc, &was.at(*place), row),
+        RowChange::Take { place } => runs_of(alloc, slice::from_ref(&was.at(*place)), &[]),
         RowChange::Move { place, row, .. } => {
-            runs_of(alloc, slice::from_ref(&was[*place]), slice::from_ref(row))
+            runs_of(
+                alloc,
+                slice::from_ref(&was.at(*place)),
+                slice::from_ref(row),
+            )
         }
         RowChange::Whole(all) => runs_of(alloc, &[], &all[was.len()..]),
     }

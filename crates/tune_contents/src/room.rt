@@ -3,8 +3,8 @@ ghost use Rattle.std.specs.Prelude.{◌≡◌, ◌++◌, IfErr, IfOk};
 ghost use Rattle.tune_pages.specs.declared.fault.Fault.TheVariants.{OutOfMemory};
 
 use std::alloc::Global;
-use std::collections::VecDeque;
 use std::mem;
+use tiered_vector::TieredVector;
 use tune_format::Row;
 use tune_index::Index;
 use tune_pages::Fault;
@@ -34,8 +34,8 @@ impl Room {
     }
 
     // Keeps the memory of rows for later ones.
-    pub(crate) fn keep_rows(&mut self, rows: VecDeque<Row>) {
-        self.rows = Vec::from(rows);
+    pub(crate) fn keep_rows(&mut self, rows: TieredVector<Row>) {
+        self.rows = rows.into_memory();
     }
 
     // Keeps that of an index of numbers.
@@ -52,7 +52,7 @@ impl Room {
     // changes find room.
     pub(crate) fn copy_rows(
         &mut self,
-        rows: &VecDeque<Row>,
+        rows: &TieredVector<Row>,
         more: &[Row],
     ) -> Result<Vec<Row>, Fault>
         ensures rows { IfOk result (λ copy. copy.items ≡ rows.now.items ++ more.now) }
@@ -60,8 +60,7 @@ impl Room {
     {
         let mut copy = mem::replace(&mut self.rows, Vec::new(self.alloc));
         copy.clear();
-        let (front, back) = rows.as_slices();
-        if copy.extend_from_slice(front).is_err() || copy.extend_from_slice(back).is_err() {
+        if rows.copy_to(&mut copy).is_err() {
             return Err(Fault::OutOfMemory);
         }
         match copy.extend_from_slice(more) {

@@ -34,8 +34,8 @@ use crate::tune_reading::read_tune;
 use crate::tune_rows::place_of;
 use abc_fields::TuneText;
 use std::alloc::Global;
-use std::collections::VecDeque;
 use std::slice;
+use tiered_vector::TieredVector;
 use tune_disk::Disk;
 use tune_format::Row;
 use tune_pages::{Fault, Pages, Work};
@@ -50,7 +50,7 @@ pub(crate) struct TextRuns {
 }
 
 // Where the row stands of a tune that a change replaces, takes out or moves.
-fn old_place(rows: &VecDeque<Row>, change: &Change) -> Option<usize>
+fn old_place(rows: &TieredVector<Row>, change: &Change) -> Option<usize>
     requires { RowsAccept change.now rows.now.items }
     ensures within { IfSome result (λ place. place < length rows.now.items) }
     ensures place { IsOldPlace change.now rows.now.items result }
@@ -70,7 +70,7 @@ fn tune_at<D: Disk>(
     pages: &mut Pages<D>,
     work: &Work,
     layout: Layout,
-    rows: &VecDeque<Row>,
+    rows: &TieredVector<Row>,
     place: usize,
 ) -> Result<(u32, TuneText), Fault>
     requires open { pages.old.closed ≡ false }
@@ -90,7 +90,7 @@ fn tune_at<D: Disk>(
     ensures looks { LooksAt D.honest D.failures D.state result pages.old pages.new }
     ensures answer { AnswersRead result pages.old.closed pages.new.closed }
 {
-    let row = rows[place];
+    let row = rows.at(place);
     match read_tune(alloc, pages, work, layout, row.first) {
         Ok(text) => Ok((row.number, text)),
         Err(fault) => Err(fault),
@@ -104,7 +104,7 @@ fn old_tune<D: Disk>(
     pages: &mut Pages<D>,
     work: &Work,
     layout: Layout,
-    rows: &VecDeque<Row>,
+    rows: &TieredVector<Row>,
     change: &Change,
 ) -> Result<Option<(u32, TuneText)>, Fault>
     requires open { pages.old.closed ≡ false }
@@ -199,7 +199,7 @@ pub(crate) fn text_runs<D: Disk>(
     work: &Work,
     layout: Layout,
     notes: IncipitNotes,
-    rows: &VecDeque<Row>,
+    rows: &TieredVector<Row>,
     change: &Change,
 ) -> Result<TextRuns, Fault>
     requires open { pages.old.closed ≡ false }

@@ -1,6 +1,5 @@
 // Layout 2, laid on the pages of an archive of layout 1.
 ghost use Rattle.std.specs.Prelude.{◌≡◌, ℕ, List, false, length, IfOk, OnOk};
-ghost use Rattle.std.specs.VecDeque.{deque_capacity};
 ghost use Rattle.tune_pages.specs.Faults.{AnswersRead};
 ghost use Rattle.tune_pages.specs.FreePages.{TakesAtMost};
 ghost use Rattle.tune_pages.specs.Kept.{HonestAt};
@@ -29,7 +28,7 @@ use crate::next::{Next, RowChange};
 use crate::room::Room;
 use crate::tune_reading::read_tune_where;
 use std::alloc::Global;
-use std::collections::VecDeque;
+use tiered_vector::TieredVector;
 use tune_disk::Disk;
 use tune_format::{Firsts, Row};
 use tune_pages::{Fault, Pages, Work};
@@ -43,7 +42,7 @@ fn incipits_of<D: Disk>(
     pages: &mut Pages<D>,
     work: &Work,
     layout: Layout,
-    rows: &VecDeque<Row>,
+    rows: &TieredVector<Row>,
 ) -> Result<IncipitRun, Fault>
     requires open { pages.old.closed ≡ false }
     requires fits { Fits pages.old work.now }
@@ -63,7 +62,7 @@ fn incipits_of<D: Disk>(
         return Err(Fault::OutOfMemory);
     };
     for place in 0..rows.len() {
-        let row = &rows[place];
+        let row = rows.at(place);
         let text = match read_tune_where(alloc, pages, work, layout, row.first, false) {
             Ok(text) => text,
             Err(fault) => return Err(fault),
@@ -160,7 +159,7 @@ pub fn upgrade<D: Disk>(
         AreRows Two (rows_after next.rows contents.now.rows.items)) }
     ensures layout { IfOk result (λ next. next.layout ≡ Two) }
     ensures room { IfOk result (λ next.
-        FitsRows next.rows contents.now.rows.items (deque_capacity contents.now.rows)) }
+        FitsRows next.rows contents.now.rows.items contents.now.rows.room) }
     ensures fits { OnOk result (Fits pages.new work.new) }
     ensures looks { LooksAt D.honest D.failures D.state result pages.old pages.new }
     ensures answer { AnswersLay result pages.new.closed }

@@ -36,5 +36,5 @@ returns-clause-claimed g c = λ h some.
       firsts = named.firsts;
     } in
     subst (λ l. IsClaimed l contents c.claim_texts.new.opening.claimed) on
-    (rows.claimed h contents refl c.from.ensures.0 refl
+    (rows.claimed h contents refl c.from.ensures.items refl
     (lists_as _ c.args.opening.now.pages _ _ _ _ _ _ _ _ _ on refl c.deref.ensures.value (lists.claims one some)))

@@ -1,6 +1,5 @@
 use Rattle.std.proofs.Common.{◌≡◌, ℕ, length, IfOk, arith, subst, sym, vec_len}
 use Rattle.std.specs.List.{remove}
-use Rattle.std.specs.VecDeque.{deque_capacity}
 use Rattle.tune_store.specs.declared.plans.Change.{Change}
 use Rattle.tune_store.specs.declared.plans.Change.TheVariants.{Add, Put, Take, Move}
 use Rattle.tune_contents.specs.Claimed.{AreRows}
@@ -45,8 +44,8 @@ returns-in-Put-clause-made g c =
 pub returns-in-Put-clause-room : goal.returns-in-Put-clause-room
 returns-in-Put-clause-room g c =
     let rows = c.args.rows.now in
-    ok_one c.put_tune.result (λ made. IsSingle made rows.items) (λ made. FitsRows made rows.items (deque_capacity rows))
-    (λ made. single_fits made rows.items (deque_capacity rows))
+    ok_one c.put_tune.result (λ made. IsSingle made rows.items) (λ made. FitsRows made rows.items rows.room)
+    (λ made. single_fits made rows.items rows.room)
     c.put_tune.ensures.single
 
 pub returns-in-Take-clause-rows : goal.returns-in-Take-clause-rows
@@ -67,8 +66,8 @@ returns-in-Take-clause-made g c =
 pub returns-in-Take-clause-room : goal.returns-in-Take-clause-room
 returns-in-Take-clause-room g c =
     let rows = c.args.rows.now in
-    ok_one c.take_tune.result (λ made. IsSingle made rows.items) (λ made. FitsRows made rows.items (deque_capacity rows))
-    (λ made. single_fits made rows.items (deque_capacity rows))
+    ok_one c.take_tune.result (λ made. IsSingle made rows.items) (λ made. FitsRows made rows.items rows.room)
+    (λ made. single_fits made rows.items rows.room)
     c.take_tune.ensures.single
 
 pub returns-in-Move-clause-rows : goal.returns-in-Move-clause-rows
@@ -89,4 +88,4 @@ returns-in-Move-clause-made g c =
 pub returns-in-Move-clause-room : goal.returns-in-Move-clause-room
 returns-in-Move-clause-room g c =
     let rows = c.args.rows.now in
-    single_fits c.move_row.result rows.items (deque_capacity rows) c.move_row.ensures.single
+    single_fits c.move_row.result rows.items rows.room c.move_row.ensures.single

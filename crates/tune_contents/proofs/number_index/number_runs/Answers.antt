@@ -47,8 +47,8 @@ returns-in-Put-clause-entries c =
     (ok_two c.put_runs.result _ (λ runs. AllFit key_bytes runs.come.items)
     (λ runs. RowsRise 0 was → RowsRise 0 (slice_set was place row) → AllFit key_bytes (number_entries was)
     → inserted_all runs.come.items (removed_all runs.gone.items (number_entries was)) ≡ number_entries (slice_set was place row))
-    (λ runs puts own rise risen fit. put_entries was (slice_set was place row) place c.index.result.now runs.gone.items runs.come.items made rise risen
-    fit own row refl (subst (λ (r : Row). PutsRuns r row runs.gone.items runs.come.items) c.index.ensures puts))
+    (λ runs puts own rise risen fit. put_entries was (slice_set was place row) place c.at.result runs.gone.items runs.come.items made rise risen
+    fit own row refl (subst (λ (r : Row). PutsRuns r row runs.gone.items runs.come.items) c.at.ensures puts))
     c.put_runs.ensures.runs c.put_runs.ensures.fit)
 
 pub returns-in-Take-clause-entries : goal.returns-in-Take-clause-entries
@@ -61,8 +61,8 @@ returns-in-Take-clause-entries c =
     (ok_three c.runs_of-in-Take.result _ (λ runs. runs.come.items ≡ []) (λ runs. AllFit key_bytes runs.come.items)
     (λ runs. RowsRise 0 was → RowsRise 0 (remove was place) → AllFit key_bytes (number_entries was)
     → inserted_all runs.come.items (removed_all runs.gone.items (number_entries was)) ≡ number_entries (remove was place))
-    (λ runs gone come own rise risen fit. taken_entries was (remove was place) place c.index-in-Take.result.now runs.gone.items runs.come.items made rise risen
-    fit own refl (gone ∙ ap number_entries c.from_ref.ensures.value ∙ ap (λ (r : Row). number_entries (r ∷ [])) c.index-in-Take.ensures) come)
+    (λ runs gone come own rise risen fit. taken_entries was (remove was place) place c.at-in-Take.result runs.gone.items runs.come.items made rise risen
+    fit own refl (gone ∙ ap number_entries c.from_ref.ensures.value ∙ ap (λ (r : Row). number_entries (r ∷ [])) c.at-in-Take.ensures) come)
     c.runs_of-in-Take.ensures.gone c.runs_of-in-Take.ensures.come c.runs_of-in-Take.ensures.fit)
 
 pub returns-in-Move-clause-entries : goal.returns-in-Move-clause-entries
@@ -77,9 +77,9 @@ returns-in-Move-clause-entries c =
     (ok_three c.runs_of-in-Move.result _ (λ runs. runs.come.items ≡ number_entries c.from_ref-in-Move-2.result.now) (λ runs. AllFit key_bytes runs.come.items)
     (λ runs. RowsRise 0 was → RowsRise 0 (insert (remove was place) to row) → AllFit key_bytes (number_entries was)
     → inserted_all runs.come.items (removed_all runs.gone.items (number_entries was)) ≡ number_entries (insert (remove was place) to row))
-    (λ runs gone come own rise risen fit. moved_entries was (insert (remove was place) to row) place c.index-in-Move.result.now runs.gone.items runs.come.items
+    (λ runs gone come own rise risen fit. moved_entries was (insert (remove was place) to row) place c.at-in-Move.result runs.gone.items runs.come.items
     made.0 rise risen fit own to row made.1 refl
-    (gone ∙ ap number_entries c.from_ref-in-Move.ensures.value ∙ ap (λ (r : Row). number_entries (r ∷ [])) c.index-in-Move.ensures)
+    (gone ∙ ap number_entries c.from_ref-in-Move.ensures.value ∙ ap (λ (r : Row). number_entries (r ∷ [])) c.at-in-Move.ensures)
     (come ∙ ap number_entries c.from_ref-in-Move-2.ensures.value))
     c.runs_of-in-Move.ensures.gone c.runs_of-in-Move.ensures.come c.runs_of-in-Move.ensures.fit)
 
@@ -90,7 +90,7 @@ returns-in-Whole-clause-rising c =
     let held = c.deref-in-Whole.result.now in
     let made = subst (λ (m : RowChange). IsMadeOf m was) c.in-Whole.is c.requires in
     let joined = c.deref-in-Whole.ensures.value ∙ made.2.1 in
-    let count : c.len.result ≡ length was = omega (arith, c.len.ensures, c.args.was.now.ok.0) in
+    let count : c.len.result ≡ length was = c.len.ensures in
     let comes = subst (λ (n : ℕ). IfOk c.runs_of-in-Whole.result (λ runs. runs.come.items ≡ number_entries (take (length held - n) (drop n held)))) count
     c.runs_of-in-Whole.ensures.come in
     ok_two c.runs_of-in-Whole.result (λ runs. runs.come.items ≡ number_entries (take (length held - length was) (drop (length was) held)))
@@ -106,7 +106,7 @@ returns-in-Whole-clause-entries c =
     let held = c.deref-in-Whole.result.now in
     let made = subst (λ (m : RowChange). IsMadeOf m was) c.in-Whole.is c.requires in
     let joined = c.deref-in-Whole.ensures.value ∙ made.2.1 in
-    let count : c.len.result ≡ length was = omega (arith, c.len.ensures, c.args.was.now.ok.0) in
+    let count : c.len.result ≡ length was = c.len.ensures in
     let comes = subst (λ (n : ℕ). IfOk c.runs_of-in-Whole.result (λ runs. runs.come.items ≡ number_entries (take (length held - n) (drop n held)))) count
     c.runs_of-in-Whole.ensures.come in
     subst (λ (m : RowChange). IfOk c.runs_of-in-Whole.result (λ runs. RowsRise 0 was → RowsRise 0 (rows_after m was) → AllFit key_bytes (number_entries was)

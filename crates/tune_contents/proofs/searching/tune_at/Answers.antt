@@ -9,14 +9,14 @@ use Rattle.tune_contents.proofs.searching.tune_at.Goals as goal
 pub read_tune-requires-clause-there : goal.read_tune-requires-clause-there
 read_tune-requires-clause-there g c = λ h.
     (let s = stand c.args.pages.now c.args.work.now in
-    subst (λ (r : Row). HoldsSomeText c.args.layout s r.first) (sym c.index-row.ensures)
-    (some_text_there c.args.layout s c.args.rows.now.items c.args.place c.index-row.result.now c.requires.place (c.requires.holds h)))
+    subst (λ (r : Row). HoldsSomeText c.args.layout s r.first) (sym c.at-row.ensures)
+    (some_text_there c.args.layout s c.args.rows.now.items c.args.place c.at-row.result c.requires.place (c.requires.holds h)))
 
 pub returns-in-Ok-clause-tune : goal.returns-in-Ok-clause-tune
 returns-in-Ok-clause-tune g c = λ h ahead tunes are holds.
     (let s = stand c.args.pages.now c.args.work.now in
     let text : List ℕ = c.in-Ok.text in
-    let read = subst (λ (r : Row). (revision : ℕ) (other : List ℕ) → HoldsText c.args.layout s r.first revision other → text ≡ other) c.index-row.ensures
+    let read = subst (λ (r : Row). (revision : ℕ) (other : List ℕ) → HoldsText c.args.layout s r.first revision other → text ≡ other) c.at-row.ensures
     (c.in-Ok.ensures.text h) in
-    subst (λ (r : Row). IsTuneAt c.args.place tunes (Some (r.number, text))) (sym c.index-row.ensures)
-    (tune_read c.args.layout s ahead tunes c.args.rows.now.items c.args.place c.index-row.result.now text c.requires.place are holds read))
+    subst (λ (r : Row). IsTuneAt c.args.place tunes (Some (r.number, text))) (sym c.at-row.ensures)
+    (tune_read c.args.layout s ahead tunes c.args.rows.now.items c.args.place c.at-row.result text c.requires.place are holds read))

@@ -1,6 +1,6 @@
-use Rattle.std.specs.VecDeque.Iter.{deque_iter_rest}
+use Rattle.std.proofs.Common.{drop}
 use Rattle.tune_contents.proofs.RowTests.{RiseSoFar}
 use Rattle.tune_contents.proofs.tune_rows.are_rows.Given as goal
 
-abbrev pub invariant-loop-row : goal.invariant-loop-row
-invariant-loop-row l = RiseSoFar l.rows.items l.low (deque_iter_rest l.row-iterator)
+abbrev pub invariant-loop-place : goal.invariant-loop-place
+invariant-loop-place l = RiseSoFar l.rows.items l.low (drop l.place l.rows.items)

@@ -9,12 +9,12 @@ returns-in_default-clause-moves c = moves_none c.args.rows.now.items c.args.numb
 
 pub returns-clause-moves : goal.returns-clause-moves
 returns-clause-moves c =
-    moves_row c.args.rows.now.items c.args.number c.args.to c.in-Some.place c.place_among_others.result c.index-row.result.now c.in-Some.ensures.within
-    c.in-Some.ensures.found c.index-row.ensures c.place_among_others.ensures.within c.place_among_others.ensures.after
+    moves_row c.args.rows.now.items c.args.number c.args.to c.in-Some.place c.place_among_others.result c.at-row.result c.in-Some.ensures.within
+    c.in-Some.ensures.found c.at-row.ensures c.place_among_others.ensures.within c.place_among_others.ensures.after
 
 pub returns-clause-rows : goal.returns-clause-rows
 returns-clause-rows c = λ layout are none some most.
-    (let row : Row = c.index-row.result.now in
+    (let row : Row = c.at-row.result in
     let new : Row = record { number = c.args.to; revision = row.revision; first = row.first; length = row.length } in
     rows_moved c.args.rows.now.items c.args.to c.in-Some.place c.place_among_others.result new c.in-Some.ensures.within c.place_among_others.ensures.within
     c.place_among_others.ensures.after refl are none some most)

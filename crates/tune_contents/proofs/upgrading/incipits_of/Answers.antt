@@ -17,11 +17,11 @@ read_tune_where-requires-clause-there g c = λ h.
     let rows = c.args.rows.now.items in
     let at = c.loop-place.place in
     let same = stand_kept g.D.Disk.honest c.args.pages.now c.loop-place.pages c.args.work.now looked.same in
-    let within : at < length rows = omega (arith, c.loop-place-test.true, c.args.rows.now.ok.0) in
-    let there = some_text_there c.args.layout (stand c.args.pages.now c.args.work.now) rows at c.index-row.result.now within
+    let within : at < length rows = omega (arith, c.loop-place-test.true) in
+    let there = some_text_there c.args.layout (stand c.args.pages.now c.args.work.now) rows at c.at-row.result within
     (c.requires.holds (looked.was_honest h)) in
-    subst (λ (s : Stand). HoldsSomeText c.args.layout s c.index-row.result.now.first) (sym (same.same h))
-    (subst (λ (r : Row). HoldsSomeText c.args.layout (stand c.args.pages.now c.args.work.now) r.first) (sym c.index-row.ensures) there))
+    subst (λ (s : Stand). HoldsSomeText c.args.layout s c.at-row.result.first) (sym (same.same h))
+    (subst (λ (r : Row). HoldsSomeText c.args.layout (stand c.args.pages.now c.args.work.now) r.first) (sym c.at-row.ensures) there))
 
 pub loop-place-preserved : goal.loop-place-preserved
 loop-place-preserved g c =
@@ -31,8 +31,8 @@ loop-place-preserved g c =
     let at = c.loop-place.place in
     let text : List ℕ = c.in-Ok-read_tune_where.text in
     let same = stand_kept g.D.Disk.honest c.args.pages.now c.loop-place.pages c.args.work.now inv.looked.same in
-    let within : at < length rows = omega (arith, c.loop-place-test.true, c.args.rows.now.ok.0) in
-    let is : c.index-row.result.now ≡ get_or rows at some_row = c.index-row.ensures ∙ get_or_default rows at _ some_row within in
+    let within : at < length rows = omega (arith, c.loop-place-test.true) in
+    let is : c.at-row.result ≡ get_or rows at some_row = c.at-row.ensures ∙ get_or_default rows at _ some_row within in
     let read = subst (λ (r : Row). HonestAt g.D.Disk.honest c.read_tune_where.new.pages.disk → (revision : ℕ) (other : List ℕ)
     → HoldsText c.args.layout (stand c.loop-place.pages c.args.work.now) r.first revision other → text ≡ other) is call.text in
     let added = subst (λ (r : Row). (tunes : List (ℕ × List ℕ)) → GathersIncipits tunes c.loop-place.run
@@ -52,14 +52,14 @@ returns-clause-some g c =
     let so = c.loop-place.invariant.gathers in (
       so.texts,
       texts_ordered (HonestAt g.D.Disk.honest c.loop-place.pages.disk) c.args.layout (stand c.args.pages.now c.args.work.now) c.args.rows.now.items
-          c.loop-place.place c.loop-place.run c.in_order.result (omega (arith, c.loop-place-test.false, c.args.rows.now.ok.0))
+          c.loop-place.place c.loop-place.run c.in_order.result (omega (arith, c.loop-place-test.false))
           c.requires.rows so c.in_order.ensures,
     )
 
 pub returns-clause-run : goal.returns-clause-run
 returns-clause-run g c =
     tunes_ordered (HonestAt g.D.Disk.honest c.loop-place.pages.disk) c.args.layout (stand c.args.pages.now c.args.work.now) c.args.rows.now.items
-    c.loop-place.place c.loop-place.run c.in_order.result (omega (arith, c.loop-place-test.false, c.args.rows.now.ok.0))
+    c.loop-place.place c.loop-place.run c.in_order.result (omega (arith, c.loop-place-test.false))
     c.requires.rows c.loop-place.invariant.gathers c.in_order.ensures
 
 pub returns-clause-stand : goal.returns-clause-stand

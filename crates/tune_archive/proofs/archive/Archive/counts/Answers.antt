@@ -16,7 +16,7 @@ returns-clause-counts g c =
     let held = subst P c.self.view_is c.self.invariant.holds honest is_open in
     let same : c.self.inside.contents ≡ c.args.self.now.contents = ap (λ (s : Shelf g.row.D.Denot). s.contents) c.self.view_is in (
       c.number.ensures ∙ ap layout_number (ap (λ (x : Contents). x.layout) same ∙ held.holds.layout),
-      c.len.ensures ∙ c.self.inside.contents.rows.ok.0 ∙ ap (λ (x : Contents). length x.rows.items) same
+      c.len.ensures ∙ ap (λ (x : Contents). length x.rows.items) same
           ∙ rows_held _ c.args.self.now.contents _ held.holds,
       ap length (c.as_slice.ensures.value ∙ ap (λ (x : Contents). x.sets) same ∙ held.holds.sets),
     ))

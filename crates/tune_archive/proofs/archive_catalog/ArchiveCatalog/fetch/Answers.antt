@@ -16,8 +16,8 @@ read_text-requires-clause-there g c = λ h.
     let held = c.self.invariant.holds h c.if-self.false in
     let labelled : c.args.place < length (labels_in contents.rows.items) =
     subst (λ (s : Shelf g.row.D.Denot). c.args.place < length (labels_in s.contents.rows.items)) (sym c.self.view_is) c.requires in
-    some_text (stand_of pages) contents (state_on g.D.Disk.state pages.disk) c.args.place c.index.result.now.first c.index.result.now held.holds held.within
-    (place_inside contents.rows.items c.args.place labelled) (ap (λ (row : Row). row.first) c.index.ensures))
+    some_text (stand_of pages) contents (state_on g.D.Disk.state pages.disk) c.args.place c.at-first.result.first c.at-first.result held.holds held.within
+    (place_inside contents.rows.items c.args.place labelled) (ap (λ (row : Row). row.first) c.at-first.ensures))
 
 pub invariant_of-self : goal.invariant_of-self
 invariant_of-self g c =
@@ -46,6 +46,6 @@ returns-in-Ok g c =
     (λ (s : Shelf g.row.D.Denot).
     Fetches g.D.Disk.honest g.D.Disk.failures g.D.Disk.state s new × HasFetched g.D.Disk.honest g.D.Disk.state new c.args.place)
     c.self.view_is
-    (fetches g.D.Disk.honest g.D.Disk.failures g.D.Disk.state old new c.args.place c.index.result.now.first c.index.result.now last c.self.invariant
-    c.if-self.false (place_inside contents.rows.items c.args.place labelled) (ap (λ (row : Row). row.first) c.index.ensures)
+    (fetches g.D.Disk.honest g.D.Disk.failures g.D.Disk.state old new c.args.place c.at-first.result.first c.at-first.result last c.self.invariant
+    c.if-self.false (place_inside contents.rows.items c.args.place labelled) (ap (λ (row : Row). row.first) c.at-first.ensures)
     c.in-Ok.ensures.looks c.in-Ok.ensures.text refl refl refl)

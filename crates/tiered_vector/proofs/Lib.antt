@@ -1,0 +1,6 @@
+pub mod Behind
+pub mod Joined
+pub mod Lists
+pub mod Slots
+pub mod Tiers
+pub mod Turning

@@ -1,0 +1,28 @@
+use Rattle.std.proofs.Common.{◌*◌, ◌≤◌, length, set, take, arith, ap, ◌∙◌, length-take}
+use Rattle.tiered_vector.specs.Tiers.{tiered}
+use Rattle.tiered_vector.proofs.Joined.{length-tiered}
+use Rattle.tiered_vector.proofs.Slots.{item_put, slot_within}
+use Rattle.tiered_vector.proofs.tiered_vector.TieredVector.put.Goals as goal
+
+pub index_mut-requires : goal.index_mut-requires
+index_mut-requires g c =
+    let inside = c.self.inside in
+    let turns = take inside.rings inside.turns in
+    let items = inside.items.items in
+    let is = ap (λ all. all.items) c.self.view_is in
+    let count = length-take inside.rings inside.turns in
+    let enough : 256 * length turns ≤ length items = omega (arith, c.self.invariant.1) in
+    let lengths = length-tiered turns items in
+    let same = ap length is in
+    let slot = slot_within turns c.args.place (length items) enough (omega arith) in omega (arith, c.slot-slot.ensures)
+
+pub returns-clause-items : goal.returns-clause-items
+returns-clause-items g c =
+    let inside = c.self.inside in
+    let turns = take inside.rings inside.turns in
+    let items = inside.items.items in
+    let is = ap (λ all. all.items) c.self.view_is in
+    let count = length-take inside.rings inside.turns in
+    let enough : 256 * length turns ≤ length items = omega (arith, c.self.invariant.1) in
+    ap (λ n. tiered turns (set items n c.args.item)) c.slot-slot.ensures ∙ item_put turns items c.args.place c.args.item c.self.invariant.2 enough
+    ∙ ap (λ xs. set xs c.args.place c.args.item) is
