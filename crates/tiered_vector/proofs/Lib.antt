@@ -1,4 +1,5 @@
 pub mod Behind
+pub mod Held
 pub mod Joined
 pub mod Lists
 pub mod Slots

@@ -1,18 +1,14 @@
-use Rattle.std.proofs.Common.{◌*◌, ◌≤◌, ◌++◌, length, take, arith, ap, ◌∙◌, length-take}
+use Rattle.std.proofs.Common.{◌++◌, take, arith, ap, ◌∙◌}
 use Rattle.tiered_vector.specs.Tiers.{tiered}
-use Rattle.tiered_vector.proofs.Joined.{are_turns_more, items_put_behind, length-tiered, more_straight_rings}
+use Rattle.tiered_vector.proofs.Held.{enough_held, length_held}
+use Rattle.tiered_vector.proofs.Joined.{are_turns_more, items_put_behind, more_straight_rings}
 use Rattle.tiered_vector.proofs.tiered_vector.TieredVector.append.Goals as goal
 
 pub unwrap-requires : goal.unwrap-requires
 unwrap-requires g c =
     let inside = c.self.inside in
-    let turns = take inside.rings inside.turns in
-    let items = inside.items.items in
     let is = ap (λ all. all.items) c.self.view_is in
-    let count = length-take inside.rings inside.turns in
-    let enough : 256 * length turns ≤ length items = omega (arith, c.self.invariant.1) in
-    let lengths = length-tiered turns items in
-    let same = ap length is in
+    let same = length_held (take inside.rings inside.turns) inside.items.items c.args.self.now.items is in
     let room = ap (λ all. all.room) c.self.view_is in
     c.extend_from_slice.ensures.succeeds (omega arith)
 
@@ -27,8 +23,7 @@ returns g c =
     let turns = take inside.rings inside.turns in
     let items = inside.items.items in
     let is = ap (λ all. all.items) c.self.view_is in
-    let count = length-take inside.rings inside.turns in
-    let enough : 256 * length turns ≤ length items = omega (arith, c.self.invariant.1) in
+    let enough = enough_held inside.rings inside.turns items c.self.invariant.1 in
     let put = rw c.unwrap.ensures at c.extend_from_slice.ensures.items in
     let more = c.args.more.now in
     record {

@@ -1,5 +1,5 @@
-use Rattle.std.proofs.Common.{◌*◌, ◌≤◌, length, get_or, take, arith, ap, sym, ◌∙◌, length-take}
-use Rattle.tiered_vector.proofs.Joined.{length-tiered}
+use Rattle.std.proofs.Common.{length, get_or, take, arith, ap, sym, ◌∙◌}
+use Rattle.tiered_vector.proofs.Held.{enough_held, length_held}
 use Rattle.tiered_vector.proofs.Slots.{item_at, slot_within}
 use Rattle.tiered_vector.proofs.tiered_vector.TieredVector.at.Goals as goal
 
@@ -9,10 +9,8 @@ index-requires g c =
     let turns = take inside.rings inside.turns in
     let items = inside.items.items in
     let is = ap (λ all. all.items) c.self.view_is in
-    let count = length-take inside.rings inside.turns in
-    let enough : 256 * length turns ≤ length items = omega (arith, c.self.invariant.1) in
-    let lengths = length-tiered turns items in
-    let same = ap length is in
+    let enough = enough_held inside.rings inside.turns items c.self.invariant.1 in
+    let same = length_held turns items c.args.self.now.items is in
     let slot = slot_within turns c.args.place (length items) enough (omega arith) in omega (arith, c.slot.ensures)
 
 pub returns : goal.returns
@@ -21,8 +19,7 @@ returns g c =
     let turns = take inside.rings inside.turns in
     let items = inside.items.items in
     let is = ap (λ all. all.items) c.self.view_is in
-    let count = length-take inside.rings inside.turns in
-    let enough : 256 * length turns ≤ length items = omega (arith, c.self.invariant.1) in
+    let enough = enough_held inside.rings inside.turns items c.self.invariant.1 in
     let x = c.index.result.now in
     c.index.ensures ∙ ap (λ n. get_or items n x) c.slot.ensures ∙ sym (item_at turns items c.args.place x c.self.invariant.2 enough)
     ∙ ap (λ xs. get_or xs c.args.place x) is

@@ -1,15 +1,10 @@
-use Rattle.std.proofs.Common.{◌*◌, ◌≤◌, length, take, arith, ap, length-take}
-use Rattle.tiered_vector.proofs.Joined.{length-tiered}
+use Rattle.std.proofs.Common.{take, arith, ap}
+use Rattle.tiered_vector.proofs.Held.{length_held}
 use Rattle.tiered_vector.proofs.tiered_vector.TieredVector.len.Goals as goal
 
 pub returns : goal.returns
 returns g c =
     let inside = c.self.inside in
-    let turns = take inside.rings inside.turns in
-    let items = inside.items.items in
     let is = ap (λ all. all.items) c.self.view_is in
-    let count = length-take inside.rings inside.turns in
-    let enough : 256 * length turns ≤ length items = omega (arith, c.self.invariant.1) in
-    let lengths = length-tiered turns items in
-    let same = ap length is in
+    let same = length_held (take inside.rings inside.turns) inside.items.items c.args.self.now.items is in
     omega (arith, c.len.ensures)

@@ -1,6 +1,6 @@
-use Rattle.std.proofs.Common.{◌*◌, ◌≤◌, length, set, take, arith, ap, ◌∙◌, length-take}
+use Rattle.std.proofs.Common.{length, set, take, arith, ap, ◌∙◌}
 use Rattle.tiered_vector.specs.Tiers.{tiered}
-use Rattle.tiered_vector.proofs.Joined.{length-tiered}
+use Rattle.tiered_vector.proofs.Held.{enough_held, length_held}
 use Rattle.tiered_vector.proofs.Slots.{item_put, slot_within}
 use Rattle.tiered_vector.proofs.tiered_vector.TieredVector.put.Goals as goal
 
@@ -10,10 +10,8 @@ index_mut-requires g c =
     let turns = take inside.rings inside.turns in
     let items = inside.items.items in
     let is = ap (λ all. all.items) c.self.view_is in
-    let count = length-take inside.rings inside.turns in
-    let enough : 256 * length turns ≤ length items = omega (arith, c.self.invariant.1) in
-    let lengths = length-tiered turns items in
-    let same = ap length is in
+    let enough = enough_held inside.rings inside.turns items c.self.invariant.1 in
+    let same = length_held turns items c.args.self.now.items is in
     let slot = slot_within turns c.args.place (length items) enough (omega arith) in omega (arith, c.slot-slot.ensures)
 
 pub returns-clause-items : goal.returns-clause-items
@@ -22,7 +20,6 @@ returns-clause-items g c =
     let turns = take inside.rings inside.turns in
     let items = inside.items.items in
     let is = ap (λ all. all.items) c.self.view_is in
-    let count = length-take inside.rings inside.turns in
-    let enough : 256 * length turns ≤ length items = omega (arith, c.self.invariant.1) in
+    let enough = enough_held inside.rings inside.turns items c.self.invariant.1 in
     ap (λ n. tiered turns (set items n c.args.item)) c.slot-slot.ensures ∙ item_put turns items c.args.place c.args.item c.self.invariant.2 enough
     ∙ ap (λ xs. set xs c.args.place c.args.item) is
