@@ -1,4 +1,4 @@
-use Rattle.std.proofs.Common.{◌≡◌, ℕ, ◌-◌, ◌++◌, [], ◌∷◌, IfOk, arith, take, drop, length, slice_set, subst, sym, ◌∙◌, ap, refl}
+use Rattle.std.proofs.Common.{◌≡◌, ℕ, ◌-◌, ◌++◌, [], ◌∷◌, IfOk, take, drop, length, slice_set, subst, sym, ◌∙◌, ap, refl}
 use Rattle.std.specs.List.{insert, remove}
 use Rattle.index_keys.specs.Entries.{AllFit, IsRising, inserted_all, removed_all}
 use Rattle.tune_search.specs.Searches.{key_bytes}
