@@ -1,7 +1,8 @@
 // Bytes that a value owns, and the texts of tunes among them.
 ghost use Rattle.std.specs.Prelude.{◌≡◌, ◌≤◌, ℕ, List, length, map, IfOk, IfErr, IfSome, Some};
-ghost use Rattle.std.specs.Prelude.{IsTrue, false};
+ghost use Rattle.std.specs.Prelude.{◌↔◌, ◌++◌, ◌∷◌, [], IsTrue, codes, false};
 ghost use Rattle.std.specs.List.{AllByRecursion};
+ghost use Rattle.abc_fields.specs.Bytes.{line_feed};
 ghost use Rattle.abc_fields.specs.Lines.{lines_of, spans_of, SpansRise};
 ghost use Rattle.abc_fields.specs.LineKinds.{part_open_after};
 ghost use Rattle.abc_fields.specs.Fields.{header_of, key_text_of, body_spans};
@@ -140,6 +141,40 @@ impl TuneText {
             told,
             plain,
         })
+    }
+
+    /// The shortest tune text: a line `K:`. Its only error is out of memory.
+    pub fn shortest(alloc: Global) -> Result<TuneText, AllocError>
+        ensures { IfOk result (λ text. text ≡ codes "K:" ++ line_feed ∷ []) }
+    {
+        Ok(TuneText::from_vec(Vec::from_slice(alloc, b"K:\n")?))
+    }
+
+    /// Puts these bytes in the place of the text, where they are a tune text of at most `longest`
+    /// bytes, which is at most 64,000; else the text stays. They go where the text was, so that of
+    /// many texts that are read one after another few take memory. Its only error is out of memory.
+    #[inline(always)]
+    pub fn read_stored(&mut self, bytes: &[u8], longest: usize) -> Result<bool, AllocError>
+        requires { longest ≤ longest_tune }
+        ensures text { IfOk result (λ is. IsTrue is → self.new ≡ bytes.now) }
+        ensures good { IfOk result (λ is. IsTrue is ↔ IsTextWithin longest bytes.now) }
+        ensures stays { IfOk result (λ is. is ≡ false → self.new ≡ self.old) }
+        ensures err { IfErr result (λ _. self.new ≡ self.old) }
+    {
+        if bytes.len() > longest {
+            return Ok(false);
+        }
+        let plain = is_plain(bytes);
+        let Some((key, told)) = key_of_stored(bytes, plain) else {
+            return Ok(false);
+        };
+        self.text.reserve(bytes.len())?;
+        self.text.clear();
+        self.text.extend_from_slice(bytes).unwrap();
+        self.key = Some(key);
+        self.told = told;
+        self.plain = plain;
+        Ok(true)
     }
 
     /// The bytes of the text.

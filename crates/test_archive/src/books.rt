@@ -13,6 +13,7 @@
 //                          `tune` where so many letters A with this text behind them are the text
 //                          of a tune of at most so many bytes; `handed back` where they are not
 ghost use Rattle.std.specs.Prelude.{◌≤◌};
+ghost use Rattle.abc_fields.specs.Limits.{longest_tune};
 
 use crate::answer::Answer;
 use crate::arguments::{Arguments, no_data};
@@ -24,6 +25,9 @@ use tune_books::{write_book, write_set};
 
 // The greatest length of a tune's text that may be asked for.
 const LONGEST: usize = 64_000;
+
+// The shortest text of a tune.
+const SHORTEST: &[u8] = b"K:\n";
 
 /// The texts of the tunes of a book.
 #[derive(Drop)]
@@ -155,7 +159,8 @@ fn copy_bytes(alloc: Global, mut given: Arguments, answer: &mut Answer) -> io::R
 }
 
 // Whether stored bytes are the text of a tune with at most so many bytes: letters, so many of them,
-// and then a text. They are the bytes of the text, or are handed back.
+// and then a text. They are the bytes of the text, or are handed back; and they come in the place
+// of another text, or that stays.
 fn show_stored(alloc: Global, mut given: Arguments, answer: &mut Answer) -> io::Result<()> {
     let longest = given.size()?;
     let mut stored = vec![in alloc; b'A'; given.size()?]?;
@@ -163,9 +168,24 @@ fn show_stored(alloc: Global, mut given: Arguments, answer: &mut Answer) -> io::
     if longest > LONGEST {
         return Err(no_data());
     }
+    let is_read = is_read_in_place(alloc, &stored, longest)?;
     match TuneText::from_stored(ByteText::copy_of(alloc, &stored)?, longest) {
-        Ok(tune) if tune.bytes() == stored.as_slice() => answer.say("tune"),
-        Err(back) if back.as_slice() == stored.as_slice() => answer.say("handed back"),
+        Ok(tune) if is_read && tune.bytes() == stored.as_slice() => answer.say("tune"),
+        Err(back) if !is_read && back.as_slice() == stored.as_slice() => answer.say("handed back"),
         _ => answer.say("other bytes"),
+    }
+}
+
+// Whether stored bytes come in the place of the shortest text, which has to stay else.
+fn is_read_in_place(alloc: Global, stored: &[u8], longest: usize) -> io::Result<bool>
+    requires { longest ≤ longest_tune }
+{
+    let mut text = TuneText::shortest(alloc)?;
+    let is_read = text.read_stored(stored, longest)?;
+    let wanted = if is_read { stored } else { SHORTEST };
+    if text.bytes() == wanted {
+        Ok(is_read)
+    } else {
+        Err(no_data())
     }
 }

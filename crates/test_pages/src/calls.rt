@@ -49,6 +49,7 @@ pub(crate) enum WorkCall<'a> {
     ReadPage(u32),
     ReadBytes(u32, usize, usize),
     ReadChain(u32),
+    IsAskedAgain(u32),
     InUse(u32),
     Finish,
 }
@@ -124,6 +125,7 @@ impl<'a> WorkCall<'a> {
             "read-page" => Some(WorkCall::ReadPage(page(rest, at)?)),
             "read-bytes" => read_bytes(rest, at),
             "read-chain" => Some(WorkCall::ReadChain(page(rest, at)?)),
+            "is-asked-again" => Some(WorkCall::IsAskedAgain(page(rest, at)?)),
             "in-use" => Some(WorkCall::InUse(page(rest, at)?)),
             "finish" => Some(WorkCall::Finish),
             _ => None,

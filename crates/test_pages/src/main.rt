@@ -23,10 +23,10 @@
 //!
 //! Those of a work are `allocate`, `free PAGE`, `put-page PAGE BYTES`, `put-chain BYTES`,
 //! `free-chain FIRST`, `read-page PAGE`, `read-bytes PAGE FROM TO`, `read-chain FIRST`,
-//! `in-use COUNT` (which of the first pages are in use: `+`, or else `-`), `reserve PAGES BYTES`
-//! (memory for so many more pages, and for so many bytes of chains), `finish`, and
-//! `put-link PAGE NEXT SIZE`, a page of a chain that somebody forged, of bytes 0x41. A work of
-//! which a call is refused is dropped.
+//! `is-asked-again PAGE`, `in-use COUNT` (which of the first pages are in use: `+`, or else `-`),
+//! `reserve PAGES BYTES` (memory for so many more pages, and for so many bytes of chains),
+//! `finish`, and `put-link PAGE NEXT SIZE`, a page of a chain that somebody forged, of bytes 0x41.
+//! A work of which a call is refused is dropped.
 //!
 //! `close` hands the disk back. The form of bytes is in `bytes.rt`. The program prints a line for
 //! each case, and how many came out as written; where one did not, it ends with status 1.

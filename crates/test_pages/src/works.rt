@@ -28,6 +28,11 @@ pub(crate) fn call_work(
         WorkCall::ReadPage(page) => read_page(begun, page, 0, 4096, answer),
         WorkCall::ReadBytes(page, from, to) => read_page(begun, page, from, to, answer),
         WorkCall::ReadChain(first) => read_chain(begun, first, answer),
+        WorkCall::IsAskedAgain(page) => {
+            let Begun { mut pages, work } = begun;
+            write!(answer, "{}", pages.is_asked_again(page))?;
+            Ok(Held::Begun(Begun { pages, work }))
+        }
         WorkCall::InUse(count) => {
             show_used(&begun.pages, &begun.work, count, answer)?;
             Ok(Held::Begun(begun))

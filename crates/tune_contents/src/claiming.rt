@@ -33,10 +33,9 @@ ghost use Rattle.tune_contents.specs.declared.contents.Contents.{Contents};
 
 use crate::contents::Contents;
 use crate::layout_notes::incipit_notes;
-use abc_fields::{ByteText, MOST_TITLES, TuneText};
+use abc_fields::{MOST_TITLES, TuneText};
 use index_keys::EntryList;
 use std::alloc::{AllocError, Global};
-use std::mem;
 use tiered_vector::TieredVector;
 use tune_disk::Disk;
 use tune_format::{Firsts, Row, number_of_key, read_root, read_text};
@@ -230,8 +229,6 @@ fn claim_searches<D: Disk>(
 struct ReadChain {
     image: PageImage,
     bytes: Vec<u8>,
-    // where the text is kept of a tune whose chain it is, so that no tune takes memory of its own
-    text: Vec<u8>,
 }
 
 impl ReadChain {
@@ -240,7 +237,6 @@ impl ReadChain {
         ReadChain {
             image: PageImage::blank(),
             bytes: Vec::new(alloc),
-            text: Vec::new(alloc),
         }
     }
 }
@@ -422,22 +418,34 @@ fn claim_tunes<D: Disk>(
     ensures looks { LooksOpening D.honest D.failures D.state result opening.old opening.new }
 {
     let mut chain = ReadChain::new(alloc);
+    let mut text = shortest_text(alloc)?;
     for place in 0..rows.len() {
         let row = &rows[place];
-        rows[place] = claim_tune(alloc, opening, layout, row, place, claims, &mut chain)?;
+        rows[place] = claim_tune(opening, layout, row, place, claims, &mut chain, &mut text)?;
     }
     Ok(())
 }
 
-// Claims the tune of a row, whose number, at this place, has to stand at the keys of its text.
+// The shortest text of a tune, for texts to come in its place.
+fn shortest_text(alloc: Global) -> Result<TuneText, ClaimFault>
+    ensures { IfErr result (λ fault. fault ≡ ClaimFault.OutOfMemory) }
+{
+    match TuneText::shortest(alloc) {
+        Ok(text) => Ok(text),
+        Err(_) => Err(ClaimFault::OutOfMemory),
+    }
+}
+
+// Claims the tune of a row, whose number, at this place, has to stand at the keys of its text. The
+// chain and the text are where those of the tune are read, so that no tune takes memory of its own.
 fn claim_tune<D: Disk>(
-    alloc: Global,
     opening: &mut Opening<D>,
     layout: Layout,
     row: &Row,
     place: usize,
     claims: &SearchClaims,
     chain: &mut ReadChain,
+    text: &mut TuneText,
 ) -> Result<Row, ClaimFault>
     requires place { place < length claims.now.numbers }
     requires number { slice_index claims.now.numbers place ≡ row.now.number }
@@ -454,50 +462,39 @@ fn claim_tune<D: Disk>(
 {
     let most = pages_for(layout.longest_text() + REVISION_BYTES);
     claim_part(opening, row.first, most, chain)?;
-    let (text, revision) = text_of(alloc, layout, chain)?;
-    let length = text.bytes().len() as u32;
-    let claimed = claims.claim_tune(place, &text);
-    chain.text = text.into_vec();
-    if !claimed {
+    let revision = take_text(layout, &chain.bytes, text)?;
+    if !claims.claim_tune(place, text) {
         return Err(ClaimFault::Damaged);
     }
     Ok(Row {
         number: row.number,
         revision,
         first: row.first,
-        length,
+        length: text.bytes().len() as u32,
     })
 }
 
-// The text of the tune of a chain, in the memory that the chain has for it, and its revision.
+// Puts the text of the tune whose chain has these bytes in the place of another one, and gives its
+// revision.
 #[inline(always)]
-fn text_of(
-    alloc: Global,
-    layout: Layout,
-    chain: &mut ReadChain,
-) -> Result<(TuneText, u16), ClaimFault>
-    ensures ok { IfOk result (λ read.
-        IsTuneChain layout chain.old.bytes.items read.1 read.0) }
-    ensures only { IfOk result (λ read. (revision : ℕ) (text : List ℕ)
-        → IsTuneChain layout chain.old.bytes.items revision text → text ≡ read.0) }
-    ensures damaged { IfErr result (λ fault. IsChainFault fault ((revision : ℕ) × (text : List ℕ)
-        × IsTuneChain layout chain.old.bytes.items revision text)) }
+fn take_text(layout: Layout, bytes: &[u8], text: &mut TuneText) -> Result<u16, ClaimFault>
+    ensures ok { IfOk result (λ revision. IsTuneChain layout bytes.now revision text.new) }
+    ensures only { IfOk result (λ _. (revision : ℕ) (other : List ℕ)
+        → IsTuneChain layout bytes.now revision other → other ≡ text.new) }
+    ensures damaged { IfErr result (λ fault. IsChainFault fault ((revision : ℕ)
+        × (other : List ℕ) × IsTuneChain layout bytes.now revision other)) }
     ensures err { IfErr result (λ fault. fault ≢ ClaimFault.Device) }
 {
-    let Some((revision, text)) = read_text(&chain.bytes) else {
+    let Some((revision, stored)) = read_text(bytes) else {
         return Err(ClaimFault::Damaged);
     };
     if revision == 0 || revision > GREATEST_REVISION {
         return Err(ClaimFault::Damaged);
     }
-    chain.text.clear();
-    if chain.text.extend_from_slice(text).is_err() {
-        return Err(ClaimFault::OutOfMemory);
-    }
-    let text = ByteText::from_vec(mem::replace(&mut chain.text, Vec::new(alloc)));
-    match TuneText::from_stored(text, layout.longest_text()) {
-        Ok(text) => Ok((text, revision)),
-        Err(_) => Err(ClaimFault::Damaged),
+    match text.read_stored(stored, layout.longest_text()) {
+        Ok(true) => Ok(revision),
+        Ok(false) => Err(ClaimFault::Damaged),
+        Err(_) => Err(ClaimFault::OutOfMemory),
     }
 }
 

@@ -30,7 +30,7 @@ ghost use Rattle.tune_contents.specs.Inside.Searching.{IsOldTune, IsSomeRun, IsT
 ghost use Rattle.tune_contents.specs.Inside.Searching.{PutsIn, PutsTexts, TakesOut, TakesSome};
 ghost use Rattle.tune_contents.specs.Inside.Searching.{TakesTexts, coming, search_pages};
 
-use crate::tune_reading::read_tune;
+use crate::tune_reading::read_tune_where;
 use crate::tune_rows::place_of;
 use abc_fields::TuneText;
 use std::alloc::Global;
@@ -91,7 +91,7 @@ fn tune_at<D: Disk>(
     ensures answer { AnswersRead result pages.old.closed pages.new.closed }
 {
     let row = rows.at(place);
-    match read_tune(alloc, pages, work, layout, row.first) {
+    match read_tune_where(alloc, pages, work, layout, row.first, true) {
         Ok(text) => Ok((row.number, text)),
         Err(fault) => Err(fault),
     }

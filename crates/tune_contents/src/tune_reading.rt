@@ -13,7 +13,8 @@ use tune_format::read_text;
 use tune_pages::{Fault, Pages, Work};
 use tune_store::Layout;
 
-/// Reads the text of the tune whose chain begins at `first`, as the work stands.
+/// Reads the text of the tune whose chain begins at `first`, as the work stands. Images of its
+/// pages are kept where it is read again: most questions read many tunes once.
 ///
 /// # Errors
 ///
@@ -39,7 +40,8 @@ pub fn read_tune<D: Disk>(
     ensures looks { LooksAt D.honest D.failures D.state result pages.old pages.new }
     ensures answer { AnswersRead result pages.old.closed pages.new.closed }
 {
-    read_tune_where(alloc, pages, work, layout, first, true)
+    let keeps = pages.is_asked_again(first);
+    read_tune_where(alloc, pages, work, layout, first, keeps)
 }
 
 // The same. Images of its pages are kept where `keeps` says so.

@@ -9,11 +9,15 @@ use crate::link::add_link;
 use lru::LruCache;
 use std::alloc::Global;
 use std::marker::Model;
+use std::mem;
 use std::num::NonZeroUsize;
 use tune_journal::{Changes, PageImage};
 
 // How many images are kept at most.
 const MOST: usize = 1024;
+
+// How many pages are remembered that were asked about.
+const REMEMBERED: usize = 1024;
 
 // Images of pages, of those that were asked for last. Contracts see a list of pages with their
 // images, the one that was asked for last first.
@@ -22,6 +26,8 @@ pub(crate) struct CachedImages {
     alloc: Global,
     // none before the first image is kept, so that making it takes no memory
     cache: Option<LruCache<u32, Box<PageImage>>>,
+    // pages that were asked about, the last one of each remainder; none before the first
+    asked: Vec<u32>,
 }
 
 impl Model for CachedImages {
@@ -40,7 +46,25 @@ impl CachedImages {
     pub(crate) fn new(alloc: Global) -> CachedImages
         ensures { result ≡ [] }
     {
-        CachedImages { alloc, cache: None }
+        CachedImages {
+            alloc,
+            cache: None,
+            asked: Vec::new(alloc),
+        }
+    }
+
+    // Whether this was asked of the page before, and since then of no other page with the same
+    // remainder. Where there is no memory to remember it, it was not.
+    pub(crate) fn is_asked_again(&mut self, page: u32) -> bool
+        ensures { self.new ≡ self.old }
+    {
+        if self.asked.is_empty() {
+            self.asked = none_asked(self.alloc);
+        }
+        match self.asked.get_mut(page as usize % REMEMBERED) {
+            Some(last) => mem::replace(last, page) == page,
+            None => false,
+        }
     }
 
     // How many images are kept.
@@ -112,6 +136,14 @@ impl CachedImages {
             return;
         }
         self.cache = empty_cache(self.alloc);
+    }
+}
+
+// That no page was asked about but the root; nothing where there is no memory for it.
+fn none_asked(alloc: Global) -> Vec<u32> {
+    match vec![in alloc; 0; REMEMBERED] {
+        Ok(asked) => asked,
+        Err(_) => Vec::new(alloc),
     }
 }
 

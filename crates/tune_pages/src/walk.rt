@@ -84,6 +84,14 @@ impl<D: Disk> Pages<D> {
         Ok(bytes)
     }
 
+    /// Whether this was asked of the page before, as of one of the last. Who reads a chain that is
+    /// seldom read again keeps its images where its first page is asked for again.
+    pub fn is_asked_again(&mut self, page: u32) -> bool
+        ensures { self.new ≡ self.old }
+    {
+        self.cached.is_asked_again(page)
+    }
+
     /// Frees the pages of the chain that begins at `first`, and no others. No bytes are no chain,
     /// at 0.
     ///

@@ -6,8 +6,8 @@ use Rattle.tune_contents.specs.Texts.{HoldsSomeText, HoldsText}
 use Rattle.tune_contents.proofs.OldTuneLemmas.{some_text_there, tune_read}
 use Rattle.tune_contents.proofs.searching.tune_at.Goals as goal
 
-pub read_tune-requires-clause-there : goal.read_tune-requires-clause-there
-read_tune-requires-clause-there g c = λ h.
+pub read_tune_where-requires-clause-there : goal.read_tune_where-requires-clause-there
+read_tune_where-requires-clause-there g c = λ h.
     (let s = stand c.args.pages.now c.args.work.now in
     subst (λ (r : Row). HoldsSomeText c.args.layout s r.first) (sym c.at-row.ensures)
     (some_text_there c.args.layout s c.args.rows.now.items c.args.place c.at-row.result c.requires.place (c.requires.holds h)))
