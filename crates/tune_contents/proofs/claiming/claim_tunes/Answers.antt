@@ -1,10 +1,11 @@
-use Rattle.std.proofs.Common.{◌≡◌, ℕ, ◌+◌, ◌<◌, List, ◌∷◌, drop, length, get_or, refl, sym, ◌∙◌, ap, subst, arith}
-use Rattle.std.proofs.lemmas.List.{length-set, take_more_set}
+use Rattle.std.proofs.Common.{◌≡◌, ℕ, ◌+◌, ◌<◌, ◌≤◌, List, ◌∷◌, ◌++◌, drop, take, length, get_or, refl, sym, ◌∙◌, ap, subst, arith}
+use Rattle.std.proofs.lemmas.List.{append-nil, length-set, take-append-drop, take_more_set}
+use Rattle.std.proofs.Math.ListN.{drop_of_length-le}
 use Rattle.std.proofs.lemmas.Result.{err_from_is_err_and}
 use Rattle.tune_pages.specs.Claim.{IsChainFault}
 use Rattle.tune_pages.specs.declared.fault.ClaimFault.{ClaimFault}
 use Rattle.tune_format.specs.declared.rows.Row.{Row}
-use Rattle.tune_contents.specs.Inside.ClaimedParts.{AreTunesThere}
+use Rattle.tune_contents.specs.Inside.ClaimedParts.{AreTunesThere, TunesClaimed}
 use Rattle.tune_contents.proofs.ClaimedRowLemmas.{list_at, number_at_row}
 use Rattle.tune_contents.proofs.ClaimStepLemmas.{claims_start, claims_turn, turn_fault, entries_turn, later_at, later_set}
 use Rattle.tune_contents.proofs.claiming.claim_tunes.Goals as goal
@@ -33,7 +34,7 @@ pub returns-in_err-rows-clause-damaged : goal.returns-in_err-rows-clause-damaged
 returns-in_err-rows-clause-damaged g c =
     let inv = c.loop-place.invariant in
     let call = c.in_err-rows.ensures in
-    let p = err_from_is_err_and c.from_residual.result c.from_residual.ensures.1 in
+    let p = err_from_is_err_and c.from_residual-in_err-rows.result c.from_residual-in_err-rows.ensures.1 in
     let list : List Row = c.args.rows.now in
     let place : ℕ = c.loop-place.place in
     let d : Row = record { number = 0; revision = 0; first = 0; length = 0 } in
@@ -75,3 +76,13 @@ loop-place-preserved g c =
       claims = λ h front has. claims_turn _ _ front _ list _ _ _ _ place next r (inv.pages (call.looks.was_honest h))
           (inv.claims (call.looks.was_honest h) front has) at call.row (call.claims h) put;
     }
+
+pub returns-clause-claimed : goal.returns-clause-claimed
+returns-clause-claimed g c = λ h front has.
+    let rows : List Row = c.loop-place.rows in
+    let end : length rows ≤ c.loop-place.place = omega (arith, c.loop-place-test.false, c.loop-place.invariant.long) in
+    let done : List Row = take c.loop-place.place rows in
+    let all : done ≡ rows = sym (append-nil done) ∙ ap (λ (l : List Row). done ++ l) (sym (drop_of_length-le rows end))
+        ∙ take-append-drop c.loop-place.place rows in
+    subst (λ (r : List Row). TunesClaimed c.args.layout c.args.opening.now.pages front c.args.claims.now.runs c.loop-place.opening.claimed r) all
+    (c.loop-place.invariant.claims h front has).so_far
