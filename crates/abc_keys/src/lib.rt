@@ -12,6 +12,7 @@ mod letters;
 mod mode_words;
 mod scales;
 mod signatures;
+mod tonics;
 
 pub use accidentals::{accidental_of, doubled};
 pub use key_text::key_of;
@@ -19,3 +20,4 @@ pub use keys::{Key, signature};
 pub use letters::{Accidental, Letter, letter_of};
 pub use scales::{Mode, Scale, Sign, is_same_scale};
 pub use signatures::Signature;
+pub use tonics::signature_of_tonic;

@@ -5,7 +5,7 @@ ghost use Rattle.abc_keys.specs.Keys.{key_of_text, signature_of};
 ghost use Rattle.abc_keys.specs.Signatures.{accidental_at};
 ghost use Rattle.abc_notes.specs.Inside.LateSignatures.{signature_said};
 
-use abc_keys::{Accidental, Letter, Signature, key_of, signature};
+use abc_keys::{Accidental, Letter, Signature, key_of, signature, signature_of_tonic};
 use std::marker::Model;
 
 // The text of a key, or its signature once it has been read.
@@ -71,8 +71,22 @@ impl<'a> KeySignature<'a> {
     }
 }
 
-#[inline(never)]
+// The signature of the key of a text. Most are a tonic alone.
+#[inline(always)]
 pub(crate) fn signature_of_text(text: &[u8]) -> Signature
+    ensures { result ≡ signature_of (key_of_text text.now) }
+{
+    if let [byte] = text {
+        if let Some(signature) = signature_of_tonic(*byte) {
+            return signature;
+        }
+    }
+    signature_of_any(text)
+}
+
+// The same, read whatever it is. It stands apart, so that the way of most texts is short.
+#[inline(never)]
+fn signature_of_any(text: &[u8]) -> Signature
     ensures { result ≡ signature_of (key_of_text text.now) }
 {
     signature(&key_of(text))

@@ -1,5 +1,5 @@
 // Scales as keys, and which tunes a scale finds.
-ghost use Rattle.std.specs.Prelude.{◌≡◌, ◌∷◌, [], IfOk};
+ghost use Rattle.std.specs.Prelude.{◌≡◌, ◌≤◌, ◌∷◌, [], IfOk};
 ghost use Rattle.std.specs.Option.{option_to_list};
 ghost use Rattle.tune_incipit.specs.Scales.{finds_scale, scale_of_text};
 ghost use Rattle.tune_incipit.specs.ScaleAndIncipitKeys.{scale_code, scale_key, scale_keys};
@@ -65,8 +65,28 @@ fn is_in_scale(scale: &Scale, text: &TuneText) -> bool
     }
 }
 
-/// The key of a tune whose key has this text, where it stands in a scale.
+/// The key of a tune whose key has this text, where it stands in a scale. Most texts are a tonic
+/// alone, which stands in its major scale.
 pub fn key_of_scale(text: &[u8]) -> Option<IndexKey<32>>
+    ensures { option_to_list result ≡ scale_keys_of (scale_of_text text.now) }
+{
+    match text {
+        [byte] if b'A' <= *byte && *byte <= b'G' => Some(key_of_major(*byte)),
+        _ => key_of_any_scale(text),
+    }
+}
+
+// The key of the major scale of a tonic from `A` to `G`.
+fn key_of_major(tonic: u8) -> IndexKey<32>
+    requires low { 65 ≤ tonic }
+    requires high { tonic ≤ 71 }
+    ensures { result ∷ [] ≡ scale_keys_of (scale_of_text (tonic ∷ [])) }
+{
+    IndexKey::cut(&[tonic, b' ', b'0'], 0)
+}
+
+// The same of any text.
+fn key_of_any_scale(text: &[u8]) -> Option<IndexKey<32>>
     ensures { option_to_list result ≡ scale_keys_of (scale_of_text text.now) }
 {
     match key_of(text).scale() {
