@@ -1,13 +1,17 @@
 -- The order of two texts of bytes, seen some bytes at a time: those in front spell two numbers.
-use Rattle.std.proofs.Common.{◌≡◌, ◌≢◌, ℕ, zero, suc, ◌+◌, ◌*◌, ◌^◌, ◌<◌, ◌≤◌, List, [], ◌∷◌, length, drop, slice_index, refl, sym, ap, ◌∙◌, arith, Ordering}
+use Rattle.std.proofs.Common.{◌≡◌, ◌≢◌, ℕ, zero, suc, ◌+◌, ◌*◌, ◌^◌, ◌<◌, ◌≤◌, List, [], ◌∷◌, ◌++◌, length, take, drop, slice_index, refl, sym, ap, ◌∙◌, arith, Ordering}
+use Rattle.std.proofs.Common.{inl, inr}
+use Rattle.std.proofs.lemmas.Bool.{cases_lt}
+use Rattle.std.proofs.lemmas.List.{get_or-drop, get_or-take, get_or_past, length-take-le, take-append-drop}
 use Rattle.std.specs.Ordering.{nat_cmp, ordering_then}
 use Rattle.std.specs.declared.cmp.Ordering.TheVariants.{Less, Equal, Greater}
 use Rattle.std.specs.Cmp.{ranks}
 use Rattle.std.specs.Cmp.Lexicographic.{slice_cmp}
 use Rattle.byteorder.specs.Endian.{big_from}
-use Rattle.byteorder.specs.Numbers.{big_from-lt}
+use Rattle.byteorder.specs.Numbers.{big_from-lt, big_from-take}
 use Rattle.index_keys.specs.Entries.{rank}
-use Rattle.index_keys.specs.Inside.KeyNumbers.{Answers, digits, number_cons}
+use Rattle.index_keys.specs.Inside.KeyBytes.{AreBytes}
+use Rattle.index_keys.specs.Inside.KeyNumbers.{Answers, digits, number_cons, same_bytes}
 
 -- one order alone answers for two numbers
 answer_once : (o q : Ordering) (m n : ℕ) → Answers o m n → Answers q m n → o ≡ q
@@ -56,6 +60,30 @@ front_order (suc n) (x ∷ xs) (y ∷ ys) s t a b =
     rw (number_cons n x xs, number_cons n y ys)
     (ap (λ (o : Ordering). ordering_then (nat_cmp x y) o) (front_order n xs ys (λ k. s (suc k)) (λ k. t (suc k)) (omega arith) (omega arith))
     ∙ then_then (nat_cmp x y) (nat_cmp f g) rest ∙ ap (λ (o : Ordering). ordering_then o rest) one)
+
+-- bytes further on are bytes
+pub small_on : (bytes : List ℕ) (at : ℕ) → ((k : ℕ) → slice_index bytes k < 256) → (k : ℕ) → slice_index (drop at bytes) k < 256
+small_on bytes at s k = let e = get_or-drop at bytes k 0 in omega (arith, e, s (at + k))
+
+-- and so are those in front
+bytes_front : (n : ℕ) (xs : List ℕ) → ((k : ℕ) → slice_index xs k < 256) → n ≤ length xs → AreBytes n (take n xs)
+bytes_front n xs s a =
+    let long = length-take-le n xs a in
+    record {
+      size = long;
+      small = λ k. elim (cases_lt k n) [
+        | inl within ↦ let e = get_or-take n xs k 0 within in omega (arith, e, s k)
+        | inr over ↦ let e = get_or_past (take n xs) k 0 (omega (arith, long, over)) in omega (arith, e)
+      ];
+    }
+
+-- bytes are the same where the numbers that those in front spell are, and the rest is
+pub same_by_number : (n : ℕ) (xs ys : List ℕ) → ((k : ℕ) → slice_index xs k < 256) → ((k : ℕ) → slice_index ys k < 256) → n ≤ length xs → n ≤ length ys
+    → big_from 0 n xs ≡ big_from 0 n ys → drop n xs ≡ drop n ys → xs ≡ ys
+same_by_number n xs ys s t a b e d =
+    let front : take n xs ≡ take n ys = same_bytes n (take n xs) (take n ys) (bytes_front n xs s a) (bytes_front n ys t b)
+    (big_from-take 0 n n xs (omega arith) ∙ e ∙ sym (big_from-take 0 n n ys (omega arith))) in
+    sym (take-append-drop n xs) ∙ (λ i. front i ++ d i) ∙ take-append-drop n ys
 
 -- BEHIND ONE KEY
 -- values are in the order of their entries

@@ -1,13 +1,11 @@
 -- Entries of which each key is kept once: an entry that comes behind them.
 use Rattle.std.proofs.Common.{◌≡◌, ℕ, zero, suc, ◌+◌, ◌-◌, ◌^◌, ◌<◌, ◌≤◌, List, [], ◌∷◌, ◌++◌, map, length}
-use Rattle.std.proofs.Common.{get_or, slice_index, arith, refl, sym, ap, ◌∙◌, subst, Ordering}
+use Rattle.std.proofs.Common.{get_or, slice_index, arith, refl, sym, ap, ◌∙◌, subst, Bool, IsTrue, false, inl, inr}
+use Rattle.std.proofs.lemmas.Bool.{cases_lt}
 use Rattle.std.proofs.lemmas.List.{get_or_default, get_or_append_left, length-append, length-map, map-append}
 use Rattle.std.proofs.Math.ListN.{get_or-map}
 use Rattle.std.proofs.Math.Seq.{get_or-append_seam}
-use Rattle.std.specs.Cmp.{ranks}
 use Rattle.std.specs.List.{AllByRecursion}
-use Rattle.std.specs.Ordering.{MatchOrdering, nat_cmp}
-use Rattle.std.specs.declared.cmp.Ordering.TheVariants.{Less, Equal, Greater}
 use Rattle.index_keys.specs.Entries.{Entry, rank, IsRising}
 use Rattle.index_keys.specs.Groups.{IsGrouped, placed_entry}
 use Rattle.index_keys.proofs.RisingEntries.{rises_push}
@@ -61,24 +59,16 @@ joins keys places count p k last e =
       (λ up. let l = both.1 up in omega (arith, rank_is, l)),
     )
 
--- HOW TWO KEYS COMPARE
-pub less : (k key : ℕ) (r : Ordering) → r ≡ nat_cmp (rank (k, 0)) (rank (key, 0)) → r ≡ Less → k < key
-less k key r is l =
-    let h = subst (λ (o : Ordering). MatchOrdering o (rank (k, 0) < rank (key, 0)) (rank (k, 0) ≡ rank (key, 0)) (rank (key, 0) < rank (k, 0))) (sym is ∙ l)
-    (ranks (rank (k, 0)) (rank (key, 0))) in
-    omega (arith, h)
-
-pub equal : (k key : ℕ) (r : Ordering) → r ≡ nat_cmp (rank (k, 0)) (rank (key, 0)) → r ≡ Equal → k ≡ key
-equal k key r is l =
-    let h = subst (λ (o : Ordering). MatchOrdering o (rank (k, 0) < rank (key, 0)) (rank (k, 0) ≡ rank (key, 0)) (rank (key, 0) < rank (k, 0))) (sym is ∙ l)
-    (ranks (rank (k, 0)) (rank (key, 0))) in
-    omega (arith, h)
-
-pub greater : (k key : ℕ) (r : Ordering) → r ≡ nat_cmp (rank (k, 0)) (rank (key, 0)) → r ≡ Greater → key < k
-greater k key r is l =
-    let h = subst (λ (o : Ordering). MatchOrdering o (rank (k, 0) < rank (key, 0)) (rank (k, 0) ≡ rank (key, 0)) (rank (key, 0) < rank (k, 0))) (sym is ∙ l)
-    (ranks (rank (k, 0)) (rank (key, 0))) in
-    omega (arith, h)
+-- a key that is not the last one's, nor behind it, stands before it
+pub not_before : (k key : ℕ) (same before : Bool) → (k ≡ key → IsTrue same) → (rank (k, 0) < rank (key, 0) → IsTrue before) → same ≡ false → before ≡ false
+    → key < k
+not_before k key same before is up other down = elim (cases_lt key k) [
+  | inl below ↦ below
+  | inr over ↦ elim (cases_lt k key) [
+    | inl above ↦ absurd (let t = up (omega (arith, above)) in cc)
+    | inr under ↦ absurd (let t = is (omega (arith, over, under)) in cc)
+  ]
+]
 
 -- ONE ENTRY MORE
 -- an entry that does not stand behind the last one does not come behind them

@@ -7,7 +7,6 @@ ghost use Rattle.index_keys.specs.Groups.{grouped_entries, nth_entry};
 use crate::entry_lists::EntryList;
 use crate::index_key::IndexKey;
 use std::alloc::{AllocError, Global};
-use std::cmp::Ordering;
 use std::marker::Model;
 
 /// Entries in rising order, which keep each key once for all the values at it, so that many
@@ -61,16 +60,17 @@ impl<const W: usize> EntryList<W> for GroupedEntries<W> {
         let count = self.places.len();
         if count > 0 {
             let (id, last) = self.places[count - 1];
-            match self.keys[id as usize].compare(0, &key, 0) {
-                Ordering::Less => {}
-                Ordering::Equal => {
-                    if value <= last {
-                        return Ok(false);
-                    }
-                    self.places.push((id, value))?;
-                    return Ok(true);
+            let last_key = &self.keys[id as usize];
+            // Most entries have the key of the one before them.
+            if last_key.is_same(&key) {
+                if value <= last {
+                    return Ok(false);
                 }
-                Ordering::Greater => return Ok(false),
+                self.places.push((id, value))?;
+                return Ok(true);
+            }
+            if !last_key.is_before(0, &key, 0) {
+                return Ok(false);
             }
         }
         let id = self.keys.len() as u32;

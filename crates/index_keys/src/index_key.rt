@@ -121,7 +121,7 @@ impl<const W: usize> IndexKey<W> {
     pub fn is_same(&self, other: &Self) -> bool
         ensures { IsTrue result ↔ (self.now ≡ other.now) }
     {
-        self.compare(0, other, 0).is_eq()
+        are_same(&self.bytes, &other.bytes)
     }
 }
 
@@ -151,4 +151,20 @@ fn byte_order(one: &[u8], other: &[u8]) -> Ordering
         return Ordering::Equal;
     }
     one[at..].cmp(&other[at..])
+}
+
+// Whether two texts of one length are the same. All of their bytes are compared, eight at a time,
+// which takes less time than to stop at the first that differ.
+#[inline(always)]
+fn are_same(one: &[u8], other: &[u8]) -> bool
+    requires { length one.now ≡ length other.now }
+    ensures { IsTrue result ↔ (one.now ≡ other.now) }
+{
+    let mut same = true;
+    let mut at = 0;
+    while one.len() - at >= 8 {
+        same = same & (number_at(one, at) == number_at(other, at));
+        at += 8;
+    }
+    same && one[at..] == other[at..]
 }

@@ -1,13 +1,10 @@
 use Rattle.std.proofs.Common.{◌≡◌, ◌≢◌, ℕ, ◌+◌, ◌≤◌, ◌<◌, List, length, drop, slice_index, sym, ap, ◌∙◌, arith, Ordering}
-use Rattle.std.proofs.lemmas.List.{drop-drop, get_or-drop, length-drop}
+use Rattle.std.proofs.lemmas.List.{drop-drop, length-drop}
 use Rattle.std.specs.Ordering.{nat_cmp, ordering_then}
 use Rattle.std.specs.Cmp.Lexicographic.{slice_cmp}
 use Rattle.byteorder.specs.Endian.{big_from}
-use Rattle.index_keys.proofs.ByteOrder.{front_order, settled, equal_then}
+use Rattle.index_keys.proofs.ByteOrder.{front_order, settled, equal_then, small_on}
 use Rattle.index_keys.proofs.index_key.byte_order.Goals as goal
-
-small_on : (bytes : List ℕ) (at : ℕ) → ((k : ℕ) → slice_index bytes k < 256) → (k : ℕ) → slice_index (drop at bytes) k < 256
-small_on bytes at s k = let e = get_or-drop at bytes k 0 in omega (arith, e, s (at + k))
 
 -- the order from here on, by the numbers that the next eight bytes spell
 eight_more : (one other : List ℕ) (at : ℕ) → ((k : ℕ) → slice_index one k < 256) → ((k : ℕ) → slice_index other k < 256) → at + 8 ≤ length one
