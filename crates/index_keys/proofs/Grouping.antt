@@ -1,5 +1,5 @@
 -- Entries of which each key is kept once: an entry that comes behind them.
-use Rattle.std.proofs.Common.{◌≡◌, ℕ, zero, suc, ◌+◌, ◌-◌, ◌^◌, ◌<◌, ◌≤◌, List, [], ◌∷◌, ◌++◌, map, length}
+use Rattle.std.proofs.Common.{◌≡◌, ℕ, zero, suc, ◌+◌, ◌-◌, ◌<◌, ◌≤◌, List, [], ◌∷◌, ◌++◌, map, length}
 use Rattle.std.proofs.Common.{get_or, slice_index, arith, refl, sym, ap, ◌∙◌, subst, Bool, IsTrue, false, inl, inr}
 use Rattle.std.proofs.lemmas.Bool.{cases_lt}
 use Rattle.std.proofs.lemmas.List.{get_or_default, get_or_append_left, length-append, length-map, map-append}
@@ -59,15 +59,11 @@ joins keys places count p k last e =
       (λ up. let l = both.1 up in omega (arith, rank_is, l)),
     )
 
--- a key that is not the last one's, nor behind it, stands before it
-pub not_before : (k key : ℕ) (same before : Bool) → (k ≡ key → IsTrue same) → (rank (k, 0) < rank (key, 0) → IsTrue before) → same ≡ false → before ≡ false
-    → key < k
-not_before k key same before is up other down = elim (cases_lt key k) [
-  | inl below ↦ below
-  | inr over ↦ elim (cases_lt k key) [
-    | inl above ↦ absurd (let t = up (omega (arith, above)) in cc)
-    | inr under ↦ absurd (let t = is (omega (arith, over, under)) in cc)
-  ]
+-- what a test of two numbers has told
+pub not_below : (m n : ℕ) (below : Bool) → (m < n → IsTrue below) → below ≡ false → n ≤ m
+not_below m n below up told = elim (cases_lt m n) [
+  | inl less ↦ absurd (let t = up less in cc)
+  | inr over ↦ over
 ]
 
 -- ONE ENTRY MORE
@@ -111,11 +107,11 @@ grouped_more keys places key value more now grouped one two =
       few = let f = grouped.few in omega (arith, f, longer, all, now_long);
     }
 
--- the first entry, or one of a key behind the last one's
+-- the first entry, or one behind the last one
 pub rises_first : (keys : List ℕ) (places : List (ℕ × ℕ)) (e : Entry) → length places ≡ zero → IsRising (map (placed_entry keys) places ++ e ∷ [])
 rises_first keys [] e none = (omega arith, tt)
 rises_first keys (p ∷ places) e none = absurd (omega (arith, none))
 
-pub rises_less : (keys : List ℕ) (places : List (ℕ × ℕ)) (count : ℕ) (p : ℕ × ℕ) (k key value : ℕ) → IsLast keys places count p k → p.1 < 2 ^ 32 → k < key
-    → IsRising (map (placed_entry keys) places ++ (key, value) ∷ [])
-rises_less keys places count p k key value last small l = (joins keys places count p k last (key, value)).0 (omega (arith, small, l))
+pub rises_behind : (keys : List ℕ) (places : List (ℕ × ℕ)) (count : ℕ) (p : ℕ × ℕ) (k : ℕ) → IsLast keys places count p k → (e : Entry) → rank (k, p.1) < rank e
+    → IsRising (map (placed_entry keys) places ++ e ∷ [])
+rises_behind keys places count p k last e l = (joins keys places count p k last e).0 l

@@ -60,16 +60,35 @@ impl<const W: usize> EntryList<W> for GroupedEntries<W> {
         let count = self.places.len();
         if count > 0 {
             let (id, last) = self.places[count - 1];
-            let last_key = &self.keys[id as usize];
             // Most entries have the key of the one before them.
-            if last_key.is_same(&key) {
-                if value <= last {
-                    return Ok(false);
-                }
+            if last < value && self.keys[id as usize].is_same(&key) {
                 self.places.push((id, value))?;
                 return Ok(true);
             }
-            if !last_key.is_before(0, &key, 0) {
+        }
+        self.put_other(key, value)
+    }
+}
+
+impl<const W: usize> GroupedEntries<W> {
+    // Puts an entry of another key behind the others, where all then rise; otherwise false. Apart,
+    // so that the way of most entries is short.
+    #[inline(never)]
+    fn put_other(&mut self, key: IndexKey<W>, value: u32) -> Result<bool, AllocError>
+        requires room { length (grouped_entries self.old) < 2 ^ 32 }
+        requires rising { IsRising (grouped_entries self.old) }
+        ensures yes { IfOk result (λ put. put ≡ true
+            → (grouped_entries self.new ≡ grouped_entries self.old ++ (key.entry, value) ∷ [])
+            × IsRising (grouped_entries self.new)) }
+        ensures no { IfOk result (λ put. put ≡ false
+            → IsRising (grouped_entries self.old ++ (key.entry, value) ∷ []) → ⊥) }
+        ensures same { IfOk result (λ put. put ≡ false
+            → grouped_entries self.new ≡ grouped_entries self.old) }
+    {
+        let count = self.places.len();
+        if count > 0 {
+            let (id, last) = self.places[count - 1];
+            if !self.keys[id as usize].is_before(last, &key, value) {
                 return Ok(false);
             }
         }
@@ -79,9 +98,7 @@ impl<const W: usize> EntryList<W> for GroupedEntries<W> {
         self.places.push((id, value)).unwrap();
         Ok(true)
     }
-}
 
-impl<const W: usize> GroupedEntries<W> {
     /// The number of the key of the entry at a place, among the keys, from 0 on.
     #[inline(always)]
     pub fn id_at(&self, place: usize) -> u32
