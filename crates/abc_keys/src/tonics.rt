@@ -44,8 +44,9 @@ const MAJORS: [Signature; 7] = [
     },
 ];
 
-/// The signature of a key text of one byte, where that is a tonic from `A` to `G`, as most key texts
-/// are (ABC 2.1, 3.1.14): that of its major scale. To look it up is less work than to read the text.
+/// The signature of a key text of one byte, where that is a tonic from `A` to `G`, as most key
+/// texts are (ABC 2.1, 3.1.14): that of its major scale. To look it up is less work than to read
+/// the text.
 pub fn signature_of_tonic(byte: u8) -> Option<Signature>
     ensures value { IfSome result (λ signature.
         signature ≡ signature_of (key_of_text (byte ∷ []))) }

@@ -71,8 +71,8 @@ impl<const W: usize> EntryList<W> for GroupedEntries<W> {
 }
 
 impl<const W: usize> GroupedEntries<W> {
-    // Puts an entry of another key behind the others, where all then rise; otherwise false. Apart,
-    // so that the way of most entries is short.
+    // Puts an entry with a key of its own behind the others, where all then rise; otherwise false.
+    // Apart, so that the way of most entries is short.
     #[inline(never)]
     fn put_other(&mut self, key: IndexKey<W>, value: u32) -> Result<bool, AllocError>
         requires room { length (grouped_entries self.old) < 2 ^ 32 }

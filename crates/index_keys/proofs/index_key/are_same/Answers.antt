@@ -44,7 +44,8 @@ returns-then-same c =
     let other : List ℕ = c.args.other.now in
     let at = c.loop-at.at in
     let rest : take (length one - at) (drop at one) ≡ drop at one = take_all (length one - at) (drop at one) (omega (arith, length-drop at one)) in
-    let others : take (length other - at) (drop at other) ≡ drop at other = take_all (length other - at) (drop at other) (omega (arith, length-drop at other)) in
+    let others : take (length other - at) (drop at other) ≡ drop at other =
+    take_all (length other - at) (drop at other) (omega (arith, length-drop at other)) in
     let tells = told c.eq.result (take (length one - at) (drop at one)) (take (length other - at) (drop at other)) c.eq.ensures in (
       (λ yes. c.loop-at.invariant.passed (search rules) (sym rest ∙ tells.0 yes ∙ others)),
       (λ is. tells.1 (rest ∙ ap (drop at) is ∙ sym others)),
