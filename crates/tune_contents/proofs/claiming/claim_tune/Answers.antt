@@ -27,8 +27,12 @@ returns-in_err-revision-clause-damaged g c =
     (IsTuneThere c.args.layout c.args.opening.now.pages front c.args.claims.now.runs c.args.row.now.number c.args.row.now.first))
     (sym p.2)
     (fault_as c.in_err-revision.field-0.0 _ _
-    (λ is. (is.revision, is.text, subst (λ (b : List ℕ). IsTuneChain c.args.layout b is.revision is.text) (sym c.deref.ensures.value)
-    (tune_claimed _ front _ _ _ _ _ (c.in_ok-claim_part.ensures.claims h front has) is)))
+    (λ is. (
+      is.revision,
+      is.text,
+      subst (λ (b : List ℕ). IsTuneChain c.args.layout b is.revision is.text) (sym c.deref.ensures.value)
+          (tune_claimed _ front _ _ _ _ _ (c.in_ok-claim_part.ensures.claims h front has) is),
+    ))
     c.in_err-revision.ensures.damaged))
 
 pub returns-then-not-claim_tune-clause-damaged : goal.returns-then-not-claim_tune-clause-damaged

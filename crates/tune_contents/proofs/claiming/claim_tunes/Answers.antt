@@ -83,6 +83,6 @@ returns-clause-claimed g c = λ h front has.
     let end : length rows ≤ c.loop-place.place = omega (arith, c.loop-place-test.false, c.loop-place.invariant.long) in
     let done : List Row = take c.loop-place.place rows in
     let all : done ≡ rows = sym (append-nil done) ∙ ap (λ (l : List Row). done ++ l) (sym (drop_of_length-le rows end))
-        ∙ take-append-drop c.loop-place.place rows in
+    ∙ take-append-drop c.loop-place.place rows in
     subst (λ (r : List Row). TunesClaimed c.args.layout c.args.opening.now.pages front c.args.claims.now.runs c.loop-place.opening.claimed r) all
     (c.loop-place.invariant.claims h front has).so_far
