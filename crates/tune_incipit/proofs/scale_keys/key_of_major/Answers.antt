@@ -1,4 +1,4 @@
-use Rattle.std.proofs.Common.{◌≡◌, ◌∷◌, [], ℕ, ◌+◌, ◌-◌, ◌<◌, suc, zero, refl, subst, sym, ap, ◌∙◌, arith}
+use Rattle.std.proofs.Common.{◌≡◌, ◌∷◌, [], ℕ, ◌+◌, ◌-◌, ◌<◌, suc, zero, refl, subst, ap, ◌∙◌, arith}
 use Rattle.abc_keys.specs.Keys.{key_of_text}
 use Rattle.abc_keys.specs.ScaleTable.{listed_count}
 use Rattle.index_keys.specs.Cuts.{cut_number}
