@@ -1,28 +1,34 @@
 #!/usr/bin/env bash
-# Usage: bench/archive.sh [FOLDER [RUNS [TUNES [EXECUTABLE]]]]
+# Usage: bench/archive.sh [FOLDER [RUNS [TUNES [EXECUTABLE [REPLIES]]]]]
 # Times the program on an archive in a file, in the folder, against the same calls of the disk from
 # C: one import of 20,000 tunes to a new file; over a file of these an opening, an export to a pipe,
 # all titles, 1,000 shows, 1,000 finds by a title and 1,000 by notes, each of one tune, 1,000 shows
 # of one and the same tune, 1,000 finds by one and the same opening, and 500 replaces, renumbers and
 # deletes; and over a file of 19,500, since 20,000 is the most, 500 imports of one tune each. 5 runs
 # of each by turns, the file's bytes in the system's cache. A time of the program is that of its
-# whole run, with its start and the opening; of C that of the calls alone. Prints milliseconds, the
-# least and the middle of each, and how the program's compare with C's, with the opening and, for
-# changes, less that of both; the same part in memory, by `list`, less the import before it; and
-# what is wanted. Then, since times may swing, the middle of what each run of the program is to the
-# run from C beside it; and the calls of each part. Without strace no calls are known, and C has
-# none to make. Of fewer tunes all counts are in proportion, and nothing is wanted.
+# whole run, with its start and the opening; of C that of the calls alone. What is compared with
+# calls writes its replies to a file, since C has none to write: a reader of a pipe that sleeps has
+# to be woken for each. With `pipe` as REPLIES they go to one, as those of the others do. Prints milliseconds, the least and the middle of each, and
+# how the program's compare with C's: with its start and, for changes, less the opening of both, for
+# others less its start; the same part in memory, by `list`, less the import before it, in the first
+# five runs; and what is wanted. Then, since times may swing, the middle of what each run of the
+# program is to the run from C beside it; finds by title and by notes together, in openings; and the
+# calls of each part. Without strace no calls are known, and C has none to make. Of fewer tunes all
+# counts are in proportion, and nothing is wanted.
 set -u
 root=$(CDPATH='' cd -- "$(dirname -- "$0")/.." && pwd) || exit 1
 folder=${1:-$root/bench/work}
 runs=${2:-5}
 tunes=${3:-20000}
 program=${4:-$root/crates/tunes/out/tunes}
+replies=${5:-file}
 singles=$((tunes / 40))
 shows=$((tunes / 20))
 work=$root/bench/work
 asked='export shows titles notes all-titles show-one find-one'
 parts="import imports replaces renumbers deletes check $asked"
+# What is compared with calls.
+compared=' import imports replaces renumbers deletes check titles notes '
 if [ ! -x "$program" ]; then
     echo "no program at $program: build it by ./tunes list < /dev/null" >&2
     exit 1
@@ -34,7 +40,7 @@ new=$folder/bench_archive.new
 most=$folder/bench_archive.most
 full=$folder/bench_archive.full
 changed=$folder/bench_archive.tunes
-trap 'rm -f "$new" "$most" "$full" "$changed"' EXIT
+trap 'rm -f "$new" "$most" "$full" "$changed" "$work/archive_kept"' EXIT
 
 fail() {
     echo "$1" >&2
@@ -187,12 +193,13 @@ look() {
 # Puts the microseconds of a run behind a file: whose run, which part.
 tell() { echo "$1 $2 $3" >> "$work/archive_times"; }
 
-# Times words of the shell, whose output goes into a pipe.
+# Times words of the shell, whose output goes into a file or a pipe.
 timed() {
-    local who=$1 part=$2 start end
+    local who=$1 part=$2 output=$pipe start end
     shift 2
+    case $replies$compared in file*" $part "*) output=$kept ;; esac
     start=${EPOCHREALTIME/./}
-    "$@" >&"$pipe" || fail "$part failed"
+    "$@" >&"$output" || fail "$part failed"
     end=${EPOCHREALTIME/./}
     tell "$who" "$part" $((end - start))
 }
@@ -222,7 +229,7 @@ cp "$new" "$most" && cp "$new" "$full" || exit 1
 "$program" run "$full" < "$work/archive_import" > /dev/null || fail 'no import'
 look
 
-exec {pipe}> >(cat > /dev/null)
+exec {pipe}> >(cat > /dev/null) {kept}> "$work/archive_kept"
 : > "$work/archive_times"
 for ((run = 0; run < runs; run++)); do
     timed ours start "$program" --version
@@ -236,6 +243,7 @@ for ((run = 0; run < runs; run++)); do
         fi
     done
     for part in import most imports replaces renumbers deletes $asked; do
+        ((run < 5)) || break
         put_script "$part"
         timed memory "$part" in_memory
     done
@@ -254,15 +262,17 @@ awk -v parts="$parts" -v tunes="$tunes" '
     }
     # How much more the run of this place of the one name took than that of the other.
     function longer(place, name, less) { return spent[name, place] - spent[less, place] }
-    # Keeps the ratio of each pair of runs of a part, and the same less the opening of both.
+    # What goes before a part: the opening before a change, else the start of the program.
+    function before(part) { return part in changes ? "check" : "start" }
+    # Keeps the ratio of each pair of runs of a part, and the same less what goes before it.
     function pair(part,    i, there) {
         for (i = 1; i <= n["c " part]; i++) {
             spent["pairs " part, ++n["pairs " part]] = \
                 spent["ours " part, i] / spent["c " part, i]
-            there = longer(i, "c " part, "c check")
-            if (part in changes && there > 0)
-                spent["changes " part, ++n["changes " part]] = \
-                    longer(i, "ours " part, "ours check") / there
+            there = longer(i, "c " part, "c " before(part))
+            if (there > 0)
+                spent["less " part, ++n["less " part]] = \
+                    longer(i, "ours " part, "ours " before(part)) / there
         }
     }
     function chosen(name, way) {
@@ -288,16 +298,24 @@ awk -v parts="$parts" -v tunes="$tunes" '
         if (part == "import" || all == "") return all
         return all - chosen("memory " (part == "imports" ? "most" : "import"), way)
     }
-    function row(part, way,    time, there, ratio, less, beside) {
+    # How a part compares with its calls from C, less what goes before it.
+    function compared(part, way,    there) {
+        there = chosen("c " part, way) - chosen("c " before(part), way)
+        if (there <= 0) return ""
+        return (chosen("ours " part, way) - chosen("ours " before(part), way)) / there
+    }
+    # How many openings the finds take together.
+    function openings(way) {
+        return (chosen("ours titles", way) + chosen("ours notes", way)) / chosen("ours check", way)
+    }
+    function row(part, way,    time, there, ratio, less) {
         time = chosen("ours " part, way)
         there = chosen("c " part, way)
         ratio = there == "" ? "" : time / there
-        beside = there - chosen("c check", way)
-        if (part in changes && beside > 0)
-            less = (time - chosen("ours check", way)) / beside
+        less = compared(part, way)
         printf "%-10s %10s %10s %8s %8s %10s  %s\n", part, shown(time), shown(there),
             shown(ratio), shown(less), shown(in_memory(part, way)),
-            judged(part, time, less == "" ? ratio : less)
+            judged(part, time, part in changes ? less : ratio)
     }
     function table(way,    i) {
         printf "%-10s %10s %10s %8s %8s %10s  %s\n", way, "tunes ms", "C ms", "ratio", "less",
@@ -323,9 +341,11 @@ awk -v parts="$parts" -v tunes="$tunes" '
         printf "%-10s %30s %8s\n", "pairs", "middle ratio", "less"
         for (i = 1; i <= count; i++)
             printf "%-10s %30s %8s\n", names[i], shown(chosen("pairs " names[i], "middle")),
-                shown(chosen("changes " names[i], "middle"))
+                shown(chosen("less " names[i], "middle"))
         printf "the start of the program alone: least %s ms, middle %s ms\n",
             shown(chosen("ours start", "least")), shown(chosen("ours start", "middle"))
+        printf "finds by title and by notes together: least %s openings, middle %s\n",
+            shown(openings("least")), shown(openings("middle"))
     }' "$work/archive_times"
 if [ ! -s "$work/archive_calls_import" ]; then
     echo 'no strace here: no calls are counted, and none are made from C'
