@@ -8,13 +8,14 @@
 # of each by turns, the file's bytes in the system's cache. A time of the program is that of its
 # whole run, with its start and the opening; of C that of the calls alone. What is compared with
 # calls writes its replies to a file, since C has none to write: a reader of a pipe that sleeps has
-# to be woken for each. With `pipe` as REPLIES they go to one, as those of the others do. Prints milliseconds, the least and the middle of each, and
-# how the program's compare with C's: with its start and, for changes, less the opening of both, for
-# others less its start; the same part in memory, by `list`, less the import before it, in the first
-# five runs; and what is wanted. Then, since times may swing, the middle of what each run of the
-# program is to the run from C beside it; finds by title and by notes together, in openings; and the
-# calls of each part. Without strace no calls are known, and C has none to make. Of fewer tunes all
-# counts are in proportion, and nothing is wanted.
+# to be woken for each. With `pipe` as REPLIES they go to one, as those of the others do. Prints
+# milliseconds, the least and the middle of each, and how the program's compare with C's: with its
+# start and, for changes, less the opening of both, for others less its start; the same part in
+# memory, by `list`, less the import before it, in the first five runs; and what is wanted. Then,
+# since times may swing, the middle of what each run of the program is to the run from C beside it;
+# finds by title and by notes together, in openings; and the calls of each part. Without strace no
+# calls are known, and C has none to make. Of fewer tunes all counts are in proportion, and nothing
+# is wanted.
 set -u
 root=$(CDPATH='' cd -- "$(dirname -- "$0")/.." && pwd) || exit 1
 folder=${1:-$root/bench/work}
