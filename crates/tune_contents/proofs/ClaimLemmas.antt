@@ -13,7 +13,7 @@ use Rattle.tune_store.specs.declared.layout.Layout.{Layout}
 use Rattle.tune_search.specs.LoadedParts.{HasClaimed}
 use Rattle.tune_search.specs.SearchClaims.{StandsAtKeys}
 use Rattle.tune_search.specs.Searches.{SearchRuns}
-use Rattle.tune_contents.specs.Inside.ClaimedParts.{ClaimsPart, IsPartThere, IsTuneChain, IsTuneThere}
+use Rattle.tune_contents.specs.Inside.ClaimedParts.{ClaimsPart, HoldsTune, IsPartThere, IsTuneChain, IsTuneThere}
 
 pub ok_as : {T E : Type 0} (r : Result T E) (P Q : T → Type 0) → ((x : T) → P x → Q x) → IfOk r P → IfOk r Q
 ok_as (Ok x) P Q as_q p = as_q x p
@@ -65,6 +65,13 @@ claims_part pages claimed now first bytes front got has =
       only = λ other kind is same. same_part pages other part kind refl is got.1.chain same;
     }
 
+-- the same part, whose bytes are known as others
+pub claims_as : (pages : List (List ℕ)) (claimed now : List Bool) (first : ℕ) (bytes other : List ℕ) → other ≡ bytes
+    → ((front : List Part) → HasClaimed pages claimed front → ClaimsPart pages front now first bytes)
+    → (front : List Part) → HasClaimed pages claimed front → ClaimsPart pages front now first other
+claims_as pages claimed now first bytes other same call front has =
+    subst (λ (b : List ℕ). ClaimsPart pages front now first b) (sym same) (call front has)
+
 -- where a chain stands that begins there, it can be claimed
 pub part_claimable : (pages : List (List ℕ)) (claimed : List Bool) (first most : ℕ) (front : List Part) → HasClaimed pages claimed front
     → IsPartThere pages front first most → IsClaimableWithin most pages claimed first
@@ -81,11 +88,10 @@ tune_claimed {layout} pages front runs now number first bytes claims is =
     let same : part ≡ claims.part = claims.only part is.there.is_chain (its_part pages front part is.there.more is.there.are) is.there.is_first in
     subst (λ l. IsTuneChain layout l is.revision is.text) (ap (λ p. p.bytes) same ∙ claims.holds) is.tune
 
--- where its number does not stand at the keys of the text that was read, no such tune is there
-pub tune_refused : {layout : Layout} → (pages : List (List ℕ)) (front : List Part) (runs : SearchRuns) (now : List Bool) (number other first : ℕ)
-    (bytes own : List ℕ) → ClaimsPart pages front now first bytes
-    → ((revision : ℕ) (text : List ℕ) → IsTuneChain layout bytes revision text → text ≡ own)
-    → other ≡ number → (StandsAtKeys runs other own → ⊥) → IsTuneThere layout pages front runs number first → ⊥
-tune_refused pages front runs now number other first bytes own claims only same none is =
-    let text = only is.revision is.text (tune_claimed pages front runs now number first bytes claims is) in
+-- where its number does not stand at the keys of the text that was read, its chain holds no such tune
+pub held_refused : {layout : Layout} → (runs : SearchRuns) (number other : ℕ) (bytes own : List ℕ)
+    → ((revision : ℕ) (text : List ℕ) → IsTuneChain layout bytes revision text → text ≡ own) → other ≡ number
+    → (StandsAtKeys runs other own → ⊥) → HoldsTune layout runs number bytes → ⊥
+held_refused runs number other bytes own only same none is =
+    let text = only is.revision is.text is.tune in
     none (subst (λ (n : ℕ). StandsAtKeys runs n own) (sym same) (subst (λ (l : List ℕ). StandsAtKeys runs number l) text is.keys))

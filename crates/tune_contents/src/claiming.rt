@@ -1,5 +1,6 @@
 // Claims what an archive has on its pages, and so finds whether a state stands there.
-ghost use Rattle.std.specs.Prelude.{◌≡◌, ◌≢◌, ◌↔◌, ℕ, ◌^◌, ◌<◌, ◌≤◌, List, length, slice_index};
+ghost use Rattle.std.specs.Prelude.{◌≡◌, ◌≢◌, ◌↔◌, ℕ, ◌^◌, ◌<◌, ◌≤◌, ◌+◌, List, ◌++◌, Bool, length};
+ghost use Rattle.std.specs.Prelude.{drop, slice_index, take};
 ghost use Rattle.std.specs.Prelude.{IfOk, IfErr, IfSome, IfNone, IsTrue, OnOk};
 ghost use Rattle.tune_index.specs.Indexes.{Shape};
 ghost use Rattle.tune_pages.specs.Claim.{IsChainFault, LooksOpening};
@@ -7,9 +8,9 @@ ghost use Rattle.tune_pages.specs.OpenedPages.{only_root};
 ghost use Rattle.tune_parts.specs.Parts.{Part};
 ghost use Rattle.tune_search.specs.LoadedParts.{HasClaimed};
 ghost use Rattle.tune_search.specs.SearchClaims.{AreAllKnown};
+ghost use Rattle.tune_search.specs.Searches.{SearchRuns, SearchShape};
 ghost use Rattle.tune_search.specs.IncipitForms.{notes_in};
 ghost use Rattle.tune_search.specs.Loaded.{runs_in};
-ghost use Rattle.tune_search.specs.Searches.{SearchShape};
 ghost use Rattle.tune_sets.specs.Sets.{AreSetLists};
 ghost use Rattle.tune_sets.specs.SetBytes.{written_sets};
 ghost use Rattle.tune_sets.specs.declared.set_lists.TuneSet.{TuneSet};
@@ -23,11 +24,11 @@ ghost use Rattle.tune_contents.specs.Claimed.{AreRows, IsClaimed, RowsRise};
 ghost use Rattle.tune_contents.specs.Inside.ClaimedRows.{AreEntriesOfRows, HasNumber, HaveFew};
 ghost use Rattle.tune_contents.specs.Inside.ClaimedRows.{NumberRows, NameRows};
 ghost use Rattle.tune_contents.specs.Inside.ClaimedParts.{AreBlocks, AreRowsThere, AreTunesThere};
-ghost use Rattle.tune_contents.specs.Inside.ClaimedParts.{ClaimsIndex, ListsClaimed};
-ghost use Rattle.tune_contents.specs.Inside.ClaimedParts.{ClaimsLists, ClaimsPart, ClaimsSearch};
-ghost use Rattle.tune_contents.specs.Inside.ClaimedParts.{ClaimsTune, IsIndexThere, IsPartThere};
-ghost use Rattle.tune_contents.specs.Inside.ClaimedParts.{IsSearchThere, IsStateThere, IsTuneChain};
-ghost use Rattle.tune_contents.specs.Inside.ClaimedParts.{IsTuneThere, TunesClaimed};
+ghost use Rattle.tune_contents.specs.Inside.ClaimedParts.{ChainsClaimed, ClaimsIndex, ClaimsLists};
+ghost use Rattle.tune_contents.specs.Inside.ClaimedParts.{ClaimsPart, ClaimsSearch, ClaimsSoFar};
+ghost use Rattle.tune_contents.specs.Inside.ClaimedParts.{HoldsTune, HoldsTuneOf, IsIndexThere};
+ghost use Rattle.tune_contents.specs.Inside.ClaimedParts.{IsPartThere, IsSearchThere, IsStateThere};
+ghost use Rattle.tune_contents.specs.Inside.ClaimedParts.{IsTuneChain, ListsClaimed, TunesClaimed};
 ghost use Rattle.tune_contents.specs.Inside.TuneRows.{numbers_in};
 ghost use Rattle.tune_contents.specs.declared.contents.Contents.{Contents};
 
@@ -36,6 +37,7 @@ use crate::layout_notes::incipit_notes;
 use abc_fields::{MOST_TITLES, TuneText};
 use index_keys::EntryList;
 use std::alloc::{AllocError, Global};
+use std::marker::Model;
 use tiered_vector::TieredVector;
 use tune_disk::Disk;
 use tune_format::{Firsts, Row, number_of_key, read_root, read_text};
@@ -51,6 +53,10 @@ const REVISION_BYTES: usize = 2;
 
 // How many pages the chain of the set lists has at most.
 const MOST_SETS_PAGES: usize = 104;
+
+// Of how many tunes the chains are read before their texts are compared: what reads and what
+// compares drive each other out of the processor's caches.
+const GROUP_TUNES: usize = 32;
 
 // The indexes of an archive with their entries, the set lists as bytes, and where all these begin.
 #[derive(Drop)]
@@ -165,8 +171,15 @@ fn claim_lists<D: Disk>(alloc: Global, opening: &mut Opening<D>) -> Result<Lists
     let most_entries = MOST_TITLES as u32 * most;
     let notes = incipit_notes(layout);
     let (searches, entries) = claim_searches(alloc, opening, notes, firsts.searches, most_entries)?;
-    let mut chain = ReadChain::new(alloc);
-    claim_part(opening, firsts.sets, MOST_SETS_PAGES, &mut chain)?;
+    let mut chain = ChainBytes::new(alloc);
+    let mut image = PageImage::blank();
+    claim_part(
+        opening,
+        firsts.sets,
+        MOST_SETS_PAGES,
+        &mut image,
+        &mut chain,
+    )?;
     Ok(Lists {
         layout,
         firsts,
@@ -174,7 +187,7 @@ fn claim_lists<D: Disk>(alloc: Global, opening: &mut Opening<D>) -> Result<Lists
         tunes,
         searches,
         entries,
-        sets: chain.bytes,
+        sets: chain.into_vec(),
     })
 }
 
@@ -223,40 +236,59 @@ fn claim_searches<D: Disk>(
     SearchIndexes::load(alloc, opening, notes, firsts, most)
 }
 
-// A chain that is read: the image of its last page, and its bytes. One is enough for all chains of
-// an opening.
+// The bytes of a chain. A clause sees the list of them.
 #[derive(Drop)]
-struct ReadChain {
-    image: PageImage,
+struct ChainBytes {
     bytes: Vec<u8>,
 }
 
-impl ReadChain {
-    // No chain.
-    fn new(alloc: Global) -> ReadChain {
-        ReadChain {
-            image: PageImage::blank(),
+impl Model for ChainBytes {
+    ghost use Rattle.std.specs.Prelude.{ℕ, List};
+
+    ghost Value = { List ℕ };
+
+    ghost view = { λ chain. chain.bytes.items };
+}
+
+impl ChainBytes {
+    // No bytes.
+    fn new(alloc: Global) -> ChainBytes {
+        ChainBytes {
             bytes: Vec::new(alloc),
         }
     }
+
+    fn as_slice(&self) -> &[u8]
+        ensures { result.now ≡ self.now }
+    {
+        &self.bytes
+    }
+
+    fn into_vec(self) -> Vec<u8>
+        ensures { result.items ≡ self }
+    {
+        self.bytes
+    }
 }
 
-// Claims the part of at most so many pages that begins at this one, and reads its chain.
+// Claims the part of at most so many pages that begins at this one, and reads its chain. The image
+// is where a page is read.
 fn claim_part<D: Disk>(
     opening: &mut Opening<D>,
     first: u32,
     most: usize,
-    chain: &mut ReadChain,
+    image: &mut PageImage,
+    chain: &mut ChainBytes,
 ) -> Result<(), ClaimFault>
     ensures claims { OnOk result (D.honest opening.new.disk → (front : List Part)
         → HasClaimed opening.old.pages opening.old.claimed front
-        → ClaimsPart opening.old.pages front opening.new.claimed first chain.new.bytes.items) }
+        → ClaimsPart opening.old.pages front opening.new.claimed first chain.new) }
     ensures damaged { IfErr result (λ fault. D.honest opening.new.disk → (front : List Part)
         → HasClaimed opening.old.pages opening.old.claimed front
         → IsChainFault fault (IsPartThere opening.old.pages front first most)) }
     ensures looks { LooksOpening D.honest D.failures D.state result opening.old opening.new }
 {
-    opening.claim_chain_into(first, most, &mut chain.image, &mut chain.bytes)
+    opening.claim_chain_into(first, most, image, &mut chain.bytes)
 }
 
 // The rows of the entries of the index of numbers, with no revision and no length yet. Their
@@ -398,7 +430,8 @@ fn claim_rows<D: Disk>(
     claim_tunes(alloc, opening, layout, rows, &claims)
 }
 
-// Claims the tune of each of these rows, and puts its revision and its length into the row.
+// Claims the tune of each of these rows, and puts its revision and its length into the row. Of a
+// group of them the chains are read first, into places that the next group takes again.
 fn claim_tunes<D: Disk>(
     alloc: Global,
     opening: &mut Opening<D>,
@@ -417,11 +450,101 @@ fn claim_tunes<D: Disk>(
         (AreTunesThere layout opening.old.pages front claims.now.runs rows.old)) }
     ensures looks { LooksOpening D.honest D.failures D.state result opening.old opening.new }
 {
-    let mut chain = ReadChain::new(alloc);
+    let mut image = PageImage::blank();
+    let mut chains = blank_chains(alloc)?;
     let mut text = shortest_text(alloc)?;
+    let mut from = 0;
+    while from < rows.len() {
+        let to = rows.len().min(from + GROUP_TUNES);
+        claim_chains(opening, layout, &rows[from..to], &mut image, &mut chains)?;
+        compare_tunes(
+            layout,
+            &mut rows[from..to],
+            from,
+            claims,
+            &chains,
+            &mut text,
+        )?;
+        from = to;
+    }
+    Ok(())
+}
+
+// The places of the chains of a group.
+fn blank_chains(alloc: Global) -> Result<Vec<ChainBytes>, ClaimFault>
+    ensures count { IfOk result (λ chains. length chains.items ≡ 32) }
+    ensures err { IfErr result (λ fault. fault ≡ ClaimFault.OutOfMemory) }
+{
+    let Ok(mut chains) = Vec::with_capacity(alloc, GROUP_TUNES) else {
+        return Err(ClaimFault::OutOfMemory);
+    };
+    while chains.len() < GROUP_TUNES {
+        if chains.push(ChainBytes::new(alloc)).is_err() {
+            return Err(ClaimFault::OutOfMemory);
+        }
+    }
+    Ok(chains)
+}
+
+// Claims the chains of the tunes of these rows, and reads the bytes of each into its place.
+fn claim_chains<D: Disk>(
+    opening: &mut Opening<D>,
+    layout: Layout,
+    rows: &[Row],
+    image: &mut PageImage,
+    chains: &mut [ChainBytes],
+) -> Result<(), ClaimFault>
+    requires room { length rows.now ≤ length chains.old }
+    ensures room { length chains.new ≡ length chains.old }
+    ensures claims { OnOk result (D.honest opening.new.disk → (front : List Part)
+        → HasClaimed opening.old.pages opening.old.claimed front
+        → ChainsClaimed opening.old.pages front opening.new.claimed rows.now
+        (take (length rows.now) chains.new)) }
+    ensures damaged { IfErr result (λ fault. D.honest opening.new.disk → (front : List Part)
+        → HasClaimed opening.old.pages opening.old.claimed front
+        → (runs : SearchRuns) (later : List Row) → IsChainFault fault
+        (AreTunesThere layout opening.old.pages front runs (rows.now ++ later))) }
+    ensures looks { LooksOpening D.honest D.failures D.state result opening.old opening.new }
+{
+    let most = pages_for(layout.longest_text() + REVISION_BYTES);
+    for place in 0..rows.len() {
+        claim_part(opening, rows[place].first, most, image, &mut chains[place])?;
+    }
+    Ok(())
+}
+
+// Compares the texts of these chains, those of the tunes of these rows, with the entries at their
+// keys, and puts their revisions and lengths into the rows, of which the first is at this place of
+// all rows.
+fn compare_tunes(
+    layout: Layout,
+    rows: &mut [Row],
+    from: usize,
+    claims: &SearchClaims,
+    chains: &[ChainBytes],
+    text: &mut TuneText,
+) -> Result<(), ClaimFault>
+    requires fits { from + length rows.old < 2 ^ 64 }
+    requires within { from + length rows.old ≤ length claims.now.numbers }
+    requires numbers { take (length rows.old) (drop from claims.now.numbers)
+        ≡ numbers_in rows.old }
+    requires room { length rows.old ≤ length chains.now }
+    ensures same { OnOk result (number_entries rows.new ≡ number_entries rows.old) }
+    ensures claimed { OnOk result ((pages : List (List ℕ)) (front : List Part)
+        (was claimed : List Bool) (later : List Row) → HasClaimed pages was front
+        → ChainsClaimed pages front claimed rows.old (take (length rows.old) chains.now)
+        → ClaimsSoFar layout pages front claims.now.runs (rows.old ++ later) claimed rows.new
+        later) }
+    ensures damaged { IfErr result (λ fault. (pages : List (List ℕ)) (front : List Part)
+        (was claimed : List Bool) (later : List Row) → HasClaimed pages was front
+        → ChainsClaimed pages front claimed rows.old (take (length rows.old) chains.now)
+        → IsChainFault fault
+        (AreTunesThere layout pages front claims.now.runs (rows.old ++ later))) }
+    ensures err { IfErr result (λ fault. fault ≢ ClaimFault.Device) }
+{
     for place in 0..rows.len() {
         let row = &rows[place];
-        rows[place] = claim_tune(opening, layout, row, place, claims, &mut chain, &mut text)?;
+        rows[place] = compare_tune(layout, row, from + place, claims, &chains[place], text)?;
     }
     Ok(())
 }
@@ -436,33 +559,26 @@ fn shortest_text(alloc: Global) -> Result<TuneText, ClaimFault>
     }
 }
 
-// Claims the tune of a row, whose number, at this place, has to stand at the keys of its text. The
-// chain and the text are where those of the tune are read, so that no tune takes memory of its own.
-fn claim_tune<D: Disk>(
-    opening: &mut Opening<D>,
+// The row of the tune that a chain holds, whose number, at this place, has to stand at the keys of
+// its text. The text is where it is read, so that no tune takes memory of its own.
+fn compare_tune(
     layout: Layout,
     row: &Row,
     place: usize,
     claims: &SearchClaims,
-    chain: &mut ReadChain,
+    chain: &ChainBytes,
     text: &mut TuneText,
 ) -> Result<Row, ClaimFault>
     requires place { place < length claims.now.numbers }
     requires number { slice_index claims.now.numbers place ≡ row.now.number }
-    ensures row { IfOk result (λ claimed. row_entry claimed ≡ row_entry row.now) }
-    ensures claims { IfOk result (λ claimed. D.honest opening.new.disk → (front : List Part)
-        → HasClaimed opening.old.pages opening.old.claimed front
-        → ClaimsTune layout opening.old.pages front claims.now.runs opening.new.claimed
-        claimed) }
-    ensures damaged { IfErr result (λ fault. D.honest opening.new.disk → (front : List Part)
-        → HasClaimed opening.old.pages opening.old.claimed front → IsChainFault fault
-        (IsTuneThere layout opening.old.pages front claims.now.runs row.now.number
-        row.now.first)) }
-    ensures looks { LooksOpening D.honest D.failures D.state result opening.old opening.new }
+    ensures row { IfOk result (λ compared. row_entry compared ≡ row_entry row.now) }
+    ensures holds { IfOk result (λ compared.
+        HoldsTuneOf layout claims.now.runs chain.now compared) }
+    ensures damaged { IfErr result (λ fault. IsChainFault fault
+        (HoldsTune layout claims.now.runs row.now.number chain.now)) }
+    ensures err { IfErr result (λ fault. fault ≢ ClaimFault.Device) }
 {
-    let most = pages_for(layout.longest_text() + REVISION_BYTES);
-    claim_part(opening, row.first, most, chain)?;
-    let revision = take_text(layout, &chain.bytes, text)?;
+    let revision = take_text(layout, chain.as_slice(), text)?;
     if !claims.claim_tune(place, text) {
         return Err(ClaimFault::Damaged);
     }

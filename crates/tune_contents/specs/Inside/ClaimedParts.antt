@@ -176,6 +176,22 @@ pub record ClaimsTune (layout : Layout) (pages : List (List ℕ)) (front : List 
   pub measured : row.length ≡ length text
   pub keys : StandsAtKeys runs row.number text
 
+-- A chain of these bytes holds the tune of a row, whose number stands at its keys.
+pub record HoldsTuneOf (layout : Layout) (runs : SearchRuns) (bytes : List ℕ) (row : Row)
+    : Type 0 where
+  pub text : List ℕ
+  pub tune : IsTuneChain layout bytes row.revision text
+  pub measured : row.length ≡ length text
+  pub keys : StandsAtKeys runs row.number text
+
+-- it holds some tune, at whose keys this number stands
+pub record HoldsTune (layout : Layout) (runs : SearchRuns) (number : ℕ) (bytes : List ℕ)
+    : Type 0 where
+  pub revision : ℕ
+  pub text : List ℕ
+  pub tune : IsTuneChain layout bytes revision text
+  pub keys : StandsAtKeys runs number text
+
 -- Behind these parts some tune stands there at whose keys this number stands, and more parts
 -- behind it.
 pub record IsTuneThere (layout : Layout) (pages : List (List ℕ)) (front : List Part)
@@ -187,6 +203,17 @@ pub record IsTuneThere (layout : Layout) (pages : List (List ℕ)) (front : List
   pub keys : StandsAtKeys runs number text
 
 -- THE TUNES OF A LIST
+-- Behind parts that were claimed, the chains of these rows were, one after another, each with its
+-- bytes.
+abbrev pub ChainsClaimed : List (List ℕ) → List Part → List Bool → List Row → List (List ℕ)
+    → Type 0
+ChainsClaimed pages front now [] [] = HasClaimed pages now front
+ChainsClaimed pages front now [] (bytes ∷ chains) = ⊥
+ChainsClaimed pages front now (row ∷ rows) [] = ⊥
+ChainsClaimed pages front now (row ∷ rows) (bytes ∷ chains) = (mid : List Bool)
+    × (claims : ClaimsPart pages front mid row.first bytes)
+    × ChainsClaimed pages (front ++ claims.part ∷ []) now rows chains
+
 -- the number of each tune stands at the keys of its text
 abbrev pub StandAtKeys : SearchRuns → List Tune → Type 0
 StandAtKeys runs tunes = AllByRecursion (λ tune. StandsAtKeys runs tune.number tune.text) tunes

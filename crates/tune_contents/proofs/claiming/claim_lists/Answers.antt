@@ -4,6 +4,7 @@ use Rattle.tune_pages.specs.Claim.{CountsClaimFault, IsChainFault}
 use Rattle.tune_pages.specs.declared.fault.ClaimFault.{ClaimFault}
 use Rattle.tune_store.specs.Limits.{most_tunes}
 use Rattle.tune_contents.specs.Inside.ClaimedParts.{IsStateThere}
+use Rattle.tune_contents.proofs.ClaimLemmas.{claims_as}
 use Rattle.tune_contents.proofs.ClaimListLemmas.{root_at, root_none, numbers_fault, searches_fault, sets_fault, numbers_claimed, both_claimed, lists_claimed}
 use Rattle.tune_contents.proofs.claiming.claim_lists.Goals as goal
 
@@ -95,4 +96,5 @@ returns-clause-claims g c = λ h some.
     (searches.looks.same_pages zero ∙ on) (root_at _ c.args.opening.now.pages _ (read.image two) c.in-Some.ensures.some)
     (omega (arith, same)) (omega (arith, same)) (searches.notes ∙ c.incipit_notes-notes.ensures)
     (both_claimed _ _ _ _ _ _ c.in-Some.firsts c.most_tunes-most.result (8 * c.most_tunes-most.result) _ _ _ _ (read.looks.same_pages two) on
-    (read.claimed ∙ c.requires.root) some (numbers.claims one) (searches.claims zero)) (sets.claims h)
+    (read.claimed ∙ c.requires.root) some (numbers.claims one) (searches.claims zero))
+    (claims_as _ _ _ _ _ _ c.into_vec.ensures (sets.claims h))
