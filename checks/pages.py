@@ -1,5 +1,5 @@
 #!/usr/bin/env python3
-"""Usage: checks/pages.py
+"""Usage: checks/pages.py [--links FOLDER]
 
 Checks what people read. It prints each thing that is wrong and ends with 1, or prints one line and
 ends with 0:
@@ -12,13 +12,19 @@ ends with 0:
 - each clause stands at the call that it names, and each definition in the file that is linked, on
   every page and in the texts of the figures; every name of code on the pages is in the code;
 - a block of code that says where it is from stands there, and one for the shell is a recipe.
+
+With `--links` it checks pages that were put elsewhere, and these things alone: each link of a page
+under FOLDER, with its anchor, leads somewhere within FOLDER, and each file `examples/NAME` that a
+page names, in code too, is there.
 """
 import glob
 import os
 import re
 import sys
 
-ROOT = os.path.dirname(os.path.dirname(os.path.abspath(__file__)))
+WORDS = sys.argv[1:]
+# the folder that is checked: the repository, or the one behind `--links`
+ROOT = os.path.abspath(WORDS[-1] if WORDS else os.path.join(os.path.dirname(__file__), os.pardir))
 NO_SOURCES = {'.git', 'out', 'data', 'must-fail', '__pycache__'}
 SCRATCH = 'bench/work'
 WIDTH, PROOF_WIDTH = 100, 160
@@ -27,6 +33,7 @@ RECIPE_PAGES = ('README.md', 'docs/USING.md')
 NAME_PAGES = ('docs/PROOFS.md', 'docs/ARCHITECTURE.md', 'docs/GLOSSARY.md', 'docs/DECISIONS.md',
               'docs/PIPE-TO-PLATTER.md', 'docs/RESULTS.md')
 PATH = re.compile(r'(crates|docs|bench|checks|examples|completions)/[\w./*-]*')
+EXAMPLE = re.compile(r'\bexamples/\w[\w.-]*\w')
 FILE_NAME = re.compile(r'\w+\.(rt|antt)')
 NAME = re.compile(r'[A-Za-z]\w*(::[A-Za-z]\w*)*|[a-z0-9]+(-[a-z0-9]+)+')
 LINK = re.compile(r'\[([^\]]*)\]\(([^()\s]+)\)')
@@ -49,6 +56,11 @@ def read(path):
 
 def exists(path):
     return os.path.exists(os.path.join(ROOT, path))
+
+
+def is_within(path):
+    """Whether a path from the top, in its shortest form, does not lead out."""
+    return not os.path.isabs(path) and path.split(os.sep)[0] != os.pardir
 
 
 def files():
@@ -191,10 +203,17 @@ def check_links(page, pages):
         where = f'{page.path}:{page.text().count(NEW_LINE, 0, link.start()) + 1}'
         path, _, anchor = link[2].partition('#')
         target = page.target(path) if path else page.path
-        if not exists(target):
+        if not (is_within(target) and exists(target)):
             fault(where, f'no {target}')
-        elif anchor and anchor not in pages[target].anchors():
+        elif anchor and (target not in pages or anchor not in pages[target].anchors()):
             fault(where, f'no heading {anchor} in {target}')
+
+
+def check_examples(page):
+    for number, line in enumerate(page.lines, 1):
+        for name in EXAMPLE.findall(line):
+            if not exists(name):
+                fault(f'{page.path}:{number}', f'no {name}')
 
 
 def check_spans(page, names, file_names):
@@ -276,11 +295,16 @@ def known_names(paths):
     return names
 
 
-def main():
+def all_pages(paths):
+    return {path: Page(path) for path in paths if path.endswith('.md')}
+
+
+def check_repository():
+    """Checks everything, and returns what is there."""
     paths = list(files())
     for path in paths:
         check_widths(path)
-    pages = {path: Page(path) for path in paths if path.endswith('.md')}
+    pages = all_pages(paths)
     names = known_names(paths)
     file_names = {os.path.basename(path) for path in paths}
     for page in pages.values():
@@ -293,12 +317,32 @@ def main():
     for path in paths:
         if path.startswith('docs/figures/') and path.endswith('.txt'):
             check_promises(Page(path))
+    return f'{len(pages)} pages and {len(paths)} files are as they should be'
+
+
+def check_elsewhere():
+    """Checks what pages that were put elsewhere lead to, and returns what is there."""
+    pages = all_pages(os.path.relpath(os.path.join(folder, name), ROOT)
+                      for folder, _, names in os.walk(ROOT) for name in sorted(names))
+    if not pages:
+        fault(ROOT, 'no page')
+    for page in pages.values():
+        check_links(page, pages)
+        check_examples(page)
+    return f'the links of {len(pages)} pages lead somewhere'
+
+
+def main():
+    if WORDS and (len(WORDS) != 2 or WORDS[0] != '--links'):
+        print(__doc__.splitlines()[0], file=sys.stderr)
+        sys.exit(2)
+    told = check_elsewhere() if WORDS else check_repository()
     for line in faults:
         print(line)
     if faults:
         print(f'{len(faults)} things are wrong')
         sys.exit(1)
-    print(f'{len(pages)} pages and {len(paths)} files are as they should be')
+    print(told)
 
 
 main()
