@@ -1398,6 +1398,27 @@ END
     end
 }
 
+# Looks at the links of the pages that are installed in $there.
+links_of_pages() {
+    words="pages.py --links $there"
+    python3 "$root/checks/pages.py" --links "$there" > "$work/out" 2> "$work/err"
+    status=$?
+}
+
+# Writes a release of the copy in top to the folder $1, and its note BUILT, which says $2 of the
+# program, to the file found.
+release() {
+    words='release'
+    top/release "$1" > "$work/out" 2> "$work/err"
+    status=$?
+    ends_with 0
+    [ ! -s "$work/err" ] || wrong "a release complains: $(head -n 1 "$work/err")"
+    name=$(basename "$1"/*.gz .tar.gz)
+    gzip -dc "$1/$name.tar.gz" | tar -xOf - "$name/BUILT" > found
+    grep -q "^the program was $2\$" found ||
+        wrong "BUILT says '$(sed -n 2p found)' in place of '$2'"
+}
+
 cases_of_pages() {
     begin 'pages and words'
     version=$(sed -n 's/^pub const VERSION: &str = "\(.*\)";$/\1/p' \
@@ -1435,56 +1456,125 @@ cases_of_pages() {
     done
 
     begin 'installing and releasing'
-    # A copy of what is installed, with the program at hand in the place of the one that is built.
-    mkdir -p top/crates/tunes/out top/examples
-    for name in tunes tunes-book install release docs completions LICENSE CHANGELOG.md crates.txt \
-        HANDLES; do
-        cp -R "$root/$name" top
-    done
-    cp "$book" top/examples
+    # A copy of the repository, with the program at hand in the place of the one that is built.
+    mkdir top
+    (cd "$root" && tar -cf - --exclude=./.git --exclude=./bench/work --exclude=out \
+        --exclude=__pycache__ .) | tar -xf - -C top
+    mkdir -p top/crates/tunes/out
     cp "$program" top/crates/tunes/out/tunes
-    DESTDIR=$PWD top/install /to > "$work/out" 2> "$work/err"
-    status=$?
-    words='install'
-    done_with ''
-    (cd to && find . -type f | LC_ALL=C sort) > found
     printf './%s\n' bin/tunes bin/tunes-book share/bash-completion/completions/tunes \
-        share/bash-completion/completions/tunes-book share/doc/tunes/ABC-PROFILE.md \
-        share/doc/tunes/CHANGELOG.md share/doc/tunes/FILE-FORMAT.md share/doc/tunes/GLOSSARY.md \
-        share/doc/tunes/LICENSE share/doc/tunes/SCRIPTS.md share/doc/tunes/USING.md \
-        share/doc/tunes/session.abc share/man/man1/tunes-book.1 share/man/man1/tunes.1 \
-        share/zsh/site-functions/_tunes > wanted
-    same found wanted
+        share/bash-completion/completions/tunes-book share/man/man1/tunes-book.1 \
+        share/man/man1/tunes.1 share/zsh/site-functions/_tunes > wanted
+    there=to/share/doc/tunes
+    for each in sh 'bash --posix' 'busybox sh'; do
+        command -v ${each% *} > /dev/null || continue
+        rm -rf to
+        (umask 077 && DESTDIR=$PWD $each top/install /to) > "$work/out" 2> "$work/err"
+        status=$?
+        words="install under $each"
+        done_with ''
+        (cd to && find . ! -type d ! -path './share/doc/tunes/*' | LC_ALL=C sort) > found
+        same found wanted
+        diff -r top "$there" | grep -v '^Only in top' > "$work/told" &&
+            wrong "the pages differ, after '$words': $(head -n 1 "$work/told")"
+        (cd "$there" && find . -type f ! -perm 644) > found
+        (cd "$there" && find . -type f) | while read -r file; do
+            [ ! -x "top/$file" ] || echo "$file"
+        done > executable
+        same found executable
+        (cd to && find . -type f ! -perm 644 ! -perm 755) > found
+        same found /dev/null
+        diff -r top/examples "$there/examples" > "$work/told" || wrong 'the examples are others'
+        for page in README.md CHANGELOG.md LICENSE docs/USING.md docs/SCRIPTS.md \
+            docs/ABC-PROFILE.md docs/FILE-FORMAT.md docs/GLOSSARY.md; do
+            [ -e "$there/$page" ] || wrong "$page is missing, after '$words'"
+        done
+    done
+    links_of_pages
+    ends_with 0
+    for each in docs/figures/file.svg docs/GLOSSARY.md examples/save.sh; do
+        mv "$there/$each" aside
+        links_of_pages
+        ends_with 1
+        grep -q ": no $each\$" "$work/out" || wrong "'$words' does not miss $each"
+        mv aside "$there/$each"
+    done
+    for link in absent.md ../../wanted; do
+        printf '\n[A page](%s)\n' "$link" >> top/docs/USING.md
+        top/install "$PWD/none" > "$work/out" 2> "$work/err"
+        status=$?
+        words="install, of a page that leads to $link"
+        ends_with 1
+        grep -q "USING.md leads to docs/$link, which is no file" "$work/err" ||
+            wrong "'$words' does not say it"
+        [ ! -e none ] || wrong "'$words' puts something"
+        cp "$root/docs/USING.md" top/docs
+    done
     unset TUNES
-    to/bin/tunes-book -f a.abcx new && to/bin/tunes-book -f a.abcx add to/share/doc/tunes \
+    to/bin/tunes-book -f a.abcx new && to/bin/tunes-book -f a.abcx add "$there/examples" \
         > "$work/out" 2> "$work/err"
     status=$?
     words='add, of what is installed'
-    done_with 'to/share/doc/tunes/session.abc: tunes 1 to 15'
+    done_with "$there/examples/session.abc: tunes 1 to 15"
     ln -s to/bin/tunes-book book
     ./book -f a.abcx check > "$work/out" 2> "$work/err"
     status=$?
     words='check, by a link'
     done_with 'layout 2 tunes 15 sets 0'
-    mkdir one two
-    top/release one > "$work/out" 2> "$work/err"
+    python3 "$there/examples/read_archive.py" check a.abcx > "$work/out" 2> "$work/err"
     status=$?
-    words='release'
+    words='the reader that is installed'
     ends_with 0
+    grep -q '15 tunes' "$work/out" || wrong "'$words' says '$(head -n 1 "$work/out")'"
+    ./book -f a.abcx export wanted.abc
+    TUNES=to/bin/tunes sh "$there/examples/save.sh" a.abcx saved.abc export > "$work/told"
+    words='save.sh that is installed'
+    same saved.abc wanted.abc
+    # as USING says it
+    rm saved.abc
+    ln -s to/bin/tunes to/bin/tunes-book "$there/examples" .
+    sh examples/save.sh a.abcx saved.abc export > "$work/told"
+    words='save.sh by a link'
+    same saved.abc wanted.abc
+    # Here it packs quickly, and ./tunes builds by a copy of the program at hand.
+    mkdir tools one two
+    printf '#!/bin/sh\n[ "$1" != -9 ] || { shift; set -- -1 "$@"; }\nexec "%s" "$@"\n' \
+        "$(command -v gzip)" > tools/gzip
+    printf '#!/bin/sh\nsleep 0.1\ncp "%s" out/tunes\n' "$program" > tools/rt
+    chmod +x tools/gzip tools/rt
+    was=$PATH
+    PATH=$PWD/tools:$PATH
+    from_elsewhere='found where this was packed; whether it was proved is not known'
+    from_here='proved and built from its sources by ./tunes, where this was packed'
+    release one "$from_elsewhere"
     sleep 1
-    top/release two > "$work/out" 2>> "$work/err"
-    [ ! -s "$work/err" ] || wrong "a release complains: $(head -n 1 "$work/err")"
-    name=$(cd one && ls ./*.gz)
+    release two "$from_elsewhere"
+    grep -q '^the C library there: .*[0-9]' found || wrong 'it does not say where it was packed'
+    grep -q "^its sha256: $(sha256sum < "$program" | sed 's/ .*//')\$" found ||
+        wrong 'BUILT has no sum of the program'
     case $name in
-    "./tunes-$version-"*.tar.gz) ;;
+    "tunes-$version-"*) ;;
     *) wrong "the release is named $name" ;;
     esac
-    same "one/$name" "two/$name"
+    same "one/$name.tar.gz" "two/$name.tar.gz"
     (cd one && sha256sum -c ./*.sha256) > "$work/told" 2>&1 || wrong 'the sum is another'
-    gzip -dc "one/$name" | tar -tf - > found
-    grep -q '/share/man/man1/tunes-book\.1$' found || wrong 'the release has no pages'
-    gzip -dc "one/$name" | tar -xOf - "$(basename "$name" .tar.gz)/BUILT" > found
-    grep -q '^built on the C library: .*[0-9]' found || wrong 'it does not say how it was built'
+    gzip -dc "one/$name.tar.gz" | tar -tf - > found
+    for each in man/man1/tunes-book.1 doc/tunes/docs/USING.md doc/tunes/examples/read_archive.py; do
+        grep -q "/share/$each\$" found || wrong "the release has no $each"
+    done
+    built=top/crates/tunes/out/tunes
+    rm "$built"
+    top/tunes --version > "$work/out" 2> "$work/err"
+    takes=$(sed -n 's/.* takes \(about .*\)$/\1/p' "$work/err")
+    [ -n "$takes" ] && grep -q "in $takes," "$root/README.md" ||
+        wrong "./tunes says that a build takes '$takes', and README something else"
+    release two "$from_here"
+    printf x >> "$built"
+    touch -r "$built.proved" "$built"
+    release two "$from_elsewhere"
+    cp "$program" "$built"
+    release two "$from_elsewhere"
+    PATH=$was
     end
 }
 
