@@ -142,8 +142,8 @@ fake() {
 # A folder with links to all tools that tunes-book asks for, but those of these words.
 tools_without() {
     mkdir -p bin
-    for tool in awk cat chmod cmp cp cut dd flock grep head ln ls mktemp mv od readlink rm sed sh \
-        sync tail tr wc sleep; do
+    for tool in awk cat chmod cksum cmp dd flock grep head ln ls mkfifo mktemp mv od readlink rm \
+        sed sh sync tail tee tr wc sleep; do
         case " $* " in *" $tool "*) continue ;; esac
         found=$(command -v "$tool") && ln -s "$found" "bin/$tool"
     done
@@ -588,7 +588,7 @@ cases_of_sets() {
     [ "$(sed -n '2p; 200p' "$work/out" | cut -d ' ' -f 1,2 | tr '\n' ' ')" = '2 3 200 2 ' ] ||
         wrong 'place 2 is not at the end'
     run put full 1
-    refused 1 '200 places, and no more; begin a second one; 0 of the 1 tunes'
+    refused 1 'full has 200 places, so none of the 1 tunes is put: the set list has 200 places'
     end
 }
 
@@ -718,7 +718,7 @@ T:other
 K:C
 ab'
     run undo
-    refused 1 'nothing is left'
+    refused 1 'nothing is to be undone'
     mv tune-3.abc mine.abc
     EDITOR='cp mine.abc'
     run edit 3
@@ -1083,16 +1083,12 @@ cases_of_devices() {
         echo older > out
         cp out wanted
         ln -s /dev/full out.new
-        for line in 'export out' 'dump out' 'hear 1 out' 'print out'; do
-                run $line
-            [ "$status" -ne 0 ] || wrong "'$line' ends with 0"
+        for line in 'export --force out' 'dump --force out' 'backup out.new' 'export out.new'; do
+            run $line
+            refused 1 ''
             same out wanted
-            [ -L out.new ] || ln -s /dev/full out.new
+            [ -L out.new ] || wrong "'$line' takes a link away that is not its own"
         done
-        ln -s /dev/full copy.new
-        run backup copy
-        refused 1 'could not be written'
-        [ ! -e copy ] || wrong 'there is a copy'
         for line in titles 'show 1' 'find kesh' '--json titles' '--csv sets' check upgrade help; do
             $shell "$root/tunes-book" $line > /dev/full 2> "$work/err"
             status=$?
@@ -1113,14 +1109,16 @@ cases_of_devices() {
     run export folder
     refused 2 'folder is a folder'
     run export no/such/folder
-    refused 1 'could not be written'
+    refused 1 'there is no folder no/such/'
     has 'folder out.new tunes.abcx'
     end
 
     begin 'links' session
     mkdir away
     run export all.abc
-    echo older > away/book
+    cp all.abc away/book
+    run put friday 3
+    run export away/book friday
     ln -s away/book out
     run export out
     done_with ''
@@ -1163,8 +1161,8 @@ esac
 END
     echo older > out
     cp out wanted
-    for line in 'export out' 'dump out' 'print out' 'hear 1 out' 'show 1' 'find kesh' 'titles' \
-        'edit 1' 'add mine.abc' 'find --within a'; do
+    for line in 'export out --force' 'dump out --force' 'print out.ps' 'hear 1 out.mid' 'show 1' \
+        'find kesh' 'titles' 'edit 1' 'add mine.abc' 'find --within a'; do
         printf 'X:1\nK:C\n' > mine.abc
         EDITOR='sed -i s/jig/reel/'
         run $line
@@ -1185,7 +1183,7 @@ esac
 END
     EDITOR='sed -i s/jig/reel/'
     run edit 1
-    refused 1 'your text stays there'
+    refused 1 'your text is in tune-1.abc'
     grep -q reel tune-1.abc || wrong 'the text is lost'
     end
 
@@ -1195,8 +1193,8 @@ END
     fake << 'END'
 case $1 in run) cat > /dev/null ;; *) exec "$real" "$@" ;; esac
 END
-    for line in 'export out' 'dump out' 'show 1' titles "add $book" 'put a 1' 'cut a 1' \
-        'delete 1'; do
+    for line in 'export out --force' 'dump out --force' 'show 1' titles "add $book" 'put a 1' \
+        'cut a 1' 'delete 1'; do
         run $line
         refused 1 'no answer came'
         same out wanted
@@ -1227,6 +1225,614 @@ END
         [ $? -gt 128 ] || wrong "it goes on after $signal"
     done
     has 'asked fake tunes.abcx'
+    end
+}
+
+# A program in the place of a tool, on PATH before the others; standard input is its script.
+tool_is() {
+    mkdir -p bin
+    { echo '#!/bin/sh' && cat; } > "bin/$1"
+    chmod +x "bin/$1"
+}
+
+# Runs ./tunes-book with the programs of bin/ before the others.
+run_over_bin() {
+    was=$PATH
+    PATH=$PWD/bin:$PATH
+    run "$@"
+    PATH=$was
+}
+
+# Tools that draw and play at once. Where the book has the line, abcm2ps complains of it.
+drawing_tools() {
+    tool_is abcm2ps << 'END'
+printf '%%!PS\n%%%%EOF\n' > book.ps
+grep -n qqq book.abc |
+    sed 's/:/ /; s/\([0-9]*\) \(.*\)/book.abc:\1:6: error: Not a note\n   \1 \2\n      ^/'
+! grep -q qqq book.abc
+END
+    tool_is ps2pdf << 'END'
+printf '%%PDF-1.4\n%%%%EOF\n' > "$2"
+END
+    tool_is abc2midi << 'END'
+printf 'MThd\0\0\0\006\0\0\0\001\0`MTrk\0\0\0\004\0\377/\0' > tune.mid
+grep -n qqq tune.abc
+! grep -q qqq tune.abc
+END
+}
+
+cases_of_outs() {
+    begin 'OUT is the archive, by any name' session
+    drawing_tools
+    mkdir away
+    for name in link.abc link.pdf link.mid; do ln -s tunes.abcx $name; done
+    ln tunes.abcx hard.ps
+    ln tunes.abcx hard.mid
+    ln -s ../link.pdf away/chain.pdf
+    cp tunes.abcx before
+    folder=${PWD##*/}
+    for force in '' --force; do
+        for line in 'export tunes.abcx' 'export ./tunes.abcx' "export $PWD/tunes.abcx" \
+            "dump ../$folder/tunes.abcx" 'export link.abc' 'dump link.abc' 'print link.pdf' \
+            'print hard.ps' 'hear 1 link.mid' 'hear 1 hard.mid' 'print away/chain.pdf' \
+            'backup tunes.abcx' 'backup link.abc'; do
+            [ "$force${line%% *}" != --forcebackup ] || continue
+            run_over_bin $line $force
+            refused 1 'is the archive itself'
+            same tunes.abcx before
+        done
+    done
+    cd away || exit 1
+    TUNES_BOOK=../tunes.abcx
+    for line in 'export ../hard.ps' 'print ../link.pdf' "dump $PWD/../tunes.abcx"; do
+        PATH=$PWD/../bin:$PATH run $line
+        refused 1 'is the archive itself'
+    done
+    cd ..
+    same tunes.abcx before
+    has 'away before bin bin/abc2midi bin/abcm2ps bin/ps2pdf hard.mid hard.ps tunes.abcx'
+    end
+
+    begin 'other archives, and what is kept beside this one' session
+    cp tunes.abcx copy.abcx
+    run delete 3
+    run restore copy.abcx
+    head -c 20000 copy.abcx > cut.abcx
+    cp tunes.abcx.old.abc old
+    cp tunes.abcx.1.old first
+    ln -s tunes.abcx.old.abc link
+    ln tunes.abcx.1.old hard
+    ln -s tunes.abcx.new dangling
+    ln -s kept tunes.abcx.3.old
+    ln -s tunes.abcx.3.old chain
+    for line in 'export copy.abcx' 'dump cut.abcx' 'export hard' 'export tunes.abcx.1.old'; do
+        for force in '' --force; do
+            run $line $force
+            refused 1 ''
+        done
+    done
+    for line in 'export tunes.abcx.old.abc' 'dump link' 'export tunes.abcx.new' 'dump dangling' \
+        'export tunes.abcx.7.old' 'export tunes.abcx.3.old' 'dump chain' \
+        'backup tunes.abcx.2.old' 'backup tunes.abcx.new'; do
+        run $line
+        refused 1 'belongs to the archive tunes.abcx'
+    done
+    run export --force link
+    refused 1 'belongs to the archive'
+    same tunes.abcx.old.abc old
+    same tunes.abcx.1.old first
+    same hard first
+    has 'copy.abcx cut.abcx first hard old tunes.abcx tunes.abcx.1.old tunes.abcx.old.abc'
+    end
+
+    begin 'files that stand, by their kinds' session
+    drawing_tools
+    run put friday 3 1
+    cp "$book" source.abc
+    printf '%%abc-2.1\n%% remark\n\nX:1\nK:C\n' > remark.abc
+    printf '%%abc-2.1\n\nX:1\nT:nowhere else\nK:C\nabc\n' > other.abc
+    printf 'import 6\nX:1\nK:C\nshow 1\n' > by-hand.script
+    printf '%%!PS-Adobe\n' > sheets.pdf
+    printf '%%PDF-1.4\n' > sheets.ps
+    printf 'RIFF' > sound.mid
+    echo text > text
+    : > empty
+    cp empty mine.pdf
+    ln -s 'mine.pdf
+' ends.pdf
+    mkfifo pipe
+    ln -s /dev/null null
+    for name in source.abc remark.abc other.abc by-hand.script sheets.pdf sheets.ps sound.mid text \
+        empty; do
+        cp $name was.$name
+    done
+    for line in 'export source.abc' 'export source.abc friday' 'export remark.abc' \
+        'export other.abc' 'export by-hand.script' 'export text' 'export empty' \
+        'print sheets.pdf friday' 'print sheets.ps' 'hear 1 sound.mid' 'dump by-hand.script' \
+        'dump source.abc' 'dump text'; do
+        run_over_bin $line
+        refused 1 '--force writes over'
+    done
+    run export other.abc
+    refused 1 'neither in the archive nor among its old'
+    for line in 'export pipe' 'export null' 'dump --force pipe' 'export --force null'; do
+        run $line
+        refused 1 'no regular file'
+    done
+    [ -p pipe ] && [ -L null ] && [ -c /dev/null ] || wrong 'a pipe or a device is written over'
+    for name in source.abc remark.abc other.abc by-hand.script sheets.pdf sheets.ps sound.mid text \
+        empty; do
+        same $name was.$name
+    done
+    run_over_bin --force print ends.pdf
+    ends_with 0
+    [ -L ends.pdf ] && [ ! -s mine.pdf ] || wrong 'a link whose name ends in a line feed'
+    for line in 'export source.abc' 'print sheets.pdf friday' 'print sheets.ps' \
+        'hear 1 sound.mid' 'dump by-hand.script'; do
+        run_over_bin --force $line
+        done_with ''
+        run_over_bin $line
+        done_with ''
+    done
+    same source.abc "$work/session-book"
+    run export source.abc friday
+    done_with ''
+    # a tune that was changed stands among the old texts
+    run delete 7
+    run export source.abc
+    done_with ''
+    by_script 'delete 8'
+    run export source.abc
+    refused 1 'old
+texts: 1. Take them in'
+    run dump by-hand.script
+    refused 1 'old
+texts: 1. Take them in'
+    end
+
+    begin 'endings, and names of set lists in the place of OUT' session
+    run put friday 3 1
+    for line in 'print x.png friday' 'print friday' 'print all' 'hear 1 k.wav' 'hear 1 friday' \
+        'export friday' 'export friday friday'; do
+        run $line
+        refused 2 ''
+    done
+    run print friday
+    complains 'friday is a set list; `tunes-book print friday.pdf friday` prints it'
+    run export friday
+    complains 'friday is a set list; `tunes-book export friday.abc friday`'
+    has tunes.abcx
+    run export ./friday
+    done_with ''
+    same friday "$work/session-book"
+    end
+
+    begin 'a file that is not an archive is not replaced by a copy' session
+    cp "$book" mine.abc
+    run -f mine.abc restore tunes.abcx
+    refused 1 '--force'
+    same mine.abc "$book"
+    run -f mine.abc restore --force tunes.abcx
+    done_with 'layout 2 tunes 15 sets 0
+the archive that was there is mine.abc.1.old now'
+    same mine.abc.1.old "$book"
+    end
+
+    begin 'a book of old texts that is none' session
+    cp tunes.abcx before
+    for other in "$book" before; do
+        cp "$other" other
+        ln -sf other tunes.abcx.old.abc
+        run delete 1
+        refused 1 'the old text could not be kept in tunes.abcx.old.abc'
+        same other "$other"
+        same tunes.abcx before
+    done
+    end
+}
+
+# Each call of `sync` writes its words to the file `synced`, and whether the archive is as before.
+watched_sync() {
+    tool_is sync << 'END'
+cmp -s tunes.abcx before && state=before || state=after
+for word; do
+    case $word in --) ;; *) [ -e "$word" ] && echo "$state $word" >> synced ;; esac
+done
+[ ! -e delay ] || sleep "$(cat delay)"
+END
+    cp tunes.abcx before
+}
+
+# Runs two calls at once, the second a little later; `first` and `second` get their statuses. The
+# first is slow where it syncs.
+two_at_once() {
+    echo 0.6 > delay
+    (
+        PATH=$PWD/bin:$PATH
+        export PATH
+        $shell "$root/tunes-book" $1 > first.out 2> first.err < /dev/null
+    ) &
+    sleep 0.3
+    run $2
+    second=$status
+    wait $!
+    first=$?
+    rm -f delay
+}
+
+cases_of_kept() {
+    begin 'what is kept is on the device before the tune changes' session
+    watched_sync
+    run_over_bin delete 3
+    done_with ''
+    grep -qx 'before tunes.abcx.old.abc' synced && grep -qx 'before ./' synced ||
+        wrong "before a delete it syncs '$(cat synced)'"
+    cp tunes.abcx before
+    rm synced
+    EDITOR='sed -i s/^R:.*/R:one/'
+    run_over_bin edit 4
+    done_with 'tune 4 has revision 2 now'
+    grep -qx 'before tunes.abcx.old.abc' synced && grep -qx 'before ./' synced ||
+        wrong "before an edit it syncs '$(cat synced)'"
+    end
+
+    begin 'names that are given are on the device' session
+    watched_sync
+    for line in 'export out' 'dump out' 'backup out' 'restore out'; do
+        rm -f synced
+        run_over_bin $line
+        ends_with 0
+        name=out
+        [ "${line%% *}" != restore ] || name=tunes.abcx
+        grep -q " $name$" synced && [ "$(tail -n 1 synced)" = 'before ./' ] ||
+            wrong "'$line' syncs '$(cat synced)'"
+        [ "${line%% *}" = backup ] || rm -f out
+    done
+    run dump script
+    rm synced
+    run_over_bin -f new.abcx load script
+    ends_with 0
+    grep -q ' new.abcx$' synced && [ "$(tail -n 1 synced)" = 'before ./' ] ||
+        wrong "load syncs '$(cat synced)'"
+    tool_is sync << 'END'
+case $* in *out.new*) exit 1 ;; esac
+END
+    run_over_bin export out
+    refused 1 'out could not be written'
+    end
+
+    begin 'two at once' session
+    watched_sync
+    for line in 'export out' 'dump out' 'backup out'; do
+        two_at_once "$line" "$line"
+        [ "$first.$second" = 0.1 ] || wrong "two '$line': $first and $second"
+        complains 'out.new is there'
+        cp out whole
+        rm out
+        run $line
+        same out whole
+        rm out
+    done
+    run backup one
+    run delete 3
+    run backup two
+    run delete 4
+    cp tunes.abcx later
+    cp tunes.abcx before
+    two_at_once 'restore one' 'restore two'
+    [ "$first.$second" = 0.1 ] || wrong "two restores: $first and $second"
+    same tunes.abcx one
+    same tunes.abcx.1.old later
+    echo mine > tunes.abcx.2.old
+    run restore two
+    ends_with 0
+    [ "$(cat tunes.abcx.2.old)" = mine ] || wrong 'a file that came there is written over'
+    same tunes.abcx.3.old one
+    run dump script
+    two_at_once '-f made load script' '-f made new'
+    [ "$first.$second" = 1.0 ] || wrong "load beside new: $first and $second"
+    grep -q 'made by another program meanwhile' first.err || wrong 'load does not say why'
+    run -f made check
+    done_with 'layout 2 tunes 0 sets 0'
+    end
+
+    begin 'an undo asks for the tune that was changed' session
+    printf 'X:1\nT:one\nK:C\n' > a.abc
+    printf 'X:1\nT:two\nK:C\n' > b.abc
+    run -f x new
+    run -f x add a.abc b.abc
+    EDITOR='sed -i s/T:two/T:changed/'
+    run -f x edit 2
+    run -f x delete 2
+    printf 'X:1\nT:three\nK:C\n' > c.abc
+    run -f x add c.abc
+    done_with 'c.abc: tune 2'
+    run -f x undo
+    done_with 'tune 2 is there again, with the number 3'
+    run -f x undo
+    refused 1 'tune 2 is not the one that was edited'
+    run -f x show 2
+    says 'X:2
+T:three
+K:C'
+    # and where another program replaced it
+    EDITOR='sed -i s/^R:.*/R:one/'
+    run edit 3
+    { echo 'replace 3 2 19'; printf 'X:1\nT:other\nK:C\nab\n'; } | "$program" run tunes.abcx > told
+    cp tunes.abcx before
+    run undo
+    refused 1 'was changed since by another'
+    same tunes.abcx before
+    end
+
+    begin 'an entry that is cut within a line' session
+    by_script 'delete 3'
+    printf '\n%% tunes-book delete 4 1 300\nX:4\nT:Banish Mis' > tunes.abcx.old.abc
+    run show 4
+    cp "$work/out" wanted
+    run delete 4
+    done_with ''
+    run undo
+    done_with 'tune 4 is there again'
+    run show 4
+    same "$work/out" wanted
+    printf '\n%% tunes-b' > tunes.abcx.old.abc
+    run delete 4
+    done_with ''
+    run undo
+    done_with 'tune 4 is there again'
+    run undo
+    refused 1 'nothing is left'
+    end
+
+    begin 'an undo that broke off, and two at once' session
+    run show 7
+    cp "$work/out" wanted
+    run delete 7
+    cp tunes.abcx deleted
+    cp tunes.abcx.old.abc entry
+    # killed before the tune came back, and after
+    printf '\n%% tunes-book undoing\n' >> tunes.abcx.old.abc
+    run undo
+    done_with 'tune 7 is there again'
+    run undo
+    refused 1 'nothing is left'
+    for number in 16 7; do
+        cp deleted tunes.abcx
+        cp entry tunes.abcx.old.abc
+        printf '\n%% tunes-book undoing\n' >> tunes.abcx.old.abc
+        { echo "import $(($(wc -c < wanted)))"; cat wanted; } | "$program" run tunes.abcx > told
+        [ "$number" = 16 ] || by_script 'renumber 16 7'
+        run undo
+        ends_with 0
+        run show 7
+        same "$work/out" wanted
+        run check
+        done_with 'layout 2 tunes 15 sets 0'
+        run undo
+        refused 1 'nothing is left'
+    done
+    run delete 7
+    cp tunes.abcx before
+    watched_sync
+    two_at_once undo undo
+    [ "$first.$second" = 0.1 ] || wrong "two undos: $first and $second"
+    complains 'another program has it open'
+    run check
+    done_with 'layout 2 tunes 15 sets 0'
+    end
+
+    begin 'a delete that is refused leaves no old text' session
+    if command -v flock > /dev/null; then
+        run delete 3
+        flock tunes.abcx sh -c ': > locked; while [ ! -e over ]; do sleep 0.05; done' &
+        while [ ! -e locked ]; do sleep 0.05; done
+        run delete 4
+        refused 1 'another program has it open'
+        EDITOR='sed -i s/^R:.*/R:one/'
+        : > over
+        wait
+    fi
+    run undo
+    done_with 'tune 3 is there again'
+    end
+
+    begin 'what is kept beside an archive is no book' session
+    run delete 3
+    run delete 4
+    cp "$book" mine.abc
+    run -f other.abcx new
+    run -f other.abcx add mine.abc
+    run -f other.abcx delete 1
+    run add --new .
+    done_with './mine.abc: tunes 16 to 17; 13 of its tunes are there already'
+    run add tunes.abcx.old.abc
+    refused 1 'is no book'
+    end
+}
+
+# Runs the words of the second and later arguments in a group of processes of their own, which gets
+# the signal SIG$1 after some time of chance, and sometimes twice.
+interrupted() {
+    python3 -c 'import os, random, signal, subprocess, sys, time
+name, seed, *words = sys.argv[1:]
+random.seed(int(seed))
+child = subprocess.Popen(words, start_new_session=True, stdin=subprocess.DEVNULL,
+    stdout=subprocess.DEVNULL, stderr=subprocess.DEVNULL)
+for each in range(random.randint(1, 2)):
+    time.sleep(random.random() * 0.15)
+    try:
+        os.killpg(child.pid, getattr(signal, "SIG" + name))
+    except ProcessLookupError:
+        pass
+child.wait()' "$@"
+}
+
+cases_of_stops() {
+    begin 'interrupts leave no half of a change, and nothing in TMPDIR' session
+    awk 'BEGIN {
+        print "set-new mv"
+        for (i = 0; i < 180; i++) print "set-add mv " i % 15 + 1
+    }' | "$program" run tunes.abcx > "$work/told"
+    cp tunes.abcx before
+    run set mv
+    cp "$work/out" first
+    run move mv 1 180
+    run set mv
+    cp "$work/out" moved
+    for seed in 1 2 3 4 5 6 7 8 9 10; do
+        for signal in INT TERM; do
+            cp before tunes.abcx
+            interrupted $signal $seed $shell "$root/tunes-book" move mv 1 180
+            run set mv
+            cmp -s "$work/out" first || same "$work/out" moved
+            rm -f out
+            interrupted $signal $seed $shell "$root/tunes-book" export out
+            [ ! -e out ] || same out "$work/session-book"
+            [ ! -e out.new ] || wrong 'out.new is left'
+            left=$(ls -A "$TMPDIR")
+            [ -z "$left" ] || wrong "after $signal working files are left: $left"
+        done
+    done
+    end
+
+    begin 'put and move look first' session
+    awk 'BEGIN {
+        print "set-new big"
+        for (i = 0; i < 190; i++) print "set-add big " i % 15 + 1
+    }' | "$program" run tunes.abcx > "$work/told"
+    cp tunes.abcx before
+    run put big 1 2 3 4 5 6 7 8 9 10 11
+    refused 1 'big has 190 places, so none of the 11 tunes is put'
+    run put new 1 99
+    refused 1 'no tune has the number 99'
+    run move big 1 191
+    refused 1 'it has 190 places'
+    same tunes.abcx before
+    run put big 1 2 3 4 5 6 7 8 9 10
+    done_with ''
+    end
+
+    begin 'readers of pipes that go away'
+    run new
+    awk 'BEGIN {
+        for (i = 1; i <= 3000; i++)
+            printf "X:%d\nT:a title of some length, number %d\nK:C\n\n", i, i
+    }' > many.abc
+    printf 'X:1\nK:C\n' > one.abc
+    run add many.abc
+    done_with 'many.abc: tunes 1 to 3000'
+    for line in titles '--json titles' '--csv titles' 'find a' 'find --within title' 'help' \
+        'add one.abc one.abc many.abc' 'show 1' 'delete 3000' 'undo' 'check'; do
+        { $shell "$root/tunes-book" $line 2> "$work/err"; echo $? > status; } | sleep 0.01
+        status=$(cat status)
+        words="$line | sleep 0.01"
+        ends_with 0
+        [ ! -s "$work/err" ] || wrong "'$words' says '$(head -n 1 "$work/err")'"
+        { (trap '' PIPE; $shell "$root/tunes-book" titles 2> "$work/err"); echo $? > status; } | :
+        status=$(cat status)
+        words='titles | :, without the signal'
+        ends_with 0
+    done
+    run check
+    done_with 'layout 2 tunes 6002 sets 0'
+    end
+}
+
+cases_of_options() {
+    begin 'options stand anywhere' session
+    echo 'find title kesh' | "$program" run tunes.abcx | sed 1d > wanted
+    for line in 'find --within kesh' 'find kesh --within' '--within find kesh' \
+        'find --within -- kesh' 'find -- kesh' 'find kesh -f tunes.abcx'; do
+        run $line
+        ends_with 0
+        same "$work/out" wanted
+    done
+    for line in 'find kesh --json' 'find --within --json kesh' 'find --json --within -- kesh' \
+        'find title kesh --json' 'find --json title kesh'; do
+        run $line
+        done_with '[
+{"number": 1, "title": "Kesh Jig, The"}
+]'
+    done
+    run find key --json Edor
+    ends_with 0
+    grep -q 'Drowsy Maggie' "$work/out" || wrong 'a key is not found behind an option'
+    run find kesh -- --json
+    done_with ''
+    run titles --csv -f tunes.abcx
+    ends_with 0
+    for line in 'find kesh --jsn' 'find kesh --force' 'show 1 --json' 'find kesh -f'; do
+        run $line
+        refused 2 ''
+    done
+    run find --help
+    done_with "$("$root/tunes-book" --help)"
+    end
+
+    begin 'words of refusals' session
+    run find key d
+    refused 1 "'d' is no key: a key begins with a capital letter"
+    run export no/such/out
+    refused 1 'there is no folder no/such/'
+    case $(cat "$work/err") in *'disk full'*) wrong 'it speaks of a disk' ;; esac
+    tool_is abcm2ps << 'END'
+exit 1
+END
+    run_over_bin print friday.ps
+    refused 1 'friday.ps is not made'
+    odd=$(printf 'a\351.abcx')
+    cp tunes.abcx "$odd"
+    run -f "$odd" titles
+    refused 1 'the path is not UTF-8'
+    end
+
+    begin 'what a tool says is told of the tune' session
+    drawing_tools
+    printf 'X:1\nT:faulty\nK:G\nGABc qqq\n' > a.abc
+    run add a.abc
+    run put friday 3 16
+    run_over_bin print all.ps
+    refused 1 'all.ps is written, but abcm2ps ended with status 1'
+    grep -q '^tune 16, line 4:6: error: Not a note$' "$work/err" ||
+        wrong 'it does not name the tune'
+    grep -q '^   4 GABc qqq$' "$work/err" || wrong 'it shows another line'
+    run_over_bin print friday.pdf friday
+    refused 1 'friday.pdf is written'
+    grep -q '^tune 16, at place 2, line 4:6: error' "$work/err" ||
+        wrong 'it does not name the place'
+    run_over_bin hear 16 a.mid
+    refused 1 'a.mid is written, but abc2midi ended with status 1'
+    grep -q '^tune 16: ' "$work/err" || wrong 'it does not name the tune that is heard'
+    run_over_bin hear 3 a.mid
+    done_with ''
+    tool_is abc2midi << 'END'
+printf 'MThd\0\0\0\006\0\0\0\001\0`MTrk\0\0\0\011\0\377/\0' > tune.mid
+END
+    cp a.mid wanted
+    run_over_bin hear 3 a.mid
+    refused 1 'abc2midi made no sound file of tune 3'
+    same a.mid wanted
+    end
+
+    begin 'odd folders for working files' session
+    run dump wanted
+    for folder in 'back\slash' -dash 'a=b' 'two
+lines' 'star *'; do
+        mkdir -- "$folder" && before=$TMPDIR && TMPDIR=$folder
+        run dump script
+        done_with ''
+        same script wanted
+        rm -f script
+        run find --within kesh
+        done_with '1 Kesh Jig, The'
+        run delete 1
+        done_with ''
+        run undo
+        done_with 'tune 1 is there again'
+        TMPDIR=$before
+        [ -z "$(ls -A -- "$folder")" ] || wrong "working files are left in $folder"
+    done
     end
 }
 
@@ -1274,28 +1880,28 @@ cases_of_tools() {
     mkdir bin
     was=$PATH
     PATH=$PWD/bin:$PATH
-    echo older > out
-    cp out wanted
+    for name in out.ps out.mid wanted; do echo older > $name; done
     for body in 'exit 1' 'exit 0' 'echo half > book.ps' ': > book.ps; exit 2' \
         'echo half > tune.mid' ': > tune.mid'; do
         for tool in abcm2ps abc2midi; do
             printf '#!/bin/sh\n%s\n' "$body" > bin/$tool
             chmod +x bin/$tool
         done
-        run print out
+        run print out.ps --force
         refused 1 'abcm2ps made no sheets'
-        run hear 1 out
+        run hear 1 out.mid --force
         refused 1 'abc2midi made no sound file'
-        same out wanted
+        same out.ps wanted
+        same out.mid wanted
     done
     printf '#!/bin/sh\nprintf "%%%%!PS\\n%%%%%%%%EOF\\n" > book.ps\n' > bin/abcm2ps
     printf '#!/bin/sh\nexit 1\n' > bin/ps2pdf
     chmod +x bin/ps2pdf
-    run print out
+    run print out.ps --force
     ends_with 0
     cp wanted out.pdf
-    run print out.pdf
-    refused 1 'ps2pdf failed'
+    run print out.pdf --force
+    refused 1 'ps2pdf failed; out.pdf is as before'
     same out.pdf wanted
     PATH=$was
     end
@@ -1593,7 +2199,8 @@ for shell in ${SHELLS:-sh bash busybox}; do
     bash) shell='bash --posix' ;;
     busybox) shell='busybox sh' ;;
     esac
-    for part in ${PARTS:-words books sets edits undo copies layouts devices programs tools}; do
+    for part in ${PARTS:-words options books sets edits undo kept copies outs layouts devices \
+        programs stops tools}; do
         "cases_of_$part"
     done
 done
