@@ -294,17 +294,24 @@ class World:
                 os.symlink('/dev/null', path)
         for name, target in (('to other', '../other'), ('other/back', '../work'),
                              ('loop', 'loop'), ('gone.abc', 'nowhere/gone'), ('first', 'second'),
-                             ('second', 'a.abcx'), ('ends', 'a.abcx\n'), ('ends.mid', 'copy.mid\n'),
-                             ('other/far.abcx', '../work/first')):
+                             ('second', 'a.abcx'), ('other/far.abcx', '../work/first'),
+                             # Names that end in a line feed, which a shell may lose.
+                             ('ends', 'a.abcx\n'), ('ends.abc', 'book.abc\n'),
+                             ('ends.mid', 'copy.mid\n'), ('ends.pdf', 'sheets.pdf\n')):
             os.symlink(target, os.path.join(self.folder if '/' in name else self.work, name))
         os.link(os.path.join(self.work, 'a.abcx'), os.path.join(self.other, 'hard.abcx'))
 
     def put_companions(self):
-        """Files that stand where a call may write in passing."""
+        """Files that stand where a call may write in passing, and other names for them."""
         texts = [AS_WRITTEN, IMPORT, b'', b'Mine.\n', MAGIC, sheets(b'%PDF-1.4\n', b'')]
-        for name in ('a.abcx.new', 'b.abcx.new', 'b.abcx.3.old', 'a.abcx.4.old', 'first.old.abc'):
-            if self.chance.random() < 0.4:
-                put_file(os.path.join(self.work, name), self.chance.choice(texts))
+        for name in ('a.abcx.new', 'b.abcx.new', 'b.abcx.3.old', 'a.abcx.4.old', 'first.old.abc',
+                     'a.abcx.old.abc', 'a.abcx.1.old'):
+            path = os.path.join(self.work, name)
+            if not os.path.exists(path) and self.chance.random() < 0.4:
+                put_file(path, self.chance.choice(texts))
+            ending = self.chance.choice(['', '.abc', '.tunes', '.pdf', '.mid'])
+            if os.path.exists(path):
+                os.link(path, os.path.join(self.work, f'again {name}{ending}'))
         for name, target in (('copy.abcx.old.abc', 'plain.abc'), ('copy.abcx.1.old', 'book.abc'),
                              ('copy.abcx.2.old', 'kept')):
             if self.chance.random() < 0.4:
@@ -374,7 +381,9 @@ class World:
             return os.path.join(self.work, self.chance.choice(LIKELY[command]))
         if way < 0.5 and command not in ENDINGS:
             behind = self.chance.choice(['', '.new', '.old.abc', '.1.old', '.2.old', '.12.old'])
-            return self.chance.choice([file, os.path.realpath(file)]) + behind
+            path = self.chance.choice([file, os.path.realpath(file)]) + behind
+            others = [other for other in self.paths() if same(other, path)]
+            return self.chance.choice([path, self.chance.choice(others or [path])])
         paths = self.paths()
         if self.chance.random() < 0.9:
             paths = [path for path in paths if path.endswith(endings)]
