@@ -1966,7 +1966,7 @@ tunes upgrade bi|tunes upgrade bin
 tunes run "a b/|tunes run "a b/c.abc"
 tunes list |tunes list
 tunes-book ex|tunes-book export
-tunes-book --|tunes-book --csv --help --json --version
+tunes-book --|tunes-book --csv --force --help --json --version
 tunes-book -f a|tunes-book -f a\ b all.abc
 tunes-book -f tunes.abcx fi|tunes-book -f tunes.abcx find
 tunes-book u|tunes-book undo upgrade

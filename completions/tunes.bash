@@ -31,7 +31,7 @@ _tunes_book() {
             \~/*) file=$HOME${file:1} ;;
             esac
             file=${file//\\/} ;;
-        --json | --csv) at=$((at + 1)) ;;
+        --json | --csv | --force) at=$((at + 1)) ;;
         *) break ;;
         esac
     done
@@ -42,8 +42,8 @@ _tunes_book() {
     fi
     case $((COMP_CWORD - at)).$command.$word in
     0.*) names='new add import-check find titles sets show edit delete undo set put cut drop move
-        export print hear backup restore dump load check upgrade help -f --json --csv --help
-        --version' ;;
+        export print hear backup restore dump load check upgrade help -f --json --csv --force
+        --help --version' ;;
     1.find.*) names='title rhythm key notes --within --json --csv' ;;
     1.set.* | 1.put.* | 1.cut.* | 1.move.* | 1.drop.* | 2.export.* | 2.print.*)
         names=$("${COMP_WORDS[0]}" -f "$file" sets 2> /dev/null | cut -d ' ' -f 1) ;;
