@@ -1176,7 +1176,7 @@ END
     fake << 'END'
 case $1 in
 run)
-    if [ -e second ]; then "$real" "$@" | head -c 4; else "$real" "$@"; fi
+    if [ -e second ]; then read -r line; printf 'ok s'; else "$real" "$@"; fi
     : > second ;;
 *) exec "$real" "$@" ;;
 esac
@@ -1191,7 +1191,7 @@ END
     echo older > out
     cp out wanted
     fake << 'END'
-case $1 in run) cat > /dev/null ;; *) exec "$real" "$@" ;; esac
+case $1 in run) read -r line ;; *) exec "$real" "$@" ;; esac
 END
     for line in 'export out --force' 'dump out --force' 'show 1' titles "add $book" 'put a 1' \
         'cut a 1' 'delete 1'; do
@@ -1715,27 +1715,28 @@ cases_of_stops() {
 
     begin 'readers of pipes that go away'
     run new
+    # the titles are longer than a pipe
     awk 'BEGIN {
-        for (i = 1; i <= 3000; i++)
-            printf "X:%d\nT:a title of some length, number %d\nK:C\n\n", i, i
+        for (i = 1; i <= 400; i++) printf "X:%d\nT:%0200d, a title\nK:C\n\n", i, i
     }' > many.abc
     printf 'X:1\nK:C\n' > one.abc
     run add many.abc
-    done_with 'many.abc: tunes 1 to 3000'
-    for line in titles '--json titles' '--csv titles' 'find a' 'find --within title' 'help' \
-        'add one.abc one.abc many.abc' 'show 1' 'delete 3000' 'undo' 'check'; do
+    done_with 'many.abc: tunes 1 to 400'
+    for line in titles '--json titles' '--csv titles' 'find 0' 'find --within title' 'help' \
+        'add one.abc one.abc many.abc' 'show 1' 'delete 400' 'undo' 'check'; do
         { $shell "$root/tunes-book" $line 2> "$work/err"; echo $? > status; } | sleep 0.01
         status=$(cat status)
         words="$line | sleep 0.01"
         ends_with 0
         [ ! -s "$work/err" ] || wrong "'$words' says '$(head -n 1 "$work/err")'"
-        { (trap '' PIPE; $shell "$root/tunes-book" titles 2> "$work/err"); echo $? > status; } | :
-        status=$(cat status)
-        words='titles | :, without the signal'
-        ends_with 0
     done
+    { (trap '' PIPE; $shell "$root/tunes-book" titles 2> "$work/err"); echo $? > status; } | :
+    status=$(cat status)
+    words='titles | :, without the signal'
+    ends_with 0
+    [ ! -s "$work/err" ] || wrong "'$words' says '$(head -n 1 "$work/err")'"
     run check
-    done_with 'layout 2 tunes 6002 sets 0'
+    done_with 'layout 2 tunes 802 sets 0'
     end
 }
 
