@@ -1447,11 +1447,7 @@ END
 # first is slow where it syncs.
 two_at_once() {
     echo 0.6 > delay
-    (
-        PATH=$PWD/bin:$PATH
-        export PATH
-        $shell "$root/tunes-book" $1 > first.out 2> first.err < /dev/null
-    ) &
+    PATH=$PWD/bin:$PATH $shell "$root/tunes-book" $1 > first.out 2> first.err < /dev/null &
     sleep 0.3
     run $2
     second=$status
@@ -1724,6 +1720,7 @@ cases_of_stops() {
     done_with 'many.abc: tunes 1 to 400'
     for line in titles '--json titles' '--csv titles' 'find 0' 'find --within title' 'help' \
         'add one.abc one.abc many.abc' 'show 1' 'delete 400' 'undo' 'check'; do
+        # shellcheck disable=SC2216 # it goes away without a look
         { $shell "$root/tunes-book" $line 2> "$work/err"; echo $? > status; } | sleep 0.01
         status=$(cat status)
         words="$line | sleep 0.01"
