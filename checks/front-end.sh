@@ -1431,29 +1431,35 @@ the archive that was there is mine.abc.1.old now'
     end
 }
 
-# Each call of `sync` writes its words to the file `synced`, and whether the archive is as before.
+# Each call of `sync` writes its words to the file `synced`, and whether the archive is as before. It
+# waits while there is a file `delay`.
 watched_sync() {
     tool_is sync << 'END'
 cmp -s tunes.abcx before && state=before || state=after
 for word; do
     case $word in --) ;; *) [ -e "$word" ] && echo "$state $word" >> synced ;; esac
 done
-[ ! -e delay ] || sleep "$(cat delay)"
+while [ -e delay ]; do : > waits; sleep 0.05; done
 END
     cp tunes.abcx before
 }
 
-# Runs two calls at once, the second a little later; `first` and `second` get their statuses. The
-# first is slow where it syncs.
+# Runs two calls, the second while the first is where it syncs; `first` and `second` get their
+# statuses.
 two_at_once() {
-    echo 0.6 > delay
+    rm -f waits
+    : > delay
+    tries=0
     PATH=$PWD/bin:$PATH $shell "$root/tunes-book" $1 > first.out 2> first.err < /dev/null &
-    sleep 0.3
+    until [ -e waits ] || [ "$tries" -ge 400 ]; do
+        sleep 0.05
+        tries=$((tries + 1))
+    done
     run $2
     second=$status
+    rm -f delay waits
     wait $!
     first=$?
-    rm -f delay
 }
 
 cases_of_kept() {
