@@ -1431,8 +1431,8 @@ the archive that was there is mine.abc.1.old now'
     end
 }
 
-# Each call of `sync` writes its words to the file `synced`, and whether the archive is as before. It
-# waits while there is a file `delay`.
+# Each call of `sync` writes its words to the file `synced`, and whether the archive is as before.
+# It waits while there is a file `delay`.
 watched_sync() {
     tool_is sync << 'END'
 cmp -s tunes.abcx before && state=before || state=after
