@@ -303,7 +303,8 @@ class World:
 
     def put_companions(self):
         """Files that stand where a call may write in passing, and other names for them."""
-        texts = [AS_WRITTEN, IMPORT, b'', b'Mine.\n', MAGIC, sheets(b'%PDF-1.4\n', b'')]
+        # None is empty: `new` may fill a file without a byte, by each of its names.
+        texts = [AS_WRITTEN, IMPORT, b'Ours.\n', b'Mine.\n', MAGIC, sheets(b'%PDF-1.4\n', b'')]
         for name in ('a.abcx.new', 'b.abcx.new', 'b.abcx.3.old', 'a.abcx.4.old', 'first.old.abc',
                      'a.abcx.old.abc', 'a.abcx.1.old'):
             path = os.path.join(self.work, name)
