@@ -1420,7 +1420,8 @@ the archive that was there is mine.abc.1.old now'
 
     begin 'a book of old texts that is none' session
     cp tunes.abcx before
-    for other in "$book" before; do
+    printf '%% tunes-book delete 1 1 5\n' | cat before - > like
+    for other in "$book" before like; do
         cp "$other" other
         ln -sf other tunes.abcx.old.abc
         run delete 1
@@ -1581,6 +1582,8 @@ K:C'
     printf '\n%% tunes-b' > tunes.abcx.old.abc
     run delete 4
     done_with ''
+    # cut behind an entry, whose marks are read all the same
+    printf '\n%% tunes-book delete 5 1 300\nX:5\nT:Bla' >> tunes.abcx.old.abc
     run undo
     done_with 'tune 4 is there again'
     run undo
