@@ -123,56 +123,69 @@ impl Write for FailingWriter {
     }
 }
 
-/// How often something was flushed that was written, and whether a byte of a line was asked for
-/// before as many replies were flushed as there are lines before it.
+/// How often something was flushed that was written, and whether a byte of a turn was asked for
+/// before as many replies were flushed as there are turns before it.
 #[derive(Drop)]
 pub(crate) struct Flushes {
     pub(crate) flushed: Cell<usize>,
     pub(crate) asked_early: Cell<bool>,
 }
 
-/// Gives its bytes one by one, and notices where it is asked early.
+/// Gives its bytes one by one, and notices where it is asked early. A turn is a line that is a
+/// command, with its book behind it, each of whose lines begins with a capital.
 #[derive(Drop)]
 pub(crate) struct AskingReader<'a> {
     pub(crate) text: &'a [u8],
-    pub(crate) lines: usize,
+    pub(crate) turns: usize,
     pub(crate) flushes: &'a Flushes,
+}
+
+impl<'a> AskingReader<'a> {
+    fn notice(&self) {
+        if self.flushes.flushed.get() < self.turns {
+            self.flushes.asked_early.set(true);
+        }
+    }
+
+    // The next byte, which is taken.
+    fn take_byte(&mut self) -> Option<u8> {
+        let [byte, rest @ ..] = self.text else {
+            return None;
+        };
+        self.text = rest;
+        if *byte == b'\n' && !matches!(rest, [b'A'..=b'Z', ..]) {
+            self.turns = self.turns.saturating_add(1);
+        }
+        Some(*byte)
+    }
 }
 
 impl<'a> Read for AskingReader<'a> {
     fn read(&mut self, buf: &mut [u8]) -> io::Result<usize> {
-        if self.flushes.flushed.get() < self.lines {
-            self.flushes.asked_early.set(true);
-        }
-        match (self.text, buf.first_mut()) {
-            ([byte, rest @ ..], Some(first)) => {
-                *first = *byte;
-                self.text = rest;
-                if *byte == b'\n' {
-                    self.lines = self.lines.saturating_add(1);
-                }
+        self.notice();
+        let Some(first) = buf.first_mut() else {
+            return Ok(0);
+        };
+        match self.take_byte() {
+            Some(byte) => {
+                *first = byte;
                 Ok(1)
             }
-            _ => Ok(0),
+            None => Ok(0),
         }
     }
 }
 
 impl<'a> BufRead for AskingReader<'a> {
     fn fill_buf(&mut self) -> io::Result<&[u8]> {
-        if self.flushes.flushed.get() < self.lines {
-            self.flushes.asked_early.set(true);
-        }
+        self.notice();
         Ok(self.text.get(..1).unwrap_or(self.text))
     }
 
     fn consume(&mut self, amount: usize) {
-        for byte in self.text.get(..amount).unwrap_or(b"") {
-            if *byte == b'\n' {
-                self.lines = self.lines.saturating_add(1);
-            }
+        if amount > 0 {
+            let _ = self.take_byte();
         }
-        self.text = self.text.get(amount..).unwrap_or(b"");
     }
 }
 

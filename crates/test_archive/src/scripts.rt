@@ -19,8 +19,9 @@
 //     writer-fails-each COUNT
 //                          nothing, where each run over an empty archive ends as it has to, and
 //                          leaves tune 1, where the writer fails after 0 calls, 1 call and so on
-//     in-turn              how a run ends, and how many replies were flushed; whether a line was
-//                          asked for before the replies to those before it were flushed
+//     in-turn              how a run ends, and how many replies were flushed; whether a command,
+//                          or the end, was asked for before the replies to those before it were
+//                          flushed. The lines of a book begin with capitals
 //     status, status-reader-fails, status-writer-fails CALLS
 //                          the status of the program's `list`; a reader that fails does so behind
 //                          the script
@@ -242,8 +243,8 @@ impl Scripts {
         Ok(())
     }
 
-    // Runs the script with a reader that notices whether it is asked for a line before the replies
-    // to all lines before it were flushed.
+    // Runs the script with a reader that notices whether it is asked for a command, or the end,
+    // before the replies to all commands before it were flushed.
     fn run_in_turn(&mut self, answer: &mut Answer) -> io::Result<()> {
         let flushes = Flushes {
             flushed: Cell::new(0),
@@ -251,7 +252,7 @@ impl Scripts {
         };
         let mut reader = AskingReader {
             text: self.script.as_slice(),
-            lines: 0,
+            turns: 0,
             flushes: &flushes,
         };
         let mut writer = CountingWriter {

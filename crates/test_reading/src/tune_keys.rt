@@ -4,10 +4,11 @@
 // - `title`, a tune: the keys of its titles.
 // - `rhythm`, a tune: the key of its rhythm.
 // - `scale`, a tune: the key of its scale.
-// - `incipit`, a tune: the key of its first eight notes that count.
+// - `incipit`, `incipit-of-twelve`, a tune: the key of its first eight notes that count, or twelve.
 // - `title-range`, `rhythm-range`, a query: the first and the last key of what it finds.
 // - `scale-range`, a key text: the first and the last key of its scale.
-// - `incipit-range`, a query: the first and the last key of the incipits that begin with it.
+// - `incipit-range`, `incipit-of-twelve-range`, a query: the first and the last key of the incipits
+//   that begin with it, by eight notes or by twelve.
 use crate::cases::{Case, tunes_of, unreadable};
 use abc_fields::TuneText;
 use abc_keys::key_of;
@@ -15,38 +16,46 @@ use index_keys::{IndexKey, Keyed};
 use std::alloc::Global;
 use std::io;
 use std::io::Write;
-use tune_incipit::{EightNoteKeys, ScaleKeys, query_steps};
+use tune_incipit::{EightNoteKeys, ScaleKeys, SomeSteps, TwelveNoteKeys, query_steps};
 use tune_titles::{RhythmKeys, TitleKeys, TitlePrefix};
 
 pub(crate) fn answer(alloc: Global, case: &Case, out: &mut Vec<u8>) -> io::Result<()> {
     match case.call {
-        "title" => write_keys::<TitleKeys>(alloc, case.text(0), out),
-        "rhythm" => write_keys::<RhythmKeys>(alloc, case.text(0), out),
-        "scale" => write_keys::<ScaleKeys>(alloc, case.text(0), out),
-        "incipit" => write_keys::<EightNoteKeys>(alloc, case.text(0), out),
+        "title" => write_keys::<32, TitleKeys>(alloc, case.text(0), out),
+        "rhythm" => write_keys::<32, RhythmKeys>(alloc, case.text(0), out),
+        "scale" => write_keys::<32, ScaleKeys>(alloc, case.text(0), out),
+        "incipit" => write_keys::<32, EightNoteKeys>(alloc, case.text(0), out),
+        "incipit-of-twelve" => write_keys::<48, TwelveNoteKeys>(alloc, case.text(0), out),
         "title-range" => write_range(&TitleKeys::range(&TitlePrefix::of(case.text(0))), out),
         "rhythm-range" => write_range(&RhythmKeys::range(&case.text(0)), out),
         "scale-range" => match key_of(case.text(0)).scale() {
             Some(scale) => write_range(&ScaleKeys::range(&scale), out),
             None => Err(unreadable()),
         },
-        "incipit-range" => write_incipit_range(case.text(0), out),
+        "incipit-range" => write_incipit_range::<32, EightNoteKeys>(case.text(0), 8, out),
+        "incipit-of-twelve-range" => {
+            write_incipit_range::<48, TwelveNoteKeys>(case.text(0), 12, out)
+        }
         _ => Err(unreadable()),
     }
 }
 
-fn write_incipit_range(query: &[u8], out: &mut Vec<u8>) -> io::Result<()> {
-    if query.len() > 4_000_000 {
+fn write_incipit_range<const W: usize, K: Keyed<W, Query = SomeSteps>>(
+    query: &[u8],
+    notes: usize,
+    out: &mut Vec<u8>,
+) -> io::Result<()> {
+    if query.len() > 4_000_000 || notes < 2 || notes > 12 {
         return Err(unreadable());
     }
-    match query_steps(query, 8) {
-        Ok(front) => write_range(&EightNoteKeys::range(&front), out),
+    match query_steps(query, notes) {
+        Ok(front) => write_range(&K::range(&front), out),
         Err(_) => out.write_all(b"refused"),
     }
 }
 
 // The keys of a tune, a line for each.
-fn write_keys<K: Keyed<32, Text = TuneText>>(
+fn write_keys<const W: usize, K: Keyed<W, Text = TuneText>>(
     alloc: Global,
     book: &[u8],
     out: &mut Vec<u8>,
@@ -63,7 +72,7 @@ fn write_keys<K: Keyed<32, Text = TuneText>>(
     }
 }
 
-fn write_all_keys(keys: &[IndexKey<32>], out: &mut Vec<u8>) -> io::Result<()> {
+fn write_all_keys<const W: usize>(keys: &[IndexKey<W>], out: &mut Vec<u8>) -> io::Result<()> {
     for key in keys {
         if !out.is_empty() {
             out.write_all(b"\n")?;
@@ -73,14 +82,17 @@ fn write_all_keys(keys: &[IndexKey<32>], out: &mut Vec<u8>) -> io::Result<()> {
     Ok(())
 }
 
-fn write_range(range: &(IndexKey<32>, IndexKey<32>), out: &mut Vec<u8>) -> io::Result<()> {
+fn write_range<const W: usize>(
+    range: &(IndexKey<W>, IndexKey<W>),
+    out: &mut Vec<u8>,
+) -> io::Result<()> {
     let (low, high) = range;
     write_key(low, out)?;
     out.write_all(b" ")?;
     write_key(high, out)
 }
 
-fn write_key(key: &IndexKey<32>, out: &mut Vec<u8>) -> io::Result<()> {
+fn write_key<const W: usize>(key: &IndexKey<W>, out: &mut Vec<u8>) -> io::Result<()> {
     for byte in key.bytes() {
         write!(out, "{byte:02x}")?;
     }

@@ -1,5 +1,5 @@
 // Decides commands on tunes.
-ghost use Rattle.std.specs.Prelude.{◌≡◌, ◌≢◌, ◌+◌, ◌<◌, ℕ, ◌∷◌, [], List, vec_len, false, Ok};
+ghost use Rattle.std.specs.Prelude.{◌≡◌, ◌≢◌, ◌⊎◌, ◌+◌, ◌<◌, ℕ, ◌∷◌, [], List, length, false, Ok};
 ghost use Rattle.std.specs.Prelude.{IfOk, IfErr};
 ghost use Rattle.std.specs.List.{AllByRecursion};
 ghost use Rattle.abc_fields.specs.Books.{book_answer};
@@ -19,7 +19,7 @@ use crate::command::{Command, Refusal, Reply};
 use crate::layout::Layout;
 use crate::plans::{Change, Plan};
 use crate::tune::{GREATEST_NUMBER, GREATEST_REVISION, Tune};
-use abc_fields::{TuneText, judge_book, split_book};
+use abc_fields::{JudgedBook, TuneText, judge_book};
 use std::alloc::Global;
 
 // What a book of new tunes asks for.
@@ -87,20 +87,24 @@ pub(crate) fn replace<C: Catalog>(
         (C.layout catalog.now) (C.labels catalog.now) (C.sets catalog.now)) }
     ensures alters { IfOk result (λ plan. Alters plan.change (C.labels catalog.now)) }
 {
-    let text = only_text(split_book(alloc, book, catalog.layout().longest_text())?)?;
+    let judged = judge_book(alloc, book, catalog.layout().longest_text())?;
+    let text = only_text(alloc, &judged)?;
     replace_text(catalog, number, revision, text)
 }
 
-// The one text of a book.
-fn only_text(mut texts: Vec<TuneText>) -> Result<TuneText, Refusal>
-    ensures one { IfOk result (λ text. texts.items ≡ text ∷ []) }
-    ensures count { IfErr result (λ refusal.
-        (refusal ≡ Refusal.NotOne (vec_len texts)) × (vec_len texts ≢ 1)) }
+// The one text of a book. It is made only where the book has no other.
+fn only_text(alloc: Global, judged: &JudgedBook) -> Result<TuneText, Refusal>
+    ensures one { IfOk result (λ text. judged.now ≡ text ∷ []) }
+    ensures count { IfErr result (λ refusal. (refusal ≡ Refusal.OutOfMemory)
+        ⊎ ((refusal ≡ Refusal.NotOne (length judged.now)) × (length judged.now ≢ 1))) }
 {
-    let count = texts.len();
-    match texts.pop() {
-        Some(text) if count == 1 => Ok(text),
-        _ => Err(Refusal::NotOne { count }),
+    let count = judged.count();
+    if count != 1 {
+        return Err(Refusal::NotOne { count });
+    }
+    match judged.texts(alloc)?.pop() {
+        Some(text) => Ok(text),
+        None => Err(Refusal::NotOne { count }),
     }
 }
 
