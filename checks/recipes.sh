@@ -363,26 +363,31 @@ shown() {
 }
 
 begin 'the archive of the README'
-mkdir books
-cp "$book" books/mine.abc
+run first
+ends_with 0
+says 'examples/session.abc: tunes 1 to 15'
+run_again first
+ends_with 3
+says ''
+holds 'layout 2 tunes 15 sets 0'
+end
+
+go_on 'the first steps of the README'
 run begin
-says 'books/mine.abc: tunes 1 to 15
-1 Kesh Jig, The'
+says '1 Kesh Jig, The'
 if command -v abcm2ps > "$work/told" && command -v ps2pdf > "$work/told"; then
     ends_with 0
-    has 'books books/mine.abc friday.pdf tunes.abcx'
+    has 'friday.pdf tunes.abcx'
     run_again begin
     ends_with 0
 else
     ends_with 4
-    has 'books books/mine.abc tunes.abcx'
+    has 'tunes.abcx'
     run_again begin
     ends_with 4
 fi
-says 'books/mine.abc: tunes 16 to 30
-1 Kesh Jig, The
-16 Kesh Jig, The'
-holds 'layout 2 tunes 30 sets 1'
+says '1 Kesh Jig, The'
+holds 'layout 2 tunes 15 sets 1'
 end
 
 begin 'making an archive'
