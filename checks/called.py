@@ -46,26 +46,34 @@ DRIVE = 'tunes/src/file_drive.rt', 'open'
 OPEN = 'tune_archive/src/opened_archives.rt', 'Archive::open'
 IMPORT = 'tune_store/src/tune_plans.rt', 'import'
 FIND = 'tune_store/src/questions.rt', 'find'
+UPGRADE = 'tune_store/src/tune_plans.rt', 'upgrade'
 CHANGE = 'tune_archive/src/made_changes.rt', 'change_pages'
-READ = 'tune_contents/src/tune_reading.rt', 'read_tune'
-UPGRADE = 'tune_cli/src/file_actions.rt', 'upgrade_on'
+KEYS = 'tune_contents/src/searching.rt', 'text_runs'
+STEPS = 'tune_incipit/src/incipits.rt', 'steps'
 UPGRADED = 'tune_contents/src/upgrading.rt', 'upgrade'
+LIMIT = 'tune_archive/src/made_changes.rt', 'give_pages'
+READ = 'tune_contents/src/tune_reading.rt', 'read_tune'
+INSERT = 'tune_index/src/insert.rt', 'Index::insert_all'
+STORE = 'tune_index/src/listed_leaves.rt', 'Index::store'
+LOAD = 'tune_index/src/load.rt', 'Index::load'
 COMMIT = 'tune_journal/src/journal.rt', 'Journal::commit'
 REPLY = 'tune_scripts/src/replies.rt', 'write_answer'
 # For each way, from which station on, what stands in the midst of it.
 WAYS = {
     STATIONS: {
-        'An import into a file': {1: [MAIN], 6: [IMPORT], 7: [CHANGE]},
+        'An import into a file': {1: [MAIN], 6: [IMPORT], 7: [CHANGE], 8: [KEYS], 10: [CHANGE],
+                                  13: [COMMIT]},
         'A find in a file': {1: [FIND], 12: [FIND, REPLY]},
-        'An upgrade of a file': {1: [UPGRADE], 5: [UPGRADED], 8: [CHANGE], 10: [UPGRADE]},
+        'An upgrade of a file': {1: [UPGRADE], 5: [UPGRADED], 8: [CHANGE], 9: [COMMIT],
+                                 10: [LIMIT], 11: [REPLY]},
         'An opening': {1: [DRIVE], 2: [OPEN]},
     },
     LAYERS: {
         'The way of a command': {1: [MAIN]},
-        'The way of an upgrade': {1: [UPGRADE]},
-        'The way of a music line': {1: [CHANGE]},
+        'The way of an upgrade': {1: [UPGRADED, LIMIT]},
+        'The way of a music line': {1: [STEPS]},
         'The way of a work': {1: [CHANGE, READ]},
-        'The way of an insert in an index': {1: [CHANGE, OPEN]},
+        'The way of an insert in an index': {1: [INSERT, STORE, LOAD]},
         'The way of a search in an index': {1: [FIND]},
         'The way of a commit': {1: [COMMIT, OPEN]},
     },
@@ -81,8 +89,9 @@ CONTRACT = re.compile(r'\b(?:ensures|requires|invariant|decreases|ghost)\b[^{;]*
 # The owner before `::`, or the point before the name of a method, and the name.
 CALL = re.compile(r'(?:(\w+)(?:::<[^()]*?>)?::|(\.)\s*)?\b([a-z_]\w*)(?:::<[^();]*?>)?\s*\(')
 VALUE = re.compile(r'[(,]\s*(?:(\w+)::)?()([a-z]\w*)\s*(?=[,)])')
-# The end of a symbol that says for which types it is, and that of a place within a function.
-TYPES, OFFSET = re.compile(r'::<[^:]*>$'), re.compile(r'\+0x[0-9a-f]+$')
+# The end of a symbol that says for which types it is, or that it is a copy of another one; and that
+# of a place within a function.
+TYPES, OFFSET = re.compile(r'(::<.*>)?(\.[\w.]+)?$'), re.compile(r'\+0x[0-9a-f]+$')
 
 
 def read(path):
