@@ -16,46 +16,50 @@ use index_keys::{IndexKey, Keyed};
 use std::alloc::Global;
 use std::io;
 use std::io::Write;
-use tune_incipit::{EightNoteKeys, ScaleKeys, SomeSteps, TwelveNoteKeys, query_steps};
+use tune_incipit::{EightNoteKeys, ScaleKeys, TwelveNoteKeys, query_steps};
 use tune_titles::{RhythmKeys, TitleKeys, TitlePrefix};
 
 pub(crate) fn answer(alloc: Global, case: &Case, out: &mut Vec<u8>) -> io::Result<()> {
     match case.call {
-        "title" => write_keys::<32, TitleKeys>(alloc, case.text(0), out),
-        "rhythm" => write_keys::<32, RhythmKeys>(alloc, case.text(0), out),
-        "scale" => write_keys::<32, ScaleKeys>(alloc, case.text(0), out),
-        "incipit" => write_keys::<32, EightNoteKeys>(alloc, case.text(0), out),
-        "incipit-of-twelve" => write_keys::<48, TwelveNoteKeys>(alloc, case.text(0), out),
+        "title" => write_keys::<TitleKeys>(alloc, case.text(0), out),
+        "rhythm" => write_keys::<RhythmKeys>(alloc, case.text(0), out),
+        "scale" => write_keys::<ScaleKeys>(alloc, case.text(0), out),
+        "incipit" => write_keys::<EightNoteKeys>(alloc, case.text(0), out),
+        "incipit-of-twelve" => write_twelve_note_keys(alloc, case.text(0), out),
         "title-range" => write_range(&TitleKeys::range(&TitlePrefix::of(case.text(0))), out),
         "rhythm-range" => write_range(&RhythmKeys::range(&case.text(0)), out),
         "scale-range" => match key_of(case.text(0)).scale() {
             Some(scale) => write_range(&ScaleKeys::range(&scale), out),
             None => Err(unreadable()),
         },
-        "incipit-range" => write_incipit_range::<32, EightNoteKeys>(case.text(0), 8, out),
-        "incipit-of-twelve-range" => {
-            write_incipit_range::<48, TwelveNoteKeys>(case.text(0), 12, out)
-        }
+        "incipit-range" => write_incipit_range(case.text(0), out),
+        "incipit-of-twelve-range" => write_twelve_note_range(case.text(0), out),
         _ => Err(unreadable()),
     }
 }
 
-fn write_incipit_range<const W: usize, K: Keyed<W, Query = SomeSteps>>(
-    query: &[u8],
-    notes: usize,
-    out: &mut Vec<u8>,
-) -> io::Result<()> {
-    if query.len() > 4_000_000 || notes < 2 || notes > 12 {
+fn write_incipit_range(query: &[u8], out: &mut Vec<u8>) -> io::Result<()> {
+    if query.len() > 4_000_000 {
         return Err(unreadable());
     }
-    match query_steps(query, notes) {
-        Ok(front) => write_range(&K::range(&front), out),
+    match query_steps(query, 8) {
+        Ok(front) => write_range(&EightNoteKeys::range(&front), out),
+        Err(_) => out.write_all(b"refused"),
+    }
+}
+
+fn write_twelve_note_range(query: &[u8], out: &mut Vec<u8>) -> io::Result<()> {
+    if query.len() > 4_000_000 {
+        return Err(unreadable());
+    }
+    match query_steps(query, 12) {
+        Ok(front) => write_range(&TwelveNoteKeys::range(&front), out),
         Err(_) => out.write_all(b"refused"),
     }
 }
 
 // The keys of a tune, a line for each.
-fn write_keys<const W: usize, K: Keyed<W, Text = TuneText>>(
+fn write_keys<K: Keyed<32, Text = TuneText>>(
     alloc: Global,
     book: &[u8],
     out: &mut Vec<u8>,
@@ -63,9 +67,16 @@ fn write_keys<const W: usize, K: Keyed<W, Text = TuneText>>(
     match tunes_of(alloc, book).as_slice() {
         [tune] => {
             let keys = K::keys(alloc, tune)?;
-            if keys.as_slice().is_empty() {
-                out.write_all(b"no key")?;
-            }
+            write_all_keys(keys.as_slice(), out)
+        }
+        _ => Err(unreadable()),
+    }
+}
+
+fn write_twelve_note_keys(alloc: Global, book: &[u8], out: &mut Vec<u8>) -> io::Result<()> {
+    match tunes_of(alloc, book).as_slice() {
+        [tune] => {
+            let keys = TwelveNoteKeys::keys(alloc, tune)?;
             write_all_keys(keys.as_slice(), out)
         }
         _ => Err(unreadable()),
@@ -73,6 +84,9 @@ fn write_keys<const W: usize, K: Keyed<W, Text = TuneText>>(
 }
 
 fn write_all_keys<const W: usize>(keys: &[IndexKey<W>], out: &mut Vec<u8>) -> io::Result<()> {
+    if keys.is_empty() {
+        out.write_all(b"no key")?;
+    }
     for key in keys {
         if !out.is_empty() {
             out.write_all(b"\n")?;
