@@ -5,9 +5,11 @@ Looks at what no output shows, of the program `tunes` over archives in memory an
 layout:
 
 - in turn: each command, accepted or refused, is answered while the next line is not yet written,
-  and nothing more is answered; and `make`, `check` and `upgrade` write their line before they end;
-- memory: a `replace` by a book of many tunes, which is refused, takes three times as many bytes as
-  the book has at most, more than by a book of two tunes; so does one by a long book of one tune;
+  and nothing more is answered; and `make`, `check` and `upgrade` write their line, and tell by
+  their status where that cannot be done;
+- memory: a `replace` by a book of very many tunes, which is refused, takes at most three times as
+  many bytes as the book has, and a megabyte, more than one by a small book; so does one by a long
+  book of one tune;
 - pages: a change of one tune that no set list names writes as few pages where there are as many
   set lists as there may be as where there is none.
 
@@ -26,14 +28,16 @@ import time
 
 sys.dont_write_bytecode = True
 from archives import DESCRIPTOR, LAYOUTS, Archive, number_at, set_bytes
-from fail_once import DONE, KESH, NO_ARCHIVE, OTHER, PROGRAM, UPGRADED, run
+from fail_once import DONE, KESH, NO_ARCHIVE, NOT_DONE, OTHER, PROGRAM, UPGRADED, run
 from layouts import BARE, DAMAGED, exported, importing, kept
 from sweep import (BAD_LINE, IN_MEMORY, NO_KEY, NO_SETS, NO_TUNE, PLACES, UPGRADE, bare_book,
                    report, room, shown, tune_of, tunes_up_to, where_of, wrong_replies)
 
 # How long all replies of a run may take together.
-PATIENCE = 20
+PATIENCE = 60
 MOST_PAGES, MOST_TIMES = 10, 3
+# What the system counts of a process is out by some pages for each core.
+INEXACT_KILOBYTES = 1024
 MOST_SETS, MOST_PLACES, LONGEST_NAME = 500, 200, 40
 LONGEST_BOOK = 4000000
 # The tunes of two books: one of two tunes, and one of a tune.
@@ -197,7 +201,17 @@ class Bounds:
                 ('run', 'no page', two[:8], *DAMAGED)):
             self.write(data)
             wrong = wrong_replies([(word.encode(), line)], run([word, self.path]), status)
-            yield report(f'the line of {word} over a file of {what}', wrong)
+            self.write(data)
+            yield report(f'the line of {word} over a file of {what}',
+                         wrong or self.wrong_where_full(word))
+
+    def wrong_where_full(self, word):
+        """What is wrong with a run whose line cannot be written, which only a flush finds out."""
+        with open('/dev/full', 'wb') as full:
+            status = subprocess.run([PROGRAM, word, self.path], stdin=subprocess.DEVNULL,
+                                    stdout=full, stderr=subprocess.DEVNULL, check=False,
+                                    timeout=PATIENCE).returncode
+        return '' if status == NOT_DONE else f'where it cannot be written its status is {status}'
 
     def memory_of(self, place, told):
         """The most kilobytes that a run had once all was answered."""
@@ -219,7 +233,7 @@ class Bounds:
         for name, small, book, reply in books_of_much():
             wrong = []
             for place in PLACES:
-                # Two tunes of one number would be asked for in layout 1 where they are too long.
+                # In layout 1 these tunes would be too long before they are too many.
                 before = [UPGRADE, (importing(BARE), b'ok import 1 1\n')]
                 try:
                     least, most = (self.memory_of(place, before + [told]) for told in (
@@ -227,7 +241,7 @@ class Bounds:
                 except Late as late:
                     wrong.append(f'{where_of(place)}: {late}')
                     continue
-                if (most - least) * 1024 > MOST_TIMES * len(book):
+                if most - least > MOST_TIMES * len(book) // 1024 + INEXACT_KILOBYTES:
                     wrong.append(f'{where_of(place)}: {most - least} kB')
             yield report(f'the memory of a replace by {name}', '; '.join(wrong))
 
@@ -249,16 +263,17 @@ class Bounds:
 def books_of_much():
     """Books by which a tune is replaced: each with a small one like it, and the replies to both."""
     tune = b'X:\nK:\n'
-    not_two = replacing(1, 1, b'%%a\n\n' + tune * 2), b'refused 3 NotOne 2\n'
+    few = replacing(1, 1, b'%%a\n\n' + tune * 200), b'refused 3 NotOne 200\n'
     header = b'%%'.ljust(58999, b'a') + b'\n\n'
     for name, front, count in (
             ('20,000 tunes that would carry 59,000 bytes', header, 20000),
-            ('as many as there may be', header, (LONGEST_BOOK - len(header)) // len(tune)),
-            ('as many that carry nothing', b'', LONGEST_BOOK // len(tune))):
-        yield name, not_two, front + tune * count, b'refused 3 NotOne %d\n' % count
+            ('as many tunes as fit that would carry as much', header,
+             (LONGEST_BOOK - len(header)) // len(tune)),
+            ('as many tunes as fit that carry nothing', b'', LONGEST_BOOK // len(tune))):
+        yield name, few, front + tune * count, b'refused 3 NotOne %d\n' % count
     replaced = b'ok replace 1 2\n'
     yield ('one tune and much free text', (replacing(1, 1, tune + b'\na\n'), replaced),
-           (tune + b'\n').ljust(LONGEST_BOOK, b'free text\n'[:1]), replaced)
+           (tune + b'\n' + b'free text\n' * (LONGEST_BOOK // 10))[:LONGEST_BOOK], replaced)
 
 
 def full_sets():

@@ -18,6 +18,7 @@ the variable TUNES names. It uses all cores. A line is printed for each case, an
 where one failed.
 """
 import os
+import subprocess
 import sys
 import tempfile
 from concurrent.futures import ThreadPoolExecutor
@@ -74,6 +75,10 @@ def shown(number, text, revision=1):
             b'ok show %d %d %d\n%b' % (number, revision, len(tune), tune))
 
 
+def exporting(tunes):
+    return b'export\n', exported(book_of(tunes))
+
+
 # WHAT IS SAID, AND WHAT IS ANSWERED: a list of commands, each with its reply
 
 def questions(tunes, sets):
@@ -83,7 +88,7 @@ def questions(tunes, sets):
     told = [(query, b'ok find %d\n%b' % (len(tunes), rows)) for query in QUERIES]
     told.append((b'titles\n', b'ok titles %d\n%b' % (
         len(tunes), b''.join(row_of(*title) for title in titles))))
-    told.append((b'export\n', exported(book_of(tunes))))
+    told.append(exporting(tunes))
     told.append((b'sets\n', b'ok sets %d\n%b' % (
         len(sets), b''.join(b'%b %d\n' % (name, len(places)) for name, places in sets.items()))))
     last = max(tunes, default=0)
@@ -120,13 +125,13 @@ def makings(tunes, sets):
 
 
 def one_by_one(last):
-    """A tune is put in behind another, and each number of them is asked for."""
+    """A tune is put in behind another, and each number of them is found by one kind of query."""
     told = []
     for number in range(1, last + 1):
         told.append((importing(bare_book({1: tune_of(number)})),
                      b'ok import %d %d\n' % (number, number)))
-        told += questions(tunes_up_to(number), {})
-    return told
+        told.append(questions(tunes_up_to(number), {})[number % len(QUERIES)])
+    return told + [exporting(tunes_up_to(last))]
 
 
 def books():
@@ -195,7 +200,7 @@ def lines_of_tunes():
                      b'ok import %d %d\n' % (before + 1, before + len(some))))
     told += [shown(number, text) for number, text in enumerate(texts, 1)]
     tunes = {number: Tune(text) for number, text in enumerate(texts, 1)}
-    return told + [(b'export\n', exported(book_of(tunes)))]
+    return told + [exporting(tunes)]
 
 
 # CASES
@@ -216,6 +221,14 @@ def wrong_replies(told, answer, wanted_status=DONE):
 
 def script_of(told):
     return b''.join(line for line, _ in told)
+
+
+def answer_to(words, told=()):
+    """The status and the output of a run; none where it does not end in time."""
+    try:
+        return run(words, script_of(told))
+    except subprocess.TimeoutExpired:
+        return None, b''
 
 
 def report(name, wrong):
@@ -245,9 +258,9 @@ class Sweep:
     def answer(self, name, place, told):
         """What comes of commands over an archive in which nothing is."""
         if place == IN_MEMORY:
-            return run(['list'], script_of(told))
+            return answer_to(['list'], told)
         path = self.file(f'{name}-{place}', {}, version=place)
-        answer = run(['run', path], script_of(told))
+        answer = answer_to(['run', path], told)
         os.remove(path)
         return answer
 
@@ -255,13 +268,13 @@ class Sweep:
         """What is wrong with an archive of so many tunes."""
         tunes, sets = tunes_up_to(count), sets_of(count)
         told, after = changes(tunes)
-        told = questions(tunes, sets) + told + questions(after, sets)
+        told = questions(tunes, sets) + told + [exporting(after)]
         if place == IN_MEMORY:
             told = makings(tunes, sets) + told
-            return wrong_replies(told, run(['list'], script_of(told)))
+            return wrong_replies(told, answer_to(['list'], told))
         path = self.file(f'{place}-{count}', tunes, sets, place)
         wrong = (wrong_check(path, place, tunes, sets)
-                 or wrong_replies(told, run(['run', path], script_of(told)))
+                 or wrong_replies(told, answer_to(['run', path], told))
                  or wrong_check(path, 2, after, sets))
         os.remove(path)
         return wrong
@@ -271,9 +284,9 @@ class Sweep:
         tunes, sets = tunes_up_to(count), sets_of(count)
         path = self.file(f'upgrade-{count}', tunes, sets)
         told = questions(tunes, sets)
-        wrong = (wrong_replies([UPGRADE], run(['upgrade', path]))
+        wrong = (wrong_replies([UPGRADE], answer_to(['upgrade', path]))
                  or wrong_check(path, 2, tunes, sets)
-                 or wrong_replies(told, run(['run', path], script_of(told))))
+                 or wrong_replies(told, answer_to(['run', path], told)))
         os.remove(path)
         return wrong
 
@@ -323,7 +336,7 @@ def sets_of(count):
 
 def wrong_check(path, version, tunes, sets):
     line = b'layout %d tunes %d sets %d\n' % (version, len(tunes), len(sets))
-    return wrong_replies([(b'check', line)], run(['check', path]))
+    return wrong_replies([(b'check', line)], answer_to(['check', path]))
 
 
 def room():
