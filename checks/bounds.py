@@ -30,8 +30,8 @@ sys.dont_write_bytecode = True
 from archives import DESCRIPTOR, LAYOUTS, Archive, number_at, set_bytes
 from fail_once import DONE, KESH, NO_ARCHIVE, NOT_DONE, OTHER, PROGRAM, UPGRADED, run
 from layouts import BARE, DAMAGED, exported, importing, kept
-from sweep import (BAD_LINE, IN_MEMORY, NO_KEY, NO_SETS, NO_TUNE, PLACES, UPGRADE, bare_book,
-                   report, room, shown, tune_of, tunes_up_to, where_of, wrong_replies)
+from sweep import (BAD_LINE, IN_MEMORY, KINDS, NO_KEY, NO_TUNE, UPGRADE, bare_book, report,
+                   room, shown, tune_of, tunes_up_to, where_of, wrong_replies)
 
 # How long all replies of a run may take together.
 PATIENCE = 60
@@ -174,18 +174,18 @@ class Bounds:
         with open(self.path, 'w+b') as file:
             Archive(tunes, sets, version=version).write(file)
 
-    def words(self, place):
+    def words(self, kind):
         """The words that run a script over an archive in which nothing is."""
-        if place == IN_MEMORY:
+        if kind == IN_MEMORY:
             return ['list']
-        self.archive({}, place)
+        self.archive({}, kind)
         return ['run', self.path]
 
     def in_turn(self):
-        for place in PLACES:
+        for kind in KINDS:
             for name, told in (('accepted', ACCEPTED), ('refused', REFUSED)):
-                yield report(f'each command {name} in turn, {where_of(place)}',
-                             wrong_in_turn(self.words(place), told))
+                yield report(f'each command {name} in turn, {where_of(kind)}',
+                             wrong_in_turn(self.words(kind), told))
 
     def lines_of_words(self):
         """The words of the program that write a line, over a file that is such."""
@@ -213,9 +213,9 @@ class Bounds:
                                     timeout=PATIENCE).returncode
         return '' if status == NOT_DONE else f'where it cannot be written its status is {status}'
 
-    def memory_of(self, place, told):
+    def memory_of(self, kind, told):
         """The most kilobytes that a run had once all was answered."""
-        program = Coprocess(self.words(place))
+        program = Coprocess(self.words(kind))
         try:
             for line, reply in told:
                 program.write(line)
@@ -232,17 +232,17 @@ class Bounds:
     def memory(self):
         for name, small, book, reply in books_of_much():
             wrong = []
-            for place in PLACES:
+            for kind in KINDS:
                 # In layout 1 these tunes would be too long before they are too many.
                 before = [UPGRADE, (importing(BARE), b'ok import 1 1\n')]
                 try:
-                    least, most = (self.memory_of(place, before + [told]) for told in (
+                    least, most = (self.memory_of(kind, before + [told]) for told in (
                         small, (replacing(1, 1, book), reply)))
                 except Late as late:
-                    wrong.append(f'{where_of(place)}: {late}')
+                    wrong.append(f'{where_of(kind)}: {late}')
                     continue
                 if most - least > MOST_TIMES * len(book) // 1024 + INEXACT_KILOBYTES:
-                    wrong.append(f'{where_of(place)}: {most - least} kB')
+                    wrong.append(f'{where_of(kind)}: {most - least} kB')
             yield report(f'the memory of a replace by {name}', '; '.join(wrong))
 
     def pages(self):

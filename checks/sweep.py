@@ -32,7 +32,7 @@ EACH_NUMBER, GREATER_NUMBERS = 300, (1000, 2501, 3000, 5001)
 LONGEST_BOOK, LONGEST_LINE = 5000, 4096
 # An archive in memory, and files of each layout.
 IN_MEMORY = 0
-PLACES = IN_MEMORY, *LAYOUTS
+KINDS = IN_MEMORY, *LAYOUTS
 # Each of these finds all tunes.
 QUERIES = b'find title tune\n', b'find rhythm reel\n', b'find key D\n', b'find notes D^FAd^fa\n'
 NO_TUNE, NO_KEY = b'refused 1 NoTune\n', b'refused 2 BadTune 1 NoKey\n'
@@ -237,8 +237,8 @@ def report(name, wrong):
     return bool(wrong)
 
 
-def where_of(place):
-    return f'in a file of layout {place}' if place else 'in memory'
+def where_of(kind):
+    return f'in a file of layout {kind}' if kind else 'in memory'
 
 
 class Sweep:
@@ -255,25 +255,25 @@ class Sweep:
             Archive(tunes, data, version=version).write(file)
         return path
 
-    def answer(self, name, place, told):
+    def answer(self, name, kind, told):
         """What comes of commands over an archive in which nothing is."""
-        if place == IN_MEMORY:
+        if kind == IN_MEMORY:
             return answer_to(['list'], told)
-        path = self.file(f'{name}-{place}', {}, version=place)
+        path = self.file(f'{name}-{kind}', {}, version=kind)
         answer = answer_to(['run', path], told)
         os.remove(path)
         return answer
 
-    def wrong_number(self, place, count):
+    def wrong_number(self, kind, count):
         """What is wrong with an archive of so many tunes."""
         tunes, sets = tunes_up_to(count), sets_of(count)
         told, after = changes(tunes)
         told = questions(tunes, sets) + told + [exporting(after)]
-        if place == IN_MEMORY:
+        if kind == IN_MEMORY:
             told = makings(tunes, sets) + told
             return wrong_replies(told, answer_to(['list'], told))
-        path = self.file(f'{place}-{count}', tunes, sets, place)
-        wrong = (wrong_check(path, place, tunes, sets)
+        path = self.file(f'{kind}-{count}', tunes, sets, kind)
+        wrong = (wrong_check(path, kind, tunes, sets)
                  or wrong_replies(told, answer_to(['run', path], told))
                  or wrong_check(path, 2, after, sets))
         os.remove(path)
@@ -299,8 +299,8 @@ class Sweep:
                       '; '.join(wrong[:3]))
 
     def numbers(self):
-        for place in PLACES:
-            yield self.each_number(where_of(place), lambda count, it=place: self.wrong_number(
+        for kind in KINDS:
+            yield self.each_number(where_of(kind), lambda count, it=kind: self.wrong_number(
                 it, count))
         yield self.each_number('of layout 1, upgraded', self.wrong_upgrade)
 
@@ -312,20 +312,20 @@ class Sweep:
                 (f'replacements of each length to {LONGEST_BOOK}', replacements()),
                 (f'lines of each length to {LONGEST_LINE}', lines()),
                 ('lines of each length in tunes', lines_of_tunes())):
-            def wrong_in(place, it=told):
-                return wrong_replies(it, self.answer('scripts', place, it))
-            for place, wrong in zip(PLACES, self.threads.map(wrong_in, PLACES)):
-                yield report(f'{name}, {where_of(place)}', wrong)
+            def wrong_in(kind, it=told):
+                return wrong_replies(it, self.answer('scripts', kind, it))
+            for kind, wrong in zip(KINDS, self.threads.map(wrong_in, KINDS)):
+                yield report(f'{name}, {where_of(kind)}', wrong)
 
     def long_lines(self):
         """A line of a byte too many is answered, ends the run, and is the last that is read."""
         too_long = [line for line, _ in lines_of(LONGEST_LINE + 1)]
         too_long.append(b'a' * LONGEST_LINE + b'\r')
-        for place in PLACES:
-            wrong = [wrong_replies(told, self.answer('long', place, told), 1) for told in
+        for kind in KINDS:
+            wrong = [wrong_replies(told, self.answer('long', kind, told), 1) for told in
                      ([(b'sets\n', NO_SETS), (line + b'\n', BAD_LINE), (b'sets\n', b'')]
                       for line in too_long)]
-            yield report(f'lines of {LONGEST_LINE + 1} bytes, {where_of(place)}',
+            yield report(f'lines of {LONGEST_LINE + 1} bytes, {where_of(kind)}',
                          '; '.join(why for why in wrong if why))
 
 
