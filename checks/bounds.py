@@ -8,8 +8,7 @@ layout:
   and nothing more is answered; and `make`, `check` and `upgrade` write their line, and tell by
   their status where that cannot be done;
 - memory: a `replace` by a book of very many tunes, which is refused, takes at most three times as
-  many bytes as the book has, and a megabyte, more than one by a small book; so does one by a long
-  book of one tune;
+  many bytes as the book has more than one by a small book; so does one by a long book of one tune;
 - pages: a change of one tune that no set list names writes as few pages where there are as many
   set lists as there may be as where there is none.
 
@@ -36,8 +35,8 @@ from sweep import (BAD_LINE, IN_MEMORY, KINDS, NO_KEY, NO_TUNE, UPGRADE, bare_bo
 # How long all replies of a run may take together.
 PATIENCE = 60
 MOST_PAGES, MOST_TIMES = 10, 3
-# What the system counts of a process is out by some pages for each core.
-INEXACT_KILOBYTES = 1024
+# Of so many runs the least memory is taken: what the system counts is out by some pages.
+MEASURED = 3
 MOST_SETS, MOST_PLACES, LONGEST_NAME = 500, 200, 40
 LONGEST_BOOK = 4000000
 # The tunes of two books: one of two tunes, and one of a tune.
@@ -236,12 +235,13 @@ class Bounds:
                 # In layout 1 these tunes would be too long before they are too many.
                 before = [UPGRADE, (importing(BARE), b'ok import 1 1\n')]
                 try:
-                    least, most = (self.memory_of(kind, before + [told]) for told in (
-                        small, (replacing(1, 1, book), reply)))
+                    least, most = (min(self.memory_of(kind, before + [told])
+                                       for _ in range(MEASURED))
+                                   for told in (small, (replacing(1, 1, book), reply)))
                 except Late as late:
                     wrong.append(f'{where_of(kind)}: {late}')
                     continue
-                if most - least > MOST_TIMES * len(book) // 1024 + INEXACT_KILOBYTES:
+                if (most - least) * 1024 > MOST_TIMES * len(book):
                     wrong.append(f'{where_of(kind)}: {most - least} kB')
             yield report(f'the memory of a replace by {name}', '; '.join(wrong))
 
