@@ -77,7 +77,7 @@ def files():
 # WIDTHS
 
 def is_script(path):
-    scripts = ('tunes', 'tunes-book', 'test', 'install', 'release', 'LICENSE')
+    scripts = ('build', 'tunes', 'tunes-book', 'test', 'install', 'release', 'LICENSE')
     return path in scripts or path.startswith(('.ci/', 'completions/'))
 
 
@@ -284,7 +284,7 @@ def known_names(paths):
     for path in paths:
         if path.endswith(('.rt', '.antt')) and '/proofs/' not in path:
             names.update(re.findall(r'\w+', read(path)))
-    for kind in ('must-fail/*.edit', 'data/*.script'):
+    for kind in ('must-fail/*.edit', 'must-fail/more/*.md', 'data/*.script'):
         for path in glob.glob(os.path.join(ROOT, 'crates/*', kind)):
             names.add(os.path.splitext(os.path.basename(path))[0])
     for path in glob.glob(os.path.join(ROOT, 'crates/*/stdout')):
