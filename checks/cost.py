@@ -9,7 +9,8 @@ that they are told to prove, by what they do there:
 
   proof   a proof of the crate
   tests   a proof of its tests, and of a crate that is for tests or benches
-  edits   the tries of its must-fail edits, with the check that they begin with
+  seeds   the checks of the crate that its must-fail edits begin with, and that they end with
+  edits   the tries of these edits
   build   what a compiler takes to make a program of what is proved
   run     its program, or its tests
 
@@ -24,7 +25,7 @@ import sys
 import threading
 import time
 
-KINDS = ('proof', 'tests', 'edits', 'build', 'run')
+KINDS = ('proof', 'tests', 'seeds', 'edits', 'build', 'run')
 TICKS = os.sysconf('SC_CLK_TCK')
 
 
@@ -74,7 +75,7 @@ def work_of(pid):
     if '--crate-checked' in words:
         return crate, 'build'
     if re.search(r'/rt-edits?-', folder):
-        return crate, 'edits'
+        return crate, 'seeds' if any(word.endswith('/seed') for word in words) else 'edits'
     is_test = '--test' in words or crate.startswith(('test_', 'bench'))
     return crate, 'tests' if is_test else 'proof'
 

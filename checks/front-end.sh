@@ -2149,11 +2149,24 @@ cases_of_pages() {
     sh examples/save.sh a.abcx saved.abc export > "$work/told"
     words='save.sh by a link'
     same saved.abc wanted.abc
-    # Here it packs quickly, and ./tunes builds by a copy of the program at hand.
+    # Here it packs quickly, and ./build builds by a copy of the program at hand.
     mkdir tools one two
     printf '#!/bin/sh\n[ "$1" != -9 ] || { shift; set -- -1 "$@"; }\nexec "%s" "$@"\n' \
         "$(command -v gzip)" > tools/gzip
-    printf '#!/bin/sh\nsleep 0.1\ncp "%s" out/tunes\n' "$program" > tools/rt
+    printf '#!/bin/sh\nprogram=%s\n' "$program" > tools/rt
+    cat >> tools/rt << 'END'
+case $1 in
+version) echo 'a kit' ;;
+ci)
+    sleep "${RT_TAKES:-0.1}"
+    echo "rt: abc_fields ${RT_SAYS:-proved}"
+    [ -z "$RT_SAYS" ] || { echo '23 passed, 1 failed'; exit 1; }
+    mkdir -p crates/tunes/out
+    cp "$program" crates/tunes/out/tunes
+    echo '24 passed, 0 failed'
+    ;;
+esac
+END
     chmod +x tools/gzip tools/rt
     was=$PATH
     PATH=$PWD/tools:$PATH
@@ -2176,11 +2189,37 @@ cases_of_pages() {
         grep -q "/share/$each\$" found || wrong "the release has no $each"
     done
     built=top/crates/tunes/out/tunes
+    # a proof that fails leaves no program, and all that was written
     rm "$built"
+    RT_SAYS='NOT PROVED' top/tunes --version > "$work/out" 2> "$work/err"
+    status=$?
+    words='./tunes, of a crate that is not proved'
+    ends_with 125
+    grep -q ' abc_fields is NOT PROVED$' "$work/err" || wrong "'$words' does not name it"
+    [ ! -e "$built" ] && grep -q '^23 passed, 1 failed$' top/crates/tunes/out/build.log ||
+        wrong "'$words' leaves a program, or no log"
+    # one that is ended leaves neither a program nor a copy
+    mkdir temporary
+    TMPDIR=$PWD/temporary RT_TAKES=9 top/build > "$work/out" 2> "$work/err" &
+    sleep 1
+    kill -s TERM $!
+    wait $!
+    status=$?
+    words='./build, ended by TERM'
+    ends_with 143
+    [ ! -e "$built" ] && [ -z "$(ls temporary)" ] || wrong "'$words' leaves something"
     top/tunes --version > "$work/out" 2> "$work/err"
-    takes=$(sed -n 's/.* takes \(about .*\)$/\1/p' "$work/err")
-    [ -n "$takes" ] && grep -q "in $takes," "$root/README.md" ||
-        wrong "./tunes says that a build takes '$takes', and README something else"
+    status=$?
+    words='./tunes that builds'
+    ends_with 0
+    says "tunes $version"
+    for said in 'proving and building tunes: [0-9]* crates on [0-9]* processors, about' \
+        '0:0[0-9] abc_fields proved in 0:0[0-9]; [0-9]* crates left' 'tunes is proved and built'; do
+        grep -q "$said" "$work/err" || wrong "'$words' does not say '$said'"
+    done
+    [ ! -e top/crates/tunes/out/build.log ] || wrong "'$words' leaves its log"
+    top/build > "$work/out" 2>&1
+    same "$work/out" /dev/null
     release two "$from_here"
     printf x >> "$built"
     touch -r "$built.proved" "$built"
