@@ -362,6 +362,16 @@ shown() {
     sed -n "/^X:$1\$/,/^\$/p" "$book" | sed '/^$/d'
 }
 
+# The program before it is proved: that takes minutes of a processor, so it runs beside the others.
+mkdir "$work/look"
+ln -s "$root/crates" "$root/examples" "$work/look"
+blocks recipe look > "$work/look.sh"
+command -v rt > "$work/told" && (
+    cd "$work/look" || exit
+    sh "$work/look.sh" < /dev/null > "$work/look.out" 2> "$work/look.err"
+    echo $? > "$work/look.status"
+) &
+
 begin 'the archive of the README'
 run first
 ends_with 0
@@ -1006,6 +1016,37 @@ printf '%s\n' export sets 'set-show 0_-z' 'set-show empty' 'set-show friday' |
     ./tunes run new.abcx > "$work/out" 2> "$work/err"
 same "$work/out" "$root/checks/data/from-102.contents"
 end
+
+if command -v rt > "$work/told"; then
+    begin 'a look before anything is proved'
+    wait
+    ran="${ran}look "
+    cp "$work/look.out" "$work/out"
+    cp "$work/look.err" "$work/err"
+    status=$(cat "$work/look.status")
+    ends_with 0
+    cat > wanted << 'END'
+ok import 1 1
+ok show 1 1 50
+X:1
+T:The Kesh Jig
+R:jig
+M:6/8
+K:G
+G3 GAB|A3 ABd|
+refused 4 Unknown 2
+ok find 1
+1 Kesh Jig, The
+END
+    same "$work/out" wanted
+    rm wanted
+    # what the archive of the examples holds
+    cp examples/session.abcx tunes.abcx
+    holds 'layout 2 tunes 15 sets 1'
+    end
+else
+    skip look rt
+fi
 
 # Each recipe that the pages print was run.
 names=$(sed -n 's/^<!-- recipe: \([a-z-]*\).*/\1/p' "$root/README.md" "$root/docs/USING.md")
