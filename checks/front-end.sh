@@ -2019,17 +2019,41 @@ links_of_pages() {
 }
 
 # Writes a release of the copy in top to the folder $1, and its note BUILT, which says $2 of the
-# program, to the file found.
+# program, to the file found. Where dpkg-deb is here, its package says the same.
 release() {
     words='release'
     top/release "$1" > "$work/out" 2> "$work/err"
     status=$?
     ends_with 0
-    [ ! -s "$work/err" ] || wrong "a release complains: $(head -n 1 "$work/err")"
     name=$(basename "$1"/*.gz .tar.gz)
     gzip -dc "$1/$name.tar.gz" | tar -xOf - "$name/BUILT" > found
     grep -q "^the program was $2\$" found ||
         wrong "BUILT says '$(sed -n 2p found)' in place of '$2'"
+    if ! command -v dpkg-deb > /dev/null; then
+        package_is_left_out "$1"
+        return
+    fi
+    [ ! -s "$work/err" ] || wrong "a release complains: $(head -n 1 "$work/err")"
+    package=$(basename "$1"/*.deb)
+    dpkg-deb --fsys-tarfile "$1/$package" | tar -xOf - ./usr/share/doc/tunes/BUILT > "$work/told"
+    sed '/^to install: /d' found | cmp -s - "$work/told" || wrong "$package has another BUILT"
+    dpkg-deb --field "$1/$package" Description | tr -s ' \n' '  ' > "$work/told"
+    sed -n '/^the program was /,/^its sha256: /{ /^its /d; p; }' found | tr -s ' \n' '  ' > said
+    grep -qF "$(cat said)" "$work/told" || wrong "$package does not say '$(cat said)'"
+}
+
+package_is_left_out() {
+    [ "$(cat "$work/err")" = \
+        'release: the Debian package is left out: there is no dpkg-deb here' ] ||
+        wrong "a release without dpkg-deb says '$(cat "$work/err")'"
+    ! ls "$1"/*.deb > "$work/told" 2>&1 || wrong "'$words' writes $(head -n 1 "$work/told")"
+}
+
+# The record that ./build leaves beside the program $built, of that sum.
+record() {
+    printf '%s\n' "sha256: $1" 'kit: kit-1 logic 2' 'commit: 0123abcd, with changes' 'crates: 24' \
+        > "$built.proved"
+    touch -r "$built" "$built.proved"
 }
 
 cases_of_pages() {
@@ -2171,7 +2195,7 @@ END
     was=$PATH
     PATH=$PWD/tools:$PATH
     from_elsewhere='found where this was packed; whether it was proved is not known'
-    from_here='proved and built from its sources by ./tunes, where this was packed'
+    from_here='proved and built from its sources by ./build, where this was packed'
     release one "$from_elsewhere"
     sleep 1
     release two "$from_elsewhere"
@@ -2188,7 +2212,34 @@ END
     for each in man/man1/tunes-book.1 doc/tunes/docs/USING.md doc/tunes/examples/read_archive.py; do
         grep -q "/share/$each\$" found || wrong "the release has no $each"
     done
+    if command -v dpkg-deb > /dev/null; then
+        same "one/$package" "two/$package"
+        [ -s "one/$package.sha256" ] || wrong 'the package has no sum'
+    fi
+    # What ./build saw is said of the program that it built, and of no other.
     built=top/crates/tunes/out/tunes
+    record "$(sha256sum < "$program" | sed 's/ .*//')"
+    release two "$from_here"
+    for line in 'the kit that proved it: kit-1 logic 2' \
+        'the commit of the sources: 0123abcd, with changes' 'the crates that were proved: 24'; do
+        grep -qxF "$line" found || wrong "BUILT does not say '$line'"
+    done
+    touch -d '2001-01-01 00:00:00' "$built.proved"
+    release two "$from_elsewhere"
+    record 0000
+    release two "$from_elsewhere"
+    ! grep -q 'kit\|commit\|crates' found || wrong 'BUILT says more than is known'
+    rm "$built.proved"
+    # Without dpkg-deb.
+    mkdir without three
+    (
+        IFS=:
+        for each in $was; do ln -s "$each"/* without 2> "$work/told"; done
+        rm -f without/dpkg-deb
+    )
+    PATH=$PWD/tools:$PWD/without
+    release three "$from_elsewhere"
+    PATH=$PWD/tools:$was
     # a proof that fails leaves no program, and all that was written
     rm "$built"
     RT_SAYS='NOT PROVED' top/tunes --version > "$work/out" 2> "$work/err"
