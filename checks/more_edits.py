@@ -22,7 +22,7 @@ import time
 from proving import (
     ROOT, Run, copy_crates, end_by_signals, libraries, temporary_folder, with_those_below)
 
-TRIED = re.compile(r'must-fail (\w+)/(\w+)\.edit: (refused, as it must be|[A-Z ]+)(.*)\n')
+TRIED = re.compile(r'rt: must-fail (\w+)/(\w+)\.edit: (refused, as it must be|[A-Z ]+)(.*)\n')
 # Each of these has failed, or says too little.
 BY_A_NAME = 'only because a proof file names'
 
