@@ -90,11 +90,16 @@ wanted=$(sed '/^$/q' "$doc/examples/session.abc" | sed '/^$/d')
 prints tunes-book show 1
 wanted=
 prints tunes-book export all.abc
-wanted='all.abc: tunes 1 to 15'
 prints tunes-book -f again.abcx new
+wanted='all.abc: tunes 1 to 15'
 prints tunes-book -f again.abcx add all.abc
 wanted='layout 2 tunes 15 sets 0'
 prints tunes check tunes.abcx
+# An empty Debian has no Python.
+if command -v python3 > told; then
+    python3 -B "$doc/examples/read_archive.py" check tunes.abcx > told 2>&1
+    grep -q '15 tunes' told || echo "read_archive.py prints '$(tail -n 1 told)'"
+fi
 cd / && rm -rf "$work"
 END
     cat > try/inside << 'END'
@@ -205,24 +210,22 @@ case_of_unpacked() {
     begin 'the first commands by what is unpacked'
     PATH=$work/unpacked/usr/bin:$PATH sh try/use "$work/unpacked/usr/share/doc/tunes" > told 2>&1
     [ ! -s told ] || wrong "$(head -n 3 told)"
-    python3 -B "$work/unpacked/usr/share/doc/tunes/examples/read_archive.py" --help > told 2>&1 ||
-        wrong "read_archive.py: $(tail -n 1 told)"
     end
 }
 
 # Makes the empty Debian, and runs try/inside there.
 by_mmdebstrap() {
     command -v mmdebstrap > /dev/null || return
-    timeout 300 mmdebstrap --quiet --variant=essential --format=null \
+    timeout 300 mmdebstrap --quiet --variant=essential --format=null --dpkgopt=force-unsafe-io \
         --aptopt='Acquire::Retries "1"' --aptopt='Acquire::http::Timeout "20"' \
         --customize-hook="copy-in '$work/try' /" --customize-hook='chroot "$1" sh /try/inside' \
-        "$suite" /dev/null ${MIRROR:+"$MIRROR"} > told 2> errors
+        "$suite" /dev/null ${MIRROR:+"$MIRROR"} > told 2>&1
 }
 
 by_debootstrap() {
     command -v debootstrap > /dev/null && [ "$(id -u)" -eq 0 ] || return
     timeout 600 debootstrap --variant=minbase "$suite" "$work/debian" ${MIRROR:+"$MIRROR"} \
-        > errors 2>&1 && cp -R try debian && chroot debian sh /try/inside > told 2>> errors
+        > told 2>&1 && cp -R try debian && chroot debian sh /try/inside >> told 2>&1
 }
 
 case_of_debian() {
@@ -232,15 +235,14 @@ case_of_debian() {
     esac
     suite=${SUITE:-$(. /etc/os-release; [ "$ID" != debian ] || echo "${VERSION_CODENAME-}")}
     suite=${suite:-stable}
-    echo 'there is neither mmdebstrap nor, for root, debootstrap' > errors
-    : > told
+    echo 'there is neither mmdebstrap nor, for root, debootstrap' > told
     by_mmdebstrap || grep -qx begun told || by_debootstrap
     if ! grep -qx begun told; then
-        echo "skipped $title: none can be made: $(tail -n 1 errors)"
+        echo "skipped $title: none can be made: $(tail -n 1 told)"
         return
     fi
-    grep -qx ended told || wrong "it breaks off: $(tail -n 1 errors)"
-    sed '/^begun$/d; /^ended$/d' told > wrongs
+    grep -qx ended told || wrong "it breaks off: $(tail -n 1 told)"
+    sed '1,/^begun$/d; /^ended$/,$d' told > wrongs
     [ ! -s wrongs ] || wrong "$(head -n 3 wrongs)"
     end
 }
