@@ -10,7 +10,7 @@
 # as root. It is of the release SUITE, in place of that of this system or the stable one, and comes
 # from MIRROR, in place of their own. Where none can be made, `skipped` is printed, and also where
 # the variable LEAVE_OUT has the word `debian`, or where there is no dpkg-deb.
-# shellcheck disable=SC2016 # a hook is a script, whose `$` is for itself
+# shellcheck disable=SC1091,SC2015,SC2016 # a hook is a script, whose `$` is for itself
 case ${1-} in
 '' | /*) package=${1-} ;;
 *) package=$PWD/$1 ;;
