@@ -10,7 +10,7 @@
 # as root. It is of the release SUITE, in place of that of this system or the stable one, and comes
 # from MIRROR, in place of their own. Where none can be made, `skipped` is printed, and also where
 # the variable LEAVE_OUT has the word `debian`, or where there is no dpkg-deb.
-# shellcheck disable=SC2016 # a hook is a script, whose `$` is for itself
+# shellcheck disable=SC1091,SC2015,SC2016 # a hook is a script, whose `$` is for itself
 case ${1-} in
 '' | /*) package=${1-} ;;
 *) package=$PWD/$1 ;;
@@ -117,7 +117,7 @@ list() {
         -o -printf '%p %M %U %G %s %l\n' | sort
 }
 # Calls dpkg by WORDS, which says something only where it fails.
-dpkg_does() { dpkg "$@" > told 2>&1 || echo "'dpkg $*' fails: $(tail -n 1 told)"; }
+dpkg_does() { dpkg "$@" > told 2>&1 || echo "'dpkg $*' fails: $(tr -s ' \n' '  ' < told)"; }
 is_as_before() {
     list > after
     cmp -s before after || echo "$1 leaves: $(diff before after | grep '^[<>]' | head -n 3)"
@@ -242,7 +242,7 @@ case_of_debian() {
         return
     fi
     grep -qx ended told || wrong "it breaks off: $(tail -n 1 told)"
-    sed '1,/^begun$/d; /^ended$/,$d' told > wrongs
+    sed -n '/^begun$/,/^ended$/{ /^begun$/d; /^ended$/d; p; }' told > wrongs
     [ ! -s wrongs ] || wrong "$(head -n 3 wrongs)"
     end
 }
