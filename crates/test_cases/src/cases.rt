@@ -269,9 +269,9 @@ fn split_call<'a>(line: &'a str, form: Form) -> (&'a str, &'a str) {
         .unwrap_or((line, form.unwritten))
 }
 
-/// Tries the lines of a file, each of which is a case: `NAME: CALL`, or a call that is its own name,
-/// with the answer that is wanted behind it. Empty lines, and those that begin with `#`, are passed
-/// over.
+/// Tries the lines of a file, each of which is a case: `NAME: CALL`, or a call that is its own
+/// name, with the answer that is wanted behind it. Empty lines, and those that begin with `#`, are
+/// passed over.
 ///
 /// # Errors
 ///

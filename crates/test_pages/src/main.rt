@@ -28,8 +28,9 @@
 //! `finish`, and `put-link PAGE NEXT SIZE`, a page of a chain that somebody forged, of bytes 0x41.
 //! A work of which a call is refused is dropped.
 //!
-//! `close` hands the disk back. The form of bytes is that of `test_cases::Bytes`. The program prints a line
-//! for each case, and how many came out as written; where one did not, it ends with status 1.
+//! `close` hands the disk back. The form of bytes is that of `test_cases::Bytes`. The program
+//! prints a line for each case, and how many came out as written; where one did not, it ends with
+//! status 1.
 #![tactic(auto)]
 
 mod calls;
