@@ -1,6 +1,6 @@
 // The disk that calls are made of.
-use crate::disk_calls::{Answer, DiskCall, call};
-use std::io;
+use crate::disk_calls::{DiskCall, call_disk};
+use test_cases::Answer;
 use tune_disk::{FileDisk, FuseDisk, MemoryDisk, OneFault};
 
 /// A disk of one of the kinds that there are.
@@ -42,15 +42,15 @@ impl Device {
         }
     }
 
-    /// Makes a call.
-    pub(crate) fn call(&mut self, made: DiskCall) -> io::Result<Answer> {
+    /// Makes a call, and answers it.
+    pub(crate) fn call(&mut self, call: DiskCall, bytes: &mut [u8], answer: &mut Answer) {
         match self {
-            Device::None => Ok(Answer::NoDisk),
-            Device::Memory(disk) => call(disk, made),
-            Device::Fuse(disk) => call(disk, made),
-            Device::OneFault(disk) => call(disk, made),
-            Device::FaultWithinFuse(disk) => call(disk, made),
-            Device::File(disk) => call(disk, made),
+            Device::None => answer.say("no disk"),
+            Device::Memory(disk) => call_disk(disk, call, bytes, answer),
+            Device::Fuse(disk) => call_disk(disk, call, bytes, answer),
+            Device::OneFault(disk) => call_disk(disk, call, bytes, answer),
+            Device::FaultWithinFuse(disk) => call_disk(disk, call, bytes, answer),
+            Device::File(disk) => call_disk(disk, call, bytes, answer),
         }
     }
 }

@@ -1,6 +1,5 @@
 // Files as others see them.
-use crate::bytes::{bad_line, bytes_of, first_word};
-use crate::disk_calls::Answer;
+use crate::bytes::{bytes_of, show_word};
 use std::alloc::Global;
 use std::fs::{File, Files, Permissions};
 use std::io::{PipeReader, PipeWriter};
@@ -8,7 +7,8 @@ use std::os::fd::AsRawFd;
 use std::os::unix::fs::{PermissionsExt, symlink};
 use std::path::Path;
 use std::{fs, io};
-use tune_disk::{DeviceFault, FileDisk};
+use test_cases::{Answer, no_data};
+use tune_disk::FileDisk;
 
 /// The folder of a case, and what others have open.
 #[derive(Drop)]
@@ -28,116 +28,113 @@ impl<'a> Others<'a> {
         }
     }
 
-    /// Makes the call of this name, if it is one of a file.
+    /// Makes a call with a file, and answers it.
     pub(crate) fn call<R: Files<File = File> + AllocGlobal>(
         &mut self,
         rt: &R,
         name: &str,
         rest: &str,
-    ) -> io::Result<Option<Answer>> {
-        let answer = match name {
-            "put" | "link" => self.make(rt, name, rest)?,
-            "get" | "exists" | "read-only" | "lock" => self.use_file(rt, name, rest)?,
-            "opens-as-system" => self.opens_as_system(rt, rest)?,
-            "unlock" => {
-                self.locked = None;
-                Answer::Done
-            }
-            "pipe" => {
-                self.pipe = Some(io::pipe(rt)?);
-                Answer::Done
-            }
-            _ => return Ok(None),
-        };
-        Ok(Some(answer))
-    }
-
-    // Makes a file, or a link.
-    fn make<R: Files<File = File> + AllocGlobal>(
-        &self,
-        rt: &R,
-        name: &str,
-        rest: &str,
-    ) -> io::Result<Answer> {
-        let (path, second) = first_word(rest);
-        let path = self.path(rt.alloc(), path)?;
-        if name == "put" {
-            fs::write(rt, path.as_str(), bytes_of(rt.alloc(), second)?.as_slice())?;
-        } else {
-            symlink(rt, self.path(rt.alloc(), second)?.as_str(), path.as_str())?;
+        answer: &mut Answer,
+    ) -> io::Result<()> {
+        match name {
+            "unlock" => self.locked = None,
+            "pipe" => self.pipe = Some(io::pipe(rt)?),
+            _ => return self.call_with_path(rt, name, rest, answer),
         }
-        Ok(Answer::Done)
+        answer.say("ok");
+        Ok(())
     }
 
-    // Looks at a file, or takes hold of it.
-    fn use_file<R: Files<File = File> + AllocGlobal>(
+    fn call_with_path<R: Files<File = File> + AllocGlobal>(
         &mut self,
         rt: &R,
         name: &str,
-        path: &str,
-    ) -> io::Result<Answer> {
-        let path = self.path(rt.alloc(), path)?;
+        rest: &str,
+        answer: &mut Answer,
+    ) -> io::Result<()> {
+        let (word, second) = rest.split_once(' ').unwrap_or((rest, ""));
+        let path = self.path(rt.alloc(), word)?;
         match name {
-            "get" => return Ok(Answer::Bytes(fs::read(rt, path.as_str())?)),
-            "exists" => return Ok(Answer::whether(fs::exists(rt, path.as_str())?)),
-            "read-only" => fs::set_permissions(rt, path.as_str(), Permissions::from_mode(0o444))?,
-            _ => self.locked = Some(locked(rt, &path)?),
+            "lock" => self.lock(rt, &path, answer),
+            "link" => {
+                let to = self.path(rt.alloc(), second)?;
+                symlink(rt, to.as_str(), path.as_str())?;
+                answer.say("ok");
+                Ok(())
+            }
+            _ => use_file(rt, name, &path, second, answer),
         }
-        Ok(Answer::Done)
     }
 
-    // Whether a disk is opened and made there just where the system lets this user write: a
-    // superuser may write to any file.
-    fn opens_as_system<R: Files<File = File> + AllocGlobal>(
-        &self,
+    // Another's lock of a file.
+    fn lock<R: Files<File = File>>(
+        &mut self,
         rt: &R,
         path: &str,
-    ) -> io::Result<Answer> {
-        let opens = self.file_disk(rt, false, path)?.is_ok();
-        let makes = self.file_disk(rt, true, path)?.is_ok();
-        let path = self.path(rt.alloc(), path)?;
-        let writes = File::options().write(true).open(rt, path.as_str()).is_ok();
-        Ok(Answer::whether(opens == writes && makes == writes))
-    }
-
-    /// A disk over the file at this path.
-    pub(crate) fn file_disk<R: Files<File = File> + AllocGlobal>(
-        &self,
-        rt: &R,
-        makes: bool,
-        path: &str,
-    ) -> io::Result<Result<FileDisk, DeviceFault>> {
-        let path = self.path(rt.alloc(), path)?;
-        if makes {
-            Ok(FileDisk::create(rt, path.as_str()))
+        answer: &mut Answer,
+    ) -> io::Result<()> {
+        let file = fs::open(rt, path)?;
+        answer.say(if file.try_lock().is_ok() {
+            "ok"
         } else {
-            Ok(FileDisk::open(rt, path.as_str()))
-        }
+            "locked by another"
+        });
+        self.locked = Some(file);
+        Ok(())
     }
 
-    // The path that a word says.
-    fn path(&self, alloc: Global, word: &str) -> io::Result<String> {
+    /// The path that a word says.
+    pub(crate) fn path(&self, alloc: Global, word: &str) -> io::Result<String> {
         if let Some(below) = word.strip_prefix('@') {
             return Ok(format!(in alloc; "{}{below}", self.folder.as_str())?);
         }
         match (&self.pipe, word) {
             (Some((reader, _)), "<") => descriptor(alloc, reader.as_raw_fd()),
             (Some((_, writer)), ">") => descriptor(alloc, writer.as_raw_fd()),
-            _ => String::from_utf8(bytes_of(alloc, word)?).map_err(|_| bad_line()),
+            _ => String::from_utf8(bytes_of(alloc, word)?).map_err(|_| no_data()),
         }
     }
+}
+
+// Makes a file, or looks at it.
+fn use_file<R: Files<File = File> + AllocGlobal>(
+    rt: &R,
+    name: &str,
+    path: &str,
+    second: &str,
+    answer: &mut Answer,
+) -> io::Result<()> {
+    match name {
+        "put" => {
+            fs::write(rt, path, bytes_of(rt.alloc(), second)?.as_slice())?;
+            answer.say("ok");
+        }
+        "read-only" => {
+            fs::set_permissions(rt, path, Permissions::from_mode(0o444))?;
+            answer.say("ok");
+        }
+        "get" => show_word(&fs::read(rt, path)?, answer),
+        "exists" => say_yes(fs::exists(rt, path)?, answer),
+        "opens-as-system" => say_yes(opens_as_system(rt, path), answer),
+        _ => return Err(no_data()),
+    }
+    Ok(())
+}
+
+fn say_yes(is_so: bool, answer: &mut Answer) {
+    answer.say(if is_so { "yes" } else { "no" });
+}
+
+// Whether a disk is opened and made there just where the system lets this user write: a superuser
+// may write to any file.
+fn opens_as_system<R: Files<File = File> + AllocGlobal>(rt: &R, path: &str) -> bool {
+    let opens = FileDisk::open(rt, path).is_ok();
+    let makes = FileDisk::create(rt, path).is_ok();
+    let writes = File::options().write(true).open(rt, path).is_ok();
+    opens == writes && makes == writes
 }
 
 // The path of a descriptor of this process.
 fn descriptor(alloc: Global, number: i32) -> io::Result<String> {
     Ok(format!(in alloc; "/proc/self/fd/{number}")?)
-}
-
-// Another's lock of a file.
-fn locked<R: Files<File = File>>(rt: &R, path: &str) -> io::Result<File> {
-    let file = fs::open(rt, path)?;
-    if file.try_lock().is_err() {
-        return Err(io::ErrorKind::Other.into());
-    }
-    Ok(file)
 }

@@ -33,134 +33,36 @@ mod files;
 mod stand;
 
 use stand::Stand;
-use std::alloc::Global;
 use std::fs::{File, Files};
 use std::path::Path;
 use std::process::ExitCode;
 use std::{env, fs, io};
+use test_cases::{Form, try_files};
+
+/// The files of cases.
+const FILES: [&str; 4] = ["memory", "stops", "failing", "files"];
+
+const FORM: Form = Form {
+    separator: " -> ",
+    unwritten: "ok",
+    counts_each_file: true,
+};
 
 fn main(rt: HostRuntime) -> io::Result<ExitCode> {
     let id = std::process::id(rt.process());
     let name = format!(in rt.alloc(); "test_disks-{id}")?;
     let folder = env::temp_dir(&rt)?.join(rt.alloc(), name.as_str())?;
-    if run_files(&rt, folder.as_path())? {
-        Ok(ExitCode::SUCCESS)
-    } else {
-        Ok(ExitCode::FAILURE)
-    }
+    try_in_folder(&rt, folder.as_path())
 }
 
-// Runs the cases of all files, and says whether each came out as written.
-fn run_files<R: Files<File = File> + Print + AllocGlobal>(
+// Tries all cases with a folder, which is taken away behind them.
+fn try_in_folder<R: Files<File = File> + Print + AllocGlobal>(
     rt: &R,
     folder: Path<'_>,
-) -> io::Result<bool> {
-    let mut all_as_written = true;
-    for name in ["memory", "stops", "failing", "files"] {
-        all_as_written &= run_file(rt, name, folder)?;
-    }
-    Ok(all_as_written)
-}
-
-fn run_file<R: Files<File = File> + Print + AllocGlobal>(
-    rt: &R,
-    name: &str,
-    folder: Path<'_>,
-) -> io::Result<bool> {
-    let text = fs::read_to_string(rt, name)?;
-    println!(rt; "{name}")?;
-    run_cases(rt, &text, folder)
-}
-
-// Runs all cases of a file, and says whether each came out as written.
-fn run_cases<R: Files<File = File> + Print + AllocGlobal>(
-    rt: &R,
-    text: &str,
-    folder: Path<'_>,
-) -> io::Result<bool> {
-    let mut all: u32 = 0;
-    let mut as_written: u32 = 0;
-    for case in text.split("\n\n") {
-        all = all.saturating_add(1);
-        if run_and_say(rt, case, folder)? {
-            as_written = as_written.saturating_add(1);
-        }
-    }
-    println!(rt; "{as_written} of {all} cases as written")?;
-    Ok(as_written == all)
-}
-
-// Runs a case, and says whether it came out as written.
-fn run_and_say<R: Files<File = File> + Print + AllocGlobal>(
-    rt: &R,
-    case: &str,
-    folder: Path<'_>,
-) -> io::Result<bool> {
-    let (name, lines) = case.split_once('\n').unwrap_or((case, ""));
-    let other = run_in_folder(rt, lines, folder)?;
-    say(rt, name, &other)?;
-    Ok(other.is_none())
-}
-
-// Prints what came of a case.
-fn say<R: Print>(rt: &R, name: &str, other: &Option<String>) -> io::Result<()> {
-    match other {
-        None => println!(rt; "{name}: as written"),
-        Some(other) => println!(rt; "{name}: {other}"),
-    }
-}
-
-// Makes the calls of a case with a folder, which is taken away behind them.
-fn run_in_folder<R: Files<File = File> + AllocGlobal>(
-    rt: &R,
-    lines: &str,
-    folder: Path<'_>,
-) -> io::Result<Option<String>> {
+) -> io::Result<ExitCode> {
     fs::create_dir(rt, folder)?;
-    let came_to = run_case(rt, lines, folder);
+    let mut stand = Stand::new(rt, folder);
+    let code = try_files(rt, &FILES, FORM, &mut stand);
     fs::remove_dir_all(rt, folder)?;
-    came_to
-}
-
-// Makes the calls of a case, up to the first that answers otherwise: that one is told.
-fn run_case<R: Files<File = File> + AllocGlobal>(
-    rt: &R,
-    lines: &str,
-    folder: Path<'_>,
-) -> io::Result<Option<String>> {
-    let mut stand = Stand::new(folder);
-    run_lines(rt, lines, &mut stand)
-}
-
-fn run_lines<R: Files<File = File> + AllocGlobal>(
-    rt: &R,
-    lines: &str,
-    stand: &mut Stand<'_>,
-) -> io::Result<Option<String>> {
-    for line in lines.lines() {
-        let other = run_line(rt, line, stand)?;
-        if other.is_some() {
-            return Ok(other);
-        }
-    }
-    Ok(None)
-}
-
-// Makes the call of a line, which is told where it answers otherwise.
-fn run_line<R: Files<File = File> + AllocGlobal>(
-    rt: &R,
-    line: &str,
-    stand: &mut Stand<'_>,
-) -> io::Result<Option<String>> {
-    let (call, wanted) = line.split_once(" -> ").unwrap_or((line, "ok"));
-    let answer = stand.make_call(rt, call)?.text(rt.alloc())?;
-    if answer.as_str() == wanted {
-        Ok(None)
-    } else {
-        told(rt.alloc(), call, &answer)
-    }
-}
-
-fn told(alloc: Global, call: &str, answer: &str) -> io::Result<Option<String>> {
-    Ok(Some(format!(in alloc; "{call} -> {answer}")?))
+    code
 }

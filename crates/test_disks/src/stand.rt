@@ -1,64 +1,79 @@
 // The stand on which the calls of a case are made.
-use crate::bytes::{bad_line, bytes_of, first_word, number};
+use crate::bytes::{byte_of, bytes_of, show_word};
 use crate::devices::Device;
-use crate::disk_calls::{Answer, DiskCall};
+use crate::disk_calls::{DiskCall, say_whether_done};
 use crate::files::Others;
-use std::alloc::Global;
+use std::alloc::{AllocError, Global};
 use std::fs::{File, Files};
 use std::path::Path;
-use std::{io, mem};
-use tune_disk::{MemoryDisk, StopChoice};
+use std::{fs, io, mem};
+use test_cases::{Answer, Bench, Words, no_data};
+use tune_disk::{FileDisk, MemoryDisk, StopChoice};
 
 /// The disk that calls are made of, another that was put aside, and the files round them.
 #[derive(Drop)]
-pub(crate) struct Stand<'a> {
+pub(crate) struct Stand<'a, R> {
+    rt: &'a R,
+    folder: Path<'a>,
     device: Device,
     aside: Device,
     others: Others<'a>,
 }
 
-impl<'a> Stand<'a> {
+impl<'a, R: Files<File = File> + AllocGlobal> Bench for Stand<'a, R> {
+    fn begin(&mut self, _given: &str) -> io::Result<()> {
+        self.device = Device::None;
+        self.aside = Device::None;
+        self.others = Others::new(self.folder);
+        fs::remove_dir_all(self.rt, self.folder)?;
+        fs::create_dir(self.rt, self.folder)
+    }
+
+    fn call(&mut self, name: &str, words: Words<'_>, answer: &mut Answer) -> io::Result<()> {
+        match name {
+            "len" | "sync" | "read" | "write" => self.call_disk(name, words, answer),
+            "bytes" | "lost" | "kept" | "fill" => self.look(name, words, answer),
+            "leave" => self.leave(answer),
+            "create" | "open" => self.open_file(name, words, answer),
+            "memory" | "fuse" | "one-fault" | "inner" | "swap" | "close" => {
+                self.change(name, words)?;
+                answer.say("ok");
+                Ok(())
+            }
+            _ => self.others.call(self.rt, name, words.rest(), answer),
+        }
+    }
+}
+
+impl<'a, R: Files<File = File> + AllocGlobal> Stand<'a, R> {
     /// Without a disk.
-    pub(crate) fn new(folder: Path<'a>) -> Stand<'a> {
+    pub(crate) fn new(rt: &'a R, folder: Path<'a>) -> Stand<'a, R> {
         Stand {
+            rt,
+            folder,
             device: Device::None,
             aside: Device::None,
             others: Others::new(folder),
         }
     }
 
-    /// Makes the call that a line says.
-    pub(crate) fn make_call<R: Files<File = File> + AllocGlobal>(
-        &mut self,
-        rt: &R,
-        line: &str,
-    ) -> io::Result<Answer> {
-        let (name, rest) = first_word(line);
-        if let Some(call) = DiskCall::named(rt.alloc(), name, rest)? {
-            return self.device.call(call);
-        }
-        if let Some(answer) = self.others.call(rt, name, rest)? {
-            return Ok(answer);
-        }
-        match name {
-            "bytes" | "lost" | "kept" | "fill" | "leave" => self.look(rt.alloc(), name, rest),
-            "create" | "open" => self.open_file(rt, name, rest),
-            _ => self.change(rt.alloc(), name, rest),
-        }
+    // Makes a call of the disk.
+    fn call_disk(&mut self, name: &str, words: Words<'_>, answer: &mut Answer) -> io::Result<()> {
+        let (call, mut bytes) = read_call(self.rt.alloc(), name, words)?;
+        self.device.call(call, &mut bytes, answer);
+        Ok(())
     }
 
     // Goes on with another disk.
-    fn change(&mut self, alloc: Global, name: &str, rest: &str) -> io::Result<Answer> {
+    fn change(&mut self, name: &str, words: Words<'_>) -> io::Result<()> {
         match name {
-            "memory" => self.put(Device::Memory(memory_disk(alloc, rest)?)),
-            "fuse" => self.fuse(number(rest)?),
-            "one-fault" => self.fault(number(rest)?),
-            "inner" => self.uncover(),
+            "memory" => self.device = Device::Memory(memory_disk(self.rt.alloc(), words.rest())?),
+            "inner" => self.device = self.take().inner(),
             "swap" => mem::swap(&mut self.device, &mut self.aside),
-            "close" => self.put(Device::None),
-            _ => return Err(bad_line()),
+            "close" => self.device = Device::None,
+            _ => return self.cover(name, words),
         }
-        Ok(Answer::Done)
+        Ok(())
     }
 
     // The disk, in whose place there is none.
@@ -66,71 +81,101 @@ impl<'a> Stand<'a> {
         mem::replace(&mut self.device, Device::None)
     }
 
-    fn put(&mut self, device: Device) {
-        self.device = device;
-    }
-
-    fn fuse(&mut self, calls: u64) {
+    // Puts something round the disk.
+    fn cover(&mut self, name: &str, mut words: Words<'_>) -> io::Result<()> {
+        let number = words.long().ok_or(no_data())?;
         let device = self.take();
-        self.put(device.fused(calls));
+        self.device = if name == "fuse" {
+            device.fused(number)
+        } else {
+            device.faulted(number)
+        };
+        Ok(())
     }
 
-    fn fault(&mut self, call: u64) {
-        let device = self.take();
-        self.put(device.faulted(call));
-    }
-
-    fn uncover(&mut self) {
-        let device = self.take();
-        self.put(device.inner());
-    }
-
-    // Looks at a disk in memory, or leaves it by a stop.
-    fn look(&mut self, alloc: Global, name: &str, rest: &str) -> io::Result<Answer> {
+    // Looks at a disk in memory.
+    fn look(&self, name: &str, words: Words<'_>, answer: &mut Answer) -> io::Result<()> {
         let Device::Memory(disk) = &self.device else {
-            return Ok(Answer::NoDisk);
+            answer.say("no disk");
+            return Ok(());
         };
-        let left = match name {
-            "bytes" => return Ok(Answer::Bytes(disk.bytes().to_vec(alloc)?)),
-            "lost" => disk.stopped(StopChoice::Lost)?,
-            "fill" => disk.stopped(StopChoice::Fill(byte(alloc, rest)?))?,
-            _ => disk.stopped(StopChoice::Kept)?,
-        };
-        if name == "leave" {
-            self.aside = mem::replace(&mut self.device, Device::Memory(left));
-            return Ok(Answer::Done);
+        match name {
+            "bytes" => show_word(disk.bytes(), answer),
+            "lost" => show_stopped(disk, StopChoice::Lost, answer)?,
+            "kept" => show_stopped(disk, StopChoice::Kept, answer)?,
+            _ => {
+                let byte = words.rest().as_bytes().first().copied().ok_or(no_data())?;
+                show_stopped(disk, StopChoice::Fill(byte_of(byte)), answer)?
+            }
         }
-        Ok(Answer::Bytes(left.bytes().to_vec(alloc)?))
+        Ok(())
+    }
+
+    // Goes on with what a stop leaves, and puts the disk aside.
+    fn leave(&mut self, answer: &mut Answer) -> io::Result<()> {
+        let Device::Memory(disk) = &self.device else {
+            answer.say("no disk");
+            return Ok(());
+        };
+        let left = disk.stopped(StopChoice::Kept)?;
+        self.aside = mem::replace(&mut self.device, Device::Memory(left));
+        answer.say("ok");
+        Ok(())
     }
 
     // Goes on with a disk over a file.
-    fn open_file<R: Files<File = File> + AllocGlobal>(
-        &mut self,
-        rt: &R,
-        name: &str,
-        path: &str,
-    ) -> io::Result<Answer> {
-        match self.others.file_disk(rt, name == "create", path)? {
-            Ok(disk) => {
-                self.device = Device::File(disk);
-                Ok(Answer::Done)
-            }
-            Err(_) => Ok(Answer::Fault),
+    fn open_file(&mut self, name: &str, words: Words<'_>, answer: &mut Answer) -> io::Result<()> {
+        let path = self.others.path(self.rt.alloc(), words.rest())?;
+        let opened = if name == "create" {
+            FileDisk::create(self.rt, path.as_str())
+        } else {
+            FileDisk::open(self.rt, path.as_str())
+        };
+        say_whether_done(opened.is_ok(), answer);
+        if let Ok(disk) = opened {
+            self.device = Device::File(disk);
+        }
+        Ok(())
+    }
+}
+
+// The call of a name, and the bytes beside it: a buffer that holds other bytes, or those to write.
+fn read_call(alloc: Global, name: &str, mut words: Words<'_>) -> io::Result<(DiskCall, Vec<u8>)> {
+    match name {
+        "len" => Ok((DiskCall::Len, Vec::new(alloc))),
+        "sync" => Ok((DiskCall::Sync, Vec::new(alloc))),
+        "read" => {
+            let at = words.long().ok_or(no_data())?;
+            Ok((DiskCall::Read(at), buffer(alloc, words)?))
+        }
+        _ => {
+            let at = words.long().ok_or(no_data())?;
+            Ok((DiskCall::Write(at), bytes_of(alloc, words.rest())?))
         }
     }
 }
 
-// The byte that a word says.
-fn byte(alloc: Global, word: &str) -> io::Result<u8> {
-    let bytes = bytes_of(alloc, word)?;
-    bytes.first().copied().ok_or(bad_line())
+// A buffer of so many bytes.
+fn buffer(alloc: Global, mut words: Words<'_>) -> io::Result<Vec<u8>> {
+    let size = words.short().ok_or(no_data())?;
+    Ok(vec![in alloc; 0xee; size as usize]?)
+}
+
+fn show_stopped(
+    disk: &MemoryDisk,
+    choice: StopChoice,
+    answer: &mut Answer,
+) -> Result<(), AllocError> {
+    let left = disk.stopped(choice)?;
+    show_word(left.bytes(), answer);
+    Ok(())
 }
 
 // A disk in memory that holds these bytes.
-fn memory_disk(alloc: Global, word: &str) -> io::Result<MemoryDisk> {
+fn memory_disk(alloc: Global, word: &str) -> Result<MemoryDisk, AllocError> {
     let bytes = bytes_of(alloc, word)?;
     if bytes.is_empty() {
         return Ok(MemoryDisk::new(alloc));
     }
-    Ok(MemoryDisk::from_bytes(alloc, &bytes)?)
+    MemoryDisk::from_bytes(alloc, &bytes)
 }

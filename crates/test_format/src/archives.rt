@@ -3,32 +3,32 @@ ghost use Rattle.std.specs.Prelude.{◌≤◌, OnSome};
 ghost use Rattle.tune_pages.specs.Work.{Fits};
 
 use crate::calls::{key, page, show_firsts};
-use crate::quoted::{quote, unquoted};
-use std::alloc::{AllocError, Global};
-use std::fmt::Write;
+use std::alloc::Global;
+use test_cases::{Answer, line_of, unquoted};
 use tune_archive::Archive;
 use tune_contents::{Contents, claim};
 use tune_disk::MemoryDisk;
+use tune_journal::PageImage;
 use tune_pages::{Pages, Work};
-
-// What stands in a case behind a word, in the first line that begins with it.
-pub(crate) fn line_of<'a>(block: &'a str, word: &str) -> Option<&'a str> {
-    for line in block.lines() {
-        if let Some(rest) = line.strip_prefix(word) {
-            return Some(rest);
-        }
-    }
-    None
-}
 
 // The file of a case, of which there may be 100 pages.
 fn file_of(alloc: Global, block: &str) -> Option<MemoryDisk> {
-    let root = page(&unquoted(alloc, line_of(block, "root ")?).ok()?);
+    let root = root_of(alloc, block)?;
     let mut pages = Pages::make(alloc, MemoryDisk::new(alloc), &root, 100).ok()?;
+    let is_put = put_archive(alloc, &mut pages, block).is_some();
+    let disk = pages.into_disk();
+    if is_put { Some(disk) } else { None }
+}
+
+fn root_of(alloc: Global, block: &str) -> Option<PageImage> {
+    let bytes = unquoted(alloc, line_of(block, "root ")?).ok()?;
+    Some(page(&bytes))
+}
+
+fn put_archive(alloc: Global, pages: &mut Pages<MemoryDisk>, block: &str) -> Option<()> {
     let mut work = pages.begin().ok()?;
-    put_parts(alloc, &pages, &mut work, block)?;
-    pages.finish(work).ok()?;
-    Some(pages.into_disk())
+    put_parts(alloc, pages, &mut work, block)?;
+    pages.finish(work).ok()
 }
 
 // Puts the chains and the leaves of a case, each on the next pages.
@@ -105,55 +105,60 @@ fn leaf_of<const W: usize>(alloc: Global, entries: &str) -> Option<Vec<u8>>
     Some(bytes)
 }
 
-// Shows what is claimed of the pages of a case.
-pub(crate) fn claim_pages(
-    alloc: Global,
-    block: &str,
-    answer: &mut String,
-) -> Result<(), AllocError> {
-    let Some(file) = file_of(alloc, block) else {
-        return answer.push_str("no file");
-    };
+/// Shows what is claimed of the pages of a case.
+pub(crate) fn claim_pages(alloc: Global, block: &str, answer: &mut Answer) {
+    match file_of(alloc, block) {
+        Some(file) => claim_file(alloc, file, answer),
+        None => answer.say("no file"),
+    }
+}
+
+fn claim_file(alloc: Global, file: MemoryDisk, answer: &mut Answer) {
     match Pages::open(alloc, file) {
         Ok(mut opening) => match claim(alloc, &mut opening) {
             Ok(contents) => show_contents(&contents, answer),
-            Err(fault) => write!(answer, "{fault:?}"),
+            Err(fault) => answer.name(fault),
         },
-        Err(refused) => write!(answer, "{:?}", refused.why),
+        Err(refused) => answer.name(refused.why),
     }
 }
 
-// Shows what comes of opening an archive of the pages of a case.
-pub(crate) fn open_archive(
-    alloc: Global,
-    block: &str,
-    answer: &mut String,
-) -> Result<(), AllocError> {
-    let Some(file) = file_of(alloc, block) else {
-        return answer.push_str("no file");
-    };
+/// Shows what comes of opening an archive of the pages of a case.
+pub(crate) fn open_archive(alloc: Global, block: &str, answer: &mut Answer) {
+    match file_of(alloc, block) {
+        Some(file) => open_file(alloc, file, answer),
+        None => answer.say("no file"),
+    }
+}
+
+fn open_file(alloc: Global, file: MemoryDisk, answer: &mut Answer) {
     match Archive::open(alloc, file) {
-        Ok(_) => answer.push_str("an archive"),
-        Err(refused) => write!(answer, "{:?}", refused.why),
+        Ok(archive) => {
+            let _ = archive.into_disk();
+            answer.say("an archive");
+        }
+        Err(refused) => answer.name(refused.why),
     }
 }
 
-fn show_contents(contents: &Contents, answer: &mut String) -> Result<(), AllocError> {
-    write!(answer, "layout {} firsts ", contents.layout.number())?;
-    show_firsts(contents.firsts, answer)?;
+fn show_contents(contents: &Contents, answer: &mut Answer) {
+    answer.say("layout ");
+    answer.show(contents.layout.number());
+    answer.say(" firsts ");
+    show_firsts(contents.firsts, answer);
     for place in 0..contents.rows.len() {
         let row = contents.rows.at(place);
         let (number, revision, first) = (row.number, row.revision, row.first);
-        write!(answer, ", tune {number} {revision} {first}")?;
+        answer.show(format_args!(", tune {number} {revision} {first}"));
     }
-    show_sets(contents, answer)
+    show_sets(contents, answer);
 }
 
-fn show_sets(contents: &Contents, answer: &mut String) -> Result<(), AllocError> {
+fn show_sets(contents: &Contents, answer: &mut Answer) {
     for set in contents.sets.as_slice() {
-        answer.push_str(", set ")?;
-        quote(set.name.as_slice(), answer)?;
-        write!(answer, " {:?}", set.numbers.as_slice())?;
+        answer.say(", set ");
+        answer.quote(set.name.as_slice());
+        answer.say(" ");
+        answer.name(set.numbers.as_slice());
     }
-    Ok(())
 }

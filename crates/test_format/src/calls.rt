@@ -1,7 +1,7 @@
 // The calls of the format.
-use crate::quoted::{quote, unquoted};
 use std::alloc::{AllocError, Global};
-use std::fmt::Write;
+use std::io;
+use test_cases::{Answer, Bench, Words, lay_bytes, no_data, unquoted};
 use tune_format::{
     Firsts, key_of_number, number_of_key, read_root, read_text, write_root, write_text,
 };
@@ -10,119 +10,107 @@ use tune_journal::PageImage;
 use tune_search::SearchFirsts;
 use tune_store::Layout;
 
-/// A call.
+/// Nothing is kept between two calls.
 #[derive(Clone, Copy)]
-enum Call<'a> {
-    WriteRoot(Layout, Firsts),
-    ReadRoot(&'a str),
-    KeyOfNumber(u32),
-    NumberOfKey(&'a str),
-    WriteText(u16, &'a str),
-    ReadText(&'a str),
+pub(crate) struct Calls {
+    alloc: Global,
 }
 
-impl<'a> Call<'a> {
-    // The call that a line writes down.
-    fn read(line: &'a str) -> Option<Call<'a>> {
-        let (word, rest) = line.split_once(' ').unwrap_or((line, ""));
-        match word {
+impl Calls {
+    pub(crate) fn new(alloc: Global) -> Calls {
+        Calls { alloc }
+    }
+}
+
+impl Bench for Calls {
+    fn begin(&mut self, _given: &str) -> io::Result<()> {
+        Ok(())
+    }
+
+    fn call(&mut self, name: &str, mut words: Words<'_>, answer: &mut Answer) -> io::Result<()> {
+        match name {
             "write-root" => {
-                let (number, rest) = rest.split_once(' ')?;
-                Some(Call::WriteRoot(layout(number)?, firsts(rest)?))
+                let layout = layout(&mut words).ok_or(no_data())?;
+                let firsts = firsts(&mut words).ok_or(no_data())?;
+                show_root(&write_root(layout, firsts), answer);
             }
-            "read-root" => Some(Call::ReadRoot(rest)),
-            "key-of-number" => Some(Call::KeyOfNumber(rest.parse().ok()?)),
-            "number-of-key" => Some(Call::NumberOfKey(rest)),
+            "read-root" => show_read_root(self.alloc, words.rest(), answer)?,
+            "key-of-number" => {
+                let number = words.number().ok_or(no_data())?;
+                answer.quote(key_of_number(number).bytes());
+            }
+            "number-of-key" => show_number(self.alloc, words.rest(), answer)?,
             "write-text" => {
-                let (revision, text) = rest.split_once(' ')?;
-                Some(Call::WriteText(revision.parse().ok()?, text))
+                let revision = words.short().ok_or(no_data())?;
+                show_written(self.alloc, revision, words.rest(), answer)?;
             }
-            "read-text" => Some(Call::ReadText(rest)),
-            _ => None,
+            "read-text" => show_text(&unquoted(self.alloc, words.rest())?, answer),
+            _ => return Err(no_data()),
         }
+        Ok(())
     }
 }
 
 // The layout of a number.
-fn layout(number: &str) -> Option<Layout> {
-    match number {
-        "1" => Some(Layout::One),
-        "2" => Some(Layout::Two),
+fn layout(words: &mut Words<'_>) -> Option<Layout> {
+    match words.number()? {
+        1 => Some(Layout::One),
+        2 => Some(Layout::Two),
         _ => None,
     }
 }
 
 // Six numbers, as those of the first pages in a root.
-fn firsts(text: &str) -> Option<Firsts> {
-    let mut words = text.split(' ');
+fn firsts(words: &mut Words<'_>) -> Option<Firsts> {
     Some(Firsts {
-        numbers: words.next()?.parse().ok()?,
+        numbers: words.number()?,
         searches: SearchFirsts {
-            titles: words.next()?.parse().ok()?,
-            rhythms: words.next()?.parse().ok()?,
-            scales: words.next()?.parse().ok()?,
-            incipits: words.next()?.parse().ok()?,
+            titles: words.number()?,
+            rhythms: words.number()?,
+            scales: words.number()?,
+            incipits: words.number()?,
         },
-        sets: words.next()?.parse().ok()?,
+        sets: words.number()?,
     })
-}
-
-// Makes the call of a line, and writes its answer.
-pub(crate) fn make_call(alloc: Global, line: &str, answer: &mut String) -> Result<(), AllocError> {
-    let Some(call) = Call::read(line) else {
-        return answer.push_str("no call");
-    };
-    match call {
-        Call::WriteRoot(layout, firsts) => show_root(&write_root(layout, firsts), answer),
-        Call::ReadRoot(bytes) => match read_root(&page(&unquoted(alloc, bytes)?)) {
-            Some((layout, firsts)) => {
-                write!(answer, "{} ", layout.number())?;
-                show_firsts(firsts, answer)
-            }
-            None => answer.push_str("none"),
-        },
-        Call::KeyOfNumber(number) => quote(key_of_number(number).bytes(), answer),
-        Call::NumberOfKey(bytes) => match number_of_key(&key(&unquoted(alloc, bytes)?)) {
-            Some(number) => write!(answer, "{number}"),
-            None => answer.push_str("none"),
-        },
-        Call::WriteText(revision, text) => {
-            let bytes = write_text(alloc, revision, &unquoted(alloc, text)?)?;
-            quote(&bytes, answer)
-        }
-        Call::ReadText(bytes) => show_text(&unquoted(alloc, bytes)?, answer),
-    }
 }
 
 // A page that begins with these bytes, and has zeros behind them.
 pub(crate) fn page(bytes: &[u8]) -> PageImage {
     let mut page = PageImage::blank();
-    for (place, byte) in page.bytes.iter_mut().zip(bytes) {
-        *place = *byte;
-    }
+    lay_bytes(bytes, &mut page.bytes);
     page
 }
 
 // A key that begins with these bytes, and has zeros behind them.
 pub(crate) fn key<const W: usize>(bytes: &[u8]) -> IndexKey<W> {
     let mut key = [0; W];
-    for (place, byte) in key.iter_mut().zip(bytes) {
-        *place = *byte;
-    }
+    lay_bytes(bytes, &mut key);
     IndexKey::new(key)
 }
 
 // Shows what a root says, and whether zeros stand behind it.
-fn show_root(root: &PageImage, answer: &mut String) -> Result<(), AllocError> {
+fn show_root(root: &PageImage, answer: &mut Answer) {
     let (front, behind) = root.bytes.split_at(28);
-    quote(front, answer)?;
+    answer.quote(front);
     if behind.iter().any(|byte| *byte != 0) {
-        answer.push_str(" and others")?;
+        answer.say(" and others");
+    }
+}
+
+fn show_read_root(alloc: Global, bytes: &str, answer: &mut Answer) -> Result<(), AllocError> {
+    let bytes = unquoted(alloc, bytes)?;
+    match read_root(&page(&bytes)) {
+        Some((layout, firsts)) => {
+            answer.show(layout.number());
+            answer.say(" ");
+            show_firsts(firsts, answer);
+        }
+        None => answer.say("none"),
     }
     Ok(())
 }
 
-pub(crate) fn show_firsts(firsts: Firsts, answer: &mut String) -> Result<(), AllocError> {
+pub(crate) fn show_firsts(firsts: Firsts, answer: &mut Answer) {
     let Firsts {
         numbers,
         searches,
@@ -130,18 +118,37 @@ pub(crate) fn show_firsts(firsts: Firsts, answer: &mut String) -> Result<(), All
     } = firsts;
     let (titles, rhythms) = (searches.titles, searches.rhythms);
     let (scales, incipits) = (searches.scales, searches.incipits);
-    write!(
-        answer,
-        "{numbers} {titles} {rhythms} {scales} {incipits} {sets}"
-    )
+    answer.show(format_args!("{numbers} {titles} {rhythms} {scales} {incipits} {sets}"));
 }
 
-fn show_text(bytes: &[u8], answer: &mut String) -> Result<(), AllocError> {
+fn show_number(alloc: Global, bytes: &str, answer: &mut Answer) -> Result<(), AllocError> {
+    let bytes = unquoted(alloc, bytes)?;
+    match number_of_key(&key(&bytes)) {
+        Some(number) => answer.show(number),
+        None => answer.say("none"),
+    }
+    Ok(())
+}
+
+fn show_written(
+    alloc: Global,
+    revision: u16,
+    text: &str,
+    answer: &mut Answer,
+) -> Result<(), AllocError> {
+    let text = unquoted(alloc, text)?;
+    let bytes = write_text(alloc, revision, &text)?;
+    answer.quote(&bytes);
+    Ok(())
+}
+
+fn show_text(bytes: &[u8], answer: &mut Answer) {
     match read_text(bytes) {
         Some((revision, text)) => {
-            write!(answer, "{revision} ")?;
-            quote(text, answer)
+            answer.show(revision);
+            answer.say(" ");
+            answer.quote(text);
         }
-        None => answer.push_str("none"),
+        None => answer.say("none"),
     }
 }

@@ -21,93 +21,66 @@
 
 mod archives;
 mod calls;
-mod quoted;
 
+use archives::{claim_pages, open_archive};
+use calls::Calls;
 use std::fs::Files;
 use std::process::ExitCode;
 use std::{fs, io};
+use test_cases::{Answer, Form, Tally, line_of, try_lines};
 
-/// How many cases there were, and how many of them came out as written.
-#[derive(Clone, Copy)]
-struct Count {
-    all: u32,
-    as_written: u32,
-}
+const FORM: Form = Form {
+    separator: " = ",
+    unwritten: "",
+    counts_each_file: false,
+};
 
 fn main(rt: HostRuntime) -> io::Result<ExitCode> {
-    let mut count = Count {
-        all: 0,
-        as_written: 0,
-    };
-    run_calls(&rt, &mut count)?;
-    run_archives(&rt, &mut count)?;
-    let Count { all, as_written } = count;
-    println!(&rt; "{as_written} of {all} cases as written")?;
-    if all == as_written {
-        Ok(ExitCode::SUCCESS)
-    } else {
-        Ok(ExitCode::FAILURE)
-    }
-}
-
-// Prints what came of a case, and counts it.
-fn report<R: Print>(
-    rt: &R,
-    count: &mut Count,
-    name: &str,
-    wanted: &str,
-    answer: &str,
-) -> io::Result<()> {
-    count.all = count.all.saturating_add(1);
-    if answer == wanted {
-        count.as_written = count.as_written.saturating_add(1);
-        println!(rt; "{name}: as written")
-    } else {
-        println!(rt; "{name}: {answer}")
-    }
-}
-
-// Makes the calls of the format.
-fn run_calls<R: Files + Print + AllocGlobal>(rt: &R, count: &mut Count) -> io::Result<()> {
-    let text = fs::read_to_string(rt, "bytes")?;
-    for line in text.lines() {
-        if line.starts_with('#') || line.is_empty() {
-            continue;
-        }
-        let (name, call) = line.split_once(": ").unwrap_or((line, ""));
-        let (call, wanted) = call.split_once(" = ").unwrap_or((call, ""));
-        let mut answer = String::new(rt.alloc());
-        calls::make_call(rt.alloc(), call, &mut answer)?;
-        report(rt, count, name, wanted, answer.as_str())?;
-    }
-    Ok(())
+    let mut calls = Calls::new(rt.alloc());
+    let tally = try_lines(&rt, "bytes", FORM, &mut calls)?.with(try_archives(&rt)?);
+    tally.tell_count(&rt, "cases")?;
+    Ok(tally.exit_code())
 }
 
 // Claims and opens the archives.
-fn run_archives<R: Files + Print + AllocGlobal>(rt: &R, count: &mut Count) -> io::Result<()> {
+fn try_archives<R: Files + Print + AllocGlobal>(rt: &R) -> io::Result<Tally> {
     let text = fs::read_to_string(rt, "archives")?;
-    for block in text.split("\n\n") {
-        if let Some(name) = archives::line_of(block, "case ") {
-            run_archive(rt, count, name, block)?;
-        }
-    }
-    Ok(())
+    let mut answer = Answer::new(rt.alloc());
+    try_blocks(rt, &text, &mut answer)
 }
 
-fn run_archive<R: Print + AllocGlobal>(
+fn try_blocks<R: Print + AllocGlobal>(
     rt: &R,
-    count: &mut Count,
-    name: &str,
+    text: &str,
+    answer: &mut Answer,
+) -> io::Result<Tally> {
+    let mut tally = Tally::NONE;
+    for block in text.split("\n\n") {
+        answer.clear();
+        claim_pages(rt.alloc(), block, answer);
+        tell(rt, block, "claims", answer, &mut tally)?;
+        answer.clear();
+        open_archive(rt.alloc(), block, answer);
+        tell(rt, block, "opens", answer, &mut tally)?;
+    }
+    Ok(tally)
+}
+
+// Compares an answer with what stands in a block behind a word, if the block is a case.
+fn tell<R: Print + AllocGlobal>(
+    rt: &R,
     block: &str,
+    word: &str,
+    answer: &Answer,
+    tally: &mut Tally,
 ) -> io::Result<()> {
-    let mut claimed = String::new(rt.alloc());
-    archives::claim_pages(rt.alloc(), block, &mut claimed)?;
-    let mut opened = String::new(rt.alloc());
-    archives::open_archive(rt.alloc(), block, &mut opened)?;
-    let claims = archives::line_of(block, "claims ").unwrap_or("");
-    let opens = archives::line_of(block, "opens ").unwrap_or("");
-    let claim_name = format!(in rt.alloc(); "{name} claims")?;
-    report(rt, count, &claim_name, claims, &claimed)?;
-    let open_name = format!(in rt.alloc(); "{name} opens")?;
-    report(rt, count, &open_name, opens, &opened)
+    let Some(name) = line_of(block, "case ") else {
+        return Ok(());
+    };
+    let wanted = match line_of(block, word) {
+        Some(wanted) => wanted.trim_start(),
+        None => "",
+    };
+    let name = format!(in rt.alloc(); "{name} {word}")?;
+    tally.tell(rt, &name, answer.is(wanted), answer)
 }

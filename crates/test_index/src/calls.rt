@@ -1,14 +1,16 @@
 // Calls, as a line of a case writes them down.
+use test_cases::Words;
 
 /// A call.
 #[derive(Clone, Copy)]
 pub(crate) enum Call<'a> {
     Disk(DiskCall),
     Opening(OpeningCall<'a>),
+    Done(u32),
     Begin,
     Work(WorkCall<'a>),
+    Finish,
     Index(IndexCall<'a>),
-    Keep(KeepCall),
     Close,
 }
 
@@ -26,7 +28,6 @@ pub(crate) enum DiskCall {
 pub(crate) enum OpeningCall<'a> {
     ClaimPage(u32),
     Load(u32, u32, &'a str),
-    Done(u32),
 }
 
 /// A call of a work.
@@ -37,7 +38,6 @@ pub(crate) enum WorkCall<'a> {
     PutChain(&'a str),
     ReadBytes(u32, usize, usize),
     InUse(u32),
-    Finish,
 }
 
 /// A call of an index with a work.
@@ -62,42 +62,34 @@ pub(crate) enum KeepCall {
 }
 
 impl<'a> Call<'a> {
-    // The call that a line writes down, where this number stands for `@`.
-    pub(crate) fn read(line: &'a str, at: u64) -> Option<Call<'a>> {
-        let (word, rest) = line.split_once(' ').unwrap_or((line, ""));
-        match word {
+    // The call of a name, if it is one.
+    pub(crate) fn read(name: &str, mut words: Words<'a>) -> Option<Call<'a>> {
+        match name {
+            "done" => return Some(Call::Done(words.number()?)),
             "begin" => return Some(Call::Begin),
+            "finish" => return Some(Call::Finish),
             "close" => return Some(Call::Close),
-            "new" => return Some(Call::Keep(KeepCall::New)),
-            "copy" => return Some(Call::Keep(KeepCall::Copy)),
-            "copy-from" => return Some(Call::Keep(KeepCall::CopyFrom)),
-            "swap" => return Some(Call::Keep(KeepCall::Swap)),
-            "in-place" => return Some(Call::Keep(KeepCall::InPlace)),
             _ => {}
         }
-        if let Some(call) = DiskCall::read(word, rest, at) {
+        if let Some(call) = DiskCall::read(name, words) {
             return Some(Call::Disk(call));
         }
-        if let Some(call) = OpeningCall::read(word, rest) {
+        if let Some(call) = OpeningCall::read(name, words) {
             return Some(Call::Opening(call));
         }
-        if let Some(call) = IndexCall::read(word, rest) {
+        if let Some(call) = IndexCall::read(name, words) {
             return Some(Call::Index(call));
         }
-        Some(Call::Work(WorkCall::read(word, rest)?))
+        Some(Call::Work(WorkCall::read(name, words)?))
     }
 }
 
 impl DiskCall {
-    fn read(word: &str, rest: &str, at: u64) -> Option<DiskCall> {
-        match word {
-            "failing" => Some(DiskCall::Failing(number(rest, at)?)),
-            "lying" => {
-                let (call, byte) = rest.split_once(' ')?;
-                let byte = u8::from_str_radix(byte, 16).ok()?;
-                Some(DiskCall::Lying(number(call, at)?, byte))
-            }
-            "make" => Some(DiskCall::Make(rest.parse().ok()?)),
+    fn read(name: &str, mut words: Words<'_>) -> Option<DiskCall> {
+        match name {
+            "failing" => Some(DiskCall::Failing(words.long()?)),
+            "lying" => Some(DiskCall::Lying(words.long()?, words.byte()?)),
+            "make" => Some(DiskCall::Make(words.number()?)),
             "open" => Some(DiskCall::Open),
             _ => None,
         }
@@ -105,66 +97,54 @@ impl DiskCall {
 }
 
 impl<'a> OpeningCall<'a> {
-    fn read(word: &str, rest: &'a str) -> Option<OpeningCall<'a>> {
-        match word {
-            "claim-page" => Some(OpeningCall::ClaimPage(rest.parse().ok()?)),
-            "load" => {
-                let (first, rest) = rest.split_once(' ')?;
-                let (most, entries) = rest.split_once(' ')?;
-                let most = most.parse().ok()?;
-                Some(OpeningCall::Load(first.parse().ok()?, most, entries))
-            }
-            "done" => Some(OpeningCall::Done(rest.parse().ok()?)),
+    fn read(name: &str, mut words: Words<'a>) -> Option<OpeningCall<'a>> {
+        match name {
+            "claim-page" => Some(OpeningCall::ClaimPage(words.number()?)),
+            "load" => Some(OpeningCall::Load(words.number()?, words.number()?, words.rest())),
             _ => None,
         }
     }
 }
 
 impl<'a> WorkCall<'a> {
-    fn read(word: &str, rest: &'a str) -> Option<WorkCall<'a>> {
-        match word {
+    fn read(name: &str, mut words: Words<'a>) -> Option<WorkCall<'a>> {
+        match name {
             "allocate" => Some(WorkCall::Allocate),
-            "put-leaf" => {
-                let (page, rest) = rest.split_once(' ')?;
-                let (count, entries) = rest.split_once(' ')?;
-                let count = count.parse().ok()?;
-                Some(WorkCall::PutLeaf(page.parse().ok()?, count, entries))
-            }
-            "put-chain" => Some(WorkCall::PutChain(rest)),
+            "put-leaf" => { Some(WorkCall::PutLeaf(words.number()?, words.short()?, words.rest())) }
+            "put-chain" => Some(WorkCall::PutChain(words.rest())),
             "read-bytes" => {
-                let (page, range) = rest.split_once(' ')?;
-                let (from, to) = range.split_once(' ')?;
-                let from = from.parse().ok()?;
-                Some(WorkCall::ReadBytes(page.parse().ok()?, from, to.parse().ok()?))
+                Some(WorkCall::ReadBytes(words.number()?, words.size()?, words.size()?))
             }
-            "in-use" => Some(WorkCall::InUse(rest.parse().ok()?)),
-            "finish" => Some(WorkCall::Finish),
+            "in-use" => Some(WorkCall::InUse(words.number()?)),
             _ => None,
         }
     }
 }
 
 impl<'a> IndexCall<'a> {
-    fn read(word: &str, rest: &'a str) -> Option<IndexCall<'a>> {
-        match word {
-            "insert" => Some(IndexCall::Insert(rest)),
-            "insert-all" => Some(IndexCall::InsertAll(rest)),
-            "remove" => Some(IndexCall::Remove(rest)),
+    fn read(name: &str, mut words: Words<'a>) -> Option<IndexCall<'a>> {
+        match name {
+            "insert" => Some(IndexCall::Insert(words.rest())),
+            "insert-all" => Some(IndexCall::InsertAll(words.rest())),
+            "remove" => Some(IndexCall::Remove(words.rest())),
             "clear" => Some(IndexCall::Clear),
-            "candidates" => {
-                let (low, high) = rest.split_once(' ')?;
-                Some(IndexCall::Candidates(low, high))
-            }
+            "candidates" => Some(IndexCall::Candidates(words.word(), words.rest())),
             "store" => Some(IndexCall::Store),
             _ => None,
         }
     }
 }
 
-fn number(text: &str, at: u64) -> Option<u64> {
-    if text == "@" {
-        Some(at)
-    } else {
-        text.parse().ok()
+impl KeepCall {
+    // The call of this name, if it is one.
+    pub(crate) fn read(name: &str) -> Option<KeepCall> {
+        match name {
+            "new" => Some(KeepCall::New),
+            "copy" => Some(KeepCall::Copy),
+            "copy-from" => Some(KeepCall::CopyFrom),
+            "swap" => Some(KeepCall::Swap),
+            "in-place" => Some(KeepCall::InPlace),
+            _ => None,
+        }
     }
 }

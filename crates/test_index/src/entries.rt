@@ -7,8 +7,8 @@ ghost use Rattle.std.specs.Prelude.{◌↔◌, ◌≤◌, ◌++◌, [], ◌∷�
 ghost use Rattle.index_keys.specs.Entries.{IsRising};
 
 use std::alloc::{AllocError, Global};
-use std::fmt::Write;
 use std::marker::Model;
+use test_cases::Answer;
 use tune_index::IndexKey;
 
 /// Entries that rise.
@@ -161,29 +161,29 @@ pub(crate) fn are_same<const W: usize>(
 }
 
 // Writes values down: one behind the other, and `1..9` where each is one more than that before it.
-pub(crate) fn show_values(values: &[u32], answer: &mut String) -> Result<(), AllocError> {
+pub(crate) fn show_values(values: &[u32], answer: &mut Answer) {
     let mut range: Option<(u32, u32)> = None;
     for value in values {
         range = match range {
             None => Some((*value, *value)),
             Some((first, last)) if last.checked_add(1) == Some(*value) => Some((first, *value)),
             Some((first, last)) => {
-                show_range(first, last, answer)?;
-                answer.push(' ')?;
+                show_range(first, last, answer);
+                answer.say(" ");
                 Some((*value, *value))
             }
         };
     }
     match range {
-        None => answer.push_str("none"),
+        None => answer.say("none"),
         Some((first, last)) => show_range(first, last, answer),
     }
 }
 
-fn show_range(first: u32, last: u32, answer: &mut String) -> Result<(), AllocError> {
-    if first == last {
-        write!(answer, "{first}")
-    } else {
-        write!(answer, "{first}..{last}")
+fn show_range(first: u32, last: u32, answer: &mut Answer) {
+    answer.show(first);
+    if first != last {
+        answer.say("..");
+        answer.show(last);
     }
 }

@@ -4,15 +4,15 @@ ghost use Rattle.std.specs.Prelude.{◌≤◌, ◌↔◌, IsTrue};
 use crate::calls::{Call, DiskCall, KeepCall};
 use crate::disks::InMemory;
 use crate::indexes::call_index;
-use crate::openings::call_opening;
-use crate::works::call_work;
-use std::alloc::{AllocError, Global};
-use std::fmt::Write;
+use crate::openings::{call_opening, end_opening};
+use crate::works::{call_work, finish};
+use std::alloc::Global;
 use std::marker::Model;
 use std::mem;
+use test_cases::{Answer, Words};
 use tune_index::Index;
 use tune_journal::PageImage;
-use tune_pages::{Opening, Pages, Work};
+use tune_pages::{Fault, Opening, Pages, Work};
 
 /// The most pages that there may be.
 const MOST_PAGES: u32 = 4_000_000;
@@ -20,9 +20,9 @@ const MOST_PAGES: u32 = 4_000_000;
 /// What a case has in hand: the index that calls go to, and another one.
 #[derive(Drop)]
 pub(crate) struct Held<const W: usize> {
-    pub(crate) file: File,
-    pub(crate) index: Index<W>,
-    pub(crate) other: Index<W>,
+    file: File,
+    index: Index<W>,
+    other: Index<W>,
 }
 
 /// What was made of the file.
@@ -77,6 +77,29 @@ impl<const W: usize> Held<W> {
             other: Index::new(alloc),
         }
     }
+
+    // Makes the call of a name, and writes its answer; false where there is no such call.
+    pub(crate) fn call(
+        &mut self,
+        alloc: Global,
+        name: &str,
+        words: Words<'_>,
+        answer: &mut Answer,
+    ) -> bool
+        requires { W ≤ 4090 }
+    {
+        if let Some(call) = KeepCall::read(name) {
+            keep(alloc, &mut self.index, &mut self.other, call, answer);
+            return true;
+        }
+        match Call::read(name, words) {
+            Some(call) => {
+                call_file(alloc, &mut self.file, &mut self.index, call, answer);
+                true
+            }
+            None => false,
+        }
+    }
 }
 
 // Whether there may be so many pages.
@@ -86,81 +109,87 @@ pub(crate) fn is_limit(limit: u32) -> bool
     1 <= limit && limit <= MOST_PAGES
 }
 
-// Makes a call, and writes its answer.
-pub(crate) fn make_call<const W: usize>(
-    alloc: Global,
-    held: Held<W>,
-    call: Call,
-    answer: &mut String,
-) -> Result<Held<W>, AllocError>
-    requires { W ≤ 4090 }
-{
-    let Held { file, index, other } = held;
-    let (file, index, other) = match (file, call) {
-        (file, Call::Keep(call)) => {
-            let (index, other) = keep(alloc, index, other, call, answer)?;
-            (file, index, other)
-        }
-        (File::Opening(opening), Call::Opening(call)) => {
-            let (file, index) = call_opening(alloc, opening, index, call, answer)?;
-            (file, index, other)
-        }
-        (File::Begun(begun), Call::Index(call)) => {
-            let (file, index) = call_index(alloc, begun, index, call, answer)?;
-            (file, index, other)
-        }
-        (file, call) => (call_file::<W>(alloc, file, call, answer)?, index, other),
-    };
-    Ok(Held { file, index, other })
-}
-
-// Makes a call that asks for no index.
+// Makes a call of a file, which is taken for it and put back.
 fn call_file<const W: usize>(
     alloc: Global,
+    file: &mut File,
+    index: &mut Index<W>,
+    call: Call<'_>,
+    answer: &mut Answer,
+)
+    requires { W ≤ 4090 }
+{
+    let taken = mem::replace(file, File::Disk(InMemory::empty(alloc)));
+    *file = make_call(alloc, taken, index, call, answer);
+}
+
+// What there is of a file behind a call.
+fn make_call<const W: usize>(
+    alloc: Global,
     file: File,
-    call: Call,
-    answer: &mut String,
-) -> Result<File, AllocError>
+    index: &mut Index<W>,
+    call: Call<'_>,
+    answer: &mut Answer,
+) -> File
     requires { W ≤ 4090 }
 {
     match (file, call) {
         (File::Disk(disk), Call::Disk(call)) => call_disk(alloc, disk, call, answer),
+        (File::Opening(opening), Call::Opening(call)) => {
+            call_opening(alloc, opening, index, call, answer)
+        }
+        (File::Opening(opening), Call::Done(limit)) => end_opening(opening, limit, answer),
         (File::Pages(pages), Call::Begin) => begin(pages, answer),
         (File::Begun(Begun { pages, work: _ }), Call::Begin) => begin(pages, answer),
         (File::Begun(begun), Call::Work(call)) => call_work::<W>(alloc, begun, call, answer),
-        (file, Call::Close) => done(File::Disk(file.into_disk()), answer),
+        (File::Begun(begun), Call::Index(call)) => call_index(alloc, begun, index, call, answer),
+        (File::Begun(begun), Call::Finish) => finish(begun, answer),
+        (file, Call::Close) => {
+            answer.say("done");
+            File::Disk(file.into_disk())
+        }
         (file, _) => {
-            answer.push_str("not in hand")?;
-            Ok(file)
+            answer.say("not in hand");
+            file
         }
     }
-}
-
-// The answer of a call that did what it was to do.
-pub(crate) fn done(file: File, answer: &mut String) -> Result<File, AllocError> {
-    answer.push_str("done")?;
-    Ok(file)
 }
 
 // Makes one of the two indexes anew.
 fn keep<const W: usize>(
     alloc: Global,
-    mut index: Index<W>,
-    mut other: Index<W>,
+    index: &mut Index<W>,
+    other: &mut Index<W>,
     call: KeepCall,
-    answer: &mut String,
-) -> Result<(Index<W>, Index<W>), AllocError>
+    answer: &mut Answer,
+)
     requires { W ≤ 4090 }
 {
     match call {
-        KeepCall::New => index = Index::new(alloc),
-        KeepCall::Copy => other = index.copy(alloc)?,
-        KeepCall::CopyFrom => other.copy_from(&index)?,
-        KeepCall::Swap => mem::swap(&mut index, &mut other),
-        KeepCall::InPlace => index = in_place_of(alloc, &index),
+        KeepCall::New => *index = Index::new(alloc),
+        KeepCall::Copy => copy(alloc, index, other, answer),
+        KeepCall::CopyFrom => {
+            if other.copy_from(index).is_err() {
+                answer.name(Fault::OutOfMemory);
+            }
+        }
+        KeepCall::Swap => mem::swap(index, other),
+        KeepCall::InPlace => *index = in_place_of(alloc, index),
     }
-    answer.push_str("done")?;
-    Ok((index, other))
+    answer.say("done");
+}
+
+// Makes another index a copy of one.
+fn copy<const W: usize>(
+    alloc: Global,
+    index: &Index<W>,
+    other: &mut Index<W>,
+    answer: &mut Answer,
+) {
+    match index.copy(alloc) {
+        Ok(copy) => *other = copy,
+        Err(_) => answer.name(Fault::OutOfMemory),
+    }
 }
 
 // An index in the place of another, by way of one of keys of seven bytes.
@@ -171,56 +200,60 @@ fn in_place_of<const W: usize>(alloc: Global, index: &Index<W>) -> Index<W>
     Index::in_place_of(alloc, &between)
 }
 
-fn begin(pages: Pages<InMemory>, answer: &mut String) -> Result<File, AllocError> {
+fn begin(pages: Pages<InMemory>, answer: &mut Answer) -> File {
     match pages.begin() {
-        Ok(work) => done(File::Begun(Begun { pages, work }), answer),
+        Ok(work) => {
+            answer.say("done");
+            File::Begun(Begun { pages, work })
+        }
         Err(fault) => {
-            write!(answer, "{fault:?}")?;
-            Ok(File::Pages(pages))
+            answer.name(fault);
+            File::Pages(pages)
         }
     }
 }
 
-fn call_disk(
-    alloc: Global,
-    disk: InMemory,
-    call: DiskCall,
-    answer: &mut String,
-) -> Result<File, AllocError> {
+fn call_disk(alloc: Global, disk: InMemory, call: DiskCall, answer: &mut Answer) -> File {
     match call {
-        DiskCall::Failing(call) => done(File::Disk(disk.failing(call)), answer),
-        DiskCall::Lying(call, byte) => done(File::Disk(disk.lying(call, byte)), answer),
+        DiskCall::Failing(call) => put_disk(disk.failing(call), answer),
+        DiskCall::Lying(call, byte) => put_disk(disk.lying(call, byte), answer),
         DiskCall::Make(limit) => make(alloc, disk, limit, answer),
         DiskCall::Open => open(alloc, disk, answer),
     }
 }
 
+fn put_disk(disk: InMemory, answer: &mut Answer) -> File {
+    answer.say("done");
+    File::Disk(disk)
+}
+
 // Pages with a root of zeros.
-fn make(
-    alloc: Global,
-    disk: InMemory,
-    limit: u32,
-    answer: &mut String,
-) -> Result<File, AllocError> {
+fn make(alloc: Global, disk: InMemory, limit: u32, answer: &mut Answer) -> File {
     if !is_limit(limit) {
-        answer.push_str("no limit")?;
-        return Ok(File::Disk(disk));
+        answer.say("no limit");
+        return File::Disk(disk);
     }
     match Pages::make(alloc, disk, &PageImage::blank(), limit) {
-        Ok(pages) => done(File::Pages(pages), answer),
+        Ok(pages) => {
+            answer.say("done");
+            File::Pages(pages)
+        }
         Err(refused) => {
-            write!(answer, "{:?}", refused.why)?;
-            Ok(File::Disk(refused.disk))
+            answer.name(refused.why);
+            File::Disk(refused.disk)
         }
     }
 }
 
-fn open(alloc: Global, disk: InMemory, answer: &mut String) -> Result<File, AllocError> {
+fn open(alloc: Global, disk: InMemory, answer: &mut Answer) -> File {
     match Pages::open(alloc, disk) {
-        Ok(opening) => done(File::Opening(opening), answer),
+        Ok(opening) => {
+            answer.say("done");
+            File::Opening(opening)
+        }
         Err(refused) => {
-            write!(answer, "{:?}", refused.why)?;
-            Ok(File::Disk(refused.disk))
+            answer.name(refused.why);
+            File::Disk(refused.disk)
         }
     }
 }

@@ -1,4 +1,5 @@
-// The calls of an index with a work.
+// The calls of an index with a work. One function holds the pages and the work, and lends them to
+// the others.
 ghost use Rattle.std.specs.Prelude.{◌≤◌, ◌≡◌, false, OnOk};
 ghost use Rattle.tune_pages.specs.Work.{Fits};
 
@@ -6,94 +7,91 @@ use crate::calls::IndexCall;
 use crate::disks::InMemory;
 use crate::entries::{Run, read_entries, read_key, show_values};
 use crate::held::{Begun, File};
-use std::alloc::{AllocError, Global};
-use std::fmt::Write;
+use std::alloc::Global;
+use test_cases::Answer;
 use tune_index::{Index, IndexKey};
 use tune_pages::{Fault, Pages, Work};
 
-// Makes a call of an index, and writes its answer.
+// Makes a call of an index, and writes its answer. Where it is refused the work is dropped, and the
+// index is one without an entry.
 pub(crate) fn call_index<const W: usize>(
     alloc: Global,
     begun: Begun,
-    index: Index<W>,
-    call: IndexCall,
-    answer: &mut String,
-) -> Result<(File, Index<W>), AllocError>
+    index: &mut Index<W>,
+    call: IndexCall<'_>,
+    answer: &mut Answer,
+) -> File
     requires { W ≤ 4090 }
+{
+    let Begun {
+        mut pages,
+        mut work,
+    } = begun;
+    match change(alloc, &mut pages, &mut work, index, call, answer) {
+        Ok(()) => File::Begun(Begun { pages, work }),
+        Err(fault) => {
+            answer.name(fault);
+            *index = Index::new(alloc);
+            File::Pages(pages)
+        }
+    }
+}
+
+fn change<const W: usize>(
+    alloc: Global,
+    pages: &mut Pages<InMemory>,
+    work: &mut Work,
+    index: &mut Index<W>,
+    call: IndexCall<'_>,
+    answer: &mut Answer,
+) -> Result<(), Fault>
+    requires width { W ≤ 4090 }
+    requires fits { Fits pages.old work.old }
+    requires open { pages.old.closed ≡ false }
+    ensures fits { OnOk result (Fits pages.new work.new) }
+    ensures open { OnOk result (pages.new.closed ≡ false) }
 {
     match call {
-        IndexCall::Insert(entries) => insert(alloc, begun, index, entries, answer),
-        IndexCall::InsertAll(entries) => insert_all(alloc, begun, index, entries, answer),
-        IndexCall::Remove(entries) => remove(alloc, begun, index, entries, answer),
-        IndexCall::Clear => clear(alloc, begun, index, answer),
-        IndexCall::Candidates(low, high) => candidates(alloc, begun, index, low, high, answer),
-        IndexCall::Store => store(alloc, begun, index, answer),
-    }
-}
-
-// A call was not made.
-fn unmade<const W: usize>(
-    begun: Begun,
-    index: Index<W>,
-    why: &str,
-    answer: &mut String,
-) -> Result<(File, Index<W>), AllocError> {
-    answer.push_str(why)?;
-    Ok((File::Begun(begun), index))
-}
-
-// The end of a call that changes the work. Where it was refused the work is dropped, and the index
-// is one without an entry.
-fn end<const W: usize>(
-    alloc: Global,
-    pages: Pages<InMemory>,
-    work: Work,
-    index: Index<W>,
-    came_to: Result<(), Fault>,
-    answer: &mut String,
-) -> Result<(File, Index<W>), AllocError>
-    requires width { W ≤ 4090 }
-    requires fits { OnOk came_to (Fits pages work) }
-    requires open { OnOk came_to (pages.closed ≡ false) }
-{
-    match came_to {
-        Ok(()) => {
-            answer.push_str("done")?;
-            Ok((File::Begun(Begun { pages, work }), index))
+        IndexCall::Insert(entries) => insert(alloc, pages, work, index, entries, answer),
+        IndexCall::InsertAll(entries) => insert_all(alloc, pages, work, index, entries, answer),
+        IndexCall::Remove(entries) => remove(alloc, pages, work, index, entries, answer),
+        IndexCall::Clear => {
+            index.clear(pages, work)?;
+            answer.say("done");
+            Ok(())
         }
-        Err(fault) => refused(alloc, pages, fault, answer),
+        IndexCall::Candidates(low, high) => {
+            candidates(alloc, pages, work, index, low, high, answer)
+        }
+        IndexCall::Store => {
+            let first = index.store(alloc, pages, work)?;
+            answer.show(first);
+            Ok(())
+        }
     }
-}
-
-fn refused<const W: usize>(
-    alloc: Global,
-    pages: Pages<InMemory>,
-    fault: Fault,
-    answer: &mut String,
-) -> Result<(File, Index<W>), AllocError>
-    requires { W ≤ 4090 }
-{
-    write!(answer, "{fault:?}")?;
-    Ok((File::Pages(pages), Index::new(alloc)))
 }
 
 // Puts in each of the entries, one after the other.
 fn insert<const W: usize>(
     alloc: Global,
-    begun: Begun,
-    mut index: Index<W>,
+    pages: &mut Pages<InMemory>,
+    work: &mut Work,
+    index: &mut Index<W>,
     entries: &str,
-    answer: &mut String,
-) -> Result<(File, Index<W>), AllocError>
-    requires { W ≤ 4090 }
+    answer: &mut Answer,
+) -> Result<(), Fault>
+    requires width { W ≤ 4090 }
+    requires fits { Fits pages.old work.old }
+    requires open { pages.old.closed ≡ false }
+    ensures fits { OnOk result (Fits pages.new work.new) }
+    ensures open { OnOk result (pages.new.closed ≡ false) }
 {
-    let entries = read_entries(alloc, entries)?;
-    let Begun {
-        mut pages,
-        mut work,
-    } = begun;
-    let came_to = insert_each(alloc, &mut pages, &mut work, &mut index, &entries);
-    end(alloc, pages, work, index, came_to, answer)
+    let Ok(entries) = read_entries(alloc, entries) else {
+        return Err(Fault::OutOfMemory);
+    };
+    insert_each(alloc, pages, work, index, &entries)?;
+    answer.say("done");
+    Ok(())
 }
 
 fn insert_each<const W: usize>(
@@ -117,43 +115,56 @@ fn insert_each<const W: usize>(
     Ok(())
 }
 
+// Puts in entries that rise, all at once.
 fn insert_all<const W: usize>(
     alloc: Global,
-    begun: Begun,
-    mut index: Index<W>,
+    pages: &mut Pages<InMemory>,
+    work: &mut Work,
+    index: &mut Index<W>,
     entries: &str,
-    answer: &mut String,
-) -> Result<(File, Index<W>), AllocError>
-    requires { W ≤ 4090 }
+    answer: &mut Answer,
+) -> Result<(), Fault>
+    requires width { W ≤ 4090 }
+    requires fits { Fits pages.old work.old }
+    requires open { pages.old.closed ≡ false }
+    ensures fits { OnOk result (Fits pages.new work.new) }
+    ensures open { OnOk result (pages.new.closed ≡ false) }
 {
-    let Some(run) = Run::read(alloc, entries)? else {
-        return unmade(begun, index, "not rising", answer);
-    };
-    let Begun {
-        mut pages,
-        mut work,
-    } = begun;
-    let came_to = index.insert_all(alloc, &mut pages, &mut work, run.entries());
-    end(alloc, pages, work, index, came_to, answer)
+    match Run::read(alloc, entries) {
+        Ok(Some(run)) => {
+            index.insert_all(alloc, pages, work, run.entries())?;
+            answer.say("done");
+            Ok(())
+        }
+        Ok(None) => {
+            answer.say("not rising");
+            Ok(())
+        }
+        Err(_) => Err(Fault::OutOfMemory),
+    }
 }
 
 // Takes out each of the entries, one after the other.
 fn remove<const W: usize>(
     alloc: Global,
-    begun: Begun,
-    mut index: Index<W>,
+    pages: &mut Pages<InMemory>,
+    work: &mut Work,
+    index: &mut Index<W>,
     entries: &str,
-    answer: &mut String,
-) -> Result<(File, Index<W>), AllocError>
-    requires { W ≤ 4090 }
+    answer: &mut Answer,
+) -> Result<(), Fault>
+    requires width { W ≤ 4090 }
+    requires fits { Fits pages.old work.old }
+    requires open { pages.old.closed ≡ false }
+    ensures fits { OnOk result (Fits pages.new work.new) }
+    ensures open { OnOk result (pages.new.closed ≡ false) }
 {
-    let entries = read_entries(alloc, entries)?;
-    let Begun {
-        mut pages,
-        mut work,
-    } = begun;
-    let came_to = remove_each(alloc, &mut pages, &mut work, &mut index, &entries);
-    end(alloc, pages, work, index, came_to, answer)
+    let Ok(entries) = read_entries(alloc, entries) else {
+        return Err(Fault::OutOfMemory);
+    };
+    remove_each(alloc, pages, work, index, &entries)?;
+    answer.say("done");
+    Ok(())
 }
 
 fn remove_each<const W: usize>(
@@ -177,61 +188,23 @@ fn remove_each<const W: usize>(
     Ok(())
 }
 
-// Takes out all entries.
-fn clear<const W: usize>(
-    alloc: Global,
-    begun: Begun,
-    mut index: Index<W>,
-    answer: &mut String,
-) -> Result<(File, Index<W>), AllocError>
-    requires { W ≤ 4090 }
-{
-    let Begun {
-        mut pages,
-        mut work,
-    } = begun;
-    let came_to = index.clear(&mut pages, &mut work);
-    end(alloc, pages, work, index, came_to, answer)
-}
-
 fn candidates<const W: usize>(
     alloc: Global,
-    begun: Begun,
-    index: Index<W>,
+    pages: &mut Pages<InMemory>,
+    work: &mut Work,
+    index: &mut Index<W>,
     low: &str,
     high: &str,
-    answer: &mut String,
-) -> Result<(File, Index<W>), AllocError>
-    requires { W ≤ 4090 }
+    answer: &mut Answer,
+) -> Result<(), Fault>
+    requires width { W ≤ 4090 }
+    requires fits { Fits pages.old work.old }
+    requires open { pages.old.closed ≡ false }
+    ensures fits { OnOk result (Fits pages.new work.new) }
+    ensures open { OnOk result (pages.new.closed ≡ false) }
 {
-    let Begun { mut pages, work } = begun;
     let (low, high) = (read_key(low), read_key(high));
-    match index.candidates(alloc, &mut pages, &work, &low, &high) {
-        Ok(values) => {
-            show_values(&values, answer)?;
-            Ok((File::Begun(Begun { pages, work }), index))
-        }
-        Err(fault) => refused(alloc, pages, fault, answer),
-    }
-}
-
-fn store<const W: usize>(
-    alloc: Global,
-    begun: Begun,
-    mut index: Index<W>,
-    answer: &mut String,
-) -> Result<(File, Index<W>), AllocError>
-    requires { W ≤ 4090 }
-{
-    let Begun {
-        mut pages,
-        mut work,
-    } = begun;
-    match index.store(alloc, &mut pages, &mut work) {
-        Ok(first) => {
-            write!(answer, "{first}")?;
-            Ok((File::Begun(Begun { pages, work }), index))
-        }
-        Err(fault) => refused(alloc, pages, fault, answer),
-    }
+    let values = index.candidates(alloc, pages, work, &low, &high)?;
+    show_values(&values, answer);
+    Ok(())
 }

@@ -4,35 +4,35 @@ ghost use Rattle.std.specs.Prelude.{◌≤◌};
 use crate::calls::OpeningCall;
 use crate::disks::InMemory;
 use crate::entries::{are_same, read_entries};
-use crate::held::{File, done, is_limit};
-use std::alloc::{AllocError, Global};
-use std::fmt::Write;
-use tune_index::Index;
-use tune_pages::Opening;
+use crate::held::{File, is_limit};
+use std::alloc::Global;
+use test_cases::Answer;
+use tune_index::{Index, IndexKey};
+use tune_pages::{Fault, Opening};
 
 // Makes a call of an opening, and writes its answer.
 pub(crate) fn call_opening<const W: usize>(
     alloc: Global,
     mut opening: Opening<InMemory>,
-    index: Index<W>,
-    call: OpeningCall,
-    answer: &mut String,
-) -> Result<(File, Index<W>), AllocError>
+    index: &mut Index<W>,
+    call: OpeningCall<'_>,
+    answer: &mut Answer,
+) -> File
     requires { W ≤ 4090 }
 {
     match call {
-        OpeningCall::ClaimPage(page) => {
-            match opening.claim_page(page) {
-                Ok(_) => answer.push_str("done")?,
-                Err(fault) => write!(answer, "{fault:?}")?,
-            }
-            Ok((File::Opening(opening), index))
-        }
+        OpeningCall::ClaimPage(page) => claim(&mut opening, page, answer),
         OpeningCall::Load(first, most, entries) => {
-            let index = load(alloc, &mut opening, index, first, most, entries, answer)?;
-            Ok((File::Opening(opening), index))
+            load(alloc, &mut opening, index, first, most, entries, answer)
         }
-        OpeningCall::Done(limit) => Ok((end_opening(opening, limit, answer)?, index)),
+    }
+    File::Opening(opening)
+}
+
+fn claim(opening: &mut Opening<InMemory>, page: u32, answer: &mut Answer) {
+    match opening.claim_page(page) {
+        Ok(_) => answer.say("done"),
+        Err(fault) => answer.name(fault),
     }
 }
 
@@ -40,45 +40,51 @@ pub(crate) fn call_opening<const W: usize>(
 fn load<const W: usize>(
     alloc: Global,
     opening: &mut Opening<InMemory>,
-    index: Index<W>,
+    index: &mut Index<W>,
     first: u32,
     most: u32,
     entries: &str,
-    answer: &mut String,
-) -> Result<Index<W>, AllocError>
+    answer: &mut Answer,
+)
     requires { W ≤ 4090 }
 {
     match Index::load::<_, Vec<_>>(alloc, opening, first, most) {
         Ok((loaded, found)) => {
-            if are_same(&found, &read_entries(alloc, entries)?) {
-                answer.push_str("done")?;
-            } else {
-                write!(answer, "{} others", found.len())?;
-            }
-            Ok(loaded)
+            *index = loaded;
+            compare(alloc, &found, entries, answer);
         }
-        Err(fault) => {
-            write!(answer, "{fault:?}")?;
-            Ok(index)
-        }
+        Err(fault) => answer.name(fault),
+    }
+}
+
+// Whether the entries that were found are those that a text writes down.
+fn compare<const W: usize>(
+    alloc: Global,
+    found: &[(IndexKey<W>, u32)],
+    entries: &str,
+    answer: &mut Answer,
+) {
+    match read_entries(alloc, entries) {
+        Ok(entries) if are_same(found, &entries) => answer.say("done"),
+        Ok(_) => answer.show(format_args!("{} others", found.len())),
+        Err(_) => answer.name(Fault::OutOfMemory),
     }
 }
 
 // The pages that were claimed.
-fn end_opening(
-    opening: Opening<InMemory>,
-    limit: u32,
-    answer: &mut String,
-) -> Result<File, AllocError> {
+pub(crate) fn end_opening(opening: Opening<InMemory>, limit: u32, answer: &mut Answer) -> File {
     if !is_limit(limit) {
-        answer.push_str("no limit")?;
-        return Ok(File::Opening(opening));
+        answer.say("no limit");
+        return File::Opening(opening);
     }
     match opening.done(limit) {
-        Ok(pages) => done(File::Pages(pages), answer),
+        Ok(pages) => {
+            answer.say("done");
+            File::Pages(pages)
+        }
         Err(refused) => {
-            write!(answer, "{:?}", refused.why)?;
-            Ok(File::Disk(refused.disk))
+            answer.name(refused.why);
+            File::Disk(refused.disk)
         }
     }
 }

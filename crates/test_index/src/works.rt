@@ -1,82 +1,123 @@
-// The calls of a work.
-ghost use Rattle.std.specs.Prelude.{◌≤◌};
+// The calls of a work. One function holds the pages and the work, and lends them to the others.
+ghost use Rattle.std.specs.Prelude.{◌≤◌, ◌≡◌, false, OnOk};
 ghost use Rattle.tune_pages.specs.Work.{Fits};
 
 use crate::calls::WorkCall;
 use crate::disks::InMemory;
 use crate::entries::read_entries;
-use crate::held::{Begun, File, done};
+use crate::held::{Begun, File};
 use std::alloc::{AllocError, Global};
-use std::fmt::Write;
+use test_cases::{Answer, lay_bytes, read_hexadecimal};
 use tune_journal::PageImage;
 use tune_pages::{Fault, Pages, Work};
 
-// Makes a call of a work, and writes its answer.
+// Makes a call of a work, and writes its answer. A work of which a call is refused is dropped.
 pub(crate) fn call_work<const W: usize>(
     alloc: Global,
     begun: Begun,
-    call: WorkCall,
-    answer: &mut String,
-) -> Result<File, AllocError>
+    call: WorkCall<'_>,
+    answer: &mut Answer,
+) -> File
     requires { W ≤ 4090 }
 {
+    let Begun {
+        mut pages,
+        mut work,
+    } = begun;
+    match change::<W>(alloc, &mut pages, &mut work, call, answer) {
+        Ok(()) => File::Begun(Begun { pages, work }),
+        Err(fault) => {
+            answer.name(fault);
+            File::Pages(pages)
+        }
+    }
+}
+
+pub(crate) fn finish(begun: Begun, answer: &mut Answer) -> File {
+    let Begun { mut pages, work } = begun;
+    match pages.finish(work) {
+        Ok(()) => answer.say("done"),
+        Err(fault) => answer.name(fault),
+    }
+    File::Pages(pages)
+}
+
+fn change<const W: usize>(
+    alloc: Global,
+    pages: &mut Pages<InMemory>,
+    work: &mut Work,
+    call: WorkCall<'_>,
+    answer: &mut Answer,
+) -> Result<(), Fault>
+    requires width { W ≤ 4090 }
+    requires fits { Fits pages.old work.old }
+    requires open { pages.old.closed ≡ false }
+    ensures fits { OnOk result (Fits pages.new work.new) }
+    ensures open { OnOk result (pages.new.closed ≡ false) }
+{
     match call {
-        WorkCall::Allocate => allocate(begun, answer),
+        WorkCall::Allocate => allocate(pages, work, answer),
         WorkCall::PutLeaf(page, count, entries) => {
-            let image = leaf::<W>(alloc, count, entries)?;
-            put_page(begun, page, &image, answer)
+            let image = leaf_image::<W>(alloc, count, entries)?;
+            put_page(pages, work, page, &image, answer)
         }
-        WorkCall::PutChain(digits) => put_chain(begun, &read_bytes(alloc, digits)?, answer),
-        WorkCall::ReadBytes(page, from, to) => show_bytes(begun, page, from, to, answer),
+        WorkCall::PutChain(digits) => put_chain(alloc, pages, work, digits, answer),
+        WorkCall::ReadBytes(page, from, to) => show_bytes(pages, work, page, from, to, answer),
         WorkCall::InUse(count) => {
-            show_used(&begun.pages, &begun.work, count, answer)?;
-            Ok(File::Begun(begun))
+            show_used(pages, work, count, answer);
+            Ok(())
         }
-        WorkCall::Finish => finish(begun, answer),
     }
 }
 
-// A call of a work was refused, which is dropped.
-fn refused(pages: Pages<InMemory>, fault: Fault, answer: &mut String) -> Result<File, AllocError> {
-    write!(answer, "{fault:?}")?;
-    Ok(File::Pages(pages))
-}
-
-// A call was not made, since the page is not in use.
-fn not_in_use(begun: Begun, answer: &mut String) -> Result<File, AllocError> {
-    answer.push_str("not in use")?;
-    Ok(File::Begun(begun))
-}
-
-fn allocate(begun: Begun, answer: &mut String) -> Result<File, AllocError> {
-    let Begun { pages, mut work } = begun;
-    match pages.allocate(&mut work) {
-        Ok(page) => {
-            write!(answer, "{page}")?;
-            Ok(File::Begun(Begun { pages, work }))
-        }
-        Err(fault) => refused(pages, fault, answer),
-    }
+fn allocate(pages: &mut Pages<InMemory>, work: &mut Work, answer: &mut Answer) -> Result<(), Fault>
+    requires fits { Fits pages.old work.old }
+    requires open { pages.old.closed ≡ false }
+    ensures fits { OnOk result (Fits pages.new work.new) }
+    ensures open { OnOk result (pages.new.closed ≡ false) }
+{
+    let page = pages.allocate(work)?;
+    answer.show(page);
+    Ok(())
 }
 
 fn put_page(
-    begun: Begun,
+    pages: &mut Pages<InMemory>,
+    work: &mut Work,
     page: u32,
     image: &PageImage,
-    answer: &mut String,
-) -> Result<File, AllocError> {
-    if !begun.pages.in_use(&begun.work, page) {
-        return not_in_use(begun, answer);
+    answer: &mut Answer,
+) -> Result<(), Fault>
+    requires fits { Fits pages.old work.old }
+    requires open { pages.old.closed ≡ false }
+    ensures fits { OnOk result (Fits pages.new work.new) }
+    ensures open { OnOk result (pages.new.closed ≡ false) }
+{
+    if !pages.in_use(work, page) {
+        answer.say("not in use");
+        return Ok(());
     }
-    let Begun { pages, mut work } = begun;
-    match pages.put_page(&mut work, page, image) {
-        Ok(()) => done(File::Begun(Begun { pages, work }), answer),
-        Err(fault) => refused(pages, fault, answer),
+    pages.put_page(work, page, image)?;
+    answer.say("done");
+    Ok(())
+}
+
+// A page of a leaf that somebody forged.
+fn leaf_image<const W: usize>(alloc: Global, count: u16, entries: &str) -> Result<PageImage, Fault>
+    requires { W ≤ 4090 }
+{
+    match leaf::<W>(alloc, count, entries) {
+        Ok(bytes) => {
+            let mut page = PageImage::blank();
+            lay_bytes(&bytes, &mut page.bytes);
+            Ok(page)
+        }
+        Err(_) => Err(Fault::OutOfMemory),
     }
 }
 
-// A page of a leaf that somebody forged: how many entries it says that it has, and entries.
-fn leaf<const W: usize>(alloc: Global, count: u16, entries: &str) -> Result<PageImage, AllocError>
+// The bytes of a leaf: how many entries it says that it has, and entries.
+fn leaf<const W: usize>(alloc: Global, count: u16, entries: &str) -> Result<Vec<u8>, AllocError>
     requires { W ≤ 4090 }
 {
     let mut bytes = Vec::new(alloc);
@@ -85,76 +126,57 @@ fn leaf<const W: usize>(alloc: Global, count: u16, entries: &str) -> Result<Page
         bytes.extend_from_slice(entry.0.bytes())?;
         bytes.extend_from_slice(&entry.1.to_be_bytes())?;
     }
-    let mut page = PageImage::blank();
-    for (place, byte) in page.bytes.iter_mut().zip(bytes.as_slice()) {
-        *place = *byte;
-    }
-    Ok(page)
-}
-
-// The bytes that hexadecimal digits write down, two for each.
-fn read_bytes(alloc: Global, digits: &str) -> Result<Vec<u8>, AllocError> {
-    let mut bytes = Vec::new(alloc);
-    for place in 0..digits.len() / 2 {
-        let pair = digits.get(2 * place..2 * place + 2).unwrap_or("");
-        bytes.push(u8::from_str_radix(pair, 16).unwrap_or(0))?;
-    }
     Ok(bytes)
 }
 
-fn put_chain(begun: Begun, bytes: &[u8], answer: &mut String) -> Result<File, AllocError> {
-    let Begun { pages, mut work } = begun;
-    match pages.put_chain(&mut work, bytes) {
-        Ok(first) => {
-            write!(answer, "{first}")?;
-            Ok(File::Begun(Begun { pages, work }))
-        }
-        Err(fault) => refused(pages, fault, answer),
-    }
+fn put_chain(
+    alloc: Global,
+    pages: &mut Pages<InMemory>,
+    work: &mut Work,
+    digits: &str,
+    answer: &mut Answer,
+) -> Result<(), Fault>
+    requires fits { Fits pages.old work.old }
+    requires open { pages.old.closed ≡ false }
+    ensures fits { OnOk result (Fits pages.new work.new) }
+    ensures open { OnOk result (pages.new.closed ≡ false) }
+{
+    let Ok(bytes) = read_hexadecimal(alloc, digits) else {
+        return Err(Fault::OutOfMemory);
+    };
+    let first = pages.put_chain(work, &bytes)?;
+    answer.show(first);
+    Ok(())
 }
 
 // Shows the bytes of a page from an offset to another, two digits for each.
 fn show_bytes(
-    begun: Begun,
+    pages: &mut Pages<InMemory>,
+    work: &mut Work,
     page: u32,
     from: usize,
     to: usize,
-    answer: &mut String,
-) -> Result<File, AllocError> {
-    if !begun.pages.in_use(&begun.work, page) {
-        return not_in_use(begun, answer);
-    }
-    let Begun { mut pages, work } = begun;
-    match pages.read_page(&work, page) {
-        Ok(image) => {
-            for byte in image.bytes.get(from..to).unwrap_or(&[]) {
-                write!(answer, "{byte:02x}")?;
-            }
-            Ok(File::Begun(Begun { pages, work }))
-        }
-        Err(fault) => refused(pages, fault, answer),
-    }
-}
-
-// Shows which of the first pages are in use.
-fn show_used(
-    pages: &Pages<InMemory>,
-    work: &Work,
-    count: u32,
-    answer: &mut String,
-) -> Result<(), AllocError>
-    requires { Fits pages.now work.now }
+    answer: &mut Answer,
+) -> Result<(), Fault>
+    requires fits { Fits pages.old work.old }
+    requires open { pages.old.closed ≡ false }
+    ensures fits { OnOk result (Fits pages.new work.new) }
+    ensures open { OnOk result (pages.new.closed ≡ false) }
 {
-    for page in 0..count {
-        answer.push(if pages.in_use(work, page) { '+' } else { '-' })?;
+    if !pages.in_use(work, page) {
+        answer.say("not in use");
+        return Ok(());
     }
+    let image = pages.read_page(work, page)?;
+    answer.show_hexadecimal(image.bytes.get(from..to).unwrap_or(&[]));
     Ok(())
 }
 
-fn finish(begun: Begun, answer: &mut String) -> Result<File, AllocError> {
-    let Begun { mut pages, work } = begun;
-    match pages.finish(work) {
-        Ok(()) => done(File::Pages(pages), answer),
-        Err(fault) => refused(pages, fault, answer),
+// Shows which of the first pages are in use.
+fn show_used(pages: &Pages<InMemory>, work: &Work, count: u32, answer: &mut Answer)
+    requires { Fits pages.now work.now }
+{
+    for page in 0..count {
+        answer.say(if pages.in_use(work, page) { "+" } else { "-" });
     }
 }

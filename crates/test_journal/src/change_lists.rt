@@ -1,71 +1,72 @@
 // Lists of changes.
-use crate::images::{image_of, word_of};
+use crate::images::{image_of, show_image};
 use crate::words::{Numbers, first_word};
-use std::alloc::{AllocError, Global};
-use std::io;
+use std::alloc::Global;
+use test_cases::Answer;
 use tune_journal::{Changes, PageImage};
 
-/// Makes the call of this name, if it is one of a list of changes.
+/// Makes a call of a list of changes. None where it is no such call.
 pub(crate) fn change(
     alloc: Global,
     changes: &mut Changes,
-    numbers: &Numbers,
+    numbers: Numbers,
     name: &str,
     rest: &str,
-) -> io::Result<Option<String>> {
+    answer: &mut Answer,
+) -> Option<()> {
     let (page, word) = first_word(rest);
-    let answer = match name {
+    match name {
         "put" => {
+            let page = numbers.short(page)?;
             let image = image_of(numbers, word)?;
-            put(alloc, changes, numbers.short(page)?, &image)?
+            put(alloc, changes, page, &image, answer);
         }
-        "get" => shown(alloc, changes, numbers.short(page)?)?,
-        "size" => changes.len().to_string(alloc)?,
-        "is-empty" => changes.is_empty().to_string(alloc)?,
-        _ => return Ok(None),
-    };
-    Ok(Some(answer))
+        "get" => show(changes, numbers.short(page)?, answer),
+        "size" => answer.show(changes.len()),
+        _ => answer.show(changes.is_empty()),
+    }
+    Some(())
 }
 
 // Where there is no memory, the changes stay as they were, and the page can be put again.
-fn put(
-    alloc: Global,
-    changes: &mut Changes,
-    page: u32,
-    image: &PageImage,
-) -> Result<String, AllocError> {
+fn put(alloc: Global, changes: &mut Changes, page: u32, image: &PageImage, answer: &mut Answer) {
     let size = changes.len();
-    let before = listed(alloc, changes)?;
+    let mut before = Answer::new(alloc);
+    list(changes, &mut before);
     if changes.put(page, image).is_err() {
-        if changes.len() != size || listed(alloc, changes)?.as_str() != before.as_str() {
-            return String::from_str(alloc, "another list where there is no memory");
+        list(changes, answer);
+        if changes.len() != size || answer.as_slice() != before.as_slice() {
+            answer.say(" where there is no memory");
+        } else {
+            answer.clear();
         }
-        changes.put(page, image)?;
+        let _ = changes.put(page, image);
     }
-    listed(alloc, changes)
+    list(changes, answer);
 }
 
-// The images of pages 0 to 15, as far as they are among the changes.
-fn listed(alloc: Global, changes: &Changes) -> Result<String, AllocError> {
-    let mut list = String::new(alloc);
+// Shows the images of pages 0 to 15, as far as they are among the changes.
+fn list(changes: &Changes, answer: &mut Answer) {
+    let mut is_empty = true;
     for page in 0..16 {
         if let Some(image) = changes.get(page) {
-            if !list.is_empty() {
-                list.push(',')?;
+            if !is_empty {
+                answer.say(",");
             }
-            let image = word_of(alloc, &image)?;
-            write!(list, "{page}:{image}")?;
+            is_empty = false;
+            answer.show(page);
+            answer.say(":");
+            show_image(&image, answer);
         }
     }
-    if list.is_empty() {
-        list.push('-')?;
+    if is_empty {
+        answer.say("-");
     }
-    Ok(list)
 }
 
-fn shown(alloc: Global, changes: &Changes, page: u32) -> Result<String, AllocError> {
+fn show(changes: &Changes, page: u32, answer: &mut Answer) {
     match changes.get(page) {
-        Some(image) => word_of(alloc, &image),
-        None => String::from_str(alloc, "none"),
+        Some(image) => show_image(&image, answer),
+        None => answer.say("none"),
     }
 }

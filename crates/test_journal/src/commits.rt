@@ -2,9 +2,11 @@
 ghost use Rattle.std.specs.Prelude.{◌≡◌, ◌<◌, ◌≤◌, All, IfOk, IfSome, IsTrue, length};
 ghost use Rattle.tune_journal.specs.Pages.{NamesAll};
 
-use crate::benches::Bench;
+use crate::disks::FaultyDisk;
 use crate::images::image;
+use crate::stand::Held;
 use std::alloc::{AllocError, Global};
+use test_cases::Answer;
 use tune_journal::{Broken, Changes, Journal};
 
 // Changes of pages below a count, each to one byte; none where a page is at the count or past it.
@@ -47,32 +49,66 @@ fn fits(count: u32, new_count: u32, changes: &Changes) -> bool
     has_all(changes, count, new_count)
 }
 
-/// Commits changes of pages, at once or by its four parts; none where there is no such commit.
+/// Commits changes of pages, at once or by its four parts, and answers what comes of it.
 pub(crate) fn commit(
     alloc: Global,
-    journal: Journal<Bench>,
+    journal: Journal<FaultyDisk>,
     new_count: u32,
     pages: &[(u32, u8)],
     by_parts: bool,
-) -> Result<Option<Result<Journal<Bench>, Broken<Bench>>>, AllocError> {
-    let Some(changes) = changes(alloc, pages, new_count)? else {
-        return Ok(None);
-    };
-    if !fits(journal.count(), new_count, &changes) {
-        return Ok(None);
+    answer: &mut Answer,
+) -> Held {
+    match changes(alloc, pages, new_count) {
+        Ok(Some(changes)) => commit_changes(journal, new_count, &changes, by_parts, answer),
+        _ => {
+            answer.say("no such commit");
+            Held::Open(journal)
+        }
+    }
+}
+
+fn commit_changes(
+    journal: Journal<FaultyDisk>,
+    new_count: u32,
+    changes: &Changes,
+    by_parts: bool,
+    answer: &mut Answer,
+) -> Held
+    requires { All (λ change. change.0 < new_count) changes.now }
+{
+    if !fits(journal.count(), new_count, changes) {
+        answer.say("no such commit");
+        return Held::Open(journal);
     }
     if by_parts {
-        return Ok(Some(go_through(journal, new_count, &changes)));
+        committed(go_through(journal, new_count, changes), answer)
+    } else {
+        committed(journal.commit(new_count, changes), answer)
     }
-    Ok(Some(journal.commit(new_count, &changes)))
+}
+
+fn committed(
+    journal: Result<Journal<FaultyDisk>, Broken<FaultyDisk>>,
+    answer: &mut Answer,
+) -> Held {
+    match journal {
+        Ok(journal) => {
+            answer.say("ok");
+            Held::Open(journal)
+        }
+        Err(broken) => {
+            answer.say("broken");
+            Held::Disk(broken.into_disk())
+        }
+    }
 }
 
 // The four parts of a commit.
 fn go_through(
-    journal: Journal<Bench>,
+    journal: Journal<FaultyDisk>,
     new_count: u32,
     changes: &Changes,
-) -> Result<Journal<Bench>, Broken<Bench>>
+) -> Result<Journal<FaultyDisk>, Broken<FaultyDisk>>
     requires grows { length journal.pages ≤ new_count }
     requires most { new_count ≤ 4000000 }
     requires some { 0 < length changes.now }

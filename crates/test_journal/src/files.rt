@@ -1,31 +1,39 @@
 // Files that are written byte by byte.
 use crate::images::uneven;
-use crate::words::{Numbers, bad_line, first_word};
+use crate::words::{Numbers, first_word};
 use std::alloc::{AllocError, Global};
-use std::io;
 
-/// Makes the call of this name, if it is one that changes the file.
+/// Makes a call that changes the file. None where it is no such call, or cannot be made.
 pub(crate) fn forge(
     alloc: Global,
     file: &mut Vec<u8>,
-    numbers: &Numbers,
+    numbers: Numbers,
     name: &str,
     rest: &str,
-) -> io::Result<bool> {
+) -> Option<()> {
     match name {
-        "file" => {
-            *file = Vec::new(alloc);
-            add_blocks(file, numbers, rest)?;
-            add_pages(alloc, file, numbers, rest)?;
+        "file" => write_file(alloc, file, numbers, rest),
+        "raw" => {
+            *file = numbers.bytes(alloc, rest)?;
+            Some(())
         }
-        "raw" => *file = numbers.bytes(alloc, rest)?,
-        "mark" => mark_unread(file),
-        "cut" => file.truncate(numbers.number(rest)? as usize),
-        "uneven" => file.extend_from_slice(&uneven().bytes)?,
-        "fill" | "set" | "xor" => change(file, numbers, name, rest)?,
-        _ => return Ok(false),
+        "mark" => {
+            mark_unread(file);
+            Some(())
+        }
+        "cut" => {
+            file.truncate(numbers.number(rest)? as usize);
+            Some(())
+        }
+        "uneven" => file.extend_from_slice(&uneven().bytes).ok(),
+        _ => change(file, numbers, name, rest),
     }
-    Ok(true)
+}
+
+fn write_file(alloc: Global, file: &mut Vec<u8>, numbers: Numbers, words: &str) -> Option<()> {
+    file.clear();
+    add_blocks(file, numbers, words)?;
+    add_pages(alloc, file, numbers, words)
 }
 
 // Puts zeros behind a file, up to a length.
@@ -45,37 +53,57 @@ fn add_number(file: &mut Vec<u8>, number: u32) -> Result<(), AllocError> {
 }
 
 // The first four blocks: magic, gate, descriptor and count.
-fn add_blocks(file: &mut Vec<u8>, numbers: &Numbers, words: &str) -> io::Result<()> {
+fn add_blocks(file: &mut Vec<u8>, numbers: Numbers, words: &str) -> Option<()> {
     let (gate, words) = first_word(words);
     let (new_count, words) = first_word(words);
     let (entries, words) = first_word(words);
     let (count, _) = first_word(words);
+    let gate = numbers.byte(gate)?;
+    let descriptor = (numbers.short(new_count)?, numbers.short(entries)?);
+    write_blocks(file, gate, descriptor, numbers.short(count)?).ok()
+}
+
+fn write_blocks(
+    file: &mut Vec<u8>,
+    gate: u8,
+    descriptor: (u32, u32),
+    count: u32,
+) -> Result<(), AllocError> {
     file.extend_from_slice(b"ABCTUNE1")?;
     pad(file, 4096)?;
-    file.push(numbers.byte(gate)?)?;
+    file.push(gate)?;
     pad(file, 8192)?;
-    add_number(file, numbers.short(new_count)?)?;
-    add_number(file, numbers.short(entries)?)?;
+    add_number(file, descriptor.0)?;
+    add_number(file, descriptor.1)?;
     pad(file, 12_288)?;
-    add_number(file, numbers.short(count)?)?;
-    Ok(pad(file, 16_384)?)
+    add_number(file, count)?;
+    pad(file, 16_384)
 }
 
 // The pages, and behind the new number of them the log, if there is one.
-fn add_pages(alloc: Global, file: &mut Vec<u8>, numbers: &Numbers, words: &str) -> io::Result<()> {
+fn add_pages(alloc: Global, file: &mut Vec<u8>, numbers: Numbers, words: &str) -> Option<()> {
     let (_, words) = first_word(words);
     let (new_count, words) = first_word(words);
     let (_, words) = first_word(words);
     let (_, words) = first_word(words);
     let (pages, log) = first_word(words);
-    for byte in numbers.bytes(alloc, pages)? {
-        file.extend_from_slice(&[byte; 4096])?;
+    let new_count = numbers.short(new_count)?;
+    write_pages(file, &numbers.bytes(alloc, pages)?).ok()?;
+    write_log(file, new_count, &numbers.entries(alloc, log)?).ok()
+}
+
+fn write_pages(file: &mut Vec<u8>, pages: &[u8]) -> Result<(), AllocError> {
+    for byte in pages {
+        file.extend_from_slice(&[*byte; 4096])?;
     }
-    let log = numbers.entries(alloc, log)?;
+    Ok(())
+}
+
+fn write_log(file: &mut Vec<u8>, new_count: u32, log: &[(u32, u8)]) -> Result<(), AllocError> {
     if !log.is_empty() {
-        pad(file, (u64::from(numbers.short(new_count)?) + 4) * 4096)?;
+        pad(file, (u64::from(new_count) + 4) * 4096)?;
     }
-    Ok(add_log(file, &log)?)
+    add_log(file, log)
 }
 
 fn add_log(file: &mut Vec<u8>, log: &[(u32, u8)]) -> Result<(), AllocError> {
@@ -100,16 +128,13 @@ fn mark_unread(file: &mut [u8]) {
 }
 
 // Changes one byte, or puts a byte behind the file up to a length.
-fn change(file: &mut Vec<u8>, numbers: &Numbers, name: &str, rest: &str) -> io::Result<()> {
+fn change(file: &mut Vec<u8>, numbers: Numbers, name: &str, rest: &str) -> Option<()> {
     let (number, byte) = first_word(rest);
     let (number, byte) = (numbers.number(number)?, numbers.byte(byte)?);
     if name == "fill" {
-        return Ok(fill(file, number, byte)?);
+        return fill(file, number, byte).ok();
     }
-    match file.get_mut(number as usize) {
-        Some(place) if name == "set" => *place = byte,
-        Some(place) => *place ^= byte,
-        None => return Err(bad_line()),
-    }
-    Ok(())
+    let place = file.get_mut(number as usize)?;
+    *place = if name == "set" { byte } else { *place ^ byte };
+    Some(())
 }

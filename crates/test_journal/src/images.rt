@@ -1,7 +1,6 @@
 // Images of pages: of one byte, or with one byte that is not zero.
-use crate::words::{Numbers, bad_line};
-use std::alloc::{AllocError, Global};
-use std::io;
+use crate::words::Numbers;
+use test_cases::Answer;
 use tune_journal::PageImage;
 
 /// A page of this byte alone.
@@ -30,28 +29,27 @@ fn image_with(byte: u8, place: usize) -> PageImage {
 }
 
 /// The image that a word says.
-pub(crate) fn image_of(numbers: &Numbers, word: &str) -> io::Result<PageImage> {
+pub(crate) fn image_of(numbers: Numbers, word: &str) -> Option<PageImage> {
     match word.split_once('@') {
-        Some((byte, place)) => {
-            let place = place.parse::<usize>().map_err(|_| bad_line())?;
-            Ok(image_with(numbers.byte(byte)?, place))
-        }
-        None if word == "blank" => Ok(PageImage::blank()),
-        None if word == "uneven" => Ok(uneven()),
-        None => Ok(image(numbers.byte(word)?)),
+        Some((byte, place)) => Some(image_with(numbers.byte(byte)?, place.parse().ok()?)),
+        None if word == "blank" => Some(PageImage::blank()),
+        None if word == "uneven" => Some(uneven()),
+        None => Some(image(numbers.byte(word)?)),
     }
 }
 
-/// The word that says an image.
-pub(crate) fn word_of(alloc: Global, shown: &PageImage) -> Result<String, AllocError> {
+/// Shows an image as a word says it.
+pub(crate) fn show_image(shown: &PageImage, answer: &mut Answer) {
     let last = shown.bytes[4095];
-    if shown.bytes == image(last).bytes {
-        return format!(in alloc; "{last:02x}");
-    }
     let place = shown.bytes.iter().take_while(|byte| **byte == 0).count();
     let byte = shown.bytes.get(place).copied().unwrap_or(0);
-    if shown.bytes == image_with(byte, place).bytes {
-        return format!(in alloc; "{byte:02x}@{place}");
+    if shown.bytes == image(last).bytes {
+        answer.show_hexadecimal(&[last]);
+    } else if shown.bytes == image_with(byte, place).bytes {
+        answer.show_hexadecimal(&[byte]);
+        answer.say("@");
+        answer.show(place);
+    } else {
+        answer.say("other");
     }
-    String::from_str(alloc, "other")
 }

@@ -32,48 +32,29 @@
 //! ends with status 1.
 #![tactic(auto)]
 
-mod benches;
 mod change_lists;
 mod commits;
+mod disks;
 mod files;
 mod images;
-mod scripts;
 mod stand;
 mod words;
 
-use scripts::run_case;
+use stand::Stand;
+use std::io;
 use std::process::ExitCode;
-use std::{fs, io};
+use test_cases::{Form, try_files};
+
+/// The files of cases.
+const FILES: [&str; 6] = ["making", "opening", "logs", "commits", "faults", "changes"];
+
+const FORM: Form = Form {
+    separator: " -> ",
+    unwritten: "ok",
+    counts_each_file: true,
+};
 
 fn main(rt: HostRuntime) -> io::Result<ExitCode> {
-    let mut all_as_written = true;
-    for name in ["making", "opening", "logs", "commits", "faults", "changes"] {
-        let text = fs::read_to_string(&rt, name)?;
-        println!(&rt; "{name}")?;
-        all_as_written &= run_cases(&rt, &text)?;
-    }
-    if all_as_written {
-        Ok(ExitCode::SUCCESS)
-    } else {
-        Ok(ExitCode::FAILURE)
-    }
-}
-
-// Runs all cases of a file, and says whether each came out as written.
-fn run_cases<R: Print + AllocGlobal>(rt: &R, text: &str) -> io::Result<bool> {
-    let mut all: u32 = 0;
-    let mut as_written: u32 = 0;
-    for case in text.split("\n\n") {
-        let (name, lines) = case.split_once('\n').unwrap_or((case, ""));
-        all = all.saturating_add(1);
-        match run_case(rt.alloc(), lines)? {
-            None => {
-                as_written = as_written.saturating_add(1);
-                println!(rt; "{name}: as written")?;
-            }
-            Some(other) => println!(rt; "{name}: {other}")?,
-        }
-    }
-    println!(rt; "{as_written} of {all} cases as written")?;
-    Ok(as_written == all)
+    let mut stand = Stand::new(rt.alloc());
+    try_files(&rt, &FILES, FORM, &mut stand)
 }

@@ -1,23 +1,24 @@
 // The stand on which the calls of a case are made.
-use crate::benches::{
-    Bench, NEVER, bench, calls_of_making, calls_of_opening, left_of, memory_of, page_of, pages_of,
-    reason,
-};
 use crate::change_lists::change;
 use crate::commits::commit;
+use crate::disks::{
+    FaultyDisk, NEVER, calls_of_making, calls_of_opening, faulty, memory_of, show_left, show_page,
+    show_pages,
+};
 use crate::files::forge;
 use crate::images::image_of;
-use crate::words::{Numbers, bad_line, first_word};
+use crate::words::{Numbers, first_word};
 use std::alloc::{AllocError, Global};
 use std::{io, mem};
+use test_cases::{Answer, Bench, Words, no_data};
 use tune_disk::{MemoryDisk, StopChoice};
-use tune_journal::{Changes, Journal};
+use tune_journal::{Changes, Journal, Refused};
 
 /// A disk, or the journal on it.
 #[derive(Drop)]
-enum Held {
-    Disk(Bench),
-    Open(Journal<Bench>),
+pub(crate) enum Held {
+    Disk(FaultyDisk),
+    Open(Journal<FaultyDisk>),
 }
 
 /// A file, the disk or the journal that calls are made of, a list of changes, and what numbers are.
@@ -27,7 +28,34 @@ pub(crate) struct Stand {
     file: Vec<u8>,
     held: Held,
     changes: Changes,
-    pub(crate) numbers: Numbers,
+    numbers: Numbers,
+}
+
+impl Bench for Stand {
+    fn begin(&mut self, _given: &str) -> io::Result<()> {
+        self.file.clear();
+        self.held = no_journal(self.alloc);
+        self.changes = Changes::new(self.alloc);
+        self.numbers = Numbers { n: 0, calls: 0 };
+        Ok(())
+    }
+
+    fn call(&mut self, name: &str, words: Words<'_>, answer: &mut Answer) -> io::Result<()> {
+        self.numbers.n = words.at();
+        match self.make_call(name, words.rest(), answer) {
+            Some(()) => Ok(()),
+            None => Err(no_data()),
+        }
+    }
+
+    fn number(&self, word: &str) -> Option<u64> {
+        self.numbers.number(word)
+    }
+}
+
+// A disk without a byte.
+fn no_journal(alloc: Global) -> Held {
+    Held::Disk(faulty(MemoryDisk::new(alloc), NEVER, NEVER))
 }
 
 impl Stand {
@@ -36,159 +64,184 @@ impl Stand {
         Stand {
             alloc,
             file: Vec::new(alloc),
-            held: Held::Disk(bench(MemoryDisk::new(alloc), NEVER, NEVER)),
+            held: no_journal(alloc),
             changes: Changes::new(alloc),
             numbers: Numbers { n: 0, calls: 0 },
         }
     }
 
-    /// Makes the call that a line says.
-    pub(crate) fn make_call(&mut self, line: &str) -> io::Result<String> {
-        let (name, rest) = first_word(line);
-        if forge(self.alloc, &mut self.file, &self.numbers, name, rest)? {
-            return self.say("ok");
-        }
-        let changed = change(self.alloc, &mut self.changes, &self.numbers, name, rest)?;
-        if let Some(answer) = changed {
-            return Ok(answer);
-        }
+    // Makes the call of a name. None where there is no such call, or it cannot be made.
+    fn make_call(&mut self, name: &str, rest: &str, answer: &mut Answer) -> Option<()> {
         match name {
-            "disk" | "fused-disk" | "faulty-disk" => self.new_disk(name, rest),
-            "make" | "open" => self.stand_up(name, rest),
-            "commit" | "commit-by-parts" => self.commit(name, rest),
-            "count" | "page" | "pages" => self.read(name, rest),
-            "count-calls" => self.count_calls(rest),
-            "file-length" => Ok(self.file.len().to_string(self.alloc)?),
-            _ => self.look(name, rest),
+            "file" | "raw" | "mark" | "cut" | "uneven" | "fill" | "set" | "xor" => {
+                forge(self.alloc, &mut self.file, self.numbers, name, rest)?;
+                answer.say("ok");
+                Some(())
+            }
+            "put" | "get" | "size" | "is-empty" => {
+                change(
+                    self.alloc,
+                    &mut self.changes,
+                    self.numbers,
+                    name,
+                    rest,
+                    answer,
+                )
+            }
+            "disk" | "fused-disk" | "faulty-disk" => self.new_disk(name, rest, answer),
+            "make" => self.make(rest, answer),
+            "open" => self.open(answer),
+            "commit" | "commit-by-parts" => self.commit(name, rest, answer),
+            "count" | "page" | "pages" => self.read(name, rest, answer),
+            "count-calls" => self.count_calls(rest, answer),
+            "file-length" => {
+                answer.show(self.file.len());
+                Some(())
+            }
+            _ => self.look(name, rest, answer),
         }
     }
 
-    fn say(&self, answer: &str) -> io::Result<String> {
-        Ok(String::from_str(self.alloc, answer)?)
-    }
-
-    // The disk; a new one without a byte is held in its place.
-    fn take_disk(&mut self) -> Bench {
-        let none = Held::Disk(bench(MemoryDisk::new(self.alloc), NEVER, NEVER));
-        match mem::replace(&mut self.held, none) {
-            Held::Disk(disk) => disk,
-            Held::Open(journal) => journal.into_disk(),
-        }
+    // What is held; a new disk without a byte is held in its place.
+    fn take(&mut self) -> Held {
+        let none = no_journal(self.alloc);
+        mem::replace(&mut self.held, none)
     }
 
     // A disk over the file.
-    fn new_disk(&mut self, name: &str, rest: &str) -> io::Result<String> {
-        let disk = MemoryDisk::from_bytes(self.alloc, &self.file)?;
-        let disk = match name {
-            "fused-disk" => bench(disk, self.numbers.number(rest)?, NEVER),
-            "faulty-disk" => bench(disk, NEVER, self.numbers.number(rest)?),
-            _ => bench(disk, NEVER, NEVER),
+    fn new_disk(&mut self, name: &str, rest: &str, answer: &mut Answer) -> Option<()> {
+        let (calls, fault) = match name {
+            "fused-disk" => (self.numbers.number(rest)?, NEVER),
+            "faulty-disk" => (NEVER, self.numbers.number(rest)?),
+            _ => (NEVER, NEVER),
         };
-        self.held = Held::Disk(disk);
-        self.say("ok")
+        let disk = MemoryDisk::from_bytes(self.alloc, &self.file).ok()?;
+        self.held = Held::Disk(faulty(disk, calls, fault));
+        answer.say("ok");
+        Some(())
     }
 
-    // Makes a journal on the disk, or opens the one that is there.
-    fn stand_up(&mut self, name: &str, rest: &str) -> io::Result<String> {
-        let disk = self.take_disk();
-        let journal = if name == "make" {
-            Journal::make(disk, &image_of(&self.numbers, rest)?)
-        } else {
-            Journal::open(disk)
-        };
-        match journal {
-            Ok(journal) => {
-                self.held = Held::Open(journal);
-                self.say("ok")
-            }
-            Err(refused) => {
-                self.held = Held::Disk(refused.disk);
-                reason(self.alloc, refused.why)
-            }
-        }
+    // Makes a journal on the disk.
+    fn make(&mut self, rest: &str, answer: &mut Answer) -> Option<()> {
+        let image = image_of(self.numbers, rest)?;
+        let disk = into_disk(self.take());
+        self.held = stood_up(Journal::make(disk, &image), answer);
+        Some(())
     }
 
-    fn commit(&mut self, name: &str, rest: &str) -> io::Result<String> {
+    // Opens the journal that is there.
+    fn open(&mut self, answer: &mut Answer) -> Option<()> {
+        let disk = into_disk(self.take());
+        self.held = stood_up(Journal::open(disk), answer);
+        Some(())
+    }
+
+    fn commit(&mut self, name: &str, rest: &str, answer: &mut Answer) -> Option<()> {
         let (count, list) = first_word(rest);
         let count = self.numbers.short(count)?;
         let list = self.numbers.entries(self.alloc, list)?;
-        let none = Held::Disk(bench(MemoryDisk::new(self.alloc), NEVER, NEVER));
-        let Held::Open(journal) = mem::replace(&mut self.held, none) else {
-            return self.say("no journal");
+        let by_parts = name == "commit-by-parts";
+        self.held = match self.take() {
+            Held::Open(journal) => commit(self.alloc, journal, count, &list, by_parts, answer),
+            Held::Disk(disk) => {
+                answer.say("no journal");
+                Held::Disk(disk)
+            }
         };
-        match commit(self.alloc, journal, count, &list, name == "commit-by-parts")? {
-            Some(Ok(journal)) => {
-                self.held = Held::Open(journal);
-                self.say("ok")
-            }
-            Some(Err(broken)) => {
-                self.held = Held::Disk(broken.into_disk());
-                self.say("broken")
-            }
-            None => self.say("no such commit"),
-        }
+        Some(())
     }
 
     // Reads the journal.
-    fn read(&mut self, name: &str, rest: &str) -> io::Result<String> {
+    fn read(&mut self, name: &str, rest: &str, answer: &mut Answer) -> Option<()> {
         let Held::Open(journal) = &mut self.held else {
-            return self.say("no journal");
+            answer.say("no journal");
+            return Some(());
         };
         match name {
-            "count" => Ok(journal.count().to_string(self.alloc)?),
-            "pages" => pages_of(self.alloc, journal),
-            _ => page_of(self.alloc, journal, self.numbers.short(rest)?),
+            "count" => answer.show(journal.count()),
+            "pages" => show_pages(journal, answer),
+            _ => show_page(journal, self.numbers.short(rest)?, answer),
         }
+        Some(())
     }
 
-    fn count_calls(&mut self, rest: &str) -> io::Result<String> {
-        let calls = match rest {
-            "make" => calls_of_making(self.alloc),
+    fn count_calls(&mut self, rest: &str, answer: &mut Answer) -> Option<()> {
+        self.numbers.calls = match rest {
+            "make" => calls_of_making(self.alloc)?,
             "open" => calls_of_opening(self.alloc, &self.file)?,
-            _ => return Err(bad_line()),
+            _ => return None,
         };
-        match calls {
-            Some(calls) => {
-                self.numbers.calls = calls;
-                self.say("ok")
-            }
-            None => self.say("too many calls"),
-        }
+        answer.say("ok");
+        Some(())
     }
 
     // Looks at the disk in memory. From then on it is without faults.
-    fn look(&mut self, name: &str, rest: &str) -> io::Result<String> {
-        let disk = memory_of(self.take_disk());
-        let answer = match name {
-            "lost" => left_of(self.alloc, &disk, StopChoice::Lost),
-            "kept" => left_of(self.alloc, &disk, StopChoice::Kept),
-            "holds" => Ok(self.holds(&disk)?.to_string(self.alloc)?),
-            "length" => Ok(disk.bytes().len().to_string(self.alloc)?),
-            "number" => self.number_at(&disk, rest),
+    fn look(&mut self, name: &str, rest: &str, answer: &mut Answer) -> Option<()> {
+        let disk = memory_of(into_disk(self.take()));
+        let looked = self.look_at(&disk, name, rest, answer);
+        self.held = Held::Disk(faulty(disk, NEVER, NEVER));
+        looked
+    }
+
+    fn look_at(
+        &mut self,
+        disk: &MemoryDisk,
+        name: &str,
+        rest: &str,
+        answer: &mut Answer,
+    ) -> Option<()> {
+        match name {
+            "lost" => show_left(disk, StopChoice::Lost, answer),
+            "kept" => show_left(disk, StopChoice::Kept, answer),
+            "holds" => answer.show(self.is_file_of(disk).ok()?),
+            "length" => answer.show(disk.bytes().len()),
+            "number" => show_number(disk, self.numbers.number(rest)?, answer),
             "take" => {
-                self.file = disk.bytes().to_vec(self.alloc)?;
-                self.say("ok")
+                self.file = disk.bytes().to_vec(self.alloc).ok()?;
+                answer.say("ok");
             }
-            _ => Err(bad_line()),
-        };
-        self.held = Held::Disk(bench(disk, NEVER, NEVER));
-        answer
+            _ => return None,
+        }
+        Some(())
     }
 
     // Whether a disk has the bytes of the file, and a stop leaves them.
-    fn holds(&self, disk: &MemoryDisk) -> Result<bool, AllocError> {
+    fn is_file_of(&self, disk: &MemoryDisk) -> Result<bool, AllocError> {
         let lost = disk.stopped(StopChoice::Lost)?;
         Ok(disk.bytes() == self.file.as_slice() && lost.bytes() == self.file.as_slice())
     }
+}
 
-    // The number that four bytes of a disk say.
-    fn number_at(&self, disk: &MemoryDisk, rest: &str) -> io::Result<String> {
-        let offset = self.numbers.number(rest)? as usize;
-        match disk.bytes().get(offset..offset.saturating_add(4)) {
-            Some([a, b, c, d]) => {
-                Ok(u32::from_be_bytes([*a, *b, *c, *d]).to_string(self.alloc)?)
-            }
-            _ => self.say("none"),
+// The disk of what is held.
+fn into_disk(held: Held) -> FaultyDisk {
+    match held {
+        Held::Disk(disk) => disk,
+        Held::Open(journal) => journal.into_disk(),
+    }
+}
+
+// What is held of a journal that was to stand up.
+fn stood_up(
+    journal: Result<Journal<FaultyDisk>, Refused<FaultyDisk>>,
+    answer: &mut Answer,
+) -> Held {
+    match journal {
+        Ok(journal) => {
+            answer.say("ok");
+            Held::Open(journal)
         }
+        Err(refused) => {
+            answer.name(refused.why);
+            Held::Disk(refused.disk)
+        }
+    }
+}
+
+// Shows the number that four bytes of a disk say.
+fn show_number(disk: &MemoryDisk, offset: u64, answer: &mut Answer) {
+    let offset = offset as usize;
+    match disk.bytes().get(offset..offset.saturating_add(4)) {
+        Some([a, b, c, d]) => answer.show(u32::from_be_bytes([*a, *b, *c, *d])),
+        _ => answer.say("none"),
     }
 }
