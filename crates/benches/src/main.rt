@@ -56,12 +56,19 @@ where
     R: Files<File = File> + Clock + Input + Print + AllocGlobal,
 {
     for line in rt.lines(rt.alloc()) {
-        let line = line?;
-        let words: Vec<&str> = line.split_whitespace().collect(rt.alloc())?;
-        println!(rt; "{}", words.first().unwrap_or(&""))?;
-        run(rt, &words)?;
+        run_line(rt, &line?)?;
     }
     Ok(())
+}
+
+fn run_line<R>(rt: &R, line: &str) -> Result<()>
+where
+    R: Files<File = File> + Clock + Input + Print + AllocGlobal,
+{
+    let words: Vec<&str> = line.split_whitespace().collect(rt.alloc())?;
+    let name = words.first().copied().unwrap_or("");
+    println!(rt; "{name}")?;
+    run(rt, &words)
 }
 
 // Runs one bench.
@@ -75,6 +82,8 @@ where
         ["index", words @ ..] => index::run(rt, words),
         ["reading", words @ ..] => reading::run(rt, words),
         ["titles", words @ ..] => titles::run(rt, words),
-        _ => bail!("usage: benches (disk | pages | index | reading | titles) WORD.. | benches each"),
+        _ => bail!(
+            "usage: benches (disk | pages | index | reading | titles) WORD.. | benches each"
+        ),
     }
 }

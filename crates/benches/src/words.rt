@@ -23,9 +23,12 @@ pub(crate) enum Shown {
 
 /// The words before a last one that asks for more, and what is asked for.
 pub(crate) fn split_shown<'a>(words: &'a [&'a str]) -> (&'a [&'a str], Shown) {
-    match words {
-        [words @ .., "times"] => (words, Shown::Times),
-        [words @ .., "calls"] => (words, Shown::Calls),
+    let Some((last, before)) = words.split_last() else {
+        return (words, Shown::Nothing);
+    };
+    match *last {
+        "times" => (before, Shown::Times),
+        "calls" => (before, Shown::Calls),
         _ => (words, Shown::Nothing),
     }
 }
