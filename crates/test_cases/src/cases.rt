@@ -158,7 +158,7 @@ fn are_lines_as_written<B: Bench>(
     for (place, line) in lines.iter().enumerate() {
         let is_as_written = match line.strip_prefix("each ") {
             Some(ranges) => {
-                let repeated = indented(lines, place);
+                let repeated = indented(&*lines, place);
                 are_ranges_as_written(ranges, repeated, form, bench, answer)?
             }
             None if line.starts_with("  ") => true,

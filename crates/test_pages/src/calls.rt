@@ -1,5 +1,5 @@
 // Calls, as a line of a case writes them down.
-use crate::bytes::Bytes;
+use test_cases::{Bytes, Words};
 use tune_disk::StopChoice;
 
 /// A call.
@@ -7,9 +7,11 @@ use tune_disk::StopChoice;
 pub(crate) enum Call<'a> {
     Disk(DiskCall<'a>),
     Opening(OpeningCall),
+    Done(u32),
     Limit(u32),
     Begin,
     Work(WorkCall<'a>),
+    Finish,
     Close,
 }
 
@@ -33,7 +35,6 @@ pub(crate) enum OpeningCall {
     ClaimChain(u32),
     ClaimChainWithin(u32, usize),
     Count,
-    Done(u32),
 }
 
 /// A call of a work.
@@ -46,46 +47,42 @@ pub(crate) enum WorkCall<'a> {
     PutChain(Bytes<'a>),
     FreeChain(u32),
     Reserve(usize, usize),
-    ReadPage(u32),
     ReadBytes(u32, usize, usize),
     ReadChain(u32),
     IsAskedAgain(u32),
     InUse(u32),
-    Finish,
 }
 
 impl<'a> Call<'a> {
-    // The call that a line writes down, where this number stands for `@`.
-    pub(crate) fn read(line: &'a str, at: u64) -> Option<Call<'a>> {
-        let (word, rest) = line.split_once(' ').unwrap_or((line, ""));
-        match word {
+    // The call of a name, if it is one.
+    pub(crate) fn read(name: &str, mut words: Words<'a>) -> Option<Call<'a>> {
+        match name {
+            "done" => return Some(Call::Done(words.number()?)),
+            "limit" => return Some(Call::Limit(words.number()?)),
             "begin" => return Some(Call::Begin),
-            "limit" => return Some(Call::Limit(page(rest, at)?)),
+            "finish" => return Some(Call::Finish),
             "close" => return Some(Call::Close),
             _ => {}
         }
-        if let Some(call) = DiskCall::read(word, rest, at) {
+        if let Some(call) = DiskCall::read(name, words) {
             return Some(Call::Disk(call));
         }
-        if let Some(call) = OpeningCall::read(word, rest, at) {
+        if let Some(call) = OpeningCall::read(name, words) {
             return Some(Call::Opening(call));
         }
-        Some(Call::Work(WorkCall::read(word, rest, at)?))
+        Some(Call::Work(WorkCall::read(name, words)?))
     }
 }
 
 impl<'a> DiskCall<'a> {
-    fn read(word: &str, rest: &'a str, at: u64) -> Option<DiskCall<'a>> {
-        match word {
-            "passing" => Some(DiskCall::Passing(number(rest, at)?)),
-            "failing" => Some(DiskCall::Failing(number(rest, at)?)),
-            "stop" => Some(DiskCall::Stop(choice(rest)?)),
+    fn read(name: &str, mut words: Words<'a>) -> Option<DiskCall<'a>> {
+        match name {
+            "passing" => Some(DiskCall::Passing(words.long()?)),
+            "failing" => Some(DiskCall::Failing(words.long()?)),
+            "stop" => Some(DiskCall::Stop(choice(words.rest())?)),
             "magic" => Some(DiskCall::Magic),
             "size" => Some(DiskCall::Size),
-            "make" => {
-                let (limit, root) = rest.split_once(' ')?;
-                Some(DiskCall::Make(page(limit, at)?, Bytes::read(root)?))
-            }
+            "make" => Some(DiskCall::Make(words.number()?, Bytes::read(words.rest())?)),
             "open" => Some(DiskCall::Open),
             _ => None,
         }
@@ -93,76 +90,42 @@ impl<'a> DiskCall<'a> {
 }
 
 impl OpeningCall {
-    fn read(word: &str, rest: &str, at: u64) -> Option<OpeningCall> {
-        match word {
+    fn read(name: &str, mut words: Words<'_>) -> Option<OpeningCall> {
+        match name {
             "root" => Some(OpeningCall::Root),
-            "claim-page" => Some(OpeningCall::ClaimPage(page(rest, at)?)),
-            "claim-chain" => Some(OpeningCall::ClaimChain(page(rest, at)?)),
+            "claim-page" => Some(OpeningCall::ClaimPage(words.number()?)),
+            "claim-chain" => Some(OpeningCall::ClaimChain(words.number()?)),
             "claim-chain-within" => {
-                let (first, most) = rest.split_once(' ')?;
-                Some(OpeningCall::ClaimChainWithin(page(first, at)?, most.parse().ok()?))
+                Some(OpeningCall::ClaimChainWithin(words.number()?, words.size()?))
             }
             "count" => Some(OpeningCall::Count),
-            "done" => Some(OpeningCall::Done(page(rest, at)?)),
             _ => None,
         }
     }
 }
 
 impl<'a> WorkCall<'a> {
-    fn read(word: &str, rest: &'a str, at: u64) -> Option<WorkCall<'a>> {
-        match word {
+    fn read(name: &str, mut words: Words<'a>) -> Option<WorkCall<'a>> {
+        match name {
             "allocate" => Some(WorkCall::Allocate),
-            "free" => Some(WorkCall::Free(page(rest, at)?)),
-            "put-page" => put_page(rest, at),
-            "put-link" => put_link(rest, at),
-            "put-chain" => Some(WorkCall::PutChain(Bytes::read(rest)?)),
-            "free-chain" => Some(WorkCall::FreeChain(page(rest, at)?)),
-            "reserve" => {
-                let (pages, bytes) = rest.split_once(' ')?;
-                Some(WorkCall::Reserve(pages.parse().ok()?, bytes.parse().ok()?))
+            "free" => Some(WorkCall::Free(words.number()?)),
+            "put-page" => Some(WorkCall::PutPage(words.number()?, Bytes::read(words.rest())?)),
+            "put-link" => {
+                Some(WorkCall::PutLink(words.number()?, words.number()?, words.short()?))
             }
-            "read-page" => Some(WorkCall::ReadPage(page(rest, at)?)),
-            "read-bytes" => read_bytes(rest, at),
-            "read-chain" => Some(WorkCall::ReadChain(page(rest, at)?)),
-            "is-asked-again" => Some(WorkCall::IsAskedAgain(page(rest, at)?)),
-            "in-use" => Some(WorkCall::InUse(page(rest, at)?)),
-            "finish" => Some(WorkCall::Finish),
+            "put-chain" => Some(WorkCall::PutChain(Bytes::read(words.rest())?)),
+            "free-chain" => Some(WorkCall::FreeChain(words.number()?)),
+            "reserve" => Some(WorkCall::Reserve(words.size()?, words.size()?)),
+            "read-page" => Some(WorkCall::ReadBytes(words.number()?, 0, 4096)),
+            "read-bytes" => {
+                Some(WorkCall::ReadBytes(words.number()?, words.size()?, words.size()?))
+            }
+            "read-chain" => Some(WorkCall::ReadChain(words.number()?)),
+            "is-asked-again" => Some(WorkCall::IsAskedAgain(words.number()?)),
+            "in-use" => Some(WorkCall::InUse(words.number()?)),
             _ => None,
         }
     }
-}
-
-fn put_page(rest: &str, at: u64) -> Option<WorkCall<'_>> {
-    let (number, image) = rest.split_once(' ')?;
-    Some(WorkCall::PutPage(page(number, at)?, Bytes::read(image)?))
-}
-
-fn put_link(rest: &str, at: u64) -> Option<WorkCall<'_>> {
-    let (number, link) = rest.split_once(' ')?;
-    let (next, size) = link.split_once(' ')?;
-    let size = size.parse().ok()?;
-    Some(WorkCall::PutLink(page(number, at)?, page(next, at)?, size))
-}
-
-fn read_bytes(rest: &str, at: u64) -> Option<WorkCall<'_>> {
-    let (number, range) = rest.split_once(' ')?;
-    let (from, to) = range.split_once(' ')?;
-    let from = from.parse().ok()?;
-    Some(WorkCall::ReadBytes(page(number, at)?, from, to.parse().ok()?))
-}
-
-fn number(text: &str, at: u64) -> Option<u64> {
-    if text == "@" {
-        Some(at)
-    } else {
-        text.parse().ok()
-    }
-}
-
-// The number of a page, or how many pages.
-fn page(text: &str, at: u64) -> Option<u32> {
-    u32::try_from(number(text, at)?).ok()
 }
 
 fn choice(text: &str) -> Option<StopChoice> {

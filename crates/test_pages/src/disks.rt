@@ -1,6 +1,6 @@
 // A disk in memory that says nothing of itself.
-use std::alloc::{AllocError, Global};
-use tune_disk::{DeviceFault, Disk, FuseDisk, MemoryDisk, OneFault, StopChoice};
+use std::alloc::Global;
+use tune_disk::{DeviceFault, Disk, FuseDisk, MemoryDisk, OneFault};
 
 /// A disk in memory that no clause calls honest: so a condition that stands on an honest disk alone
 /// needs no proof, and what comes of a call is shown by the run.
@@ -19,7 +19,12 @@ fn over(memory: MemoryDisk, calls: u64, call: u64) -> InMemory {
 impl InMemory {
     // A file without a byte.
     pub(crate) fn empty(alloc: Global) -> InMemory {
-        over(MemoryDisk::new(alloc), u64::MAX, u64::MAX)
+        InMemory::over(MemoryDisk::new(alloc))
+    }
+
+    // A file, on a disk that fails no call.
+    pub(crate) fn over(memory: MemoryDisk) -> InMemory {
+        over(memory, u64::MAX, u64::MAX)
     }
 
     // The file, on a disk that passes so many calls and then fails all.
@@ -30,12 +35,6 @@ impl InMemory {
     // The file, on a disk of which this call fails.
     pub(crate) fn failing(self, call: u64) -> InMemory {
         over(self.into_memory(), u64::MAX, call)
-    }
-
-    // One of the files that a stop may leave now.
-    pub(crate) fn stopped(self, choice: StopChoice) -> Result<InMemory, AllocError> {
-        let file = self.into_memory().stopped(choice)?;
-        Ok(over(file, u64::MAX, u64::MAX))
     }
 
     // The file within.

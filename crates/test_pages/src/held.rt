@@ -1,19 +1,26 @@
 // What a case has in hand, and the calls that change what it is.
 ghost use Rattle.std.specs.Prelude.{◌≤◌, ◌↔◌, IsTrue};
 
-use crate::bytes::Bytes;
 use crate::calls::{Call, DiskCall};
 use crate::disks::InMemory;
-use crate::openings::call_opening;
-use crate::works::call_work;
-use std::alloc::{AllocError, Global};
-use std::fmt::Write;
+use crate::openings::{call_opening, end_opening};
+use crate::works::{call_work, finish, page_of};
+use std::alloc::Global;
 use std::marker::Model;
-use tune_disk::Disk;
-use tune_pages::{Opening, Pages, Work};
+use std::{io, mem};
+use test_cases::{Answer, Bench, Bytes, Words, no_data};
+use tune_disk::{Disk, StopChoice};
+use tune_pages::{Fault, Opening, Pages, Work};
 
 /// The most pages that there may be.
 const MOST_PAGES: u32 = 4_000_000;
+
+/// What a case has in hand, from one call to the next.
+#[derive(Drop)]
+pub(crate) struct Hand {
+    alloc: Global,
+    held: Held,
+}
 
 /// What a case has in hand.
 #[derive(Drop)]
@@ -42,6 +49,40 @@ impl Model for Begun {
     ghost invariant = { λ begun. Fits begun.pages begun.work };
 }
 
+impl Hand {
+    // With a file without a byte.
+    pub(crate) fn new(alloc: Global) -> Hand {
+        Hand {
+            alloc,
+            held: Held::Disk(InMemory::empty(alloc)),
+        }
+    }
+
+    // Makes a call, and writes its answer.
+    fn make_call(&mut self, call: Call<'_>, answer: &mut Answer) {
+        let none = Held::Disk(InMemory::empty(self.alloc));
+        let held = mem::replace(&mut self.held, none);
+        self.held = make_call(self.alloc, held, call, answer);
+    }
+}
+
+impl Bench for Hand {
+    fn begin(&mut self, _given: &str) -> io::Result<()> {
+        self.held = Held::Disk(InMemory::empty(self.alloc));
+        Ok(())
+    }
+
+    fn call(&mut self, name: &str, words: Words<'_>, answer: &mut Answer) -> io::Result<()> {
+        match Call::read(name, words) {
+            Some(call) => {
+                self.make_call(call, answer);
+                Ok(())
+            }
+            None => Err(no_data()),
+        }
+    }
+}
+
 impl Held {
     // The disk of what is in hand.
     fn into_disk(self) -> InMemory {
@@ -61,16 +102,12 @@ pub(crate) fn is_limit(limit: u32) -> bool
     1 <= limit && limit <= MOST_PAGES
 }
 
-// Makes a call, and writes its answer.
-pub(crate) fn make_call(
-    alloc: Global,
-    held: Held,
-    call: Call,
-    answer: &mut String,
-) -> Result<Held, AllocError> {
+// What is in hand behind a call.
+fn make_call(alloc: Global, held: Held, call: Call<'_>, answer: &mut Answer) -> Held {
     match (held, call) {
         (Held::Disk(disk), Call::Disk(call)) => call_disk(alloc, disk, call, answer),
         (Held::Opening(opening), Call::Opening(call)) => call_opening(opening, call, answer),
+        (Held::Opening(opening), Call::Done(limit)) => end_opening(opening, limit, answer),
         (Held::Pages(pages), Call::Limit(limit)) => set_limit(pages, limit, answer),
         (Held::Begun(Begun { pages, work: _ }), Call::Limit(limit)) => {
             set_limit(pages, limit, answer)
@@ -78,58 +115,50 @@ pub(crate) fn make_call(
         (Held::Pages(pages), Call::Begin) => begin(pages, answer),
         (Held::Begun(Begun { pages, work: _ }), Call::Begin) => begin(pages, answer),
         (Held::Begun(begun), Call::Work(call)) => call_work(alloc, begun, call, answer),
-        (held, Call::Close) => done(Held::Disk(held.into_disk()), answer),
+        (Held::Begun(begun), Call::Finish) => finish(begun, answer),
+        (held, Call::Close) => {
+            answer.say("done");
+            Held::Disk(held.into_disk())
+        }
         (held, _) => {
-            answer.push_str("not in hand")?;
-            Ok(held)
+            answer.say("not in hand");
+            held
         }
     }
 }
 
-// The answer of a call that did what it was to do.
-pub(crate) fn done(held: Held, answer: &mut String) -> Result<Held, AllocError> {
-    answer.push_str("done")?;
-    Ok(held)
-}
-
-fn begin(pages: Pages<InMemory>, answer: &mut String) -> Result<Held, AllocError> {
+fn begin(pages: Pages<InMemory>, answer: &mut Answer) -> Held {
     match pages.begin() {
-        Ok(work) => done(Held::Begun(Begun { pages, work }), answer),
+        Ok(work) => {
+            answer.say("done");
+            Held::Begun(Begun { pages, work })
+        }
         Err(fault) => {
-            write!(answer, "{fault:?}")?;
-            Ok(Held::Pages(pages))
+            answer.name(fault);
+            Held::Pages(pages)
         }
     }
 }
 
 // Changes how many pages there may be, to as many as before or more.
-fn set_limit(
-    mut pages: Pages<InMemory>,
-    limit: u32,
-    answer: &mut String,
-) -> Result<Held, AllocError> {
+fn set_limit(mut pages: Pages<InMemory>, limit: u32, answer: &mut Answer) -> Held {
     // Of pages that are closed nobody knows how many there are.
     if let Err(fault) = pages.begin() {
-        write!(answer, "{fault:?}")?;
+        answer.name(fault);
     } else if limit < pages.limit() || !is_limit(limit) {
-        answer.push_str("no limit")?;
+        answer.say("no limit");
     } else {
         pages.set_limit(limit);
-        answer.push_str("done")?;
+        answer.say("done");
     }
-    Ok(Held::Pages(pages))
+    Held::Pages(pages)
 }
 
-fn call_disk(
-    alloc: Global,
-    disk: InMemory,
-    call: DiskCall,
-    answer: &mut String,
-) -> Result<Held, AllocError> {
+fn call_disk(alloc: Global, disk: InMemory, call: DiskCall<'_>, answer: &mut Answer) -> Held {
     match call {
-        DiskCall::Passing(calls) => done(Held::Disk(disk.passing(calls)), answer),
-        DiskCall::Failing(call) => done(Held::Disk(disk.failing(call)), answer),
-        DiskCall::Stop(choice) => done(Held::Disk(disk.stopped(choice)?), answer),
+        DiskCall::Passing(calls) => put_disk(disk.passing(calls), answer),
+        DiskCall::Failing(call) => put_disk(disk.failing(call), answer),
+        DiskCall::Stop(choice) => stop(disk, choice, answer),
         DiskCall::Magic => write_magic(disk, answer),
         DiskCall::Size => size(disk, answer),
         DiskCall::Make(limit, root) => make(alloc, disk, limit, root, answer),
@@ -137,49 +166,72 @@ fn call_disk(
     }
 }
 
-fn write_magic(mut disk: InMemory, answer: &mut String) -> Result<Held, AllocError> {
-    match disk.write_at(0, b"ABCTUNE1") {
-        Ok(()) => answer.push_str("done")?,
-        Err(fault) => write!(answer, "{fault:?}")?,
-    }
-    Ok(Held::Disk(disk))
+fn put_disk(disk: InMemory, answer: &mut Answer) -> Held {
+    answer.say("done");
+    Held::Disk(disk)
 }
 
-fn size(mut disk: InMemory, answer: &mut String) -> Result<Held, AllocError> {
-    match disk.len() {
-        Ok(size) => write!(answer, "{size}")?,
-        Err(fault) => write!(answer, "{fault:?}")?,
-    }
-    Ok(Held::Disk(disk))
-}
-
-fn make(
-    alloc: Global,
-    disk: InMemory,
-    limit: u32,
-    root: Bytes,
-    answer: &mut String,
-) -> Result<Held, AllocError> {
-    if !is_limit(limit) {
-        answer.push_str("no limit")?;
-        return Ok(Held::Disk(disk));
-    }
-    let root = root.to_page(alloc)?;
-    match Pages::make(alloc, disk, &root, limit) {
-        Ok(pages) => done(Held::Pages(pages), answer),
-        Err(refused) => {
-            write!(answer, "{:?}", refused.why)?;
-            Ok(Held::Disk(refused.disk))
+// Goes on with one of the files that a stop may leave.
+fn stop(disk: InMemory, choice: StopChoice, answer: &mut Answer) -> Held {
+    let memory = disk.into_memory();
+    match memory.stopped(choice) {
+        Ok(file) => put_disk(InMemory::over(file), answer),
+        Err(_) => {
+            answer.name(Fault::OutOfMemory);
+            Held::Disk(InMemory::over(memory))
         }
     }
 }
 
-fn open(alloc: Global, disk: InMemory, answer: &mut String) -> Result<Held, AllocError> {
-    match Pages::open(alloc, disk) {
-        Ok(opening) => done(Held::Opening(opening), answer),
+fn write_magic(mut disk: InMemory, answer: &mut Answer) -> Held {
+    match disk.write_at(0, b"ABCTUNE1") {
+        Ok(()) => answer.say("done"),
+        Err(fault) => answer.name(fault),
+    }
+    Held::Disk(disk)
+}
+
+fn size(mut disk: InMemory, answer: &mut Answer) -> Held {
+    match disk.len() {
+        Ok(size) => answer.show(size),
+        Err(fault) => answer.name(fault),
+    }
+    Held::Disk(disk)
+}
+
+fn make(alloc: Global, disk: InMemory, limit: u32, root: Bytes<'_>, answer: &mut Answer) -> Held {
+    if !is_limit(limit) {
+        answer.say("no limit");
+        return Held::Disk(disk);
+    }
+    let root = match page_of(alloc, root) {
+        Ok(root) => root,
+        Err(fault) => {
+            answer.name(fault);
+            return Held::Disk(disk);
+        }
+    };
+    match Pages::make(alloc, disk, &root, limit) {
+        Ok(pages) => {
+            answer.say("done");
+            Held::Pages(pages)
+        }
         Err(refused) => {
-            write!(answer, "{:?}", refused.why)?;
-            Ok(Held::Disk(refused.disk))
+            answer.name(refused.why);
+            Held::Disk(refused.disk)
+        }
+    }
+}
+
+fn open(alloc: Global, disk: InMemory, answer: &mut Answer) -> Held {
+    match Pages::open(alloc, disk) {
+        Ok(opening) => {
+            answer.say("done");
+            Held::Opening(opening)
+        }
+        Err(refused) => {
+            answer.name(refused.why);
+            Held::Disk(refused.disk)
         }
     }
 }

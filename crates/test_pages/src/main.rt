@@ -28,75 +28,31 @@
 //! `finish`, and `put-link PAGE NEXT SIZE`, a page of a chain that somebody forged, of bytes 0x41.
 //! A work of which a call is refused is dropped.
 //!
-//! `close` hands the disk back. The form of bytes is in `bytes.rt`. The program prints a line for
-//! each case, and how many came out as written; where one did not, it ends with status 1.
+//! `close` hands the disk back. The form of bytes is that of `test_cases::Bytes`. The program prints a line
+//! for each case, and how many came out as written; where one did not, it ends with status 1.
 #![tactic(auto)]
 
-mod bytes;
 mod calls;
-mod cases;
 mod disks;
 mod held;
 mod openings;
-mod quoted;
 mod works;
 
-use cases::{Case, Outcome};
-use std::fs::Files;
+use held::Hand;
+use std::io;
 use std::process::ExitCode;
-use std::{fs, io};
+use test_cases::{Form, try_files};
 
 /// The files of cases.
 const FILES: [&str; 6] = ["chains", "works", "claims", "stops", "faults", "cache"];
 
-/// How many cases there were, and how many of them came out as written.
-#[derive(Clone, Copy)]
-struct Count {
-    all: u32,
-    as_written: u32,
-}
+const FORM: Form = Form {
+    separator: " = ",
+    unwritten: "done",
+    counts_each_file: false,
+};
 
 fn main(rt: HostRuntime) -> io::Result<ExitCode> {
-    let mut count = Count {
-        all: 0,
-        as_written: 0,
-    };
-    for name in FILES {
-        println!(&rt; "{name}")?;
-        let text = fs::read_to_string(&rt, name)?;
-        run_file(&rt, &text, &mut count)?;
-    }
-    let Count { all, as_written } = count;
-    println!(&rt; "{as_written} of {all} cases as written")?;
-    if all == as_written {
-        Ok(ExitCode::SUCCESS)
-    } else {
-        Ok(ExitCode::FAILURE)
-    }
-}
-
-// Runs the cases of a file.
-fn run_file<R: Print + AllocGlobal>(rt: &R, text: &str, count: &mut Count) -> io::Result<()> {
-    for block in text.split("\n\n") {
-        if let Some(case) = Case::read(block) {
-            count.all = count.all.saturating_add(1);
-            if is_as_written(rt, &case)? {
-                count.as_written = count.as_written.saturating_add(1);
-            }
-        }
-    }
-    Ok(())
-}
-
-// Runs a case, and prints what came of it.
-fn is_as_written<R: Print + AllocGlobal>(rt: &R, case: &Case) -> io::Result<bool> {
-    let name = case.name;
-    match case.run(rt.alloc())? {
-        Outcome::AsWritten => println!(rt; "{name}: as written")?,
-        Outcome::Differs { at, line, answer } => {
-            println!(rt; "{name}: at {at}, `{line}` answers {answer}")?;
-            return Ok(false);
-        }
-    }
-    Ok(true)
+    let mut hand = Hand::new(rt.alloc());
+    try_files(&rt, &FILES, FORM, &mut hand)
 }

@@ -1,62 +1,61 @@
 // The calls of an opening.
-use crate::bytes::show;
 use crate::calls::OpeningCall;
 use crate::disks::InMemory;
-use crate::held::{Held, done, is_limit};
-use std::alloc::AllocError;
-use std::fmt::Write;
+use crate::held::{Held, is_limit};
+use test_cases::Answer;
+use tune_journal::PageImage;
 use tune_pages::{ClaimFault, Opening};
 
 // Makes a call of an opening, and writes its answer.
 pub(crate) fn call_opening(
     mut opening: Opening<InMemory>,
     call: OpeningCall,
-    answer: &mut String,
-) -> Result<Held, AllocError> {
-    match call {
-        OpeningCall::Root => match opening.read_root() {
-            Ok(image) => show(&image.bytes, answer)?,
-            Err(fault) => show_fault(fault, answer)?,
-        },
-        OpeningCall::ClaimPage(page) => match opening.claim_page(page) {
-            Ok(image) => show(&image.bytes, answer)?,
-            Err(fault) => show_fault(fault, answer)?,
-        },
-        OpeningCall::ClaimChain(first) => match opening.claim_chain(first) {
-            Ok(bytes) => show(&bytes, answer)?,
-            Err(fault) => show_fault(fault, answer)?,
-        },
-        OpeningCall::ClaimChainWithin(first, most) => match opening.claim_chain_within(
-            first, most,
-        ) {
-            Ok(bytes) => show(&bytes, answer)?,
-            Err(fault) => show_fault(fault, answer)?,
-        },
-        OpeningCall::Count => write!(answer, "{}", opening.count())?,
-        OpeningCall::Done(limit) => return end_opening(opening, limit, answer),
-    }
-    Ok(Held::Opening(opening))
+    answer: &mut Answer,
+) -> Held {
+    claim(&mut opening, call, answer);
+    Held::Opening(opening)
 }
 
-fn show_fault(fault: ClaimFault, answer: &mut String) -> Result<(), AllocError> {
-    write!(answer, "{fault:?}")
+fn claim(opening: &mut Opening<InMemory>, call: OpeningCall, answer: &mut Answer) {
+    match call {
+        OpeningCall::Root => show_page(opening.read_root(), answer),
+        OpeningCall::ClaimPage(page) => show_page(opening.claim_page(page), answer),
+        OpeningCall::ClaimChain(first) => show_chain(opening.claim_chain(first), answer),
+        OpeningCall::ClaimChainWithin(first, most) => {
+            show_chain(opening.claim_chain_within(first, most), answer)
+        }
+        OpeningCall::Count => answer.show(opening.count()),
+    }
+}
+
+fn show_page(page: Result<PageImage, ClaimFault>, answer: &mut Answer) {
+    match page {
+        Ok(image) => answer.show_bytes(&image.bytes),
+        Err(fault) => answer.name(fault),
+    }
+}
+
+fn show_chain(chain: Result<Vec<u8>, ClaimFault>, answer: &mut Answer) {
+    match chain {
+        Ok(bytes) => answer.show_bytes(&bytes),
+        Err(fault) => answer.name(fault),
+    }
 }
 
 // The pages that were claimed.
-fn end_opening(
-    opening: Opening<InMemory>,
-    limit: u32,
-    answer: &mut String,
-) -> Result<Held, AllocError> {
+pub(crate) fn end_opening(opening: Opening<InMemory>, limit: u32, answer: &mut Answer) -> Held {
     if !is_limit(limit) {
-        answer.push_str("no limit")?;
-        return Ok(Held::Opening(opening));
+        answer.say("no limit");
+        return Held::Opening(opening);
     }
     match opening.done(limit) {
-        Ok(pages) => done(Held::Pages(pages), answer),
+        Ok(pages) => {
+            answer.say("done");
+            Held::Pages(pages)
+        }
         Err(refused) => {
-            write!(answer, "{:?}", refused.why)?;
-            Ok(Held::Disk(refused.disk))
+            answer.name(refused.why);
+            Held::Disk(refused.disk)
         }
     }
 }
