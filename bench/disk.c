@@ -1,6 +1,6 @@
-// The rounds of the program `bench_disk`, by calls of the system alone: FILE ROUNDS. It makes the
+// The rounds of `benches disk`, by calls of the system alone: FILE ROUNDS. It makes the
 // same calls in the same order (`stat` and `fstat` in place of `statx`), and differs in this: a
-// short write or an interrupted call ends it, where `bench_disk` goes on.
+// short write or an interrupted call ends it, where the program goes on.
 #include <fcntl.h>
 #include <libgen.h>
 #include <stdio.h>

@@ -1,4 +1,4 @@
-// The parts of the program `bench_index` by calls of the system alone: FILE CALLS FEW ROUNDS. CALLS
+// The parts of `benches index` by calls of the system alone: FILE CALLS FEW ROUNDS. CALLS
 // has the calls of the disk that the program made, a line each, under the name of their part: they
 // are made again in the same order (`fstat` in place of `statx`), with zeros for what is written.
 // A short write or an interrupted call ends it, and it does not look at what it reads. In place of

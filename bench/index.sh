@@ -14,11 +14,10 @@ runs=${2:-5}
 few=${3:-20000}
 many=${4:-160000}
 rounds=${5:-1000}
-program=$root/crates/bench_index/out/bench_index
+program=$root/crates/benches/out/benches
 work=$root/bench/work
 if [ ! -x "$program" ]; then
-    echo "no program at $program: build it by 'rt run -- memory 1000 2000 20' in" \
-        "crates/bench_index" >&2
+    echo "no program at $program: build it by 'rt run -- disk pages 5' in crates/benches" >&2
     exit 1
 fi
 mkdir -p "$work" "$folder" || exit 1
@@ -35,12 +34,12 @@ timed() {
     sed "s/^/$name /" "$work/index_run" >> "$work/index_times"
 }
 
-ours() { timed ours "$program" file "$pages" "$few" "$many" "$rounds" times; }
+ours() { timed ours "$program" index file "$pages" "$few" "$many" "$rounds" times; }
 from_c() { timed c "$work/index_c" "$pages" "$work/index_calls" "$few" "$rounds"; }
-in_memory() { timed memory "$program" memory "$few" "$many" "$rounds" times; }
+in_memory() { timed memory "$program" index memory "$few" "$many" "$rounds" times; }
 
 rm -f "$pages"
-"$program" file "$pages" "$few" "$many" "$rounds" calls > "$work/index_calls" || exit 1
+"$program" index file "$pages" "$few" "$many" "$rounds" calls > "$work/index_calls" || exit 1
 : > "$work/index_times"
 for ((run = 0; run < runs; run++)); do
     if ((run % 2)); then

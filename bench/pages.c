@@ -1,4 +1,4 @@
-// The parts of the program `bench_pages` over a file, by calls of the system alone: FILE CHAINS
+// The parts of `benches pages` over a file, by calls of the system alone: FILE CHAINS
 // WORKS. It makes the same calls in the same order (`fstat` in place of `statx`), and differs in
 // this: it keeps no pages, a short write or an interrupted call ends it, and it does not look at
 // what it reads.

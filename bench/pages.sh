@@ -11,28 +11,29 @@ folder=${1:-$root/bench/work}
 runs=${2:-5}
 chains=${3:-20000}
 works=${4:-1000}
-program=$root/crates/bench_pages/out/bench_pages
+program=$root/crates/benches/out/benches
 work=$root/bench/work
 if [ ! -x "$program" ]; then
-    echo "no program at $program: build it by 'rt run -- memory 20 5' in crates/bench_pages" >&2
+    echo "no program at $program: build it by 'rt run -- disk pages 5' in crates/benches" >&2
     exit 1
 fi
 mkdir -p "$work" "$folder" || exit 1
 cc -O2 -o "$work/pages_c" "$root/bench/pages.c" || exit 1
 export LC_ALL=C
+pages=$folder/bench_pages.pages
 
 # Puts the lines of one run behind a file: whose run, part, what it came to, microseconds.
 timed() {
     local name=$1
     shift
-    rm -f "$folder/bench_pages.pages"
+    rm -f "$pages"
     "$@" > "$work/pages_run" || { echo "$name failed" >&2; exit 1; }
     sed "s/^/$name /" "$work/pages_run" >> "$work/pages_times"
 }
 
-ours() { timed ours "$program" file "$folder/bench_pages.pages" "$chains" "$works" times; }
-from_c() { timed c "$work/pages_c" "$folder/bench_pages.pages" "$chains" "$works"; }
-in_memory() { timed memory "$program" memory "$chains" "$works" times; }
+ours() { timed ours "$program" pages file "$pages" "$chains" "$works" times; }
+from_c() { timed c "$work/pages_c" "$pages" "$chains" "$works"; }
+in_memory() { timed memory "$program" pages memory "$chains" "$works" times; }
 
 : > "$work/pages_times"
 for ((run = 0; run < runs; run++)); do
@@ -45,7 +46,7 @@ for ((run = 0; run < runs; run++)); do
     fi
     in_memory
 done
-rm -f "$folder/bench_pages.pages"
+rm -f "$pages"
 
 awk '{ print $2, $3 }' "$work/pages_times" | sort -u | awk '
     { seen[$1]++ }
@@ -70,9 +71,9 @@ time=$(type -P time) || exit 0
 # The most memory that a process has, in kB.
 most_memory() { "$time" -f %M "$@" 2>&1 > "$work/pages_run" | tail -n 1; }
 
-rm -f "$folder/bench_pages.pages"
-none=$(most_memory "$program" file "$folder/bench_pages.pages" 0 0)
-rm -f "$folder/bench_pages.pages"
-all=$(most_memory "$program" file "$folder/bench_pages.pages" "$chains" 0)
-rm -f "$folder/bench_pages.pages"
+rm -f "$pages"
+none=$(most_memory "$program" pages file "$pages" 0 0)
+rm -f "$pages"
+all=$(most_memory "$program" pages file "$pages" "$chains" 0)
+rm -f "$pages"
 echo "memory: $none kB with no chain, $all kB with $chains in one work"

@@ -1,14 +1,14 @@
 #!/usr/bin/env bash
 # Usage: bench/reading.sh [EXECUTABLE]
-# Times the reading of 20,000 tunes (3.8 MB), layer by layer, by the program `bench_reading`. A line
+# Times the reading of 20,000 tunes (3.8 MB), layer by layer, by the program `benches`. A line
 # is a layer, the milliseconds of one pass over all tunes (those of 21 passes less those of 1 pass,
 # by 20), and what a pass came to.
 set -u
 root=$(CDPATH='' cd -- "$(dirname -- "$0")/.." && pwd) || exit 1
-program=${1:-$root/crates/bench_reading/out/bench_reading}
+program=${1:-$root/crates/benches/out/benches}
 work=$root/bench/work
 [ -x "$program" ] || {
-    echo "no program at $program: build it by 'rt run' in crates/bench_reading" >&2
+    echo "no program at $program: build it by 'rt run -- disk pages 5' in crates/benches" >&2
     exit 1
 }
 mkdir -p "$work" || exit 1
@@ -28,7 +28,7 @@ awk 'BEGIN {
 passes() {
     local start end
     start=$(date +%s%N)
-    total=$("$program" "$1" "$2" < "$work/tunes.abc") || exit 1
+    total=$("$program" reading "$1" "$2" < "$work/tunes.abc") || exit 1
     end=$(date +%s%N)
     nanoseconds=$((end - start))
 }

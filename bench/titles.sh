@@ -1,16 +1,16 @@
 #!/usr/bin/env bash
 # Usage: bench/titles.sh [EXECUTABLE]
-# Puts 20,000 titles in the order of an index, by the program `bench_titles`. A line is a text of
+# Puts 20,000 titles in the order of an index, by the program `benches`. A line is a text of
 # titles, whether rows of them hold what an index shows (`shown`, as those of the command `titles`)
 # or not (`rows`), and what one pass takes: the seconds of a run with a pass less those of a run
 # without, and in the same way the memory, in MB, where there is a time(1), and the instructions, in
 # millions, where valgrind is there (with HOSTILE=yes for the long titles too, which takes minutes).
 set -u
 root=$(CDPATH='' cd -- "$(dirname -- "$0")/.." && pwd) || exit 1
-program=${1:-$root/crates/bench_titles/out/bench_titles}
+program=${1:-$root/crates/benches/out/benches}
 work=$root/bench/work
 [ -x "$program" ] || {
-    echo "no program at $program: build it by 'rt run' in crates/bench_titles" >&2
+    echo "no program at $program: build it by 'rt run -- disk pages 5' in crates/benches" >&2
     exit 1
 }
 mkdir -p "$work" || exit 1
@@ -50,21 +50,21 @@ long() {
 # Leaves in `spent` the seconds of processor time of so many passes with rows of this kind.
 seconds() {
     local TIMEFORMAT=%3U
-    { time "$program" "$1" "$2" < "$work/titles" > "$work/count" 2> "$work/errors"; } \
+    { time "$program" titles "$1" "$2" < "$work/titles" > "$work/count" 2> "$work/errors"; } \
         2> "$work/spent"
     spent=$(cat "$work/spent")
 }
 
 # Leaves in `spent` the most memory that they take, in kilobytes.
 memory() {
-    command time -f %M -o "$work/spent" "$program" "$1" "$2" \
+    command time -f %M -o "$work/spent" "$program" titles "$1" "$2" \
         < "$work/titles" > "$work/count" 2> "$work/errors" || exit 1
     spent=$(cat "$work/spent")
 }
 
 # Leaves in `spent` their instructions.
 instructions() {
-    valgrind --tool=callgrind --callgrind-out-file=/dev/null "$program" "$1" "$2" \
+    valgrind --tool=callgrind --callgrind-out-file=/dev/null "$program" titles "$1" "$2" \
         < "$work/titles" > "$work/count" 2> "$work/errors" || exit 1
     spent=$(awk '/Collected/ { print $4 }' "$work/errors")
 }

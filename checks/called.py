@@ -178,7 +178,7 @@ class Sources:
     def __init__(self):
         paths = [os.path.relpath(path, 'crates')
                  for path in glob.glob('crates/*/src/**/*.rt', recursive=True)]
-        self.paths = sorted(path for path in paths if not path.startswith(('test_', 'bench_')))
+        self.paths = sorted(path for path in paths if not path.startswith(('test_', 'benches')))
         self.crates = {path.split('/')[0] for path in self.paths}
         self.functions = all_of(functions_of, self.paths)
         self.named = collections.defaultdict(list)

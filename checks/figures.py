@@ -189,7 +189,7 @@ def uses():
 
 def check_stack(path, boxes, edges):
     used = uses()
-    shown_crates = {name for name in used if not name.startswith(('test_', 'bench_'))}
+    shown_crates = {name for name in used if not name.startswith(('test_', 'benches'))}
     for name in sorted(shown_crates ^ set(boxes)):
         fault(path, f'{name} is in one alone of the figure and crates.txt')
     promises = set(re.findall(r'^\| (\d+)[ ,]', read('docs/PROOFS.md'), re.M))

@@ -34,7 +34,7 @@ def read(path):
 def paths(inner):
     """The files of this kind, of all crates but tests and benches."""
     for path in sorted(glob.glob(f'crates/*/{inner}', recursive=True)):
-        if not path.split('/')[1].startswith(('test_', 'bench_')):
+        if not path.split('/')[1].startswith(('test_', 'benches')):
             yield path
 
 

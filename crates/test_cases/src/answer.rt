@@ -69,6 +69,13 @@ impl Answer {
         self.add(text.as_bytes());
     }
 
+    /// Adds a blank, unless it has no byte.
+    pub fn space(&mut self) {
+        if !self.bytes.is_empty() {
+            self.say(" ");
+        }
+    }
+
     /// Adds what is printed of a value.
     pub fn show<T: Display + Drop>(&mut self, value: T) {
         if write!(self.bytes, "{value}").is_err() {
@@ -113,6 +120,14 @@ impl Answer {
         } else {
             self.say("begins ");
             self.quote(bytes.get(..SHOWN).unwrap_or(bytes));
+        }
+    }
+
+    /// Adds from which byte on bytes are others than those that are wanted, if they are.
+    pub fn tell_difference(&mut self, found: &[u8], wanted: &[u8]) {
+        if found != wanted {
+            let common = found.iter().zip(wanted).take_while(|(a, b)| a == b).count();
+            self.show(format_args!(", other bytes from {common} on"));
         }
     }
 

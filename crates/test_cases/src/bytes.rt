@@ -1,6 +1,8 @@
 // Bytes as the files write them down.
 use bstr::ByteVec;
 use std::alloc::{AllocError, Global};
+use std::fs::Files;
+use std::{fs, io};
 
 /// Bytes, as they are written down.
 ///
@@ -58,6 +60,15 @@ pub fn unquoted(alloc: Global, text: &str) -> Result<Vec<u8>, AllocError> {
     let text = text.strip_prefix('"').unwrap_or(text);
     let text = text.strip_suffix('"').unwrap_or(text);
     Vec::unescape_bytes(alloc, text)
+}
+
+/// The bytes of the file `NAME.KIND`.
+///
+/// # Errors
+///
+/// Where it cannot be read.
+pub fn read_bytes<R: Files + AllocGlobal>(rt: &R, name: &str, kind: &str) -> io::Result<Vec<u8>> {
+    fs::read(rt, format!(in rt.alloc(); "{name}.{kind}")?)
 }
 
 /// The bytes that hexadecimal digits write down, two for each; what is no pair of them is a 0.

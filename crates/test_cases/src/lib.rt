@@ -22,7 +22,7 @@ mod words;
 
 pub use answer::Answer;
 pub use benches::{Bench, Form};
-pub use bytes::{Bytes, lay_bytes, read_hexadecimal, unquoted};
+pub use bytes::{Bytes, lay_bytes, read_bytes, read_hexadecimal, unquoted};
 pub use cases::{line_of, try_file, try_files, try_lines};
 pub use tally::Tally;
 pub use words::{Words, no_data};

@@ -1,8 +1,8 @@
 // Calls on a catalog of which some texts cannot be read.
-use crate::calls::no_data;
 use abc_fields::{ByteText, TuneText};
 use std::alloc::Global;
 use std::io;
+use test_cases::{Answer, no_data};
 use tune_queries::{Query, QueryText, Sought};
 use tune_sets::SetLists;
 use tune_store::{
@@ -128,24 +128,37 @@ fn command(alloc: Global, name: &str) -> io::Result<Command> {
     }
 }
 
-// What is decided of a command.
-pub(crate) fn asked(alloc: Global, name: &str, fails: bool) -> io::Result<String> {
+/// What is decided of a command.
+pub(crate) fn show_decided(
+    alloc: Global,
+    name: &str,
+    fails: bool,
+    answer: &mut Answer,
+) -> io::Result<()> {
+    match decided(alloc, name, fails)? {
+        Ok(reply) => show_reply(reply, answer),
+        Err(refusal) => answer.name(refusal),
+    }
+    Ok(())
+}
+
+fn decided(alloc: Global, name: &str, fails: bool) -> io::Result<Result<Reply, Refusal>> {
     let mut catalog = two_tunes(alloc, fails)?;
     match decide(alloc, &mut catalog, &command(alloc, name)?) {
-        Ok(Plan { change: _, reply }) => shown(alloc, reply),
-        Err(refusal) => Ok(format!(in alloc; "{refusal:?}")?),
+        Ok(Plan { change: _, reply }) => Ok(Ok(reply)),
+        Err(refusal) => Ok(Err(refusal)),
     }
 }
 
 // A reply that shows or deletes a tune.
-fn shown(alloc: Global, reply: Reply) -> io::Result<String> {
+fn show_reply(reply: Reply, answer: &mut Answer) {
     match reply {
         Reply::Shown(tune) => {
-            let text = String::from_utf8_lossy(alloc, tune.text.bytes())?;
             let (number, revision) = (tune.number, tune.revision);
-            Ok(format!(in alloc; "{number} {revision} {text:?}")?)
+            answer.show(format_args!("{number} {revision} "));
+            answer.quote(tune.text.bytes());
         }
-        Reply::Deleted { number } => Ok(format!(in alloc; "{number} is deleted")?),
-        _ => Ok(format!(in alloc; "another reply")?),
+        Reply::Deleted { number } => answer.show(format_args!("{number} is deleted")),
+        _ => answer.say("another reply"),
     }
 }

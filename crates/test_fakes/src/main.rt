@@ -23,35 +23,19 @@ mod disks;
 mod faulty_catalog;
 mod records;
 
-use calls::answer_of;
-use std::fs::Files;
+use calls::Fakes;
+use std::io;
 use std::process::ExitCode;
-use std::{fs, io};
+use test_cases::{Form, try_lines};
+
+const FORM: Form = Form {
+    separator: " = ",
+    unwritten: "",
+    counts_each_file: false,
+};
 
 fn main(rt: HostRuntime) -> io::Result<ExitCode> {
-    if all_as_written(&rt)? {
-        Ok(ExitCode::SUCCESS)
-    } else {
-        Ok(ExitCode::FAILURE)
-    }
-}
-
-// Makes all calls, and says whether each answered as written.
-fn all_as_written<R: Files + Print + AllocGlobal>(rt: &R) -> io::Result<bool> {
-    let list = fs::read_to_string(rt, "cases")?;
-    let mut all: u32 = 0;
-    let mut as_written: u32 = 0;
-    for line in list.lines() {
-        let (call, wanted) = line.split_once(" = ").unwrap_or((line, ""));
-        let answer = answer_of(rt, call)?;
-        all = all.saturating_add(1);
-        if answer.as_str() == wanted {
-            as_written = as_written.saturating_add(1);
-            println!(rt; "{call}: as written")?;
-        } else {
-            println!(rt; "{call}: it answers {answer}")?;
-        }
-    }
-    println!(rt; "{as_written} of {all} calls as written")?;
-    Ok(as_written == all)
+    let tally = try_lines(&rt, "cases", FORM, &mut Fakes { rt: &rt })?;
+    tally.tell_count(&rt, "calls")?;
+    Ok(tally.exit_code())
 }

@@ -1,21 +1,23 @@
 // Calls over a store that keeps a record of its device.
-use crate::calls::{bytes_of, end_over, no_data, number};
+use crate::calls::show_end;
 use abc_fields::ByteText;
 use std::alloc::Global;
 use std::fs::Files;
 use std::io;
+use test_cases::{Answer, Words, no_data, read_bytes};
 use test_stores::{RecordedStore, apply_to_open};
 use tune_store::{Command, Reply};
 
-// What an import and two questions come to, of which the second is refused, and the entries.
-pub(crate) fn records_import(alloc: Global) -> io::Result<String> {
-    let mut store = RecordedStore::new(alloc, 100)?;
+/// What an import and two questions come to, of which the second is refused, and the entries.
+pub(crate) fn show_import(alloc: Global, answer: &mut Answer) -> io::Result<()> {
     let import = Command::Import(ByteText::copy_of(alloc, b"X:1\nK:C\n")?);
+    let mut store = RecordedStore::new(alloc, 100)?;
     let imported = apply_to_open(&mut store, &import).map(span);
     let is_shown = apply_to_open(&mut store, &Command::Show(1)).map(shows_key);
     let refusal = apply_to_open(&mut store, &Command::Show(2)).err();
     let entries = store.entries();
-    Ok(format!(in alloc; "{imported:?} {is_shown:?} {refusal:?} {entries:?}")?)
+    answer.show(format_args!("{imported:?} {is_shown:?} {refusal:?} {entries:?}"));
+    Ok(())
 }
 
 // The first number and the last of a reply to an import.
@@ -34,13 +36,19 @@ fn shows_key(reply: Reply) -> bool {
     }
 }
 
-// Runs a script over a store of so many entries.
-pub(crate) fn over_record<R: Files + AllocGlobal>(rt: &R, words: &str) -> io::Result<String> {
-    let (most, name) = words.split_once(' ').ok_or(no_data())?;
-    let mut store = RecordedStore::new(rt.alloc(), number(most)? as usize)?;
-    let script = bytes_of(rt, name, "script")?;
-    let wanted = bytes_of(rt, name, "replies")?;
-    let end = end_over(rt.alloc(), &mut store, &script, &wanted)?;
+/// Runs a script over a store of so many entries.
+pub(crate) fn show_record<R: Files + AllocGlobal>(
+    rt: &R,
+    mut words: Words<'_>,
+    answer: &mut Answer,
+) -> io::Result<()> {
+    let most = words.size().ok_or(no_data())?;
+    let name = words.word();
+    let script = read_bytes(rt, name, "script")?;
+    let wanted = read_bytes(rt, name, "replies")?;
+    let mut store = RecordedStore::new(rt.alloc(), most)?;
+    show_end(rt.alloc(), &mut store, &script, &wanted, answer);
     let entries = store.entries();
-    Ok(format!(in rt.alloc(); "{end} {entries:?}")?)
+    answer.show(format_args!(" {entries:?}"));
+    Ok(())
 }

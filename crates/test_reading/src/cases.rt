@@ -1,8 +1,8 @@
 // The lines of data files, and the escapes of their texts.
 use abc_fields::{TuneText, split_book};
-use std::alloc::{AllocError, Global};
+use std::alloc::Global;
 use std::io;
-use std::io::Write;
+use test_cases::no_data;
 
 /// A case: what a call is asked about, and what has to come out.
 #[derive(Drop)]
@@ -16,22 +16,16 @@ pub(crate) struct Case<'a> {
 impl<'a> Case<'a> {
     // The case of a line.
     pub(crate) fn of_line(alloc: Global, line: &'a str) -> io::Result<Case<'a>> {
-        let Some((name, others)) = line.split_once('\t') else {
-            return Err(unreadable());
-        };
-        let Some((call, columns)) = others.split_once('\t') else {
-            return Err(unreadable());
-        };
+        let (name, others) = line.split_once('\t').ok_or(no_data())?;
+        let (call, columns) = others.split_once('\t').ok_or(no_data())?;
         let mut texts = decoded_columns(alloc, columns)?;
-        match texts.pop() {
-            Some(wanted) => Ok(Case {
-                name,
-                call,
-                texts,
-                wanted,
-            }),
-            None => Err(unreadable()),
-        }
+        let wanted = texts.pop().ok_or(no_data())?;
+        Ok(Case {
+            name,
+            call,
+            texts,
+            wanted,
+        })
     }
 
     // The text at this place, from 0.
@@ -41,11 +35,6 @@ impl<'a> Case<'a> {
             None => b"",
         }
     }
-}
-
-/// The error of data that the program cannot read.
-pub(crate) fn unreadable() -> io::Error {
-    io::Error::from(io::ErrorKind::InvalidData)
 }
 
 fn decoded_columns(alloc: Global, columns: &str) -> io::Result<Vec<Vec<u8>>> {
@@ -71,7 +60,7 @@ impl Text {
             [b'n', rest @ ..] => self.take_byte(b'\n', rest),
             [b't', rest @ ..] => self.take_byte(b'\t', rest),
             [b'r', rest @ ..] => self.take_byte(b'\r', rest),
-            [b'x', high, low, rest @ ..] => self.take_byte(byte_of(*high, *low)?, rest),
+            [b'x', _, _, rest @ ..] => self.take_byte(byte_of(part)?, rest),
             [b')', rest @ ..] => self.repeat(rest),
             _ => self.begin_repeat(part),
         }
@@ -84,22 +73,15 @@ impl Text {
     }
 
     fn begin_repeat(&mut self, part: &str) -> io::Result<()> {
-        let Some((count, rest)) = part.split_once('(') else {
-            return Err(unreadable());
-        };
-        let Ok(times) = count.parse::<usize>() else {
-            return Err(unreadable());
-        };
-        self.times = times;
+        let (count, rest) = part.split_once('(').ok_or(no_data())?;
+        self.times = count.parse().map_err(|_| no_data())?;
         self.from = self.bytes.len();
         self.bytes.extend_from_slice(rest.as_bytes())?;
         Ok(())
     }
 
     fn repeat(&mut self, rest: &[u8]) -> io::Result<()> {
-        let Some(unit) = self.bytes.as_slice().get(self.from..) else {
-            return Err(unreadable());
-        };
+        let unit = self.bytes.get(self.from..).ok_or(no_data())?;
         let unit = unit.to_vec(*self.bytes.allocator())?;
         for _ in 1..self.times {
             self.bytes.extend_from_slice(unit.as_slice())?;
@@ -109,19 +91,9 @@ impl Text {
     }
 }
 
-fn byte_of(high: u8, low: u8) -> io::Result<u8> {
-    match (digit_of(high), digit_of(low)) {
-        (Some(high), Some(low)) => Ok(high << 4 | low),
-        _ => Err(unreadable()),
-    }
-}
-
-fn digit_of(byte: u8) -> Option<u8> {
-    match byte {
-        b'0'..=b'9' => Some(byte - b'0'),
-        b'a'..=b'f' => Some(byte - b'a' + 10),
-        _ => None,
-    }
+// The byte of two digits behind an `x`.
+fn byte_of(part: &str) -> io::Result<u8> {
+    u8::from_str_radix(part.get(1..3).unwrap_or(""), 16).map_err(|_| no_data())
 }
 
 // The bytes of a column. Behind a backslash that stands for itself the next part begins with no
@@ -146,20 +118,6 @@ fn decoded(alloc: Global, column: &str) -> io::Result<Vec<u8>> {
     }
     let Text { bytes, .. } = text;
     Ok(bytes)
-}
-
-/// The first 400 bytes of a text, as data have them.
-pub(crate) fn shown(alloc: Global, text: &[u8]) -> Result<String, AllocError> {
-    let mut line = String::new(alloc);
-    for &byte in text.iter().take(400) {
-        match byte {
-            b'\n' => line.push_str("\\n")?,
-            b'\\' => line.push_str("\\\\")?,
-            b' '..=b'~' => line.push(char::from(byte))?,
-            _ => write!(line, "\\x{byte:02x}")?,
-        }
-    }
-    Ok(line)
 }
 
 /// The tunes of a book, none where it is refused.

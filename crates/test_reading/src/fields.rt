@@ -3,63 +3,61 @@
 // - `header`, a tune: its titles, its rhythm and its key, as lines of a header.
 // - `trim`, `uncomment`, `value`, a text: what is left of it.
 // - `blanks`: all blanks.
-use crate::cases::{Case, tunes_of, unreadable};
+use crate::cases::{Case, tunes_of};
 use abc_fields::{Titles, TuneText, field_value, fields, is_blank, trim_blanks, without_comment};
 use std::alloc::Global;
-use std::io;
-use std::io::Write;
+use test_cases::Answer;
 
-pub(crate) fn answer(alloc: Global, case: &Case, out: &mut Vec<u8>) -> io::Result<()> {
+pub(crate) fn answer(alloc: Global, case: &Case, out: &mut Answer) -> Option<()> {
     let text = case.text(0);
     match case.call {
         "header" => match tunes_of(alloc, text).as_slice() {
             [tune] => write_header(tune, out),
-            _ => out.write_all(b"not one tune"),
+            _ => out.say("not one tune"),
         },
-        "trim" => out.write_all(trim_blanks(text)),
-        "uncomment" => out.write_all(without_comment(text)),
-        "value" => out.write_all(field_value(text)),
+        "trim" => out.add(trim_blanks(text)),
+        "uncomment" => out.add(without_comment(text)),
+        "value" => out.add(field_value(text)),
         "blanks" => write_blanks(out),
-        _ => Err(unreadable()),
+        _ => return None,
     }
+    Some(())
 }
 
-fn write_header(tune: &TuneText, out: &mut Vec<u8>) -> io::Result<()> {
+fn write_header(tune: &TuneText, out: &mut Answer) {
     let found = fields(tune);
-    write_titles(&found.titles, out)?;
+    write_titles(&found.titles, out);
     if let Some(rhythm) = found.rhythm {
-        out.write_all(b"R:")?;
-        out.write_all(rhythm)?;
-        out.write_all(b"\n")?;
+        out.say("R:");
+        out.add(rhythm);
+        out.say("\n");
     }
-    out.write_all(b"K:")?;
-    out.write_all(found.key)
+    out.say("K:");
+    out.add(found.key);
 }
 
-fn write_titles(titles: &Titles, out: &mut Vec<u8>) -> io::Result<()> {
+fn write_titles(titles: &Titles, out: &mut Answer) {
     let all = titles.as_slice();
     for &title in all {
-        out.write_all(b"T:")?;
-        out.write_all(title)?;
-        out.write_all(b"\n")?;
+        out.say("T:");
+        out.add(title);
+        out.say("\n");
     }
     if titles.len() != all.len() || titles.is_empty() != all.is_empty() {
-        out.write_all(b"of another length\n")?;
+        out.say("of another length\n");
     }
     if titles.first() != all.first().copied() {
-        out.write_all(b"with another first\n")?;
+        out.say("with another first\n");
     }
-    Ok(())
 }
 
 // Each character that is blank.
-fn write_blanks(out: &mut Vec<u8>) -> io::Result<()> {
+fn write_blanks(out: &mut Answer) {
     for number in 0..=0x10_FFFF_u32 {
         if let Some(character) = char::from_u32(number)
             && is_blank(character)
         {
-            write!(out, "{character}")?;
+            out.show(character);
         }
     }
-    Ok(())
 }

@@ -6,12 +6,11 @@
 // - `rows`, some bytes: of how many lines of three of them no byte is left out.
 // - `left`, a line: the outlines of what is left after each of the first six items, and before.
 // - `first`, a line: its first item that is no aside, and where that begins and ends.
-use crate::cases::{Case, unreadable};
+use crate::cases::Case;
 use abc_items::{Items, Kind};
-use std::io;
-use std::io::Write;
+use test_cases::Answer;
 
-pub(crate) fn answer(case: &Case, out: &mut Vec<u8>) -> io::Result<()> {
+pub(crate) fn answer(case: &Case, out: &mut Answer) -> Option<()> {
     let line = case.text(0);
     match case.call {
         "outline" => write_outline(line, Items::new(line), 0, out),
@@ -19,8 +18,9 @@ pub(crate) fn answer(case: &Case, out: &mut Vec<u8>) -> io::Result<()> {
         "rows" => write_rows(line, out),
         "left" => write_left(line, out),
         "first" => write_first(line, out),
-        _ => Err(unreadable()),
+        _ => return None,
     }
+    Some(())
 }
 
 fn initial(kind: Kind) -> char {
@@ -50,35 +50,33 @@ fn leave_no_byte_out(line: &[u8], items: Items, from: usize) -> bool {
     end == line.len()
 }
 
-fn write_outline(line: &[u8], items: Items, from: usize, out: &mut Vec<u8>) -> io::Result<()> {
+fn write_outline(line: &[u8], items: Items, from: usize, out: &mut Answer) {
     if !leave_no_byte_out(line, items.again(), from) {
-        out.write_all(b"a byte is left out: ")?;
+        out.say("a byte is left out: ");
     }
     for item in items {
-        write!(out, "{}", initial(item.kind))?;
+        out.show(initial(item.kind));
         for _ in item.text.iter().skip(1) {
-            out.write_all(b".")?;
+            out.say(".");
         }
     }
-    Ok(())
 }
 
-fn write_bytes(out: &mut Vec<u8>) -> io::Result<()> {
+fn write_bytes(out: &mut Answer) {
     for byte in 0..=u8::MAX {
         let line = [byte];
-        write_outline(&line, Items::new(&line), 0, out)?;
+        write_outline(&line, Items::new(&line), 0, out);
     }
-    Ok(())
 }
 
-fn write_rows(bytes: &[u8], out: &mut Vec<u8>) -> io::Result<()> {
+fn write_rows(bytes: &[u8], out: &mut Answer) {
     let mut whole = 0_usize;
     for &first in bytes {
         for &second in bytes {
             whole = whole.saturating_add(whole_rows(first, second, bytes));
         }
     }
-    write!(out, "{whole}")
+    out.show(whole);
 }
 
 fn whole_rows(first: u8, second: u8, bytes: &[u8]) -> usize {
@@ -92,7 +90,7 @@ fn whole_rows(first: u8, second: u8, bytes: &[u8]) -> usize {
     whole
 }
 
-fn write_left(line: &[u8], out: &mut Vec<u8>) -> io::Result<()> {
+fn write_left(line: &[u8], out: &mut Answer) {
     for taken in 0..7 {
         let mut items = Items::new(line);
         let mut end = 0;
@@ -101,23 +99,22 @@ fn write_left(line: &[u8], out: &mut Vec<u8>) -> io::Result<()> {
                 end = item.to;
             }
         }
-        write_outline(line, items.again(), end, out)?;
-        out.write_all(b" ")?;
-        write_outline(line, items, end, out)?;
-        out.write_all(b"\n")?;
+        write_outline(line, items.again(), end, out);
+        out.say(" ");
+        write_outline(line, items, end, out);
+        out.say("\n");
     }
-    Ok(())
 }
 
-fn write_first(line: &[u8], out: &mut Vec<u8>) -> io::Result<()> {
+fn write_first(line: &[u8], out: &mut Answer) {
     let mut items = Items::new(line);
     let end = match items.next_past_asides() {
         Some(item) => {
-            write!(out, "{} {} {}", initial(item.kind), item.from, item.to)?;
+            out.show(format_args!("{} {} {}", initial(item.kind), item.from, item.to));
             item.to
         }
         None => {
-            out.write_all(b"none")?;
+            out.say("none");
             line.len()
         }
     };
@@ -126,7 +123,6 @@ fn write_first(line: &[u8], out: &mut Vec<u8>) -> io::Result<()> {
         None => line.len(),
     };
     if next != end {
-        write!(out, ", and then {next}")?;
+        out.show(format_args!(", and then {next}"));
     }
-    Ok(())
 }

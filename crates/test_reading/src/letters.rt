@@ -6,12 +6,11 @@
 // - `signature`, a key text: the accidental of each letter, and its semitones.
 // - `front`, a text: the accidental at its front.
 // - `pairs`: how many tonics there are of all modes.
-use crate::cases::{Case, unreadable};
+use crate::cases::Case;
 use abc_items::{own_accidental, spelling_length};
 use abc_keys::{Accidental, Letter, accidental_of, doubled, key_of, letter_of, signature};
-use std::alloc::Global;
-use std::io;
-use std::io::Write;
+use std::alloc::{AllocError, Global};
+use test_cases::Answer;
 
 const ACCIDENTALS: [Accidental; 5] = [
     Accidental::DoubleFlat,
@@ -31,7 +30,7 @@ const LETTERS: [Letter; 7] = [
     Letter::B,
 ];
 
-pub(crate) fn answer(alloc: Global, case: &Case, out: &mut Vec<u8>) -> io::Result<()> {
+pub(crate) fn answer(alloc: Global, case: &Case, out: &mut Answer) -> Option<()> {
     match case.call {
         "letters" => write_letters(out),
         "accidentals" => write_accidentals(out),
@@ -39,10 +38,11 @@ pub(crate) fn answer(alloc: Global, case: &Case, out: &mut Vec<u8>) -> io::Resul
         "semitones" => write_semitones(out),
         "lengths" => write_lengths(out),
         "signature" => write_signature(case.text(0), out),
-        "front" => out.write_all(marks(own_accidental(case.text(0))).as_bytes()),
-        "pairs" => write_pairs(alloc, out),
-        _ => Err(unreadable()),
+        "front" => out.say(marks(own_accidental(case.text(0)))),
+        "pairs" => out.show(count_of_pairs(alloc).ok()?),
+        _ => return None,
     }
+    Some(())
 }
 
 // How an accidental is written.
@@ -57,78 +57,67 @@ fn marks(accidental: Option<Accidental>) -> &'static str {
     }
 }
 
-fn write_letters(out: &mut Vec<u8>) -> io::Result<()> {
+fn write_letters(out: &mut Answer) {
     for byte in 0..=u8::MAX {
         if let Some(letter) = letter_of(byte) {
-            write!(out, "{} {letter:?}\n", char::from(byte))?;
+            out.show(format_args!("{} {letter:?}\n", char::from(byte)));
         }
     }
-    Ok(())
 }
 
-fn write_accidentals(out: &mut Vec<u8>) -> io::Result<()> {
+fn write_accidentals(out: &mut Answer) {
     for byte in 0..=u8::MAX {
         let found = accidental_of(byte);
         if found.is_some() {
-            write!(out, "{} {}\n", char::from(byte), marks(found))?;
+            out.show(format_args!("{} {}\n", char::from(byte), marks(found)));
         }
     }
-    Ok(())
 }
 
-fn write_doubled(out: &mut Vec<u8>) -> io::Result<()> {
+fn write_doubled(out: &mut Answer) {
     for first in ACCIDENTALS {
         for second in 0..=u8::MAX {
             let found = doubled(first, second);
             if found.is_some() {
                 let first = marks(Some(first));
-                write!(out, "{first} {} {}\n", char::from(second), marks(found))?;
+                out.show(format_args!("{first} {} {}\n", char::from(second), marks(found)));
             }
         }
     }
-    Ok(())
 }
 
-fn write_semitones(out: &mut Vec<u8>) -> io::Result<()> {
+fn write_semitones(out: &mut Answer) {
     for accidental in ACCIDENTALS {
-        write!(
-            out,
-            "{} {}\n",
-            marks(Some(accidental)),
-            accidental.semitones()
-        )?;
+        out.show(format_args!("{} {}\n", marks(Some(accidental)), accidental.semitones()));
     }
-    Ok(())
 }
 
-fn write_lengths(out: &mut Vec<u8>) -> io::Result<()> {
-    write!(out, "none {}\n", spelling_length(None))?;
+fn write_lengths(out: &mut Answer) {
+    out.show(format_args!("none {}\n", spelling_length(None)));
     for accidental in ACCIDENTALS {
         let length = spelling_length(Some(accidental));
-        write!(out, "{} {length}\n", marks(Some(accidental)))?;
+        out.show(format_args!("{} {length}\n", marks(Some(accidental))));
     }
-    Ok(())
 }
 
-fn write_signature(text: &[u8], out: &mut Vec<u8>) -> io::Result<()> {
+fn write_signature(text: &[u8], out: &mut Answer) {
     let found = signature(&key_of(text));
     for letter in LETTERS {
-        write!(out, "{letter:?} {}\n", found.at(letter).semitones())?;
+        out.show(format_args!("{letter:?} {}\n", found.at(letter).semitones()));
     }
-    Ok(())
 }
 
-fn write_pairs(alloc: Global, out: &mut Vec<u8>) -> io::Result<()> {
+fn count_of_pairs(alloc: Global) -> Result<u32, AllocError> {
     let mut pairs = 0_u32;
     for mode in ["", "Lyd", "Mix", "Dor", "m", "Phr", "Loc"] {
         for sign in ["", "#", "b"] {
             pairs = pairs.saturating_add(count_of_tonics(alloc, sign, mode)?);
         }
     }
-    write!(out, "{pairs}")
+    Ok(pairs)
 }
 
-fn count_of_tonics(alloc: Global, sign: &str, mode: &str) -> io::Result<u32> {
+fn count_of_tonics(alloc: Global, sign: &str, mode: &str) -> Result<u32, AllocError> {
     let mut tonics = 0_u32;
     for letter in LETTERS {
         let text = format!(in alloc; "{letter:?}{sign}{mode}")?;

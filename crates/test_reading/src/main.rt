@@ -23,12 +23,12 @@ mod titles;
 mod tune_keys;
 mod tunes;
 
-use cases::{Case, shown};
+use cases::Case;
 use std::alloc::Global;
 use std::fs::Files;
-use std::io::Write;
 use std::process::ExitCode;
 use std::{fs, io};
+use test_cases::{Answer, Tally};
 
 const FILES: [&str; 11] = [
     "fields",
@@ -44,64 +44,47 @@ const FILES: [&str; 11] = [
     "tune_keys",
 ];
 
-/// How many cases there were, and how many of them came out as written.
-#[derive(Drop)]
-struct Tally {
-    all: u32,
-    as_written: u32,
-}
-
 fn main(rt: HostRuntime) -> io::Result<ExitCode> {
-    let mut tally = Tally {
-        all: 0,
-        as_written: 0,
-    };
+    let mut tally = Tally::NONE;
+    let mut answer = Answer::new(rt.alloc());
     for file in FILES {
-        try_file(&rt, file, &mut tally)?;
+        try_file(&rt, file, &mut answer, &mut tally)?;
     }
-    let Tally { all, as_written } = tally;
-    println!(&rt; "{as_written} of {all} cases as written")?;
-    if as_written == all {
-        Ok(ExitCode::SUCCESS)
-    } else {
-        Ok(ExitCode::FAILURE)
-    }
+    tally.tell_count(&rt, "cases")?;
+    Ok(tally.exit_code())
 }
 
 fn try_file<R: Files + Print + AllocGlobal>(
     rt: &R,
     file: &str,
+    answer: &mut Answer,
     tally: &mut Tally,
 ) -> io::Result<()> {
     let lines = fs::read_to_string(rt, file)?;
     for line in lines.lines() {
-        let case = Case::of_line(rt.alloc(), line)?;
-        tally.all = tally.all.saturating_add(1);
-        if is_as_written(rt, file, &case)? {
-            tally.as_written = tally.as_written.saturating_add(1);
-        }
+        try_line(rt, file, line, answer, tally)?;
     }
     Ok(())
 }
 
-// Whether what comes out is what has to come out. It is printed.
-fn is_as_written<R: Print + AllocGlobal>(rt: &R, file: &str, case: &Case) -> io::Result<bool> {
-    let name = case.name;
-    let mut found = Vec::new(rt.alloc());
-    if answer(rt.alloc(), file, case, &mut found).is_err() {
-        found.write_all(b" cannot be asked")?;
+fn try_line<R: Print + AllocGlobal>(
+    rt: &R,
+    file: &str,
+    line: &str,
+    answer: &mut Answer,
+    tally: &mut Tally,
+) -> io::Result<()> {
+    let case = Case::of_line(rt.alloc(), line)?;
+    answer.clear();
+    if ask(rt.alloc(), file, &case, answer).is_none() {
+        answer.say(" cannot be asked");
     }
-    if found.as_slice() == case.wanted.as_slice() {
-        println!(rt; "{name}: as written")?;
-        return Ok(true);
-    }
-    let found = shown(rt.alloc(), found.as_slice())?;
-    println!(rt; "{name}: {found}")?;
-    Ok(false)
+    let is_as_written = answer.is_whole() && answer.as_slice() == case.wanted.as_slice();
+    tally.tell(rt, case.name, is_as_written, answer)
 }
 
 // Writes what a case comes to, by the module of its file.
-fn answer(alloc: Global, file: &str, case: &Case, out: &mut Vec<u8>) -> io::Result<()> {
+fn ask(alloc: Global, file: &str, case: &Case, out: &mut Answer) -> Option<()> {
     match file {
         "fields" => fields::answer(alloc, case, out),
         "keys" => keys::answer(alloc, case, out),
@@ -114,6 +97,6 @@ fn answer(alloc: Global, file: &str, case: &Case, out: &mut Vec<u8>) -> io::Resu
         "order" => order::answer(alloc, case, out),
         "queries" => queries::answer(alloc, case, out),
         "tune_keys" => tune_keys::answer(alloc, case, out),
-        _ => Err(cases::unreadable()),
+        _ => None,
     }
 }

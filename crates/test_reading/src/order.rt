@@ -2,51 +2,42 @@
 //
 // - `sort`, rows in columns, each a number, a place and a title: the rows in order.
 // - `hundreds`: how many of a thousand rows stand where they have to.
-use crate::cases::{Case, unreadable};
-use std::alloc::Global;
-use std::io;
-use std::io::Write;
+use crate::cases::Case;
+use std::alloc::{AllocError, Global};
+use test_cases::Answer;
 use tune_titles::{TitleRow, sort_rows};
 
-pub(crate) fn answer(alloc: Global, case: &Case, out: &mut Vec<u8>) -> io::Result<()> {
+pub(crate) fn answer(alloc: Global, case: &Case, out: &mut Answer) -> Option<()> {
     match case.call {
         "sort" => write_sorted(alloc, case.texts.as_slice(), out),
-        "hundreds" => write_hundreds(alloc, out),
-        _ => Err(unreadable()),
+        "hundreds" => write_hundreds(alloc, out).ok(),
+        _ => None,
     }
 }
 
-fn write_sorted(alloc: Global, columns: &[Vec<u8>], out: &mut Vec<u8>) -> io::Result<()> {
+fn write_sorted(alloc: Global, columns: &[Vec<u8>], out: &mut Answer) -> Option<()> {
     let mut rows = Vec::new(alloc);
     for column in columns {
-        rows.push(row_of(column.as_slice())?)?;
+        rows.push(row_of(column.as_slice())?).ok()?;
     }
-    sort_rows(&mut rows)?;
+    sort_rows(&mut rows).ok()?;
     for row in rows.iter() {
-        write!(out, "{} {} ", row.number(), row.place())?;
-        out.write_all(row.title())?;
-        out.write_all(b"\n")?;
+        out.show(format_args!("{} {} ", row.number(), row.place()));
+        out.add(row.title());
+        out.say("\n");
     }
-    Ok(())
+    Some(())
 }
 
-fn row_of(text: &[u8]) -> io::Result<TitleRow<'_>> {
-    let Ok(text) = std::str::from_utf8(text) else {
-        return Err(unreadable());
-    };
-    let Some((number, others)) = text.split_once(' ') else {
-        return Err(unreadable());
-    };
-    let Some((place, title)) = others.split_once(' ') else {
-        return Err(unreadable());
-    };
-    match (number.parse::<u32>(), place.parse::<u8>()) {
-        (Ok(number), Ok(place)) => Ok(TitleRow::new(title.as_bytes(), number, place)),
-        _ => Err(unreadable()),
-    }
+fn row_of(text: &[u8]) -> Option<TitleRow<'_>> {
+    let text = std::str::from_utf8(text).ok()?;
+    let (number, others) = text.split_once(' ')?;
+    let (place, title) = others.split_once(' ')?;
+    let (number, place) = (number.parse().ok()?, place.parse().ok()?);
+    Some(TitleRow::new(title.as_bytes(), number, place))
 }
 
-fn write_hundreds(alloc: Global, out: &mut Vec<u8>) -> io::Result<()> {
+fn write_hundreds(alloc: Global, out: &mut Answer) -> Result<(), AllocError> {
     let mut rows = Vec::new(alloc);
     for number in 0..500_u32 {
         rows.push(TitleRow::new(b"The Kesh", 500 - number, 1))?;
@@ -61,5 +52,6 @@ fn write_hundreds(alloc: Global, out: &mut Vec<u8>) -> io::Result<()> {
             }
         }
     }
-    write!(out, "{in_order} of {}", rows.len())
+    out.show(format_args!("{in_order} of {}", rows.len()));
+    Ok(())
 }

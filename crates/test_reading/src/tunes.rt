@@ -3,41 +3,39 @@
 // - `pitches`, a book: the pitches of the notes of its first tune, as `line` writes them, and of
 //   each other one that has others.
 // - `places`, a book: where each note stands, and its text.
-use crate::cases::{Case, tunes_of, unreadable};
+use crate::cases::{Case, tunes_of};
 use crate::notes::write_tune;
 use abc_fields::TuneText;
 use abc_notes::Notes;
 use std::alloc::Global;
-use std::io;
-use std::io::Write;
+use test_cases::Answer;
 
-pub(crate) fn answer(alloc: Global, case: &Case, out: &mut Vec<u8>) -> io::Result<()> {
+pub(crate) fn answer(alloc: Global, case: &Case, out: &mut Answer) -> Option<()> {
     let tunes = tunes_of(alloc, case.text(0));
     match (case.call, tunes.as_slice()) {
-        ("pitches", [tune, others @ ..]) => write_pitches(tune, others, out),
+        ("pitches", [tune, others @ ..]) => write_pitches(alloc, tune, others, out),
         ("places", [tune]) => write_places(tune, out),
-        _ => Err(unreadable()),
+        _ => return None,
     }
+    Some(())
 }
 
-fn write_pitches(tune: &TuneText, others: &[TuneText], out: &mut Vec<u8>) -> io::Result<()> {
-    write_tune(tune, out)?;
+fn write_pitches(alloc: Global, tune: &TuneText, others: &[TuneText], out: &mut Answer) {
+    write_tune(tune, out);
     for other in others {
-        let mut found = Vec::new(*out.allocator());
-        write_tune(other, &mut found)?;
+        let mut found = Answer::new(alloc);
+        write_tune(other, &mut found);
         if found.as_slice() != out.as_slice() {
-            out.write_all(b"; then ")?;
-            out.write_all(found.as_slice())?;
+            out.say("; then ");
+            out.add(found.as_slice());
         }
     }
-    Ok(())
 }
 
-fn write_places(tune: &TuneText, out: &mut Vec<u8>) -> io::Result<()> {
+fn write_places(tune: &TuneText, out: &mut Answer) {
     for note in Notes::of_tune(tune) {
-        write!(out, "{} ", note.from)?;
-        out.write_all(note.text)?;
-        out.write_all(b"\n")?;
+        out.show(format_args!("{} ", note.from));
+        out.add(note.text);
+        out.say("\n");
     }
-    Ok(())
 }
