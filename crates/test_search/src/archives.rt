@@ -1,9 +1,9 @@
 // Archives on disks that count their calls. One function holds an archive, and what it gives is
 // plain: bytes, and numbers of calls.
 use crate::disks::{Calls, CountingDisk};
-use crate::no_data;
 use std::alloc::{AllocError, Global};
 use std::io;
+use test_cases::no_data;
 use tune_archive::{Archive, TuneStore};
 use tune_disk::MemoryDisk;
 use tune_journal::Refused;
@@ -117,4 +117,19 @@ fn file_of_archive(
 fn bytes_of(alloc: Global, disk: CountingDisk) -> Result<Vec<u8>, AllocError> {
     let disk = disk.into_memory();
     disk.bytes().to_vec(alloc)
+}
+
+/// The calls of the disk that opening the archive of a file and running a script make. The replies
+/// have to be these.
+pub(crate) fn calls_of(
+    alloc: Global,
+    file: &[u8],
+    script: &[u8],
+    wanted: &[u8],
+) -> io::Result<Calls> {
+    let mut replies = Vec::new(alloc);
+    match run_over_file(alloc, file, ALL_CALLS, script, &mut replies)? {
+        Some(calls) if replies.as_slice() == wanted => Ok(calls),
+        _ => Err(no_data()),
+    }
 }

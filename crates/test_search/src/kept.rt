@@ -1,9 +1,9 @@
 // What an archive reads again, where pages that it read are kept in memory.
-use crate::archives::{ALL_CALLS, run_in_memory, run_over_file};
+use crate::archives::{ALL_CALLS, calls_of, run_in_memory, run_over_file};
 use crate::tunes::{file_of_reels, import_of_tunes};
-use crate::{calls_of, no_data};
 use std::alloc::Global;
 use std::io;
+use test_cases::no_data;
 
 /// How many calls a find may make behind an opening: fewer than an export makes.
 const CALLS_OF_FIND: u64 = 500;

@@ -1,6 +1,5 @@
 // The archive of the tunes.
 use crate::archives::{file_of_disk, made_file};
-use crate::no_data;
 use std::alloc::{AllocError, Global};
 use std::fmt::Write;
 use std::io;
@@ -30,26 +29,18 @@ pub(crate) fn file_of_tunes(alloc: Global) -> io::Result<Vec<u8>> {
 // The file of an archive of layout 1 of the tunes, which come in by one import.
 pub(crate) fn old_file_of_tunes(alloc: Global) -> io::Result<Vec<u8>> {
     let import = import_of_tunes(alloc)?;
-    old_file_with(alloc, import.as_bytes())
+    file_of_disk(alloc, old_disk(alloc)?, import.as_bytes())
 }
 
-fn old_file_with(alloc: Global, import: &[u8]) -> io::Result<Vec<u8>> {
+// A disk with a file of layout 1 without a tune.
+fn old_disk(alloc: Global) -> io::Result<MemoryDisk> {
     let mut disk = MemoryDisk::new(alloc);
-    if write_old_file(&mut disk) {
-        file_of_disk(alloc, disk, import)
-    } else {
-        Err(no_data())
-    }
-}
-
-// Writes a file of layout 1 without a tune, and says whether all went well.
-fn write_old_file(disk: &mut MemoryDisk) -> bool {
     for (at, bytes) in OLD_FILE {
         if disk.write_at(at, bytes).is_err() {
-            return false;
+            return Err(io::ErrorKind::OutOfMemory.into());
         }
     }
-    true
+    Ok(disk)
 }
 
 // The file of an archive of as many tunes that have a title and a key alone.
