@@ -15,12 +15,11 @@
 ghost use Rattle.std.specs.Prelude.{◌≤◌};
 ghost use Rattle.abc_fields.specs.Limits.{longest_tune};
 
-use crate::answer::Answer;
-use crate::arguments::{Arguments, no_data};
-use crate::cases::Bench;
+use crate::escapes::{bytes_of, is_meant, number, size};
 use abc_fields::{BookFault, ByteText, Lines, TuneText, judge_book, split_book};
 use std::alloc::Global;
 use std::io;
+use test_cases::{Answer, Bench, Words, no_data};
 use tune_books::{write_book, write_set};
 
 // The greatest length of a tune's text that may be asked for.
@@ -37,41 +36,51 @@ pub(crate) struct Books {
 }
 
 impl Bench for Books {
-    fn new(alloc: Global) -> Books {
+    fn begin(&mut self, _given: &str) -> io::Result<()> {
+        self.tunes = Vec::new(self.alloc);
+        Ok(())
+    }
+
+    fn call(&mut self, name: &str, words: Words<'_>, answer: &mut Answer) -> io::Result<()> {
+        match name {
+            "lines" => show_lines(&bytes_of(self.alloc, words.rest())?, answer),
+            "count-lines" => count_lines(&bytes_of(self.alloc, words.rest())?, answer),
+            "split" | "judge" => return self.take_book(name, words, answer),
+            "text" | "copy" => return self.show_text(name, words, answer),
+            "write" => return self.write(words, answer),
+            "write-friday" => return self.write_friday(answer),
+            "bytes" => return copy_bytes(self.alloc, words, answer),
+            "stored" => return show_stored(self.alloc, words, answer),
+            _ => return Err(no_data()),
+        }
+        Ok(())
+    }
+
+    fn is_wanted(&self, answer: &Answer, written: &str) -> io::Result<bool> {
+        is_meant(self.alloc, answer, written)
+    }
+}
+
+impl Books {
+    pub(crate) fn new(alloc: Global) -> Books {
         Books {
             alloc,
             tunes: Vec::new(alloc),
         }
     }
 
-    fn call(&mut self, name: &str, given: Arguments, answer: &mut Answer) -> io::Result<()> {
-        match name {
-            "lines" => show_lines(self.alloc, given, answer),
-            "count-lines" => count_lines(self.alloc, given, answer),
-            "split" | "judge" => self.take_book(name, given, answer),
-            "text" | "copy" => self.show_text(name, given, answer),
-            "write" => self.write(given, answer),
-            "write-friday" => self.write_friday(answer),
-            "bytes" => copy_bytes(self.alloc, given, answer),
-            "stored" => show_stored(self.alloc, given, answer),
-            _ => Err(no_data()),
-        }
-    }
-}
-
-impl Books {
     // Takes the texts of a book, or answers why it is refused.
     fn take_book(
         &mut self,
         call: &str,
-        mut given: Arguments,
+        mut words: Words<'_>,
         answer: &mut Answer,
     ) -> io::Result<()> {
-        let longest = given.size()?;
-        let book = given.text(self.alloc)?;
+        let longest = size(&mut words)?;
         if longest > LONGEST {
             return Err(no_data());
         }
+        let book = bytes_of(self.alloc, words.rest())?;
         let texts = if call == "judge" {
             judged_texts(self.alloc, &book, longest)
         } else {
@@ -79,44 +88,43 @@ impl Books {
         };
         match texts {
             Ok(tunes) => {
-                let count = tunes.len();
+                answer.show(tunes.len());
                 self.tunes = tunes;
-                answer.say(count)
             }
             Err(fault) => answer.name(fault),
         }
+        Ok(())
     }
 
     // The text at a place, or a copy of it.
-    fn show_text(&self, call: &str, mut given: Arguments, answer: &mut Answer) -> io::Result<()> {
-        let index = given.size()?.checked_sub(1).ok_or(no_data())?;
+    fn show_text(&self, call: &str, mut words: Words<'_>, answer: &mut Answer) -> io::Result<()> {
+        let index = size(&mut words)?.checked_sub(1).ok_or(no_data())?;
         let text = self.tunes.get(index).ok_or(no_data())?;
         if call == "copy" {
-            let copy = text.copy(self.alloc)?;
-            return answer.add(copy.bytes());
+            answer.add(text.copy(self.alloc)?.bytes());
+        } else {
+            answer.add(text.bytes());
         }
-        answer.add(text.bytes())
+        Ok(())
     }
 
     // The book of these texts, with these numbers.
-    fn write(&self, mut given: Arguments, answer: &mut Answer) -> io::Result<()> {
+    fn write(&self, mut words: Words<'_>, answer: &mut Answer) -> io::Result<()> {
         let mut numbers = Vec::new(self.alloc);
         for _ in 0..self.tunes.len() {
-            numbers.push(given.number()?)?;
+            numbers.push(number(&mut words)?)?;
         }
-        let numbers = numbers.as_slice();
-        let texts = self.tunes.as_slice();
-        if numbers.len() != texts.len() {
+        if numbers.len() != self.tunes.len() {
             return Err(no_data());
         }
-        let book = write_book(self.alloc, numbers, texts)?;
-        answer.add(book.as_slice())
+        answer.add(write_book(self.alloc, &numbers, &self.tunes)?.as_slice());
+        Ok(())
     }
 
     // The book of these texts as those of a set list.
     fn write_friday(&self, answer: &mut Answer) -> io::Result<()> {
-        let book = write_set(self.alloc, b"friday", self.tunes.as_slice())?;
-        answer.add(book.as_slice())
+        answer.add(write_set(self.alloc, b"friday", &self.tunes)?.as_slice());
+        Ok(())
     }
 }
 
@@ -134,46 +142,46 @@ fn judged_texts(alloc: Global, book: &[u8], longest: usize) -> Result<Vec<TuneTe
 }
 
 // For each line where it is from, where it ends, and its text, with a bar behind it.
-fn show_lines(alloc: Global, mut given: Arguments, answer: &mut Answer) -> io::Result<()> {
-    for line in Lines::new(&given.text(alloc)?) {
-        answer.say(line.from)?;
-        answer.say(line.to)?;
-        answer.add(b" ")?;
-        answer.add(line.text)?;
-        answer.add(b"|")?;
+fn show_lines(text: &[u8], answer: &mut Answer) {
+    for line in Lines::new(text) {
+        answer.space();
+        answer.show(format_args!("{} {} ", line.from, line.to));
+        answer.add(line.text);
+        answer.say("|");
     }
-    Ok(())
 }
 
-fn count_lines(alloc: Global, mut given: Arguments, answer: &mut Answer) -> io::Result<()> {
+fn count_lines(text: &[u8], answer: &mut Answer) {
     let mut count: u32 = 0;
-    for _ in Lines::new(&given.text(alloc)?) {
+    for _ in Lines::new(text) {
         count = count.saturating_add(1);
     }
-    answer.say(count)
+    answer.show(count);
 }
 
-fn copy_bytes(alloc: Global, mut given: Arguments, answer: &mut Answer) -> io::Result<()> {
-    let copy = ByteText::copy_of(alloc, &given.text(alloc)?)?;
-    answer.add(copy.as_slice())
+fn copy_bytes(alloc: Global, words: Words<'_>, answer: &mut Answer) -> io::Result<()> {
+    let copy = ByteText::copy_of(alloc, &bytes_of(alloc, words.rest())?)?;
+    answer.add(copy.as_slice());
+    Ok(())
 }
 
 // Whether stored bytes are the text of a tune with at most so many bytes: letters, so many of them,
 // and then a text. They are the bytes of the text, or are handed back; and they come in the place
 // of another text, or that stays.
-fn show_stored(alloc: Global, mut given: Arguments, answer: &mut Answer) -> io::Result<()> {
-    let longest = given.size()?;
-    let mut stored = vec![in alloc; b'A'; given.size()?]?;
-    stored.extend_from_slice(&given.text(alloc)?)?;
+fn show_stored(alloc: Global, mut words: Words<'_>, answer: &mut Answer) -> io::Result<()> {
+    let longest = size(&mut words)?;
     if longest > LONGEST {
         return Err(no_data());
     }
+    let mut stored = vec![in alloc; b'A'; size(&mut words)?]?;
+    stored.extend_from_slice(&bytes_of(alloc, words.rest())?)?;
     let is_read = is_read_in_place(alloc, &stored, longest)?;
     match TuneText::from_stored(ByteText::copy_of(alloc, &stored)?, longest) {
         Ok(tune) if is_read && tune.bytes() == stored.as_slice() => answer.say("tune"),
         Err(back) if !is_read && back.as_slice() == stored.as_slice() => answer.say("handed back"),
         _ => answer.say("other bytes"),
     }
+    Ok(())
 }
 
 // Whether stored bytes come in the place of the shortest text, which has to stay else.

@@ -11,13 +11,11 @@
 //     is-kept              whether the file has the bytes that were kept
 //
 // Where the replies of a run are not those that are wanted, the answer says from which byte on.
-use crate::answer::Answer;
-use crate::arguments::{Arguments, no_data};
-use crate::cases::Bench;
+use crate::escapes::{bytes_of, is_meant, size};
 use crate::pieces::add_piece;
-use crate::scripts::say_difference;
 use std::alloc::Global;
 use std::{io, mem};
+use test_cases::{Answer, Bench, Words, no_data};
 use tune_cli::{Done, check_on, make_on, run_on, upgrade_on};
 use tune_disk::MemoryDisk;
 
@@ -38,7 +36,36 @@ pub(crate) struct Files {
 }
 
 impl Bench for Files {
-    fn new(alloc: Global) -> Files {
+    fn begin(&mut self, _given: &str) -> io::Result<()> {
+        *self = Files::new(self.alloc);
+        Ok(())
+    }
+
+    fn call(&mut self, name: &str, words: Words<'_>, answer: &mut Answer) -> io::Result<()> {
+        match name {
+            "script" => return add_piece(self.alloc, &mut self.script, words),
+            "replies" => return add_piece(self.alloc, &mut self.replies, words),
+            "next" => {
+                self.script = Vec::new(self.alloc);
+                self.replies = Vec::new(self.alloc);
+            }
+            "file" => return self.put(words),
+            "keep" => self.kept = self.disk.bytes().to_vec(self.alloc)?,
+            "is-kept" => answer.show(self.disk.bytes() == self.kept.as_slice()),
+            "make" | "check" | "upgrade" => self.act(name, answer),
+            "run" => self.run(answer),
+            _ => return Err(no_data()),
+        }
+        Ok(())
+    }
+
+    fn is_wanted(&self, answer: &Answer, written: &str) -> io::Result<bool> {
+        is_meant(self.alloc, answer, written)
+    }
+}
+
+impl Files {
+    pub(crate) fn new(alloc: Global) -> Files {
         Files {
             alloc,
             disk: MemoryDisk::new(alloc),
@@ -48,55 +75,32 @@ impl Bench for Files {
         }
     }
 
-    fn call(&mut self, name: &str, given: Arguments, answer: &mut Answer) -> io::Result<()> {
-        match name {
-            "script" => add_piece(self.alloc, &mut self.script, given),
-            "replies" => add_piece(self.alloc, &mut self.replies, given),
-            "next" => {
-                self.script = Vec::new(self.alloc);
-                self.replies = Vec::new(self.alloc);
-                Ok(())
-            }
-            "file" => self.put(given),
-            "keep" => {
-                self.kept = self.disk.bytes().to_vec(self.alloc)?;
-                Ok(())
-            }
-            "is-kept" => {
-                let same = self.disk.bytes() == self.kept.as_slice();
-                answer.say(same)
-            }
-            "make" | "check" | "upgrade" => self.act(name, answer),
-            "run" => self.run(answer),
-            _ => Err(no_data()),
-        }
-    }
-}
-
-impl Files {
     // The disk, in whose place one without a byte is.
     fn take_disk(&mut self) -> MemoryDisk {
         mem::replace(&mut self.disk, MemoryDisk::new(self.alloc))
     }
 
     // Puts a file on the disk.
-    fn put(&mut self, mut given: Arguments) -> io::Result<()> {
-        let len = given.size()?;
+    fn put(&mut self, mut words: Words<'_>) -> io::Result<()> {
+        let count = size(&mut words)?;
         let mut file = Vec::new(self.alloc);
         for _ in 0..MOST_PARTS {
-            if given.rest().is_empty() {
-                fill(&mut file, len)?;
-                self.disk = MemoryDisk::from_bytes(self.alloc, &file)?;
-                return Ok(());
+            if words.rest().is_empty() {
+                break;
             }
-            fill(&mut file, given.size()?)?;
-            file.extend_from_slice(&given.bytes(self.alloc)?)?;
+            fill(&mut file, size(&mut words)?)?;
+            file.extend_from_slice(&bytes_of(self.alloc, words.word())?)?;
         }
-        Err(no_data())
+        if !words.rest().is_empty() {
+            return Err(no_data());
+        }
+        fill(&mut file, count)?;
+        self.disk = MemoryDisk::from_bytes(self.alloc, &file)?;
+        Ok(())
     }
 
     // Does what the program does on the file, and says its status and what it writes.
-    fn act(&mut self, action: &str, answer: &mut Answer) -> io::Result<()> {
+    fn act(&mut self, action: &str, answer: &mut Answer) {
         let disk = self.take_disk();
         let mut written = Vec::new(self.alloc);
         let Done { status, disk } = match action {
@@ -105,20 +109,19 @@ impl Files {
             _ => upgrade_on(self.alloc, &mut written, disk),
         };
         self.disk = disk;
-        answer.say(status)?;
-        answer.add(b" ")?;
-        answer.add(written.as_slice())
+        answer.show(format_args!("{status} "));
+        answer.add(&written);
     }
 
     // Runs the script on the file, and says its status.
-    fn run(&mut self, answer: &mut Answer) -> io::Result<()> {
+    fn run(&mut self, answer: &mut Answer) {
         let disk = self.take_disk();
         let mut reader = self.script.as_slice();
         let mut written = Vec::new(self.alloc);
         let Done { status, disk } = run_on(self.alloc, &mut reader, &mut written, disk);
         self.disk = disk;
-        answer.say(status)?;
-        say_difference(&written, &self.replies, answer)
+        answer.show(status);
+        answer.tell_difference(&written, &self.replies);
     }
 }
 

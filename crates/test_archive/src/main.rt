@@ -7,15 +7,13 @@
 //! in books.rt, sets.rt, command_lines.rt, scripts.rt and files.rt. Bytes stand for themselves, but
 //! for `\n`, `\r`, `\s`, a blank, `\xNN`, the byte of two hexadecimal digits, and `\e`, nothing.
 //!
-//! The program prints a line for each case, or each call that answers otherwise, and how many
-//! cases came out as written; where one did not, it ends with status 1.
+//! The program prints a line for each case, and how many came out as written; where one did not, it
+//! ends with status 1.
 #![tactic(auto)]
 
-mod answer;
-mod arguments;
 mod books;
-mod cases;
 mod command_lines;
+mod escapes;
 mod files;
 mod many_sets;
 mod no_files;
@@ -27,24 +25,32 @@ mod sets;
 mod wear;
 
 use books::Books;
-use cases::{Count, try_cases};
 use command_lines::CommandLines;
 use files::Files;
 use scripts::Scripts;
 use sets::Sets;
 use std::io;
 use std::process::ExitCode;
+use test_cases::{Form, Tally, try_file};
+
+const FORM: Form = Form {
+    separator: " = ",
+    unwritten: "",
+    counts_each_file: false,
+};
 
 fn main(rt: HostRuntime) -> io::Result<ExitCode> {
-    let count = try_cases::<Books, HostRuntime>(&rt, "books", Count::NONE)?;
-    let count = try_cases::<Sets, HostRuntime>(&rt, "sets", count)?;
-    let count = try_cases::<CommandLines, HostRuntime>(&rt, "command-lines", count)?;
-    let count = try_cases::<Scripts, HostRuntime>(&rt, "scripts", count)?;
-    let Count { all, as_written } = try_cases::<Files, HostRuntime>(&rt, "files", count)?;
-    println!(&rt; "{as_written} of {all} cases as written")?;
-    if as_written == all {
-        Ok(ExitCode::SUCCESS)
-    } else {
-        Ok(ExitCode::FAILURE)
-    }
+    let mut tally = Tally::NONE;
+    tally = tally.with(try_file(&rt, "books", FORM, &mut Books::new(rt.alloc()))?);
+    tally = tally.with(try_file(&rt, "sets", FORM, &mut Sets::new(rt.alloc()))?);
+    tally = tally.with(try_file(
+        &rt,
+        "command-lines",
+        FORM,
+        &mut CommandLines::new(rt.alloc()),
+    )?);
+    tally = tally.with(try_file(&rt, "scripts", FORM, &mut Scripts::new(rt.alloc()))?);
+    tally = tally.with(try_file(&rt, "files", FORM, &mut Files::new(rt.alloc()))?);
+    tally.tell_count(&rt, "cases")?;
+    Ok(tally.exit_code())
 }

@@ -1,8 +1,8 @@
 // Set lists that are made by one call: those that many cases begin with, and some up to the limits.
-use crate::arguments::{Arguments, no_data};
 use std::alloc::Global;
 use std::io;
 use std::io::Write;
+use test_cases::no_data;
 use tune_sets::{SetFault, SetLists};
 
 // Three sets: two tunes on Friday, one of them twice, one on Saturday, and none at the pub.
@@ -18,14 +18,9 @@ pub(crate) fn make_week(lists: &mut SetLists) -> Result<(), SetFault> {
 }
 
 // Adds the numbers from 0 on to a set, so many of them.
-pub(crate) fn fill_set(
-    alloc: Global,
-    lists: &mut SetLists,
-    mut given: Arguments,
-) -> io::Result<()> {
-    let name = given.bytes(alloc)?;
-    for number in 0..given.number()? {
-        lists.add(&name, number).map_err(|_| no_data())?;
+pub(crate) fn fill_set(lists: &mut SetLists, name: &[u8], count: u32) -> io::Result<()> {
+    for number in 0..count {
+        lists.add(name, number).map_err(|_| no_data())?;
     }
     Ok(())
 }

@@ -31,9 +31,7 @@
 //     wear                 the number of the last tune, when the archive was filled over and over
 //
 // Where the replies of a run are not those that are wanted, the answer says from which byte on.
-use crate::answer::Answer;
-use crate::arguments::{Arguments, no_data};
-use crate::cases::Bench;
+use crate::escapes::{is_meant, number, size};
 use crate::no_files::NoFiles;
 use crate::pieces::add_piece;
 use crate::pipes::{
@@ -43,6 +41,7 @@ use crate::wear::wear;
 use std::alloc::Global;
 use std::cell::Cell;
 use std::io;
+use test_cases::{Answer, Bench, Words, no_data};
 use tune_cli::{Action, RunEnd, act, run};
 use tune_store::{Command, ListArchive, Reply, Tune, TuneStore};
 
@@ -58,7 +57,40 @@ pub(crate) struct Scripts {
 }
 
 impl Bench for Scripts {
-    fn new(alloc: Global) -> Scripts {
+    fn begin(&mut self, _given: &str) -> io::Result<()> {
+        *self = Scripts::new(self.alloc);
+        Ok(())
+    }
+
+    fn call(&mut self, name: &str, words: Words<'_>, answer: &mut Answer) -> io::Result<()> {
+        match name {
+            "script" | "replies" | "next" | "anew" | "cut" => self.write(name, words),
+            "run"
+            | "in-turn"
+            | "reader-fails"
+            | "reader-fails-each"
+            | "writer-fails"
+            | "writer-fails-each" => self.run(name, words, answer),
+            "status" | "status-reader-fails" | "status-writer-fails" => {
+                self.list(name, words, answer)
+            }
+            "file-status" => self.act_on_file(words, answer),
+            "tune" => self.show_tune(words, answer),
+            "wear" => {
+                answer.name(wear(self.alloc, &mut self.archive));
+                Ok(())
+            }
+            _ => Err(no_data()),
+        }
+    }
+
+    fn is_wanted(&self, answer: &Answer, written: &str) -> io::Result<bool> {
+        is_meant(self.alloc, answer, written)
+    }
+}
+
+impl Scripts {
+    pub(crate) fn new(alloc: Global) -> Scripts {
         Scripts {
             alloc,
             archive: ListArchive::new(alloc),
@@ -68,118 +100,90 @@ impl Bench for Scripts {
         }
     }
 
-    fn call(&mut self, name: &str, given: Arguments, answer: &mut Answer) -> io::Result<()> {
-        match name {
-            "script" | "replies" | "next" | "anew" | "cut" => self.write(name, given),
-            "run"
-            | "in-turn"
-            | "reader-fails"
-            | "reader-fails-each"
-            | "writer-fails"
-            | "writer-fails-each" => self.run(name, given, answer),
-            "status" | "status-reader-fails" | "status-writer-fails" => {
-                self.list(name, given, answer)
-            }
-            "file-status" => self.act_on_file(given, answer),
-            "tune" => self.show_tune(given, answer),
-            "wear" => {
-                let last = wear(self.alloc, &mut self.archive);
-                answer.name(last)
-            }
-            _ => Err(no_data()),
-        }
-    }
-}
-
-impl Scripts {
     // Calls that write the script and the replies.
-    fn write(&mut self, call: &str, mut given: Arguments) -> io::Result<()> {
+    fn write(&mut self, call: &str, mut words: Words<'_>) -> io::Result<()> {
         match call {
-            "script" => add_piece(self.alloc, &mut self.script, given),
+            "script" => add_piece(self.alloc, &mut self.script, words)?,
             "replies" => {
-                add_piece(self.alloc, &mut self.replies, given)?;
-                Ok(self.ends.push((self.script.len(), self.replies.len()))?)
+                add_piece(self.alloc, &mut self.replies, words)?;
+                self.ends.push((self.script.len(), self.replies.len()))?;
             }
-            "cut" => {
-                self.script.truncate(given.size()?);
-                Ok(())
-            }
-            "anew" => {
-                self.archive = ListArchive::new(self.alloc);
-                Ok(())
-            }
+            "cut" => self.script.truncate(size(&mut words)?),
+            "anew" => self.archive = ListArchive::new(self.alloc),
             _ => {
                 self.script = Vec::new(self.alloc);
                 self.replies = Vec::new(self.alloc);
                 self.ends = Vec::new(self.alloc);
-                Ok(())
             }
         }
+        Ok(())
     }
 
     // Calls that run the script.
-    fn run(&mut self, call: &str, mut given: Arguments, answer: &mut Answer) -> io::Result<()> {
+    fn run(&mut self, call: &str, mut words: Words<'_>, answer: &mut Answer) -> io::Result<()> {
         match call {
             "run" => self.run_whole(answer),
-            "reader-fails" => self.run_failing_reader(given.size()?, given.size()?, answer),
-            "reader-fails-each" => self.run_failing_readers(given.number()?, answer),
-            "writer-fails" => {
-                let (end, _) = self.run_failing_writer(given.number()?);
-                answer.name(end)
+            "reader-fails" => {
+                let (read, wanted) = (size(&mut words)?, size(&mut words)?);
+                self.run_failing_reader(read, wanted, answer);
             }
-            "writer-fails-each" => self.run_failing_writers(given.number()?, answer),
+            "reader-fails-each" => self.run_failing_readers(number(&mut words)?, answer),
+            "writer-fails" => {
+                let (end, _) = self.run_failing_writer(number(&mut words)?);
+                answer.name(end);
+            }
+            "writer-fails-each" => self.run_failing_writers(number(&mut words)?, answer),
             _ => self.run_in_turn(answer),
         }
+        Ok(())
     }
 
     // Runs the script, and says how it ends, and how many bytes are left.
-    fn run_whole(&mut self, answer: &mut Answer) -> io::Result<()> {
+    fn run_whole(&mut self, answer: &mut Answer) {
         let mut reader = self.script.as_slice();
         let mut written = Vec::new(self.alloc);
         let end = run(self.alloc, &mut reader, &mut written, &mut self.archive);
         let left = reader.len();
-        answer.name(end)?;
-        answer.say(left)?;
-        say_difference(&written, &self.replies, answer)
+        answer.show(format_args!("{end:?} {left}"));
+        answer.tell_difference(&written, &self.replies);
     }
 
     // Runs the first bytes of the script over an empty archive with a reader that fails after them;
     // the first bytes of the replies are wanted.
-    fn run_failing_reader(
-        &mut self,
-        read: usize,
-        wanted: usize,
-        answer: &mut Answer,
-    ) -> io::Result<()> {
-        let text = self.script.get(..read).ok_or(no_data())?;
-        let wanted = self.replies.get(..wanted).ok_or(no_data())?;
+    fn run_failing_reader(&mut self, read: usize, wanted: usize, answer: &mut Answer) {
+        let text = first(&self.script, read);
+        let wanted = first(&self.replies, wanted);
         let mut reader = FailingReader { text };
         let mut written = Vec::new(self.alloc);
         self.archive = ListArchive::new(self.alloc);
         let end = run(self.alloc, &mut reader, &mut written, &mut self.archive);
-        answer.name(end)?;
-        say_difference(&written, wanted, answer)
+        answer.name(end);
+        answer.tell_difference(&written, wanted);
     }
 
     // Runs the script over empty archives, with readers that fail once, in call 0, 1 and so on,
     // below so many. Says in which call the run is another than it has to be.
-    fn run_failing_readers(&mut self, most: u32, answer: &mut Answer) -> io::Result<()> {
+    fn run_failing_readers(&mut self, most: u32, answer: &mut Answer) {
         for call in 0..most {
-            let mut reader = OnceFailingReader::new(self.script.as_slice(), call);
-            let mut written = Vec::new(self.alloc);
-            self.archive = ListArchive::new(self.alloc);
-            let end = run(self.alloc, &mut reader, &mut written, &mut self.archive);
-            let (left, unread) = (reader.left, reader.text.len());
-            if !self.is_read_to(end, left, unread, &written)? {
-                answer.name(end)?;
-                answer.say("in")?;
-                answer.say(call)?;
-            }
-            if left.is_none() {
-                return Ok(());
+            if !self.run_failing_once(call, answer) {
+                return;
             }
         }
-        answer.say("each failed")
+        answer.say("each failed");
+    }
+
+    // The same with one of them, and whether it failed.
+    fn run_failing_once(&mut self, call: u32, answer: &mut Answer) -> bool {
+        let mut reader = OnceFailingReader::new(&self.script, call);
+        let mut written = Vec::new(self.alloc);
+        self.archive = ListArchive::new(self.alloc);
+        let end = run(self.alloc, &mut reader, &mut written, &mut self.archive);
+        let (left, unread) = (reader.left, reader.text.len());
+        if !self.is_read_to(end, left, unread, &written) {
+            answer.space();
+            answer.show(format_args!("{end:?} in {call}"));
+        }
+        left.is_some()
     }
 
     // Whether a run of a reader that failed with so many bytes left, or did not, has ended so, read
@@ -190,7 +194,7 @@ impl Scripts {
         left: Option<usize>,
         unread: usize,
         written: &[u8],
-    ) -> io::Result<bool> {
+    ) -> bool {
         let wanted_end = if left.is_some() {
             RunEnd::ReaderFault
         } else {
@@ -198,13 +202,10 @@ impl Scripts {
         };
         let left = left.unwrap_or(0);
         let (script, replies) = self.answered_of(self.script.len().saturating_sub(left));
-        let mut read = self.script.get(..script).ok_or(no_data())?;
-        let wanted = self.replies.get(..replies).ok_or(no_data())?;
-        let mut archive = ListArchive::new(self.alloc);
-        let mut others = Vec::new(self.alloc);
-        let _ = run(self.alloc, &mut read, &mut others, &mut archive);
-        let same = all_of(self.alloc, &mut archive) == all_of(self.alloc, &mut self.archive);
-        Ok(same && end == wanted_end && unread == left && written == wanted)
+        let is_answered = written == first(&self.replies, replies);
+        let wanted = held_after(self.alloc, first(&self.script, script));
+        let is_held = all_of(self.alloc, &mut self.archive) == wanted;
+        is_held && is_answered && end == wanted_end && unread == left
     }
 
     // How far the script and the replies go of the pieces within its first bytes, so many.
@@ -229,23 +230,21 @@ impl Scripts {
     // The same over empty archives, with writers that fail after 0 calls and more, below so many.
     // Says after which calls the run ends in another way than by its writer or its input, or tune 1
     // is not there.
-    fn run_failing_writers(&mut self, most: u32, answer: &mut Answer) -> io::Result<()> {
+    fn run_failing_writers(&mut self, most: u32, answer: &mut Answer) {
         for calls in 0..most {
             self.archive = ListArchive::new(self.alloc);
             let (end, has_failed) = self.run_failing_writer(calls);
             let is_shown = self.archive.apply(&Command::Show(1)).is_ok();
             if end != end_of(has_failed) || !is_shown {
-                answer.name(end)?;
-                answer.say("after")?;
-                answer.say(calls)?;
+                answer.space();
+                answer.show(format_args!("{end:?} after {calls}"));
             }
         }
-        Ok(())
     }
 
     // Runs the script with a reader that notices whether it is asked for a command, or the end,
     // before the replies to all commands before it were flushed.
-    fn run_in_turn(&mut self, answer: &mut Answer) -> io::Result<()> {
+    fn run_in_turn(&mut self, answer: &mut Answer) {
         let flushes = Flushes {
             flushed: Cell::new(0),
             asked_early: Cell::new(false),
@@ -260,22 +259,21 @@ impl Scripts {
             flushes: &flushes,
         };
         let end = run(self.alloc, &mut reader, &mut writer, &mut self.archive);
-        answer.name(end)?;
-        answer.say(flushes.flushed.get())?;
+        let flushed = flushes.flushed.get();
+        answer.show(format_args!("{end:?} {flushed}"));
         if flushes.asked_early.get() {
-            answer.say("asked early")?;
+            answer.say(" asked early");
         }
-        Ok(())
     }
 
     // The status of the program's `list`, for the script.
-    fn list(&self, call: &str, mut given: Arguments, answer: &mut Answer) -> io::Result<()> {
+    fn list(&self, call: &str, mut words: Words<'_>, answer: &mut Answer) -> io::Result<()> {
         let rt = NoFiles { alloc: self.alloc };
         let mut text = self.script.as_slice();
         if call == "status-writer-fails" {
-            let mut writer = FailingWriter::new(given.number()?);
-            let status = act(&rt, &Action::List, &mut text, &mut writer);
-            return answer.say(status);
+            let mut writer = FailingWriter::new(number(&mut words)?);
+            answer.show(act(&rt, &Action::List, &mut text, &mut writer));
+            return Ok(());
         }
         let mut written = Vec::new(self.alloc);
         let status = if call == "status" {
@@ -288,14 +286,15 @@ impl Scripts {
                 &mut written,
             )
         };
-        answer.say(status)?;
-        say_difference(&written, &self.replies, answer)
+        answer.show(status);
+        answer.tell_difference(&written, &self.replies);
+        Ok(())
     }
 
     // The status of an action on a file that cannot be opened, and what is written.
-    fn act_on_file(&self, mut given: Arguments, answer: &mut Answer) -> io::Result<()> {
+    fn act_on_file(&self, mut words: Words<'_>, answer: &mut Answer) -> io::Result<()> {
         let file = String::from_str(self.alloc, "tunes.abcx")?;
-        let action = match given.word() {
+        let action = match words.word() {
             "make" => Action::Make(file),
             "run" => Action::Run(file),
             "check" => Action::Check(file),
@@ -310,29 +309,42 @@ impl Scripts {
             &mut text,
             &mut written,
         );
-        answer.say(status)?;
-        answer.add(b" ")?;
-        answer.add(written.as_slice())
+        answer.show(format_args!("{status} "));
+        answer.add(&written);
+        Ok(())
     }
 
     // The number of a tune, its revision, its text and that of its copy.
-    fn show_tune(&mut self, mut given: Arguments, answer: &mut Answer) -> io::Result<()> {
-        match self.archive.apply(&Command::Show(given.number()?)) {
+    fn show_tune(&mut self, mut words: Words<'_>, answer: &mut Answer) -> io::Result<()> {
+        match self.archive.apply(&Command::Show(number(&mut words)?)) {
             Ok(Reply::Shown(tune)) => {
-                add_tune(&tune, answer)?;
-                let copy = tune.copy(self.alloc)?;
-                add_tune(&copy, answer)
+                show_tune(&tune, answer);
+                answer.space();
+                show_tune(&tune.copy(self.alloc)?, answer);
+                Ok(())
             }
             _ => Err(no_data()),
         }
     }
 }
 
-fn add_tune(tune: &Tune, answer: &mut Answer) -> io::Result<()> {
-    answer.say(tune.number)?;
-    answer.say(tune.revision)?;
-    answer.add(b" ")?;
-    answer.add(tune.text.bytes())
+// The first bytes of a text, so many.
+fn first(text: &[u8], count: usize) -> &[u8] {
+    text.get(..count).unwrap_or(text)
+}
+
+fn show_tune(tune: &Tune, answer: &mut Answer) {
+    answer.show(format_args!("{} {} ", tune.number, tune.revision));
+    answer.add(tune.text.bytes());
+}
+
+// What an archive holds that began empty, and carried out a script.
+fn held_after(alloc: Global, script: &[u8]) -> Vec<u8> {
+    let mut reader = script;
+    let mut archive = ListArchive::new(alloc);
+    let mut replies = Vec::new(alloc);
+    let _ = run(alloc, &mut reader, &mut replies, &mut archive);
+    all_of(alloc, &mut archive)
 }
 
 // What an archive answers who asks for all that it holds.
@@ -350,20 +362,4 @@ fn end_of(has_failed: bool) -> RunEnd {
     } else {
         RunEnd::Ended
     }
-}
-
-// Says where the replies differ from what is wanted, if they do.
-pub(crate) fn say_difference(written: &[u8], wanted: &[u8], answer: &mut Answer) -> io::Result<()> {
-    if written == wanted {
-        return Ok(());
-    }
-    let mut common: usize = 0;
-    for (a, b) in written.iter().zip(wanted) {
-        if a != b {
-            break;
-        }
-        common = common.saturating_add(1);
-    }
-    answer.say("other replies from byte")?;
-    answer.say(common)
 }

@@ -20,12 +20,11 @@
 //     fill NAME COUNT      nothing; adds the numbers from 0 on to a set, so many of them
 //     create-sets COUNT    nothing; makes the sets `s0`, `s1` and so on
 //     own-sets COUNT       adds to each of these its number; how many hold it, and are found by it
-use crate::answer::Answer;
-use crate::arguments::{Arguments, no_data};
-use crate::cases::Bench;
+use crate::escapes::{bytes_of, is_meant, number, size};
 use crate::many_sets::{fill_set, make_sets, make_week, of_places, of_sets, own_sets};
 use std::alloc::Global;
 use std::io;
+use test_cases::{Answer, Bench, Words, no_data};
 use tune_sets::{SetLists, SetName};
 
 /// Set lists, and a copy of what they were.
@@ -37,7 +36,30 @@ pub(crate) struct Sets {
 }
 
 impl Bench for Sets {
-    fn new(alloc: Global) -> Sets {
+    fn begin(&mut self, _given: &str) -> io::Result<()> {
+        self.lists = SetLists::new(self.alloc);
+        self.copy = SetLists::new(self.alloc);
+        Ok(())
+    }
+
+    fn call(&mut self, name: &str, words: Words<'_>, answer: &mut Answer) -> io::Result<()> {
+        match name {
+            "create" | "add" | "cut" | "drop" | "renumbered" => self.change(name, words, answer),
+            "name" | "same" => show_names(self.alloc, name, words, answer),
+            "show" | "show-copy" | "rows" | "write" | "len" => self.show(name, answer),
+            "holds" | "places" | "places-len" => self.look_up(name, words, answer),
+            "read" | "read-written" | "read-places" | "read-sets" => self.read(name, words, answer),
+            _ => self.make_many(name, words, answer),
+        }
+    }
+
+    fn is_wanted(&self, answer: &Answer, written: &str) -> io::Result<bool> {
+        is_meant(self.alloc, answer, written)
+    }
+}
+
+impl Sets {
+    pub(crate) fn new(alloc: Global) -> Sets {
         Sets {
             alloc,
             lists: SetLists::new(alloc),
@@ -45,44 +67,21 @@ impl Bench for Sets {
         }
     }
 
-    fn call(&mut self, name: &str, given: Arguments, answer: &mut Answer) -> io::Result<()> {
-        match name {
-            "create" | "add" | "cut" | "drop" | "renumbered" => self.change(name, given, answer),
-            "name" | "same" => answer_names(self.alloc, name, given, answer),
-            "show" | "show-copy" | "rows" | "write" | "len" => self.show(name, answer),
-            "holds" | "places" | "places-len" => self.look_up(name, given, answer),
-            "read" | "read-written" | "read-places" | "read-sets" => self.read(name, given, answer),
-            _ => self.make_many(name, given, answer),
-        }
-    }
-}
-
-impl Sets {
     // Calls that change one set, or each.
-    fn change(&mut self, call: &str, mut given: Arguments, answer: &mut Answer) -> io::Result<()> {
+    fn change(&mut self, call: &str, mut words: Words<'_>, answer: &mut Answer) -> io::Result<()> {
         if call == "renumbered" {
-            self.lists.renumbered(given.number()?, given.number()?);
+            self.lists
+                .renumbered(number(&mut words)?, number(&mut words)?);
             return Ok(());
         }
-        let name = given.bytes(self.alloc)?;
+        let name = bytes_of(self.alloc, words.word())?;
         match call {
-            "create" => {
-                let made = self.lists.create(&name);
-                answer.name(made)
-            }
-            "add" => {
-                let place = self.lists.add(&name, given.number()?);
-                answer.name(place)
-            }
-            "cut" => {
-                let done = self.lists.cut(&name, given.size()?);
-                answer.name(done)
-            }
-            _ => {
-                let done = self.lists.drop_set(&name);
-                answer.name(done)
-            }
+            "create" => answer.name(self.lists.create(&name)),
+            "add" => answer.name(self.lists.add(&name, number(&mut words)?)),
+            "cut" => answer.name(self.lists.cut(&name, size(&mut words)?)),
+            _ => answer.name(self.lists.drop_set(&name)),
         }
+        Ok(())
     }
 
     // Calls that tell of all sets.
@@ -90,100 +89,98 @@ impl Sets {
         match call {
             "show" => show_sets(&self.lists, answer),
             "show-copy" => show_sets(&self.copy, answer),
-            "rows" => show_rows(&self.lists, answer),
+            "rows" => return show_rows(&self.lists, answer),
             "write" => answer.add(self.lists.write()?.as_slice()),
-            _ => {
-                let len = self.lists.as_slice().len();
-                answer.say(len)
-            }
+            _ => answer.show(self.lists.as_slice().len()),
         }
+        Ok(())
     }
 
     // Calls that ask for one number, or one set.
-    fn look_up(&self, call: &str, mut given: Arguments, answer: &mut Answer) -> io::Result<()> {
+    fn look_up(&self, call: &str, mut words: Words<'_>, answer: &mut Answer) -> io::Result<()> {
         if call == "holds" {
-            return add_name(self.lists.holds(given.number()?), answer);
+            show_name(self.lists.holds(number(&mut words)?), answer);
+            return Ok(());
         }
-        let name = given.bytes(self.alloc)?;
+        let name = bytes_of(self.alloc, words.word())?;
         let places = self.lists.places(&name);
         if call == "places" {
-            return answer.name(places);
+            answer.name(places);
+        } else {
+            answer.name(places.map(|numbers| numbers.len()));
         }
-        let len = places.map(|numbers| numbers.len());
-        answer.name(len)
+        Ok(())
     }
 
     // Calls that read set lists from bytes.
-    fn read(&mut self, call: &str, mut given: Arguments, answer: &mut Answer) -> io::Result<()> {
+    fn read(&mut self, call: &str, mut words: Words<'_>, answer: &mut Answer) -> io::Result<()> {
         let bytes = match call {
-            "read" => given.bytes(self.alloc)?,
-            "read-places" => of_places(self.alloc, given.number()?)?,
-            "read-sets" => of_sets(self.alloc, given.number()?)?,
+            "read" => bytes_of(self.alloc, words.word())?,
+            "read-places" => of_places(self.alloc, number(&mut words)?)?,
+            "read-sets" => of_sets(self.alloc, number(&mut words)?)?,
             _ => Vec::from_slice(self.alloc, self.lists.write()?.as_slice())?,
         };
         match SetLists::read(self.alloc, &bytes) {
             Ok(lists) => {
                 self.lists = lists;
-                answer.say("Ok")
+                answer.say("Ok");
             }
             Err(fault) => answer.name(fault),
         }
+        Ok(())
     }
 
     // Calls that make many changes at once, and the copy.
     fn make_many(
         &mut self,
         call: &str,
-        mut given: Arguments,
+        mut words: Words<'_>,
         answer: &mut Answer,
     ) -> io::Result<()> {
         match call {
-            "copy" => {
-                self.copy = self.lists.copy()?;
-                Ok(())
+            "copy" => self.copy = self.lists.copy()?,
+            "week" => make_week(&mut self.lists).map_err(|_| no_data())?,
+            "fill" => {
+                let name = bytes_of(self.alloc, words.word())?;
+                fill_set(&mut self.lists, &name, number(&mut words)?)?;
             }
-            "week" => make_week(&mut self.lists).map_err(|_| no_data()),
-            "fill" => fill_set(self.alloc, &mut self.lists, given),
-            "create-sets" => make_sets(self.alloc, &mut self.lists, given.number()?),
+            "create-sets" => make_sets(self.alloc, &mut self.lists, number(&mut words)?)?,
             "own-sets" => {
-                let found = own_sets(self.alloc, &mut self.lists, given.number()?)?;
-                answer.say(found)
+                answer.show(own_sets(self.alloc, &mut self.lists, number(&mut words)?)?);
             }
-            _ => Err(no_data()),
+            _ => return Err(no_data()),
         }
+        Ok(())
     }
 }
 
 // A line for each set: its name, a colon, and its numbers.
-fn show_sets(lists: &SetLists, answer: &mut Answer) -> io::Result<()> {
+fn show_sets(lists: &SetLists, answer: &mut Answer) {
     for set in lists.as_slice() {
-        answer.add(set.name.as_slice())?;
-        answer.add(b":")?;
-        say_numbers(set.numbers.as_slice(), answer)?;
-        answer.add(b"\n")?;
+        answer.add(set.name.as_slice());
+        answer.say(":");
+        show_numbers(set.numbers.as_slice(), answer);
+        answer.say("\n");
     }
-    Ok(())
 }
 
-fn say_numbers(numbers: &[u32], answer: &mut Answer) -> io::Result<()> {
+fn show_numbers(numbers: &[u32], answer: &mut Answer) {
     for number in numbers {
-        answer.say(*number)?;
+        answer.show(format_args!(" {number}"));
     }
-    Ok(())
 }
 
 // A line for each row: the name of the set, and how many places it has.
 fn show_rows(lists: &SetLists, answer: &mut Answer) -> io::Result<()> {
     for row in lists.rows()?.as_slice() {
-        answer.add(row.name.as_slice())?;
-        answer.say(row.places)?;
-        answer.add(b"\n")?;
+        answer.add(row.name.as_slice());
+        answer.show(format_args!(" {}\n", row.places));
     }
     Ok(())
 }
 
 // The bytes of a name, or `none`.
-fn add_name(name: Option<SetName>, answer: &mut Answer) -> io::Result<()> {
+fn show_name(name: Option<SetName>, answer: &mut Answer) {
     match name {
         Some(name) => answer.add(name.as_slice()),
         None => answer.say("none"),
@@ -191,23 +188,21 @@ fn add_name(name: Option<SetName>, answer: &mut Answer) -> io::Result<()> {
 }
 
 // Calls on names alone.
-fn answer_names(
+fn show_names(
     alloc: Global,
     call: &str,
-    mut given: Arguments,
+    mut words: Words<'_>,
     answer: &mut Answer,
 ) -> io::Result<()> {
-    let name = SetName::new(&given.bytes(alloc)?);
+    let name = SetName::new(&bytes_of(alloc, words.word())?);
     if call == "name" {
-        return add_name(name, answer);
+        show_name(name, answer);
+        return Ok(());
     }
-    let other = SetName::new(&given.bytes(alloc)?);
+    let other = SetName::new(&bytes_of(alloc, words.word())?);
     match (name, other) {
-        (Some(name), Some(other)) => {
-            let copy = name;
-            let is_same = copy == other;
-            answer.say(is_same)
-        }
-        _ => Err(no_data()),
+        (Some(name), Some(other)) => answer.show(name == other),
+        _ => return Err(no_data()),
     }
+    Ok(())
 }
