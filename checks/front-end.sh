@@ -1670,7 +1670,11 @@ for each in range(random.randint(1, 2)):
         os.killpg(child.pid, getattr(signal, "SIG" + name))
     except ProcessLookupError:
         pass
-child.wait()' "$@"
+try:
+    child.wait(60)
+except subprocess.TimeoutExpired:
+    os.killpg(child.pid, signal.SIGKILL)
+    sys.exit(1)' "$@" || wrong "it had not ended after a minute: $*"
 }
 
 cases_of_stops() {
