@@ -16,7 +16,7 @@ use crate::pieces::add_piece;
 use std::alloc::Global;
 use std::{io, mem};
 use test_cases::{Answer, Bench, Words, no_data};
-use tune_cli::{Done, check_on, make_on, run_on, upgrade_on};
+use tune_cli::{Done, StreamConsole, check_on, make_on, run_on, upgrade_on};
 use tune_disk::MemoryDisk;
 
 /// A file has no more bytes than this.
@@ -103,10 +103,11 @@ impl Files {
     fn act(&mut self, action: &str, answer: &mut Answer) {
         let disk = self.take_disk();
         let mut written = Vec::new(self.alloc);
+        let mut console = StreamConsole::new(b"".as_slice(), &mut written);
         let Done { status, disk } = match action {
-            "make" => make_on(self.alloc, &mut written, disk),
-            "check" => check_on(self.alloc, &mut written, disk),
-            _ => upgrade_on(self.alloc, &mut written, disk),
+            "make" => make_on(self.alloc, &mut console, disk),
+            "check" => check_on(self.alloc, &mut console, disk),
+            _ => upgrade_on(self.alloc, &mut console, disk),
         };
         self.disk = disk;
         answer.show(format_args!("{status} "));
@@ -116,9 +117,9 @@ impl Files {
     // Runs the script on the file, and says its status.
     fn run(&mut self, answer: &mut Answer) {
         let disk = self.take_disk();
-        let mut reader = self.script.as_slice();
         let mut written = Vec::new(self.alloc);
-        let Done { status, disk } = run_on(self.alloc, &mut reader, &mut written, disk);
+        let mut console = StreamConsole::new(self.script.as_slice(), &mut written);
+        let Done { status, disk } = run_on(self.alloc, &mut console, disk);
         self.disk = disk;
         answer.show(status);
         answer.tell_difference(&written, &self.replies);

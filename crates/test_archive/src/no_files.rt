@@ -1,11 +1,21 @@
 // A drive without a file.
 use std::alloc::{Alloc, Global};
-use tune_disk::{DeviceFault, Drive, MemoryDisk};
+use tune_disk::{DeedLog, DeviceFault, Drive, MemoryDisk};
 
 /// No path leads to a file, and none can be made.
 #[derive(Drop)]
 pub(crate) struct NoFiles {
-    pub(crate) alloc: Global,
+    alloc: Global,
+    log: DeedLog<MemoryDisk>,
+}
+
+impl NoFiles {
+    pub(crate) fn new(alloc: Global) -> NoFiles {
+        NoFiles {
+            alloc,
+            log: DeedLog::new(),
+        }
+    }
 }
 
 impl Alloc for NoFiles {
@@ -18,22 +28,27 @@ impl Alloc for NoFiles {
 
 impl Drive for NoFiles {
     ghost use Rattle.std.specs.Prelude.{⊤};
+    ghost use Rattle.tune_disk.specs.DeedLog.{deeds_of};
 
     type Disk = MemoryDisk;
 
-    ghost opened = { λ _ _. ⊤ };
+    ghost deeds = { λ drive. deeds_of drive.log };
 
-    ghost created = { λ _ _. ⊤ };
+    ghost is_new = { λ _. ⊤ };
 
-    ghost closed = { λ _ _. ⊤ };
-
-    fn open(&self, _path: &str) -> Result<MemoryDisk, DeviceFault> {
-        Err(DeviceFault)
+    fn open(&mut self, path: &String) -> Result<MemoryDisk, DeviceFault> {
+        let answer = Err(DeviceFault);
+        self.log.open(path, &answer);
+        answer
     }
 
-    fn create(&self, _path: &str) -> Result<MemoryDisk, DeviceFault> {
-        Err(DeviceFault)
+    fn create(&mut self, path: &String) -> Result<MemoryDisk, DeviceFault> {
+        let answer = Err(DeviceFault);
+        self.log.create(path, &answer);
+        answer
     }
 
-    fn close(&self, _path: &str, _disk: MemoryDisk) {}
+    fn close(&mut self, path: &String, disk: MemoryDisk) {
+        self.log.close(path, &disk);
+    }
 }

@@ -42,7 +42,7 @@ use std::alloc::Global;
 use std::cell::Cell;
 use std::io;
 use test_cases::{Answer, Bench, Words, no_data};
-use tune_cli::{Action, RunEnd, act, run};
+use tune_cli::{Action, RunEnd, StreamConsole, act, run};
 use tune_store::{Command, ListArchive, Reply, Tune, TuneStore};
 
 /// An archive, a script, and the replies that it has to give.
@@ -142,7 +142,11 @@ impl Scripts {
     fn run_whole(&mut self, answer: &mut Answer) {
         let mut reader = self.script.as_slice();
         let mut written = Vec::new(self.alloc);
-        let end = run(self.alloc, &mut reader, &mut written, &mut self.archive);
+        let end = run(
+            self.alloc,
+            &mut StreamConsole::new(&mut reader, &mut written),
+            &mut self.archive,
+        );
         let left = reader.len();
         answer.show(format_args!("{end:?} {left}"));
         answer.tell_difference(&written, &self.replies);
@@ -156,7 +160,11 @@ impl Scripts {
         let mut reader = FailingReader { text };
         let mut written = Vec::new(self.alloc);
         self.archive = ListArchive::new(self.alloc);
-        let end = run(self.alloc, &mut reader, &mut written, &mut self.archive);
+        let end = run(
+            self.alloc,
+            &mut StreamConsole::new(&mut reader, &mut written),
+            &mut self.archive,
+        );
         answer.name(end);
         answer.tell_difference(&written, wanted);
     }
@@ -177,7 +185,11 @@ impl Scripts {
         let mut reader = OnceFailingReader::new(&self.script, call);
         let mut written = Vec::new(self.alloc);
         self.archive = ListArchive::new(self.alloc);
-        let end = run(self.alloc, &mut reader, &mut written, &mut self.archive);
+        let end = run(
+            self.alloc,
+            &mut StreamConsole::new(&mut reader, &mut written),
+            &mut self.archive,
+        );
         let (left, unread) = (reader.left, reader.text.len());
         if !self.is_read_to(end, left, unread, &written) {
             answer.space();
@@ -223,7 +235,11 @@ impl Scripts {
     fn run_failing_writer(&mut self, calls: u32) -> (RunEnd, bool) {
         let mut reader = self.script.as_slice();
         let mut writer = FailingWriter::new(calls);
-        let end = run(self.alloc, &mut reader, &mut writer, &mut self.archive);
+        let end = run(
+            self.alloc,
+            &mut StreamConsole::new(&mut reader, &mut writer),
+            &mut self.archive,
+        );
         (end, writer.has_failed)
     }
 
@@ -258,7 +274,11 @@ impl Scripts {
             has_more: false,
             flushes: &flushes,
         };
-        let end = run(self.alloc, &mut reader, &mut writer, &mut self.archive);
+        let end = run(
+            self.alloc,
+            &mut StreamConsole::new(&mut reader, &mut writer),
+            &mut self.archive,
+        );
         let flushed = flushes.flushed.get();
         answer.show(format_args!("{end:?} {flushed}"));
         if flushes.asked_early.get() {
@@ -268,23 +288,21 @@ impl Scripts {
 
     // The status of the program's `list`, for the script.
     fn list(&self, call: &str, mut words: Words<'_>, answer: &mut Answer) -> io::Result<()> {
-        let rt = NoFiles { alloc: self.alloc };
-        let mut text = self.script.as_slice();
+        let mut drive = NoFiles::new(self.alloc);
+        let text = self.script.as_slice();
         if call == "status-writer-fails" {
-            let mut writer = FailingWriter::new(number(&mut words)?);
-            answer.show(act(&rt, &Action::List, &mut text, &mut writer));
+            let writer = FailingWriter::new(number(&mut words)?);
+            let mut console = StreamConsole::new(text, writer);
+            answer.show(act(&mut drive, &Action::List, &mut console));
             return Ok(());
         }
         let mut written = Vec::new(self.alloc);
         let status = if call == "status" {
-            act(&rt, &Action::List, &mut text, &mut written)
+            let mut console = StreamConsole::new(text, &mut written);
+            act(&mut drive, &Action::List, &mut console)
         } else {
-            act(
-                &rt,
-                &Action::List,
-                &mut FailingReader { text },
-                &mut written,
-            )
+            let mut console = StreamConsole::new(FailingReader { text }, &mut written);
+            act(&mut drive, &Action::List, &mut console)
         };
         answer.show(status);
         answer.tell_difference(&written, &self.replies);
@@ -301,14 +319,9 @@ impl Scripts {
             "upgrade" => Action::Upgrade(file),
             _ => return Err(no_data()),
         };
-        let mut text = self.script.as_slice();
         let mut written = Vec::new(self.alloc);
-        let status = act(
-            &NoFiles { alloc: self.alloc },
-            &action,
-            &mut text,
-            &mut written,
-        );
+        let mut console = StreamConsole::new(self.script.as_slice(), &mut written);
+        let status = act(&mut NoFiles::new(self.alloc), &action, &mut console);
         answer.show(format_args!("{status} "));
         answer.add(&written);
         Ok(())
@@ -343,7 +356,11 @@ fn held_after(alloc: Global, script: &[u8]) -> Vec<u8> {
     let mut reader = script;
     let mut archive = ListArchive::new(alloc);
     let mut replies = Vec::new(alloc);
-    let _ = run(alloc, &mut reader, &mut replies, &mut archive);
+    let _ = run(
+        alloc,
+        &mut StreamConsole::new(&mut reader, &mut replies),
+        &mut archive,
+    );
     all_of(alloc, &mut archive)
 }
 
@@ -351,7 +368,11 @@ fn held_after(alloc: Global, script: &[u8]) -> Vec<u8> {
 fn all_of(alloc: Global, archive: &mut ListArchive) -> Vec<u8> {
     let mut questions: &[u8] = b"export\ntitles\nsets\nset-show friday\nshow 1\nshow 2\n";
     let mut replies = Vec::new(alloc);
-    let _ = run(alloc, &mut questions, &mut replies, archive);
+    let _ = run(
+        alloc,
+        &mut StreamConsole::new(&mut questions, &mut replies),
+        archive,
+    );
     replies
 }
 

@@ -3,7 +3,7 @@ use std::alloc::Global;
 use std::io;
 use tune_archive::{Archive, TuneStore};
 use tune_disk::MemoryDisk;
-use tune_scripts::run;
+use tune_scripts::{StreamConsole, run};
 
 // They ask for all that an archive holds. The notes are found by eight of them in layout 1, and by
 // nine in layout 2.
@@ -17,9 +17,8 @@ pub fn replies_of<S: TuneStore>(
     script: &[u8],
     store: &mut S,
 ) -> io::Result<Vec<u8>> {
-    let mut reader = script;
     let mut replies = Vec::new(alloc);
-    let _ = run(alloc, &mut reader, &mut replies, store);
+    let _ = run(alloc, &mut StreamConsole::new(script, &mut replies), store);
     Ok(replies)
 }
 

@@ -7,7 +7,7 @@ use std::fs::Files;
 use std::io;
 use test_cases::{Answer, Bench, Words, no_data};
 use tune_cli::status;
-use tune_scripts::run;
+use tune_scripts::{StreamConsole, run};
 use tune_store::TuneStore;
 
 /// Each call has a store of its own, so nothing is in hand but the way to the files.
@@ -42,9 +42,8 @@ pub(crate) fn show_end<S: TuneStore>(
     wanted: &[u8],
     answer: &mut Answer,
 ) {
-    let mut reader = script;
     let mut replies = Vec::new(alloc);
-    let end = run(alloc, &mut reader, &mut replies, store);
+    let end = run(alloc, &mut StreamConsole::new(script, &mut replies), store);
     let status = status(end);
     answer.show(format_args!("{end:?} {status}"));
     answer.tell_difference(&replies, wanted);

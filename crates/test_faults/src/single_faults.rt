@@ -5,7 +5,7 @@ use test_archives::{Course, LeftFiles, held, replies_of};
 use tune_archive::{Archive, TuneStore};
 use tune_disk::{Disk, FuseDisk, MemoryDisk, OneFault};
 use tune_journal::OpenFault;
-use tune_scripts::{RunEnd, run};
+use tune_scripts::{RunEnd, StreamConsole, run};
 
 /// How many calls of the disk are tried at most.
 const MOST_CALLS: u64 = 5_000;
@@ -85,7 +85,11 @@ fn run_steps<S: TuneStore>(alloc: Global, course: &Course, archive: &mut S) -> i
     let script = course.steps.concat(alloc)?;
     let mut reader = script.as_slice();
     let mut replies = Vec::new(alloc);
-    let end = run(alloc, &mut reader, &mut replies, archive);
+    let end = run(
+        alloc,
+        &mut StreamConsole::new(&mut reader, &mut replies),
+        archive,
+    );
     let (answered, rest) = answered_of(course, &replies);
     if end == RunEnd::Ended && answered == course.steps.len() && rest.is_empty() {
         return Ok(Ran::Whole);

@@ -5,7 +5,7 @@ use std::io::Write;
 use tune_archive::Archive;
 use tune_disk::{Disk, FuseDisk, MemoryDisk, StopChoice};
 use tune_journal::Refused;
-use tune_scripts::run;
+use tune_scripts::{StreamConsole, run};
 use tune_store::{ListArchive, TuneStore};
 
 /// The end of each piece.
@@ -80,7 +80,11 @@ fn carry_out<S: TuneStore>(
 ) -> io::Result<()> {
     for piece in pieces.split_inclusive(MARK) {
         let mut reader = piece.as_bytes();
-        let end = run(alloc, &mut reader, told, store);
+        let end = run(
+            alloc,
+            &mut StreamConsole::new(&mut reader, &mut *told),
+            store,
+        );
         let left = reader.len();
         write!(told, "== {end:?} {left}\n")?;
     }

@@ -5,7 +5,7 @@ use std::io;
 use test_cases::{Answer, Bench, Words, read_bytes};
 use tune_archive::Archive;
 use tune_disk::{Disk, MemoryDisk};
-use tune_scripts::run;
+use tune_scripts::{StreamConsole, run};
 use tune_store::{ListArchive, TuneStore};
 
 /// What has a byte other than 0 in a file of layout 1 without a tune, and its last byte: the magic,
@@ -111,9 +111,8 @@ fn show_run<S: TuneStore>(
     wanted: &[u8],
     answer: &mut Answer,
 ) {
-    let mut reader = script;
     let mut replies = Vec::new(alloc);
-    let end = run(alloc, &mut reader, &mut replies, store);
+    let end = run(alloc, &mut StreamConsole::new(script, &mut replies), store);
     answer.name(end);
     answer.tell_difference(&replies, wanted);
 }

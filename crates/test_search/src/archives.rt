@@ -7,7 +7,7 @@ use test_cases::no_data;
 use tune_archive::{Archive, TuneStore};
 use tune_disk::MemoryDisk;
 use tune_journal::Refused;
-use tune_scripts::run;
+use tune_scripts::{StreamConsole, run};
 use tune_store::ListArchive;
 
 /// As many calls of a disk as there can be.
@@ -69,8 +69,7 @@ pub(crate) fn run_in_memory(
 
 // Runs a script over a store, and puts the replies behind others.
 fn run_over<S: TuneStore>(alloc: Global, store: &mut S, script: &[u8], replies: &mut Vec<u8>) {
-    let mut reader = script;
-    let _ = run(alloc, &mut reader, replies, store);
+    let _ = run(alloc, &mut StreamConsole::new(script, replies), store);
 }
 
 // Whether the tunes come into a store by this script.

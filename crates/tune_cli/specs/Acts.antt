@@ -1,5 +1,7 @@
 -- What the program does for an action, and its status.
-use Rattle.std.specs.Prelude.{◌≡◌, ℕ, List, Result, MatchResult, string_bytes}
+use Rattle.std.specs.Prelude.{◌≡◌, ℕ, List, [], ◌∷◌, ◌++◌, true, Some, Result, MatchResult}
+use Rattle.std.specs.Prelude.{string_bytes}
+use Rattle.tune_disk.specs.Deeds.{Deed, opened, created, closed}
 use Rattle.tune_disk.specs.declared.disk.DeviceFault.{DeviceFault}
 use Rattle.tune_disk.specs.declared.disk.Disk as disk
 use Rattle.tune_disk.specs.declared.drive.Drive as drive
@@ -9,6 +11,7 @@ use Rattle.tune_store.specs.Answers.{open_at}
 use Rattle.tune_store.specs.Runs.{Answered, Runs}
 use Rattle.tune_scripts.specs.Limits.{most_lines}
 use Rattle.tune_scripts.specs.ScriptRuns.{RunWork, TellsScript, IsOtherEnd}
+use Rattle.tune_scripts.specs.Looks.{TellsFaults, LooksFlushed, LooksPromptly}
 use Rattle.tune_scripts.specs.Streams.{Output, Streams}
 use Rattle.tune_scripts.specs.declared.script_runs.RunEnd.{RunEnd}
 use Rattle.tune_cli.specs.FileActs.{Makes, Checks, RunsOn, Upgrades}
@@ -20,8 +23,8 @@ use Rattle.tune_cli.specs.declared.file_actions.Done.{Done}
 -- the work of a run from an empty archive in memory to this one, by these commands
 abbrev pub work_in_memory : Output → List Answered → State → RunWork
 work_in_memory output run state = record {
-  was = output.was;
-  now = output.now;
+  was = output.was.bytes;
+  now = output.now.bytes;
   run = run;
   before = open_at empty_state;
   after = open_at state;
@@ -38,35 +41,46 @@ pub record ListsScript (streams : Streams) (status : ℕ) : Type 0 where
   pub ends : status ≡ status_of end
   pub carries_out : Runs (open_at empty_state) run (open_at state)
   pub no_fault : IsOtherEnd end
-  pub output : TellsScript most_lines streams.input streams.left
+  pub output : TellsScript most_lines streams.input.was.left streams.input.now.left
       (work_in_memory streams.output run state) end
+  pub faults : TellsFaults streams (Some end)
+  pub prompt : streams.output.was.flushed ≡ true → LooksPromptly (open_at empty_state) streams
+  pub looks : streams.output.was.flushed ≡ true → LooksFlushed streams
 
--- A path and the answer of a drive to it, as a disk or a fault.
-abbrev pub Asked : Type 0 → Type 1
-Asked D = List ℕ → Result D DeviceFault → Type 0
+-- What a drive had been asked before a call, and after it, and what is known of a disk that it has
+-- just opened.
+pub record Deeds (D : Type 0) : Type 1 where
+  pub was : List (Deed D)
+  pub now : List (Deed D)
+  pub IsNew : D → Type 0
 
--- The drive was asked for this path. It gave a disk, on which this was done, with this status, and
--- the disk that came of it was closed; or it gave none, and that was written.
-abbrev pub OnFile : {D : Type 0} → Asked D → (List ℕ → D → Type 0) → (D → Done D → Type 0)
-    → List ℕ → Output → ℕ → Type 0
-OnFile {D} WasAsked WasClosed Does path output status =
-    (answer : Result D DeviceFault) × WasAsked path answer × MatchResult answer
-    (λ old. (done : Done D) × Does old done × (status ≡ done.status) × WasClosed path done.disk)
-    (λ _. WritesLine output.was output.now (reason_bytes Device) 1 status)
+-- those of a drive
+abbrev pub deeds_in : {T D : Type 0} → drive.Ghosts T D → T → T → Deeds D
+deeds_in kept old new =
+    record { was = kept.deeds old; now = kept.deeds new; IsNew = kept.is_new }
 
--- What an action does with the input and the output, and the status that it gives. That of a file
--- is said of the disk that a drive gave for the file's path, by what such drives and disks tell.
-abbrev pub Acts : {T D : Type 0} → drive.Ghosts T D → disk.Ghosts D → Action → Streams → ℕ → Type 0
-Acts drives disks action.List streams status = ListsScript streams status
-Acts drives disks (action.Make file) streams status =
-    OnFile drives.created drives.closed (Makes disks streams.output)
-    (string_bytes file) streams.output status
-Acts drives disks (action.Run file) streams status =
-    OnFile drives.opened drives.closed (RunsOn disks streams)
-    (string_bytes file) streams.output status
-Acts drives disks (action.Check file) streams status =
-    OnFile drives.opened drives.closed (Checks disks streams.output)
-    (string_bytes file) streams.output status
-Acts drives disks (action.Upgrade file) streams status =
-    OnFile drives.opened drives.closed (Upgrades disks streams.output)
-    (string_bytes file) streams.output status
+-- A drive was asked for the disk of this path, and for nothing else. It gave one, on which this was
+-- done, with this status, and the disk that came of it was closed; or it gave none, and that was
+-- written.
+abbrev pub OnFile : {D : Type 0} → (List ℕ → Result D DeviceFault → Deed D) → List ℕ
+    → (D → Done D → Type 0) → Streams → Deeds D → ℕ → Type 0
+OnFile {D} asking path Does streams deeds status =
+    (answer : Result D DeviceFault) × MatchResult answer
+    (λ old. (done : Done D) × deeds.IsNew old × Does old done × (status ≡ done.status)
+    × (deeds.now ≡ deeds.was ++ asking path answer ∷ closed path done.disk ∷ []))
+    (λ _. WritesLine streams (reason_bytes Device) 1 status
+    × (deeds.now ≡ deeds.was ++ asking path answer ∷ []))
+
+-- What an action does with the input and the output, what it asks of a drive, and the status that
+-- it gives: of the file of its path, once, and of no other file.
+abbrev pub Acts : {D : Type 0} → disk.Ghosts D → Action → Streams → Deeds D → ℕ → Type 0
+Acts disks action.List streams deeds status =
+    ListsScript streams status × (deeds.now ≡ deeds.was)
+Acts disks (action.Make file) streams deeds status =
+    OnFile created (string_bytes file) (Makes disks streams) streams deeds status
+Acts disks (action.Run file) streams deeds status =
+    OnFile opened (string_bytes file) (RunsOn disks streams) streams deeds status
+Acts disks (action.Check file) streams deeds status =
+    OnFile opened (string_bytes file) (Checks disks streams) streams deeds status
+Acts disks (action.Upgrade file) streams deeds status =
+    OnFile opened (string_bytes file) (Upgrades disks streams) streams deeds status

@@ -1,7 +1,6 @@
 -- What the program writes beside replies, and its statuses.
-use Rattle.std.specs.Prelude.{◌≡◌, ◌⊎◌, ℕ, List, ◌++◌, codes, length, Option}
+use Rattle.std.specs.Prelude.{◌≡◌, ◌⊎◌, ℕ, suc, List, codes, length, true}
 use Rattle.std.specs.Prelude.{Result, Ok, Err}
-use Rattle.std.specs.Fmt.{decimal}
 use Rattle.std.specs.Io.KnownBytes.{Appends}
 use Rattle.tune_journal.specs.declared.open_fault.OpenFault.{OpenFault}
 use Rattle.tune_journal.specs.declared.open_fault.OpenFault.TheVariants.{NotArchive, Damaged}
@@ -11,6 +10,8 @@ use Rattle.tune_store.specs.Limits.{layout_number}
 use Rattle.tune_store.specs.State.{State}
 use Rattle.tune_store.specs.declared.command.Refusal.{Refusal}
 use Rattle.tune_store.specs.declared.command.Reply.{Reply}
+use Rattle.tune_scripts.specs.Replies.{line_of}
+use Rattle.tune_scripts.specs.Streams.{Output, Streams}
 use Rattle.tune_scripts.specs.declared.script_runs.RunEnd.{RunEnd}
 use Rattle.tune_scripts.specs.declared.script_runs.RunEnd.TheVariants.{Ended}
 
@@ -24,9 +25,18 @@ abbrev pub status_of_answer : Result Reply Refusal → ℕ
 status_of_answer (Ok reply) = 0
 status_of_answer (Err refusal) = 1
 
--- A line was written, and the status is this one; or it could not be written, and the status is 1.
-abbrev pub WritesLine : Option (List ℕ) → Option (List ℕ) → List ℕ → ℕ → ℕ → Type 0
-WritesLine was now line status given = (Appends was now line × (given ≡ status)) ⊎ (given ≡ 1)
+-- A line was written, and flushed.
+pub record IsWritten (output : Output) (line : List ℕ) : Type 0 where
+  pub bytes : Appends output.was.bytes output.now.bytes line
+  pub flushed : output.now.flushed ≡ true
+  pub faults : output.now.faults ≡ output.was.faults
+
+-- A line was written and flushed, and the status is this one; or the writer failed, and the status
+-- is 1. The input is left as it was.
+abbrev pub WritesLine : Streams → List ℕ → ℕ → ℕ → Type 0
+WritesLine streams line status given = (streams.input.now ≡ streams.input.was)
+    × ((IsWritten streams.output line × (given ≡ status))
+    ⊎ ((streams.output.now.faults ≡ suc streams.output.was.faults) × (given ≡ 1)))
 
 -- why an archive was not made, or not opened
 abbrev pub reason_bytes : OpenFault → List ℕ
@@ -45,12 +55,6 @@ status_of_opening Damaged = 3
 status_of_opening NotEmpty = 3
 
 -- the layout of an archive, and how many tunes and set lists it holds
-abbrev pub line_of : ℕ → ℕ → ℕ → List ℕ
-line_of layout tunes sets =
-    codes "layout " ++ decimal layout ++ codes " tunes " ++ decimal tunes ++ codes " sets "
-    ++ decimal sets ++ codes "\n"
-
--- the same of a state
 abbrev pub counts_bytes : State → List ℕ
 counts_bytes state =
     line_of (layout_number state.layout) (length state.tunes) (length state.sets)

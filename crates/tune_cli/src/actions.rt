@@ -1,7 +1,7 @@
 // What the program does for its words.
 ghost use Rattle.std.specs.Prelude.{◌≡◌, [], Some, IfOk, IfErr, IfSome, map, string_bytes};
-ghost use Rattle.tune_scripts.specs.Streams.{streams_of};
-ghost use Rattle.tune_cli.specs.Acts.{Acts, ListsScript};
+ghost use Rattle.tune_scripts.specs.Streams.{streams_in};
+ghost use Rattle.tune_cli.specs.Acts.{Acts, ListsScript, deeds_in};
 ghost use Rattle.tune_cli.specs.CommandLine.{subcommand_in, name_of, file_in, file_of};
 ghost use Rattle.tune_cli.specs.CommandLine.{faults_in, FaultFits};
 ghost use Rattle.tune_cli.specs.ProgramLines.{status_of};
@@ -9,9 +9,8 @@ ghost use Rattle.tune_cli.specs.ProgramLines.{status_of};
 use crate::command_line::{Action, WordsFault, asked, command_line};
 use crate::file_actions::{check, make, run_file, upgrade};
 use std::alloc::Global;
-use std::io::{BufRead, Write};
 use tune_disk::{Disk, Drive};
-use tune_scripts::{RunEnd, run};
+use tune_scripts::{Console, RunEnd, run};
 use tune_store::ListArchive;
 
 /// What the words of the program ask for, its name being the first of them.
@@ -41,37 +40,35 @@ pub fn action(alloc: Global, words: &[String]) -> Result<Action, WordsFault>
 /// where no archive stands in the file, or a file that is to be made has bytes; and else 1. A file
 /// that cannot be opened or made is answered `refused 22 Device`.
 ///
-/// What the clause says of the commands that are carried out, of the device and of the status holds
-/// of every reader. That they are those of the input, and what is written, is said of a reader that
-/// tells its bytes. Standard input tells none. Of a file it says what `make_on`, `run_on`,
-/// `check_on` and `upgrade_on` say of the disk that `rt`, as a drive, gave for the file's path, and
-/// that the disk that came of it was closed. `make` alone asks for a file that may have to be made.
-pub fn act<R: BufRead, W: Write, D: Disk, T: AllocGlobal + Drive<Disk = D>>(
-    rt: &T,
+/// What the clause says of the commands that are carried out, of the device, of faults and of the
+/// status holds of every console. That they are those of the input, and what is written, is said of
+/// a console that tells its bytes. Standard input tells none. Of a file it says what `make_on`,
+/// `run_on`, `check_on` and `upgrade_on` say of the disk that the drive gave for the file's path,
+/// that the disk that came of it was closed, and that the drive was asked for nothing else. `make`
+/// alone asks for a file that may have to be made.
+pub fn act<C: Console, D: Disk, T: AllocGlobal + Drive<Disk = D>>(
+    drive: &mut T,
     action: &Action,
-    reader: &mut R,
-    writer: &mut W,
+    console: &mut C,
 ) -> u8
-    ensures { Acts T.Drive D.Disk action.now
-        (streams_of (R.remaining reader.old) (R.remaining reader.new)
-        (W.contents writer.old) (W.contents writer.new)) result }
+    ensures { Acts D.Disk action.now (streams_in C.Console console.old console.new)
+        (deeds_in T.Drive drive.old drive.new) result }
 {
     match action {
-        Action::List => list(rt.alloc(), reader, writer),
-        Action::Make(file) => make(rt, file.as_str(), writer),
-        Action::Run(file) => run_file(rt, file.as_str(), reader, writer),
-        Action::Check(file) => check(rt, file.as_str(), writer),
-        Action::Upgrade(file) => upgrade(rt, file.as_str(), writer),
+        Action::List => list(drive.alloc(), console),
+        Action::Make(file) => make(drive, file, console),
+        Action::Run(file) => run_file(drive, file, console),
+        Action::Check(file) => check(drive, file, console),
+        Action::Upgrade(file) => upgrade(drive, file, console),
     }
 }
 
-// Runs the script of the reader on an empty archive in memory.
-fn list<R: BufRead, W: Write>(alloc: Global, reader: &mut R, writer: &mut W) -> u8
-    ensures { ListsScript (streams_of (R.remaining reader.old) (R.remaining reader.new)
-        (W.contents writer.old) (W.contents writer.new)) result }
+// Runs the script of the console on an empty archive in memory.
+fn list<C: Console>(alloc: Global, console: &mut C) -> u8
+    ensures { ListsScript (streams_in C.Console console.old console.new) result }
 {
     let mut archive = ListArchive::new(alloc);
-    let end = run(alloc, reader, writer, &mut archive);
+    let end = run(alloc, console, &mut archive);
     status(end)
 }
 

@@ -1,23 +1,23 @@
 // What the program does with an archive in a file.
-ghost use Rattle.std.specs.Prelude.{codes, OnOk};
+ghost use Rattle.std.specs.Prelude.{◌≡◌, ◌×◌, codes, false, true, ℕ, string_bytes, OnOk};
 ghost use Rattle.std.specs.Io.KnownBytes.{Appends};
+ghost use Rattle.tune_disk.specs.Deeds.{opened, created};
 ghost use Rattle.tune_pages.specs.Kept.{HonestAt};
 ghost use Rattle.tune_archive.specs.Shelf.{state_of};
-ghost use Rattle.tune_cli.specs.Acts.{OnFile};
-ghost use Rattle.tune_scripts.specs.Replies.{answer_bytes};
-ghost use Rattle.tune_scripts.specs.Streams.{output_of, streams_of};
+ghost use Rattle.tune_cli.specs.Acts.{OnFile, deeds_in};
+ghost use Rattle.tune_scripts.specs.Replies.{answer_bytes, line_of};
+ghost use Rattle.tune_scripts.specs.Streams.{IsWrite, streams_in};
 ghost use Rattle.tune_cli.specs.FileActs.{Makes, Checks, RunsOn, Upgrades};
-ghost use Rattle.tune_cli.specs.ProgramLines.{WritesLine, reason_bytes, line_of, status_of_opening};
+ghost use Rattle.tune_cli.specs.ProgramLines.{WritesLine, reason_bytes, status_of_opening};
 ghost use Rattle.tune_cli.specs.ProgramLines.{counts_bytes, status_of_answer};
 
 use crate::actions::status;
 use std::alloc::Global;
 use std::io;
-use std::io::{BufRead, Write};
 use tune_archive::{Archive, Counts, TuneStore};
 use tune_disk::{DeviceFault, Disk, Drive};
 use tune_journal::OpenFault;
-use tune_scripts::{run, write_answer};
+use tune_scripts::{Console, run, write_answer, write_counts};
 use tune_store::{Command, Refusal, Reply};
 
 const DONE: u8 = 0;
@@ -40,19 +40,19 @@ pub struct Done<D: Disk> {
 ///
 /// Where each file that a stop may leave at the start has no byte, a stop at any moment leaves no
 /// archive or an empty one.
-pub fn make_on<W: Write, D: Disk>(alloc: Global, writer: &mut W, disk: D) -> Done<D>
+pub fn make_on<C: Console, D: Disk>(alloc: Global, console: &mut C, disk: D) -> Done<D>
     ensures honest { D.honest result.disk → D.honest disk }
     ensures makes { Makes D.Disk
-        (output_of (W.contents writer.old) (W.contents writer.new)) disk result }
+        (streams_in C.Console console.old console.new) disk result }
 {
     match Archive::make(alloc, disk) {
         Ok(archive) => {
-            let status = say_made(writer);
+            let status = say_made(console);
             let disk = archive.into_disk();
             Done { status, disk }
         }
         Err(refused) => Done {
-            status: say_reason(writer, refused.why),
+            status: say_reason(console, refused.why),
             disk: refused.disk,
         },
     }
@@ -60,19 +60,19 @@ pub fn make_on<W: Write, D: Disk>(alloc: Global, writer: &mut W, disk: D) -> Don
 
 /// Opens the archive of a disk, and writes how much it holds; or writes why it was not opened. The
 /// status is 0; 3 where no archive stands there; and else 1.
-pub fn check_on<W: Write, D: Disk>(alloc: Global, writer: &mut W, disk: D) -> Done<D>
+pub fn check_on<C: Console, D: Disk>(alloc: Global, console: &mut C, disk: D) -> Done<D>
     ensures honest { D.honest result.disk → D.honest disk }
     ensures checks { Checks D.Disk
-        (output_of (W.contents writer.old) (W.contents writer.new)) disk result }
+        (streams_in C.Console console.old console.new) disk result }
 {
     match Archive::open(alloc, disk) {
         Ok(archive) => {
-            let status = say_held(writer, &archive);
+            let status = say_held(console, &archive);
             let disk = archive.into_disk();
             Done { status, disk }
         }
         Err(refused) => Done {
-            status: say_reason(writer, refused.why),
+            status: say_reason(console, refused.why),
             disk: refused.disk,
         },
     }
@@ -87,27 +87,21 @@ pub fn check_on<W: Write, D: Disk>(alloc: Global, writer: &mut W, disk: D) -> Do
 ///
 /// The clause `runs` speaks of disks by what these tell (`D.Disk`), of what the reader and the
 /// writer tell before and after the call, of the disk that was given, and of the result.
-pub fn run_on<R: BufRead, W: Write, D: Disk>(
-    alloc: Global,
-    reader: &mut R,
-    writer: &mut W,
-    disk: D,
-) -> Done<D>
+pub fn run_on<C: Console, D: Disk>(alloc: Global, console: &mut C, disk: D) -> Done<D>
     ensures honest { D.honest result.disk → D.honest disk }
     ensures runs { RunsOn D.Disk
-        (streams_of (R.remaining reader.old) (R.remaining reader.new)
-        (W.contents writer.old) (W.contents writer.new)) disk result }
+        (streams_in C.Console console.old console.new) disk result }
 {
     match Archive::open(alloc, disk) {
         Ok(mut archive) => {
-            let end = run(alloc, reader, writer, &mut archive);
+            let end = run(alloc, console, &mut archive);
             Done {
                 status: status(end),
                 disk: archive.into_disk(),
             }
         }
         Err(refused) => Done {
-            status: say_reason(writer, refused.why),
+            status: say_reason(console, refused.why),
             disk: refused.disk,
         },
     }
@@ -119,154 +113,164 @@ pub fn run_on<R: BufRead, W: Write, D: Disk>(
 ///
 /// A stop at any moment of the call leaves the archive as it was, or the same tunes and set lists
 /// in layout 2. An archive of layout 2 is not written to.
-pub fn upgrade_on<W: Write, D: Disk>(alloc: Global, writer: &mut W, disk: D) -> Done<D>
+pub fn upgrade_on<C: Console, D: Disk>(alloc: Global, console: &mut C, disk: D) -> Done<D>
     ensures honest { D.honest result.disk → D.honest disk }
     ensures upgrades { Upgrades D.Disk
-        (output_of (W.contents writer.old) (W.contents writer.new)) disk result }
+        (streams_in C.Console console.old console.new) disk result }
 {
     match Archive::open(alloc, disk) {
         Ok(mut opened) => {
             let answer = opened.apply(&Command::Upgrade);
-            let status = say_answer(writer, &answer);
+            let status = say_answer(console, &answer);
             let disk = opened.into_disk();
             Done { status, disk }
         }
         Err(refused) => Done {
-            status: say_reason(writer, refused.why),
+            status: say_reason(console, refused.why),
             disk: refused.disk,
         },
     }
 }
 
 // Makes an archive in the file at a path.
-pub(crate) fn make<W: Write, D: Disk, T: AllocGlobal + Drive<Disk = D>>(
-    rt: &T,
-    path: &str,
-    writer: &mut W,
+pub(crate) fn make<C: Console, D: Disk, T: AllocGlobal + Drive<Disk = D>>(
+    drive: &mut T,
+    path: &String,
+    console: &mut C,
 ) -> u8
-    ensures { let output = output_of (W.contents writer.old) (W.contents writer.new) in
-        OnFile T.created T.closed (Makes D.Disk output) path.now output result }
+    ensures { let streams = streams_in C.Console console.old console.new in
+        OnFile created (string_bytes path.now) (Makes D.Disk streams) streams
+        (deeds_in T.Drive drive.old drive.new) result }
 {
-    match rt.create(path) {
+    match drive.create(path) {
         Ok(disk) => {
-            let Done { status, disk } = make_on(rt.alloc(), writer, disk);
-            rt.close(path, disk);
+            let Done { status, disk } = make_on(drive.alloc(), console, disk);
+            drive.close(path, disk);
             status
         }
-        Err(DeviceFault) => say_reason(writer, OpenFault::Device),
+        Err(DeviceFault) => say_reason(console, OpenFault::Device),
     }
 }
 
 // Tells how much the archive in the file at a path holds.
-pub(crate) fn check<W: Write, D: Disk, T: AllocGlobal + Drive<Disk = D>>(
-    rt: &T,
-    path: &str,
-    writer: &mut W,
+pub(crate) fn check<C: Console, D: Disk, T: AllocGlobal + Drive<Disk = D>>(
+    drive: &mut T,
+    path: &String,
+    console: &mut C,
 ) -> u8
-    ensures { let output = output_of (W.contents writer.old) (W.contents writer.new) in
-        OnFile T.opened T.closed (Checks D.Disk output) path.now output result }
+    ensures { let streams = streams_in C.Console console.old console.new in
+        OnFile opened (string_bytes path.now) (Checks D.Disk streams) streams
+        (deeds_in T.Drive drive.old drive.new) result }
 {
-    match rt.open(path) {
+    match drive.open(path) {
         Ok(disk) => {
-            let Done { status, disk } = check_on(rt.alloc(), writer, disk);
-            rt.close(path, disk);
+            let Done { status, disk } = check_on(drive.alloc(), console, disk);
+            drive.close(path, disk);
             status
         }
-        Err(DeviceFault) => say_reason(writer, OpenFault::Device),
+        Err(DeviceFault) => say_reason(console, OpenFault::Device),
     }
 }
 
 // Brings the archive in the file at a path to layout 2.
-pub(crate) fn upgrade<W: Write, D: Disk, T: AllocGlobal + Drive<Disk = D>>(
-    rt: &T,
-    path: &str,
-    writer: &mut W,
+pub(crate) fn upgrade<C: Console, D: Disk, T: AllocGlobal + Drive<Disk = D>>(
+    drive: &mut T,
+    path: &String,
+    console: &mut C,
 ) -> u8
-    ensures { let output = output_of (W.contents writer.old) (W.contents writer.new) in
-        OnFile T.opened T.closed (Upgrades D.Disk output) path.now output result }
+    ensures { let streams = streams_in C.Console console.old console.new in
+        OnFile opened (string_bytes path.now) (Upgrades D.Disk streams) streams
+        (deeds_in T.Drive drive.old drive.new) result }
 {
-    match rt.open(path) {
+    match drive.open(path) {
         Ok(disk) => {
-            let Done { status, disk } = upgrade_on(rt.alloc(), writer, disk);
-            rt.close(path, disk);
+            let Done { status, disk } = upgrade_on(drive.alloc(), console, disk);
+            drive.close(path, disk);
             status
         }
-        Err(DeviceFault) => say_reason(writer, OpenFault::Device),
+        Err(DeviceFault) => say_reason(console, OpenFault::Device),
     }
 }
 
 // Runs a script on the archive in the file at a path.
-pub(crate) fn run_file<R: BufRead, W: Write, D: Disk, T: AllocGlobal + Drive<Disk = D>>(
-    rt: &T,
-    path: &str,
-    reader: &mut R,
-    writer: &mut W,
+pub(crate) fn run_file<C: Console, D: Disk, T: AllocGlobal + Drive<Disk = D>>(
+    drive: &mut T,
+    path: &String,
+    console: &mut C,
 ) -> u8
-    ensures { let streams = streams_of (R.remaining reader.old) (R.remaining reader.new)
-        (W.contents writer.old) (W.contents writer.new) in
-        OnFile T.opened T.closed (RunsOn D.Disk streams) path.now streams.output result }
+    ensures { let streams = streams_in C.Console console.old console.new in
+        OnFile opened (string_bytes path.now) (RunsOn D.Disk streams) streams
+        (deeds_in T.Drive drive.old drive.new) result }
 {
-    match rt.open(path) {
+    match drive.open(path) {
         Ok(disk) => {
-            let Done { status, disk } = run_on(rt.alloc(), reader, writer, disk);
-            rt.close(path, disk);
+            let Done { status, disk } = run_on(drive.alloc(), console, disk);
+            drive.close(path, disk);
             status
         }
-        Err(DeviceFault) => say_reason(writer, OpenFault::Device),
+        Err(DeviceFault) => say_reason(console, OpenFault::Device),
     }
 }
 
 // Writes that an archive was made.
-fn say_made<W: Write>(writer: &mut W) -> u8
-    ensures { WritesLine (W.contents writer.old) (W.contents writer.new) (codes "made\n") 0 result }
+fn say_made<C: Console>(console: &mut C) -> u8
+    ensures { WritesLine (streams_in C.Console console.old console.new) (codes "made\n") 0 result }
 {
-    match write_out(writer, b"made\n") {
+    match write_out(console, b"made\n") {
         Ok(()) => DONE,
         Err(_) => FAILED,
     }
 }
 
 // Writes the answer to a command.
-fn say_answer<W: Write>(writer: &mut W, answer: &Result<Reply, Refusal>) -> u8
-    ensures { WritesLine (W.contents writer.old) (W.contents writer.new) (answer_bytes answer.now)
+fn say_answer<C: Console>(console: &mut C, answer: &Result<Reply, Refusal>) -> u8
+    ensures { WritesLine (streams_in C.Console console.old console.new) (answer_bytes answer.now)
         (status_of_answer answer.now) result }
 {
     let status = match answer {
         Ok(_) => DONE,
         Err(_) => FAILED,
     };
-    match write_answer(writer, answer) {
+    match write_answer(console, answer) {
         Ok(()) => status,
         Err(_) => FAILED,
     }
 }
 
 // Writes how much an archive holds, which is open.
-fn say_held<W: Write, D: Disk>(writer: &mut W, archive: &Archive<D>) -> u8
-    ensures { HonestAt D.honest archive.now.pages.disk
-        → WritesLine (W.contents writer.old) (W.contents writer.new)
+fn say_held<C: Console, D: Disk>(console: &mut C, archive: &Archive<D>) -> u8
+    ensures said { archive.now.closed ≡ false → (layout tunes sets : ℕ)
+        × WritesLine (streams_in C.Console console.old console.new)
+        (line_of layout tunes sets) 0 result }
+    ensures held { archive.now.closed ≡ false → HonestAt D.honest archive.now.pages.disk
+        → WritesLine (streams_in C.Console console.old console.new)
         (counts_bytes (state_of D.state archive.now)) 0 result }
 {
     match archive.counts() {
-        Ok(counts) => say_counts(writer, counts),
+        Ok(counts) => say_counts(console, counts),
         Err(_) => FAILED,
     }
 }
 
 // Writes these numbers.
-fn say_counts<W: Write>(writer: &mut W, counts: Counts) -> u8
-    ensures { WritesLine (W.contents writer.old) (W.contents writer.new)
+fn say_counts<C: Console>(console: &mut C, counts: Counts) -> u8
+    ensures { WritesLine (streams_in C.Console console.old console.new)
         (line_of counts.layout counts.tunes counts.sets) 0 result }
 {
-    match write_counts(writer, counts) {
+    let Counts {
+        layout,
+        tunes,
+        sets,
+    } = counts;
+    match write_counts(console, u64::from(layout), tunes as u64, sets as u64) {
         Ok(()) => DONE,
         Err(_) => FAILED,
     }
 }
 
 // Writes why an archive was not made, or not opened.
-fn say_reason<W: Write>(writer: &mut W, why: OpenFault) -> u8
-    ensures { WritesLine (W.contents writer.old) (W.contents writer.new) (reason_bytes why)
+fn say_reason<C: Console>(console: &mut C, why: OpenFault) -> u8
+    ensures { WritesLine (streams_in C.Console console.old console.new) (reason_bytes why)
         (status_of_opening why) result }
 {
     let (line, status): (&[u8], u8) = match why {
@@ -276,29 +280,19 @@ fn say_reason<W: Write>(writer: &mut W, why: OpenFault) -> u8
         OpenFault::Damaged => (b"refused 41 Damaged\n", NO_ARCHIVE),
         OpenFault::NotEmpty => (b"refused 42 NotEmpty\n", NO_ARCHIVE),
     };
-    match write_out(writer, line) {
+    match write_out(console, line) {
         Ok(()) => status,
         Err(_) => FAILED,
     }
 }
 
 // Writes a line, and flushes it.
-fn write_out<W: Write>(writer: &mut W, line: &[u8]) -> io::Result<()>
-    ensures { OnOk result (Appends (W.contents writer.old) (W.contents writer.new) line.now) }
+fn write_out<C: Console>(console: &mut C, line: &[u8]) -> io::Result<()>
+    ensures bytes { OnOk result
+        (Appends (C.output console.old).bytes (C.output console.new).bytes line.now) }
+    ensures flushed { OnOk result ((C.output console.new).flushed ≡ true) }
+    ensures rest { IsWrite (streams_in C.Console console.old console.new) result }
 {
-    writer.write_all(line)?;
-    writer.flush()
-}
-
-fn write_counts<W: Write>(writer: &mut W, counts: Counts) -> io::Result<()>
-    ensures { OnOk result (Appends (W.contents writer.old) (W.contents writer.new)
-        (line_of counts.layout counts.tunes counts.sets)) }
-{
-    let Counts {
-        layout,
-        tunes,
-        sets,
-    } = counts;
-    write!(writer, "layout {layout} tunes {tunes} sets {sets}\n")?;
-    writer.flush()
+    console.write(line)?;
+    console.flush()
 }

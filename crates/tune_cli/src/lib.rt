@@ -8,4 +8,4 @@ mod file_actions;
 pub use actions::{act, action, status};
 pub use command_line::{Action, VERSION, WordsFault, report};
 pub use file_actions::{Done, check_on, make_on, run_on, upgrade_on};
-pub use tune_scripts::{LONGEST_LINE, MOST_LINES, RunEnd, run};
+pub use tune_scripts::{Console, LONGEST_LINE, MOST_LINES, RunEnd, StreamConsole, run};

@@ -1,5 +1,7 @@
 pub mod ByteWrites
 pub mod Disk
+pub mod DeedLog
+pub mod Deeds
 pub mod FileDisk
 pub mod FileTold
 pub mod Inside

@@ -2,6 +2,7 @@
 #![tactic(auto)]
 
 mod buffers;
+mod deed_log;
 mod disk;
 mod drive;
 mod file;
@@ -10,6 +11,7 @@ mod laws;
 mod memory;
 mod one_fault;
 
+pub use deed_log::DeedLog;
 pub use disk::{DeviceFault, Disk};
 pub use drive::Drive;
 pub use file::FileDisk;

@@ -10,7 +10,8 @@ use Rattle.std.proofs.lemmas.Bool.{and_parts, not-true, true≢false, false_from
 use Rattle.abc_fields.specs.Bytes.{line_feed}
 use Rattle.tune_scripts.specs.Limits.{longest_line}
 use Rattle.tune_scripts.specs.InputLines.{before_feed, after_feed, has_feed}
-use Rattle.tune_scripts.specs.Inside.Reads.{is_inside, TakesLine, LosesLongLine}
+use Rattle.tune_scripts.specs.Consoles.{is_inside}
+use Rattle.tune_scripts.specs.Inside.Reads.{TakesLine, LosesLongLine}
 
 pub consumes_more : (a b c : Option (List ℕ)) (x y : List ℕ) → Consumes a b x → Consumes b c y → Consumes a c (x ++ y)
 consumes_more None b c x y h k = tt

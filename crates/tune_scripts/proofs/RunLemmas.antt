@@ -1,20 +1,22 @@
 -- A script's turns, one after another, over a writer and a store of any kind.
-use Rattle.std.proofs.Common.{◌≡◌, ℕ, suc, false, List, [], ◌++◌, Option, None, Some, refl, sym, ap, subst}
+use Rattle.std.proofs.Common.{◌≡◌, ℕ, suc, ◌+◌, Bool, true, false, List, [], ◌++◌, Option, None, Some, refl, sym, ap, ◌∙◌, subst, arith}
 use Rattle.std.specs.Prelude.{IfSome}
-use Rattle.std.specs.Io.KnownBytes.{Appends}
+use Rattle.std.specs.Io.KnownBytes.{Appends, Consumes}
 use Rattle.std.proofs.lemmas.List.{append_assoc, append-nil}
 use Rattle.tune_store.specs.Stores.{standing_of}
 use Rattle.tune_store.specs.declared.tune_store.TuneStore as store
 use Rattle.tune_scripts.specs.declared.script_runs.RunEnd.{RunEnd}
 use Rattle.tune_scripts.specs.declared.script_runs.RunEnd.TheVariants.{Ended, LineBound, LongLine, ReaderFault, WriterFault, DeviceFault}
 use Rattle.tune_scripts.specs.declared.script_runs.RunEnd.TheVariants as run
+use Rattle.tune_scripts.specs.Consoles.{InputTold, OutputTold, Look}
+use Rattle.tune_scripts.specs.Looks.{IsPrompt, IsPartOfTurn, LooksMore, LooksBehind, LooksPromptly, TellsFaults}
 use Rattle.tune_scripts.specs.Carried.{Carried, CarriesOut, LeftByRun, run_of}
 use Rattle.tune_scripts.specs.Prefixes.{AreAcknowledged}
 use Rattle.tune_scripts.specs.Scripts.{Script, line_bound}
-use Rattle.tune_scripts.specs.ScriptRuns.{RunWork, work_by, UnlessWriterFails, WritesScript, TellsScript, RunsScript, EndsAfter, at_other_end}
-use Rattle.tune_scripts.specs.Streams.{output_of, streams_of}
-use Rattle.tune_scripts.specs.Inside.Turns.{GoesOn, Turns, TurnsOver}
+use Rattle.tune_scripts.specs.ScriptRuns.{RunWork, work_by, UnlessWriterFails, WritesScript, TellsScript, EndsAfter, at_other_end}
+use Rattle.tune_scripts.specs.Inside.Turns.{output_of, GoesOn, Turns, TurnsOver}
 use Rattle.tune_scripts.proofs.AppendLemmas.{appends_more}
+use Rattle.tune_scripts.proofs.LookLemmas.{from, both_told, looks_none, looks_then, looks_map}
 use Rattle.tune_scripts.proofs.TurnLemmas.{appends_none}
 use Rattle.tune_scripts.proofs.CarriedLemmas.{acknowledged_more, ends_more, run_more, carries_more}
 
@@ -89,6 +91,14 @@ module _ {S : Type 0} (s : store.Ghosts S) where
     pub acknowledged : AreAcknowledged (run_of carried)
     pub came : IfSome old_input (λ input. GoesOn lines more input new_input (work_by s was now old carried new))
 
+  -- What a run came to, by the bytes of its input and its output.
+  pub record HasRun (lines : ℕ) (old_input new_input was now : Option (List ℕ)) (old new : S) (end : RunEnd) : Type 0 where
+    pub carried : List (Carried S)
+    pub carries_out : CarriesOut s old carried new
+    pub ends : EndsAfter end (run_of carried)
+    pub script : TellsScript lines old_input new_input (work_by s was now old carried new) end
+    pub stops : s.sound old → s.closed old ≡ false → LeftByRun s old carried new
+
   -- the work of two parts of a run
   both_by : (was between now : Option (List ℕ)) (a b : List (Carried S)) (old mid new : S)
       → both (work_by s was between old a mid) (work_by s between now mid b new) ≡ work_by s was now old (a ++ b) new
@@ -151,7 +161,7 @@ module _ {S : Type 0} (s : store.Ghosts S) where
         → TurnsOver s (output_of between now) mid new (Some end) (λ work. Turns between_input new_input work (Some end))
         → ((carried : List (Carried S)) → CarriesOut s old carried new → EndsAfter end (run_of carried)
         → s.sound old → s.closed old ≡ false → LeftByRun s old carried new)
-        → RunsScript s lines (streams_of old_input new_input was now) old new end
+        → HasRun lines old_input new_input was now old new end
     so_far_end end old_input between_input h k left =
         let carries_out = carries_more s h.carried k.carried old mid new h.carries_out k.carries_out in
         let ends = subst (EndsAfter end) (sym (run_more h.carried k.carried)) (ends_more end (run_of h.carried) (run_of k.carried) h.acknowledged k.goes) in
@@ -172,7 +182,7 @@ module _ {S : Type 0} (s : store.Ghosts S) where
   pub so_far_all : (lines : ℕ) (old_input new_input was now : Option (List ℕ)) (old new : S) → IsSoFar lines 0 old_input new_input was now old new
       → ((carried : List (Carried S)) → CarriesOut s old carried new → EndsAfter LineBound (run_of carried)
       → s.sound old → s.closed old ≡ false → LeftByRun s old carried new)
-      → RunsScript s lines (streams_of old_input new_input was now) old new LineBound
+      → HasRun lines old_input new_input was now old new LineBound
   so_far_all lines old_input new_input was now old new h left =
       let ends : EndsAfter LineBound (run_of h.carried) = at_other_end LineBound (run_of h.carried) tt h.acknowledged in
       record {
@@ -182,3 +192,50 @@ module _ {S : Type 0} (s : store.Ghosts S) where
         script = came_all lines old_input new_input (work_by s was now old h.carried new) h.came;
         stops = left h.carried h.carries_out ends;
       }
+
+  -- LOOKS
+  -- At a look behind some turns, and before the next line is whole, these turns were answered.
+  pub prompt_behind : (lines : ℕ) (input : List ℕ) (between was : Option (List ℕ)) (at : OutputTold) (old mid : S) (look : Look)
+      → IsSoFar (lines + 0) 0 (Some input) between was at.bytes old mid → at.flushed ≡ true → look.output ≡ at → (taken : List ℕ)
+      → Consumes between look.left taken → IsPartOfTurn taken → IsPrompt (standing_of s old) input was look
+  prompt_behind lines input between was at old mid look h flushed same taken leaves part =
+      let came = ends_at_bound (lines + 0) input between (work_by s was at.bytes old h.carried mid) h.came in record {
+        lines = lines + 0;
+        out = came.out;
+        run = run_of h.carried;
+        after = standing_of s mid;
+        rest = came.unread;
+        so_far = came.script;
+        answered = subst (λ (o : OutputTold). Appends was o.bytes came.out) (sym same) came.written;
+        flushed = ap (λ (o : OutputTold). o.flushed) same ∙ flushed;
+        taken = taken;
+        leaves = subst (λ left. Consumes left look.left taken) came.leaves leaves;
+        part = part;
+      }
+
+  pub so_far_start : (n : ℕ) (input was : Option (List ℕ)) (here : S) → IsSoFar (0 + n) n input input was was here here
+  so_far_start n input was here =
+      let none : n ≡ 0 + n = omega arith in
+      subst (λ lines. IsSoFar lines n input input was was here here) none (so_far_none n input was here)
+
+  pub prompt_none : (i : InputTold) (o : OutputTold) (here : S) → LooksPromptly (standing_of s here) (both_told i i o o)
+  prompt_none i o here = at i.left
+    where
+      at : (left : Option (List ℕ)) → IfSome left (λ input. LooksMore (from i i) (IsPrompt (standing_of s here) input o.bytes))
+      at None = tt
+      at (Some input) = looks_none i i _ refl
+
+  -- one turn more, which looked at its line and its book
+  pub prompt_more : (lines : ℕ) (i j k : InputTold) (o p q : OutputTold) (old mid : S) → ((IsSoFar (lines + 0) 0 i.left j.left o.bytes p.bytes old mid))
+      → TellsFaults (both_told i j o p) None → LooksBehind (both_told j k p q) IsPartOfTurn → o.flushed ≡ true
+      → LooksPromptly (standing_of s old) (both_told i j o p) → LooksPromptly (standing_of s old) (both_told i k o q)
+  prompt_more lines i j k o p q old mid so_far faults looks flushed before = at i.left so_far before
+    where
+      at : (left : Option (List ℕ)) → IsSoFar (lines + 0) 0 left j.left o.bytes p.bytes old mid
+          → IfSome left (λ input. LooksMore (from i j) (IsPrompt (standing_of s old) input o.bytes))
+          → IfSome left (λ input. LooksMore (from i k) (IsPrompt (standing_of s old) input o.bytes))
+      at None h b = tt
+      at (Some input) h b =
+          looks_then i j k _ b
+          (looks_map j k _ _
+          (λ look it. prompt_behind lines input j.left o.bytes p old mid look h (faults.flushed refl flushed) it.0 it.1 it.2 it.3) looks)

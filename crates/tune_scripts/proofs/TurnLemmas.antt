@@ -13,6 +13,7 @@ use Rattle.tune_store.specs.declared.command.Reply.{Reply}
 use Rattle.tune_store.specs.declared.command.Refusal.{Refusal}
 use Rattle.tune_store.specs.declared.command.Refusal.TheVariants.{BookTooLong, OutOfMemory}
 use Rattle.tune_store.specs.declared.tune_store.TuneStore as store
+use Rattle.tune_scripts.specs.Consoles.{InputTold, OutputTold}
 use Rattle.tune_scripts.specs.declared.script_lines.ScriptLine.{ScriptLine}
 use Rattle.tune_scripts.specs.declared.script_lines.ScriptLine.TheVariants.{Blank, Bad, Whole, Book}
 use Rattle.tune_scripts.specs.declared.script_lines.BookUse.{BookUse}
@@ -29,9 +30,8 @@ use Rattle.tune_scripts.specs.Scripts.{reading_of, reading_of_book, reading_of_m
 use Rattle.tune_scripts.specs.Scripts.{long_book, whole_command, Script, ended, device_fault, at_long_line, at_cut_book, after_blank_line, after_bad_line}
 use Rattle.tune_scripts.specs.Scripts.{after_long_book, after_no_room, after_answer, reader_fault, writer_fault, writer_fault_after}
 use Rattle.tune_scripts.specs.ScriptRuns.{RunWork, work_by, at_other_end, at_device_fault}
-use Rattle.tune_scripts.specs.Streams.{output_of}
 use Rattle.tune_scripts.specs.Inside.Reads.{IsLineRead, TakesLine, LosesLongLine, IsCut}
-use Rattle.tune_scripts.specs.Inside.Turns.{GoesOn, TurnOf, Turns, TurnsBook, TurnsOver, GoesBy, WritesOut, IsCarriedOut, next_of}
+use Rattle.tune_scripts.specs.Inside.Turns.{output_of, GoesOn, TurnOf, Turns, TurnsBook, TurnsOver, GoesBy, WritesOut, IsCarriedOut, next_of}
 
 pub appends_none : (a : Option (List ℕ)) → Appends a a []
 appends_none None = tt
@@ -395,3 +395,12 @@ pub goes_quiet : (was now : Option (List ℕ)) (bytes : List ℕ) (next result :
     → GoesBy result []
 goes_quiet was now bytes next result goes (inl fault) = rw fault (at_other_end WriterFault [] tt tt)
 goes_quiet was now bytes next result goes (inr w) = rw w.0 goes
+
+-- BEHIND A READ
+-- What a turn did at the output before its read, and at the input before its answer.
+pub turned : {S : Type 0} (kept : store.Ghosts S) (T : Option (List ℕ) → RunWork → Type 0) (was mid now : OutputTold) (at after : InputTold) (old new : S)
+    (result : Option RunEnd) → mid ≡ was → after ≡ at → TurnsOver kept (output_of mid.bytes now.bytes) old new result (T at.left)
+    → TurnsOver kept (output_of was.bytes now.bytes) old new result (T after.left)
+turned kept T was mid now at after old new result same left h =
+    subst (λ (o : OutputTold). TurnsOver kept (output_of o.bytes now.bytes) old new result (T after.left)) same
+    (subst (λ (i : InputTold). TurnsOver kept (output_of mid.bytes now.bytes) old new result (T i.left)) (sym left) h)

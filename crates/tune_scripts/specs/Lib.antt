@@ -5,6 +5,9 @@ pub mod Replies
 pub mod Prefixes
 pub mod Carried
 pub mod Scripts
+pub mod Consoles
+pub mod StreamConsoles
 pub mod Streams
+pub mod Looks
 pub mod ScriptRuns
 pub mod Inside

@@ -139,3 +139,10 @@ answer_bytes (Err refusal) = refusal_bytes refusal
 -- a line that is no command, or a book that the input's end cuts
 abbrev pub bad_line_bytes : List ℕ
 bad_line_bytes = codes "refused 30 BadLine\n"
+
+-- BESIDE COMMANDS
+-- the layout of an archive, and how many tunes and set lists it holds
+abbrev pub line_of : ℕ → ℕ → ℕ → List ℕ
+line_of layout tunes sets =
+    codes "layout " ++ decimal layout ++ codes " tunes " ++ decimal tunes ++ codes " sets "
+    ++ decimal sets ++ codes "\n"

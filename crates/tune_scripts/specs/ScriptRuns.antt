@@ -97,7 +97,7 @@ pub record RunsScript {S : Type 0} (kept : store.Ghosts S) (lines : ℕ) (stream
   -- the run ended by the device exactly where the last answer was that it failed
   pub ends : EndsAfter end (run_of carried)
   -- they are those of the script, and so are the replies
-  pub script : TellsScript lines streams.input streams.left
-      (work_by kept streams.output.was streams.output.now old carried new) end
+  pub script : TellsScript lines streams.input.was.left streams.input.now.left
+      (work_by kept streams.output.was.bytes streams.output.now.bytes old carried new) end
   -- a stop leaves the state after a prefix of them, and what was acknowledged stays
   pub stops : kept.sound old → kept.closed old ≡ false → LeftByRun kept old carried new

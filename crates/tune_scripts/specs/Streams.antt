@@ -1,25 +1,28 @@
--- What a reader and a writer tell of their bytes.
-use Rattle.std.specs.Prelude.{ℕ, List, Option}
+-- What a console tells of its input and its output, before a call and after it.
+use Rattle.std.specs.Prelude.{◌≡◌, Result}
+use Rattle.tune_scripts.specs.Consoles.{InputTold, OutputTold, Counts}
+use Rattle.tune_scripts.specs.declared.console.Console as console
 
--- An output before and after a call: the bytes that it held and that it holds, where the writer
--- tells them.
+pub record Input : Type 0 where
+  pub was : InputTold
+  pub now : InputTold
+
 pub record Output : Type 0 where
-  pub was : Option (List ℕ)
-  pub now : Option (List ℕ)
+  pub was : OutputTold
+  pub now : OutputTold
 
--- An input and an output before and after a call: the bytes that were there to be read and those
--- that are left, where the reader tells them, and the output.
 pub record Streams : Type 0 where
-  pub input : Option (List ℕ)
-  pub left : Option (List ℕ)
+  pub input : Input
   pub output : Output
 
--- the output that held these bytes, and holds those
-abbrev pub output_of : Option (List ℕ) → Option (List ℕ) → Output
-output_of was now = record { was = was; now = now }
+-- those of a console
+abbrev pub streams_in : {C : Type 0} → console.Ghosts C → C → C → Streams
+streams_in kept old new = record {
+  input = record { was = kept.input old; now = kept.input new };
+  output = record { was = kept.output old; now = kept.output new };
+}
 
--- the input that had these bytes, and has those left, and such an output
-abbrev pub streams_of : Option (List ℕ) → Option (List ℕ) → Option (List ℕ) → Option (List ℕ)
-    → Streams
-streams_of input left was now =
-    record { input = input; left = left; output = output_of was now }
+-- A write leaves the input as it was, and a fault of it is counted.
+pub record IsWrite {T E : Type 0} (streams : Streams) (result : Result T E) : Type 0 where
+  pub input : streams.input.now ≡ streams.input.was
+  pub faults : Counts result streams.output.was.faults streams.output.now.faults

@@ -3,10 +3,11 @@ ghost use Rattle.std.specs.Prelude.{◌≡◌, ◌+◌, ◌≤◌, ℕ, List, []
 ghost use Rattle.std.specs.Fmt.{decimal};
 ghost use Rattle.std.specs.Io.KnownBytes.{Appends};
 ghost use Rattle.tune_scripts.specs.Replies.{with_number};
+ghost use Rattle.tune_scripts.specs.Streams.{IsWrite, streams_in};
 
+use crate::console::Console;
 use itoa::write_digits;
 use std::io;
-use std::io::Write;
 use std::marker::Model;
 
 const ROOM: usize = 120;
@@ -72,28 +73,30 @@ impl NumberedWords {
 }
 
 // Writes a line of words and a number.
-pub(crate) fn write_number<W: Write>(writer: &mut W, words: &[u8], number: u64) -> io::Result<()>
+pub(crate) fn write_number<C: Console>(console: &mut C, words: &[u8], number: u64) -> io::Result<()>
     requires { length words.now ≤ 40 }
-    ensures { let bytes = with_number words.now number in
-        OnOk result (Appends (W.contents writer.old) (W.contents writer.new) bytes) }
+    ensures bytes { let bytes = with_number words.now number in OnOk result
+        (Appends (C.output console.old).bytes (C.output console.new).bytes bytes) }
+    ensures rest { IsWrite (streams_in C.Console console.old console.new) result }
 {
     let mut line = NumberedWords::new();
     line.put(b"\n");
     line.put_number(number);
     line.put(words);
-    writer.write_all(line.as_slice())
+    console.write(line.as_slice())
 }
 
 // Writes a line of words and two numbers.
-pub(crate) fn write_numbers<W: Write>(
-    writer: &mut W,
+pub(crate) fn write_numbers<C: Console>(
+    console: &mut C,
     words: &[u8],
     first: u64,
     second: u64,
 ) -> io::Result<()>
     requires { length words.now ≤ 40 }
-    ensures { let bytes = words.now ++ decimal first ++ codes " " ++ decimal second ++ codes "\n" in
-        OnOk result (Appends (W.contents writer.old) (W.contents writer.new) bytes) }
+    ensures bytes { OnOk result (Appends (C.output console.old).bytes (C.output console.new).bytes
+        (words.now ++ decimal first ++ codes " " ++ decimal second ++ codes "\n")) }
+    ensures rest { IsWrite (streams_in C.Console console.old console.new) result }
 {
     let mut line = NumberedWords::new();
     line.put(b"\n");
@@ -101,5 +104,24 @@ pub(crate) fn write_numbers<W: Write>(
     line.put(b" ");
     line.put_number(first);
     line.put(words);
-    writer.write_all(line.as_slice())
+    console.write(line.as_slice())
+}
+
+// Writes words, a number, and words.
+pub(crate) fn write_between<C: Console>(
+    console: &mut C,
+    front: &[u8],
+    number: u64,
+    back: &[u8],
+) -> io::Result<()>
+    requires { (length front.now ≤ 40) × (length back.now ≤ 40) }
+    ensures bytes { let bytes = front.now ++ decimal number ++ back.now in OnOk result
+        (Appends (C.output console.old).bytes (C.output console.new).bytes bytes) }
+    ensures rest { IsWrite (streams_in C.Console console.old console.new) result }
+{
+    let mut line = NumberedWords::new();
+    line.put(back);
+    line.put_number(number);
+    line.put(front);
+    console.write(line.as_slice())
 }

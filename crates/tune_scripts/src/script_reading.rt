@@ -1,51 +1,17 @@
 // Reads the lines and books of a script.
-ghost use Rattle.std.specs.Prelude.{◌≡◌, ◌+◌, ◌<◌, length};
+ghost use Rattle.std.specs.Prelude.{◌≡◌, ◌+◌, ◌<◌, length, true};
+ghost use Rattle.std.specs.List.{list_all};
+ghost use Rattle.tune_scripts.specs.Consoles.{is_inside};
 ghost use Rattle.tune_scripts.specs.Limits.{longest_line};
-ghost use Rattle.tune_scripts.specs.Inside.Reads.{ReadsPiece, ReadsLine, StandsBehind};
-ghost use Rattle.tune_scripts.specs.Inside.Reads.{ReadsPart, ReadsBook};
+ghost use Rattle.tune_scripts.specs.Looks.{LooksBehind};
+ghost use Rattle.tune_scripts.specs.Streams.{streams_in};
+ghost use Rattle.tune_scripts.specs.Inside.Reads.{ReadsLine, ReadsBook};
+ghost use Rattle.tune_scripts.specs.Inside.Reads.{faults_of_line, faults_of_book};
 
+use crate::console::{Console, PartRead, PieceRead};
 use crate::script_lines::LONGEST_LINE;
 use abc_fields::ByteText;
-use memchr::memchr;
 use std::alloc::Global;
-use std::io::BufRead;
-
-/// What the reader's own buffer showed of a line.
-pub(crate) enum PieceRead {
-    /// This many bytes, and then the line feed, which was read too.
-    Fed(usize),
-    /// This many bytes, at least one, and not yet the line feed.
-    Open(usize),
-    /// Nothing: the input is at its end.
-    End,
-    Fault,
-}
-
-// Reads what the reader's buffer shows of a line, up to its line feed, as far as there is room.
-fn read_piece<R: BufRead>(reader: &mut R, room: &mut [u8]) -> PieceRead
-    requires { 0 < length room.old }
-    ensures { ReadsPiece (R.remaining reader.old) (R.remaining reader.new) room.new result }
-{
-    let Ok(shown) = reader.fill_buf() else {
-        return PieceRead::Fault;
-    };
-    if shown.is_empty() {
-        return PieceRead::End;
-    }
-    let most = shown.len().min(room.len());
-    match memchr(b'\n', &shown[..most]) {
-        Some(n) => {
-            room[..n].copy_from_slice(&shown[..n]);
-            reader.consume(n + 1);
-            PieceRead::Fed(n)
-        }
-        None => {
-            room[..most].copy_from_slice(&shown[..most]);
-            reader.consume(most);
-            PieceRead::Open(most)
-        }
-    }
-}
 
 /// What a read of a line gave.
 pub(crate) enum LineRead {
@@ -62,13 +28,19 @@ pub(crate) enum LineRead {
 pub(crate) const LINE_ROOM: usize = LONGEST_LINE + 1;
 
 // Reads a line up to its line feed, which it does not keep.
-pub(crate) fn read_line<R: BufRead>(reader: &mut R, line: &mut [u8]) -> LineRead
+pub(crate) fn read_line<C: Console>(console: &mut C, line: &mut [u8]) -> LineRead
     requires { length line.old ≡ longest_line + 1 }
-    ensures { ReadsLine (R.remaining reader.old) (R.remaining reader.new) line.new result }
+    ensures bytes { ReadsLine (C.input console.old).left (C.input console.new).left line.new
+        result }
+    ensures looks { LooksBehind (streams_in C.Console console.old console.new)
+        (λ taken. list_all is_inside taken ≡ true) }
+    ensures faults { (C.input console.new).faults
+        ≡ (C.input console.old).faults + faults_of_line result }
+    ensures output { C.output console.new ≡ C.output console.old }
 {
     let mut len = 0;
     while len < LINE_ROOM {
-        match read_piece(reader, &mut line[len..]) {
+        match console.read_piece(&mut line[len..]) {
             PieceRead::Fault => return LineRead::Fault,
             PieceRead::End if len == 0 => return LineRead::End,
             PieceRead::End => return LineRead::Line(len, false),
@@ -89,53 +61,26 @@ pub(crate) enum BookRead {
     Fault,
 }
 
-/// What the reader's own buffer showed of a book.
-pub(crate) enum PartRead {
-    /// This many bytes, at least one, and whether they were kept.
-    Taken(usize, bool),
-    /// Nothing: the input is at its end.
-    End,
-    Fault,
-}
-
-// Reads what the reader's buffer shows of a book, at most so many bytes, and puts it behind the
-// book where it is wanted.
-fn read_part<R: BufRead>(
-    reader: &mut R,
-    most: usize,
-    is_wanted: bool,
-    book: &mut Vec<u8>,
-) -> PartRead
-    requires { 0 < most }
-    ensures { ReadsPart (R.remaining reader.old) (R.remaining reader.new) most
-        (StandsBehind is_wanted book.old.items book.new.items) result }
-{
-    let Ok(shown) = reader.fill_buf() else {
-        return PartRead::Fault;
-    };
-    if shown.is_empty() {
-        return PartRead::End;
-    }
-    let count = shown.len().min(most);
-    let is_kept = is_wanted && book.extend_from_slice(&shown[..count]).is_ok();
-    reader.consume(count);
-    PartRead::Taken(count, is_kept)
-}
-
 // Reads a book of this length, and keeps it where it is wanted.
-pub(crate) fn read_book<R: BufRead>(
+pub(crate) fn read_book<C: Console>(
     alloc: Global,
-    reader: &mut R,
+    console: &mut C,
     len: usize,
     is_wanted: bool,
 ) -> BookRead
-    ensures { ReadsBook (R.remaining reader.old) (R.remaining reader.new) len is_wanted result }
+    ensures bytes { ReadsBook (C.input console.old).left (C.input console.new).left len is_wanted
+        result }
+    ensures looks { LooksBehind (streams_in C.Console console.old console.new)
+        (λ taken. length taken < len) }
+    ensures faults { (C.input console.new).faults
+        ≡ (C.input console.old).faults + faults_of_book result }
+    ensures output { C.output console.new ≡ C.output console.old }
 {
     let mut book = Vec::new(alloc);
     let mut has_room = is_wanted && book.reserve_exact(len).is_ok();
     let mut left = len;
     while left > 0 {
-        match read_part(reader, left, has_room, &mut book) {
+        match console.read_part(left, has_room, &mut book) {
             PartRead::Fault => return BookRead::Fault,
             PartRead::End => return BookRead::Cut,
             PartRead::Taken(count, is_kept) => {

@@ -1,8 +1,11 @@
 // The files of the operating system as disks, and what it answered, told to people.
+ghost use Rattle.std.specs.Prelude.{IfOk};
+ghost use Rattle.tune_disk.specs.FileDisk.{HasJustOpened};
+
 use std::alloc::{Alloc, Global};
 use std::fs::{File, Files};
 use std::io;
-use tune_disk::{DeviceFault, Drive, FileDisk};
+use tune_disk::{DeedLog, DeviceFault, Drive, FileDisk};
 
 /// The device that gives no bytes.
 pub(crate) const NOTHING: &str = "/dev/null";
@@ -16,6 +19,8 @@ pub(crate) struct FileDrive<'a, R> {
     // the next file that is opened takes its number, and replies would be written over an archive.
     // These three are opened before it, and kept as long.
     _first: [File; 3],
+    // What was asked of it: it takes no memory.
+    log: DeedLog<FileDisk>,
 }
 
 impl<'a, R: Files<File = File>> FileDrive<'a, R> {
@@ -27,6 +32,7 @@ impl<'a, R: Files<File = File>> FileDrive<'a, R> {
         Ok(FileDrive {
             rt,
             _first: [first, second, third],
+            log: DeedLog::new(),
         })
     }
 }
@@ -40,40 +46,48 @@ impl<'a, R: AllocGlobal> Alloc for FileDrive<'a, R> {
 }
 
 impl<'a, R: Files<File = File> + Eprint> Drive for FileDrive<'a, R> {
-    ghost use Rattle.std.specs.Prelude.{IfOk, ⊤};
-    ghost use Rattle.tune_disk.specs.FileDisk.{HasJustOpened};
+    ghost use Rattle.tune_disk.specs.DeedLog.{deeds_of};
 
     type Disk = FileDisk;
 
-    ghost opened = { λ _ answer. IfOk answer HasJustOpened };
+    ghost deeds = { λ drive. deeds_of drive.log };
 
-    ghost created = { λ _ answer. IfOk answer HasJustOpened };
+    ghost is_new = { HasJustOpened };
 
-    ghost closed = { λ _ _. ⊤ };
-
-    fn open(&self, path: &str) -> Result<FileDisk, DeviceFault> {
-        match FileDisk::try_open(self.rt, path) {
-            Ok(disk) => Ok(disk),
-            Err(error) => {
-                tell(self.rt, path, &error);
-                Err(DeviceFault)
-            }
-        }
+    fn open(&mut self, path: &String) -> Result<FileDisk, DeviceFault> {
+        let answer = told(self.rt, path, FileDisk::try_open(self.rt, path.as_str()));
+        self.log.open(path, &answer);
+        answer
     }
 
-    fn create(&self, path: &str) -> Result<FileDisk, DeviceFault> {
-        match FileDisk::try_create(self.rt, path) {
-            Ok(disk) => Ok(disk),
-            Err(error) => {
-                tell(self.rt, path, &error);
-                Err(DeviceFault)
-            }
-        }
+    fn create(&mut self, path: &String) -> Result<FileDisk, DeviceFault> {
+        let answer = told(self.rt, path, FileDisk::try_create(self.rt, path.as_str()));
+        self.log.create(path, &answer);
+        answer
     }
 
-    fn close(&self, path: &str, disk: FileDisk) {
+    fn close(&mut self, path: &String, disk: FileDisk) {
         if let Some(error) = disk.cause() {
-            tell(self.rt, path, error);
+            tell(self.rt, path.as_str(), error);
+        }
+        self.log.close(path, &disk);
+    }
+}
+
+// The answer to an opening, whose error is told.
+fn told<R: Eprint>(
+    rt: &R,
+    path: &String,
+    answer: io::Result<FileDisk>,
+) -> Result<FileDisk, DeviceFault>
+    requires { IfOk answer HasJustOpened }
+    ensures { IfOk result HasJustOpened }
+{
+    match answer {
+        Ok(disk) => Ok(disk),
+        Err(error) => {
+            tell(rt, path.as_str(), &error);
+            Err(DeviceFault)
         }
     }
 }

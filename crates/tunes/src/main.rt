@@ -12,7 +12,7 @@ use std::io::{BufReader, BufWriter};
 use std::process::ExitCode;
 use std::rt::Runtime;
 use std::{env, io};
-use tune_cli::{Action, act, action, report};
+use tune_cli::{Action, StreamConsole, act, action, report};
 
 /// How many bytes are read at once, and how many of a reply are written at once.
 const BUFFER: usize = 65_536;
@@ -73,14 +73,14 @@ fn perform<R: Runtime + AllocGlobal + Files<File = File>>(
     rt: &R,
     action: &Action,
 ) -> io::Result<u8> {
-    let drive = match FileDrive::new(rt) {
+    let mut drive = match FileDrive::new(rt) {
         Ok(drive) => drive,
         Err(error) => {
             tell(rt, NOTHING, &error);
             return Ok(FAILED);
         }
     };
-    let mut reader = BufReader::with_capacity(rt.alloc(), BUFFER, rt.reader())?;
-    let mut writer = BufWriter::with_capacity(rt.alloc(), BUFFER, io::writer(rt))?;
-    Ok(act(&drive, action, &mut reader, &mut writer))
+    let reader = BufReader::with_capacity(rt.alloc(), BUFFER, rt.reader())?;
+    let writer = BufWriter::with_capacity(rt.alloc(), BUFFER, io::writer(rt))?;
+    Ok(act(&mut drive, action, &mut StreamConsole::new(reader, writer)))
 }

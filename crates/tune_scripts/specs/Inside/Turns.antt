@@ -17,7 +17,18 @@ use Rattle.tune_scripts.specs.Prefixes.{AreAcknowledged}
 use Rattle.tune_scripts.specs.Replies.{answer_bytes}
 use Rattle.tune_scripts.specs.Scripts.{reading_of, reading_of_book, Script}
 use Rattle.tune_scripts.specs.ScriptRuns.{RunWork, work_by, WritesScript, EndsAfter}
-use Rattle.tune_scripts.specs.Streams.{Output}
+use Rattle.tune_scripts.specs.declared.console.Console as console
+
+-- the bytes of an output before a call and after it, where they are known
+pub record OutputBytes : Type 0 where
+  pub was : Option (List ℕ)
+  pub now : Option (List ℕ)
+
+abbrev pub output_of : Option (List ℕ) → Option (List ℕ) → OutputBytes
+output_of was now = record { was = was; now = now }
+
+abbrev pub bytes_in : {C : Type 0} → console.Ghosts C → C → C → OutputBytes
+bytes_in kept old new = output_of (kept.output old).bytes (kept.output new).bytes
 
 -- A part of a run, with at most so many lines at its beginning and so many at its end: whatever the
 -- rest of the input comes to, the whole comes to this part and then that.
@@ -53,7 +64,7 @@ GoesBy (Some end) run = EndsAfter end run
 
 -- A turn over any reader: what the store carried out, how the run goes on, and what of it is said
 -- of a reader that tells its bytes.
-pub record TurnsOver {S : Type 0} (kept : store.Ghosts S) (output : Output) (old new : S)
+pub record TurnsOver {S : Type 0} (kept : store.Ghosts S) (output : OutputBytes) (old new : S)
     (result : Option RunEnd) (Tells : RunWork → Type 0) : Type 0 where
   pub carried : List (Carried S)
   pub carries_out : CarriesOut kept old carried new
@@ -71,7 +82,7 @@ abbrev pub next_of : Result Reply Refusal → Option RunEnd
 next_of answer = if stays_open answer then None else Some DeviceFault
 
 -- a command was answered once, and its answer was written, or the writer failed
-pub record IsCarriedOut {S : Type 0} (kept : store.Ghosts S) (output : Output) (old new : S)
+pub record IsCarriedOut {S : Type 0} (kept : store.Ghosts S) (output : OutputBytes) (old new : S)
     (command : Command) (result : Option RunEnd) : Type 0 where
   pub answer : Result Reply Refusal
   pub carried : IsCarried kept old

@@ -15,10 +15,11 @@ returns-in-Ok-clause-checks g c =
     let held = c.into_disk-disk.ensures.disk in
     let met : honest disk → HonestAt honest c.in-Ok.archive.pages.disk = λ h. subst (HonestAt honest) (sym held) h in
     inl (record {
+      said = c.say_held-status.ensures.said c.in-Ok.ensures.is_open;
       tells = λ h. record {
         held = state_of state c.in-Ok.archive;
         stands = c.in-Ok.ensures.state (met h);
-        line = c.say_held-status.ensures (met h);
+        line = c.say_held-status.ensures.held c.in-Ok.ensures.is_open (met h);
         rest = c.into_disk-disk.ensures.rest (met h) c.in-Ok.ensures.is_open;
       };
       counted = subst (λ at. failures_at failures at ≡ failures c.args.disk) held c.in-Ok.ensures.failures;

@@ -23,6 +23,8 @@ pub returns-in-Ok-clause-runs : goal.returns-in-Ok-clause-runs
 returns-in-Ok-clause-runs g c = inl (record {
   end = c.run-end.result;
   ends = c.status.ensures;
+  faults = c.run-end.ensures.faults;
+  looks = c.run-end.ensures.looks;
   ran = λ h.
       let honest = g.D.Disk.honest in
       let state = g.D.Disk.state in
@@ -41,6 +43,7 @@ returns-in-Ok-clause-runs g c = inl (record {
         opened = shown;
         opening = c.in-Ok.ensures.leaves at_start;
         runs = runs;
+        prompt = c.run-end.ensures.prompt at_end;
         stops = runs.stops c.in-Ok.ensures.sound c.in-Ok.ensures.is_open;
         since_start = λ start leaves file left.
             let seen = leaves old.seen (g.met.D.Disk.seen_may_stay c.args.disk (c.in-Ok.ensures.honest at_start)) in

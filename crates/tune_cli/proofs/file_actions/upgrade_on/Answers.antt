@@ -20,6 +20,7 @@ returns-in-Ok-clause-honest g c = λ h.
 
 pub returns-in-Ok-clause-upgrades : goal.returns-in-Ok-clause-upgrades
 returns-in-Ok-clause-upgrades g c = inl (record {
+  said = (c.apply-answer.result, c.say_answer-status.ensures);
   upgraded = λ h.
       let honest = g.D.Disk.honest in
       let state = g.D.Disk.state in

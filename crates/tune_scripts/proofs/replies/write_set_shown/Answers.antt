@@ -2,9 +2,9 @@ use Rattle.std.proofs.lemmas.Result.{on_ok_weaker}
 use Rattle.tune_scripts.proofs.AppendLemmas.{appends_more}
 use Rattle.tune_scripts.proofs.replies.write_set_shown.Goals as goal
 
-pub returns : goal.returns
-returns g c =
-    let header = appends_more (g.W.Write.contents c.args.writer.now) (g.W.Write.contents c.write_name_number.new.writer)
-    (g.W.Write.contents c.write_places.new.writer) _ _
-    c.in_ok-write_name_number.ensures in
-    rw c.as_slice-rows.ensures at (on_ok_weaker c.write_places.result header c.write_places.ensures)
+pub returns-clause-bytes : goal.returns-clause-bytes
+returns-clause-bytes g c =
+    let header = appends_more (g.C.Console.output c.args.console.now).bytes (g.C.Console.output c.write_name_number.new.console).bytes
+    (g.C.Console.output c.write_places.new.console).bytes _ _
+    c.in_ok-write_name_number.ensures.bytes in
+    rw c.as_slice-rows.ensures at (on_ok_weaker c.write_places.result header c.write_places.ensures.bytes)

@@ -8,7 +8,7 @@ returns-in-Ok-clause-carries g c = λ honest. record {
     answers = c.apply-answer.ensures.answer honest;
     passes = c.apply-answer.ensures.stops;
   };
-  written = inr (c.next_after.ensures, c.in-Ok.ensures);
+  written = inr (c.next_after.ensures, c.in-Ok.ensures.bytes);
 }
 
 pub returns-clause-carries : goal.returns-clause-carries

@@ -4,9 +4,9 @@ use Rattle.std.proofs.BufReadLemmas.{Consumes_shown}
 use Rattle.std.specs.List.{list_all}
 use Rattle.std.specs.Io.KnownBytes.{Consumes}
 use Rattle.std.specs.Io.BufRead.{FillKeeps}
-use Rattle.tune_scripts.specs.Inside.Reads.{is_inside}
+use Rattle.tune_scripts.specs.Consoles.{is_inside}
 use Rattle.tune_scripts.proofs.ReadLemmas.{copied_front, feed_shown, inside_shown, some_of}
-use Rattle.tune_scripts.proofs.script_reading.read_piece.Goals as goal
+use Rattle.tune_scripts.proofs.stream_console.take_piece.Goals as goal
 
 pub returns-in-Some : goal.returns-in-Some
 returns-in-Some g c =

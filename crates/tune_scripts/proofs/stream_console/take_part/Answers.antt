@@ -4,8 +4,8 @@ use Rattle.std.proofs.lemmas.List.{length-take-le}
 use Rattle.std.proofs.BufReadLemmas.{Consumes_shown}
 use Rattle.std.specs.Io.BufRead.{FillKeeps, DropsConsumable}
 use Rattle.tune_scripts.proofs.ReadLemmas.{some_of}
-use Rattle.tune_scripts.proofs.script_reading.read_part.Goals.{then-is_wanted, else-is_wanted}
-use Rattle.tune_scripts.proofs.script_reading.read_part.Goals as goal
+use Rattle.tune_scripts.proofs.stream_console.take_part.Goals.{then-is_wanted, else-is_wanted}
+use Rattle.tune_scripts.proofs.stream_console.take_part.Goals as goal
 
 pub returns : goal.returns
 returns g c =
