@@ -2,4 +2,5 @@ pub mod CommandLineLemmas
 mod Examples
 pub mod FileGiven
 pub mod ParseLemmas
+pub mod DriveLemmas
 pub mod FileStates

@@ -1,5 +1,5 @@
 // What the program does with an archive in a file.
-ghost use Rattle.std.specs.Prelude.{◌≡◌, ◌×◌, codes, false, true, ℕ, string_bytes, OnOk};
+ghost use Rattle.std.specs.Prelude.{◌≡◌, codes, false, true, ℕ, string_bytes, OnOk};
 ghost use Rattle.std.specs.Io.KnownBytes.{Appends};
 ghost use Rattle.tune_disk.specs.Deeds.{opened, created};
 ghost use Rattle.tune_pages.specs.Kept.{HonestAt};
