@@ -1,6 +1,7 @@
 pub mod Called
 pub mod DiskMoments
 pub mod FetchLemmas
+pub mod FilesTogether
 pub mod FoundPlaces
 pub mod LaidChanges
 pub mod MadeChanges

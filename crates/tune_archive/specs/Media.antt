@@ -1,6 +1,8 @@
 -- Which files a stop (a crash or power loss) may have left since some moment of a disk.
 use Rattle.std.specs.Prelude.{◌≡◌, ℕ, ◌≤◌, List, ◌∷◌, ◌++◌, length}
 use Rattle.tune_disk.specs.Disk.{Medium, MayLeave, DiskState}
+use Rattle.tune_disk.specs.Stops.{SinceThen}
+use Rattle.tune_contents.specs.FilePages.{UseFewer}
 
 -- how far a disk has come: how many media lie behind it
 abbrev pub moment_of : DiskState → ℕ
@@ -14,3 +16,9 @@ pub record LeftFrom (disk : DiskState) (since : ℕ) (file : List ℕ) : Type 0 
   pub history : disk.now ∷ disk.past ≡ newer ++ medium ∷ older
   pub later : since ≤ length older
   pub left : MayLeave medium file
+
+-- a file that a stop leaves at any moment since then, and one that it would have left then, have
+-- fewer pages than these in use together
+abbrev pub UseFewerSince : ℕ → DiskState → DiskState → Type 0
+UseFewerSince most old new = SinceThen old new (λ after. (before : List ℕ)
+    → MayLeave old.now before → UseFewer most before after)

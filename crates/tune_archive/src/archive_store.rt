@@ -6,11 +6,13 @@ ghost use Rattle.tune_store.specs.Revisions.{RaisesReplaced};
 ghost use Rattle.tune_store.specs.Step.{step};
 ghost use Rattle.tune_store.specs.StoreStops.{HasFailed};
 ghost use Rattle.tune_store.specs.Stores.{StorePasses, standing_of};
-ghost use Rattle.tune_archive.specs.Media.{moment_of};
+ghost use Rattle.tune_contents.specs.Most.{enough_pages};
+ghost use Rattle.tune_archive.specs.Media.{moment_of, UseFewerSince};
 ghost use Rattle.tune_archive.specs.Shelf.{state_of};
 ghost use Rattle.tune_archive.specs.Inside.Holding.{IsShelf};
 
 use crate::archive::Archive;
+use tune_contents::law_of_file_pages;
 use tune_disk::Disk;
 use tune_store::{Command, Plan, Refusal, Reply, TuneStore, decide};
 
@@ -57,6 +59,9 @@ impl<D: Disk> TuneStore for Archive<D> {
 
     /// No command is refused because the file is full: an archive uses few of the pages that there
     /// may be, and a change takes few of the others.
+    ///
+    /// - `together`: the file before a command, and what a stop leaves at any moment of it, have
+    ///   together fewer than 640,684 pages in use in layout 1, and than 2,801,386 in layout 2.
     fn apply(&mut self, command: &Command) -> Result<Reply, Refusal>
         ensures answer { HonestAt D.honest self.new.pages.disk → Answers
             (standing_of ⟦<Archive<D> as TuneStore>⟧ self.old) command.now result
@@ -83,7 +88,12 @@ impl<D: Disk> TuneStore for Archive<D> {
             ≡ state_of D.state self.old → HonestAt D.honest self.new.pages.disk
             → moment_of (state_at D.state self.new.pages.disk)
             ≡ moment_of (state_at D.state self.old.pages.disk) }
+        ensures together { HonestAt D.honest self.new.pages.disk → self.old.closed ≡ false
+            → UseFewerSince (enough_pages (state_of D.state self.old).layout)
+            (state_at D.state self.old.pages.disk) (state_at D.state self.new.pages.disk) }
     {
+        // For the proof.
+        law_of_file_pages();
         if self.closed {
             return Err(Refusal::Closed);
         }

@@ -1,13 +1,20 @@
 -- How many pages a change takes that leads to a state within the limits.
 use Rattle.std.proofs.Common.{◌≡◌, ◌≢◌, ℕ, zero, suc, ◌+◌, ◌*◌, ◌<◌, ◌≤◌, List, [], ◌∷◌, length, slice_set, ap, sym, subst, ◌∙◌, arith, length-append}
+use Rattle.std.proofs.Common.{Result, Ok, Err}
 use Rattle.std.specs.List.{AllByRecursion}
 use Rattle.std.proofs.lemmas.List.{length-set}
+use Rattle.tune_pages.specs.Faults.{free_pages}
+use Rattle.tune_pages.specs.FreePages.{TakesAtMost}
 use Rattle.tune_pages.specs.Stand.{Stand}
+use Rattle.tune_pages.specs.declared.fault.Fault.{Fault}
+use Rattle.tune_pages.specs.declared.fault.Fault.TheVariants.{FileFull}
+use Rattle.tune_pages.proofs.FreePages.{AreSized}
 use Rattle.tune_parts.proofs.Lists.{all_right}
 use Rattle.tune_store.specs.Limits.{most_tunes}
 use Rattle.tune_store.specs.Plans.{changed, changed_sets, changed_tunes, CanChange}
 use Rattle.tune_store.specs.State.{State, IsState, IsTune}
 use Rattle.tune_store.specs.declared.layout.Layout.{Layout}
+use Rattle.tune_store.specs.declared.layout.Layout.TheVariants.{One, Two}
 use Rattle.tune_store.specs.TuneSteps.{numbered}
 use Rattle.tune_store.specs.declared.tune.Tune.{Tune}
 use Rattle.tune_store.specs.declared.plans.Change.{Change}
@@ -17,14 +24,14 @@ use Rattle.tune_store.proofs.StateLemmas.{length-numbered}
 use Rattle.tune_format.specs.declared.rows.Row.{Row}
 use Rattle.tune_format.proofs.TextLemmas.{rows_count}
 use Rattle.tune_contents.specs.Holds.{labels_in, HoldsContents}
-use Rattle.tune_contents.specs.Most.{most_part_pages, most_tune_pages}
+use Rattle.tune_contents.specs.Most.{enough_pages, most_part_pages, most_tune_pages, most_used}
 use Rattle.tune_contents.specs.declared.contents.Contents.{Contents}
 use Rattle.tune_contents.specs.Inside.Changes.{RowsAccept}
 use Rattle.tune_contents.specs.Inside.Indexed.{index_pages}
 use Rattle.tune_contents.specs.Inside.Searching.{search_pages}
 use Rattle.tune_contents.specs.Inside.Takes.{change_pages, sets_pages, text_pages}
 use Rattle.tune_contents.proofs.ContentsLemmas.{changed_is, changed_within, rows_accept}
-use Rattle.tune_contents.proofs.StatePages.{numbers_most, searches_most, sets_count, text_count, times_count}
+use Rattle.tune_contents.proofs.StatePages.{numbers_most, searches_most, sets_count, state_count, text_count, times_count}
 
 texts_count : (layout : Layout) (first : ℕ) (texts : List (List ℕ)) → AllByRecursion (IsTune layout) (numbered first texts)
     → text_pages texts ≤ most_tune_pages layout * length texts
@@ -77,3 +84,19 @@ change_count s contents change state holds can after other =
     let sets = sets_count (changed_sets change contents.sets) (rw holds.sets is.sets) in
     subst (λ layout. change_pages change + (index_pages count + search_pages count) + sets_pages (changed_sets change contents.sets) ≤ most_part_pages layout)
     (sym holds.layout) (omega (arith, tunes, numbers, searches, sets))
+
+-- WHERE THERE ARE ENOUGH PAGES
+some_free : (layout : Layout) (all free : ℕ) → all ≤ free + most_used layout → free < most_part_pages layout → enough_pages layout ≤ all → ⊥
+some_free One all free uses few many = omega (arith, uses, few, many)
+some_free Two all free uses few many = omega (arith, uses, few, many)
+
+-- a change that takes no more than those of a state finds them
+pub finds_pages : {T : Type 0} (result : Result T Fault) (s new : Stand) (contents : Contents) (state : State)
+    → TakesAtMost (most_part_pages contents.layout) result s new → HoldsContents s contents state → IsState state → AreSized s.pages
+    → enough_pages contents.layout ≤ length s.used → result ≢ Err FileFull
+finds_pages (Ok x) s new contents state takes holds is sized many = λ e. cc
+finds_pages (Err fault) s new contents state takes holds is sized many = λ e.
+    (let full : fault ≡ FileFull = cc in
+    let few : free_pages s.used < most_part_pages contents.layout = takes full in
+    let uses = subst (λ layout. length s.used ≤ free_pages s.used + most_used layout) (sym holds.layout) (state_count s contents state holds is sized) in
+    some_free contents.layout (length s.used) (free_pages s.used) uses few many)

@@ -7,6 +7,7 @@ pub mod ClaimStateLemmas
 pub mod ClaimStepLemmas
 pub mod ClaimedRowLemmas
 pub mod ContentsLemmas
+pub mod FilePages
 pub mod IndexedLemmas
 pub mod LayLemmas
 pub mod LookLemmas

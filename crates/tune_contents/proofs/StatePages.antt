@@ -13,35 +13,36 @@ use Rattle.tune_pages.proofs.FreePages.{AreSized, chain_count}
 use Rattle.std.proofs.lemmas.Bool.Decides.{nat_tests}
 use Rattle.abc_fields.specs.Limits.{most_titles}
 use Rattle.index_keys.specs.Entries.{Entry}
-use Rattle.tune_index.specs.Indexes.{Shape}
+use Rattle.tune_index.specs.ListedLeaves.{shown}
+use Rattle.tune_index.proofs.Puts.{leaves_within}
 use Rattle.tune_index.proofs.Storing.{length-listed}
 use Rattle.tune_parts.specs.Parts.{Part, IsPart, trails, root_and_trails, HoldsParts}
 use Rattle.tune_parts.specs.Parts.PartKind.{chain}
 use Rattle.tune_parts.proofs.Lists.{all_left, all_right}
 use Rattle.tune_parts.proofs.PartLemmas.{its_chain}
 use Rattle.tune_parts.proofs.Staying.{trails_join}
-use Rattle.tune_search.specs.IndexParts.{IndexParts, KeepsIndex, parts_of_index}
-use Rattle.tune_search.specs.SearchPages.{AreListed, HasFewLeaves}
-use Rattle.tune_search.specs.Searches.{SearchParts, SearchShape, incipit_bytes, key_bytes, parts_of_search}
+use Rattle.tune_search.specs.IndexParts.{HoldsIndex, IndexParts, parts_of_index}
+use Rattle.tune_search.specs.Searches.{SearchParts, key_bytes, parts_of_search}
 use Rattle.tune_search.proofs.AmongLemmas.{leaves_on_pages}
-use Rattle.tune_search.proofs.FewEntries.{few_among, few_for_texts}
+use Rattle.tune_search.proofs.FewEntries.{few_by_incipit, few_by_rhythm, few_by_scale, few_by_title}
 use Rattle.tune_sets.specs.Names.{is_good_name}
 use Rattle.tune_format.proofs.TextLemmas.{rows_count}
 use Rattle.tune_sets.specs.SetBytes.{written_sets, written_set, written_numbers}
 use Rattle.tune_sets.specs.Sets.{IsTuneSet, AreSetLists}
 use Rattle.tune_sets.specs.declared.set_lists.TuneSet.{TuneSet}
 use Rattle.tune_sets.proofs.ByteLemmas.{length-written_numbers}
-use Rattle.tune_store.specs.Limits.{longest_text, most_tunes}
-use Rattle.tune_store.specs.State.{State, IsTune, IsState}
+use Rattle.tune_store.specs.Limits.{longest_text, most_tunes, notes_of}
+use Rattle.tune_store.specs.State.{State, IsTune, IsTunes, IsState}
 use Rattle.tune_store.specs.declared.layout.Layout.{Layout}
 use Rattle.tune_store.specs.declared.tune.Tune.{Tune}
-use Rattle.tune_format.specs.Filed.{AreChains, HoldTunes, archive_parts, numbered_texts, rows_of}
+use Rattle.tune_format.specs.Filed.{AreChains, Filed, HoldTunes, archive_parts, numbered_texts, rows_of}
+use Rattle.tune_format.specs.Searched.{AreSearchIndexes}
 use Rattle.tune_format.specs.RootOffsets.{number_bytes, revision_bytes}
 use Rattle.tune_format.specs.Written.{number_entries, written_tune}
-use Rattle.tune_contents.specs.Holds.{HoldsContents, KeepsTexts}
+use Rattle.tune_contents.specs.Holds.{HoldsContents}
 use Rattle.tune_contents.specs.Inside.Indexed.{index_pages}
 use Rattle.tune_contents.specs.Inside.Searching.{search_pages}
-use Rattle.tune_contents.specs.Most.{most_tune_pages, most_number_pages, most_search_pages, most_sets_pages, most_used}
+use Rattle.tune_contents.specs.Most.{most_tune_pages, most_number_pages, most_part_pages, most_search_pages, most_sets_pages, most_used}
 use Rattle.tune_contents.specs.declared.contents.Contents.{Contents}
 use Rattle.tune_contents.specs.Inside.Takes.{tune_pages, sets_pages}
 
@@ -129,38 +130,54 @@ pub sets_count : (sets : List TuneSet) → AreSetLists sets → sets_pages sets 
 sets_count sets are = at_most (length (written_sets sets)) most_sets_pages (omega (arith, sets_size sets are.each, are.count))
 
 -- INDEXES
--- an index of at most so many leaves has a page for each, and its list
-index_count : (width : ℕ) (s : Stand) (shape : Shape) (parts : IndexParts) (entries : List Entry) (most : ℕ) → AreSized s.pages
-    → AllByRecursion (IsPart s.pages) (parts_of_index parts) → KeepsIndex width shape parts entries → shape.listed ≡ true → length shape.pages ≤ most
+-- leaves have a page each, and are no more than their entries
+leaves_count : (width : ℕ) (pages : List (List ℕ)) (parts : IndexParts) (entries : List Entry) → AllByRecursion (IsPart pages) parts.leaves
+    → HoldsIndex width parts entries → (length (trails parts.leaves) ≡ length parts.leaves) × (length parts.leaves ≤ length entries)
+leaves_count width pages parts entries stand holds =
+    let on = leaves_on_pages width (shown pages) parts.leaves holds.leaves stand in
+    let firsts = map (λ (part : Part). part.first) parts.leaves in
+    let many : length firsts ≡ length parts.leaves = length-map parts.leaves (λ (part : Part). part.first) in
+    let alone = ap (λ (l : List ℕ). length l) on.alone in
+    let within = leaves_within width (shown pages) firsts on.form in
+    let same = ap (λ (l : List Entry). length l) (on.entries ∙ holds.hold) in
+    (omega (arith, alone, many), omega (arith, many, within, same))
+
+-- an index of at most so many entries has at most a page for each, and its list
+index_count : (width : ℕ) (pages : List (List ℕ)) (parts : IndexParts) (entries : List Entry) (most : ℕ) → AreSized pages
+    → AllByRecursion (IsPart pages) (parts_of_index parts) → HoldsIndex width parts entries → length entries ≤ most
     → length (trails (parts_of_index parts)) ≤ most + pages_for (number_bytes * most)
-index_count width s shape parts entries most sized stand keeps listed few =
-    let its = chain_count s.pages parts.list.first parts.list.trail parts.list.bytes sized (its_chain s.pages parts.list keeps.is_chain stand.0) in
-    let size : length parts.list.bytes ≡ 4 * length shape.pages =
-    ap (λ (l : List ℕ). length l) (keeps.listed listed) ∙ length-listed shape.pages in
-    let list = pages_mono (length parts.list.bytes) (number_bytes * most) (omega (arith, size, few)) in
-    let alone = ap (λ (l : List ℕ). length l) ((leaves_on_pages width s parts.leaves keeps.leaves stand.1).alone) in
-    let same = ap (λ (l : List ℕ). length l) keeps.pages in
-    omega (arith, its, list, alone, same, few, length-append parts.list.trail (trails parts.leaves))
+index_count width pages parts entries most sized stand holds few =
+    let leaves = leaves_count width pages parts entries stand.1 holds in
+    let its = chain_count pages parts.list.first parts.list.trail parts.list.bytes sized (its_chain pages parts.list holds.is_chain stand.0) in
+    let firsts = map (λ (part : Part). part.first) parts.leaves in
+    let many : length firsts ≡ length parts.leaves = length-map parts.leaves (λ (part : Part). part.first) in
+    let size : length parts.list.bytes ≡ 4 * length firsts = ap (λ (l : List ℕ). length l) holds.listed ∙ length-listed firsts in
+    let list = pages_mono (length parts.list.bytes) (number_bytes * most) (omega (arith, size, many, few, leaves.1)) in
+    omega (arith, its, list, leaves.0, leaves.1, few, length-append parts.list.trail (trails parts.leaves))
 
 -- so have the four, of so many tunes
-search_count : (s : Stand) (shape : SearchShape) (parts : SearchParts) (tunes : List (ℕ × List ℕ)) → AreSized s.pages
-    → AllByRecursion (IsPart s.pages) (parts_of_search parts) → KeepsTexts shape parts tunes → AreListed shape → HasFewLeaves shape tunes
+search_count : (notes : ℕ) (pages : List (List ℕ)) (parts : SearchParts) (tunes : List (ℕ × List ℕ)) → AreSized pages
+    → AllByRecursion (IsPart pages) (parts_of_search parts) → AreSearchIndexes notes tunes parts
     → length (trails (parts_of_search parts)) ≤ search_pages (length tunes)
-search_count s shape parts tunes sized stand keeps listed few =
+search_count notes pages parts tunes sized stand are =
     let t = parts_of_index parts.titles in
     let r = parts_of_index parts.rhythms in
     let c = parts_of_index parts.scales in
     let i = parts_of_index parts.incipits in
-    let behind = all_right (IsPart s.pages) t (r ++ (c ++ i)) stand in
-    let later = all_right (IsPart s.pages) r (c ++ i) behind in
-    let titles = index_count key_bytes s shape.titles parts.titles keeps.titles.entries (most_titles * length tunes) sized
-    (all_left (IsPart s.pages) t (r ++ (c ++ i)) stand) keeps.titles.keeps listed.titles few.titles in
-    let rhythms = index_count key_bytes s shape.rhythms parts.rhythms keeps.rhythms.entries (length tunes) sized
-    (all_left (IsPart s.pages) r (c ++ i) behind) keeps.rhythms.keeps listed.rhythms few.rhythms in
-    let scales = index_count key_bytes s shape.scales parts.scales keeps.scales.entries (length tunes) sized
-    (all_left (IsPart s.pages) c i later) keeps.scales.keeps listed.scales few.scales in
-    let incipits = index_count (incipit_bytes shape.notes) s shape.incipits parts.incipits keeps.incipits.entries (length tunes) sized
-    (all_right (IsPart s.pages) c i later) keeps.incipits.keeps listed.incipits few.incipits in
+    let behind = all_right (IsPart pages) t (r ++ (c ++ i)) stand in
+    let later = all_right (IsPart pages) r (c ++ i) behind in
+    let titles = index_count key_bytes pages parts.titles are.titles.entries (most_titles * length tunes) sized
+    (all_left (IsPart pages) t (r ++ (c ++ i)) stand) are.titles.holds
+    (few_by_title tunes are.titles.entries are.titles.holds.rising are.titles.exact) in
+    let rhythms = index_count key_bytes pages parts.rhythms are.rhythms.entries (length tunes) sized
+    (all_left (IsPart pages) r (c ++ i) behind) are.rhythms.holds
+    (few_by_rhythm tunes are.rhythms.entries are.rhythms.holds.rising are.rhythms.exact) in
+    let scales = index_count key_bytes pages parts.scales are.scales.entries (length tunes) sized
+    (all_left (IsPart pages) c i later) are.scales.holds
+    (few_by_scale tunes are.scales.entries are.scales.holds.rising are.scales.exact) in
+    let incipits = index_count (4 * notes) pages parts.incipits are.incipits.entries (length tunes) sized
+    (all_right (IsPart pages) c i later) are.incipits.holds
+    (few_by_incipit notes tunes are.incipits.entries are.incipits.holds.rising are.incipits.exact) in
     omega (arith, titles, rhythms, scales, incipits, trails_more t (r ++ (c ++ i)), trails_more r (c ++ i), trails_more c i)
 
 -- more tunes have no fewer pages of indexes
@@ -192,26 +209,24 @@ module _ (pages : List (List ℕ)) (sized : AreSized pages) (part : Part) (kind 
   sets_few sets holds are = omega (arith, trail_count (written_sets sets) holds, sets_count sets are)
 
 -- ALL
--- the texts of a state, and its set lists
-texts_count : (s : Stand) (layout : Layout) (texts : List Part) (tunes : List Tune) → AreSized s.pages → AllByRecursion (IsPart s.pages) texts
+-- the texts of a state
+texts_count : (pages : List (List ℕ)) (layout : Layout) (texts : List Part) (tunes : List Tune) → AreSized pages → AllByRecursion (IsPart pages) texts
     → HoldTunes texts tunes → AllByRecursion (IsTune layout) tunes → length tunes ≤ most_tunes layout
     → length (trails texts) ≤ most_tunes layout * most_tune_pages layout
-texts_count s layout texts tunes sized stand are each few =
+texts_count pages layout texts tunes sized stand are each few =
     let all = times_count _ (length tunes) _ _ (tunes_count layout tunes each) few in
-    let trails = trails_count s.pages texts sized are.are_chains stand in
+    let trails = trails_count pages texts sized are.are_chains stand in
     let same : chain_pages (bytes_of texts) ≡ chain_pages (map written_tune tunes) = ap chain_pages are.hold in
     omega (arith, all, trails, same)
 
 -- all of it
-state_sum : (s : Stand) (numbers : IndexParts) (searches : SearchParts) (set_lists : Part) (texts : List Part) (layout : Layout)
-    → free_pages s.used + (length (trails (archive_parts numbers searches set_lists texts)) + 1) ≡ length s.used
+parts_sum : (numbers : IndexParts) (searches : SearchParts) (set_lists : Part) (texts : List Part) (layout : Layout)
     → length (trails (parts_of_index numbers)) ≤ most_number_pages layout → length (trails (parts_of_search searches)) ≤ most_search_pages layout
     → length set_lists.trail ≤ most_sets_pages → length (trails texts) ≤ most_tunes layout * most_tune_pages layout
-    → length s.used ≤ free_pages s.used + most_used layout
-state_sum s numbers searches set_lists texts layout all few_numbers few_searches few_sets few_texts =
+    → length (trails (archive_parts numbers searches set_lists texts)) ≤ most_part_pages layout
+parts_sum numbers searches set_lists texts layout few_numbers few_searches few_sets few_texts =
     omega (
       arith,
-      all,
       few_numbers,
       few_searches,
       few_sets,
@@ -221,38 +236,36 @@ state_sum s numbers searches set_lists texts layout all few_numbers few_searches
       length-append set_lists.trail (trails texts),
     )
 
+-- the chains and leaves of tunes that are within the limits of a layout, and of their sets
+pub filed_count : (limits layout : Layout) (pages : List (List ℕ)) (tunes : List Tune) (sets : List TuneSet) (filed : Filed layout pages tunes sets)
+    → AreSized pages → IsTunes limits tunes → AreSetLists sets
+    → length (trails (archive_parts filed.numbers filed.searches filed.set_lists filed.texts)) ≤ most_part_pages limits
+filed_count limits layout pages tunes sets filed sized within are =
+    let n = parts_of_index filed.numbers in
+    let q = parts_of_search filed.searches in
+    let behind = filed.set_lists ∷ filed.texts in
+    let stand = filed.parts.stand in
+    let after_numbers = all_right (IsPart pages) n (q ++ behind) stand in
+    let after_searches = all_right (IsPart pages) q behind after_numbers in
+    let rows = rows_of tunes filed.texts in
+    let many : length (number_entries rows) ≡ length tunes = length-map rows _ ∙ rows_count tunes filed.texts filed.are_tunes in
+    let numbers = index_count key_bytes pages filed.numbers (number_entries rows) (length tunes) sized
+    (all_left (IsPart pages) n (q ++ behind) stand) filed.are_numbers (omega (arith, many)) in
+    let searches = search_count (notes_of layout) pages filed.searches (numbered_texts tunes) sized
+    (all_left (IsPart pages) q behind after_numbers) filed.are_searches in
+    let size : length (numbered_texts tunes) ≡ length tunes = length-map tunes _ in
+    let same : search_pages (length (numbered_texts tunes)) ≡ search_pages (length tunes) = ap search_pages size in
+    let lists = sets_few pages sized filed.set_lists filed.sets_are_chain after_searches.0 limits sets filed.are_sets are in
+    let texts = texts_count pages limits filed.texts tunes sized after_searches.1 filed.are_tunes within.each within.count in
+    parts_sum filed.numbers filed.searches filed.set_lists filed.texts limits
+    (omega (arith, numbers, numbers_most limits (length tunes) within.count))
+    (omega (arith, searches, same, searches_most limits (length tunes) within.count)) lists texts
+
 -- the root, and the chains and leaves of a state within the limits
 pub state_count : (s : Stand) (contents : Contents) (state : State) → HoldsContents s contents state → IsState state → AreSized s.pages
     → length s.used ≤ free_pages s.used + most_used state.layout
 state_count s contents state holds within sized =
     let filed = holds.filed in
-    let n = parts_of_index filed.numbers in
-    let q = parts_of_search filed.searches in
-    let behind = filed.set_lists ∷ filed.texts in
-    let stand = holds.holds.stand in
-    let after_numbers = all_right (IsPart s.pages) n (q ++ behind) stand in
-    let after_searches = all_right (IsPart s.pages) q behind after_numbers in
-    let rows = rows_of state.tunes filed.texts in
-    let many : length (number_entries rows) ≡ length state.tunes = length-map rows _ ∙ rows_count state.tunes filed.texts filed.are_tunes in
-    let few_numbers = few_among key_bytes s contents.numbers [] (q ++ behind) filed.numbers (number_entries rows)
-    (record { holds = holds.holds; keeps = holds.numbers }) in
-    let numbers = index_count key_bytes s contents.numbers filed.numbers (number_entries rows) (length state.tunes) sized
-    (all_left (IsPart s.pages) n (q ++ behind) stand) holds.numbers holds.numbers_listed (omega (arith, few_numbers, many)) in
-    let few_texts = few_for_texts s contents.searches n behind filed.searches (numbered_texts state.tunes)
-    (record {
-      holds = holds.holds;
-      titles = holds.searches.titles;
-      rhythms = holds.searches.rhythms;
-      scales = holds.searches.scales;
-      incipits = holds.searches.incipits;
-    }) in
-    let searches = search_count s contents.searches filed.searches (numbered_texts state.tunes) sized
-    (all_left (IsPart s.pages) q behind after_numbers) holds.searches holds.searches_listed few_texts in
-    let size : length (numbered_texts state.tunes) ≡ length state.tunes = length-map state.tunes _ in
-    let same : search_pages (length (numbered_texts state.tunes)) ≡ search_pages (length state.tunes) = ap search_pages size in
-    let sets = sets_few s.pages sized filed.set_lists filed.sets_are_chain after_searches.0 state.layout state.sets filed.are_sets within.sets in
-    let texts = texts_count s state.layout filed.texts state.tunes sized after_searches.1 filed.are_tunes within.tunes.each within.tunes.count in
-    state_sum s filed.numbers filed.searches filed.set_lists filed.texts state.layout
-    (parts_count s (archive_parts filed.numbers filed.searches filed.set_lists filed.texts) holds.holds)
-    (omega (arith, numbers, numbers_most state.layout (length state.tunes) within.tunes.count))
-    (omega (arith, searches, same, searches_most state.layout (length state.tunes) within.tunes.count)) sets texts
+    let parts = filed_count state.layout state.layout s.pages state.tunes state.sets filed sized within.tunes within.sets in
+    let all = parts_count s (archive_parts filed.numbers filed.searches filed.set_lists filed.texts) holds.holds in
+    omega (arith, parts, all)

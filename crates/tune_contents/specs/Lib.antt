@@ -1,4 +1,5 @@
 pub mod Claimed
+pub mod FilePages
 pub mod Holds
 pub mod Inside
 pub mod LayAnswers

@@ -5,6 +5,7 @@ use Rattle.tune_pages.specs.Faults.{pages_for}
 use Rattle.tune_search.specs.SearchPages.{most_entries}
 use Rattle.tune_store.specs.Limits.{longest_text, most_tunes}
 use Rattle.tune_store.specs.declared.layout.Layout.{Layout}
+use Rattle.tune_store.specs.declared.layout.Layout.TheVariants.{One, Two}
 use Rattle.tune_format.specs.RootOffsets.{number_bytes, revision_bytes}
 
 -- the chain of a tune: 4 pages in layout 1
@@ -36,3 +37,13 @@ most_part_pages layout = most_tunes layout * most_tune_pages layout
 -- these, and the root: 320,342
 abbrev pub most_used : Layout → ℕ
 most_used layout = 1 + most_part_pages layout
+
+-- the same in numbers
+abbrev pub most_in_use : Layout → ℕ
+most_in_use One = 320342
+most_in_use Two = 1400693
+
+-- so many pages are enough for the state before a command and the one after it together
+abbrev pub enough_pages : Layout → ℕ
+enough_pages One = 640684
+enough_pages Two = 2801386

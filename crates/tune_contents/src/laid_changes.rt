@@ -1,11 +1,12 @@
 // A change of an archive, laid on its pages.
-ghost use Rattle.std.specs.Prelude.{◌≡◌, ◌≢◌, ◌+◌, List, false, true, length};
-ghost use Rattle.std.specs.Prelude.{IfOk, IfErr, OnOk};
+ghost use Rattle.std.specs.Prelude.{◌≡◌, ◌≢◌, ◌≤◌, ◌+◌, List, All, false, true, length};
+ghost use Rattle.std.specs.Prelude.{Err, IfOk, IfErr, OnOk};
+ghost use Rattle.tune_journal.specs.FileOffsets.{block_bytes};
 ghost use Rattle.tune_pages.specs.FreePages.{TakesAtMost};
 ghost use Rattle.tune_pages.specs.Kept.{HonestAt};
 ghost use Rattle.tune_pages.specs.PageLooks.{LooksAt};
 ghost use Rattle.tune_pages.specs.Work.{stand, Fits};
-ghost use Rattle.tune_pages.specs.declared.fault.Fault.TheVariants.{OutOfMemory};
+ghost use Rattle.tune_pages.specs.declared.fault.Fault.TheVariants.{FileFull, OutOfMemory};
 ghost use Rattle.tune_search.specs.SearchPages.{AreListed, firsts_in};
 ghost use Rattle.tune_sets.specs.declared.faults.SetFault.TheVariants as set_fault;
 ghost use Rattle.tune_sets.specs.declared.set_lists.TuneSet.{TuneSet};
@@ -17,7 +18,7 @@ ghost use Rattle.tune_store.specs.declared.tune.Tune.{Tune};
 ghost use Rattle.tune_contents.specs.LayAnswers.{AnswersLay};
 ghost use Rattle.tune_contents.specs.Claimed.{AreRows};
 ghost use Rattle.tune_contents.specs.Holds.{labels_in, HoldsContents, HoldsSomeState, LaysMemory};
-ghost use Rattle.tune_contents.specs.Most.{most_part_pages};
+ghost use Rattle.tune_contents.specs.Most.{enough_pages, most_part_pages};
 ghost use Rattle.tune_contents.specs.Next.{FitsRows, memory_after, rows_after};
 ghost use Rattle.tune_contents.specs.declared.contents.Contents.{Contents};
 ghost use Rattle.tune_contents.specs.Inside.Changes.{RowsAccept, SetsAccept, LaysChange, KeepsRows};
@@ -274,6 +275,8 @@ fn lay_change<D: Disk>(
 /// - `takes`: where the state after the change is within the limits, it takes no more free pages
 ///   than the chains and leaves of a state have at most; the file is full only where fewer are
 ///   free.
+/// - `enough`: the file is never full for it where there may be 640,684 pages in layout 1, or
+///   2,801,386 in layout 2: enough for the state before the change and the one after it.
 ///
 /// # Errors
 ///
@@ -310,6 +313,12 @@ pub fn lay<D: Disk>(
         → HoldsContents (stand pages.old work.old) contents.now state → IsState state
         → IsState (changed change state) → TakesAtMost (most_part_pages contents.now.layout)
         result (stand pages.old work.old) (stand pages.new work.new) }
+    ensures enough { HonestAt D.honest pages.new.disk → (state : State)
+        → HoldsContents (stand pages.old work.old) contents.now state → IsState state
+        → IsState (changed change state)
+        → All (λ page. length page ≡ block_bytes) (stand pages.old work.old).pages
+        → enough_pages contents.now.layout ≤ length (stand pages.old work.old).used
+        → result ≢ Err FileFull }
 {
     if let Change::Upgrade = &change {
         // An honest disk has no others.

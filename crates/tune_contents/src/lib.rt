@@ -19,7 +19,7 @@ mod upgrading;
 pub use claiming::claim;
 pub use contents::Contents;
 pub use laid_changes::lay;
-pub use laws::law_of_state_pages;
+pub use laws::{law_of_file_pages, law_of_state_pages};
 pub use layout_notes::incipit_notes;
 pub use next::{Next, RowChange};
 pub use room::Room;

@@ -1,9 +1,15 @@
-use Rattle.std.proofs.Common.{IfOk, subst, sym}
+use Rattle.std.proofs.Common.{◌≡◌, IfOk, subst, sym}
+use Rattle.tune_pages.specs.FreePages.{TakesAtMost}
 use Rattle.tune_pages.specs.Kept.{HonestAt}
 use Rattle.tune_pages.specs.Work.{stand}
+use Rattle.tune_store.specs.Plans.{CanChange}
+use Rattle.tune_store.specs.declared.layout.Layout.{Layout}
+use Rattle.tune_store.specs.declared.layout.Layout.TheVariants.{One}
 use Rattle.tune_store.specs.declared.plans.Change.{Change}
-use Rattle.tune_contents.specs.Holds.{LaysMemory}
+use Rattle.tune_contents.specs.Holds.{labels_in, LaysMemory}
+use Rattle.tune_contents.specs.Most.{most_part_pages}
 use Rattle.tune_contents.specs.Next.{memory_after}
+use Rattle.tune_contents.proofs.ChangePages.{finds_pages}
 use Rattle.tune_contents.proofs.RowTests.{some_rows}
 use Rattle.tune_contents.proofs.laid_changes.lay.Goals as goal
 
@@ -22,3 +28,19 @@ returns-in-Upgrade-clause-lays g c =
     let new = stand c.upgrade.new.pages c.upgrade.new.work in
     subst (λ (change : Change). IfOk c.upgrade.result (λ next. HonestAt g.D.Disk.honest c.upgrade.new.pages.disk
     → LaysMemory old new c.args.contents.now (memory_after next c.args.contents.now) change)) (sym c.in-Upgrade.is) c.upgrade.ensures.lays
+
+pub returns-in-Upgrade-clause-enough : goal.returns-in-Upgrade-clause-enough
+returns-in-Upgrade-clause-enough g c = λ h state holds is after sized many.
+    (let contents = c.args.contents.now in
+    let old = stand c.args.pages.now c.args.work.now in
+    let new = stand c.upgrade.new.pages c.upgrade.new.work in
+    let one : contents.layout ≡ One =
+    subst (λ (change : Change). CanChange change contents.layout (labels_in contents.rows.items) contents.sets) c.in-Upgrade.is c.requires.possible in
+    let takes = subst (λ (layout : Layout). TakesAtMost (most_part_pages layout) c.upgrade.result old new) (sym one)
+    (c.upgrade.ensures.takes h state holds is) in
+    finds_pages c.upgrade.result old new contents state takes holds is sized many)
+
+pub returns-clause-enough : goal.returns-clause-enough
+returns-clause-enough g c = λ h state holds is after sized many.
+    finds_pages c.lay_change.result (stand c.args.pages.now c.args.work.now) (stand c.lay_change.new.pages c.lay_change.new.work) c.args.contents.now state
+    (c.lay_change.ensures.takes h state holds is after) holds is sized many

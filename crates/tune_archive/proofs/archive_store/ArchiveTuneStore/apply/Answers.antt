@@ -5,6 +5,7 @@ use Rattle.tune_store.specs.Plans.{changed, after}
 use Rattle.tune_store.specs.Step.{step}
 use Rattle.tune_archive.proofs.Called.{Holds, Ended, answers_closed, passes, ended_refused, ended_unmade, ended_changed, ended_answered, stays_within}
 use Rattle.tune_archive.proofs.Called.{decided, alters, no_question, stays_at, stays_where}
+use Rattle.tune_archive.proofs.FilesTogether.{files_together}
 use Rattle.tune_store.proofs.RevisionLemmas.{raised_where}
 use Rattle.std.specs.Prelude.{⊤}
 use Rattle.tune_archive.proofs.archive_store.ArchiveTuneStore.apply.Goals as goal
@@ -14,6 +15,11 @@ pub returns-then-self-clause-answer : goal.returns-then-self-clause-answer
 returns-then-self-clause-answer g c = λ honest.
     let shut : c.args.self.now.closed ≡ true = sym (ap (λ s. s.closed) c.self.view_is) ∙ c.if-self.true in
     answers_closed (state_of g.D.Disk.state c.args.self.now) c.args.self.now.closed c.args.command.now shut
+
+pub returns-then-self-clause-together : goal.returns-then-self-clause-together
+returns-then-self-clause-together g c = λ h is_open.
+    (let shut : c.args.self.now.closed ≡ true = sym (ap (λ s. s.closed) c.self.view_is) ∙ c.if-self.true in
+    absurd (let no : true ≡ false = sym shut ∙ is_open in cc))
 
 -- WHERE IT IS REFUSED AS IT IS DECIDED
 refused : (g : _) (c : goal.After-from_residual g)
@@ -42,6 +48,13 @@ pub returns-in_err-change-clause-stops : goal.returns-in_err-change-clause-stops
 returns-in_err-change-clause-stops g c =
     let answer : c.from_residual.result ≡ Err c.in_err-change.field-0.0 = search rules in
     rw answer (passes g.D.Disk.honest g.D.Disk.failures g.D.Disk.state _ _ _ _ (refused g c) c.holds.ensures)
+
+pub returns-in_err-change-clause-together : goal.returns-in_err-change-clause-together
+returns-in_err-change-clause-together g c = λ h is_open.
+    (let was : Holds g.D.Disk.honest g.D.Disk.failures g.D.Disk.state c.args.self.now =
+    subst (Holds g.D.Disk.honest g.D.Disk.failures g.D.Disk.state) c.self.view_is c.self.invariant in
+    files_together c.law_of_file_pages.ensures.together g.D.Disk.honest g.D.Disk.failures g.D.Disk.state c.args.self.now _ c.args.command.now _
+    (refused g c) was h is_open)
 
 -- WHERE A CHANGE IS ASKED FOR
 pub make_change-made-requires-clause-within : goal.make_change-made-requires-clause-within
@@ -98,6 +111,13 @@ returns-in_err-made-clause-stops g c =
     let answer : c.from_residual-in_err-made.result ≡ Err c.in_err-made.field-0.0 = search rules in
     rw answer (passes g.D.Disk.honest g.D.Disk.failures g.D.Disk.state _ _ _ _ (unmade g c) c.holds-in-Some.ensures)
 
+pub returns-in_err-made-clause-together : goal.returns-in_err-made-clause-together
+returns-in_err-made-clause-together g c = λ h is_open.
+    (let was : Holds g.D.Disk.honest g.D.Disk.failures g.D.Disk.state c.args.self.now =
+    subst (Holds g.D.Disk.honest g.D.Disk.failures g.D.Disk.state) c.self.view_is c.self.invariant in
+    files_together c.law_of_file_pages.ensures.together g.D.Disk.honest g.D.Disk.failures g.D.Disk.state c.args.self.now _ c.args.command.now _
+    (unmade g c) was h is_open)
+
 -- WHERE IT WAS MADE, OR NONE WAS ASKED FOR
 -- how the call ends, and what then holds
 record Well (g : _) (c : goal.Joined-change g) : Type 0 where
@@ -150,3 +170,10 @@ returns-clause-quiet g c = stays_at g.D.Disk.honest g.D.Disk.failures g.D.Disk.s
 
 pub returns-clause-unchanged : goal.returns-clause-unchanged
 returns-clause-unchanged g c = stays_where g.D.Disk.honest g.D.Disk.failures g.D.Disk.state _ _ _ _ (well g c).ended
+
+pub returns-clause-together : goal.returns-clause-together
+returns-clause-together g c = λ h is_open.
+    (let was : Holds g.D.Disk.honest g.D.Disk.failures g.D.Disk.state c.args.self.now =
+    subst (Holds g.D.Disk.honest g.D.Disk.failures g.D.Disk.state) c.self.view_is c.self.invariant in
+    files_together c.law_of_file_pages.ensures.together g.D.Disk.honest g.D.Disk.failures g.D.Disk.state c.args.self.now _ c.args.command.now _
+    (well g c).ended was h is_open)
