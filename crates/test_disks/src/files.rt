@@ -56,9 +56,13 @@ impl<'a> Others<'a> {
         let path = self.path(rt.alloc(), word)?;
         match name {
             "lock" => self.lock(rt, &path, answer),
-            "link" => {
+            "link" | "rename" => {
                 let to = self.path(rt.alloc(), second)?;
-                symlink(rt, to.as_str(), path.as_str())?;
+                if name == "link" {
+                    symlink(rt, to.as_str(), path.as_str())?;
+                } else {
+                    fs::rename(rt, path.as_str(), to.as_str())?;
+                }
                 answer.say("ok");
                 Ok(())
             }
@@ -107,6 +111,10 @@ fn use_file<R: Files<File = File> + AllocGlobal>(
     match name {
         "put" => {
             fs::write(rt, path, bytes_of(rt.alloc(), second)?.as_slice())?;
+            answer.say("ok");
+        }
+        "remove" => {
+            fs::remove_file(rt, path)?;
             answer.say("ok");
         }
         "read-only" => {

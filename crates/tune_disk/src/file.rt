@@ -14,15 +14,19 @@ use crate::{DeviceFault, Disk};
 use calls::{make_stable, measure, read_part, write_part};
 use http_server::Log;
 use std::fs::{File, Files, OpenOptions};
+use std::os::unix::fs::MetadataExt;
 use std::path::{AsPath, Path};
 use std::snapshot::Snapshot;
 use std::{fs, io};
 use told::Told;
 
+// How often a file is opened, where its path leads to another each time that one is locked.
+const MOST_OPENINGS: u32 = 8;
+
 /// A file of the operating system, open for reading and writing, and locked as long as it is: no
 /// other `FileDisk` has the same file, in this program or another. (The lock is the system's
-/// `flock`, which binds only those who ask for it.) Its answers are kept for clauses alone, which
-/// speak of files whose answers fit.
+/// `flock`, which binds only those who ask for it.) It is the file to which its path led when it
+/// was locked. Its answers are kept for clauses alone, which speak of files whose answers fit.
 ///
 /// A sync that failed is final: each later call is a fault. Linux forgets what an `fdatasync` that
 /// failed did not write, and answers that a second one went well.
@@ -60,7 +64,8 @@ impl FileDisk {
     }
 
     /// As `open`, with the answer of the system in the place of a fault: `InvalidInput` where the
-    /// path leads to no regular file, and `WouldBlock` where another has locked the file.
+    /// path leads to no regular file, and `WouldBlock` where another has locked the file, or the
+    /// path leads to another file each time that one is locked.
     pub fn try_open<R: Files<File = File>, P: AsPath>(rt: &R, path: P) -> io::Result<FileDisk>
         ensures { IfOk result HasJustOpened }
     {
@@ -86,7 +91,9 @@ impl FileDisk {
     pub fn try_create<R: Files<File = File>, P: AsPath>(rt: &R, path: P) -> io::Result<FileDisk>
         ensures { IfOk result HasJustOpened }
     {
-        Ok(FileDisk::over(open_or_make(rt, path.path_text())?))
+        let file = make_locked(rt, path.path_text())?;
+        sync_folder(rt, path.path_text())?;
+        Ok(FileDisk::over(file))
     }
 
     /// What the system answered the first call that failed, if one did. (It is for people: no
@@ -116,35 +123,67 @@ fn some_opening() -> Snapshot<u64> {
     Snapshot::of(&0)
 }
 
-// A path that leads to a device or a pipe is not opened at all, since that alone may do something.
-// What was opened is asked again, in case another file stands there by now.
+// The file that a path leads to, locked. Between the opening and the lock another program may give
+// the path to another file, which is then opened in the place of the first.
 fn open_locked<R: Files<File = File>>(rt: &R, path: &str) -> io::Result<File> {
+    for _ in 0..MOST_OPENINGS {
+        if let Some(file) = lock(rt, path, open_regular(rt, path)?)? {
+            return Ok(file);
+        }
+    }
+    Err(io::ErrorKind::WouldBlock.into())
+}
+
+// Likewise, and where the path leads to nothing, also after the lock, a new file.
+fn make_locked<R: Files<File = File>>(rt: &R, path: &str) -> io::Result<File> {
+    for _ in 0..MOST_OPENINGS {
+        match lock(rt, path, open_or_make(rt, path)?) {
+            Err(error) if error.kind() == io::ErrorKind::NotFound => {}
+            Err(error) => return Err(error),
+            Ok(Some(file)) => return Ok(file),
+            Ok(None) => {}
+        }
+    }
+    Err(io::ErrorKind::WouldBlock.into())
+}
+
+// A path that leads to a device or a pipe is not opened at all, since that alone may do something.
+fn open_regular<R: Files<File = File>>(rt: &R, path: &str) -> io::Result<File> {
     if !fs::metadata(rt, path)?.is_file() {
         return Err(io::ErrorKind::InvalidInput.into());
     }
     let mut how = OpenOptions::new();
-    lock(how.read(true).write(true).open(rt, path)?)
+    how.read(true).write(true).open(rt, path)
 }
 
-// The file with its lock, which it has until it is closed.
-fn lock(file: File) -> io::Result<File> {
-    if !file.metadata()?.is_file() {
+// A file that is made follows no link, so it stands in the folder that the path names.
+fn open_or_make<R: Files<File = File>>(rt: &R, path: &str) -> io::Result<File> {
+    match open_regular(rt, path) {
+        Err(error) if error.kind() == io::ErrorKind::NotFound => File::create_new(rt, path),
+        opened => opened,
+    }
+}
+
+// The file with its lock, which it has until it is closed; or none, where the path leads to another
+// by now. What was opened is asked again whether it is a regular file, since it may be another than
+// the one that was asked before.
+fn lock<R: Files<File = File>>(rt: &R, path: &str, file: File) -> io::Result<Option<File>> {
+    let opened = file.metadata()?;
+    if !opened.is_file() {
         return Err(io::ErrorKind::InvalidInput.into());
     }
     file.try_lock()?;
-    Ok(file)
+    let named = fs::metadata(rt, path)?;
+    if named.dev() == opened.dev() && named.ino() == opened.ino() {
+        Ok(Some(file))
+    } else {
+        Ok(None)
+    }
 }
 
-fn open_or_make<R: Files<File = File>>(rt: &R, path: &str) -> io::Result<File> {
-    let file = match open_locked(rt, path) {
-        // It follows no link, so a file that it makes stands in the folder that the path names.
-        Err(error) if error.kind() == io::ErrorKind::NotFound => {
-            lock(File::create_new(rt, path)?)?
-        }
-        opened => opened?,
-    };
-    File::open(rt, folder_of(path))?.sync_all()?;
-    Ok(file)
+// Syncs the folder that a path names, so that a stop leaves a new file there.
+fn sync_folder<R: Files<File = File>>(rt: &R, path: &str) -> io::Result<()> {
+    File::open(rt, folder_of(path))?.sync_all()
 }
 
 // The parent of a path, and `.` where it has none of a name.
