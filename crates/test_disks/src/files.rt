@@ -8,7 +8,7 @@ use std::os::unix::fs::{PermissionsExt, symlink};
 use std::path::Path;
 use std::{fs, io};
 use test_cases::{Answer, no_data};
-use tune_disk::FileDisk;
+use tune_disk::{FileDisk, UnknownHistory};
 
 /// The folder of a case, and what others have open.
 #[derive(Drop)]
@@ -136,8 +136,8 @@ fn say_yes(is_so: bool, answer: &mut Answer) {
 // Whether a disk is opened and made there just where the system lets this user write: a superuser
 // may write to any file.
 fn opens_as_system<R: Files<File = File> + AllocGlobal>(rt: &R, path: &str) -> bool {
-    let opens = FileDisk::open(rt, path).is_ok();
-    let makes = FileDisk::create(rt, path).is_ok();
+    let opens = FileDisk::open(rt, path, &UnknownHistory).is_ok();
+    let makes = FileDisk::create(rt, path, &UnknownHistory).is_ok();
     let writes = File::options().write(true).open(rt, path).is_ok();
     opens == writes && makes == writes
 }
