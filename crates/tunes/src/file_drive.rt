@@ -2,7 +2,7 @@
 use std::alloc::{Alloc, Global};
 use std::fs::{File, Files};
 use std::io;
-use tune_disk::{DeviceFault, Drive, FileDisk};
+use tune_disk::{DeviceFault, Drive, FileDisk, FileHistory};
 
 /// The device that gives no bytes.
 pub(crate) const NOTHING: &str = "/dev/null";
@@ -10,28 +10,31 @@ pub(crate) const NOTHING: &str = "/dev/null";
 /// Opens files as disks. Why one cannot be opened, and why its device failed, is told on standard
 /// error, with its path.
 #[derive(Drop)]
-pub(crate) struct FileDrive<'a, R> {
+pub(crate) struct FileDrive<'a, R, H> {
     rt: &'a R,
+    // The history of the file that is opened, for clauses alone.
+    history: &'a H,
     // Standard input, output and error are the descriptors 0, 1 and 2. Where one of them is closed,
     // the next file that is opened takes its number, and replies would be written over an archive.
     // These three are opened before it, and kept as long.
     _first: [File; 3],
 }
 
-impl<'a, R: Files<File = File>> FileDrive<'a, R> {
+impl<'a, R: Files<File = File>, H> FileDrive<'a, R, H> {
     /// The error is that of `NOTHING`.
-    pub(crate) fn new(rt: &'a R) -> io::Result<FileDrive<'a, R>> {
+    pub(crate) fn new(rt: &'a R, history: &'a H) -> io::Result<FileDrive<'a, R, H>> {
         let first = File::open(rt, NOTHING)?;
         let second = File::open(rt, NOTHING)?;
         let third = File::open(rt, NOTHING)?;
         Ok(FileDrive {
             rt,
+            history,
             _first: [first, second, third],
         })
     }
 }
 
-impl<'a, R: AllocGlobal> Alloc for FileDrive<'a, R> {
+impl<'a, R: AllocGlobal, H> Alloc for FileDrive<'a, R, H> {
     type A = Global;
 
     fn alloc(&self) -> Global {
@@ -39,11 +42,11 @@ impl<'a, R: AllocGlobal> Alloc for FileDrive<'a, R> {
     }
 }
 
-impl<'a, R: Files<File = File> + Eprint> Drive for FileDrive<'a, R> {
+impl<'a, R: Files<File = File> + Eprint, H: FileHistory> Drive for FileDrive<'a, R, H> {
     ghost use Rattle.std.specs.Prelude.{IfOk, ⊤};
     ghost use Rattle.tune_disk.specs.FileDisk.{HasJustOpened};
 
-    type Disk = FileDisk;
+    type Disk = FileDisk<H>;
 
     ghost opened = { λ _ answer. IfOk answer HasJustOpened };
 
@@ -51,8 +54,8 @@ impl<'a, R: Files<File = File> + Eprint> Drive for FileDrive<'a, R> {
 
     ghost closed = { λ _ _. ⊤ };
 
-    fn open(&self, path: &str) -> Result<FileDisk, DeviceFault> {
-        match FileDisk::try_open(self.rt, path) {
+    fn open(&self, path: &str) -> Result<FileDisk<H>, DeviceFault> {
+        match FileDisk::try_open(self.rt, path, self.history) {
             Ok(disk) => Ok(disk),
             Err(error) => {
                 tell(self.rt, path, &error);
@@ -61,8 +64,8 @@ impl<'a, R: Files<File = File> + Eprint> Drive for FileDrive<'a, R> {
         }
     }
 
-    fn create(&self, path: &str) -> Result<FileDisk, DeviceFault> {
-        match FileDisk::try_create(self.rt, path) {
+    fn create(&self, path: &str) -> Result<FileDisk<H>, DeviceFault> {
+        match FileDisk::try_create(self.rt, path, self.history) {
             Ok(disk) => Ok(disk),
             Err(error) => {
                 tell(self.rt, path, &error);
@@ -71,7 +74,7 @@ impl<'a, R: Files<File = File> + Eprint> Drive for FileDrive<'a, R> {
         }
     }
 
-    fn close(&self, path: &str, disk: FileDisk) {
+    fn close(&self, path: &str, disk: FileDisk<H>) {
         if let Some(error) = disk.cause() {
             tell(self.rt, path, error);
         }
