@@ -386,7 +386,7 @@ def main():
                 failures += bool(wrong)
                 print(f'{"FAILED" if wrong else "ok":7} {sweep.name}, {how_of(kind, how)}, '
                       f'{calls} calls{"; " + "; ".join(wrong[:5]) if wrong else ""}', flush=True)
-        for name, wrong in PathSweep(work, *archives_in(work)).cases():
+        for name, wrong in PathSweep(folder, *archives_in(work)).cases():
             failures += bool(wrong)
             print(f'{"FAILED" if wrong else "ok":7} {name}{"; " + wrong if wrong else ""}',
                   flush=True)
