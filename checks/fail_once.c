@@ -3,6 +3,8 @@
 // FAIL_AT (which call, from 1 on; 0 for none), FAIL_HOW (the number of the error, or 0 where a
 // call that moves bytes is to move one) and FAIL_COUNT (a file that gets, at the end of the
 // program, how many such calls it made, a space, and 1 where one of them failed or was short).
+// Of the kind `lock` none fails, but before each of the first FAIL_AT locks the files of the paths
+// FAIL_PATH and FAIL_OTHER change names, or the first is removed where there is no second.
 #define _GNU_SOURCE
 #include <errno.h>
 #include <fcntl.h>
@@ -22,7 +24,7 @@ extern void *__libc_realloc(void *, size_t);
 extern void *__libc_memalign(size_t, size_t);
 
 static long fail_at, how, count, failed;
-static int memory;
+static int memory, locks;
 
 static int is_at(void) { return ++count == fail_at && (failed = 1); }
 
@@ -30,6 +32,7 @@ static int is_at(void) { return ++count == fail_at && (failed = 1); }
 __attribute__((constructor)) static void begin(void) {
     const char *kind = getenv("FAIL_KIND"), *at = getenv("FAIL_AT"), *error = getenv("FAIL_HOW");
     memory = kind && !strcmp(kind, "memory");
+    locks = kind && !strcmp(kind, "lock");
     how = error ? atol(error) : 0;
     count = failed = 0;
     fail_at = at ? atol(at) : 0;
@@ -48,7 +51,7 @@ __attribute__((destructor)) static void end(void) {
 // A call that moves no bytes cannot be short.
 #define CALL(...)                                                     \
     do {                                                              \
-        if (!memory && is_at()) {                                     \
+        if (!memory && !locks && is_at()) {                           \
             if (how) { errno = (int)how; return -1; }                 \
             failed = 0;                                               \
         }                                                             \
@@ -57,7 +60,7 @@ __attribute__((destructor)) static void end(void) {
 
 #define MOVE(length, ...)                                             \
     do {                                                              \
-        if (!memory && is_at()) {                                     \
+        if (!memory && !locks && is_at()) {                           \
             if (how) { errno = (int)how; return -1; }                 \
             if (length > 1) length = 1; else failed = 0;              \
         }                                                             \
@@ -110,7 +113,19 @@ int fsync(int file) { CALL(SYS_fsync, file); }
 int fdatasync(int file) { CALL(SYS_fdatasync, file); }
 int ftruncate(int file, off_t length) { CALL(SYS_ftruncate, file, length); }
 int ftruncate64(int file, off64_t length) { CALL(SYS_ftruncate, file, length); }
-int flock(int file, int operation) { CALL(SYS_flock, file, operation); }
+// What another program may do between the opening of a file and its lock.
+static void change_path(void) {
+    const char *path = getenv("FAIL_PATH"), *other = getenv("FAIL_OTHER");
+    char kept[4096];
+    if (!path || !other) { if (!path || unlink(path)) abort(); return; }
+    int length = snprintf(kept, sizeof kept, "%s.kept", path);
+    if (length < 0 || (size_t)length >= sizeof kept) abort();
+    if (rename(path, kept) || rename(other, path) || rename(kept, other)) abort();
+}
+int flock(int file, int operation) {
+    if (locks && count < fail_at) { count++; failed = 1; change_path(); }
+    CALL(SYS_flock, file, operation);
+}
 int statx(int folder, const char *path, int flags, unsigned mask, struct statx *found) {
     CALL(SYS_statx, folder, path, flags, mask, found);
 }

@@ -9,6 +9,10 @@ docs/SCRIPTS.md tell, never a signal; and the archive then opens by itself, as b
 the script or after it, and as after each that was answered. A call that moves one byte alone is
 seen by nobody.
 
+And before the first locks of a run the path goes to another file, or to nothing: what is answered
+as done stands in the file that has the path, and no other is written. Where that goes on, the run
+is refused.
+
 The program is the one that ./tunes has built, and not that script, or the one that the variable
 TUNES names. The calls fail by a library, checks/fail_once.c, that is built for this by `cc`. Where
 there is no C compiler it fails, unless the variable LEAVE_OUT has the word `cc`. A line is printed
@@ -32,6 +36,8 @@ PROGRAM = os.path.abspath(os.environ.get('TUNES') or BUILT)
 LIBRARY = os.path.join(ROOT, 'checks', 'fail_once.c')
 ERRORS = [errno.EIO, errno.ENOSPC, errno.EACCES, errno.ENOENT, errno.EAGAIN, errno.EINTR]
 ONE_BYTE = 0
+# How often the program opens a file whose path goes to another before the lock.
+MOST_OPENINGS = 8
 # Statuses of the program: done; it was not; the file is no archive, damaged, or not empty.
 DONE, NOT_DONE, NO_ARCHIVE = 0, 1, 3
 DEVICE, MEMORY = b'refused 22 Device\n', b'refused 21 OutOfMemory\n'
@@ -58,15 +64,16 @@ SPLITS = [b'import %d\n%b' % (len(TWO_MORE), TWO_MORE)]
 class Ended:
     """What came of a run: its status and output, how many calls it made, and whether one failed."""
 
-    def __init__(self, work, words, script=b'', kind='system', at=0, how=0):
+    def __init__(self, work, words, script=b'', kind='system', at=0, how=0, paths=()):
         count = os.path.join(work, 'count')
         if os.path.exists(count):
             os.remove(count)
         environment = {'LD_PRELOAD': library_of(work), 'FAIL_KIND': kind, 'FAIL_AT': str(at),
-                       'FAIL_HOW': str(how), 'FAIL_COUNT': count}
+                       'FAIL_HOW': str(how), 'FAIL_COUNT': count,
+                       **dict(zip(('FAIL_PATH', 'FAIL_OTHER'), paths))}
         ended = subprocess.run([PROGRAM, *words], input=script, env=environment, check=False,
                                stdout=subprocess.PIPE, stderr=subprocess.PIPE, timeout=60)
-        self.status, self.output = ended.returncode, ended.stdout
+        self.status, self.output, self.told = ended.returncode, ended.stdout, ended.stderr
         with open(count, encoding='ascii') as file:
             self.calls, self.failed = (int(word) for word in file.read().split())
 
@@ -259,6 +266,76 @@ class UpgradeSweep:
         return '' if good else f'status {ended.status}, output {ended.output!r}', ended
 
 
+def put(path, content):
+    with open(path, 'wb') as file:
+        file.write(content)
+
+
+def read(path):
+    with open(path, 'rb') as file:
+        return file.read()
+
+
+class PathSweep:
+    """Files whose paths go to others, or to nothing, before so many locks of a run."""
+
+    def __init__(self, folder, first, second):
+        self.folder, self.files = folder_of(folder, 'paths'), (first, second)
+        self.path, self.other = (os.path.join(self.folder, name) for name in ('path', 'other'))
+        self.script = CHANGES[0]
+        self.replies, self.after = [], []
+        for before in self.files:
+            put(self.path, before)
+            self.replies.append(run(['run', self.path], self.script))
+            self.after.append(run(['run', self.path], LOOK))
+        assert self.after[0] != self.after[1]
+
+    def changed(self, times):
+        """Why it is wrong that the paths of two archives change so often."""
+        for path, before in zip((self.path, self.other), self.files):
+            put(path, before)
+        ended = Ended(self.folder, ['run', self.path], self.script, 'lock', times,
+                      paths=(self.path, self.other))
+        which = times % 2
+        if times >= MOST_OPENINGS:
+            kept = (read(self.path), read(self.other)) == (self.files[which], self.files[1 - which])
+            return '' if self.is_refused(ended) and kept else self.shown(ended)
+        good = (ended.status, ended.output) == self.replies[which]
+        kept = read(self.other) == self.files[1 - which]
+        stands = run(['run', self.path], LOOK) == self.after[which]
+        return '' if good and kept and stands else self.shown(ended)
+
+    def removed(self, word, times):
+        """Why it is wrong that a path is taken away so often."""
+        if os.path.exists(self.path):
+            os.remove(self.path)
+        if word == 'run':
+            put(self.path, self.files[0])
+        ended = Ended(self.folder, [word, self.path], self.script, 'lock', times,
+                      paths=(self.path,))
+        if word == 'make' and times < MOST_OPENINGS:
+            made = (ended.status, ended.output) == (DONE, b'made\n')
+            return '' if made and run(['check', self.path])[0] == DONE else self.shown(ended)
+        good = self.is_refused(ended, b'' if word == 'run' else b'another program has it')
+        return '' if good and not os.path.exists(self.path) else self.shown(ended)
+
+    @staticmethod
+    def is_refused(ended, told=b'another program has it'):
+        return (ended.status, ended.output) == (NOT_DONE, DEVICE) and told in ended.told
+
+    @staticmethod
+    def shown(ended):
+        return f'status {ended.status}, output {ended.output!r}, or another file was written'
+
+    def cases(self):
+        """Each case by its name, with what is wrong in it, or nothing."""
+        for times in (1, 2, MOST_OPENINGS - 1, MOST_OPENINGS):
+            yield f'two files that change names before {times} locks', self.changed(times)
+        yield 'a file that is removed before its lock', self.removed('run', 1)
+        for times in (1, MOST_OPENINGS):
+            yield f'a made file that is removed before {times} locks', self.removed('make', times)
+
+
 def sweep_all(folder, sweep, kind, how):
     """Each call in turn until a run has no such call; how many there were, and what was wrong."""
     last = sweep.once(folder_of(folder, 'count'), kind, 0, how)
@@ -309,17 +386,26 @@ def main():
                 failures += bool(wrong)
                 print(f'{"FAILED" if wrong else "ok":7} {sweep.name}, {how_of(kind, how)}, '
                       f'{calls} calls{"; " + "; ".join(wrong[:5]) if wrong else ""}', flush=True)
+        for name, wrong in PathSweep(folder, *archives_in(work)).cases():
+            failures += bool(wrong)
+            print(f'{"FAILED" if wrong else "ok":7} {name}{"; " + wrong if wrong else ""}',
+                  flush=True)
     return 1 if failures else 0
 
 
-def sweeps_in(work):
+def archives_in(work):
+    """An archive that was made, and one with a full leaf."""
     path = os.path.join(work, 'made')
+    if os.path.exists(path):
+        os.remove(path)
     assert run(['make', path])[0] == DONE
-    with open(path, 'rb') as file:
-        made = file.read()
+    made = read(path)
     assert run(['run', path], b'import %d\n%b' % (len(FULL_LEAF), FULL_LEAF))[0] == DONE
-    with open(path, 'rb') as file:
-        full_leaf = file.read()
+    return made, read(path)
+
+
+def sweeps_in(work):
+    made, full_leaf = archives_in(work)
     yield MakeSweep(work, 'an archive that is made')
     yield Sweep(work, 'a script of every command', made, CHANGES, QUESTIONS)
     yield Sweep(work, 'leaves that split', full_leaf, SPLITS, [b'find title tune 7\n'])

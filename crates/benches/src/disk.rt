@@ -2,7 +2,7 @@
 use crate::words::number;
 use anyhow::{Result, bail};
 use std::fs::{File, Files};
-use tune_disk::{DeviceFault, Disk, FileDisk};
+use tune_disk::{DeviceFault, Disk, FileDisk, UnknownHistory};
 
 const PAGES: u32 = 256;
 
@@ -14,7 +14,7 @@ pub(crate) fn run<R: Files<File = File> + Print>(rt: &R, words: &[&str]) -> Resu
         bail!("usage: benches disk FILE ROUNDS");
     };
     let rounds = number(rounds, u32::MAX)?;
-    let mut disk = FileDisk::try_create(rt, *path)?;
+    let mut disk = FileDisk::try_create(rt, *path, &UnknownHistory)?;
     let size = fill(&mut disk, rounds)?;
     println!(rt; "{size}")?;
     Ok(())

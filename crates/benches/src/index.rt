@@ -12,7 +12,7 @@ use std::alloc::{AllocError, Global};
 use std::fs::{File, Files};
 use std::io;
 use std::rt::Clock;
-use tune_disk::{Disk, FileDisk, MemoryDisk};
+use tune_disk::{Disk, FileDisk, MemoryDisk, UnknownHistory};
 use tune_index::Index;
 use tune_pages::{ClaimFault, Fault, Opening, Pages, Work};
 
@@ -48,7 +48,10 @@ where
     };
     match place {
         Place::Memory => run_parts(rt, MemoryDisk::new(rt.alloc()), size, shown),
-        Place::File(path) => run_parts(rt, FileDisk::try_create(rt, path)?, size, shown),
+        Place::File(path) => {
+            let disk = FileDisk::try_create(rt, path, &UnknownHistory)?;
+            run_parts(rt, disk, size, shown)
+        }
     }
 }
 

@@ -1,7 +1,7 @@
 // The disk that calls are made of.
 use crate::disk_calls::{DiskCall, call_disk};
 use test_cases::Answer;
-use tune_disk::{FileDisk, FuseDisk, MemoryDisk, OneFault};
+use tune_disk::{FileDisk, FuseDisk, MemoryDisk, OneFault, UnknownHistory};
 
 /// A disk of one of the kinds that there are.
 #[derive(Drop)]
@@ -11,7 +11,7 @@ pub(crate) enum Device {
     Fuse(FuseDisk<MemoryDisk>),
     OneFault(OneFault<MemoryDisk>),
     FaultWithinFuse(FuseDisk<OneFault<MemoryDisk>>),
-    File(FileDisk),
+    File(FileDisk<UnknownHistory>),
 }
 
 impl Device {

@@ -8,7 +8,7 @@ use std::os::unix::fs::{PermissionsExt, symlink};
 use std::path::Path;
 use std::{fs, io};
 use test_cases::{Answer, no_data};
-use tune_disk::FileDisk;
+use tune_disk::{FileDisk, UnknownHistory};
 
 /// The folder of a case, and what others have open.
 #[derive(Drop)]
@@ -56,9 +56,13 @@ impl<'a> Others<'a> {
         let path = self.path(rt.alloc(), word)?;
         match name {
             "lock" => self.lock(rt, &path, answer),
-            "link" => {
+            "link" | "rename" => {
                 let to = self.path(rt.alloc(), second)?;
-                symlink(rt, to.as_str(), path.as_str())?;
+                if name == "link" {
+                    symlink(rt, to.as_str(), path.as_str())?;
+                } else {
+                    fs::rename(rt, path.as_str(), to.as_str())?;
+                }
                 answer.say("ok");
                 Ok(())
             }
@@ -109,6 +113,10 @@ fn use_file<R: Files<File = File> + AllocGlobal>(
             fs::write(rt, path, bytes_of(rt.alloc(), second)?.as_slice())?;
             answer.say("ok");
         }
+        "remove" => {
+            fs::remove_file(rt, path)?;
+            answer.say("ok");
+        }
         "read-only" => {
             fs::set_permissions(rt, path, Permissions::from_mode(0o444))?;
             answer.say("ok");
@@ -128,8 +136,8 @@ fn say_yes(is_so: bool, answer: &mut Answer) {
 // Whether a disk is opened and made there just where the system lets this user write: a superuser
 // may write to any file.
 fn opens_as_system<R: Files<File = File> + AllocGlobal>(rt: &R, path: &str) -> bool {
-    let opens = FileDisk::open(rt, path).is_ok();
-    let makes = FileDisk::create(rt, path).is_ok();
+    let opens = FileDisk::open(rt, path, &UnknownHistory).is_ok();
+    let makes = FileDisk::create(rt, path, &UnknownHistory).is_ok();
     let writes = File::options().write(true).open(rt, path).is_ok();
     opens == writes && makes == writes
 }

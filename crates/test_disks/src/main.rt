@@ -17,6 +17,7 @@
 //! | `create PATH`, `open PATH`, `close` | a disk over a file, until it is closed |
 //! | `opens-as-system PATH` | whether both do just where the system lets this user write there |
 //! | `put PATH BYTES`, `get PATH`, `exists PATH` | a file as others write it and read it |
+//! | `rename PATH TO`, `remove PATH` | gives a file another name, or takes its name away |
 //! | `link PATH TO`, `read-only PATH` | makes a symbolic link, or takes the leave to write away |
 //! | `lock PATH`, `unlock` | another's lock of a file |
 //! | `pipe` | makes a pipe, whose ends are the paths `<` and `>` |

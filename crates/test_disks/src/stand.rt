@@ -8,7 +8,7 @@ use std::fs::{File, Files};
 use std::path::Path;
 use std::{fs, io, mem};
 use test_cases::{Answer, Bench, Words, no_data};
-use tune_disk::{FileDisk, MemoryDisk, StopChoice};
+use tune_disk::{FileDisk, MemoryDisk, StopChoice, UnknownHistory};
 
 /// The disk that calls are made of, another that was put aside, and the files round them.
 #[derive(Drop)]
@@ -127,9 +127,9 @@ impl<'a, R: Files<File = File> + AllocGlobal> Stand<'a, R> {
     fn open_file(&mut self, name: &str, words: Words<'_>, answer: &mut Answer) -> io::Result<()> {
         let path = self.others.path(self.rt.alloc(), words.rest())?;
         let opened = if name == "create" {
-            FileDisk::create(self.rt, path.as_str())
+            FileDisk::create(self.rt, path.as_str(), &UnknownHistory)
         } else {
-            FileDisk::open(self.rt, path.as_str())
+            FileDisk::open(self.rt, path.as_str(), &UnknownHistory)
         };
         say_whether_done(opened.is_ok(), answer);
         if let Ok(disk) = opened {

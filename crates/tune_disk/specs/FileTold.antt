@@ -1,7 +1,7 @@
 -- What a file of the operating system told, one answer after another, and what it then stands for.
 use Rattle.std.specs.Prelude.{◌≡◌, ℕ, ◌+◌, ◌≤◌, List, [], ◌∷◌, ◌++◌, length, slice_index, get_or}
 use Rattle.tune_disk.specs.ByteWrites.{put}
-use Rattle.tune_disk.specs.Disk.{DiskState, Torn, touched, settled, fresh}
+use Rattle.tune_disk.specs.Disk.{DiskState, Torn, touched, settled}
 use Rattle.tune_disk.specs.declared.file.told.Told.{Told}
 use Rattle.tune_disk.specs.declared.file.told.Told.TheVariants.{Length, Byte, Ended, Begun, Put}
 use Rattle.tune_disk.specs.declared.file.told.Told.TheVariants.{Wrote, Broke, Synced}
@@ -12,11 +12,6 @@ pub record History : Type 0 where
   pub opened : DiskState
   -- what the file held after each write that failed, in their order
   pub broken : List (List ℕ)
-
--- The history of an opening, by its number. It is abstract, and no clause says which number a disk
--- has: what is proved holds of every history and every number, so of those that took place.
-pub history_of : ℕ → History
-history_of opening = record { opened = fresh []; broken = [] }
 
 -- A file as it goes on: what it stands for, the bytes that it took of the write in hand, and how
 -- many writes have failed.

@@ -8,31 +8,38 @@ ghost use Rattle.tune_disk.specs.Inside.ToldMore.{IsToldMore, IsToldRead, IsTold
 ghost use Rattle.tune_disk.specs.Inside.ToldMore.{IsToldBroken, IsToldTaken};
 
 mod calls;
+mod history;
 mod told;
 
 use crate::{DeviceFault, Disk};
 use calls::{make_stable, measure, read_part, write_part};
+pub use history::{FileHistory, UnknownHistory};
 use http_server::Log;
 use std::fs::{File, Files, OpenOptions};
+use std::os::unix::fs::MetadataExt;
 use std::path::{AsPath, Path};
 use std::snapshot::Snapshot;
 use std::{fs, io};
 use told::Told;
 
+// How often a file is opened, where its path leads to another each time that one is locked.
+const MOST_OPENINGS: u32 = 8;
+
 /// A file of the operating system, open for reading and writing, and locked as long as it is: no
 /// other `FileDisk` has the same file, in this program or another. (The lock is the system's
-/// `flock`, which binds only those who ask for it.) Its answers are kept for clauses alone, which
-/// speak of files whose answers fit.
+/// `flock`, which binds only those who ask for it.) It is the file to which its path led when it
+/// was locked. Its answers are kept for clauses alone, which speak of files whose answers fit the
+/// history that was handed in at the opening.
 ///
 /// A sync that failed is final: each later call is a fault. Linux forgets what an `fdatasync` that
 /// failed did not write, and answers that a second one went well.
 #[derive(Drop)]
-pub struct FileDisk {
+pub struct FileDisk<H> {
     file: File,
     sync_failed: bool,
-    // Which opening this is, and what the file told since. Clauses alone read them: they take no
-    // memory.
-    opening: Snapshot<u64>,
+    // What was handed in at the opening, and what the file told since. Clauses alone read them:
+    // they take no memory.
+    history: Snapshot<H>,
     log: Log<u64, Told>,
     faults: Faults,
 }
@@ -44,27 +51,40 @@ struct Faults {
     first: Option<io::Error>,
 }
 
-impl FileDisk {
-    ghost use Rattle.tune_disk.specs.FileDisk.{HasJustOpened};
+impl<H: FileHistory> FileDisk<H> {
+    ghost use Rattle.tune_disk.specs.FileDisk.{HasJustOpened, file_history};
 
     /// The file at this path, as it is. A fault where the path leads to no regular file (but to a
     /// device, a pipe, a folder or nothing), where the file may not be read and written, or where
     /// another has locked it.
-    pub fn open<R: Files<File = File>, P: AsPath>(rt: &R, path: P) -> Result<FileDisk, DeviceFault>
-        ensures { IfOk result HasJustOpened }
+    pub fn open<R: Files<File = File>, P: AsPath>(
+        rt: &R,
+        path: P,
+        history: &H,
+    ) -> Result<FileDisk<H>, DeviceFault>
+        ensures opened { IfOk result HasJustOpened }
+        ensures history { IfOk result
+            (λ disk. file_history H.history disk ≡ H.history history.now) }
     {
-        match FileDisk::try_open(rt, path) {
+        match FileDisk::try_open(rt, path, history) {
             Ok(disk) => Ok(disk),
             Err(_) => Err(DeviceFault),
         }
     }
 
     /// As `open`, with the answer of the system in the place of a fault: `InvalidInput` where the
-    /// path leads to no regular file, and `WouldBlock` where another has locked the file.
-    pub fn try_open<R: Files<File = File>, P: AsPath>(rt: &R, path: P) -> io::Result<FileDisk>
-        ensures { IfOk result HasJustOpened }
+    /// path leads to no regular file, and `WouldBlock` where another has locked the file, or the
+    /// path leads to another file each time that one is locked.
+    pub fn try_open<R: Files<File = File>, P: AsPath>(
+        rt: &R,
+        path: P,
+        history: &H,
+    ) -> io::Result<FileDisk<H>>
+        ensures opened { IfOk result HasJustOpened }
+        ensures history { IfOk result
+            (λ disk. file_history H.history disk ≡ H.history history.now) }
     {
-        Ok(FileDisk::over(open_locked(rt, path.path_text())?))
+        Ok(FileDisk::over(open_locked(rt, path.path_text())?, history))
     }
 
     /// The file at this path, as it is, or a new empty one where nothing is there. The folder that
@@ -73,20 +93,31 @@ impl FileDisk {
     pub fn create<R: Files<File = File>, P: AsPath>(
         rt: &R,
         path: P,
-    ) -> Result<FileDisk, DeviceFault>
-        ensures { IfOk result HasJustOpened }
+        history: &H,
+    ) -> Result<FileDisk<H>, DeviceFault>
+        ensures opened { IfOk result HasJustOpened }
+        ensures history { IfOk result
+            (λ disk. file_history H.history disk ≡ H.history history.now) }
     {
-        match FileDisk::try_create(rt, path) {
+        match FileDisk::try_create(rt, path, history) {
             Ok(disk) => Ok(disk),
             Err(_) => Err(DeviceFault),
         }
     }
 
     /// As `create`, with the answer of the system in the place of a fault.
-    pub fn try_create<R: Files<File = File>, P: AsPath>(rt: &R, path: P) -> io::Result<FileDisk>
-        ensures { IfOk result HasJustOpened }
+    pub fn try_create<R: Files<File = File>, P: AsPath>(
+        rt: &R,
+        path: P,
+        history: &H,
+    ) -> io::Result<FileDisk<H>>
+        ensures opened { IfOk result HasJustOpened }
+        ensures history { IfOk result
+            (λ disk. file_history H.history disk ≡ H.history history.now) }
     {
-        Ok(FileDisk::over(open_or_make(rt, path.path_text())?))
+        let file = make_locked(rt, path.path_text())?;
+        sync_folder(rt, path.path_text())?;
+        Ok(FileDisk::over(file, history))
     }
 
     /// What the system answered the first call that failed, if one did. (It is for people: no
@@ -95,13 +126,14 @@ impl FileDisk {
         self.faults.first.as_ref()
     }
 
-    fn over(file: File) -> FileDisk
-        ensures { HasJustOpened result }
+    fn over(file: File, history: &H) -> FileDisk<H>
+        ensures opened { HasJustOpened result }
+        ensures history { file_history H.history result ≡ H.history history.now }
     {
         FileDisk {
             file,
             sync_failed: false,
-            opening: some_opening(),
+            history: Snapshot::of(history),
             log: Log::new(),
             faults: Faults {
                 count: 0,
@@ -111,40 +143,67 @@ impl FileDisk {
     }
 }
 
-// The number of an opening. It has no clause, so what is proved holds whatever number it is.
-fn some_opening() -> Snapshot<u64> {
-    Snapshot::of(&0)
+// The file that a path leads to, locked. Between the opening and the lock another program may give
+// the path to another file, which is then opened in the place of the first.
+fn open_locked<R: Files<File = File>>(rt: &R, path: &str) -> io::Result<File> {
+    for _ in 0..MOST_OPENINGS {
+        if let Some(file) = lock(rt, path, open_regular(rt, path)?)? {
+            return Ok(file);
+        }
+    }
+    Err(io::ErrorKind::WouldBlock.into())
+}
+
+// Likewise, and where the path leads to nothing, also after the lock, a new file.
+fn make_locked<R: Files<File = File>>(rt: &R, path: &str) -> io::Result<File> {
+    for _ in 0..MOST_OPENINGS {
+        match lock(rt, path, open_or_make(rt, path)?) {
+            Err(error) if error.kind() == io::ErrorKind::NotFound => {}
+            Err(error) => return Err(error),
+            Ok(Some(file)) => return Ok(file),
+            Ok(None) => {}
+        }
+    }
+    Err(io::ErrorKind::WouldBlock.into())
 }
 
 // A path that leads to a device or a pipe is not opened at all, since that alone may do something.
-// What was opened is asked again, in case another file stands there by now.
-fn open_locked<R: Files<File = File>>(rt: &R, path: &str) -> io::Result<File> {
+fn open_regular<R: Files<File = File>>(rt: &R, path: &str) -> io::Result<File> {
     if !fs::metadata(rt, path)?.is_file() {
         return Err(io::ErrorKind::InvalidInput.into());
     }
     let mut how = OpenOptions::new();
-    lock(how.read(true).write(true).open(rt, path)?)
+    how.read(true).write(true).open(rt, path)
 }
 
-// The file with its lock, which it has until it is closed.
-fn lock(file: File) -> io::Result<File> {
-    if !file.metadata()?.is_file() {
+// A file that is made follows no link, so it stands in the folder that the path names.
+fn open_or_make<R: Files<File = File>>(rt: &R, path: &str) -> io::Result<File> {
+    match open_regular(rt, path) {
+        Err(error) if error.kind() == io::ErrorKind::NotFound => File::create_new(rt, path),
+        opened => opened,
+    }
+}
+
+// The file with its lock, which it has until it is closed; or none, where the path leads to another
+// by now. What was opened is asked again whether it is a regular file, since it may be another than
+// the one that was asked before.
+fn lock<R: Files<File = File>>(rt: &R, path: &str, file: File) -> io::Result<Option<File>> {
+    let opened = file.metadata()?;
+    if !opened.is_file() {
         return Err(io::ErrorKind::InvalidInput.into());
     }
     file.try_lock()?;
-    Ok(file)
+    let named = fs::metadata(rt, path)?;
+    if named.dev() == opened.dev() && named.ino() == opened.ino() {
+        Ok(Some(file))
+    } else {
+        Ok(None)
+    }
 }
 
-fn open_or_make<R: Files<File = File>>(rt: &R, path: &str) -> io::Result<File> {
-    let file = match open_locked(rt, path) {
-        // It follows no link, so a file that it makes stands in the folder that the path names.
-        Err(error) if error.kind() == io::ErrorKind::NotFound => {
-            lock(File::create_new(rt, path)?)?
-        }
-        opened => opened?,
-    };
-    File::open(rt, folder_of(path))?.sync_all()?;
-    Ok(file)
+// Syncs the folder that a path names, so that a stop leaves a new file there.
+fn sync_folder<R: Files<File = File>>(rt: &R, path: &str) -> io::Result<()> {
+    File::open(rt, folder_of(path))?.sync_all()
 }
 
 // The parent of a path, and `.` where it has none of a name.
@@ -157,21 +216,22 @@ fn folder_of(path: &str) -> &str
     }
 }
 
-impl Disk for FileDisk {
+impl<H: FileHistory> Disk for FileDisk<H> {
     ghost use Rattle.tune_disk.specs.Inside.FileStays.{file_stays};
 
-    ghost state = { file_state };
+    ghost state = { file_state H.history };
 
     ghost failures = { file_failures };
 
-    ghost honest = { FileIsHonest };
+    ghost honest = { FileIsHonest H.history };
 
-    ghost seen_may_stay = { file_stays };
+    ghost seen_may_stay = { file_stays H.history };
 
     fn len(&mut self) -> Result<u64, DeviceFault>
-        ensures len { IfOk result (λ n. FileIsHonest self.new
-            → n ≡ length (file_state self.old).seen) }
-        ensures looks { Looks FileIsHonest file_failures file_state result self.old self.new }
+        ensures len { IfOk result (λ n. FileIsHonest H.history self.new
+            → n ≡ length (file_state H.history self.old).seen) }
+        ensures looks { Looks (FileIsHonest H.history) file_failures (file_state H.history)
+            result self.old self.new }
         ensures refused { SyncHasFailed self.old → IsErr result }
         ensures syncs { SyncHasFailed self.new ↔ SyncHasFailed self.old }
     {
@@ -182,9 +242,10 @@ impl Disk for FileDisk {
 
     fn read(&mut self, at: u64, into: &mut [u8]) -> Result<(), DeviceFault>
         requires { at + length into.old ≤ 2 ^ 40 }
-        ensures read { OnOk result (FileIsHonest self.new
-            → Shows (file_state self.old).seen at into.new) }
-        ensures looks { Looks FileIsHonest file_failures file_state result self.old self.new }
+        ensures read { OnOk result (FileIsHonest H.history self.new
+            → Shows (file_state H.history self.old).seen at into.new) }
+        ensures looks { Looks (FileIsHonest H.history) file_failures (file_state H.history)
+            result self.old self.new }
         ensures refused { SyncHasFailed self.old → IsErr result }
         ensures syncs { SyncHasFailed self.new ↔ SyncHasFailed self.old }
     {
@@ -195,9 +256,9 @@ impl Disk for FileDisk {
 
     fn write_at(&mut self, at: u64, bytes: &[u8]) -> Result<(), DeviceFault>
         requires { at + length bytes.now ≤ 2 ^ 40 }
-        ensures write { FileIsHonest self.new
-            → Writes at bytes.now result (file_state self.old) (file_state self.new) }
-        ensures calls { Calls FileIsHonest file_failures result self.old self.new }
+        ensures write { FileIsHonest H.history self.new → Writes at bytes.now result
+            (file_state H.history self.old) (file_state H.history self.new) }
+        ensures calls { Calls (FileIsHonest H.history) file_failures result self.old self.new }
         ensures refused { SyncHasFailed self.old → IsErr result }
         ensures syncs { SyncHasFailed self.new ↔ SyncHasFailed self.old }
     {
@@ -207,9 +268,9 @@ impl Disk for FileDisk {
     }
 
     fn sync(&mut self) -> Result<(), DeviceFault>
-        ensures sync { FileIsHonest self.new
-            → Syncs result (file_state self.old) (file_state self.new) }
-        ensures calls { Calls FileIsHonest file_failures result self.old self.new }
+        ensures sync { FileIsHonest H.history self.new
+            → Syncs result (file_state H.history self.old) (file_state H.history self.new) }
+        ensures calls { Calls (FileIsHonest H.history) file_failures result self.old self.new }
         ensures refused { SyncHasFailed self.old → IsErr result }
         ensures syncs { SyncHasFailed self.new ↔ IsErr result }
     {

@@ -13,6 +13,7 @@ use std::process::ExitCode;
 use std::rt::Runtime;
 use std::{env, io};
 use tune_cli::{Action, StreamConsole, act, action, report};
+use tune_disk::{FileHistory, UnknownHistory};
 
 /// How many bytes are read at once, and how many of a reply are written at once.
 const BUFFER: usize = 65_536;
@@ -57,7 +58,7 @@ fn say_failure<R: Print + Eprint>(rt: &R, error: &io::Error) -> u8 {
 fn start<R: Runtime + AllocGlobal + Files<File = File>>(rt: &R) -> io::Result<u8> {
     let words: Vec<String> = env::args(rt)?.collect(rt.alloc())?;
     match action(rt.alloc(), words.as_slice()) {
-        Ok(action) => perform(rt, &action),
+        Ok(action) => perform(rt, &action, &UnknownHistory),
         Err(fault) => match report(rt, &fault) {
             Ok(status) => Ok(status),
             Err(error) => {
@@ -68,12 +69,13 @@ fn start<R: Runtime + AllocGlobal + Files<File = File>>(rt: &R) -> io::Result<u8
     }
 }
 
-// Does what is asked, over standard input and output, and files.
-fn perform<R: Runtime + AllocGlobal + Files<File = File>>(
+// Does what is asked, over standard input and output, and files, whatever their history is.
+fn perform<R: Runtime + AllocGlobal + Files<File = File>, H: FileHistory>(
     rt: &R,
     action: &Action,
+    history: &H,
 ) -> io::Result<u8> {
-    let mut drive = match FileDrive::new(rt) {
+    let mut drive = match FileDrive::new(rt, history) {
         Ok(drive) => drive,
         Err(error) => {
             tell(rt, NOTHING, &error);

@@ -42,8 +42,9 @@ course_stays h c (one ∷ more) stays fit =
     let after = told h one.0 one.1 c in
     course_stays h after more (told_stays h one.0 one.1 c stays fit.0) fit.1
 
-pub file_stays : (disk : FileDisk) → FileIsHonest disk
-    → MayLeave (file_state disk).now (file_state disk).seen
-file_stays disk honest =
-    let h = file_history disk in
+pub file_stays : {H : Type 0} (history : H → History) (disk : FileDisk H)
+    → FileIsHonest history disk
+    → MayLeave (file_state history disk).now (file_state history disk).seen
+file_stays history disk honest =
+    let h = file_history history disk in
     course_stays h (at_opening h) disk.log.items honest.opened honest.told

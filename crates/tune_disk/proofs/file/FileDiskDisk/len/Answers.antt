@@ -8,8 +8,8 @@ use Rattle.tune_disk.proofs.Told.{length_more, length_told}
 use Rattle.tune_disk.proofs.file.FileDiskDisk.len.Goals as goal
 
 pub returns-clause-len : goal.returns-clause-len
-returns-clause-len c =
-    let h = file_history c.args.self.now in
+returns-clause-len g c =
+    let h = file_history g.H.FileHistory.history c.args.self.now in
     holds_then c.counted.result _ _
     (length_told h (at_opening h) c.measure-size.result c.counted.result
     c.args.self.now.log.items c.measure-size.new.log.items
@@ -17,8 +17,8 @@ returns-clause-len c =
     (λ n is honest. is honest.told)
 
 pub returns-clause-looks : goal.returns-clause-looks
-returns-clause-looks c =
-    let h = file_history c.args.self.now in
+returns-clause-looks g c =
+    let h = file_history g.H.FileHistory.history c.args.self.now in
     let old = c.args.self.now.log.items in
     let new = c.measure-size.new.log.items in
     let size = c.measure-size in

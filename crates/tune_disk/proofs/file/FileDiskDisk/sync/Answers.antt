@@ -6,8 +6,8 @@ use Rattle.tune_disk.proofs.Told.{sync_more, sync_told, same_answer}
 use Rattle.tune_disk.proofs.file.FileDiskDisk.sync.Goals as goal
 
 pub returns-clause-calls : goal.returns-clause-calls
-returns-clause-calls c =
-    let h = file_history c.args.self.now in
+returns-clause-calls g c =
+    let h = file_history g.H.FileHistory.history c.args.self.now in
     let done = c.make_stable-done in
     record {
       was_honest = λ honest. record {
@@ -19,8 +19,8 @@ returns-clause-calls c =
     }
 
 pub returns-clause-sync : goal.returns-clause-sync
-returns-clause-sync c = λ _.
-    (let h = file_history c.args.self.now in
+returns-clause-sync g c = λ _.
+    (let h = file_history g.H.FileHistory.history c.args.self.now in
     let done = c.make_stable-done in
     sync_told h (at_opening h) done.result c.counted.result
     c.args.self.now.log.items done.new.log.items done.ensures.ok done.ensures.err

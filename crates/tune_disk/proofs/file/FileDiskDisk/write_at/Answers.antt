@@ -6,8 +6,8 @@ use Rattle.tune_disk.proofs.Told.{write_more, write_told, same_answer}
 use Rattle.tune_disk.proofs.file.FileDiskDisk.write_at.Goals as goal
 
 pub returns-clause-calls : goal.returns-clause-calls
-returns-clause-calls c =
-    let h = file_history c.args.self.now in
+returns-clause-calls g c =
+    let h = file_history g.H.FileHistory.history c.args.self.now in
     let done = c.write_all-done in
     record {
       was_honest = λ honest. record {
@@ -19,8 +19,8 @@ returns-clause-calls c =
     }
 
 pub returns-clause-write : goal.returns-clause-write
-returns-clause-write c = λ honest.
-    (let h = file_history c.args.self.now in
+returns-clause-write g c = λ honest.
+    (let h = file_history g.H.FileHistory.history c.args.self.now in
     let done = c.write_all-done in
     write_told h (at_opening h) done.result c.counted.result c.args.at c.args.bytes.now
     c.args.self.now.log.items done.new.log.items done.ensures.ok done.ensures.err
