@@ -1,9 +1,12 @@
 // Archives that are made, and opened.
-ghost use Rattle.std.specs.Prelude.{◌≡◌, ◌<◌, false, [], Some, length, IfOk, IfErr, MatchResult};
+ghost use Rattle.std.specs.Prelude.{◌≡◌, ◌≢◌, ◌<◌, false, [], Some, length};
+ghost use Rattle.std.specs.Prelude.{IfOk, IfErr, MatchResult};
 ghost use Rattle.tune_disk.specs.Stops.{LeavesOnly, SinceThen};
+ghost use Rattle.tune_journal.specs.FileOffsets.{gate_open};
+ghost use Rattle.tune_journal.specs.Image.{gate_of};
 ghost use Rattle.tune_journal.specs.Making.{IsEmptyFile};
 ghost use Rattle.tune_journal.specs.Moments.{LeftOrSame, LeavesPages};
-ghost use Rattle.tune_journal.specs.Refusal.{CountsFailureIf, CountsFailureWhere};
+ghost use Rattle.tune_journal.specs.Refusal.{CountsFailureIf, CountsFailureWhere, IsUnwritten};
 ghost use Rattle.tune_pages.specs.Kept.{HonestAt, state_at, failures_at};
 ghost use Rattle.tune_pages.specs.OpenedPages.{only_root, IsUnmadePagesFor, IsPagesMakeReason};
 ghost use Rattle.tune_pages.specs.OpenedPages.{IsPagesOpenReason, IsUndoneFor};
@@ -117,6 +120,8 @@ impl<D: Disk> Archive<D> {
     /// - `leaves`, `moments`: a stop during the call, too, leaves what it may have left before it,
     ///   or the same pages as the disk shows; so the call may be stopped and made again any number
     ///   of times.
+    /// - `untouched`: behind a closed gate nothing is written, whatever is answered: the disk is
+    ///   synced once, or not even that where the device failed.
     /// - `refused`: `Damaged` is answered only where the disk stands for no state.
     ///
     /// # Errors
@@ -129,6 +134,9 @@ impl<D: Disk> Archive<D> {
             HonestAt D.honest (disk_of result) → SinceThen old new (LeftOrSame old) }
         ensures moments { HonestAt D.honest (disk_of result)
             → KeepsStates (D.state disk) (state_at D.state (disk_of result)) }
+        ensures untouched { HonestAt D.honest (disk_of result)
+            → gate_of (D.state disk).seen ≢ gate_open
+            → IsUnwritten (D.state disk) (state_at D.state (disk_of result)) }
         ensures state { IfOk result (λ archive. HonestAt D.honest archive.pages.disk
             → StandsForState (D.state disk).seen (state_of D.state archive)) }
         ensures sound { IfOk result (λ archive. IsSound D.honest D.state archive) }

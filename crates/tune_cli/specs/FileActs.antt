@@ -1,12 +1,14 @@
 -- What the program does with an archive in a file, over any disk: by what such disks tell, what was
 -- written, the disk before it (`old`), and the disk after it with the status (`done`).
-use Rattle.std.specs.Prelude.{◌≡◌, ◌⊎◌, ℕ, List, [], ◌∷◌, codes, true, Some, Result}
+use Rattle.std.specs.Prelude.{◌≡◌, ◌≢◌, ◌⊎◌, ℕ, List, [], ◌∷◌, codes, true, Some, Result}
 use Rattle.tune_disk.specs.Disk.{DiskState}
 use Rattle.tune_disk.specs.Stops.{LeavesOnly, SinceThen}
 use Rattle.tune_disk.specs.declared.disk.Disk as disk
 use Rattle.tune_journal.specs.Making.{IsEmptyFile}
 use Rattle.tune_journal.specs.Moments.{LeftOrSame}
-use Rattle.tune_journal.specs.Refusal.{CountsFailureIf, CountsFailureWhere}
+use Rattle.tune_journal.specs.FileOffsets.{gate_open}
+use Rattle.tune_journal.specs.Image.{gate_of}
+use Rattle.tune_journal.specs.Refusal.{CountsFailureIf, CountsFailureWhere, IsUnwritten}
 use Rattle.tune_journal.specs.declared.open_fault.OpenFault.{OpenFault}
 use Rattle.tune_pages.specs.Kept.{state_at}
 use Rattle.tune_pages.specs.OpenedPages.{IsUnmadePagesFor}
@@ -76,6 +78,9 @@ pub record HasNotOpened {D : Type 0} (disks : disk.Ghosts D) (streams : Streams)
   pub leaves : disks.honest done.disk
       → SinceThen (disks.state old) (disks.state done.disk) (LeftOrSame (disks.state old))
   pub moments : disks.honest done.disk → KeepsStates (disks.state old) (disks.state done.disk)
+  -- behind a closed gate nothing was written
+  pub untouched : disks.honest done.disk → gate_of (disks.state old).seen ≢ gate_open
+      → IsUnwritten (disks.state old) (disks.state done.disk)
 
 -- CHECK
 -- The disk stands for this state, and how much that holds was written; a stop now leaves it.
@@ -97,6 +102,9 @@ pub record HasChecked {D : Type 0} (disks : disk.Ghosts D) (streams : Streams) (
   pub leaves : disks.honest done.disk
       → SinceThen (disks.state old) (disks.state done.disk) (LeftOrSame (disks.state old))
   pub moments : disks.honest done.disk → KeepsStates (disks.state old) (disks.state done.disk)
+  -- behind a closed gate nothing was written
+  pub untouched : disks.honest done.disk → gate_of (disks.state old).seen ≢ gate_open
+      → IsUnwritten (disks.state old) (disks.state done.disk)
 
 -- It was, or it was not.
 abbrev pub Checks : {D : Type 0} → disk.Ghosts D → Streams → D → Done D → Type 0

@@ -5,12 +5,12 @@ use Rattle.tune_disk.specs.Stops.{LeavesOnly, SinceThen}
 use Rattle.tune_disk.proofs.Moments.{since_same, since_sync, since_then, since_weaker}
 use Rattle.tune_journal.specs.Image.{StandsFor, StandsForEither, IsHeaded, HasPageCount, entry_offset, gate_of, count_of, log_of, pages_of, entry_count_of}
 use Rattle.tune_journal.specs.Image.{new_count_of}
-use Rattle.tune_journal.specs.Inside.Looking.{IsSyncedOrSame, HasEntries, Climbs, Sees, IsBounded}
+use Rattle.tune_journal.specs.Inside.Looking.{HasEntries, Climbs, Sees, IsBounded}
 use Rattle.tune_journal.specs.Inside.Rest.{IsAtRest, IsOpened}
 use Rattle.tune_journal.specs.FileOffsets.{gate_open}
 use Rattle.tune_journal.specs.Moments.{KeepsEither, LeftOrSame}
 use Rattle.tune_journal.specs.Pages.{changed}
-use Rattle.tune_journal.specs.Refusal.{IsSynced}
+use Rattle.tune_journal.specs.Refusal.{IsSynced, IsUnwritten}
 use Rattle.tune_journal.specs.declared.look.Found.{Found}
 use Rattle.tune_journal.specs.declared.look.Found.TheVariants.{Damaged, Closed, Open}
 use Rattle.tune_journal.proofs.Recovery.{log_climbs}
@@ -18,12 +18,12 @@ use Rattle.tune_journal.proofs.Agreeing.{length-entries, length-pages_of}
 use Rattle.tune_journal.proofs.Above.{stands_once}
 use Rattle.tune_journal.proofs.Changed.{length-changed}
 
-pub synced_since : (P : List ℕ → Type 0) (old new : DiskState) → LeavesOnly old.now P → MayLeave old.now old.seen → IsSyncedOrSame old new → SinceThen old new P
+pub synced_since : (P : List ℕ → Type 0) (old new : DiskState) → LeavesOnly old.now P → MayLeave old.now old.seen → IsUnwritten old new → SinceThen old new P
 synced_since P old new leaves stays (inl same) = subst (λ (s : DiskState). SinceThen old s P) (sym same) (since_same P old leaves)
 synced_since P old new leaves stays (inr synced) =
     let r : Result (Unit {0}) (Unit {0}) = Ok tt in since_sync P r old old new (since_same P old leaves) stays (synced.seen, synced.goes)
 
-pub synced_leaves : (old new : DiskState) → MayLeave old.now old.seen → IsSyncedOrSame old new → SinceThen old new (LeftOrSame old)
+pub synced_leaves : (old new : DiskState) → MayLeave old.now old.seen → IsUnwritten old new → SinceThen old new (LeftOrSame old)
 synced_leaves old new stays synced = synced_since (LeftOrSame old) old new (λ c left. inl left) stays synced
 
 pub recovered_leaves : (old mid new : DiskState) (pages : List (List ℕ)) → MayLeave old.now old.seen → IsSynced old mid → MayLeave mid.now mid.seen
@@ -53,7 +53,7 @@ keeps_either old new stays since = λ a b leaves. since_weaker (LeftOrSame old) 
 -- The calls of an opening over one disk: a look, and where it found an open gate the rest of the commit.
 module _ {D : Type 0} (honest : D → Type 0) (state : D → DiskState) (stays : (disk : D) → honest disk → MayLeave (state disk).now (state disk).seen)
     (old mid : D) (back : honest mid → honest old) where
-  module _ (looked : honest mid → IsSyncedOrSame (state old) (state mid)) where
+  module _ (looked : honest mid → IsUnwritten (state old) (state mid)) where
     pub looked_leaves : honest mid → SinceThen (state old) (state mid) (LeftOrSame (state old))
     looked_leaves h = synced_leaves (state old) (state mid) (stays old (back h)) (looked h)
 

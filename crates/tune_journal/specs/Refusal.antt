@@ -1,5 +1,5 @@
 -- Why a file is not opened.
-use Rattle.std.specs.Prelude.{◌≡◌, ◌≢◌, ℕ, ◌<◌, ◌≤◌, length}
+use Rattle.std.specs.Prelude.{◌≡◌, ◌≢◌, ◌⊎◌, ℕ, ◌<◌, ◌≤◌, length}
 use Rattle.tune_disk.specs.Disk.{DiskState, GoesTo, settled, CountsUp}
 use Rattle.tune_journal.specs.Image.{StandsForNone, magic_of}
 use Rattle.tune_journal.specs.FileOffsets.{magic, magic_bytes}
@@ -12,6 +12,10 @@ use Rattle.tune_journal.specs.declared.open_fault.OpenFault.TheVariants.{Device}
 pub record IsSynced (old new : DiskState) : Type 0 where
   pub seen : new.seen ≡ old.seen
   pub goes : GoesTo (settled old.seen) old new
+
+-- Nothing was written: the disk was synced once, or not even that.
+abbrev pub IsUnwritten : DiskState → DiskState → Type 0
+IsUnwritten old new = (new ≡ old) ⊎ IsSynced old new
 
 -- Where the file is at fault nothing was written.
 abbrev pub IsRefusedFor : OpenFault → DiskState → DiskState → Type 0

@@ -2,11 +2,11 @@
 ghost use Rattle.std.specs.Prelude.{◌≡◌, ◌≤◌, ◌^◌, ◌+◌, ◌↔◌, IsTrue, length, OnOk, IfOk};
 ghost use Rattle.tune_disk.specs.Disk.{Calls, Looks};
 ghost use Rattle.tune_journal.specs.Image.{number, entry_offset, gate_of, magic_of};
-ghost use Rattle.tune_journal.specs.Inside.Looking.{Climbs, IsSyncedOrSame, Sees, SeesOpen};
+ghost use Rattle.tune_journal.specs.Inside.Looking.{Climbs, Sees, SeesOpen};
 ghost use Rattle.tune_journal.specs.Inside.Looking.{SeesClosed, IsBounded};
 ghost use Rattle.tune_journal.specs.FileOffsets.{magic, magic_bytes, gate_open};
 ghost use Rattle.tune_journal.specs.FileOffsets.{least_length, most_pages};
-ghost use Rattle.tune_journal.specs.Refusal.{IsSynced};
+ghost use Rattle.tune_journal.specs.Refusal.{IsSynced, IsUnwritten};
 
 use crate::file_offsets::{
     COUNT_OFFSET, DESCRIPTOR_OFFSET, ENTRY_COUNT_OFFSET, GATE_OFFSET, GATE_OPEN, LEAST_LENGTH,
@@ -19,7 +19,7 @@ use tune_disk::{DeviceFault, Disk};
 pub(crate) fn settle<D: Disk>(disk: &mut D) -> Result<u64, DeviceFault>
     ensures ok { let old = D.state disk.old in let new = D.state disk.new in
         IfOk result (λ size. D.honest disk.new → IsSynced old new × (size ≡ length old.seen)) }
-    ensures err { D.honest disk.new → IsSyncedOrSame (D.state disk.old) (D.state disk.new) }
+    ensures err { D.honest disk.new → IsUnwritten (D.state disk.old) (D.state disk.new) }
     ensures calls { Calls D.honest D.failures result disk.old disk.new }
 {
     disk.sync()?;
@@ -134,7 +134,7 @@ fn look_open<D: Disk>(disk: &mut D, size: u64) -> Result<Found, DeviceFault>
 pub(crate) fn look<D: Disk>(disk: &mut D) -> Result<Found, DeviceFault>
     ensures synced { OnOk result (D.honest disk.new
         → IsSynced (D.state disk.old) (D.state disk.new)) }
-    ensures state { D.honest disk.new → IsSyncedOrSame (D.state disk.old) (D.state disk.new) }
+    ensures state { D.honest disk.new → IsUnwritten (D.state disk.old) (D.state disk.new) }
     ensures sees { IfOk result (λ found. D.honest disk.new → Sees found (D.state disk.old).seen) }
     ensures bounded { IfOk result IsBounded }
     ensures calls { Calls D.honest D.failures result disk.old disk.new }

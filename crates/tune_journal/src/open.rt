@@ -7,7 +7,7 @@ ghost use Rattle.tune_journal.specs.Inside.Phases.{CallsIf};
 ghost use Rattle.tune_journal.specs.FileOffsets.{gate_open};
 ghost use Rattle.tune_journal.specs.Moments.{KeepsEither, LeftOrSame, LeavesPages};
 ghost use Rattle.tune_journal.specs.Refusal.{IsRefusedFor, IsOpenReason, CountsFailureWhere};
-ghost use Rattle.tune_journal.specs.Refusal.{IsSynced};
+ghost use Rattle.tune_journal.specs.Refusal.{IsSynced, IsUnwritten};
 
 use crate::journal::Journal;
 use crate::look::{Found, look};
@@ -83,6 +83,10 @@ impl<D: Disk> Journal<D> {
         ensures synced { IfOk result (λ journal. D.honest journal.disk
             → gate_of (D.state disk).seen ≢ gate_open
             → IsSynced (D.state disk) (D.state journal.disk)) }
+        // So nothing is written there, and nothing either where the opening is refused.
+        ensures untouched { let old = D.state disk in let new = D.state (disk_of_opening result) in
+            D.honest (disk_of_opening result) → gate_of old.seen ≢ gate_open
+            → IsUnwritten old new }
         ensures refused { IfErr result (λ refused. D.honest refused.disk
             → IsRefusedFor refused.why (D.state disk) (D.state refused.disk)) }
         ensures reason { IfErr result (λ refused. IsOpenReason refused.why) }

@@ -11,6 +11,7 @@ ghost use Rattle.tune_journal.specs.Making.{IsEmptyFile, StandsForNoneOr};
 ghost use Rattle.tune_journal.specs.Moments.{KeepsEither, LeftOrSame, LeavesPages};
 ghost use Rattle.tune_journal.specs.Pages.{page_at};
 ghost use Rattle.tune_journal.specs.Refusal.{CountsFailureIf, CountsFailureWhere, IsSynced};
+ghost use Rattle.tune_journal.specs.Refusal.{IsUnwritten};
 ghost use Rattle.tune_pages.specs.Chain.{next_of, piece_of, IsLink};
 ghost use Rattle.tune_pages.specs.Claim.{Claimable, IsClaimable, IsChainFault, IsPageFault};
 ghost use Rattle.tune_pages.specs.Claim.{IsClaimableWithin, LooksOpening};
@@ -361,6 +362,10 @@ impl<D: Disk> Pages<D> {
         ensures synced { IfOk result (λ opening. D.honest opening.disk
             → gate_of (D.state disk).seen ≢ gate_open
             → IsSynced (D.state disk) (D.state opening.disk)) }
+        // So nothing is written there, and nothing either where the opening is refused.
+        ensures untouched { let old = D.state disk in let new = D.state (disk_of_claims result) in
+            D.honest (disk_of_claims result) → gate_of old.seen ≢ gate_open
+            → IsUnwritten old new }
         ensures refused { IfErr result (λ refused. D.honest refused.disk
             → IsUnopenedFor refused.why (D.state disk) (D.state refused.disk)) }
         ensures reason { IfErr result (λ refused. IsPagesOpenReason refused.why) }

@@ -1,11 +1,9 @@
 -- What opening looks at.
-use Rattle.std.specs.Prelude.{◌≡◌, ◌≢◌, ◌⊎◌, ℕ, zero, suc, ◌+◌, ◌<◌, ◌≤◌, List, length}
-use Rattle.tune_disk.specs.Disk.{DiskState}
+use Rattle.std.specs.Prelude.{◌≡◌, ◌≢◌, ℕ, zero, suc, ◌+◌, ◌<◌, ◌≤◌, List, length}
 use Rattle.tune_journal.specs.Image.{number, entry_offset, gate_of, count_of, new_count_of}
 use Rattle.tune_journal.specs.Image.{IsHeaded, HasPageCount, HasLog, entry_count_of, StandsForNone}
 use Rattle.tune_journal.specs.Image.{magic_of}
 use Rattle.tune_journal.specs.FileOffsets.{magic, magic_bytes, gate_open, most_pages}
-use Rattle.tune_journal.specs.Refusal.{IsSynced}
 use Rattle.tune_journal.specs.declared.look.Found.{Found}
 use Rattle.tune_journal.specs.declared.look.Found.TheVariants.{NotArchive, Damaged, Closed, Open}
 
@@ -18,10 +16,6 @@ least_of m (suc i) file = number (entry_offset m i) file + 1
 abbrev pub Climbs : ℕ → ℕ → List ℕ → Type 0
 Climbs m k file = (i : ℕ) → i < k
     → (least_of m i file ≤ number (entry_offset m i) file) × (number (entry_offset m i) file < m)
-
--- such a sync, or not even that
-abbrev pub IsSyncedOrSame : DiskState → DiskState → Type 0
-IsSyncedOrSame old new = (new ≡ old) ⊎ IsSynced old new
 
 -- Entry i of the log behind m pages is within the file, and names a page below m and no lower than
 -- this one.

@@ -1,6 +1,7 @@
 use Rattle.std.proofs.Common.{◌≡◌, inl, sym, subst}
 use Rattle.tune_disk.specs.Stops.{SinceThen}
 use Rattle.tune_journal.specs.Moments.{LeftOrSame}
+use Rattle.tune_journal.specs.Refusal.{IsUnwritten}
 use Rattle.tune_pages.specs.Kept.{HonestAt, state_at, failures_at}
 use Rattle.tune_archive.specs.OpenedArchive.{KeepsStates}
 use Rattle.tune_archive.specs.Shelf.{state_of}
@@ -25,4 +26,5 @@ returns-in-Ok-clause-checks g c =
       counted = subst (λ at. failures_at failures at ≡ failures c.args.disk) held c.in-Ok.ensures.failures;
       leaves = λ h. subst (λ at. SinceThen (state c.args.disk) (state_at state at) (LeftOrSame (state c.args.disk))) held (c.in-Ok.ensures.leaves (met h));
       moments = λ h. subst (λ at. KeepsStates (state c.args.disk) (state_at state at)) held (c.in-Ok.ensures.moments (met h));
+      untouched = λ h closed. subst (λ at. IsUnwritten (state c.args.disk) (state_at state at)) held (c.in-Ok.ensures.untouched (met h) closed);
     })

@@ -64,4 +64,5 @@ returns-in-Err-clause-upgrades g c = inr (record {
   counted = c.in-Err.ensures.failures;
   leaves = c.in-Err.ensures.leaves;
   moments = c.in-Err.ensures.moments;
+  untouched = c.in-Err.ensures.untouched;
 })

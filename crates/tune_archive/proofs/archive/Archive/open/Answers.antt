@@ -1,6 +1,9 @@
-use Rattle.std.proofs.Common.{Result, Err, IfErr, sym, ◌∙◌, ap, subst}
+use Rattle.std.proofs.Common.{◌≢◌, Result, Err, IfErr, sym, ◌∙◌, ap, subst}
 use Rattle.std.proofs.lemmas.Result.{err_from_is_err_and}
 use Rattle.tune_disk.specs.Disk.{DiskState}
+use Rattle.tune_journal.specs.FileOffsets.{gate_open}
+use Rattle.tune_journal.specs.Image.{gate_of}
+use Rattle.tune_journal.specs.Refusal.{IsUnwritten}
 use Rattle.tune_journal.specs.declared.open_fault.Refused.{Refused}
 use Rattle.tune_pages.specs.Kept.{HonestAt, state_at}
 use Rattle.tune_archive.specs.OpenedArchive.{disk_of, KeepsStates, IsUnopenedArchiveFor}
@@ -18,6 +21,14 @@ returns-in_err-opening-clause-moments g c =
     (sym (p.1 ∙ ap Err p.2))
     (λ h. opening_keeps_states old (g.D.Disk.state c.in_err-opening.field-0.0.disk) (g.met.D.Disk.seen_may_stay c.args.disk (call.honest h)) (call.leaves h))
 
+pub returns-in_err-opening-clause-untouched : goal.returns-in_err-opening-clause-untouched
+returns-in_err-opening-clause-untouched g c =
+    let p = err_from_is_err_and c.from_residual.result c.from_residual.ensures.1 in
+    let old = g.D.Disk.state c.args.disk in
+    subst (λ (r : Result (Shelf g.row.D.Denot) (Refused g.row.D.Denot)).
+    HonestAt g.D.Disk.honest (disk_of r) → gate_of old.seen ≢ gate_open → IsUnwritten old (state_at g.D.Disk.state (disk_of r)))
+    (sym (p.1 ∙ ap Err p.2)) (λ h shut. c.in_err-opening.ensures.untouched h shut)
+
 pub returns-in_err-opening-clause-refused : goal.returns-in_err-opening-clause-refused
 returns-in_err-opening-clause-refused g c =
     let p = err_from_is_err_and c.from_residual.result c.from_residual.ensures.1 in
@@ -34,6 +45,11 @@ returns-clause-moments g c = λ h.
     let old = g.D.Disk.state c.args.disk in
     subst (λ (s : DiskState). KeepsStates old s) (sym same.1)
     (opening_keeps_states old (g.D.Disk.state c.in_ok-opening.opening.disk) (g.met.D.Disk.seen_may_stay c.args.disk (call.honest same.0)) (call.leaves same.0))
+
+pub returns-clause-untouched : goal.returns-clause-untouched
+returns-clause-untouched g c = λ h shut.
+    let same = c.claimed.ensures.same h in
+    subst (λ (s : DiskState). IsUnwritten (g.D.Disk.state c.args.disk) s) (sym same.1) (c.in_ok-opening.ensures.untouched same.0 shut)
 
 pub returns-clause-refused : goal.returns-clause-refused
 returns-clause-refused g c =

@@ -117,3 +117,25 @@ pub returns-in-Ok-clause-synced : goal.returns-in-Ok-clause-synced
 returns-in-Ok-clause-synced g c = λ h shut.
     absurd (shut (sees_open_gate c.in-Ok-Open.new_count c.in-Ok-Open.entries c.in-Ok-Open.field-0 (g.D.Disk.state c.args.disk).seen
     c.in-Ok-Open.field-0-is (c.in-Ok-Open.ensures.sees (c.in-Ok.ensures.calls.was_honest h))))
+
+pub returns-in-Ok-Closed-clause-untouched : goal.returns-in-Ok-Closed-clause-untouched
+returns-in-Ok-Closed-clause-untouched g c = λ h shut. c.look.ensures.state h
+
+pub returns-in-Ok-Damaged-clause-untouched : goal.returns-in-Ok-Damaged-clause-untouched
+returns-in-Ok-Damaged-clause-untouched g c = rw c.hand_back-in-Ok-Damaged.ensures (λ h shut. c.look.ensures.state h)
+
+pub returns-in-Ok-NotArchive-clause-untouched : goal.returns-in-Ok-NotArchive-clause-untouched
+returns-in-Ok-NotArchive-clause-untouched g c = rw c.hand_back-in-Ok-NotArchive.ensures (λ h shut. c.look.ensures.state h)
+
+pub returns-in-Err-clause-untouched : goal.returns-in-Err-clause-untouched
+returns-in-Err-clause-untouched g c = rw c.hand_back-in-Err.ensures (λ h shut. c.look.ensures.state h)
+
+pub returns-in-Ok-clause-untouched : goal.returns-in-Ok-clause-untouched
+returns-in-Ok-clause-untouched g c = λ h shut.
+    absurd (shut (sees_open_gate c.in-Ok-Open.new_count c.in-Ok-Open.entries c.in-Ok-Open.field-0 (g.D.Disk.state c.args.disk).seen
+    c.in-Ok-Open.field-0-is (c.in-Ok-Open.ensures.sees (c.in-Ok.ensures.calls.was_honest h))))
+
+pub returns-in-Err-finish-clause-untouched : goal.returns-in-Err-finish-clause-untouched
+returns-in-Err-finish-clause-untouched g c = rw c.hand_back.ensures (λ h shut.
+    absurd (shut (sees_open_gate c.in-Ok-Open.new_count c.in-Ok-Open.entries c.in-Ok-Open.field-0 (g.D.Disk.state c.args.disk).seen
+    c.in-Ok-Open.field-0-is (c.in-Ok-Open.ensures.sees (c.in-Err-finish.ensures.calls.was_honest h)))))
