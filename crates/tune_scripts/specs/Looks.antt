@@ -1,5 +1,5 @@
 -- When a run looks at its input, and what failed in it.
-use Rattle.std.specs.Prelude.{◌≡◌, ◌⊎◌, ℕ, ◌+◌, ◌<◌, List, [], ◌∷◌, ◌++◌, length, true}
+use Rattle.std.specs.Prelude.{◌≡◌, ◌⊎◌, ℕ, ◌+◌, ◌<◌, List, ◌∷◌, ◌++◌, length, true}
 use Rattle.std.specs.Prelude.{Option, Some, IfSome}
 use Rattle.std.specs.List.{list_all, AllByRecursion}
 use Rattle.std.specs.Io.KnownBytes.{Appends, Consumes}
@@ -71,7 +71,9 @@ pub record IsPrompt (before : Standing) (input : List ℕ) (was : Option (List �
   pub after : Standing
   pub rest : List ℕ
   pub so_far : Script lines input out run LineBound rest
+  -- each answer is one by the rules
   pub answers : Runs before run after
+  -- and was written
   pub answered : Appends was look.output.bytes out
   pub flushed : look.output.flushed ≡ true
   pub taken : List ℕ

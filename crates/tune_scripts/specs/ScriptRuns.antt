@@ -46,7 +46,7 @@ pub record RunWork : Type 0 where
   -- the commands that the store carried out, with their answers
   pub run : List Answered
 
--- the same by its parts
+-- a run from these bytes of the output to these, by these commands
 abbrev pub work_by : Option (List ℕ) → Option (List ℕ) → List Answered → RunWork
 work_by was now run = record { was = was; now = now; run = run }
 
