@@ -52,7 +52,7 @@ pub open_still : (old new : Standing) (command : Command) (answer : Result Reply
 open_still old new command answer answers go = answers_close old new command answer answers ∙ ap not go
 
 -- an open store that a command closes was answered that its device failed
-device_answer : (old new : Standing) (command : Command) (answer : Result Reply Refusal) → Answers old command answer new → old.closed ≡ false
+pub device_answer : (old new : Standing) (command : Command) (answer : Result Reply Refusal) → Answers old command answer new → old.closed ≡ false
     → stays_open answer ≡ false → answer ≡ Err Device
 device_answer old new command (Ok reply) answers is_open shut = cc
 device_answer old new command (Err Device) answers is_open shut = refl

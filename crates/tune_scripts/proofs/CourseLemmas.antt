@@ -3,16 +3,23 @@ use Rattle.std.proofs.Common.{◌≡◌, ℕ, suc, ◌+◌, ◌≤◌, ◌<◌, 
 use Rattle.std.proofs.Common.{sym, ap, ◌∙◌, subst, inl, inr, arith}
 use Rattle.std.specs.Prelude.{nat_le, if◌then◌else◌}
 use Rattle.std.proofs.lemmas.Bool.Decides.{leb_tells}
-use Rattle.tune_store.specs.State.{State}
-use Rattle.tune_store.specs.Answers.{passed, stays_open}
+use Rattle.std.specs.Prelude.{Result, Err}
+use Rattle.tune_store.specs.State.{State, Standing}
+use Rattle.tune_store.specs.TuneSteps.{Outcome}
+use Rattle.tune_store.specs.Answers.{Answers, stays_open, stepped, no_memory, failed_before, failed_after, is_closed}
+use Rattle.tune_store.specs.declared.command.Command.{Command}
+use Rattle.tune_store.specs.declared.command.Reply.{Reply}
+use Rattle.tune_store.specs.declared.command.Refusal.{Refusal}
+use Rattle.tune_store.specs.declared.command.Refusal.TheVariants.{Device}
 use Rattle.tune_store.specs.Runs.{Answered}
 use Rattle.tune_store.specs.StoreStops.{StandsForOne}
 use Rattle.tune_store.specs.Stores.{standing_of}
 use Rattle.tune_store.specs.declared.tune_store.TuneStore.{Ghosts}
 use Rattle.tune_scripts.specs.Carried.{Carried, IsCarried, CarriesOut, LeftByRun, run_of, timed_of, course_of}
-use Rattle.tune_scripts.specs.Courses.{Timed, Course, StandsForFirst, IsAnsweredAt, is_answered_by, answered_by, answered_of}
+use Rattle.tune_scripts.specs.Courses.{Timed, Course, StandsForFirst, IsAnsweredAt, IsByRules, AreAnswered, RisesTo}
+use Rattle.tune_scripts.specs.Courses.{is_answered_by, answered_by, answered_of}
 use Rattle.tune_scripts.specs.Prefixes.{FailsLast, never_fails, fails_last, state_by, state_after, AreAcknowledged}
-use Rattle.tune_scripts.proofs.CarriedLemmas.{honest_before, moments_rise, passes_all, state_told, open_still, stands_passed, left_by}
+use Rattle.tune_scripts.proofs.CarriedLemmas.{honest_before, moments_rise, passes_all, state_told, open_still, device_answer, stands_passed, left_by}
 
 -- ANSWERS BEFORE THE LAST
 -- behind an answer that lets the run go on
@@ -75,7 +82,7 @@ module _ {S : Type 0} (s : Ghosts S) (settled : (store : S) (file : List ℕ) �
   rests store at file sound honest is_open here left = settled store file sound honest is_open (since_at store at (s.moment store) file here left)
 
   -- no command is answered before the first begins
-  none_before : (carried : List (Carried S)) (old new : S) (at : ℕ) → CarriesOut s old carried new → s.honest new → at < s.moment old
+  pub none_before : (carried : List (Carried S)) (old new : S) (at : ℕ) → CarriesOut s old carried new → s.honest new → at < s.moment old
       → answered_by at (timed_of s carried) ≡ 0
   none_before [] old new at h honest early = refl
   none_before (next ∷ carried) old new at h honest early =
@@ -84,7 +91,7 @@ module _ {S : Type 0} (s : Ghosts S) (settled : (store : S) (file : List ℕ) �
       let later : at < s.moment next.after = omega arith in
       counts_none at next_timed (timed_of s carried) (not_yet at next_timed later) ∙ none_before carried next.after new at h.1 honest later
 
-  none_then : (carried : List (Carried S)) (old new : S) (at : ℕ) → CarriesOut s old carried new → s.honest new → at < s.moment old
+  pub none_then : (carried : List (Carried S)) (old new : S) (at : ℕ) → CarriesOut s old carried new → s.honest new → at < s.moment old
       → IsAnsweredAt at (timed_of s carried) → ⊥
   none_then [] old new at h honest early is = is
   none_then (next ∷ carried) old new at h honest early is =
@@ -192,7 +199,7 @@ module _ {S : Type 0} (s : Ghosts S) (settled : (store : S) (file : List ℕ) �
       let mid = honest_before s carried next.after new h.1 honest in
       let left_mid = subst (λ store. s.left_at store at file) (subst (λ rest. CarriesOut s next.after rest new) none h.1) left in
       let one = at_one next [] old at file h.0 sound mid is_open late left_mid (counts_none at next_timed [] (no_answer at next_timed shut))
-          (λ is. elim is [ inl here ↦ (let go = here.1 in cc) | inr there ↦ there ]) in
+      (λ is. elim is [ inl here ↦ (let go = here.1 in cc) | inr there ↦ there ]) in
       subst (λ rest. StandsForFirst s.stands_for (course_of s old (next ∷ rest)) at file) (sym none) one
 
   -- each file that a stop leaves at a moment stands for the state after the commands that were answered by then, and the next one or not
@@ -232,3 +239,62 @@ module _ {S : Type 0} (s : Ghosts S) (settled : (store : S) (file : List ℕ) �
   left_by_run carried old new h fails honest earlier sound is_open =
       left_by s settled carried old new h fails honest earlier sound is_open
       (λ at file late left. stands_for_first carried old new at file h fails sound honest is_open late left)
+
+-- ANSWERS
+-- an answer of an open store is one by the rules, or tells that the device failed
+by_rules : (old new : Standing) (command : Command) (answer : Result Reply Refusal) (moment : ℕ) → Answers old command answer new
+    → old.closed ≡ false
+    → IsByRules old.state (record { command = command; answer = answer; moment = moment }) ⊎ (answer ≡ Err Device)
+by_rules _ _ _ _ moment (stepped old new command answer e) is_open = inl (inl (sym (ap (λ (o : Outcome). o.1) e)))
+by_rules _ _ _ _ moment (no_memory old command) is_open = inl (inr refl)
+by_rules _ _ _ _ moment (failed_before old command) is_open = inr refl
+by_rules _ _ _ _ moment (failed_after old command) is_open = inr refl
+by_rules _ _ _ _ moment (is_closed old command) is_open = absurd cc
+
+shuts : (answer : Result Reply Refusal) → answer ≡ Err Device → stays_open answer ≡ false
+shuts answer e = ap stays_open e
+
+-- an open store goes on, or its device failed
+goes_or_failed : (old new : Standing) (command : Command) (answer : Result Reply Refusal) → Answers old command answer new → old.closed ≡ false
+    → (stays_open answer ≡ true) ⊎ (answer ≡ Err Device)
+goes_or_failed old new command answer answers is_open = go (stays_open answer) refl
+  where
+    go : (b : Bool) → stays_open answer ≡ b → (stays_open answer ≡ true) ⊎ (answer ≡ Err Device)
+    go true e = inl e
+    go false e = inr (device_answer old new command answer answers is_open e)
+
+-- a list of one command fails last, if it fails at all
+pub one_fails_last : (next : Answered) → FailsLast (next ∷ [])
+one_fails_last next = go (stays_open next.answer) refl
+  where
+    go : (b : Bool) → stays_open next.answer ≡ b → FailsLast (next ∷ [])
+    go true e = never_fails (next ∷ []) (e, tt)
+    go false e = fails_last (next ∷ []) [] next refl tt e
+
+module _ {S : Type 0} (s : Ghosts S) where
+  -- the commands that a store carried out are answered so
+  pub are_answered : (carried : List (Carried S)) (old new : S) → CarriesOut s old carried new → FailsLast (run_of carried) → s.closed old ≡ false
+      → AreAnswered (s.state old) (timed_of s carried)
+  are_answered [] old new h fails is_open = tt
+  are_answered (next ∷ carried) old new h fails is_open =
+      let answered : Answered = record { command = next.command; answer = next.answer } in
+      let rest : stays_open next.answer ≡ true → AreAnswered (state_by (s.state old) next.command next.answer) (timed_of s carried) = λ go.
+      (let told = state_told (standing_of s old) (standing_of s next.after) next.command next.answer h.0.answers go in
+      let still = open_still (standing_of s old) (standing_of s next.after) next.command next.answer h.0.answers go in
+      subst (λ state. AreAnswered state (timed_of s carried)) told
+      (are_answered carried next.after new h.1 (fails_later answered (run_of carried) _ fails refl go) still)) in
+      elim (by_rules (standing_of s old) (standing_of s next.after) next.command next.answer (s.moment next.after) h.0.answers is_open) [
+        | inl rules ↦ elim (goes_or_failed (standing_of s old) (standing_of s next.after) next.command next.answer h.0.answers is_open) [
+          | inl go ↦ inl (rules, rest go)
+          | inr failed ↦
+              inr (failed, ap (timed_of s) (no_run carried (none_later answered (run_of carried) _ fails refl (shuts next.answer failed))))
+        ]
+        | inr failed ↦ inr (failed, ap (timed_of s) (no_run carried (none_later answered (run_of carried) _ fails refl (shuts next.answer failed))))
+      ]
+
+  -- and the moments rise
+  pub rises_run : (carried : List (Carried S)) (old new : S) → CarriesOut s old carried new → s.honest new
+      → RisesTo (s.moment old) (timed_of s carried) (s.moment new)
+  rises_run [] old new h honest = (let same = ap s.moment h in omega (arith, same))
+  rises_run (next ∷ carried) old new h honest =
+      (h.0.passes.later (honest_before s carried next.after new h.1 honest), rises_run carried next.after new h.1 honest)

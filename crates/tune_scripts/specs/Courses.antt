@@ -1,13 +1,15 @@
 -- How commands go on in time, and the state that a file holds at each moment of it.
 use Rattle.std.specs.Prelude.{◌≡◌, ◌⊎◌, ℕ, suc, ◌+◌, ◌≤◌, List, [], ◌∷◌, take, map, Bool, true}
-use Rattle.std.specs.Prelude.{nat_le, ◌&&◌, if◌then◌else◌, Result}
+use Rattle.std.specs.Prelude.{nat_le, ◌&&◌, if◌then◌else◌, Result, Err, ⊤}
 use Rattle.tune_store.specs.State.{State}
+use Rattle.tune_store.specs.Step.{step}
 use Rattle.tune_store.specs.Answers.{stays_open}
 use Rattle.tune_store.specs.Runs.{Answered}
 use Rattle.tune_store.specs.declared.command.Command.{Command}
 use Rattle.tune_store.specs.declared.command.Reply.{Reply}
 use Rattle.tune_store.specs.declared.command.Refusal.{Refusal}
-use Rattle.tune_scripts.specs.Prefixes.{state_after}
+use Rattle.tune_store.specs.declared.command.Refusal.TheVariants.{OutOfMemory, Device}
+use Rattle.tune_scripts.specs.Prefixes.{state_by, state_after}
 
 -- a command, its answer, and how far the device had come when it was answered
 pub record Timed : Type 0 where
@@ -26,6 +28,26 @@ pub record Course : Type 0 where
   pub began : ℕ
   pub run : List Timed
 
+-- its moments rise, from one to another
+abbrev pub RisesTo : ℕ → List Timed → ℕ → Type 0
+RisesTo from [] to = from ≤ to
+RisesTo from (next ∷ run) to = (from ≤ next.moment) × RisesTo next.moment run to
+
+-- ANSWERS
+-- the answer is that of the plain list, or there was no memory
+abbrev pub IsByRules : State → Timed → Type 0
+IsByRules state next =
+    (next.answer ≡ (step state next.command).1) ⊎ (next.answer ≡ Err OutOfMemory)
+
+-- Each command was answered by the rules, on the state that those before it left, and a refused one
+-- left it as it was; or the device failed in it, and it was the last.
+abbrev pub AreAnswered : State → List Timed → Type 0
+AreAnswered state [] = ⊤
+AreAnswered state (next ∷ run) =
+    (IsByRules state next × AreAnswered (state_by state next.command next.answer) run)
+    ⊎ ((next.answer ≡ Err Device) × (run ≡ []))
+
+-- MOMENTS
 -- the state after the first so many of its commands
 abbrev pub state_after_first : ℕ → Course → State
 state_after_first count course =
