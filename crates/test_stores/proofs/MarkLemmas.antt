@@ -7,9 +7,9 @@ use Rattle.tune_store.specs.Answers.{Answers, open_at, closed_at}
 use Rattle.tune_store.specs.declared.command.Command.{Command}
 use Rattle.tune_store.specs.declared.command.Reply.{Reply}
 use Rattle.tune_store.specs.declared.command.Refusal.TheVariants.{Device}
-use Rattle.tune_store.specs.StoreStops.{Among, Passes, tellings}
+use Rattle.tune_store.specs.StoreStops.{Among, Passes}
 use Rattle.tune_store.proofs.StepLemmas.{answers_reach}
-use Rattle.tune_archive.specs.Media.{moment_of, LeftFrom}
+use Rattle.tune_archive.specs.Media.{moment_of, LeftAt, LeftFrom}
 use Rattle.tune_archive.proofs.Called.{failed}
 use Rattle.tune_archive.proofs.DiskMoments.{passes_on_disk}
 use Rattle.test_stores.specs.Marks.{IsMark, IsMarked}
@@ -60,7 +60,15 @@ pub passes_marks : {S : Type 0} (honest : S → Type 0) (disk : S → DiskState)
     → (honest new → honest old) → (honest new → LeavesMarks (disk old) (disk new)) → (honest new → Among (state new) (state old ∷ states))
     → (IsState (state old) → IsState (state new))
     → Passes
-    (tellings honest (λ s. IsMarked (honest s) (disk s) (state s)) state (λ s. moment_of (disk s)) (λ s. LeftFrom (disk s)) IsMark) old new states
+    (record {
+      honest = honest;
+      sound = λ s. IsMarked (honest s) (disk s) (state s);
+      state = state;
+      moment = λ s. moment_of (disk s);
+      left_at = λ s. LeftAt (disk s);
+      left_since = λ s. LeftFrom (disk s);
+      stands_for = IsMark;
+    }) old new states
 passes_marks honest disk state old new states was marks among limits =
     passes_on_disk honest (λ s. IsMarked (honest s) (disk s) (state s)) state disk IsMark old new states (StaysMark (disk old)) among was
     (λ sound. record { mark = λ h. (marks h).now (sound.mark (was h)); within = limits sound.within })

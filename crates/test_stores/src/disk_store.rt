@@ -2,8 +2,8 @@
 ghost use Rattle.std.specs.Prelude.{◌≡◌, ◌≤◌, false, OnErr};
 ghost use Rattle.tune_store.specs.State.{State, empty_state};
 ghost use Rattle.tune_store.specs.StoreStops.{HasFailed};
-ghost use Rattle.tune_archive.specs.Media.{moment_of, LeftFrom};
-ghost use Rattle.tune_archive.specs.Inside.Media.{left_before};
+ghost use Rattle.tune_archive.specs.Media.{moment_of, LeftAt, LeftFrom};
+ghost use Rattle.tune_archive.specs.Inside.Media.{left_then, left_before};
 ghost use Rattle.test_stores.specs.Marks.{IsMark, IsMarked};
 ghost use Rattle.test_stores.specs.Inside.Marks.{is_mark, LeavesMarks};
 
@@ -53,6 +53,8 @@ impl<D: Disk> TuneStore for DiskStore<D> {
 
     ghost moment = { λ store. moment_of (D.Disk.state store.disk) };
 
+    ghost left_at = { λ store. LeftAt (D.Disk.state store.disk) };
+
     ghost left_since = { λ store. LeftFrom (D.Disk.state store.disk) };
 
     ghost stands_for = { IsMark };
@@ -61,6 +63,9 @@ impl<D: Disk> TuneStore for DiskStore<D> {
         is_mark (D.Disk.state store.disk) file (sound.mark honest) left };
 
     ghost within = { λ store sound honest. sound.within };
+
+    ghost since_at = { λ store at since file le left.
+        left_then (D.Disk.state store.disk) at since file le left };
 
     ghost since_earlier = { λ store since earlier file le left.
         left_before (D.Disk.state store.disk) since earlier file le left };

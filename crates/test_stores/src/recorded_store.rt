@@ -63,6 +63,8 @@ impl TuneStore for RecordedStore {
 
     ghost within = { λ store sound honest. sound.within };
 
+    ghost since_at = { λ store at since file le left. absurd left };
+
     ghost since_earlier = { λ store since earlier file le left.
         left_earlier store.entries.items since earlier file le left };
 

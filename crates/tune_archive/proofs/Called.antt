@@ -12,7 +12,7 @@ use Rattle.tune_store.specs.TuneSteps.{Outcome}
 use Rattle.tune_store.specs.Plans.{changed, after, Decides, EndsFetch}
 use Rattle.tune_store.specs.Answers.{Answers, open_at, closed_at, stepped, no_memory, failed_before, failed_after, is_closed, passed}
 use Rattle.tune_store.specs.Answers.{asks, may_write}
-use Rattle.tune_store.specs.StoreStops.{Passes, StandsForOne, tellings}
+use Rattle.tune_store.specs.StoreStops.{Passes, StandsForOne}
 use Rattle.tune_store.specs.declared.plans.Change.{Change}
 use Rattle.tune_store.specs.declared.plans.Plan.{Plan}
 use Rattle.tune_store.specs.declared.command.Command.{Command}
@@ -22,7 +22,7 @@ use Rattle.tune_store.specs.declared.command.Refusal.TheVariants.{OutOfMemory, D
 use Rattle.tune_store.proofs.StepLemmas.{answers_reach}
 use Rattle.tune_store.proofs.ListLemmas.{list_refused, answers_within}
 use Rattle.tune_store.proofs.LimitLemmas.{step_keeps_limits}
-use Rattle.tune_archive.specs.Media.{moment_of, LeftFrom}
+use Rattle.tune_archive.specs.Media.{moment_of, LeftAt, LeftFrom}
 use Rattle.tune_archive.specs.Shelf.{Shelf, state_of, IsSound, StandsForOneOf}
 use Rattle.tune_archive.specs.Inside.Changing.{MakesChange}
 use Rattle.tune_archive.specs.Inside.Fetching.{Tells, Fetches, FailsFetch}
@@ -133,8 +133,15 @@ module _ {D : Type 0} (honest : D → Type 0) (failures : D → ℕ) (state : D 
   -- it passes the states of its answer
   pub passes : (old new : Shelf D) (command : Command) (answer : Result Reply Refusal) → Ended old new command answer → Holds new
       → Passes {S = Shelf D}
-      (tellings (λ archive. HonestAt honest archive.pages.disk) (IsSound honest state) (state_of state)
-      (λ archive. moment_of (state_at state archive.pages.disk)) (λ archive. LeftFrom (state_at state archive.pages.disk)) StandsForState) old new
+      (record {
+        honest = λ archive. HonestAt honest archive.pages.disk;
+        sound = IsSound honest state;
+        state = state_of state;
+        moment = λ archive. moment_of (state_at state archive.pages.disk);
+        left_at = λ archive. LeftAt (state_at state archive.pages.disk);
+        left_since = λ archive. LeftFrom (state_at state archive.pages.disk);
+        stands_for = StandsForState;
+      }) old new
       (passed (state_of state old) command answer)
   passes old new command answer ended holds =
       passes_on_disk _ _ _ _ _ _ _ _ _ (λ h. answers_reach _ _ _ _ (ended.answers h)) ended.was_honest

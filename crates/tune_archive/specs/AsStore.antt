@@ -3,7 +3,7 @@ use Rattle.tune_disk.specs.declared.disk.Disk as disk
 use Rattle.tune_pages.specs.Kept.{HonestAt, state_at, failures_at}
 use Rattle.tune_store.specs.declared.tune_store.TuneStore as store
 use Rattle.tune_format.specs.States.{StandsForState}
-use Rattle.tune_archive.specs.Media.{moment_of, LeftFrom}
+use Rattle.tune_archive.specs.Media.{moment_of, LeftAt, LeftFrom}
 use Rattle.tune_archive.specs.Shelf.{Shelf, state_of, IsSound}
 
 -- What is told of an archive on such a disk, as of any store: these are the members by which
@@ -16,6 +16,7 @@ store_on disks = record {
   sound = IsSound disks.honest disks.state;
   failures = λ archive. failures_at disks.failures archive.pages.disk;
   moment = λ archive. moment_of (state_at disks.state archive.pages.disk);
+  left_at = λ archive. LeftAt (state_at disks.state archive.pages.disk);
   left_since = λ archive. LeftFrom (state_at disks.state archive.pages.disk);
   stands_for = StandsForState;
 }

@@ -8,6 +8,15 @@ use Rattle.tune_contents.specs.FilePages.{UseFewer}
 abbrev pub moment_of : DiskState → ℕ
 moment_of disk = length disk.past
 
+-- A stop at that moment may have left this file: the medium of then may leave it.
+pub record LeftAt (disk : DiskState) (at : ℕ) (file : List ℕ) : Type 0 where
+  pub newer : List Medium
+  pub medium : Medium
+  pub older : List Medium
+  pub history : disk.now ∷ disk.past ≡ newer ++ medium ∷ older
+  pub is_then : length older ≡ at
+  pub left : MayLeave medium file
+
 -- a stop at that moment, or since then, may have left this file: a medium of then may leave it
 pub record LeftFrom (disk : DiskState) (since : ℕ) (file : List ℕ) : Type 0 where
   pub newer : List Medium

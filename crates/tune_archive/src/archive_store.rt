@@ -29,9 +29,9 @@ impl<D: Disk> Archive<D> {
 impl<D: Disk> TuneStore for Archive<D> {
     ghost use Rattle.tune_pages.specs.Kept.{HonestAt, state_at, failures_at};
     ghost use Rattle.tune_format.specs.States.{StandsForState};
-    ghost use Rattle.tune_archive.specs.Media.{LeftFrom, moment_of};
+    ghost use Rattle.tune_archive.specs.Media.{LeftAt, LeftFrom, moment_of};
     ghost use Rattle.tune_archive.specs.Shelf.{state_of, IsSound};
-    ghost use Rattle.tune_archive.specs.Inside.Media.{left_now, left_before};
+    ghost use Rattle.tune_archive.specs.Inside.Media.{left_now, left_then, left_before};
 
     ghost state = { state_of D.Disk.state };
 
@@ -45,6 +45,8 @@ impl<D: Disk> TuneStore for Archive<D> {
 
     ghost moment = { λ archive. moment_of (state_at D.Disk.state archive.pages.disk) };
 
+    ghost left_at = { λ archive. LeftAt (state_at D.Disk.state archive.pages.disk) };
+
     ghost left_since = { λ archive. LeftFrom (state_at D.Disk.state archive.pages.disk) };
 
     ghost stands_for = { StandsForState };
@@ -53,6 +55,9 @@ impl<D: Disk> TuneStore for Archive<D> {
         (left_now (state_at D.Disk.state archive.pages.disk) file left) };
 
     ghost within = { λ archive sound honest. sound.within honest };
+
+    ghost since_at = { λ archive at since file le left.
+        left_then (state_at D.Disk.state archive.pages.disk) at since file le left };
 
     ghost since_earlier = { λ archive since earlier file le left.
         left_before (state_at D.Disk.state archive.pages.disk) since earlier file le left };

@@ -10,25 +10,15 @@ use Rattle.tune_store.specs.State.{State, empty_state}
 use Rattle.tune_store.specs.Answers.{open_at}
 use Rattle.tune_store.specs.Runs.{Answered, Runs}
 use Rattle.tune_scripts.specs.Limits.{most_lines}
-use Rattle.tune_scripts.specs.ScriptRuns.{RunWork, TellsScript, IsOtherEnd}
+use Rattle.tune_scripts.specs.ScriptRuns.{work_by, TellsScript, IsOtherEnd}
 use Rattle.tune_scripts.specs.Looks.{TellsFaults, LooksFlushed, LooksPromptly}
-use Rattle.tune_scripts.specs.Streams.{Output, Streams}
+use Rattle.tune_scripts.specs.Streams.{Streams}
 use Rattle.tune_scripts.specs.declared.script_runs.RunEnd.{RunEnd}
 use Rattle.tune_cli.specs.FileActs.{Makes, Checks, RunsOn, Upgrades}
 use Rattle.tune_cli.specs.ProgramLines.{WritesLine, reason_bytes, status_of}
 use Rattle.tune_cli.specs.declared.command_line.Action.{Action}
 use Rattle.tune_cli.specs.declared.command_line.Action.TheVariants as action
 use Rattle.tune_cli.specs.declared.file_actions.Done.{Done}
-
--- the work of a run from an empty archive in memory to this one, by these commands
-abbrev pub work_in_memory : Output → List Answered → State → RunWork
-work_in_memory output run state = record {
-  was = output.was.bytes;
-  now = output.now.bytes;
-  run = run;
-  before = open_at empty_state;
-  after = open_at state;
-}
 
 -- A script was run from an empty archive, and the status tells how the run ended. One list of
 -- commands is spoken of, and of every reader: the archive carried them out one after another, each
@@ -42,7 +32,7 @@ pub record ListsScript (streams : Streams) (status : ℕ) : Type 0 where
   pub carries_out : Runs (open_at empty_state) run (open_at state)
   pub no_fault : IsOtherEnd end
   pub output : TellsScript most_lines streams.input.was.left streams.input.now.left
-      (work_in_memory streams.output run state) end
+      (work_by streams.output.was.bytes streams.output.now.bytes run) end
   pub faults : TellsFaults streams (Some end)
   pub prompt : streams.output.was.flushed ≡ true → LooksPromptly (open_at empty_state) streams
   pub looks : streams.output.was.flushed ≡ true → LooksFlushed streams

@@ -17,7 +17,8 @@ use Rattle.tune_store.specs.declared.tune_store.TuneStore.{Ghosts}
 use Rattle.tune_store.proofs.StepLemmas.{refused_stays, answers_close, closed_answers}
 use Rattle.tune_store.proofs.StopLemmas.{passes_none, passes_more}
 use Rattle.tune_scripts.specs.declared.script_runs.RunEnd.{RunEnd}
-use Rattle.tune_scripts.specs.Carried.{Carried, CarriesOut, LeftByRun, run_of, moment_after}
+use Rattle.tune_scripts.specs.Carried.{Carried, CarriesOut, LeftByRun, run_of, course_of, moment_after}
+use Rattle.tune_scripts.specs.Courses.{StandsForFirst}
 use Rattle.tune_scripts.specs.Prefixes.{FailsLast, never_fails, fails_last, state_by, state_after, AreAcknowledged, StandsForPrefix, StandsForEnd}
 use Rattle.tune_scripts.specs.ScriptRuns.{EndsAfter, IsOtherEnd, at_other_end, at_device_fault}
 
@@ -38,7 +39,7 @@ state_stays state command Device go = cc
 state_stays state command refusal go = refl
 
 -- an answer that lets the run go on tells the state
-state_told : (old new : Standing) (command : Command) (answer : Result Reply Refusal) → Answers old command answer new → stays_open answer ≡ true
+pub state_told : (old new : Standing) (command : Command) (answer : Result Reply Refusal) → Answers old command answer new → stays_open answer ≡ true
     → new.state ≡ state_by old.state command answer
 state_told old new command (Ok reply) answers go = ok_steps old new command (Ok reply) answers
 state_told old new command (Err refusal) answers go =
@@ -46,7 +47,7 @@ state_told old new command (Err refusal) answers go =
     ap (λ (s : Standing). s.state) (refused_stays old new command (Err refusal) answers other) ∙ sym (state_stays old.state command refusal go)
 
 -- and that the store stays open
-open_still : (old new : Standing) (command : Command) (answer : Result Reply Refusal) → Answers old command answer new → stays_open answer ≡ true
+pub open_still : (old new : Standing) (command : Command) (answer : Result Reply Refusal) → Answers old command answer new → stays_open answer ≡ true
     → new.closed ≡ false
 open_still old new command answer answers go = answers_close old new command answer answers ∙ ap not go
 
@@ -68,7 +69,7 @@ goes_on answer h = true_by (stays_open answer) h
     true_by false e = sym e
 
 -- a file that stands for a state that a command went on to stands for the state by its answer
-stands_passed : (stands_for : List ℕ → State → Type 0) (state : State) (command : Command) (answer : Result Reply Refusal) (file : List ℕ)
+pub stands_passed : (stands_for : List ℕ → State → Type 0) (state : State) (command : Command) (answer : Result Reply Refusal) (file : List ℕ)
     → StandsForOne stands_for (passed state command answer) file → stands_for file (state_by state command answer)
 stands_passed stands_for state command (Ok reply) file (inl stands) = stands
 stands_passed stands_for state command (Ok reply) file (inr none) = absurd none
@@ -191,14 +192,14 @@ module _ {S : Type 0} (s : Ghosts S) where
   states_of old [] = []
   states_of old (next ∷ carried) = passed (s.state old) next.command next.answer ++ states_of next.after carried
 
-  passes_all : (carried : List (Carried S)) (old new : S) → CarriesOut s old carried new → StorePasses s old new (states_of old carried)
+  pub passes_all : (carried : List (Carried S)) (old new : S) → CarriesOut s old carried new → StorePasses s old new (states_of old carried)
   passes_all [] old new h = subst (λ there. StorePasses s old there []) (sym h) (passes_none s old)
   passes_all (next ∷ carried) old new h =
       passes_more s old next.after new (passed (s.state old) next.command next.answer) (states_of next.after carried) h.0.passes
       (passes_all carried next.after new h.1)
 
   -- its moments rise
-  moments_rise : (carried : List (Carried S)) (old new : S) → CarriesOut s old carried new → s.honest new → s.moment old ≤ s.moment new
+  pub moments_rise : (carried : List (Carried S)) (old new : S) → CarriesOut s old carried new → s.honest new → s.moment old ≤ s.moment new
   moments_rise carried old new h honest = (passes_all carried old new h).later honest
 
   -- a closed store passes no state
@@ -345,11 +346,15 @@ module _ {S : Type 0} (s : Ghosts S) where
     -- all of it
     pub left_by : (carried : List (Carried S)) (old new : S) → CarriesOut s old carried new → FailsLast (run_of carried) → s.honest new
         → ((since earlier : ℕ) (other : List ℕ) → earlier ≤ since → s.left_since new since other → s.left_since new earlier other)
-        → s.sound old → s.closed old ≡ false → LeftByRun s old carried new
-    left_by carried old new h fails honest earlier sound is_open = record {
+        → s.sound old → s.closed old ≡ false
+        → ((moment : ℕ) (file : List ℕ) → s.moment old ≤ moment → s.left_at new moment file
+        → StandsForFirst s.stands_for (course_of s old carried) moment file)
+        → LeftByRun s old carried new
+    left_by carried old new h fails honest earlier sound is_open each = record {
       since_start = λ file left. left_since_start carried old new file h sound honest is_open left;
       acknowledged = λ done rest file same all left.
           let whole = subst (λ c. CarriesOut s old c new) same h in
           left_since_answer done rest old new file whole sound honest is_open all left;
+      at_each_moment = each;
       at_end = λ file left. left_at_end carried old new (run_of carried) file h sound honest is_open refl fails earlier left;
     }

@@ -20,7 +20,7 @@ use Rattle.tune_scripts.specs.ScriptLines.{meaning_of_line}
 use Rattle.tune_scripts.specs.Scripts.{line_text}
 use Rattle.tune_scripts.specs.Inside.Reads.{IsLineRead, TakesLine}
 use Rattle.tune_scripts.specs.Looks.{LooksMore, LooksBehind, LooksFlushed, IsPartOfTurn, TellsFaults, reader_faults_of, writer_faults_of}
-use Rattle.tune_scripts.specs.Streams.{Input, Output, Streams}
+use Rattle.tune_scripts.specs.Streams.{Input, Streams}
 
 -- an input before and after some looks, and with it an output
 abbrev pub from : InputTold → InputTold → Input

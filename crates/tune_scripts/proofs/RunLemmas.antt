@@ -1,8 +1,9 @@
 -- A script's turns, one after another, over a writer and a store of any kind.
-use Rattle.std.proofs.Common.{◌≡◌, ℕ, suc, ◌+◌, Bool, true, false, List, [], ◌++◌, Option, None, Some, refl, sym, ap, ◌∙◌, subst, arith}
+use Rattle.std.proofs.Common.{◌≡◌, ℕ, suc, ◌+◌, true, false, List, [], ◌++◌, Option, None, Some, refl, sym, ap, ◌∙◌, subst, arith}
 use Rattle.std.specs.Prelude.{IfSome}
 use Rattle.std.specs.Io.KnownBytes.{Appends, Consumes}
 use Rattle.std.proofs.lemmas.List.{append_assoc, append-nil}
+use Rattle.tune_store.specs.Runs.{Answered}
 use Rattle.tune_store.specs.Stores.{standing_of}
 use Rattle.tune_store.specs.declared.tune_store.TuneStore as store
 use Rattle.tune_scripts.specs.declared.script_runs.RunEnd.{RunEnd}
@@ -18,7 +19,7 @@ use Rattle.tune_scripts.specs.Inside.Turns.{output_of, GoesOn, Turns, TurnsOver}
 use Rattle.tune_scripts.proofs.AppendLemmas.{appends_more}
 use Rattle.tune_scripts.proofs.LookLemmas.{from, both_told, looks_none, looks_then, looks_map}
 use Rattle.tune_scripts.proofs.TurnLemmas.{appends_none}
-use Rattle.tune_scripts.proofs.CarriedLemmas.{acknowledged_more, ends_more, run_more, carries_more}
+use Rattle.tune_scripts.proofs.CarriedLemmas.{acknowledged_more, ends_more, run_more, carries_more, runs_carried}
 
 -- ENDS
 -- what holds of the output follows where the writer did not fail
@@ -32,41 +33,33 @@ unless_writer_by WriterFault P Q f h = tt
 unless_writer_by run.OutOfMemory P Q f h = f h
 
 -- the work of a part of a run and of the rest
-abbrev pub both : RunWork → RunWork → RunWork
-both a b = record { was = a.was; now = b.now; run = a.run ++ b.run; before = a.before; after = b.after }
+abbrev both : RunWork → RunWork → RunWork
+both a b = work_by a.was b.now (a.run ++ b.run)
 
--- the second begins where the first ended
-pub record Follows (a b : RunWork) : Type 0 where
-  pub output : a.now ≡ b.was
-  pub stands : a.after ≡ b.before
-
--- two parts of a run are one
-joins : (lines mid more : ℕ) (input : List ℕ) (between new : Option (List ℕ)) (a b : RunWork) → Follows a b → (h : GoesOn lines mid input between a)
+-- two parts of a run, of which the second begins at the output of the first, are one
+joins : (lines mid more : ℕ) (input : List ℕ) (between new : Option (List ℕ)) (a b : RunWork) → a.now ≡ b.was → (h : GoesOn lines mid input between a)
     → GoesOn mid more h.rest new b → GoesOn lines more input new (both a b)
 joins lines mid more input between new a b follows h k = record {
   rest = k.rest;
   out = h.out ++ k.out;
   leaves = k.leaves;
-  written = appends_more a.was b.was b.now h.out k.out (subst (λ now. Appends a.was now h.out) follows.output h.written) k.written;
-  onward = λ tail unread later end last s.
-      let then = k.onward tail unread later end last s in
-      let whole = h.onward (k.out ++ tail) unread (b.run ++ later) end last
-      (subst (λ from. Script mid from h.rest (k.out ++ tail) (b.run ++ later) end last unread) (sym follows.stands) then) in
+  written = appends_more a.was b.was b.now h.out k.out (subst (λ now. Appends a.was now h.out) follows h.written) k.written;
+  onward = λ tail unread later end s.
+      let whole = h.onward (k.out ++ tail) unread (b.run ++ later) end (k.onward tail unread later end s) in
       rw (append_assoc h.out k.out tail, append_assoc a.run b.run later) whole;
 }
 
 -- a part of a run and the run of the rest are one run
-joins_end : (lines mid : ℕ) (input : List ℕ) (between new : Option (List ℕ)) (end : RunEnd) (a b : RunWork) → Follows a b
+joins_end : (lines mid : ℕ) (input : List ℕ) (between new : Option (List ℕ)) (end : RunEnd) (a b : RunWork) → a.now ≡ b.was
     → (h : GoesOn lines mid input between a) → WritesScript mid h.rest new b end → WritesScript lines input new (both a b) end
 joins_end lines mid input between new end a b follows h k = record {
   unread = k.unread;
   out = h.out ++ k.out;
   leaves = k.leaves;
   written =
-      let first = subst (λ now. Appends a.was now h.out) follows.output h.written in
+      let first = subst (λ now. Appends a.was now h.out) follows h.written in
       unless_writer_by end _ _ (appends_more a.was b.was b.now h.out k.out first) k.written;
-  script = h.onward k.out k.unread b.run end b.after
-      (subst (λ from. Script mid from h.rest k.out b.run end b.after k.unread) (sym follows.stands) k.script);
+  script = h.onward k.out k.unread b.run end k.script;
 }
 
 -- no lines are left: the run ends here, and what the turns so far left is unread
@@ -77,10 +70,35 @@ ends_at_bound lines input new a h = record {
   leaves = h.leaves;
   written = h.written;
   script =
-      subst (λ r. Script lines a.before input h.out r LineBound a.after h.rest) (append-nil a.run)
-      (subst (λ out. Script lines a.before input out (a.run ++ []) LineBound a.after h.rest) (append-nil h.out)
-      (h.onward [] h.rest [] LineBound a.after (line_bound a.after h.rest)));
+      subst (λ r. Script lines input h.out r LineBound h.rest) (append-nil a.run)
+      (subst (λ out. Script lines input out (a.run ++ []) LineBound h.rest) (append-nil h.out) (h.onward [] h.rest [] LineBound (line_bound h.rest)));
 }
+
+-- OF A READER THAT TELLS ITS BYTES
+-- a part of a run, and one turn more, at which the run does not end
+came_more : (lines more : ℕ) (old_input between_input new_input was between now : Option (List ℕ)) (a b : List Answered)
+    → IfSome old_input (λ input. GoesOn lines (suc more) input between_input (work_by was between a))
+    → Turns between_input new_input (work_by between now b) None
+    → IfSome old_input (λ input. GoesOn lines more input new_input (work_by was now (a ++ b)))
+came_more lines more None between_input new_input was between now a b h k = tt
+came_more lines more (Some input) between_input new_input was between now a b h k =
+    let F : Option (List ℕ) → Type 0 = λ m. Turns m new_input (work_by between now b) None in
+    joins lines (suc more) more input between_input new_input (work_by was between a) (work_by between now b) refl h (subst F h.leaves k more)
+
+-- and one at which it ends
+came_end : (lines more : ℕ) (end : RunEnd) (old_input between_input new_input was between now : Option (List ℕ)) (a b : List Answered)
+    → IfSome old_input (λ input. GoesOn lines (suc more) input between_input (work_by was between a))
+    → Turns between_input new_input (work_by between now b) (Some end) → TellsScript lines old_input new_input (work_by was now (a ++ b)) end
+came_end lines more end None between_input new_input was between now a b h k = tt
+came_end lines more end (Some input) between_input new_input was between now a b h k =
+    let F : Option (List ℕ) → Type 0 = λ m. Turns m new_input (work_by between now b) (Some end) in
+    joins_end lines (suc more) input between_input new_input end (work_by was between a) (work_by between now b) refl h (subst F h.leaves k more)
+
+-- no lines are left
+came_all : (lines : ℕ) (old_input new_input : Option (List ℕ)) (work : RunWork)
+    → IfSome old_input (λ input. GoesOn lines 0 input new_input work) → TellsScript lines old_input new_input work LineBound
+came_all lines None new_input work h = tt
+came_all lines (Some input) new_input work h = ends_at_bound lines input new_input work h
 
 -- THE LOOP
 module _ {S : Type 0} (s : store.Ghosts S) where
@@ -89,21 +107,15 @@ module _ {S : Type 0} (s : store.Ghosts S) where
     pub carried : List (Carried S)
     pub carries_out : CarriesOut s old carried new
     pub acknowledged : AreAcknowledged (run_of carried)
-    pub came : IfSome old_input (λ input. GoesOn lines more input new_input (work_by s was now old carried new))
+    pub came : IfSome old_input (λ input. GoesOn lines more input new_input (work_by was now (run_of carried)))
 
   -- What a run came to, by the bytes of its input and its output.
   pub record HasRun (lines : ℕ) (old_input new_input was now : Option (List ℕ)) (old new : S) (end : RunEnd) : Type 0 where
     pub carried : List (Carried S)
     pub carries_out : CarriesOut s old carried new
     pub ends : EndsAfter end (run_of carried)
-    pub script : TellsScript lines old_input new_input (work_by s was now old carried new) end
+    pub script : TellsScript lines old_input new_input (work_by was now (run_of carried)) end
     pub stops : s.sound old → s.closed old ≡ false → LeftByRun s old carried new
-
-  -- the work of two parts of a run
-  both_by : (was between now : Option (List ℕ)) (a b : List (Carried S)) (old mid new : S)
-      → both (work_by s was between old a mid) (work_by s between now mid b new) ≡ work_by s was now old (a ++ b) new
-  both_by was between now a b old mid new =
-      ap (λ run. record { was = was; now = now; run = run; before = standing_of s old; after = standing_of s new }) (sym (run_more a b))
 
   -- before the first turn
   pub so_far_none : (lines : ℕ) (input was : Option (List ℕ)) (here : S) → IsSoFar lines lines input input was was here here
@@ -117,33 +129,11 @@ module _ {S : Type 0} (s : store.Ghosts S) where
       out = [];
       leaves = refl;
       written = appends_none was;
-      onward = λ tail unread later end last k. k;
+      onward = λ tail unread later end k. k;
     };
   }
 
   module _ (lines more : ℕ) (new_input was between now : Option (List ℕ)) (old mid new : S) where
-    came_more : (old_input between_input : Option (List ℕ)) (a b : List (Carried S))
-        → IfSome old_input (λ input. GoesOn lines (suc more) input between_input (work_by s was between old a mid))
-        → Turns between_input new_input (work_by s between now mid b new) None
-        → IfSome old_input (λ input. GoesOn lines more input new_input (work_by s was now old (a ++ b) new))
-    came_more None between_input a b h k = tt
-    came_more (Some input) between_input a b h k =
-        let F : Option (List ℕ) → Type 0 = λ m. Turns m new_input (work_by s between now mid b new) None in
-        let follows : Follows (work_by s was between old a mid) (work_by s between now mid b new) = record { output = refl; stands = refl } in
-        subst (λ work. GoesOn lines more input new_input work) (both_by was between now a b old mid new)
-        (joins lines (suc more) more input between_input new_input _ _ follows h (subst F h.leaves k more))
-
-    came_end : (end : RunEnd) (old_input between_input : Option (List ℕ)) (a b : List (Carried S))
-        → IfSome old_input (λ input. GoesOn lines (suc more) input between_input (work_by s was between old a mid))
-        → Turns between_input new_input (work_by s between now mid b new) (Some end)
-        → TellsScript lines old_input new_input (work_by s was now old (a ++ b) new) end
-    came_end end None between_input a b h k = tt
-    came_end end (Some input) between_input a b h k =
-        let F : Option (List ℕ) → Type 0 = λ m. Turns m new_input (work_by s between now mid b new) (Some end) in
-        let follows : Follows (work_by s was between old a mid) (work_by s between now mid b new) = record { output = refl; stands = refl } in
-        subst (λ work. WritesScript lines input new_input work end) (both_by was between now a b old mid new)
-        (joins_end lines (suc more) input between_input new_input end _ _ follows h (subst F h.leaves k more))
-
     -- after one turn more, at which the run does not end
     pub so_far_more : (old_input between_input : Option (List ℕ)) → IsSoFar lines (suc more) old_input between_input was between old mid
         → TurnsOver s (output_of between now) mid new None (λ work. Turns between_input new_input work None)
@@ -153,7 +143,8 @@ module _ {S : Type 0} (s : store.Ghosts S) where
       carries_out = carries_more s h.carried k.carried old mid new h.carries_out k.carries_out;
       acknowledged = subst AreAcknowledged (sym (run_more h.carried k.carried))
           (acknowledged_more (run_of h.carried) (run_of k.carried) h.acknowledged k.goes);
-      came = came_more old_input between_input h.carried k.carried h.came k.tells;
+      came = subst (λ run. IfSome old_input (λ input. GoesOn lines more input new_input (work_by was now run))) (sym (run_more h.carried k.carried))
+          (came_more lines more old_input between_input new_input was between now (run_of h.carried) (run_of k.carried) h.came k.tells);
     }
 
     -- after one turn more, at which it ends
@@ -169,14 +160,10 @@ module _ {S : Type 0} (s : store.Ghosts S) where
           carried = h.carried ++ k.carried;
           carries_out = carries_out;
           ends = ends;
-          script = came_end end old_input between_input h.carried k.carried h.came k.tells;
+          script = subst (λ run. TellsScript lines old_input new_input (work_by was now run) end) (sym (run_more h.carried k.carried))
+              (came_end lines more end old_input between_input new_input was between now (run_of h.carried) (run_of k.carried) h.came k.tells);
           stops = left (h.carried ++ k.carried) carries_out ends;
         }
-
-  came_all : (lines : ℕ) (old_input new_input : Option (List ℕ)) (work : RunWork)
-      → IfSome old_input (λ input. GoesOn lines 0 input new_input work) → TellsScript lines old_input new_input work LineBound
-  came_all lines None new_input work h = tt
-  came_all lines (Some input) new_input work h = ends_at_bound lines input new_input work h
 
   -- no lines are left
   pub so_far_all : (lines : ℕ) (old_input new_input was now : Option (List ℕ)) (old new : S) → IsSoFar lines 0 old_input new_input was now old new
@@ -189,7 +176,7 @@ module _ {S : Type 0} (s : store.Ghosts S) where
         carried = h.carried;
         carries_out = h.carries_out;
         ends = ends;
-        script = came_all lines old_input new_input (work_by s was now old h.carried new) h.came;
+        script = came_all lines old_input new_input (work_by was now (run_of h.carried)) h.came;
         stops = left h.carried h.carries_out ends;
       }
 
@@ -199,13 +186,14 @@ module _ {S : Type 0} (s : store.Ghosts S) where
       → IsSoFar (lines + 0) 0 (Some input) between was at.bytes old mid → at.flushed ≡ true → look.output ≡ at → (taken : List ℕ)
       → Consumes between look.left taken → IsPartOfTurn taken → IsPrompt (standing_of s old) input was look
   prompt_behind lines input between was at old mid look h flushed same taken leaves part =
-      let came = ends_at_bound (lines + 0) input between (work_by s was at.bytes old h.carried mid) h.came in record {
+      let came = ends_at_bound (lines + 0) input between (work_by was at.bytes (run_of h.carried)) h.came in record {
         lines = lines + 0;
         out = came.out;
         run = run_of h.carried;
         after = standing_of s mid;
         rest = came.unread;
         so_far = came.script;
+        answers = runs_carried s h.carried old mid h.carries_out;
         answered = subst (λ (o : OutputTold). Appends was o.bytes came.out) (sym same) came.written;
         flushed = ap (λ (o : OutputTold). o.flushed) same ∙ flushed;
         taken = taken;

@@ -5,8 +5,7 @@ use Rattle.std.specs.Io.KnownBytes.{Appends, Consumes, IsAtEnd}
 use Rattle.std.proofs.lemmas.List.{append-nil, take_at, drop_at, length-append}
 use Rattle.std.proofs.lemmas.Bool.{le-ltb, lt-ltb}
 use Rattle.abc_fields.specs.Limits.{longest_book}
-use Rattle.tune_store.specs.State.{Standing}
-use Rattle.tune_store.specs.Answers.{Answers, stays_open}
+use Rattle.tune_store.specs.Answers.{stays_open}
 use Rattle.tune_store.specs.Runs.{Answered}
 use Rattle.tune_store.specs.declared.command.Command.{Command}
 use Rattle.tune_store.specs.declared.command.Reply.{Reply}
@@ -24,7 +23,7 @@ use Rattle.tune_scripts.specs.Limits.{longest_line}
 use Rattle.tune_scripts.specs.ScriptLines.{meaning_of_line, command_of, holds_text, line_holds_text}
 use Rattle.tune_scripts.specs.InputLines.{before_feed, after_feed, has_feed}
 use Rattle.tune_scripts.specs.Replies.{answer_bytes, refusal_bytes, bad_line_bytes}
-use Rattle.tune_scripts.specs.Carried.{Carried}
+use Rattle.tune_scripts.specs.Carried.{Carried, run_of}
 use Rattle.tune_scripts.specs.Prefixes.{AreAcknowledged}
 use Rattle.tune_scripts.specs.Scripts.{reading_of, reading_of_book, reading_of_meaning, reading_of_line, line_text, long_line, blank_line, bad_line, cut_book}
 use Rattle.tune_scripts.specs.Scripts.{long_book, whole_command, Script, ended, device_fault, at_long_line, at_cut_book, after_blank_line, after_bad_line}
@@ -37,30 +36,21 @@ pub appends_none : (a : Option (List ℕ)) → Appends a a []
 appends_none None = tt
 appends_none (Some xs) = sym (append-nil xs)
 
--- the store was left alone
-pub record IsQuiet (work : RunWork) : Type 0 where
-  pub same : work.before ≡ work.after
-  pub none : work.run ≡ []
+-- no command was carried out
+abbrev pub IsQuiet : RunWork → Type 0
+IsQuiet work = work.run ≡ []
 
--- what starts where the store stood starts where it stands
-starts_where : {n : ℕ} {rest out unread : List ℕ} {run : List Answered} {end : RunEnd} {last : Standing} (work : RunWork) → IsQuiet work
-    → Script n work.after rest out run end last unread → Script n work.before rest out run end last unread
-starts_where {n = n} {rest = rest} {out = out} {unread = unread} {run = run} {end = end} {last = last} work quiet k =
-    subst (λ s. Script n s rest out run end last unread) (sym quiet.same) k
-
--- what ends where the store stood, with no command, ends where it stands
+-- what ends with no command ends so after work without one
 ends_where : {n : ℕ} {input out unread : List ℕ} {end : RunEnd} (work : RunWork) → IsQuiet work
-    → Script n work.before input out [] end work.before unread → Script n work.before input out work.run end work.after unread
+    → Script n input out [] end unread → Script n input out work.run end unread
 ends_where {n = n} {input = input} {out = out} {unread = unread} {end = end} work quiet k =
-    subst (λ run. Script n work.before input out run end work.after unread) (sym quiet.none)
-    (subst (λ s. Script n work.before input out [] end s unread) quiet.same k)
+    subst (λ run. Script n input out run end unread) (sym quiet) k
 
 -- ONE TURN
 -- One command was carried out, and its answer was written, or the writer failed.
 pub record IsOne (work : RunWork) (c : Command) (result : Option RunEnd) : Type 0 where
   pub answer : Result Reply Refusal
   pub run : work.run ≡ record { command = c; answer = answer } ∷ []
-  pub answers : Answers work.before c answer work.after
   pub written : WritesOut work.was work.now (answer_bytes answer) (next_of answer) result
 
 -- after a command, by whether its answer lets the run go on
@@ -73,10 +63,10 @@ turn_goes input rest left work c result h true r l o w e = rw e (λ n. record {
   out = answer_bytes h.answer;
   leaves = l;
   written = w;
-  onward = λ tail unread later end last k.
+  onward = λ tail unread later end k.
       let next : Answered = record { command = c; answer = h.answer } in
-      subst (λ run. Script (suc n) work.before input (answer_bytes h.answer ++ tail) (run ++ later) end last unread) (sym h.run)
-      (after_answer n work.before work.after last input rest tail unread next later end r h.answers o k);
+      subst (λ run. Script (suc n) input (answer_bytes h.answer ++ tail) (run ++ later) end unread) (sym h.run)
+      (after_answer n input rest tail unread next later end r o k);
 })
 turn_goes input rest left work c result h false r l o w e = rw e (λ n. record {
   unread = rest;
@@ -85,8 +75,8 @@ turn_goes input rest left work c result h false r l o w e = rw e (λ n. record {
   written = w;
   script =
       let next : Answered = record { command = c; answer = h.answer } in
-      subst (λ run. Script (suc n) work.before input (answer_bytes h.answer) run DeviceFault work.after rest) (sym h.run)
-      (device_fault n work.before work.after input rest next r h.answers o);
+      subst (λ run. Script (suc n) input (answer_bytes h.answer) run DeviceFault rest) (sym h.run)
+      (device_fault n input rest next r o);
 })
 
 -- after a command whose answer the writer failed to take
@@ -100,8 +90,8 @@ turn_unwritten input rest left work c result h r l fault = rw fault (λ n. recor
   written = tt;
   script =
       let next : Answered = record { command = c; answer = h.answer } in
-      subst (λ run. Script (suc n) work.before input [] run WriterFault work.after rest) (sym h.run)
-      (writer_fault_after n work.before work.after input rest next r h.answers);
+      subst (λ run. Script (suc n) input [] run WriterFault rest) (sym h.run)
+      (writer_fault_after n input rest next r);
 })
 
 -- after a command
@@ -120,7 +110,7 @@ quiet_fault input rest left work result l quiet fault = rw fault (λ n. record {
   out = [];
   leaves = l;
   written = tt;
-  script = ends_where work quiet (writer_fault n work.before input rest);
+  script = ends_where work quiet (writer_fault n input rest);
 })
 
 -- after a fault of the reader
@@ -131,37 +121,35 @@ turn_fault input left work quiet w = λ n. record {
   out = [];
   leaves = tt;
   written = w;
-  script = ends_where work quiet (reader_fault n work.before input);
+  script = ends_where work quiet (reader_fault n input);
 }
 
 -- what a turn adds that leaves the store alone: these bytes, and no command
 adds_bytes : (lines more : ℕ) (input rest bytes : List ℕ) (left : Option (List ℕ)) (work : RunWork) → left ≡ Some rest → IsQuiet work
     → Appends work.was work.now bytes
-    → ((tail unread : List ℕ) (later : List Answered) (end : RunEnd) (last : Standing) → Script more work.before rest tail later end last unread
-    → Script lines work.before input (bytes ++ tail) later end last unread)
+    → ((tail unread : List ℕ) (later : List Answered) (end : RunEnd) → Script more rest tail later end unread
+    → Script lines input (bytes ++ tail) later end unread)
     → GoesOn lines more input left work
 adds_bytes lines more input rest bytes left work l quiet w f = record {
   rest = rest;
   out = bytes;
   leaves = l;
   written = w;
-  onward = λ tail unread later end last k.
-      subst (λ run. Script lines work.before input (bytes ++ tail) (run ++ later) end last unread) (sym quiet.none)
-      (f tail unread later end last (starts_where work quiet k));
+  onward = λ tail unread later end k. subst (λ run. Script lines input (bytes ++ tail) (run ++ later) end unread) (sym quiet) (f tail unread later end k);
 }
 
 -- after a line without a word
 pub turn_blank : (input rest : List ℕ) (left : Option (List ℕ)) (work : RunWork) → reading_of input ≡ blank_line rest → left ≡ Some rest
     → IsQuiet work → Appends work.was work.now [] → TurnOf input left work None
 turn_blank input rest left work r l quiet w = λ n. adds_bytes (suc n) n input rest [] left work l quiet w
-    (λ tail unread later end last k. after_blank_line n work.before last input rest tail unread later end r k)
+    (λ tail unread later end k. after_blank_line n input rest tail unread later end r k)
 
 -- after a bad line
 pub turn_bad : (input rest : List ℕ) (left : Option (List ℕ)) (work : RunWork) (result : Option RunEnd) → reading_of input ≡ bad_line rest
     → left ≡ Some rest → IsQuiet work → WritesOut work.was work.now bad_line_bytes None result → TurnOf input left work result
 turn_bad input rest left work result r l quiet (inl fault) = quiet_fault input rest left work result l quiet fault
 turn_bad input rest left work result r l quiet (inr h) = rw h.0 (λ n. adds_bytes (suc n) n input rest bad_line_bytes left work l quiet h.1
-    (λ tail unread later end last k. after_bad_line n work.before last input rest tail unread later end r k))
+    (λ tail unread later end k. after_bad_line n input rest tail unread later end r k))
 
 -- after a command for whose text there is no memory
 turn_no_room : (input rest : List ℕ) (left : Option (List ℕ)) (work : RunWork) (command : Command) (result : Option RunEnd)
@@ -170,7 +158,7 @@ turn_no_room : (input rest : List ℕ) (left : Option (List ℕ)) (work : RunWor
 turn_no_room input rest left work command result r holds l quiet (inl fault) = quiet_fault input rest left work result l quiet fault
 turn_no_room input rest left work command result r holds l quiet (inr h) =
     rw h.0 (λ n. adds_bytes (suc n) n input rest (refusal_bytes OutOfMemory) left work l quiet h.1
-    (λ tail unread later end last k. after_no_room n work.before last input rest tail unread later end command r holds k))
+    (λ tail unread later end k. after_no_room n input rest tail unread later end command r holds k))
 
 -- the same by what a line asks for
 pub turn_no_text : (m : ScriptLine) (input rest : List ℕ) (left : Option (List ℕ)) (work : RunWork) (result : Option RunEnd) → line_holds_text m ≡ true
@@ -192,7 +180,7 @@ turn_over : (input rest : List ℕ) (left : Option (List ℕ)) (work : RunWork) 
 turn_over input rest left work result r l quiet (inl fault) = quiet_fault input rest left work result l quiet fault
 turn_over input rest left work result r l quiet (inr h) =
     rw h.0 (λ n. adds_bytes (suc n) n input rest (refusal_bytes BookTooLong) left work l quiet h.1
-    (λ tail unread later end last k. after_long_book n work.before last input rest tail unread later end r k))
+    (λ tail unread later end k. after_long_book n input rest tail unread later end r k))
 
 -- after a book that was cut
 turn_cut : (input : List ℕ) (left : Option (List ℕ)) (work : RunWork) (result : Option RunEnd) → reading_of input ≡ cut_book → left ≡ Some []
@@ -203,7 +191,7 @@ turn_cut input left work result r l quiet (inr h) = rw h.0 (λ n. record {
   out = bad_line_bytes;
   leaves = l;
   written = h.1;
-  script = ends_where work quiet (at_cut_book n work.before input r);
+  script = ends_where work quiet (at_cut_book n input r);
 })
 
 -- after a line that is too long
@@ -216,7 +204,7 @@ turn_long input left work result r l quiet (inr h) = rw h.0 (λ n. record {
   out = bad_line_bytes;
   leaves = l;
   written = h.1;
-  script = ends_where work quiet (at_long_line n work.before input r);
+  script = ends_where work quiet (at_long_line n input r);
 })
 
 -- BOOKS
@@ -319,7 +307,7 @@ from_end (Some xs) (Some ys) work h k quiet w = λ n. record {
   out = [];
   leaves = ap Some (sym k ∙ h);
   written = w;
-  script = ends_where work quiet (ended n work.before xs (ap reading_of h));
+  script = ends_where work quiet (ended n xs (ap reading_of h));
 }
 
 -- a line that asks for a book was read, and then the book
@@ -351,15 +339,10 @@ goes_by c answer false result shut (inl fault) = rw fault (at_device_fault Write
 goes_by c answer false result shut (inr device) = rw device (at_device_fault DeviceFault _ [] _ refl tt shut tt)
 
 module _ {S : Type 0} (s : store.Ghosts S) where
-  -- no call of the store, whatever was written
-  pub quiet_by : (was now : Option (List ℕ)) (here : S) → IsQuiet (work_by s was now here [] here)
-  quiet_by was now here = record { same = refl; none = refl }
-
   -- a turn without a command
   pub over_none : (was now : Option (List ℕ)) (here : S) (result : Option RunEnd) (Tells : RunWork → Type 0) → GoesBy result []
-      → (IsQuiet (work_by s was now here [] here) → Tells (work_by s was now here [] here)) → TurnsOver s (output_of was now) here here result Tells
-  over_none was now here result Tells goes tells =
-      record { carried = []; carries_out = refl; goes = goes; tells = tells (quiet_by was now here) }
+      → (IsQuiet (work_by was now []) → Tells (work_by was now [])) → TurnsOver s (output_of was now) here here result Tells
+  over_none was now here result Tells goes tells = record { carried = []; carries_out = refl; goes = goes; tells = tells refl }
 
   -- a turn with a command
   pub over_one : (was now : Option (List ℕ)) (old new : S) (c : Command) (result : Option RunEnd) (Tells : RunWork → Type 0)
@@ -371,12 +354,7 @@ module _ {S : Type 0} (s : store.Ghosts S) where
         carried = one ∷ [];
         carries_out = (h.carried, refl);
         goes = goes_by c h.answer (stays_open h.answer) result refl (elim h.written [ inl fault ↦ inl fault | inr w ↦ inr w.0 ]);
-        tells = tells (work_by s was now old (one ∷ []) new) (record {
-          answer = h.answer;
-          run = refl;
-          answers = h.carried.answers;
-          written = h.written;
-        });
+        tells = tells (work_by was now (run_of (one ∷ []))) (record { answer = h.answer; run = refl; written = h.written });
       }
 
   -- a turn of which more is told
@@ -387,7 +365,7 @@ module _ {S : Type 0} (s : store.Ghosts S) where
     carried = h.carried;
     carries_out = h.carries_out;
     goes = h.goes;
-    tells = tells (work_by s was now old h.carried new) h.tells;
+    tells = tells (work_by was now (run_of h.carried)) h.tells;
   }
 
 -- what a line without a command that is answered makes of a run

@@ -1,5 +1,5 @@
 -- Commands that a store carries out one after another, each by one call.
-use Rattle.std.specs.Prelude.{◌≡◌, ℕ, List, [], ◌∷◌, ◌++◌, Result}
+use Rattle.std.specs.Prelude.{◌≡◌, ℕ, ◌≤◌, List, [], ◌∷◌, ◌++◌, Result}
 use Rattle.tune_store.specs.Answers.{Answers, passed}
 use Rattle.tune_store.specs.Runs.{Answered}
 use Rattle.tune_store.specs.Stores.{StorePasses, standing_of}
@@ -8,6 +8,7 @@ use Rattle.tune_store.specs.declared.command.Reply.{Reply}
 use Rattle.tune_store.specs.declared.command.Refusal.{Refusal}
 use Rattle.tune_store.specs.declared.tune_store.TuneStore.{Ghosts}
 use Rattle.tune_scripts.specs.Prefixes.{AreAcknowledged, StandsForPrefix, StandsForEnd}
+use Rattle.tune_scripts.specs.Courses.{Timed, Course, StandsForFirst}
 
 -- a command that was carried out, its answer, and the store just after it
 pub record Carried (S : Type 0) : Type 0 where
@@ -38,6 +39,23 @@ abbrev pub moment_after : {S : Type 0} → Ghosts S → S → List (Carried S) �
 moment_after kept old [] = kept.moment old
 moment_after kept old (next ∷ carried) = moment_after kept next.after carried
 
+-- the commands and their answers, each with the moment of its answer
+abbrev pub timed_of : {S : Type 0} → Ghosts S → List (Carried S) → List Timed
+timed_of kept [] = []
+timed_of kept (next ∷ carried) = record {
+  command = next.command;
+  answer = next.answer;
+  moment = kept.moment next.after;
+} ∷ timed_of kept carried
+
+-- and from which store on
+abbrev pub course_of : {S : Type 0} → Ghosts S → S → List (Carried S) → Course
+course_of kept old carried = record {
+  start = kept.state old;
+  began = kept.moment old;
+  run = timed_of kept carried;
+}
+
 -- What stops leave of a store that was open, since these commands began.
 pub record LeftByRun {S : Type 0} (kept : Ghosts S) (old : S) (carried : List (Carried S)) (new : S)
     : Type 0 where
@@ -49,6 +67,10 @@ pub record LeftByRun {S : Type 0} (kept : Ghosts S) (old : S) (carried : List (C
       → AreAcknowledged (run_of done)
       → kept.left_since new (moment_after kept old done) file
       → StandsForPrefix kept.stands_for (kept.state old) (run_of done) (run_of rest) file
+  -- at each moment since they began: the state before the command in progress, or after it
+  pub at_each_moment : (moment : ℕ) (file : List ℕ) → kept.moment old ≤ moment
+      → kept.left_at new moment file
+      → StandsForFirst kept.stands_for (course_of kept old carried) moment file
   -- at their end: the state after all, or after all but the last where the device failed in it
   pub at_end : (file : List ℕ) → kept.left_since new (kept.moment new) file
       → StandsForEnd kept.stands_for (kept.state old) (run_of carried) file

@@ -1,7 +1,7 @@
 -- What a console tells of its input and its output.
 use Rattle.std.specs.Prelude.{◌≡◌, ℕ, suc, ◌<◌, ◌≤◌, List, [], ◌∷◌, ◌++◌, Bool, true, not, ◌==◌}
 use Rattle.std.specs.Prelude.{length, take, Option, Result, MatchResult, ⊤}
-use Rattle.std.specs.List.{list_all, AllByRecursion}
+use Rattle.std.specs.List.{list_all}
 use Rattle.std.specs.Io.KnownBytes.{Consumes, IsAtEnd}
 use Rattle.abc_fields.specs.Bytes.{line_feed}
 use Rattle.tune_scripts.specs.declared.console.PieceRead.{PieceRead}

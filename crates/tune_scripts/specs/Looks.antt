@@ -1,11 +1,11 @@
 -- When a run looks at its input, and what failed in it.
-use Rattle.std.specs.Prelude.{◌≡◌, ◌⊎◌, ℕ, ◌+◌, ◌<◌, List, [], ◌∷◌, ◌++◌, length, true}
+use Rattle.std.specs.Prelude.{◌≡◌, ◌⊎◌, ℕ, ◌+◌, ◌<◌, List, ◌∷◌, ◌++◌, length, true}
 use Rattle.std.specs.Prelude.{Option, Some, IfSome}
 use Rattle.std.specs.List.{list_all, AllByRecursion}
 use Rattle.std.specs.Io.KnownBytes.{Appends, Consumes}
 use Rattle.abc_fields.specs.Bytes.{line_feed}
 use Rattle.tune_store.specs.State.{Standing}
-use Rattle.tune_store.specs.Runs.{Answered}
+use Rattle.tune_store.specs.Runs.{Answered, Runs}
 use Rattle.tune_scripts.specs.declared.script_lines.BookUse.{BookUse}
 use Rattle.tune_scripts.specs.declared.script_lines.ScriptLine.TheVariants.{Book}
 use Rattle.tune_scripts.specs.declared.script_runs.RunEnd.{RunEnd}
@@ -60,8 +60,9 @@ LooksBehind streams IsPart = LooksMore streams.input (λ look.
     (look.output ≡ streams.output.was) × (taken : List ℕ)
     × Consumes streams.input.was.left look.left taken × IsPart taken)
 
--- When a run looked at its input, the lines that it had taken whole were answered, and no others,
--- and all of that was flushed: what is left stands behind a part of the next line or its book.
+-- When a run looked at its input, the lines that it had taken whole were answered by the rules, and
+-- no others, and all of that was flushed: what is left stands behind a part of the next line or its
+-- book.
 pub record IsPrompt (before : Standing) (input : List ℕ) (was : Option (List ℕ)) (look : Look)
     : Type 0 where
   pub lines : ℕ
@@ -69,7 +70,10 @@ pub record IsPrompt (before : Standing) (input : List ℕ) (was : Option (List �
   pub run : List Answered
   pub after : Standing
   pub rest : List ℕ
-  pub so_far : Script lines before input out run LineBound after rest
+  pub so_far : Script lines input out run LineBound rest
+  -- each answer is one by the rules
+  pub answers : Runs before run after
+  -- and was written
   pub answered : Appends was look.output.bytes out
   pub flushed : look.output.flushed ≡ true
   pub taken : List ℕ

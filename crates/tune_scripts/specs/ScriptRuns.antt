@@ -1,10 +1,8 @@
 -- Runs of scripts, over a reader, a writer and a store of any kind.
 use Rattle.std.specs.Prelude.{◌≡◌, ℕ, List, [], ◌∷◌, ◌++◌, false, Option, Some, IfSome, ⊤}
 use Rattle.std.specs.Io.KnownBytes.{Appends}
-use Rattle.tune_store.specs.State.{Standing}
 use Rattle.tune_store.specs.Answers.{stays_open}
 use Rattle.tune_store.specs.Runs.{Answered}
-use Rattle.tune_store.specs.Stores.{standing_of}
 use Rattle.tune_store.specs.declared.tune_store.TuneStore as store
 use Rattle.tune_scripts.specs.declared.script_runs.RunEnd.{RunEnd}
 use Rattle.tune_scripts.specs.declared.script_runs.RunEnd.TheVariants.{ReaderFault, WriterFault}
@@ -47,20 +45,10 @@ pub record RunWork : Type 0 where
   pub now : Option (List ℕ)
   -- the commands that the store carried out, with their answers
   pub run : List Answered
-  -- what the store stands for before and after it
-  pub before : Standing
-  pub after : Standing
 
--- the same by the output, and by what a store carried out
-abbrev pub work_by : {S : Type 0} → store.Ghosts S → Option (List ℕ) → Option (List ℕ) → S
-    → List (Carried S) → S → RunWork
-work_by kept was now old carried new = record {
-  was = was;
-  now = now;
-  run = run_of carried;
-  before = standing_of kept old;
-  after = standing_of kept new;
-}
+-- a run from these bytes of the output to these, by these commands
+abbrev pub work_by : Option (List ℕ) → Option (List ℕ) → List Answered → RunWork
+work_by was now run = record { was = was; now = now; run = run }
 
 -- what holds of what was written: a writer that failed holds any bytes
 abbrev pub UnlessWriterFails : RunEnd → Type 0 → Type 0
@@ -72,16 +60,16 @@ abbrev pub UnlessReaderFails : RunEnd → Type 0 → Type 0
 UnlessReaderFails ReaderFault P = ⊤
 UnlessReaderFails end P = P
 
--- A run wrote what the script of this input writes, left unread what the script leaves, and had the
--- script's commands carried out, and no other. After a fault of the reader what was written is the
--- replies before it, and after one of the writer the store is as the commands so far leave it.
+-- A run wrote what the script of this input writes with these answers, left unread what the script
+-- leaves, and had the script's commands carried out, and no other. After a fault of the reader what
+-- was written is the replies before it, and after one of the writer the commands are those so far.
 pub record WritesScript (lines : ℕ) (input : List ℕ) (left : Option (List ℕ)) (work : RunWork)
     (end : RunEnd) : Type 0 where
   pub unread : List ℕ
   pub out : List ℕ
   pub leaves : UnlessReaderFails end (left ≡ Some unread)
   pub written : UnlessWriterFails end (Appends work.was work.now out)
-  pub script : Script lines work.before input out work.run end work.after unread
+  pub script : Script lines input out work.run end unread
 
 -- the same where the reader tells its bytes, by what is left of them before and after the run
 abbrev pub TellsScript : ℕ → Option (List ℕ) → Option (List ℕ) → RunWork → RunEnd → Type 0
@@ -92,12 +80,12 @@ TellsScript lines old new work end = IfSome old (λ input. WritesScript lines in
 pub record RunsScript {S : Type 0} (kept : store.Ghosts S) (lines : ℕ) (streams : Streams)
     (old new : S) (end : RunEnd) : Type 0 where
   pub carried : List (Carried S)
-  -- the store carried them out, and nothing else
+  -- the store carried them out, each answered by the rules, and nothing else
   pub carries_out : CarriesOut kept old carried new
   -- the run ended by the device exactly where the last answer was that it failed
   pub ends : EndsAfter end (run_of carried)
   -- they are those of the script, and so are the replies
   pub script : TellsScript lines streams.input.was.left streams.input.now.left
-      (work_by kept streams.output.was.bytes streams.output.now.bytes old carried new) end
+      (work_by streams.output.was.bytes streams.output.now.bytes (run_of carried)) end
   -- a stop leaves the state after a prefix of them, and what was acknowledged stays
   pub stops : kept.sound old → kept.closed old ≡ false → LeftByRun kept old carried new

@@ -1,12 +1,11 @@
 -- What a script means: its commands one by one, the bytes of their replies, how the run ends, and
--- what it leaves of the input.
+-- what it leaves of the input. Of the store it says nothing: the answers are given.
 use Rattle.std.specs.Prelude.{◌≡◌, ℕ, suc, ◌+◌, List, [], ◌∷◌, ◌++◌, length, take, drop, Bool}
 use Rattle.std.specs.Prelude.{nat_lt, if◌then◌else◌, true, false}
 use Rattle.std.specs.Io.BufRead.{strip_last}
 use Rattle.abc_fields.specs.Bytes.{carriage_return}
 use Rattle.abc_fields.specs.Limits.{longest_book}
-use Rattle.tune_store.specs.State.{Standing}
-use Rattle.tune_store.specs.Answers.{Answers, stays_open}
+use Rattle.tune_store.specs.Answers.{stays_open}
 use Rattle.tune_store.specs.Runs.{Answered}
 use Rattle.tune_store.specs.declared.command.Command.{Command}
 use Rattle.tune_store.specs.declared.command.Refusal.TheVariants.{BookTooLong, OutOfMemory}
@@ -68,58 +67,48 @@ reading_of (b ∷ input) =
     reading_of_line (before_feed (b ∷ input)) (has_feed (b ∷ input)) (after_feed (b ∷ input))
 
 -- WHOLE SCRIPTS
--- With at most so many lines, from what a store stands for, an input writes these bytes, has these
--- commands carried out and answered, one after another, ends so, leaves the store standing for
--- this, and has this last part that is not read.
-pub data Script : ℕ → Standing → List ℕ → List ℕ → List Answered → RunEnd → Standing → List ℕ
-    → Type 0 where
+-- With at most so many lines, an input writes these bytes, has these commands carried out and so
+-- answered, one after another, ends so, and has this last part that is not read. Which answers a
+-- command may have is not said here, but what is written of each, and whether the script goes on.
+pub data Script : ℕ → List ℕ → List ℕ → List Answered → RunEnd → List ℕ → Type 0 where
   -- THE ENDS
   -- no more lines are read, whether there are more or not: all of the input is left
-  line_bound : (s : Standing) (input : List ℕ) → Script 0 s input [] [] LineBound s input
-  ended : (n : ℕ) (s : Standing) (input : List ℕ) → reading_of input ≡ at_end
-      → Script (suc n) s input [] [] Ended s []
+  line_bound : (input : List ℕ) → Script 0 input [] [] LineBound input
+  ended : (n : ℕ) (input : List ℕ) → reading_of input ≡ at_end
+      → Script (suc n) input [] [] Ended []
   -- no more of the line is read than shows that it is too long
-  at_long_line : (n : ℕ) (s : Standing) (input : List ℕ) → reading_of input ≡ long_line
-      → Script (suc n) s input bad_line_bytes [] LongLine s (drop (longest_line + 1) input)
-  at_cut_book : (n : ℕ) (s : Standing) (input : List ℕ) → reading_of input ≡ cut_book
-      → Script (suc n) s input bad_line_bytes [] Ended s []
+  at_long_line : (n : ℕ) (input : List ℕ) → reading_of input ≡ long_line
+      → Script (suc n) input bad_line_bytes [] LongLine (drop (longest_line + 1) input)
+  at_cut_book : (n : ℕ) (input : List ℕ) → reading_of input ≡ cut_book
+      → Script (suc n) input bad_line_bytes [] Ended []
   -- the device failed, in this command or before
-  device_fault : (n : ℕ) (s mid : Standing) (input rest : List ℕ) (next : Answered)
-      → reading_of input ≡ whole_command next.command rest
-      → Answers s next.command next.answer mid → stays_open next.answer ≡ false
-      → Script (suc n) s input (answer_bytes next.answer) (next ∷ []) DeviceFault mid rest
+  device_fault : (n : ℕ) (input rest : List ℕ) (next : Answered)
+      → reading_of input ≡ whole_command next.command rest → stays_open next.answer ≡ false
+      → Script (suc n) input (answer_bytes next.answer) (next ∷ []) DeviceFault rest
   -- the reader failed in the next line or in its book: what was written is the replies before it
-  reader_fault : (n : ℕ) (s : Standing) (input : List ℕ)
-      → Script (suc n) s input [] [] ReaderFault s input
+  reader_fault : (n : ℕ) (input : List ℕ) → Script (suc n) input [] [] ReaderFault input
   -- the writer failed in a reply of this run: to a line that does not reach the store
-  writer_fault : (n : ℕ) (s : Standing) (input rest : List ℕ)
-      → Script (suc n) s input [] [] WriterFault s rest
+  writer_fault : (n : ℕ) (input rest : List ℕ) → Script (suc n) input [] [] WriterFault rest
   -- or to a command, which took place
-  writer_fault_after : (n : ℕ) (s mid : Standing) (input rest : List ℕ) (next : Answered)
+  writer_fault_after : (n : ℕ) (input rest : List ℕ) (next : Answered)
       → reading_of input ≡ whole_command next.command rest
-      → Answers s next.command next.answer mid
-      → Script (suc n) s input [] (next ∷ []) WriterFault mid rest
+      → Script (suc n) input [] (next ∷ []) WriterFault rest
   -- ONE LINE, AND THEN THE REST
-  after_blank_line : (n : ℕ) (s t : Standing) (input rest out unread : List ℕ)
-      (run : List Answered) (end : RunEnd) → reading_of input ≡ blank_line rest
-      → Script n s rest out run end t unread
-      → Script (suc n) s input out run end t unread
-  after_bad_line : (n : ℕ) (s t : Standing) (input rest out unread : List ℕ)
-      (run : List Answered) (end : RunEnd) → reading_of input ≡ bad_line rest
-      → Script n s rest out run end t unread
-      → Script (suc n) s input (bad_line_bytes ++ out) run end t unread
-  after_long_book : (n : ℕ) (s t : Standing) (input rest out unread : List ℕ)
-      (run : List Answered) (end : RunEnd) → reading_of input ≡ long_book rest
-      → Script n s rest out run end t unread
-      → Script (suc n) s input (refusal_bytes BookTooLong ++ out) run end t unread
+  after_blank_line : (n : ℕ) (input rest out unread : List ℕ) (run : List Answered) (end : RunEnd)
+      → reading_of input ≡ blank_line rest → Script n rest out run end unread
+      → Script (suc n) input out run end unread
+  after_bad_line : (n : ℕ) (input rest out unread : List ℕ) (run : List Answered) (end : RunEnd)
+      → reading_of input ≡ bad_line rest → Script n rest out run end unread
+      → Script (suc n) input (bad_line_bytes ++ out) run end unread
+  after_long_book : (n : ℕ) (input rest out unread : List ℕ) (run : List Answered) (end : RunEnd)
+      → reading_of input ≡ long_book rest → Script n rest out run end unread
+      → Script (suc n) input (refusal_bytes BookTooLong ++ out) run end unread
   -- there is no memory for the text that the command holds: the command does not reach the store
-  after_no_room : (n : ℕ) (s t : Standing) (input rest out unread : List ℕ)
-      (run : List Answered) (end : RunEnd) (command : Command)
-      → reading_of input ≡ whole_command command rest → holds_text command ≡ true
-      → Script n s rest out run end t unread
-      → Script (suc n) s input (refusal_bytes OutOfMemory ++ out) run end t unread
-  after_answer : (n : ℕ) (s mid t : Standing) (input rest out unread : List ℕ) (next : Answered)
+  after_no_room : (n : ℕ) (input rest out unread : List ℕ) (run : List Answered) (end : RunEnd)
+      (command : Command) → reading_of input ≡ whole_command command rest
+      → holds_text command ≡ true → Script n rest out run end unread
+      → Script (suc n) input (refusal_bytes OutOfMemory ++ out) run end unread
+  after_answer : (n : ℕ) (input rest out unread : List ℕ) (next : Answered)
       (run : List Answered) (end : RunEnd) → reading_of input ≡ whole_command next.command rest
-      → Answers s next.command next.answer mid → stays_open next.answer ≡ true
-      → Script n mid rest out run end t unread
-      → Script (suc n) s input (answer_bytes next.answer ++ out) (next ∷ run) end t unread
+      → stays_open next.answer ≡ true → Script n rest out run end unread
+      → Script (suc n) input (answer_bytes next.answer ++ out) (next ∷ run) end unread

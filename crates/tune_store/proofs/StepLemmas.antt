@@ -21,7 +21,7 @@ use Rattle.tune_store.specs.Questions.{shown}
 use Rattle.tune_store.specs.Step.{step}
 use Rattle.tune_store.specs.Answers.{Answers, open_at, stepped, no_memory, failed_before, failed_after, is_closed, passed}
 use Rattle.tune_store.specs.Answers.{stays_open, IsRefusalOf, IsRefusalOfAny, IsRefusalOfOwn}
-use Rattle.tune_store.specs.StoreStops.{Among, Passes, tellings}
+use Rattle.tune_store.specs.StoreStops.{Among, Passes}
 use Rattle.tune_store.specs.Inside.Plans.{IsOwnOrMemory}
 use Rattle.tune_store.specs.declared.tune.Tune.{Tune}
 use Rattle.tune_store.specs.Limits.{longest_text, most_tunes, greatest_number, greatest_revision}
@@ -481,12 +481,21 @@ never_fails old new command answer answers failed =
 pub passes_in_memory : (old new : State) (command : Command) (answer : Result Reply Refusal)
     → Answers (open_at old) command answer (open_at new) → IsState new
     → Passes {S = State}
-    (tellings (λ _. ⊤) IsState (λ state. state) (λ _. 0) (λ _ _ _. ⊥) (λ _ _. ⊥)) old new (passed old command answer)
+    (record {
+      honest = λ _. ⊤;
+      sound = IsState;
+      state = λ state. state;
+      moment = λ _. 0;
+      left_at = λ _ _ _. ⊥;
+      left_since = λ _ _ _. ⊥;
+      stands_for = λ _ _. ⊥;
+    }) old new (passed old command answer)
 passes_in_memory old new command answer answers is = record {
   reaches = λ honest. answers_reach _ _ _ _ answers;
   was_honest = λ honest. honest;
   stays_sound = λ sound. is;
   later = λ honest. omega arith;
   keeps = λ honest since file left. left;
+  recalls = λ honest at file early left. left;
   leaves = λ sound honest since file early left. absurd left;
 }

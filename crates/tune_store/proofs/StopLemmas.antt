@@ -49,6 +49,7 @@ module _ {S : Type 0} (s : Ghosts S) where
     stays_sound = λ h. h;
     later = λ h. omega arith;
     keeps = λ h since file left. left;
+    recalls = λ h at file early left. left;
     leaves = λ h k since file q left. inl left;
   }
 
@@ -90,6 +91,9 @@ module _ {S : Type 0} (s : Ghosts S) where
     stays_sound = λ sound. k.stays_sound (h.stays_sound sound);
     later = λ honest_now. let x = h.later (k.was_honest honest_now) in let y = k.later honest_now in omega arith;
     keeps = λ honest_now since file left. k.keeps honest_now since file (h.keeps (k.was_honest honest_now) since file left);
+    recalls = λ honest_now at file early left.
+        let x = h.later (k.was_honest honest_now) in
+        h.recalls (k.was_honest honest_now) at file early (k.recalls honest_now at file (omega arith) left);
     leaves = λ sound honest_now since file q left.
         let x = h.later (k.was_honest honest_now) in
         let later = k.leaves (h.stays_sound sound) honest_now since file (omega arith) left in

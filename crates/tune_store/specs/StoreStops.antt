@@ -19,26 +19,15 @@ HasFailed old new = (old < new) ⊎ (2 ^ 64 - 1 ≤ old)
 
 -- What is told of a store, by the members of its trait: whether its device has answered as a
 -- device does, and whether it is sound; its state; how far its device has come; which files a stop
--- may have left since a moment; and whether a file stands for a state.
+-- may have left at a moment, and since one; and whether a file stands for a state.
 pub record Tellings (S : Type 0) : Type 1 where
   pub honest : S → Type 0
   pub sound : S → Type 0
   pub state : S → State
   pub moment : S → ℕ
+  pub left_at : S → ℕ → List ℕ → Type 0
   pub left_since : S → ℕ → List ℕ → Type 0
   pub stands_for : List ℕ → State → Type 0
-
--- these members, as one value
-abbrev pub tellings : {S : Type 0} → (S → Type 0) → (S → Type 0) → (S → State) → (S → ℕ)
-    → (S → ℕ → List ℕ → Type 0) → (List ℕ → State → Type 0) → Tellings S
-tellings honest sound state moment left_since stands_for = record {
-  honest = honest;
-  sound = sound;
-  state = state;
-  moment = moment;
-  left_since = left_since;
-  stands_for = stands_for;
-}
 
 -- From `old` to `new` a store passed these states.
 pub record Passes {S : Type 0} (store : Tellings S) (old new : S) (states : List State)
@@ -52,6 +41,9 @@ pub record Passes {S : Type 0} (store : Tellings S) (old new : S) (states : List
   -- what a stop might have left by then, it might still have left: no past is taken back
   pub keeps : store.honest new → (since : ℕ) (file : List ℕ)
       → store.left_since old since file → store.left_since new since file
+  -- and at a moment that has come by then a stop leaves no other file later on
+  pub recalls : store.honest new → (at : ℕ) (file : List ℕ) → at ≤ store.moment old
+      → store.left_at new at file → store.left_at old at file
   -- beside that it may have left files that stand for one of them, or for the state before, alone
   pub leaves : store.sound old → store.honest new → (since : ℕ) (file : List ℕ)
       → since ≤ store.moment old → store.left_since new since file

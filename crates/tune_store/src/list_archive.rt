@@ -173,6 +173,8 @@ impl TuneStore for ListArchive {
 
     ghost within = { λ archive sound honest. sound };
 
+    ghost since_at = { λ archive at since file le left. left };
+
     ghost since_earlier = { λ archive since earlier file le left. left };
 
     /// It is never closed, and a refusal changes nothing. Commands that take no memory

@@ -5,7 +5,7 @@ ghost use Rattle.tune_store.specs.State.{State, IsState, standing_by};
 ghost use Rattle.tune_store.specs.Step.{step};
 ghost use Rattle.tune_store.specs.Answers.{Answers, IsRefusalOf, passed, stays_open, may_write};
 ghost use Rattle.tune_store.specs.Revisions.{RaisesReplaced};
-ghost use Rattle.tune_store.specs.StoreStops.{Passes, HasFailed, tellings};
+ghost use Rattle.tune_store.specs.StoreStops.{Passes, HasFailed};
 
 use crate::command::{Command, Refusal, Reply};
 
@@ -36,6 +36,9 @@ pub trait TuneStore {
     /// device gives one that each write and each sync raises, unless it failed and did nothing.
     ghost moment: { Self → ℕ } = { λ _. 0 };
 
+    /// Whether a stop at that moment may have left this file.
+    ghost left_at: { Self → ℕ → List ℕ → Type 0 } = { λ _ _ _. ⊥ };
+
     /// Whether a stop at that moment, or since then, may have left this file.
     ghost left_since: { Self → ℕ → List ℕ → Type 0 } = { λ _ _ _. ⊥ };
 
@@ -62,7 +65,16 @@ pub trait TuneStore {
         ensures closes { closed self.new ≡ not (stays_open result) }
         ensures when_closed { IsErrOf result Refusal.Closed ↔ (closed self.old ≡ true) }
         ensures idle { closed self.old ≡ true → self.new ≡ self.old }
-        ensures stops { Passes (tellings honest sound state moment left_since stands_for)
+        ensures stops { Passes
+            (record {
+              honest = honest;
+              sound = sound;
+              state = state;
+              moment = moment;
+              left_at = left_at;
+              left_since = left_since;
+              stands_for = stands_for;
+            })
             self.old self.new (passed (state self.old) command.now result) }
         ensures cause { honest self.new → IsErrOf result Refusal.Device
             → HasFailed (failures self.old) (failures self.new) }
@@ -78,6 +90,11 @@ pub trait TuneStore {
 
     /// What the store stands for is within the limits.
     ghost within: { (store : Self) → sound store → honest store → IsState (state store) };
+
+    /// What a stop may have left at a moment, it may have left since each one before it, and since
+    /// that one.
+    ghost since_at: { (store : Self) (at since : ℕ) (file : List ℕ) → since ≤ at
+        → left_at store at file → left_since store since file };
 
     /// What a stop may have left since a moment, it may have left since an earlier one: nothing
     /// that a stop leaves later, after a fault too, is let go.

@@ -2,7 +2,6 @@
 use Rattle.std.specs.Prelude.{◌≡◌, ℕ, suc, List, ◌++◌, ◌⊎◌, Option, None, Some, IfSome}
 use Rattle.std.specs.Prelude.{Result, if◌then◌else◌}
 use Rattle.std.specs.Io.KnownBytes.{Appends}
-use Rattle.tune_store.specs.State.{Standing}
 use Rattle.tune_store.specs.Answers.{stays_open}
 use Rattle.tune_store.specs.Runs.{Answered}
 use Rattle.tune_store.specs.declared.command.Command.{Command}
@@ -38,9 +37,9 @@ pub record GoesOn (lines more : ℕ) (input : List ℕ) (left : Option (List ℕ
   pub out : List ℕ
   pub leaves : left ≡ Some rest
   pub written : Appends work.was work.now out
-  pub onward : (tail unread : List ℕ) (later : List Answered) (end : RunEnd) (last : Standing)
-      → Script more work.after rest tail later end last unread
-      → Script lines work.before input (out ++ tail) (work.run ++ later) end last unread
+  pub onward : (tail unread : List ℕ) (later : List Answered) (end : RunEnd)
+      → Script more rest tail later end unread
+      → Script lines input (out ++ tail) (work.run ++ later) end unread
 
 -- a turn: the run goes on with a line less, or ends here
 abbrev pub TurnOf : List ℕ → Option (List ℕ) → RunWork → Option RunEnd → Type 0
@@ -69,7 +68,7 @@ pub record TurnsOver {S : Type 0} (kept : store.Ghosts S) (output : OutputBytes)
   pub carried : List (Carried S)
   pub carries_out : CarriesOut kept old carried new
   pub goes : GoesBy result (run_of carried)
-  pub tells : Tells (work_by kept output.was output.now old carried new)
+  pub tells : Tells (work_by output.was output.now (run_of carried))
 
 -- the writer failed, or these bytes were written and the run goes on so
 abbrev pub WritesOut : Option (List ℕ) → Option (List ℕ) → List ℕ → Option RunEnd → Option RunEnd

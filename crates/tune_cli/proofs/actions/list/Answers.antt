@@ -3,12 +3,9 @@ use Rattle.tune_store.specs.State.{State}
 use Rattle.tune_store.specs.Answers.{open_at}
 use Rattle.tune_store.specs.Runs.{Runs}
 use Rattle.tune_scripts.specs.Carried.{run_of}
-use Rattle.tune_scripts.specs.Limits.{most_lines}
-use Rattle.tune_scripts.specs.ScriptRuns.{TellsScript}
 use Rattle.tune_scripts.specs.Looks.{LooksPromptly}
 use Rattle.tune_scripts.specs.Streams.{streams_in}
 use Rattle.tune_scripts.proofs.CarriedLemmas.{runs_carried, acknowledged_open, ends_otherwise}
-use Rattle.tune_cli.specs.Acts.{work_in_memory}
 use Rattle.tune_cli.proofs.actions.list.Goals as goal
 
 pub returns : goal.returns
@@ -19,8 +16,6 @@ returns g c =
     let ran = c.run-end.ensures in
     let runs = ran.runs tt in
     let run = run_of runs.carried in
-    let Output : State → Type 0 = λ start. TellsScript most_lines streams.input.was.left streams.input.now.left
-    (record (work_in_memory streams.output run archive) { before = open_at start }) end in
     let From : State → Type 0 = λ start. Runs (open_at start) run (open_at archive) in
     let Prompt : State → Type 0 = λ start. LooksPromptly (open_at start) streams in
     let empty = c.new-archive.ensures.empty in
@@ -31,7 +26,7 @@ returns g c =
       ends = c.status.ensures;
       carries_out = subst From empty (runs_carried _ runs.carried _ _ runs.carries_out);
       no_fault = ends_otherwise end run runs.ends (acknowledged_open _ (λ store. refl) runs.carried _ _ runs.carries_out);
-      output = subst Output empty runs.script;
+      output = runs.script;
       faults = ran.faults;
       prompt = λ flushed. subst Prompt empty (ran.prompt tt flushed);
       looks = ran.looks;

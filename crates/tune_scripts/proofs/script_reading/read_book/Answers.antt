@@ -1,6 +1,6 @@
 use Rattle.std.proofs.Common.{◌++◌, arith, ◌∙◌, ap}
 use Rattle.std.proofs.lemmas.List.{length-append}
-use Rattle.tune_scripts.proofs.LookLemmas.{look_more, looks_none}
+use Rattle.tune_scripts.proofs.LookLemmas.{look_more}
 use Rattle.tune_scripts.proofs.ReadLemmas.{consumes_more}
 use Rattle.tune_scripts.proofs.script_reading.read_book.Goals as goal
 

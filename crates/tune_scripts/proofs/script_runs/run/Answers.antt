@@ -1,6 +1,7 @@
 use Rattle.std.proofs.Common.{◌≡◌, ◌+◌, ◌-◌, ◌∙◌, suc, ap, refl, arith, Some, None}
 use Rattle.tune_scripts.specs.Limits.{most_lines}
-use Rattle.tune_scripts.proofs.CarriedLemmas.{left_by, ends_by_last}
+use Rattle.tune_scripts.proofs.CarriedLemmas.{ends_by_last}
+use Rattle.tune_scripts.proofs.CourseLemmas.{left_by_run}
 use Rattle.tune_scripts.proofs.LookLemmas.{faults_none, faults_then, flushed_more, flushed_none}
 use Rattle.tune_scripts.proofs.RunLemmas.{so_far_start, so_far_more, so_far_end, so_far_all, prompt_none, prompt_more}
 use Rattle.tune_scripts.proofs.script_runs.run.Goals as goal
@@ -91,7 +92,7 @@ returns-in-Some-clause-runs g c = λ honest.
     c.args.store.now c.loop-lines.store c.turn.new.store c.in-Some.end
     (g.C.Console.input c.args.console.now).left (g.C.Console.input c.loop-lines.console).left
     (rw all at (c.loop-lines.invariant.so_far (turned.was_honest honest) (suc more))) (turned.turns honest)
-    (λ carried carries_out ends. left_by g.S.TuneStore g.met.S.TuneStore.settled carried c.args.store.now c.turn.new.store
+    (λ carried carries_out ends. left_by_run g.S.TuneStore g.met.S.TuneStore.settled g.met.S.TuneStore.since_at carried c.args.store.now c.turn.new.store
     carries_out (ends_by_last c.in-Some.end _ ends) honest (g.met.S.TuneStore.since_earlier c.turn.new.store)) in
     record { carried = ran.carried; carries_out = ran.carries_out; ends = ran.ends; script = ran.script; stops = ran.stops }
 
@@ -102,6 +103,6 @@ returns-clause-runs g c = λ honest.
     let ran = so_far_all g.S.TuneStore most_lines (g.C.Console.input c.args.console.now).left (g.C.Console.input c.loop-lines.console).left
     (g.C.Console.output c.args.console.now).bytes (g.C.Console.output c.loop-lines.console).bytes c.args.store.now c.loop-lines.store
     (rw all at (c.loop-lines.invariant.so_far honest 0))
-    (λ carried carries_out ends. left_by g.S.TuneStore g.met.S.TuneStore.settled carried c.args.store.now c.loop-lines.store
+    (λ carried carries_out ends. left_by_run g.S.TuneStore g.met.S.TuneStore.settled g.met.S.TuneStore.since_at carried c.args.store.now c.loop-lines.store
     carries_out (ends_by_last _ _ ends) honest (g.met.S.TuneStore.since_earlier c.loop-lines.store)) in
     record { carried = ran.carried; carries_out = ran.carries_out; ends = ran.ends; script = ran.script; stops = ran.stops }

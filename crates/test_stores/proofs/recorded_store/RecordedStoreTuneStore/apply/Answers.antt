@@ -25,6 +25,7 @@ returns-clause-stops c =
       stays_sound = goes.stays_sound;
       later = λ honest. goes.is_later;
       keeps = λ honest. goes.keeps;
+      recalls = λ honest at file early left. left;
       leaves = λ sound honest since file early left. goes.leaves since file left;
     }
 

@@ -1,0 +1,141 @@
+-- THE HEADLINE: what the program does for its words, over what a disk is, what is read and what is
+-- written. FILE holds a state. Each file that a stop (a crash or power loss) leaves, at any moment
+-- since the program asked for FILE, holds the state after the first so many commands: all that were
+-- answered by then, and the next one or not. Each answer is that of `step`, or memory or the device
+-- failed, and a refused command changes nothing. What is written is the answers.
+use Rattle.std.specs.Prelude.{◌≡◌, ◌⊎◌, ℕ, ◌<◌, ◌≤◌, List, [], ◌∷◌, codes, string_bytes, map}
+use Rattle.std.specs.Prelude.{⊤, Err}
+use Rattle.tune_disk.specs.Deeds.{opened, created}
+use Rattle.tune_disk.specs.Disk.{DiskState, MayLeave}
+use Rattle.tune_disk.specs.Stops.{LeavesOnly}
+use Rattle.tune_disk.specs.declared.disk.Disk as disk
+use Rattle.tune_journal.specs.declared.open_fault.OpenFault.{OpenFault}
+use Rattle.tune_journal.specs.declared.open_fault.OpenFault.TheVariants as fault
+use Rattle.tune_store.specs.State.{State, empty_of, empty_state}
+use Rattle.tune_store.specs.Step.{step}
+use Rattle.tune_store.specs.declared.layout.Layout.TheVariants.{Two}
+use Rattle.tune_store.specs.declared.command.Command.TheVariants.{Upgrade}
+use Rattle.tune_store.specs.declared.command.Refusal.TheVariants.{OutOfMemory, Device}
+use Rattle.tune_format.specs.States.{StandsForState}
+use Rattle.tune_archive.specs.Media.{moment_of, LeftAt}
+use Rattle.tune_scripts.specs.Courses.{Timed, Course, RisesTo, StandsForFirst, answered_of}
+use Rattle.tune_scripts.specs.Limits.{most_lines}
+use Rattle.tune_scripts.specs.Prefixes.{state_by}
+use Rattle.tune_scripts.specs.Replies.{answer_bytes}
+use Rattle.tune_scripts.specs.ScriptRuns.{TellsScript}
+use Rattle.tune_scripts.specs.Streams.{Streams}
+use Rattle.tune_scripts.specs.declared.script_runs.RunEnd.{RunEnd}
+use Rattle.tune_cli.specs.Acts.{Deeds, OnFile}
+use Rattle.tune_cli.specs.ProgramLines.{WritesLine, reason_bytes, status_of, status_of_opening}
+use Rattle.tune_cli.specs.ProgramLines.{counts_bytes, status_of_answer}
+use Rattle.tune_cli.specs.declared.command_line.Action.{Action}
+use Rattle.tune_cli.specs.declared.command_line.Action.TheVariants as action
+use Rattle.tune_cli.specs.declared.file_actions.Done.{Done}
+
+-- COMMANDS AND ANSWERS
+-- the answer is that of the plain list, or there was no memory
+abbrev pub IsByRules : State → Timed → Type 0
+IsByRules state next =
+    (next.answer ≡ (step state next.command).1) ⊎ (next.answer ≡ Err OutOfMemory)
+
+-- Each command was answered by the rules, on the state that those before it left, and a refused one
+-- left it as it was; or the device failed in it, and it was the last.
+abbrev pub AreAnswered : State → List Timed → Type 0
+AreAnswered state [] = ⊤
+AreAnswered state (next ∷ run) =
+    (IsByRules state next × AreAnswered (state_by state next.command next.answer) run)
+    ⊎ ((next.answer ≡ Err Device) × (run ≡ []))
+
+-- Which commands there were, what was written, and the status. A script asks for its commands, and
+-- what is written is their answers. `check` asks for none, and tells how much FILE holds; `upgrade`
+-- asks for one.
+abbrev pub Says : Action → Streams → Course → ℕ → Type 0
+Says (action.Check file) streams course status =
+    (course.run ≡ []) × WritesLine streams (counts_bytes course.start) 0 status
+Says (action.Upgrade file) streams course status =
+    (next : Timed) × (course.run ≡ next ∷ []) × (next.command ≡ Upgrade)
+    × WritesLine streams (answer_bytes next.answer) (status_of_answer next.answer) status
+Says script streams course status =
+    (end : RunEnd) × TellsScript most_lines streams (map answered_of course.run) end
+    × (status ≡ status_of end)
+
+-- FILE, AND WHAT STOPS LEAVE OF IT
+-- FILE on its disk, before an action and after it.
+pub record File : Type 0 where
+  pub was : DiskState
+  pub now : DiskState
+
+-- A stop at any moment since the action began leaves files of this kind alone.
+abbrev pub EachStopLeaves : File → (ℕ → List ℕ → Type 0) → Type 0
+EachStopLeaves file Kind = (moment : ℕ) (left : List ℕ) → moment_of file.was ≤ moment
+    → LeftAt file.now moment left → Kind moment left
+
+-- FILE held the state with which a course of commands starts. Each file that a stop leaves holds
+-- the state after those that were answered by then, and the next one or not; while FILE was still
+-- being opened it may also be one that a stop might have left before.
+pub record Keeps (file : File) (course : Course) : Type 0 where
+  pub held : StandsForState file.was.seen course.start
+  pub opened : moment_of file.was ≤ course.began
+  pub rises : RisesTo course.began course.run (moment_of file.now)
+  pub answered : AreAnswered course.start course.run
+  pub stops : EachStopLeaves file (λ moment left. StandsForFirst StandsForState course moment left
+      ⊎ ((moment < course.began) × MayLeave file.was.now left))
+
+-- WHAT COMES OF AN ACTION ON FILE
+-- It was opened, and so it was done.
+pub record HasDone (given : Action) (streams : Streams) (file : File) (status : ℕ) : Type 0 where
+  pub course : Course
+  pub keeps : Keeps file course
+  pub says : Says given streams course status
+
+-- It was not, and why. A file that holds a state is refused for want of memory, or because the
+-- device failed; and a stop leaves a file that it might have left before, or one that holds the
+-- state.
+pub record HasRefused (streams : Streams) (file : File) (status : ℕ) : Type 0 where
+  pub why : OpenFault
+  pub line : WritesLine streams (reason_bytes why) (status_of_opening why) status
+  pub cause : (state : State) → StandsForState file.was.seen state
+      → (why ≡ fault.OutOfMemory) ⊎ (why ≡ fault.Device)
+  pub stops : EachStopLeaves file (λ moment left. MayLeave file.was.now left
+      ⊎ ((state : State) → StandsForState file.was.seen state → StandsForState left state))
+
+-- An empty archive was made, of a file without a byte.
+pub record HasMade (streams : Streams) (file : File) (status : ℕ) : Type 0 where
+  pub line : WritesLine streams (codes "made\n") 0 status
+  pub empty : file.was.seen ≡ []
+  pub holds : LeavesOnly file.now.now (λ left. StandsForState left (empty_of Two))
+
+-- It was not, and why.
+pub record HasNotMade (streams : Streams) (file : File) (status : ℕ) : Type 0 where
+  pub why : OpenFault
+  pub line : WritesLine streams (reason_bytes why) (status_of_opening why) status
+  pub unwritten : why ≡ fault.NotEmpty → file.now.seen ≡ file.was.seen
+
+-- Where FILE was empty, a stop leaves a file that holds nothing, or the empty state.
+abbrev pub Makes : Streams → File → ℕ → Type 0
+Makes streams file status = (HasMade streams file status ⊎ HasNotMade streams file status)
+    × (LeavesOnly file.was.now (λ left. left ≡ []) → EachStopLeaves file
+    (λ moment left. (state : State) → StandsForState left state → state ≡ empty_of Two))
+
+-- what an action does with FILE
+abbrev pub Does : Action → Streams → File → ℕ → Type 0
+Does (action.Make file) streams made status = Makes streams made status
+Does given streams file status =
+    HasDone given streams file status ⊎ HasRefused streams file status
+
+-- by what disks of a kind tell, where the disk that came of it is honest
+abbrev pub DoesOn : {D : Type 0} → disk.Ghosts D → Action → Streams → D → Done D → Type 0
+DoesOn disks given streams old done = disks.honest done.disk
+    → Does given streams (record { was = disks.state old; now = disks.state done.disk }) done.status
+
+-- THE PROGRAM
+-- What the program does for an action: of a script in memory it is the answers; else it asks a
+-- drive for FILE, and for no other file.
+abbrev pub Headline : {D : Type 0} → disk.Ghosts D → Action → Streams → Deeds D → ℕ → Type 0
+Headline disks action.List streams deeds status = (course : Course)
+    × (course.start ≡ empty_state) × AreAnswered empty_state course.run
+    × Says action.List streams course status × (deeds.now ≡ deeds.was)
+Headline disks (action.Make file) streams deeds status = OnFile created (string_bytes file)
+    (DoesOn disks (action.Make file) streams) streams deeds status
+Headline disks given streams deeds status = OnFile opened (string_bytes (path_of given))
+    (DoesOn disks given streams) streams deeds status
