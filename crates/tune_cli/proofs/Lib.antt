@@ -4,3 +4,4 @@ pub mod FileGiven
 pub mod ParseLemmas
 pub mod DriveLemmas
 pub mod FileStates
+pub mod HeadlineLemmas

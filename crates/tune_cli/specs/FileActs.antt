@@ -1,6 +1,6 @@
 -- What the program does with an archive in a file, over any disk: by what such disks tell, what was
 -- written, the disk before it (`old`), and the disk after it with the status (`done`).
-use Rattle.std.specs.Prelude.{◌≡◌, ◌≢◌, ◌⊎◌, ℕ, List, [], ◌∷◌, codes, true, Some, Result}
+use Rattle.std.specs.Prelude.{◌≡◌, ◌≢◌, ◌⊎◌, ℕ, List, [], ◌∷◌, codes, true, false, Some, Result}
 use Rattle.tune_disk.specs.Disk.{DiskState}
 use Rattle.tune_disk.specs.Stops.{LeavesOnly, SinceThen}
 use Rattle.tune_disk.specs.declared.disk.Disk as disk
@@ -123,6 +123,7 @@ pub record RanScript {D : Type 0} (disks : disk.Ghosts D) (streams : Streams) (o
   pub opened : StandsForState (disks.state old).seen (state_of disks.state before)
   pub opening : SinceThen (disks.state old) (state_at disks.state before.pages.disk)
       (LeftOrSame (disks.state old))
+  pub is_open : before.closed ≡ false
   -- then one list of commands was carried out, of which everything is said
   pub runs : RunsScript (store_on disks) most_lines streams before after end
   -- whenever the input was looked at, the lines that were taken whole had been answered
@@ -168,10 +169,13 @@ pub record Upgraded {D : Type 0} (disks : disk.Ghosts D) (streams : Streams) (ol
   pub opened : StandsForState (disks.state old).seen (state_of disks.state before)
   pub opening : SinceThen (disks.state old) (state_at disks.state before.pages.disk)
       (LeftOrSame (disks.state old))
+  pub is_open : before.closed ≡ false
   -- then that one command was carried out, and its answer written
   pub carries_out : IsCarried (store_on disks) before carried
   pub line : WritesLine streams (answer_bytes carried.answer)
       (status_of_answer carried.answer) status
+  -- a stop since then leaves the state before it or after it, and the one after it once answered
+  pub stops : LeftByRun (store_on disks) before (carried ∷ []) carried.after
   -- where each file that a stop may leave at the start stands for one state, a stop at any moment,
   -- while the archive was opened too, leaves that state, or the one after the command
   pub since_start : (start : State)

@@ -4,7 +4,7 @@
 -- answered by then, and the next one or not. Each answer is that of `step`, or memory or the device
 -- failed, and a refused command changes nothing. What is written is the answers.
 use Rattle.std.specs.Prelude.{◌≡◌, ◌⊎◌, ℕ, ◌<◌, ◌≤◌, List, [], ◌∷◌, codes, string_bytes, map}
-use Rattle.std.specs.Prelude.{⊤, Err}
+use Rattle.std.specs.Prelude.{Some}
 use Rattle.tune_disk.specs.Deeds.{opened, created}
 use Rattle.tune_disk.specs.Disk.{DiskState, MayLeave}
 use Rattle.tune_disk.specs.Stops.{LeavesOnly}
@@ -12,17 +12,16 @@ use Rattle.tune_disk.specs.declared.disk.Disk as disk
 use Rattle.tune_journal.specs.declared.open_fault.OpenFault.{OpenFault}
 use Rattle.tune_journal.specs.declared.open_fault.OpenFault.TheVariants as fault
 use Rattle.tune_store.specs.State.{State, empty_of, empty_state}
-use Rattle.tune_store.specs.Step.{step}
 use Rattle.tune_store.specs.declared.layout.Layout.TheVariants.{Two}
 use Rattle.tune_store.specs.declared.command.Command.TheVariants.{Upgrade}
-use Rattle.tune_store.specs.declared.command.Refusal.TheVariants.{OutOfMemory, Device}
 use Rattle.tune_format.specs.States.{StandsForState}
 use Rattle.tune_archive.specs.Media.{moment_of, LeftAt}
-use Rattle.tune_scripts.specs.Courses.{Timed, Course, RisesTo, StandsForFirst, answered_of}
+use Rattle.tune_scripts.specs.Courses.{Timed, Course, RisesTo, AreAnswered, StandsForFirst}
+use Rattle.tune_scripts.specs.Courses.{answered_of}
+use Rattle.tune_scripts.specs.Looks.{TellsFaults}
 use Rattle.tune_scripts.specs.Limits.{most_lines}
-use Rattle.tune_scripts.specs.Prefixes.{state_by}
 use Rattle.tune_scripts.specs.Replies.{answer_bytes}
-use Rattle.tune_scripts.specs.ScriptRuns.{TellsScript}
+use Rattle.tune_scripts.specs.ScriptRuns.{TellsScript, work_by}
 use Rattle.tune_scripts.specs.Streams.{Streams}
 use Rattle.tune_scripts.specs.declared.script_runs.RunEnd.{RunEnd}
 use Rattle.tune_cli.specs.Acts.{Deeds, OnFile}
@@ -33,22 +32,9 @@ use Rattle.tune_cli.specs.declared.command_line.Action.TheVariants as action
 use Rattle.tune_cli.specs.declared.file_actions.Done.{Done}
 
 -- COMMANDS AND ANSWERS
--- the answer is that of the plain list, or there was no memory
-abbrev pub IsByRules : State → Timed → Type 0
-IsByRules state next =
-    (next.answer ≡ (step state next.command).1) ⊎ (next.answer ≡ Err OutOfMemory)
-
--- Each command was answered by the rules, on the state that those before it left, and a refused one
--- left it as it was; or the device failed in it, and it was the last.
-abbrev pub AreAnswered : State → List Timed → Type 0
-AreAnswered state [] = ⊤
-AreAnswered state (next ∷ run) =
-    (IsByRules state next × AreAnswered (state_by state next.command next.answer) run)
-    ⊎ ((next.answer ≡ Err Device) × (run ≡ []))
-
 -- Which commands there were, what was written, and the status. A script asks for its commands, and
--- what is written is their answers. `check` asks for none, and tells how much FILE holds; `upgrade`
--- asks for one.
+-- what is written is their answers, up to a fault of the reader or the writer. `check` asks for no
+-- command, and tells how much FILE holds; `upgrade` asks for one.
 abbrev pub Says : Action → Streams → Course → ℕ → Type 0
 Says (action.Check file) streams course status =
     (course.run ≡ []) × WritesLine streams (counts_bytes course.start) 0 status
@@ -56,8 +42,9 @@ Says (action.Upgrade file) streams course status =
     (next : Timed) × (course.run ≡ next ∷ []) × (next.command ≡ Upgrade)
     × WritesLine streams (answer_bytes next.answer) (status_of_answer next.answer) status
 Says script streams course status =
-    (end : RunEnd) × TellsScript most_lines streams (map answered_of course.run) end
-    × (status ≡ status_of end)
+    (end : RunEnd) × (status ≡ status_of end) × TellsFaults streams (Some end)
+    × TellsScript most_lines streams.input.was.left streams.input.now.left
+    (work_by streams.output.was.bytes streams.output.now.bytes (map answered_of course.run)) end
 
 -- FILE, AND WHAT STOPS LEAVE OF IT
 -- FILE on its disk, before an action and after it.
@@ -90,12 +77,13 @@ pub record HasDone (given : Action) (streams : Streams) (file : File) (status : 
 
 -- It was not, and why. A file that holds a state is refused for want of memory, or because the
 -- device failed; and a stop leaves a file that it might have left before, or one that holds the
--- state.
+-- state. A file that is no archive has the same bytes as before.
 pub record HasRefused (streams : Streams) (file : File) (status : ℕ) : Type 0 where
   pub why : OpenFault
   pub line : WritesLine streams (reason_bytes why) (status_of_opening why) status
   pub cause : (state : State) → StandsForState file.was.seen state
       → (why ≡ fault.OutOfMemory) ⊎ (why ≡ fault.Device)
+  pub unwritten : why ≡ fault.NotArchive → file.now.seen ≡ file.was.seen
   pub stops : EachStopLeaves file (λ moment left. MayLeave file.was.now left
       ⊎ ((state : State) → StandsForState file.was.seen state → StandsForState left state))
 
@@ -129,13 +117,23 @@ DoesOn disks given streams old done = disks.honest done.disk
     → Does given streams (record { was = disks.state old; now = disks.state done.disk }) done.status
 
 -- THE PROGRAM
--- What the program does for an action: of a script in memory it is the answers; else it asks a
--- drive for FILE, and for no other file.
+-- A script was run in memory, from the empty state.
+pub record RunsInMemory (streams : Streams) (status : ℕ) : Type 0 where
+  pub course : Course
+  pub starts : course.start ≡ empty_state
+  pub answered : AreAnswered empty_state course.run
+  pub says : Says action.List streams course status
+
+-- What the program does for an action: of a script in memory there are the answers alone; else it
+-- asks a drive for FILE, and for no other file.
 abbrev pub Headline : {D : Type 0} → disk.Ghosts D → Action → Streams → Deeds D → ℕ → Type 0
-Headline disks action.List streams deeds status = (course : Course)
-    × (course.start ≡ empty_state) × AreAnswered empty_state course.run
-    × Says action.List streams course status × (deeds.now ≡ deeds.was)
+Headline disks action.List streams deeds status =
+    RunsInMemory streams status × (deeds.now ≡ deeds.was)
 Headline disks (action.Make file) streams deeds status = OnFile created (string_bytes file)
     (DoesOn disks (action.Make file) streams) streams deeds status
-Headline disks given streams deeds status = OnFile opened (string_bytes (path_of given))
-    (DoesOn disks given streams) streams deeds status
+Headline disks (action.Run file) streams deeds status = OnFile opened (string_bytes file)
+    (DoesOn disks (action.Run file) streams) streams deeds status
+Headline disks (action.Check file) streams deeds status = OnFile opened (string_bytes file)
+    (DoesOn disks (action.Check file) streams) streams deeds status
+Headline disks (action.Upgrade file) streams deeds status = OnFile opened (string_bytes file)
+    (DoesOn disks (action.Upgrade file) streams) streams deeds status

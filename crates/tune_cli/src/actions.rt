@@ -2,6 +2,7 @@
 ghost use Rattle.std.specs.Prelude.{◌≡◌, [], Some, IfOk, IfErr, IfSome, map, string_bytes};
 ghost use Rattle.tune_scripts.specs.Streams.{streams_in};
 ghost use Rattle.tune_cli.specs.Acts.{Acts, ListsScript, deeds_in};
+ghost use Rattle.tune_cli.specs.Headline.{Headline, RunsInMemory};
 ghost use Rattle.tune_cli.specs.CommandLine.{subcommand_in, name_of, file_in, file_of};
 ghost use Rattle.tune_cli.specs.CommandLine.{faults_in, FaultFits};
 ghost use Rattle.tune_cli.specs.ProgramLines.{status_of};
@@ -51,7 +52,9 @@ pub fn act<C: Console, D: Disk, T: AllocGlobal + Drive<Disk = D>>(
     action: &Action,
     console: &mut C,
 ) -> u8
-    ensures { Acts D.Disk action.now (streams_in C.Console console.old console.new)
+    ensures headline { Headline D.Disk action.now (streams_in C.Console console.old console.new)
+        (deeds_in T.Drive drive.old drive.new) result }
+    ensures acts { Acts D.Disk action.now (streams_in C.Console console.old console.new)
         (deeds_in T.Drive drive.old drive.new) result }
 {
     match action {
@@ -65,7 +68,8 @@ pub fn act<C: Console, D: Disk, T: AllocGlobal + Drive<Disk = D>>(
 
 // Runs the script of the console on an empty archive in memory.
 fn list<C: Console>(alloc: Global, console: &mut C) -> u8
-    ensures { ListsScript (streams_in C.Console console.old console.new) result }
+    ensures headline { RunsInMemory (streams_in C.Console console.old console.new) result }
+    ensures lists { ListsScript (streams_in C.Console console.old console.new) result }
 {
     let mut archive = ListArchive::new(alloc);
     let end = run(alloc, console, &mut archive);

@@ -1,7 +1,7 @@
 -- What a store that carries out commands lets a stop leave, moment by moment.
-use Rattle.std.proofs.Common.{◌≡◌, ℕ, suc, ◌+◌, ◌≤◌, ◌<◌, Bool, true, false, ◌&&◌, List, [], ◌∷◌, ◌++◌, ◌⊎◌, map, take, refl}
+use Rattle.std.proofs.Common.{◌≡◌, ℕ, suc, ◌≤◌, ◌<◌, Bool, true, false, ◌&&◌, List, [], ◌∷◌, ◌++◌, ◌⊎◌, map, take, refl}
 use Rattle.std.proofs.Common.{sym, ap, ◌∙◌, subst, inl, inr, arith}
-use Rattle.std.specs.Prelude.{nat_le, if◌then◌else◌}
+use Rattle.std.specs.Prelude.{if◌then◌else◌}
 use Rattle.std.proofs.lemmas.Bool.Decides.{leb_tells}
 use Rattle.std.specs.Prelude.{Result, Err}
 use Rattle.tune_store.specs.State.{State, Standing}
@@ -12,14 +12,13 @@ use Rattle.tune_store.specs.declared.command.Reply.{Reply}
 use Rattle.tune_store.specs.declared.command.Refusal.{Refusal}
 use Rattle.tune_store.specs.declared.command.Refusal.TheVariants.{Device}
 use Rattle.tune_store.specs.Runs.{Answered}
-use Rattle.tune_store.specs.StoreStops.{StandsForOne}
 use Rattle.tune_store.specs.Stores.{standing_of}
 use Rattle.tune_store.specs.declared.tune_store.TuneStore.{Ghosts}
 use Rattle.tune_scripts.specs.Carried.{Carried, IsCarried, CarriesOut, LeftByRun, run_of, timed_of, course_of}
-use Rattle.tune_scripts.specs.Courses.{Timed, Course, StandsForFirst, IsAnsweredAt, IsByRules, AreAnswered, RisesTo}
+use Rattle.tune_scripts.specs.Courses.{Timed, StandsForFirst, IsAnsweredAt, IsByRules, AreAnswered, RisesTo}
 use Rattle.tune_scripts.specs.Courses.{is_answered_by, answered_by, answered_of}
 use Rattle.tune_scripts.specs.Prefixes.{FailsLast, never_fails, fails_last, state_by, state_after, AreAcknowledged}
-use Rattle.tune_scripts.proofs.CarriedLemmas.{honest_before, moments_rise, passes_all, state_told, open_still, device_answer, stands_passed, left_by}
+use Rattle.tune_scripts.proofs.CarriedLemmas.{honest_before, passes_all, state_told, open_still, device_answer, stands_passed, left_by}
 
 -- ANSWERS BEFORE THE LAST
 -- behind an answer that lets the run go on
@@ -71,16 +70,8 @@ no_answer at next shut = elim (leb_tells next.moment at) [
   | inr ahead ↦ ap (λ b. b && stays_open next.answer) ahead.0
 ]
 
--- MOMENT BY MOMENT
--- Of a store that is open and at rest a stop leaves its state, and what is left at a moment is left since it.
-module _ {S : Type 0} (s : Ghosts S) (settled : (store : S) (file : List ℕ) → s.sound store → s.honest store → s.closed store ≡ false
-    → s.left_since store (s.moment store) file → s.stands_for file (s.state store))
-    (since_at : (store : S) (at since : ℕ) (file : List ℕ) → since ≤ at → s.left_at store at file → s.left_since store since file) where
-  -- what a stop leaves at the moment of the store
-  rests : (store : S) (at : ℕ) (file : List ℕ) → s.sound store → s.honest store → s.closed store ≡ false → s.moment store ≤ at
-      → s.left_at store at file → s.stands_for file (s.state store)
-  rests store at file sound honest is_open here left = settled store file sound honest is_open (since_at store at (s.moment store) file here left)
-
+-- BEFORE THE FIRST
+module _ {S : Type 0} (s : Ghosts S) where
   -- no command is answered before the first begins
   pub none_before : (carried : List (Carried S)) (old new : S) (at : ℕ) → CarriesOut s old carried new → s.honest new → at < s.moment old
       → answered_by at (timed_of s carried) ≡ 0
@@ -101,6 +92,16 @@ module _ {S : Type 0} (s : Ghosts S) (settled : (store : S) (file : List ℕ) �
         | inl here ↦ (let same = here.0 in absurd (omega (arith, same, later)))
         | inr rest ↦ none_then carried next.after new at h.1 honest later rest
       ]
+
+-- MOMENT BY MOMENT
+-- Of a store that is open and at rest a stop leaves its state, and what is left at a moment is left since it.
+module _ {S : Type 0} (s : Ghosts S) (settled : (store : S) (file : List ℕ) → s.sound store → s.honest store → s.closed store ≡ false
+    → s.left_since store (s.moment store) file → s.stands_for file (s.state store))
+    (since_at : (store : S) (at since : ℕ) (file : List ℕ) → since ≤ at → s.left_at store at file → s.left_since store since file) where
+  -- what a stop leaves at the moment of the store
+  rests : (store : S) (at : ℕ) (file : List ℕ) → s.sound store → s.honest store → s.closed store ≡ false → s.moment store ≤ at
+      → s.left_at store at file → s.stands_for file (s.state store)
+  rests store at file sound honest is_open here left = settled store file sound honest is_open (since_at store at (s.moment store) file here left)
 
   -- while a command is in progress, or after one in which the device failed: its state or the one before it
   at_one : (next : Carried S) (run : List Timed) (old : S) (at : ℕ) (file : List ℕ) → IsCarried s old next → s.sound old → s.honest next.after
@@ -225,10 +226,10 @@ module _ {S : Type 0} (s : Ghosts S) (settled : (store : S) (file : List ℕ) �
             let early = ahead.1 in
             at_one next (timed_of s carried) old at file h.0 sound mid is_open late
             ((passes_all s carried next.after new h.1).recalls honest at file (omega arith) left)
-            (counts_none at next_timed (timed_of s carried) (not_yet at next_timed early) ∙ none_before carried next.after new at h.1 honest early)
+            (counts_none at next_timed (timed_of s carried) (not_yet at next_timed early) ∙ none_before s carried next.after new at h.1 honest early)
             (λ is. elim is [
               | inl here ↦ (let same = here.0 in omega (arith, same, early))
-              | inr there ↦ none_then carried next.after new at h.1 honest early there
+              | inr there ↦ none_then s carried next.after new at h.1 honest early there
             ])
       ]
 
@@ -291,6 +292,11 @@ module _ {S : Type 0} (s : Ghosts S) where
         ]
         | inr failed ↦ inr (failed, ap (timed_of s) (no_run carried (none_later answered (run_of carried) _ fails refl (shuts next.answer failed))))
       ]
+
+  -- without the moments they are the commands with their answers
+  pub answers_timed : (carried : List (Carried S)) → map answered_of (timed_of s carried) ≡ run_of carried
+  answers_timed [] = refl
+  answers_timed (next ∷ carried) = ap (λ run. record { command = next.command; answer = next.answer } ∷ run) (answers_timed carried)
 
   -- and the moments rise
   pub rises_run : (carried : List (Carried S)) (old new : S) → CarriesOut s old carried new → s.honest new

@@ -6,10 +6,19 @@ use Rattle.tune_scripts.specs.Carried.{run_of}
 use Rattle.tune_scripts.specs.Looks.{LooksPromptly}
 use Rattle.tune_scripts.specs.Streams.{streams_in}
 use Rattle.tune_scripts.proofs.CarriedLemmas.{runs_carried, acknowledged_open, ends_otherwise}
+use Rattle.tune_cli.proofs.HeadlineLemmas.{runs_in_memory}
 use Rattle.tune_cli.proofs.actions.list.Goals as goal
 
-pub returns : goal.returns
-returns g c =
+pub returns-clause-headline : goal.returns-clause-headline
+returns-clause-headline g c =
+    let streams = streams_in g.C.Console c.args.console.now c.run-end.new.console in
+    let ran = c.run-end.ensures in
+    let runs = ran.runs tt in
+    runs_in_memory _ streams runs.carried _ _ c.run-end.result _ runs.carries_out runs.ends refl c.new-archive.ensures.empty c.status.ensures ran.faults
+    runs.script
+
+pub returns-clause-lists : goal.returns-clause-lists
+returns-clause-lists g c =
     let streams = streams_in g.C.Console c.args.console.now c.run-end.new.console in
     let end = c.run-end.result in
     let archive = c.run-end.new.store in

@@ -42,6 +42,7 @@ returns-in-Ok-clause-runs g c = inl (record {
         after = after;
         opened = shown;
         opening = c.in-Ok.ensures.leaves at_start;
+        is_open = c.in-Ok.ensures.is_open;
         runs = runs;
         prompt = c.run-end.ensures.prompt at_end;
         stops = runs.stops c.in-Ok.ensures.sound c.in-Ok.ensures.is_open;

@@ -10,7 +10,9 @@ use Rattle.tune_archive.proofs.DiskMoments.{left_of_kind, moment_rises}
 use Rattle.tune_scripts.specs.Carried.{Carried, IsCarried, run_of}
 use Rattle.tune_scripts.specs.Prefixes.{StandsForPrefix}
 use Rattle.tune_scripts.proofs.CarriedLemmas.{left_since_earlier}
+use Rattle.tune_scripts.proofs.CourseLemmas.{one_fails_last}
 use Rattle.tune_cli.proofs.FileStates.{one_of_same}
+use Rattle.tune_cli.proofs.HeadlineLemmas.{left_on}
 use Rattle.tune_cli.proofs.file_actions.upgrade_on.Goals as goal
 
 pub returns-in-Ok-clause-honest : goal.returns-in-Ok-clause-honest
@@ -40,8 +42,10 @@ returns-in-Ok-clause-upgrades g c = inl (record {
         asked = refl;
         opened = shown;
         opening = c.in-Ok.ensures.leaves at_start;
+        is_open = c.in-Ok.ensures.is_open;
         carries_out = carried;
         line = c.say_answer-status.ensures;
+        stops = left_on g.D.Disk (next ∷ []) before after (carried, refl) (one_fails_last _) at_end c.in-Ok.ensures.sound c.in-Ok.ensures.is_open;
         since_start = λ start leaves file left.
             let seen = leaves old.seen (g.met.D.Disk.seen_may_stay c.args.disk (c.in-Ok.ensures.honest at_start)) in
             let same = state_once old.seen _ start shown seen in
