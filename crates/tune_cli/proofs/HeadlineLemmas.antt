@@ -27,8 +27,8 @@ use Rattle.tune_archive.specs.Media.{moment_of, LeftAt, LeftFrom}
 use Rattle.tune_archive.specs.OpenedArchive.{IsUnopenedArchiveFor, StandsForNoneOrEmpty}
 use Rattle.tune_archive.specs.Shelf.{Shelf, state_of}
 use Rattle.tune_archive.proofs.DiskMoments.{left_of_kind, moment_rises}
-use Rattle.tune_scripts.specs.Carried.{Carried, CarriesOut, LeftByRun, run_of, timed_of, course_of}
-use Rattle.tune_scripts.specs.Courses.{Course, RisesTo, AreAnswered, StandsForFirst}
+use Rattle.tune_scripts.specs.Carried.{Carried, CarriesOut, LeftByRun, run_of, timed_of, timeline_of}
+use Rattle.tune_scripts.specs.Timelines.{Timeline, RisesTo, AreAnswered, StandsForFirst}
 use Rattle.tune_scripts.specs.Limits.{most_lines}
 use Rattle.tune_scripts.specs.Prefixes.{FailsLast}
 use Rattle.tune_scripts.specs.Looks.{TellsFaults}
@@ -36,13 +36,13 @@ use Rattle.tune_scripts.specs.ScriptRuns.{EndsAfter, TellsScript, work_by}
 use Rattle.tune_scripts.specs.declared.script_runs.RunEnd.{RunEnd}
 use Rattle.tune_scripts.specs.Streams.{Streams}
 use Rattle.tune_scripts.proofs.CarriedLemmas.{ends_by_last, passes_all}
-use Rattle.tune_scripts.proofs.CourseLemmas.{are_answered, answers_timed, rises_run, none_before, none_then, one_fails_last}
-use Rattle.tune_scripts.proofs.CourseLemmas.{left_by_run}
+use Rattle.tune_scripts.proofs.TimelineLemmas.{are_answered, answers_timed, rises_run, none_before, none_then, one_fails_last}
+use Rattle.tune_scripts.proofs.TimelineLemmas.{left_by_run}
 use Rattle.tune_cli.specs.Acts.{Deeds, OnFile}
 use Rattle.tune_cli.specs.FileActs.{Makes as MakesOn, Checks, RunsOn, Upgrades, HasNotOpened, HasChecked, HasRun, HasUpgraded}
-use Rattle.tune_cli.specs.FileActs.{HasMade as HasMadeOn, HasNotMade as HasNotMadeOn}
-use Rattle.tune_cli.specs.Headline.{File, Keeps, HasDone, HasRefused, Makes, DoesOn}
-use Rattle.tune_cli.specs.Headline.{HasMade, HasNotMade, RunsInMemory}
+use Rattle.tune_cli.specs.FileActs.{HasMade, HasNotMade}
+use Rattle.tune_cli.specs.Headline.{File, HoldsThroughout, IsDone, IsRefused, Makes, DoesOn}
+use Rattle.tune_cli.specs.Headline.{IsMade, IsNotMade, RunsInMemory}
 use Rattle.tune_cli.specs.ProgramLines.{WritesLine, reason_bytes, status_of}
 use Rattle.tune_cli.specs.declared.command_line.Action.TheVariants as action
 use Rattle.tune_cli.specs.declared.file_actions.Done.{Done}
@@ -89,7 +89,7 @@ module _ {D : Type 0} (disks : disk.Ghosts D) where
   file_on old new = record { was = disks.state old; now = disks.state new }
 
   has_refused : (streams : Streams) (old : D) (done : Done D) → HasNotOpened disks streams old done → disks.honest done.disk
-      → HasRefused streams (file_on old done.disk) done.status
+      → IsRefused streams (file_on old done.disk) done.status
   has_refused streams old done h honest = record {
     why = h.why;
     line = h.line;
@@ -118,7 +118,7 @@ module _ {D : Type 0} (disks : disk.Ghosts D) where
   keeps_run : (carried : List (Carried (Shelf D))) (before after : Shelf D) (old new : D) → CarriesOut (store_on disks) before carried after
       → FailsLast (run_of carried) → LeftByRun (store_on disks) before carried after → StandsForState (disks.state old).seen (state_of disks.state before)
       → SinceThen (disks.state old) (state_at disks.state before.pages.disk) (LeftOrSame (disks.state old)) → before.closed ≡ false
-      → after.pages.disk ≡ Some new → disks.honest new → Keeps (file_on old new) (course_of (store_on disks) before carried)
+      → after.pages.disk ≡ Some new → disks.honest new → HoldsThroughout (file_on old new) (timeline_of (store_on disks) before carried)
   keeps_run carried before after old new carries_out fails stops opened opening is_open held honest =
       let kept = store_on disks in
       let at_end = subst (HonestAt disks.honest) (sym held) honest in
@@ -156,7 +156,7 @@ module _ {D : Type 0} (disks : disk.Ghosts D) where
 
   -- RUN
   done_run : (path : _) (streams : Streams) (old : D) (done : Done D) → HasRun disks streams old done → disks.honest done.disk
-      → HasDone (action.Run path) streams (file_on old done.disk) done.status
+      → IsDone (action.Run path) streams (file_on old done.disk) done.status
   done_run path streams old done h honest =
       let ran = h.ran honest in
       let kept = store_on disks in
@@ -164,8 +164,8 @@ module _ {D : Type 0} (disks : disk.Ghosts D) where
       let Tells : List Answered → Type 0 = λ run. TellsScript most_lines streams.input.was.left streams.input.now.left
       (work_by streams.output.was.bytes streams.output.now.bytes run) h.end in
       record {
-        course = course_of kept ran.before carried;
-        keeps = keeps_run carried ran.before ran.after old done.disk ran.runs.carries_out (ends_by_last h.end (run_of carried) ran.runs.ends) ran.stops
+        timeline = timeline_of kept ran.before carried;
+        holds = keeps_run carried ran.before ran.after old done.disk ran.runs.carries_out (ends_by_last h.end (run_of carried) ran.runs.ends) ran.stops
             ran.opened ran.opening ran.is_open ran.held honest;
         says = (h.end, h.ends, h.faults, subst Tells (sym (answers_timed kept carried)) ran.runs.script);
       }
@@ -177,13 +177,13 @@ module _ {D : Type 0} (disks : disk.Ghosts D) where
 
   -- UPGRADE
   done_upgrade : (path : _) (streams : Streams) (old : D) (done : Done D) → HasUpgraded disks streams old done → disks.honest done.disk
-      → HasDone (action.Upgrade path) streams (file_on old done.disk) done.status
+      → IsDone (action.Upgrade path) streams (file_on old done.disk) done.status
   done_upgrade path streams old done h honest =
       let one = h.upgraded honest in
       let kept = store_on disks in
       record {
-        course = course_of kept one.before (one.carried ∷ []);
-        keeps = keeps_run (one.carried ∷ []) one.before one.carried.after old done.disk (one.carries_out, refl) (one_fails_last _) one.stops
+        timeline = timeline_of kept one.before (one.carried ∷ []);
+        holds = keeps_run (one.carried ∷ []) one.before one.carried.after old done.disk (one.carries_out, refl) (one_fails_last _) one.stops
             one.opened one.opening one.is_open one.held honest;
         says = (_, refl, one.asked, one.line);
       }
@@ -195,17 +195,17 @@ module _ {D : Type 0} (disks : disk.Ghosts D) where
 
   -- CHECK
   done_check : (path : _) (streams : Streams) (old : D) (done : Done D) → HasChecked disks streams old done → disks.honest done.disk
-      → HasDone (action.Check path) streams (file_on old done.disk) done.status
+      → IsDone (action.Check path) streams (file_on old done.disk) done.status
   done_check path streams old done h honest =
       let was = disks.state old in
       let now = disks.state done.disk in
       let tells = h.tells honest in
-      let course : Course = record { start = tells.held; began = moment_of now; run = [] } in
-      let first : (moment : ℕ) (left : List ℕ) → StandsForState left tells.held → StandsForFirst StandsForState course moment left =
+      let timeline : Timeline = record { start = tells.held; began = moment_of now; run = [] } in
+      let first : (moment : ℕ) (left : List ℕ) → StandsForState left tells.held → StandsForFirst StandsForState timeline moment left =
       λ moment left holds. record { count = 0; least = omega arith; most = omega arith; between = λ is. refl; stands = holds } in
       record {
-        course = course;
-        keeps = record {
+        timeline = timeline;
+        holds = record {
           held = tells.stands;
           opened = moment_rises was now _ (h.leaves honest);
           rises = omega arith;
@@ -239,8 +239,8 @@ module _ {D : Type 0} (disks : disk.Ghosts D) where
         is_empty left state (since_each (disks.state old) (disks.state done.disk) _ (h.moments honest none) moment left late at) holds,
   )
     where
-      made : HasMadeOn disks streams old done ⊎ HasNotMadeOn disks streams old done → disks.honest done.disk
-          → HasMade streams (file_on old done.disk) done.status ⊎ HasNotMade streams (file_on old done.disk) done.status
+      made : HasMade disks streams old done ⊎ HasNotMade disks streams old done → disks.honest done.disk
+          → IsMade streams (file_on old done.disk) done.status ⊎ IsNotMade streams (file_on old done.disk) done.status
       made (inl is) honest = inl (record { line = is.line; empty = is.empty honest; holds = is.rest honest })
       made (inr not) honest = inr (record {
         why = not.why;
@@ -258,7 +258,7 @@ runs_in_memory s streams carried old new end status h ends is_open empty is faul
     (work_by streams.output.was.bytes streams.output.now.bytes run) end in
     let Answers : State → Type 0 = λ start. AreAnswered start (timed_of s carried) in
     record {
-      course = record { start = empty_state; began = 0; run = timed_of s carried };
+      timeline = record { start = empty_state; began = 0; run = timed_of s carried };
       starts = refl;
       answered = subst Answers empty (are_answered s carried old new h (ends_by_last end (run_of carried) ends) is_open);
       says = (end, is, faults, subst Tells (sym (answers_timed s carried)) tells);

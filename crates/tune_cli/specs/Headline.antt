@@ -16,8 +16,8 @@ use Rattle.tune_store.specs.declared.layout.Layout.TheVariants.{Two}
 use Rattle.tune_store.specs.declared.command.Command.TheVariants.{Upgrade}
 use Rattle.tune_format.specs.States.{StandsForState}
 use Rattle.tune_archive.specs.Media.{moment_of, LeftAt}
-use Rattle.tune_scripts.specs.Courses.{Timed, Course, RisesTo, AreAnswered, StandsForFirst}
-use Rattle.tune_scripts.specs.Courses.{answered_of}
+use Rattle.tune_scripts.specs.Timelines.{Timed, Timeline, RisesTo, AreAnswered, StandsForFirst}
+use Rattle.tune_scripts.specs.Timelines.{answered_of}
 use Rattle.tune_scripts.specs.Looks.{TellsFaults}
 use Rattle.tune_scripts.specs.Limits.{most_lines}
 use Rattle.tune_scripts.specs.Replies.{answer_bytes}
@@ -35,16 +35,16 @@ use Rattle.tune_cli.specs.declared.file_actions.Done.{Done}
 -- Which commands there were, what was written, and the status. A script asks for its commands, and
 -- what is written is their answers, up to a fault of the reader or the writer. `check` asks for no
 -- command, and tells how much FILE holds; `upgrade` asks for one.
-abbrev pub Says : Action → Streams → Course → ℕ → Type 0
-Says (action.Check file) streams course status =
-    (course.run ≡ []) × WritesLine streams (counts_bytes course.start) 0 status
-Says (action.Upgrade file) streams course status =
-    (next : Timed) × (course.run ≡ next ∷ []) × (next.command ≡ Upgrade)
+abbrev pub Says : Action → Streams → Timeline → ℕ → Type 0
+Says (action.Check file) streams timeline status =
+    (timeline.run ≡ []) × WritesLine streams (counts_bytes timeline.start) 0 status
+Says (action.Upgrade file) streams timeline status =
+    (next : Timed) × (timeline.run ≡ next ∷ []) × (next.command ≡ Upgrade)
     × WritesLine streams (answer_bytes next.answer) (status_of_answer next.answer) status
-Says script streams course status =
+Says script streams timeline status =
     (end : RunEnd) × (status ≡ status_of end) × TellsFaults streams (Some end)
     × TellsScript most_lines streams.input.was.left streams.input.now.left
-    (work_by streams.output.was.bytes streams.output.now.bytes (map answered_of course.run)) end
+    (work_by streams.output.was.bytes streams.output.now.bytes (map answered_of timeline.run)) end
 
 -- FILE, AND WHAT STOPS LEAVE OF IT
 -- FILE on its disk, before an action and after it.
@@ -57,28 +57,28 @@ abbrev pub EachStopLeaves : File → (ℕ → List ℕ → Type 0) → Type 0
 EachStopLeaves file Kind = (moment : ℕ) (left : List ℕ) → moment_of file.was ≤ moment
     → LeftAt file.now moment left → Kind moment left
 
--- FILE held the state with which a course of commands starts. Each file that a stop leaves holds
+-- FILE held the state with which a timeline of commands starts. Each file that a stop leaves holds
 -- the state after those that were answered by then, and the next one or not; while FILE was still
 -- being opened it may also be one that a stop might have left before.
-pub record Keeps (file : File) (course : Course) : Type 0 where
-  pub held : StandsForState file.was.seen course.start
-  pub opened : moment_of file.was ≤ course.began
-  pub rises : RisesTo course.began course.run (moment_of file.now)
-  pub answered : AreAnswered course.start course.run
-  pub stops : EachStopLeaves file (λ moment left. StandsForFirst StandsForState course moment left
-      ⊎ ((moment < course.began) × MayLeave file.was.now left))
+pub record HoldsThroughout (file : File) (timeline : Timeline) : Type 0 where
+  pub held : StandsForState file.was.seen timeline.start
+  pub opened : moment_of file.was ≤ timeline.began
+  pub rises : RisesTo timeline.began timeline.run (moment_of file.now)
+  pub answered : AreAnswered timeline.start timeline.run
+  pub stops : EachStopLeaves file (λ moment left. StandsForFirst StandsForState timeline moment left
+      ⊎ ((moment < timeline.began) × MayLeave file.was.now left))
 
 -- WHAT COMES OF AN ACTION ON FILE
 -- It was opened, and so it was done.
-pub record HasDone (given : Action) (streams : Streams) (file : File) (status : ℕ) : Type 0 where
-  pub course : Course
-  pub keeps : Keeps file course
-  pub says : Says given streams course status
+pub record IsDone (given : Action) (streams : Streams) (file : File) (status : ℕ) : Type 0 where
+  pub timeline : Timeline
+  pub holds : HoldsThroughout file timeline
+  pub says : Says given streams timeline status
 
 -- It was not, and why. A file that holds a state is refused for want of memory, or because the
 -- device failed; and a stop leaves a file that it might have left before, or one that holds the
 -- state. A file that is no archive has the same bytes as before.
-pub record HasRefused (streams : Streams) (file : File) (status : ℕ) : Type 0 where
+pub record IsRefused (streams : Streams) (file : File) (status : ℕ) : Type 0 where
   pub why : OpenFault
   pub line : WritesLine streams (reason_bytes why) (status_of_opening why) status
   pub cause : (state : State) → StandsForState file.was.seen state
@@ -88,20 +88,20 @@ pub record HasRefused (streams : Streams) (file : File) (status : ℕ) : Type 0 
       ⊎ ((state : State) → StandsForState file.was.seen state → StandsForState left state))
 
 -- An empty archive was made, of a file without a byte.
-pub record HasMade (streams : Streams) (file : File) (status : ℕ) : Type 0 where
+pub record IsMade (streams : Streams) (file : File) (status : ℕ) : Type 0 where
   pub line : WritesLine streams (codes "made\n") 0 status
   pub empty : file.was.seen ≡ []
   pub holds : LeavesOnly file.now.now (λ left. StandsForState left (empty_of Two))
 
 -- It was not, and why.
-pub record HasNotMade (streams : Streams) (file : File) (status : ℕ) : Type 0 where
+pub record IsNotMade (streams : Streams) (file : File) (status : ℕ) : Type 0 where
   pub why : OpenFault
   pub line : WritesLine streams (reason_bytes why) (status_of_opening why) status
   pub unwritten : why ≡ fault.NotEmpty → file.now.seen ≡ file.was.seen
 
 -- Where FILE was empty, a stop leaves a file that holds nothing, or the empty state.
 abbrev pub Makes : Streams → File → ℕ → Type 0
-Makes streams file status = (HasMade streams file status ⊎ HasNotMade streams file status)
+Makes streams file status = (IsMade streams file status ⊎ IsNotMade streams file status)
     × (LeavesOnly file.was.now (λ left. left ≡ []) → EachStopLeaves file
     (λ moment left. (state : State) → StandsForState left state → state ≡ empty_of Two))
 
@@ -109,7 +109,7 @@ Makes streams file status = (HasMade streams file status ⊎ HasNotMade streams 
 abbrev pub Does : Action → Streams → File → ℕ → Type 0
 Does (action.Make file) streams made status = Makes streams made status
 Does given streams file status =
-    HasDone given streams file status ⊎ HasRefused streams file status
+    IsDone given streams file status ⊎ IsRefused streams file status
 
 -- by what disks of a kind tell, where the disk that came of it is honest
 abbrev pub DoesOn : {D : Type 0} → disk.Ghosts D → Action → Streams → D → Done D → Type 0
@@ -119,10 +119,10 @@ DoesOn disks given streams old done = disks.honest done.disk
 -- THE PROGRAM
 -- A script was run in memory, from the empty state.
 pub record RunsInMemory (streams : Streams) (status : ℕ) : Type 0 where
-  pub course : Course
-  pub starts : course.start ≡ empty_state
-  pub answered : AreAnswered empty_state course.run
-  pub says : Says action.List streams course status
+  pub timeline : Timeline
+  pub starts : timeline.start ≡ empty_state
+  pub answered : AreAnswered empty_state timeline.run
+  pub says : Says action.List streams timeline status
 
 -- What the program does for an action: of a script in memory there are the answers alone; else it
 -- asks a drive for FILE, and for no other file.

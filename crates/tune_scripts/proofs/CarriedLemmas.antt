@@ -17,8 +17,8 @@ use Rattle.tune_store.specs.declared.tune_store.TuneStore.{Ghosts}
 use Rattle.tune_store.proofs.StepLemmas.{refused_stays, answers_close, closed_answers}
 use Rattle.tune_store.proofs.StopLemmas.{passes_none, passes_more}
 use Rattle.tune_scripts.specs.declared.script_runs.RunEnd.{RunEnd}
-use Rattle.tune_scripts.specs.Carried.{Carried, CarriesOut, LeftByRun, run_of, course_of, moment_after}
-use Rattle.tune_scripts.specs.Courses.{StandsForFirst}
+use Rattle.tune_scripts.specs.Carried.{Carried, CarriesOut, LeftByRun, run_of, timeline_of, moment_after}
+use Rattle.tune_scripts.specs.Timelines.{StandsForFirst}
 use Rattle.tune_scripts.specs.Prefixes.{FailsLast, never_fails, fails_last, state_by, state_after, AreAcknowledged, StandsForPrefix, StandsForEnd}
 use Rattle.tune_scripts.specs.ScriptRuns.{EndsAfter, IsOtherEnd, at_other_end, at_device_fault}
 
@@ -348,7 +348,7 @@ module _ {S : Type 0} (s : Ghosts S) where
         → ((since earlier : ℕ) (other : List ℕ) → earlier ≤ since → s.left_since new since other → s.left_since new earlier other)
         → s.sound old → s.closed old ≡ false
         → ((moment : ℕ) (file : List ℕ) → s.moment old ≤ moment → s.left_at new moment file
-        → StandsForFirst s.stands_for (course_of s old carried) moment file)
+        → StandsForFirst s.stands_for (timeline_of s old carried) moment file)
         → LeftByRun s old carried new
     left_by carried old new h fails honest earlier sound is_open each = record {
       since_start = λ file left. left_since_start carried old new file h sound honest is_open left;

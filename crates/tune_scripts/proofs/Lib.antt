@@ -4,6 +4,6 @@ pub mod AppendLemmas
 pub mod LookLemmas
 pub mod WordLemmas
 pub mod CarriedLemmas
-pub mod CourseLemmas
+pub mod TimelineLemmas
 pub mod TurnLemmas
 pub mod RunLemmas

@@ -8,7 +8,7 @@ use Rattle.tune_store.specs.declared.command.Reply.{Reply}
 use Rattle.tune_store.specs.declared.command.Refusal.{Refusal}
 use Rattle.tune_store.specs.declared.tune_store.TuneStore.{Ghosts}
 use Rattle.tune_scripts.specs.Prefixes.{AreAcknowledged, StandsForPrefix, StandsForEnd}
-use Rattle.tune_scripts.specs.Courses.{Timed, Course, StandsForFirst}
+use Rattle.tune_scripts.specs.Timelines.{Timed, Timeline, StandsForFirst}
 
 -- a command that was carried out, its answer, and the store just after it
 pub record Carried (S : Type 0) : Type 0 where
@@ -49,8 +49,8 @@ timed_of kept (next ∷ carried) = record {
 } ∷ timed_of kept carried
 
 -- and from which store on
-abbrev pub course_of : {S : Type 0} → Ghosts S → S → List (Carried S) → Course
-course_of kept old carried = record {
+abbrev pub timeline_of : {S : Type 0} → Ghosts S → S → List (Carried S) → Timeline
+timeline_of kept old carried = record {
   start = kept.state old;
   began = kept.moment old;
   run = timed_of kept carried;
@@ -70,7 +70,7 @@ pub record LeftByRun {S : Type 0} (kept : Ghosts S) (old : S) (carried : List (C
   -- at each moment since they began: the state before the command in progress, or after it
   pub at_each_moment : (moment : ℕ) (file : List ℕ) → kept.moment old ≤ moment
       → kept.left_at new moment file
-      → StandsForFirst kept.stands_for (course_of kept old carried) moment file
+      → StandsForFirst kept.stands_for (timeline_of kept old carried) moment file
   -- at their end: the state after all, or after all but the last where the device failed in it
   pub at_end : (file : List ℕ) → kept.left_since new (kept.moment new) file
       → StandsForEnd kept.stands_for (kept.state old) (run_of carried) file

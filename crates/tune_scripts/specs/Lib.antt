@@ -3,7 +3,7 @@ pub mod ScriptLines
 pub mod InputLines
 pub mod Replies
 pub mod Prefixes
-pub mod Courses
+pub mod Timelines
 pub mod Carried
 pub mod Scripts
 pub mod Consoles

@@ -29,6 +29,24 @@ pub record Tellings (S : Type 0) : Type 1 where
   pub left_since : S → ℕ → List ℕ → Type 0
   pub stands_for : List ℕ → State → Type 0
 
+-- which files a stop may have left of a store at a moment, and since one
+pub record LeftBy (S : Type 0) : Type 1 where
+  pub at : S → ℕ → List ℕ → Type 0
+  pub since : S → ℕ → List ℕ → Type 0
+
+-- these members, as one value
+abbrev pub tellings : {S : Type 0} → (S → Type 0) → (S → Type 0) → (S → State) → (S → ℕ)
+    → LeftBy S → (List ℕ → State → Type 0) → Tellings S
+tellings honest sound state moment left stands_for = record {
+  honest = honest;
+  sound = sound;
+  state = state;
+  moment = moment;
+  left_at = left.at;
+  left_since = left.since;
+  stands_for = stands_for;
+}
+
 -- From `old` to `new` a store passed these states.
 pub record Passes {S : Type 0} (store : Tellings S) (old new : S) (states : List State)
     : Type 0 where

@@ -5,7 +5,7 @@ ghost use Rattle.tune_store.specs.State.{State, IsState, standing_by};
 ghost use Rattle.tune_store.specs.Step.{step};
 ghost use Rattle.tune_store.specs.Answers.{Answers, IsRefusalOf, passed, stays_open, may_write};
 ghost use Rattle.tune_store.specs.Revisions.{RaisesReplaced};
-ghost use Rattle.tune_store.specs.StoreStops.{Passes, HasFailed};
+ghost use Rattle.tune_store.specs.StoreStops.{Passes, HasFailed, tellings};
 
 use crate::command::{Command, Refusal, Reply};
 
@@ -66,15 +66,8 @@ pub trait TuneStore {
         ensures when_closed { IsErrOf result Refusal.Closed ↔ (closed self.old ≡ true) }
         ensures idle { closed self.old ≡ true → self.new ≡ self.old }
         ensures stops { Passes
-            (record {
-              honest = honest;
-              sound = sound;
-              state = state;
-              moment = moment;
-              left_at = left_at;
-              left_since = left_since;
-              stands_for = stands_for;
-            })
+            (tellings honest sound state moment
+            (record { at = left_at; since = left_since }) stands_for)
             self.old self.new (passed (state self.old) command.now result) }
         ensures cause { honest self.new → IsErrOf result Refusal.Device
             → HasFailed (failures self.old) (failures self.new) }

@@ -10,7 +10,7 @@ use Rattle.tune_archive.proofs.DiskMoments.{left_of_kind, moment_rises}
 use Rattle.tune_scripts.specs.Carried.{Carried, IsCarried, run_of}
 use Rattle.tune_scripts.specs.Prefixes.{StandsForPrefix}
 use Rattle.tune_scripts.proofs.CarriedLemmas.{left_since_earlier}
-use Rattle.tune_scripts.proofs.CourseLemmas.{one_fails_last}
+use Rattle.tune_scripts.proofs.TimelineLemmas.{one_fails_last}
 use Rattle.tune_cli.proofs.FileStates.{one_of_same}
 use Rattle.tune_cli.proofs.HeadlineLemmas.{left_on}
 use Rattle.tune_cli.proofs.file_actions.upgrade_on.Goals as goal

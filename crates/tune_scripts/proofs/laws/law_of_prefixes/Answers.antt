@@ -1,4 +1,4 @@
-use Rattle.tune_scripts.proofs.CourseLemmas.{left_by_run}
+use Rattle.tune_scripts.proofs.TimelineLemmas.{left_by_run}
 use Rattle.tune_scripts.proofs.laws.law_of_prefixes.Goals as goal
 
 pub returns : goal.returns

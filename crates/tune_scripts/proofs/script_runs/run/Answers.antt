@@ -1,7 +1,7 @@
 use Rattle.std.proofs.Common.{◌≡◌, ◌+◌, ◌-◌, ◌∙◌, suc, ap, refl, arith, Some, None}
 use Rattle.tune_scripts.specs.Limits.{most_lines}
 use Rattle.tune_scripts.proofs.CarriedLemmas.{ends_by_last}
-use Rattle.tune_scripts.proofs.CourseLemmas.{left_by_run}
+use Rattle.tune_scripts.proofs.TimelineLemmas.{left_by_run}
 use Rattle.tune_scripts.proofs.LookLemmas.{faults_none, faults_then, flushed_more, flushed_none}
 use Rattle.tune_scripts.proofs.RunLemmas.{so_far_start, so_far_more, so_far_end, so_far_all, prompt_none, prompt_more}
 use Rattle.tune_scripts.proofs.script_runs.run.Goals as goal

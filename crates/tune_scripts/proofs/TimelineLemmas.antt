@@ -14,9 +14,9 @@ use Rattle.tune_store.specs.declared.command.Refusal.TheVariants.{Device}
 use Rattle.tune_store.specs.Runs.{Answered}
 use Rattle.tune_store.specs.Stores.{standing_of}
 use Rattle.tune_store.specs.declared.tune_store.TuneStore.{Ghosts}
-use Rattle.tune_scripts.specs.Carried.{Carried, IsCarried, CarriesOut, LeftByRun, run_of, timed_of, course_of}
-use Rattle.tune_scripts.specs.Courses.{Timed, StandsForFirst, IsAnsweredAt, IsByRules, AreAnswered, RisesTo}
-use Rattle.tune_scripts.specs.Courses.{is_answered_by, answered_by, answered_of}
+use Rattle.tune_scripts.specs.Carried.{Carried, IsCarried, CarriesOut, LeftByRun, run_of, timed_of, timeline_of}
+use Rattle.tune_scripts.specs.Timelines.{Timed, StandsForFirst, IsAnsweredAt, IsByRules, AreAnswered, RisesTo}
+use Rattle.tune_scripts.specs.Timelines.{is_answered_by, answered_by, answered_of}
 use Rattle.tune_scripts.specs.Prefixes.{FailsLast, never_fails, fails_last, state_by, state_after, AreAcknowledged}
 use Rattle.tune_scripts.proofs.CarriedLemmas.{honest_before, passes_all, state_told, open_still, device_answer, stands_passed, left_by}
 
@@ -159,8 +159,8 @@ module _ {S : Type 0} (s : Ghosts S) (settled : (store : S) (file : List ℕ) �
 
   -- after an answer that lets the run go on: by what is known from there on
   after_answer : (next : Carried S) (carried : List (Carried S)) (old : S) (at : ℕ) (file : List ℕ) → IsCarried s old next → s.honest next.after
-      → s.moment next.after ≤ at → stays_open next.answer ≡ true → StandsForFirst s.stands_for (course_of s next.after carried) at file
-      → StandsForFirst s.stands_for (course_of s old (next ∷ carried)) at file
+      → s.moment next.after ≤ at → stays_open next.answer ≡ true → StandsForFirst s.stands_for (timeline_of s next.after carried) at file
+      → StandsForFirst s.stands_for (timeline_of s old (next ∷ carried)) at file
   after_answer next carried old at file one honest late go found =
       let next_timed : Timed = record { command = next.command; answer = next.answer; moment = s.moment next.after } in
       let rise = one.passes.later honest in
@@ -186,8 +186,8 @@ module _ {S : Type 0} (s : Ghosts S) (settled : (store : S) (file : List ℕ) �
   by_answer : (next : Carried S) (carried : List (Carried S)) (old new : S) (at : ℕ) (file : List ℕ) → CarriesOut s old (next ∷ carried) new
       → FailsLast (run_of (next ∷ carried)) → s.sound old → s.honest new → s.closed old ≡ false → s.moment old ≤ at
       → s.moment next.after ≤ at → s.left_at new at file
-      → (s.closed next.after ≡ false → FailsLast (run_of carried) → StandsForFirst s.stands_for (course_of s next.after carried) at file)
-      → (b : Bool) → stays_open next.answer ≡ b → StandsForFirst s.stands_for (course_of s old (next ∷ carried)) at file
+      → (s.closed next.after ≡ false → FailsLast (run_of carried) → StandsForFirst s.stands_for (timeline_of s next.after carried) at file)
+      → (b : Bool) → stays_open next.answer ≡ b → StandsForFirst s.stands_for (timeline_of s old (next ∷ carried)) at file
   by_answer next carried old new at file h fails sound honest is_open late later left found true go =
       let answered : Answered = record { command = next.command; answer = next.answer } in
       let still = open_still (standing_of s old) (standing_of s next.after) next.command next.answer h.0.answers go in
@@ -201,12 +201,12 @@ module _ {S : Type 0} (s : Ghosts S) (settled : (store : S) (file : List ℕ) �
       let left_mid = subst (λ store. s.left_at store at file) (subst (λ rest. CarriesOut s next.after rest new) none h.1) left in
       let one = at_one next [] old at file h.0 sound mid is_open late left_mid (counts_none at next_timed [] (no_answer at next_timed shut))
       (λ is. elim is [ inl here ↦ (let go = here.1 in cc) | inr there ↦ there ]) in
-      subst (λ rest. StandsForFirst s.stands_for (course_of s old (next ∷ rest)) at file) (sym none) one
+      subst (λ rest. StandsForFirst s.stands_for (timeline_of s old (next ∷ rest)) at file) (sym none) one
 
   -- each file that a stop leaves at a moment stands for the state after the commands that were answered by then, and the next one or not
   pub stands_for_first : (carried : List (Carried S)) (old new : S) (at : ℕ) (file : List ℕ) → CarriesOut s old carried new
       → FailsLast (run_of carried) → s.sound old → s.honest new → s.closed old ≡ false → s.moment old ≤ at → s.left_at new at file
-      → StandsForFirst s.stands_for (course_of s old carried) at file
+      → StandsForFirst s.stands_for (timeline_of s old carried) at file
   stands_for_first [] old new at file h fails sound honest is_open late left =
       record {
         count = 0;

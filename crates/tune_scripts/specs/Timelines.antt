@@ -21,9 +21,9 @@ pub record Timed : Type 0 where
 abbrev pub answered_of : Timed → Answered
 answered_of next = record { command = next.command; answer = next.answer }
 
--- A course of commands: the state before them, the moment at which they began, and each command
+-- A timeline of commands: the state before them, the moment at which they began, and each command
 -- with its answer, one after another.
-pub record Course : Type 0 where
+pub record Timeline : Type 0 where
   pub start : State
   pub began : ℕ
   pub run : List Timed
@@ -49,9 +49,9 @@ AreAnswered state (next ∷ run) =
 
 -- MOMENTS
 -- the state after the first so many of its commands
-abbrev pub state_after_first : ℕ → Course → State
-state_after_first count course =
-    state_after course.start (map answered_of (take count course.run))
+abbrev pub state_after_first : ℕ → Timeline → State
+state_after_first count timeline =
+    state_after timeline.start (map answered_of (take count timeline.run))
 
 -- whether a command was answered by this moment, and not by a failure of the device
 abbrev pub is_answered_by : ℕ → Timed → Bool
@@ -70,15 +70,15 @@ IsAnsweredAt moment (next ∷ run) =
     ((next.moment ≡ moment) × (stays_open next.answer ≡ true)) ⊎ IsAnsweredAt moment run
 
 -- At this moment a command was answered, or the first of them had not begun: none is in progress.
-abbrev pub IsBetween : ℕ → Course → Type 0
-IsBetween moment course = (course.began ≡ moment) ⊎ IsAnsweredAt moment course.run
+abbrev pub IsBetween : ℕ → Timeline → Type 0
+IsBetween moment timeline = (timeline.began ≡ moment) ⊎ IsAnsweredAt moment timeline.run
 
--- A file stands for the state after the first commands of a course: all that were answered by a
+-- A file stands for the state after the first commands of a timeline: all that were answered by a
 -- moment, and the next one or not. Where no command is in progress, not.
-pub record StandsForFirst (stands_for : List ℕ → State → Type 0) (course : Course) (moment : ℕ)
+pub record StandsForFirst (stands_for : List ℕ → State → Type 0) (timeline : Timeline) (moment : ℕ)
     (file : List ℕ) : Type 0 where
   pub count : ℕ
-  pub least : answered_by moment course.run ≤ count
-  pub most : count ≤ answered_by moment course.run + 1
-  pub between : IsBetween moment course → count ≡ answered_by moment course.run
-  pub stands : stands_for file (state_after_first count course)
+  pub least : answered_by moment timeline.run ≤ count
+  pub most : count ≤ answered_by moment timeline.run + 1
+  pub between : IsBetween moment timeline → count ≡ answered_by moment timeline.run
+  pub stands : stands_for file (state_after_first count timeline)
