@@ -13,7 +13,7 @@ use Rattle.abc_fields.specs.Fields.{key_text_of}
 use Rattle.abc_keys.specs.declared.scales.Scale.{Scale}
 use Rattle.abc_keys.specs.Inside.SameScales.{same_is}
 use Rattle.index_keys.specs.Cuts.{cut_number, LiesWithin}
-use Rattle.index_keys.specs.Inside.CutLaw.{cut_within}
+use Rattle.index_keys.proofs.CutLaw.{cut_within}
 use Rattle.index_keys.specs.KeyLists.{KeysRise, HasKeyWithin}
 use Rattle.tune_incipit.specs.Incipits.{begins_steps}
 use Rattle.tune_incipit.specs.Scales.{is_scale, finds_scale, scale_of_text}
