@@ -14,7 +14,11 @@ use Rattle.index_keys.proofs.Members.{contains_first, contains_later}
 pub one_rises : (key : ℕ) → KeysRise 0 (key ∷ [])
 one_rises key = (omega arith, tt)
 
--- and is in a range that has it
+-- it is in the range of what is the same
+pub one_is_within : (key other : ℕ) → key ≡ other → HasKeyWithin (other ∷ []) key key
+one_is_within key other same = record { key = other; among = contains_first other []; from = omega (arith, same); to = omega (arith, same) }
+
+-- and in a range that has it
 pub one_within : (width : ℕ) (front whole : List ℕ) → LiesWithin width front whole
     → HasKeyWithin (cut_number width 0 whole ∷ []) (cut_number width 0 front) (cut_number width 255 front)
 one_within width front whole range = record { key = cut_number width 0 whole; among = contains_first _ []; from = range.from; to = range.to }

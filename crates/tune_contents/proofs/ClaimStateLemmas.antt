@@ -10,7 +10,7 @@ use Rattle.index_keys.proofs.Members.{contains_cases, contains_none}
 use Rattle.index_keys.proofs.ByNumber.{by_number_held, held_by_number}
 use Rattle.tune_incipit.specs.Incipits.{incipit_of, tune_notes}
 use Rattle.tune_incipit.specs.ScaleAndIncipitKeys.{incipit_keys, scale_keys}
-use Rattle.tune_incipit.specs.Inside.KeyLaws.{incipit_rises, scales_rise}
+use Rattle.tune_incipit.proofs.KeyLaws.{incipit_rises, scales_rise}
 use Rattle.tune_index.specs.Indexes.{Shape}
 use Rattle.tune_index.specs.ListedLeaves.{listed_bytes}
 use Rattle.tune_journal.specs.Pages.{page_at}

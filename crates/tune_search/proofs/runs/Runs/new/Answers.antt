@@ -1,6 +1,6 @@
 use Rattle.std.proofs.Common.{◌≡◌, ℕ, List, ◌∙◌, ap, sym}
 use Rattle.tune_incipit.specs.Incipits.{incipit_of, tune_notes}
-use Rattle.tune_incipit.specs.Inside.KeyLaws.{incipit_rises, scales_rise}
+use Rattle.tune_incipit.proofs.KeyLaws.{incipit_rises, scales_rise}
 use Rattle.tune_incipit.specs.Scales.{scale_of_text}
 use Rattle.tune_incipit.specs.ScaleAndIncipitKeys.{incipit_keys, scale_keys, scale_keys_of}
 use Rattle.tune_search.specs.IncipitForms.{entries_in, notes_in, notes_of_entries}
