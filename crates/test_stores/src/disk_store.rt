@@ -3,7 +3,7 @@ ghost use Rattle.std.specs.Prelude.{◌≡◌, ◌≤◌, false, OnErr};
 ghost use Rattle.tune_store.specs.State.{State, empty_state};
 ghost use Rattle.tune_store.specs.StoreStops.{HasFailed};
 ghost use Rattle.tune_archive.specs.Media.{moment_of, LeftFrom};
-ghost use Rattle.tune_archive.specs.Inside.Media.{left_before};
+ghost use Rattle.tune_archive.proofs.Media.{left_before};
 ghost use Rattle.test_stores.specs.Marks.{IsMark, IsMarked};
 ghost use Rattle.test_stores.specs.Inside.Marks.{is_mark, LeavesMarks};
 
