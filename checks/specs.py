@@ -20,6 +20,9 @@ fails:
   around it do; lemmas are no definitions. checks/data/arguments.txt has those that are known to
   have more: how many, the name and its file. The list may only get shorter, and its numbers only
   smaller.
+- A file of specs/ has definitions and no lemma: each item is an abbrev, an unfoldable, a record, a
+  data type, a module or an import. checks/data/lemmas.txt has those lemmas that the kit lets stand
+  nowhere else; the list may only get shorter.
 
 `--ways CRATE` prints from where each definition of a crate is reached. `--arguments` prints what
 the list of known ones would have today.
@@ -40,6 +43,7 @@ HEAD = re.compile(r"^(\s*)((?:(?:abbrev|unfoldable|pub|record|data|module) +)*)"
                   r"([^\s:{}()]+)((?:\s|$).*)")
 MOST_ARGUMENTS = 6
 KNOWN_LONG = "checks/data/arguments.txt"
+KNOWN_LEMMAS = "checks/data/lemmas.txt"
 PROOFS = "docs/PROOFS.md"
 CALL = re.compile(r"\[`([\w:]+)`\]\(([^()\s]+\.rt)\)((?:,?(?: and)? `\w+`)*)")
 READ = re.compile(r"\[`(\w+)`\]\(([^()\s]+\.antt)\)")
@@ -394,9 +398,51 @@ def wrong_arguments():
     return wrong
 
 
+# LEMMAS
+
+def lemmas(path):
+    """The name of each item of a file that defines nothing, in its order."""
+    text = USE_LIST.sub("", without_comments(open(path, encoding="utf-8").read(), "--"))
+    levels, enters, named, found = [0], False, set(), []
+    for line in text.split("\n"):
+        depth = len(line) - len(line.lstrip())
+        if line.strip() and enters and depth > levels[-1]:
+            levels.append(depth)
+        enters = enters and not line.strip()
+        while line.strip() and depth < levels[-1]:
+            levels.pop()
+        item = HEAD.match(line)
+        if item is None or depth != levels[-1] or not re.match(r"\w", item.group(3)):
+            continue
+        enters = "module" in item.group(2)
+        name = item.group(3)
+        # what follows a name that was named before is one of its clauses
+        if not (enters or name in named or name in ("use", "mod", "unfolding")):
+            named.add(name)
+            if not re.search("abbrev|unfoldable|record|data", item.group(2)):
+                found.append(name)
+    return found
+
+
+def wrong_lemmas():
+    """Prints each lemma of specs/ that is not known, and each line of the list that names none,
+    and counts them.
+    """
+    found = {(name, module.path[len("crates/"):])
+             for module in MODULES.values() for name in lemmas(module.path)}
+    lines = open(KNOWN_LEMMAS, encoding="utf-8").read().split("\n")
+    listed = {tuple(line.split()) for line in lines if line and not line.startswith("#")}
+    for name, path in sorted(found - listed):
+        print(f"crates/{path}: {name} is a lemma, and lemmas stand under proofs/")
+    for name, path in sorted(listed - found):
+        print(f"{KNOWN_LEMMAS}: {path} has no lemma {name}")
+    print(f"{len(listed)} lemmas of specs/ can stand nowhere else, as is known")
+    return len(found ^ listed)
+
+
 if "--arguments" in sys.argv:
     for key, amount in sorted(long_definitions().items()):
         print(amount, *key)
     sys.exit(0)
-failed = missed_files() + wrong_counts() + wrong_arguments()
+failed = missed_files() + wrong_counts() + wrong_arguments() + wrong_lemmas()
 sys.exit(1 if failed else 0)
