@@ -21,8 +21,7 @@ fails:
   have more: how many, the name and its file. The list may only get shorter, and its numbers only
   smaller.
 - A file of specs/ has definitions and no lemma: each item is an abbrev, an unfoldable, a record, a
-  data type, a module or an import. checks/data/lemmas.txt has those lemmas that the kit lets stand
-  nowhere else; the list may only get shorter.
+  data type, a module or an import.
 
 `--ways CRATE` prints from where each definition of a crate is reached. `--arguments` prints what
 the list of known ones would have today.
@@ -43,7 +42,6 @@ HEAD = re.compile(r"^(\s*)((?:(?:abbrev|unfoldable|pub|record|data|module) +)*)"
                   r"([^\s:{}()]+)((?:\s|$).*)")
 MOST_ARGUMENTS = 6
 KNOWN_LONG = "checks/data/arguments.txt"
-KNOWN_LEMMAS = "checks/data/lemmas.txt"
 PROOFS = "docs/PROOFS.md"
 CALL = re.compile(r"\[`([\w:]+)`\]\(([^()\s]+\.rt)\)((?:,?(?: and)? `\w+`)*)")
 READ = re.compile(r"\[`(\w+)`\]\(([^()\s]+\.antt)\)")
@@ -403,46 +401,47 @@ def wrong_arguments():
 def lemmas(path):
     """The name of each item of a file that defines nothing, in its order."""
     text = USE_LIST.sub("", without_comments(open(path, encoding="utf-8").read(), "--"))
-    levels, enters, named, found = [0], False, set(), []
-    for line in text.split("\n"):
+    levels, head, enters, named, found = [0], "", False, set(), []
+    for line in filter(str.strip, text.split("\n")):
         depth = len(line) - len(line.lstrip())
-        if line.strip() and enters and depth > levels[-1]:
+        if head:
+            # the head of a module goes on to its `where`
+            head, enters = ("", True) if re.search(r"\bwhere\b", line) else (head, False)
+            continue
+        if enters and depth > levels[-1]:
             levels.append(depth)
-        enters = enters and not line.strip()
-        while line.strip() and depth < levels[-1]:
+        while depth < levels[-1]:
             levels.pop()
-        item = HEAD.match(line)
+        enters, item = False, HEAD.match(line)
         if item is None or depth != levels[-1] or not re.match(r"\w", item.group(3)):
             continue
-        enters = "module" in item.group(2)
         name = item.group(3)
+        if "module" in item.group(2):
+            head, enters = ("", True) if re.search(r"\bwhere\b", line) else (line, False)
         # what follows a name that was named before is one of its clauses
-        if not (enters or name in named or name in ("use", "mod", "unfolding")):
+        elif name not in named and name not in ("use", "mod", "unfolding"):
             named.add(name)
             if not re.search("abbrev|unfoldable|record|data", item.group(2)):
                 found.append(name)
     return found
 
 
-def wrong_lemmas():
-    """Prints each lemma of specs/ that is not known, and each line of the list that names none,
-    and counts them.
+def lemmas_of_specs():
+    """Prints each lemma of specs/, and counts them. A ghost item can name no proof of its own
+    crate: it states its own term, a field of the type's invariant, or a proof of a crate below.
     """
-    found = {(name, module.path[len("crates/"):])
-             for module in MODULES.values() for name in lemmas(module.path)}
-    lines = open(KNOWN_LEMMAS, encoding="utf-8").read().split("\n")
-    listed = {tuple(line.split()) for line in lines if line and not line.startswith("#")}
-    for name, path in sorted(found - listed):
-        print(f"crates/{path}: {name} is a lemma, and lemmas stand under proofs/")
-    for name, path in sorted(listed - found):
-        print(f"{KNOWN_LEMMAS}: {path} has no lemma {name}")
-    print(f"{len(listed)} lemmas of specs/ can stand nowhere else, as is known")
-    return len(found ^ listed)
+    count = 0
+    for _, module in sorted(MODULES.items()):
+        for name in lemmas(module.path):
+            print(f"{module.path}: {name} is a lemma, and lemmas stand under proofs/")
+            count += 1
+    print(f"{count} lemmas in specs/")
+    return count
 
 
 if "--arguments" in sys.argv:
     for key, amount in sorted(long_definitions().items()):
         print(amount, *key)
     sys.exit(0)
-failed = missed_files() + wrong_counts() + wrong_arguments() + wrong_lemmas()
+failed = missed_files() + wrong_counts() + wrong_arguments() + lemmas_of_specs()
 sys.exit(1 if failed else 0)

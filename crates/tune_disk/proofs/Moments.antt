@@ -2,7 +2,7 @@
 use Rattle.std.proofs.Common.{◌≡◌, ◌⊎◌, inl, inr, ℕ, ◌+◌, ◌<◌, ◌≤◌, List, [], ◌∷◌, ◌++◌, length, get_or, refl, sym, ◌∙◌, ap, subst, arith, length-append, Result, Ok, Err}
 use Rattle.std.proofs.lemmas.List.{append_assoc, ext_get_or}
 use Rattle.tune_disk.specs.Disk.{Medium, DiskState, MayLeave, GoesTo, touched, settled, Writes, Syncs}
-use Rattle.tune_disk.specs.Inside.Overwrites.{longer_after}
+use Rattle.tune_disk.proofs.Overwrites.{longer_after}
 use Rattle.tune_disk.specs.Inside.Spares.{KeepsOffsets, EachKeepsOffsets, Spares, Agrees}
 use Rattle.tune_disk.specs.Stops.{LeavesOnly, EachLeavesOnly, SinceThen}
 
