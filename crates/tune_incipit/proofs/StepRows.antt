@@ -1,5 +1,6 @@
 -- Steps in a row that has room for eleven.
-use Rattle.std.proofs.Common.{◌≡◌, ℕ, suc, ◌+◌, ◌-◌, ◌<◌, ◌≤◌, List, [], ◌∷◌, ◌++◌, length, take, drop, set, replicate, ap, sym, ◌∙◌, arith, ℤ, pos, append_assoc}
+use Rattle.std.proofs.Common.{◌≡◌, ℕ, suc, ◌+◌, ◌-◌, ◌<◌, ◌≤◌, List, [], ◌∷◌, ◌++◌, length, take, drop, set}
+use Rattle.std.proofs.Common.{replicate, ap, sym, ◌∙◌, arith, ℤ, pos, append_assoc}
 use Rattle.std.proofs.Common.{length-append}
 use Rattle.std.proofs.Math.Seq.{drop-append-add}
 use Rattle.std.proofs.lemmas.List.{take_more_set, set_split, drop-replicate, length-take, length-replicate}
