@@ -20,6 +20,8 @@ fails:
   around it do; lemmas are no definitions. checks/data/arguments.txt has those that are known to
   have more: how many, the name and its file. The list may only get shorter, and its numbers only
   smaller.
+- A file of specs/ has definitions and no lemma: each item is an abbrev, an unfoldable, a record, a
+  data type, a module or an import.
 
 `--ways CRATE` prints from where each definition of a crate is reached. `--arguments` prints what
 the list of known ones would have today.
@@ -394,9 +396,52 @@ def wrong_arguments():
     return wrong
 
 
+# LEMMAS
+
+def lemmas(path):
+    """The name of each item of a file that defines nothing, in its order."""
+    text = USE_LIST.sub("", without_comments(open(path, encoding="utf-8").read(), "--"))
+    levels, head, enters, named, found = [0], "", False, set(), []
+    for line in filter(str.strip, text.split("\n")):
+        depth = len(line) - len(line.lstrip())
+        if head:
+            # the head of a module goes on to its `where`
+            head, enters = ("", True) if re.search(r"\bwhere\b", line) else (head, False)
+            continue
+        if enters and depth > levels[-1]:
+            levels.append(depth)
+        while depth < levels[-1]:
+            levels.pop()
+        enters, item = False, HEAD.match(line)
+        if item is None or depth != levels[-1] or not re.match(r"\w", item.group(3)):
+            continue
+        name = item.group(3)
+        if "module" in item.group(2):
+            head, enters = ("", True) if re.search(r"\bwhere\b", line) else (line, False)
+        # what follows a name that was named before is one of its clauses
+        elif name not in named and name not in ("use", "mod", "unfolding"):
+            named.add(name)
+            if not re.search("abbrev|unfoldable|record|data", item.group(2)):
+                found.append(name)
+    return found
+
+
+def lemmas_of_specs():
+    """Prints each lemma of specs/, and counts them. A ghost item can name no proof of its own
+    crate: it states its own term, a field of the type's invariant, or a proof of a crate below.
+    """
+    count = 0
+    for _, module in sorted(MODULES.items()):
+        for name in lemmas(module.path):
+            print(f"{module.path}: {name} is a lemma, and lemmas stand under proofs/")
+            count += 1
+    print(f"{count} lemmas in specs/")
+    return count
+
+
 if "--arguments" in sys.argv:
     for key, amount in sorted(long_definitions().items()):
         print(amount, *key)
     sys.exit(0)
-failed = missed_files() + wrong_counts() + wrong_arguments()
+failed = missed_files() + wrong_counts() + wrong_arguments() + lemmas_of_specs()
 sys.exit(1 if failed else 0)

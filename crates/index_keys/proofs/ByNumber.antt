@@ -6,8 +6,8 @@ use Rattle.std.proofs.lemmas.Bool.{eqb-true, eq-eqb}
 use Rattle.index_keys.specs.Entries.{Entry, rank, RisesFrom, IsRising}
 use Rattle.index_keys.specs.Holdings.{HaveOwnNumbers, HoldsEntries, HoldsByNumber, keys_at}
 use Rattle.index_keys.specs.KeyLists.{KeysRise}
-use Rattle.index_keys.specs.Inside.Members.{contains_first, contains_later, contains_cases, contains_none, contains_map, contains_kept, contains_source}
-use Rattle.index_keys.specs.Inside.Members.{kept_front, dropped_front, true_or_false, each_of, for_each}
+use Rattle.index_keys.proofs.Members.{contains_first, contains_later, contains_cases, contains_none, contains_map, contains_kept, contains_source}
+use Rattle.index_keys.proofs.Members.{kept_front, dropped_front, true_or_false, each_of, for_each}
 use Rattle.index_keys.proofs.KeyLists.{same_rising}
 
 -- THE KEYS OF A NUMBER

@@ -10,8 +10,8 @@ use Rattle.std.specs.Cmp.Lexicographic.{slice_cmp}
 use Rattle.byteorder.specs.Endian.{big_from}
 use Rattle.byteorder.specs.Numbers.{big_from-lt, big_from-take}
 use Rattle.index_keys.specs.Entries.{rank}
-use Rattle.index_keys.specs.Inside.KeyBytes.{AreBytes}
-use Rattle.index_keys.specs.Inside.KeyNumbers.{Answers, digits, number_cons, same_bytes}
+use Rattle.index_keys.proofs.KeyNumbers.{AreBytes}
+use Rattle.index_keys.proofs.KeyNumbers.{Answers, digits, number_cons, same_bytes}
 
 -- one order alone answers for two numbers
 answer_once : (o q : Ordering) (m n : ℕ) → Answers o m n → Answers q m n → o ≡ q

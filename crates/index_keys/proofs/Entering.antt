@@ -3,7 +3,7 @@ use Rattle.std.proofs.Common.{◌≡◌, ◌≢◌, ℕ, ◌+◌, ◌*◌, ◌^�
 use Rattle.std.specs.List.{Contains}
 use Rattle.std.proofs.lemmas.Bool.{cases_lt, cases_eq}
 use Rattle.index_keys.specs.Entries.{Entry, rank, RisesFrom, IsRising, inserted, inserted_all, removed, removed_all}
-use Rattle.index_keys.specs.Inside.Members.{contains_first, contains_later, contains_cases, contains_none}
+use Rattle.index_keys.proofs.Members.{contains_first, contains_later, contains_cases, contains_none}
 use Rattle.index_keys.proofs.RisingEntries.{inserted_front, inserted_later, inserted_there, removed_there, removed_later, removed-rises}
 
 -- each value is below 2 ^ 32

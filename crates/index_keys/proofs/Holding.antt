@@ -7,7 +7,7 @@ use Rattle.std.proofs.lemmas.Bool.Decides.{nat_tests}
 use Rattle.index_keys.specs.Entries.{Entry, IsRising, inserted_all, removed_all, values_within}
 use Rattle.index_keys.specs.Holdings.{AreSmall, HoldsEntries, IsWithout, SameMembers}
 use Rattle.index_keys.specs.KeyLists.{HasKeyWithin}
-use Rattle.index_keys.specs.Inside.Members.{contains_first, contains_cases, contains_none, contains_left, contains_right, contains_either, contains_kept}
+use Rattle.index_keys.proofs.Members.{contains_first, contains_cases, contains_none, contains_left, contains_right, contains_either, contains_kept}
 use Rattle.index_keys.proofs.Entering.{SmallValues, all_old, all_new, all_back, run_back, run_gone, run_other}
 
 -- no tunes

@@ -4,8 +4,8 @@ use Rattle.std.specs.List.{Contains}
 use Rattle.std.proofs.lemmas.Bool.{cases_lt}
 use Rattle.index_keys.specs.Holdings.{SameMembers}
 use Rattle.index_keys.specs.KeyLists.{KeysRise, with_key, rising_keys}
-use Rattle.index_keys.specs.Inside.KeyOrder.{with_front, with_later, with_there, with_new, with_old}
-use Rattle.index_keys.specs.Inside.Members.{contains_first, contains_later, contains_cases, contains_none}
+use Rattle.index_keys.proofs.KeyOrder.{with_front, with_later, with_there, with_new, with_old}
+use Rattle.index_keys.proofs.Members.{contains_first, contains_later, contains_cases, contains_none}
 
 -- what is among the keys then
 with_back : (key : ℕ) (keys : List ℕ) (one : ℕ) → Contains (with_key key keys) one → (key ≡ one) ⊎ Contains keys one

@@ -3,7 +3,7 @@ use Rattle.std.proofs.Common.{◌≡◌, ℕ, zero, suc, ◌+◌, ◌<◌, ◌�
 use Rattle.std.proofs.Common.{length, get_or, refl, sym, ap, subst, ◌∙◌, arith, Bool, true, false, IsTrue}
 use Rattle.std.specs.List.{insert, HoldsAt}
 use Rattle.index_keys.specs.KeyLists.{KeysRise, with_key}
-use Rattle.index_keys.specs.Inside.KeyOrder.{with_front, with_later, with_there}
+use Rattle.index_keys.proofs.KeyOrder.{with_front, with_later, with_there}
 use Rattle.index_keys.specs.Inside.KeyPlaces.{IsKeyPlace}
 
 -- an element further on

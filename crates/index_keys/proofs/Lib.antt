@@ -1,3 +1,8 @@
+pub mod CutLaw
+pub mod KeyNumbers
+pub mod Members
+pub mod KeyOrder
+pub mod FoundKeys
 pub mod ByteOrder
 pub mod CutBytes
 pub mod KeyPlaces

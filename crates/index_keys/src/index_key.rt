@@ -19,20 +19,18 @@ pub struct IndexKey<const W: usize> {
 }
 
 impl<const W: usize> Model for IndexKey<W> {
-    ghost use Rattle.std.specs.Prelude.{ℕ};
+    ghost use Rattle.std.specs.Prelude.{◌≡◌, ℕ};
     ghost use Rattle.byteorder.specs.Endian.{big_bytes, big_number};
-    ghost use Rattle.index_keys.specs.Inside.KeyBytes.{AreBytes};
-    ghost use Rattle.index_keys.specs.Inside.KeyNumbers.{bytes_back};
 
     ghost Value = { ℕ };
 
     ghost view = { λ key. big_number W key.bytes };
 
-    ghost invariant = { λ key. AreBytes W key.bytes };
+    ghost invariant = { λ key. big_bytes W (big_number W key.bytes) ≡ key.bytes };
 
     ghost inverse = { λ number. record { bytes = big_bytes W number } };
 
-    ghost inverse_ok = { λ key is i. record { bytes = bytes_back W key.bytes is i } };
+    ghost inverse_ok = { λ key is i. record { bytes = is i } };
 }
 
 impl<const W: usize> Default for IndexKey<W> {

@@ -3,9 +3,8 @@ ghost use Rattle.std.specs.Prelude.{◌≡◌, ◌≤◌, false, OnErr};
 ghost use Rattle.tune_store.specs.State.{State, empty_state};
 ghost use Rattle.tune_store.specs.StoreStops.{HasFailed};
 ghost use Rattle.tune_archive.specs.Media.{moment_of, LeftAt, LeftFrom};
-ghost use Rattle.tune_archive.specs.Inside.Media.{left_then, left_before};
 ghost use Rattle.test_stores.specs.Marks.{IsMark, IsMarked};
-ghost use Rattle.test_stores.specs.Inside.Marks.{is_mark, LeavesMarks};
+ghost use Rattle.test_stores.specs.Inside.Marks.{LeavesMarks};
 
 use crate::keeping::changes_nothing;
 use std::alloc::Global;
@@ -40,6 +39,9 @@ impl<D: Disk> DiskStore<D> {
 }
 
 impl<D: Disk> TuneStore for DiskStore<D> {
+    ghost use Rattle.std.proofs.Math.Nat.{le_trans};
+    ghost use Rattle.tune_archive.proofs.Media.{left_now, left_then, left_before};
+
     ghost state = { λ store. store.archive };
 
     ghost closed = { λ store. store.closed };
@@ -60,7 +62,7 @@ impl<D: Disk> TuneStore for DiskStore<D> {
     ghost stands_for = { IsMark };
 
     ghost settled = { λ store file sound honest is_open left.
-        is_mark (D.Disk.state store.disk) file (sound.mark honest) left };
+        le_trans (left_now (D.Disk.state store.disk) file left).no_longer (sound.mark honest) };
 
     ghost within = { λ store sound honest. sound.within };
 

@@ -3,7 +3,6 @@ ghost use Rattle.std.specs.Prelude.{◌≡◌, ◌+◌, ◌<◌, ◌≤◌, [], 
 ghost use Rattle.std.specs.Vec.{vec_capacity};
 ghost use Rattle.tune_store.specs.State.{empty_state};
 ghost use Rattle.test_stores.specs.Record.{LeftSince, IsOfCount, IsRecorded, last_place};
-ghost use Rattle.test_stores.specs.Inside.Settling.{settles, left_earlier};
 
 use crate::asking::asks;
 use crate::keeping::changes_nothing;
@@ -48,6 +47,11 @@ impl RecordedStore {
 }
 
 impl TuneStore for RecordedStore {
+    ghost use Rattle.std.specs.Prelude.{slice_index, length, pred};
+    ghost use Rattle.std.proofs.Common.{ap, sym, subst, ◌∙◌};
+    ghost use Rattle.std.proofs.Math.Nat.{le_antisymm, le_trans, le-pred_of_lt};
+    ghost use Rattle.std.proofs.Math.Nat.{sub-suc, sub-zero};
+
     ghost state = { λ store. store.archive };
 
     ghost sound = { λ store. IsRecorded store.entries.items store.archive };
@@ -59,14 +63,23 @@ impl TuneStore for RecordedStore {
     ghost stands_for = { IsOfCount };
 
     ghost settled = { λ store file sound honest is_open left.
-        settles store.entries.items store.archive file sound.ends left };
+        let entries = store.entries.items in
+        let last = sub-suc (length entries) 0 ∙ ap pred (sub-zero (length entries)) in
+        let within = subst (λ n. left.place ≤ n) (sym last) (le-pred_of_lt left.within) in
+        left.entry
+        ∙ ap (λ place. slice_index entries place ∷ []) (le_antisymm within left.from)
+        ∙ ap (λ number. number ∷ []) sound.ends };
 
     ghost within = { λ store sound honest. sound.within };
 
     ghost since_at = { λ store at since file le left. absurd left };
 
-    ghost since_earlier = { λ store since earlier file le left.
-        left_earlier store.entries.items since earlier file le left };
+    ghost since_earlier = { λ store since earlier file le left. record {
+      place = left.place;
+      from = le_trans le left.from;
+      within = left.within;
+      entry = left.entry;
+    } };
 
     fn apply(&mut self, command: &Command) -> Result<Reply, Refusal> {
         if !asks(command) && self.entries.len() >= self.most {

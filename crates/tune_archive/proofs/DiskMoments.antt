@@ -5,7 +5,7 @@ use Rattle.tune_disk.specs.Stops.{SinceThen, LeavesOnly, EachLeavesOnly}
 use Rattle.tune_store.specs.State.{State}
 use Rattle.tune_store.specs.StoreStops.{Among, Passes, StandsForOne}
 use Rattle.tune_archive.specs.Media.{moment_of, LeftAt, LeftFrom}
-use Rattle.tune_archive.specs.Inside.Media.{left_now}
+use Rattle.tune_archive.proofs.Media.{left_now}
 
 -- A medium of two lists leaves files of a kind alone, as each of the first list does, or is in the second.
 leaves_or_before : (P : List ℕ → Type 0) (a c b : List Medium) (m : Medium) (o : List Medium) → a ++ c ≡ b ++ m ∷ o → EachLeavesOnly a P

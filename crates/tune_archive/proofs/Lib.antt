@@ -1,3 +1,4 @@
+pub mod Media
 pub mod Called
 pub mod DiskMoments
 pub mod FetchLemmas

@@ -22,13 +22,14 @@ use tune_sets::SetLists;
 use tune_store::{Catalog, Label, Layout, Refusal};
 
 impl<D: Disk> Catalog for Archive<D> {
+    ghost use Rattle.std.proofs.Common.{refl, sym, ap, subst, ◌∙◌};
+    ghost use Rattle.tune_pages.specs.Kept.{failures_at};
+    ghost use Rattle.tune_format.specs.States.{state_in};
     ghost use Rattle.tune_contents.specs.Holds.{labels_in};
+    ghost use Rattle.tune_store.specs.Labels.{labels_of};
+    ghost use Rattle.tune_store.specs.StoreStops.{HasFailed};
     ghost use Rattle.tune_archive.specs.Shelf.{state_of};
     ghost use Rattle.tune_archive.specs.Inside.Fetching.{Tells, HasFetched, Fetches, FailsFetch};
-    ghost use Rattle.tune_archive.specs.Inside.Fetched.{none_fetched, more_fetched};
-    ghost use Rattle.tune_archive.specs.Inside.Fetched.{fetched_and_failed, told_before};
-    ghost use Rattle.tune_archive.specs.Inside.Fetched.{labels_stay, layout_stays};
-    ghost use Rattle.tune_archive.specs.Inside.Fetched.{sets_stay, state_stays};
 
     ghost labels = { λ archive. labels_in archive.contents.rows.items };
 
@@ -46,21 +47,53 @@ impl<D: Disk> Catalog for Archive<D> {
 
     ghost failed = { FailsFetch D.Disk.honest D.Disk.failures D.Disk.state };
 
-    ghost none_fetched = { none_fetched D.Disk.honest D.Disk.failures D.Disk.state };
+    ghost none_fetched = { λ archive. record {
+      was_honest = λ h. h;
+      same_state = λ h. refl;
+      counted = refl;
+      contents = refl;
+      closed = refl;
+    } };
 
-    ghost more_fetched = { more_fetched D.Disk.honest D.Disk.failures D.Disk.state };
+    ghost more_fetched = { λ old mid new before then. record {
+      was_honest = λ h. before.was_honest (then.was_honest h);
+      same_state = λ h. then.same_state h ∙ before.same_state (then.was_honest h);
+      counted = then.counted ∙ before.counted;
+      contents = then.contents ∙ before.contents;
+      closed = then.closed ∙ before.closed;
+    } };
 
-    ghost fetched_and_failed = { fetched_and_failed D.Disk.honest D.Disk.failures D.Disk.state };
+    ghost fetched_and_failed = { λ old mid new before then. record {
+      was_honest = λ h. before.was_honest (then.was_honest h);
+      same_state = λ h. then.same_state h ∙ before.same_state (then.was_honest h);
+      contents = then.contents ∙ before.contents;
+      closed = then.closed;
+      cause = λ is_open h. subst
+          (λ count. HasFailed count (failures_at D.Disk.failures new.pages.disk)) before.counted
+          (then.cause (before.closed ∙ is_open) h);
+    } };
 
-    ghost labels_stay = { labels_stay D.Disk.honest D.Disk.failures D.Disk.state };
+    ghost labels_stay = { λ old new fetches.
+        ap (λ contents. labels_in contents.rows.items) fetches.contents };
 
-    ghost layout_stays = { layout_stays D.Disk.honest D.Disk.failures D.Disk.state };
+    ghost layout_stays = { λ old new fetches. ap (λ contents. contents.layout) fetches.contents };
 
-    ghost sets_stay = { sets_stay D.Disk.honest D.Disk.failures D.Disk.state };
+    ghost sets_stay = { λ old new fetches. ap (λ contents. contents.sets) fetches.contents };
 
-    ghost was_honest = { told_before D.Disk.honest D.Disk.failures D.Disk.state };
+    ghost was_honest = { λ old new fetches told.
+        let same = ap (λ disk. state_in disk.seen) (fetches.same_state told.was_honest) in
+        let before = sym fetches.contents in
+        record {
+          was_honest = fetches.was_honest told.was_honest;
+          labels = ap (λ contents. labels_in contents.rows.items) before ∙ told.labels
+              ∙ ap (λ s. labels_of s.tunes) same;
+          layout = ap (λ contents. contents.layout) before ∙ told.layout
+              ∙ ap (λ s. s.layout) same;
+          sets = ap (λ contents. contents.sets) before ∙ told.sets ∙ ap (λ s. s.sets) same;
+        } };
 
-    ghost state_stays = { state_stays D.Disk.honest D.Disk.failures D.Disk.state };
+    ghost state_stays = { λ old new fetches told.
+        ap (λ disk. state_in disk.seen) (fetches.same_state told.was_honest) };
 
     ghost labels_are = { λ archive told. told.labels };
 

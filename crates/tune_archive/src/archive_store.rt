@@ -27,11 +27,13 @@ impl<D: Disk> Archive<D> {
 }
 
 impl<D: Disk> TuneStore for Archive<D> {
+    ghost use Rattle.std.proofs.Common.{sym, subst};
+    ghost use Rattle.std.proofs.Math.Nat.{le_trans};
+    ghost use Rattle.tune_disk.proofs.Moments.{left_by_present};
     ghost use Rattle.tune_pages.specs.Kept.{HonestAt, state_at, failures_at};
     ghost use Rattle.tune_format.specs.States.{StandsForState};
     ghost use Rattle.tune_archive.specs.Media.{LeftAt, LeftFrom, moment_of};
     ghost use Rattle.tune_archive.specs.Shelf.{state_of, IsSound};
-    ghost use Rattle.tune_archive.specs.Inside.Media.{left_now, left_then, left_before};
 
     ghost state = { state_of D.Disk.state };
 
@@ -52,15 +54,28 @@ impl<D: Disk> TuneStore for Archive<D> {
     ghost stands_for = { StandsForState };
 
     ghost settled = { λ archive file sound honest is_open left. sound.rest honest is_open file
-        (left_now (state_at D.Disk.state archive.pages.disk) file left) };
+        (left_by_present _ _ left.newer left.medium left.older file left.history left.later
+        left.left) };
 
     ghost within = { λ archive sound honest. sound.within honest };
 
-    ghost since_at = { λ archive at since file le left.
-        left_then (state_at D.Disk.state archive.pages.disk) at since file le left };
+    ghost since_at = { λ archive at since file le left. record {
+      newer = left.newer;
+      medium = left.medium;
+      older = left.older;
+      history = left.history;
+      later = subst (λ n. since ≤ n) (sym left.is_then) le;
+      left = left.left;
+    } };
 
-    ghost since_earlier = { λ archive since earlier file le left.
-        left_before (state_at D.Disk.state archive.pages.disk) since earlier file le left };
+    ghost since_earlier = { λ archive since earlier file le left. record {
+      newer = left.newer;
+      medium = left.medium;
+      older = left.older;
+      history = left.history;
+      later = le_trans le left.later;
+      left = left.left;
+    } };
 
     /// No command is refused because the file is full: an archive uses few of the pages that there
     /// may be, and a change takes few of the others.

@@ -22,7 +22,7 @@ use Rattle.tune_store.specs.declared.layout.Layout.TheVariants.{Two}
 use Rattle.tune_format.specs.States.{StandsForState, IsStateOf}
 use Rattle.tune_format.proofs.StateLemmas.{state_once}
 use Rattle.tune_archive.specs.AsStore.{store_on}
-use Rattle.tune_archive.specs.Inside.Media.{left_now, left_then, left_before}
+use Rattle.tune_archive.proofs.Media.{left_now, left_then, left_before}
 use Rattle.tune_archive.specs.Media.{moment_of, LeftAt, LeftFrom}
 use Rattle.tune_archive.specs.OpenedArchive.{IsUnopenedArchiveFor, StandsForNoneOrEmpty}
 use Rattle.tune_archive.specs.Shelf.{Shelf, state_of}

@@ -6,11 +6,11 @@ use Rattle.std.specs.List.{AllByRecursion, Contains}
 use Rattle.std.proofs.lemmas.Bool.{cases_Bool, eqb-true, eq-eqb, false≢true}
 use Rattle.index_keys.specs.Entries.{Entry}
 use Rattle.index_keys.specs.Holdings.{HaveOwnNumbers, HoldsEntries, keys_at}
-use Rattle.index_keys.specs.Inside.Members.{contains_cases, contains_none}
+use Rattle.index_keys.proofs.Members.{contains_cases, contains_none}
 use Rattle.index_keys.proofs.ByNumber.{by_number_held, held_by_number}
 use Rattle.tune_incipit.specs.Incipits.{incipit_of, tune_notes}
 use Rattle.tune_incipit.specs.ScaleAndIncipitKeys.{incipit_keys, scale_keys}
-use Rattle.tune_incipit.specs.Inside.KeyLaws.{incipit_rises, scales_rise}
+use Rattle.tune_incipit.proofs.KeyLaws.{incipit_rises, scales_rise}
 use Rattle.tune_index.specs.Indexes.{Shape}
 use Rattle.tune_index.specs.ListedLeaves.{listed_bytes}
 use Rattle.tune_journal.specs.Pages.{page_at}
@@ -38,7 +38,7 @@ use Rattle.tune_format.specs.declared.root.Firsts.{Firsts}
 use Rattle.tune_format.specs.declared.rows.Row.{Row}
 use Rattle.tune_format.proofs.TextLemmas.{later_held, rows_count, tune_without}
 use Rattle.tune_titles.specs.TitleAndRhythmKeys.{rhythm_keys, title_keys}
-use Rattle.tune_titles.specs.Inside.KindLaws.{rhythm_rises, titles_rise}
+use Rattle.tune_titles.proofs.KindLaws.{rhythm_rises, titles_rise}
 use Rattle.tune_contents.specs.Claimed.{AreRows, IsClaimed, RowsRise}
 use Rattle.tune_contents.specs.declared.contents.Contents.{Contents}
 use Rattle.tune_contents.specs.Inside.ClaimedParts.{AreBlocks, AreRowsThere, AreTunesThere, ClaimsLists, HasLists, IsStateThere, ListsClaimed, StandAtKeys}

@@ -5,7 +5,7 @@ use Rattle.std.proofs.lemmas.List.{length-map}
 use Rattle.std.specs.Prelude.{Option, Result}
 use Rattle.index_keys.specs.Entries.{AllFit, Entry, inserted_all, removed_all}
 use Rattle.index_keys.specs.Holdings.{AreSmall, SameMembers}
-use Rattle.index_keys.specs.Inside.Members.{contains_cases, contains_none}
+use Rattle.index_keys.proofs.Members.{contains_cases, contains_none}
 use Rattle.index_keys.proofs.Holding.{holds_same}
 use Rattle.tune_incipit.specs.ScaleAndIncipitKeys.{incipit_keys, scale_keys}
 use Rattle.tune_index.specs.Indexes.{Shape}

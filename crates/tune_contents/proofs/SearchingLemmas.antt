@@ -6,7 +6,7 @@ use Rattle.std.proofs.lemmas.Bool.{cases_Bool}
 use Rattle.std.proofs.lemmas.List.{length-map, map-append}
 use Rattle.std.proofs.lemmas.List.Edits.{length-remove}
 use Rattle.index_keys.specs.Holdings.{AreSmall, IsWithout, SameMembers}
-use Rattle.index_keys.specs.Inside.Members.{contains_cases, contains_first, contains_later, contains_none}
+use Rattle.index_keys.proofs.Members.{contains_cases, contains_first, contains_later, contains_none}
 use Rattle.tune_search.specs.Searches.{SearchRuns}
 use Rattle.tune_search.specs.Searches as texts
 use Rattle.tune_store.specs.Plans.{changed_tunes}

@@ -6,7 +6,7 @@ use Rattle.std.specs.List.{AllByRecursion}
 use Rattle.std.proofs.Math.ListN.{drop_of_length-le}
 use Rattle.index_keys.specs.Entries.{Entry}
 use Rattle.index_keys.specs.Holdings.{AreSmall}
-use Rattle.index_keys.specs.Inside.Members.{contains_cases, contains_none}
+use Rattle.index_keys.proofs.Members.{contains_cases, contains_none}
 use Rattle.tune_index.specs.Indexes.{Shape}
 use Rattle.tune_journal.specs.Pages.{page_at}
 use Rattle.tune_pages.specs.Faults.{free_pages}

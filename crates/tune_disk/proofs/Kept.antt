@@ -4,7 +4,7 @@ use Rattle.std.proofs.Common.{Global, ◌<◌, ◌+◌, arith}
 use Rattle.std.proofs.lemmas.List.{take_more}
 use Rattle.tune_disk.specs.ByteWrites.{put}
 use Rattle.tune_disk.specs.Disk.{Medium, DiskState, MayLeave, Written, GoesTo, Writes, Syncs, fresh, touched}
-use Rattle.tune_disk.specs.Inside.Overwrites.{put_written}
+use Rattle.tune_disk.proofs.Overwrites.{put_written}
 use Rattle.tune_disk.specs.Records.{record_to, replayed, state_of}
 use Rattle.tune_disk.specs.declared.memory.Record.{Record}
 use Rattle.tune_disk.specs.declared.memory.Record.TheVariants.{Write, Sync}

@@ -1,3 +1,6 @@
+pub mod Overwrites
+mod Stays
+mod FileStays
 mod Filled
 mod Kept
 pub mod Moments

@@ -1,8 +1,9 @@
 -- How a run of calls of a disk goes on.
-use Rattle.std.proofs.Common.{◌≡◌, ◌⊎◌, inl, inr, ℕ, ◌+◌, ◌<◌, ◌≤◌, List, [], ◌∷◌, ◌++◌, length, get_or, refl, sym, ◌∙◌, ap, subst, arith, Result, Ok, Err}
+use Rattle.std.proofs.Common.{◌≡◌, ◌⊎◌, inl, inr, ℕ, ◌+◌, ◌<◌, ◌≤◌, List, [], ◌∷◌, ◌++◌, length, get_or, refl, sym}
+use Rattle.std.proofs.Common.{◌∙◌, ap, subst, arith, length-append, Result, Ok, Err}
 use Rattle.std.proofs.lemmas.List.{append_assoc, ext_get_or}
 use Rattle.tune_disk.specs.Disk.{Medium, DiskState, MayLeave, GoesTo, touched, settled, Writes, Syncs}
-use Rattle.tune_disk.specs.Inside.Overwrites.{longer_after}
+use Rattle.tune_disk.proofs.Overwrites.{longer_after}
 use Rattle.tune_disk.specs.Inside.Spares.{KeepsOffsets, EachKeepsOffsets, Spares, Agrees}
 use Rattle.tune_disk.specs.Stops.{LeavesOnly, EachLeavesOnly, SinceThen}
 
@@ -174,3 +175,11 @@ module _ (P : List ℕ → Type 0) where
       each_weaker : (ms : List Medium) → EachLeavesOnly ms P → EachLeavesOnly ms Q
       each_weaker [] e = tt
       each_weaker (m ∷ ms) e = ((λ c left. so c (e.0 c left)), each_weaker ms e.1)
+
+-- A medium with no fewer behind it than are behind the present one is the present one.
+pub left_by_present : (now : Medium) (past newer : List Medium) (m : Medium) (older : List Medium) (file : List ℕ) → now ∷ past ≡ newer ++ m ∷ older
+    → length past ≤ length older → MayLeave m file → MayLeave now file
+left_by_present now past [] m older file e le may = (let same : now ≡ m = cc in subst (λ (x : Medium). MayLeave x file) (sym same) may)
+left_by_present now past (y ∷ newer) m older file e le may =
+    (let size : length (now ∷ past) ≡ length ((y ∷ newer) ++ m ∷ older) = ap (λ (l : List Medium). length l) e in
+    absurd (omega (arith, le, size, length-append newer (m ∷ older))))

@@ -2,7 +2,7 @@
 use Rattle.std.proofs.Common.{◌⊎◌, inl, inr, ℕ, zero, suc, ◌+◌, ◌<◌, ◌≤◌, List, arith}
 use Rattle.tune_disk.specs.Disk.{Medium, MayLeave, length_after, touched}
 use Rattle.tune_disk.specs.Stops.{IsPart}
-use Rattle.tune_disk.specs.Inside.Overwrites.{longer_after}
+use Rattle.tune_disk.proofs.Overwrites.{longer_after}
 
 part_reaches : (part_at part at n long : ℕ) → at ≤ part_at → part_at + part ≤ at + n → length_after part_at part long ≤ length_after at n long
 part_reaches part_at zero at n long from to = longer_after at n long

@@ -6,7 +6,7 @@ use Rattle.std.proofs.lemmas.List.{get_or_past, append-nil, append_assoc}
 use Rattle.tune_disk.specs.ByteWrites.{put}
 use Rattle.tune_disk.specs.Disk.{DiskState, Written, Torn, GoesTo, Writes, Syncs, touched}
 use Rattle.tune_disk.specs.FileTold.{History, Course, told, course, AnswerFits, AnswersFit, after_write, after_sync}
-use Rattle.tune_disk.specs.Inside.Overwrites.{put_written}
+use Rattle.tune_disk.proofs.Overwrites.{put_written}
 use Rattle.tune_disk.specs.Inside.ToldMore.{IsToldMore, IsToldRead, IsToldWrite}
 use Rattle.tune_disk.specs.Inside.ToldMore.{IsToldBroken, IsToldTaken}
 use Rattle.tune_disk.specs.declared.file.told.Told.{Told}

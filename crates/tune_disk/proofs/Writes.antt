@@ -3,7 +3,7 @@ use Rattle.std.proofs.Common.{◌≡◌, ◌⊎◌, inl, inr, ℕ, ◌+◌, ◌-
 use Rattle.std.proofs.lemmas.Bool.{cases_lt}
 use Rattle.std.proofs.lemmas.List.{take_at, ext_get_or}
 use Rattle.tune_disk.specs.Disk.{Written}
-use Rattle.tune_disk.specs.Inside.Overwrites.{length_after_some}
+use Rattle.tune_disk.proofs.Overwrites.{length_after_some}
 
 -- a write of some bytes reaches to their end
 pub written_long : (at : ℕ) (bytes old new : List ℕ) → Written at bytes old new → 0 < length bytes → length new ≡ max (length old) (at + length bytes)

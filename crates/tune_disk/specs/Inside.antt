@@ -1,8 +1,6 @@
--- What contracts of functions inside this crate cite, and the proofs that ghost members need.
-pub mod FileStays
+-- What contracts and ghost members inside this crate cite.
 pub mod Fills
-pub mod Overwrites
 pub mod Spares
-pub mod Stays
 pub mod ToldMore
 pub mod WrappedCodes
+pub mod MayStay

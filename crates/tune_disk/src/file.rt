@@ -3,7 +3,7 @@ ghost use Rattle.std.specs.Prelude.{◌≡◌, ◌≢◌, ◌+◌, ◌^◌, ◌�
 ghost use Rattle.std.specs.Prelude.{IfSome, IsErr, IsTrue, MatchResult};
 ghost use Rattle.std.specs.Path.{path_parent};
 ghost use Rattle.tune_disk.specs.Disk.{CountsFailure, CountsUp, Calls, Looks, Shows, Writes, Syncs};
-ghost use Rattle.tune_disk.specs.FileDisk.{file_state, file_failures, FileIsHonest, SyncHasFailed};
+ghost use Rattle.tune_disk.specs.Inside.MayStay.{TellingMayStay};
 ghost use Rattle.tune_disk.specs.Inside.ToldMore.{IsToldMore, IsToldRead, IsToldWrite};
 ghost use Rattle.tune_disk.specs.Inside.ToldMore.{IsToldBroken, IsToldTaken};
 
@@ -42,6 +42,8 @@ pub struct FileDisk<H> {
     history: Snapshot<H>,
     log: Log<u64, Told>,
     faults: Faults,
+    // While what the file tells fits, what a read gives is one of the files that a stop may leave.
+    ghost stays: { TellingMayStay log.items },
 }
 
 // How many calls have failed, and what the system answered the first of them.
@@ -217,7 +219,8 @@ fn folder_of(path: &str) -> &str
 }
 
 impl<H: FileHistory> Disk for FileDisk<H> {
-    ghost use Rattle.tune_disk.specs.Inside.FileStays.{file_stays};
+    ghost use Rattle.tune_disk.specs.FileDisk.{file_state, file_failures, file_history};
+    ghost use Rattle.tune_disk.specs.FileDisk.{FileIsHonest, SyncHasFailed};
 
     ghost state = { file_state H.history };
 
@@ -225,7 +228,8 @@ impl<H: FileHistory> Disk for FileDisk<H> {
 
     ghost honest = { FileIsHonest H.history };
 
-    ghost seen_may_stay = { file_stays H.history };
+    ghost seen_may_stay = { λ disk honest.
+        disk.stays (file_history H.history disk) honest.opened honest.told };
 
     fn len(&mut self) -> Result<u64, DeviceFault>
         ensures len { IfOk result (λ n. FileIsHonest H.history self.new

@@ -2,6 +2,7 @@
 ghost use Rattle.std.specs.Prelude.{◌≡◌, ◌∷◌, ◌++◌, [], ◌<◌, ◌≤◌, ◌^◌, ◌+◌, IfOk, OnOk, OnErr};
 ghost use Rattle.std.specs.Prelude.{IsOk, is_ok, ℕ, List, length, take, drop, ◌-◌, replicate};
 ghost use Rattle.tune_disk.specs.Inside.Fills.{Fills, IsLastSync};
+ghost use Rattle.tune_disk.specs.Inside.MayStay.{SeenMayStay};
 ghost use Rattle.tune_disk.specs.Disk.{Written, Writes, Shows, CountsFailure};
 ghost use Rattle.tune_disk.specs.Records.{state_of};
 
@@ -39,6 +40,8 @@ pub struct MemoryDisk {
     content: Vec<u8>,
     failed: u64,
     ghost replays: { content.items ≡ (state_of first.items records.items).seen },
+    // What a read gives is one of the files that a stop may leave.
+    ghost stays: { SeenMayStay (state_of first.items records.items) },
 }
 
 impl MemoryDisk {
@@ -178,7 +181,6 @@ fn fill_range(file: &mut [u8], at: u64, count: usize, byte: u8)
 
 impl Disk for MemoryDisk {
     ghost use Rattle.tune_disk.specs.Memory.{memory_state, memory_failures};
-    ghost use Rattle.tune_disk.specs.Inside.Stays.{memory_stays};
 
     ghost state = { memory_state };
 
@@ -186,7 +188,7 @@ impl Disk for MemoryDisk {
 
     ghost honest = { λ _. Unit {0} };
 
-    ghost seen_may_stay = { λ disk _. memory_stays disk };
+    ghost seen_may_stay = { λ disk _. disk.stays };
 
     // It never fails.
     fn len(&mut self) -> Result<u64, DeviceFault>

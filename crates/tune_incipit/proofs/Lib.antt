@@ -1,3 +1,4 @@
+pub mod KeyLaws
 pub mod StepRows
 pub mod IncipitLaws
 pub mod Growing

@@ -6,8 +6,8 @@ use Rattle.std.proofs.lemmas.List.{append-nil, take_all, take-append-drop}
 use Rattle.byteorder.specs.Endian.{big_from, big_bytes}
 use Rattle.byteorder.specs.Numbers.{big_number-reads_back}
 use Rattle.index_keys.specs.Cuts.{cut_number}
-use Rattle.index_keys.specs.Inside.KeyBytes.{AreBytes}
-use Rattle.index_keys.specs.Inside.KeyNumbers.{are_bytes, number_cons}
+use Rattle.index_keys.proofs.KeyNumbers.{AreBytes}
+use Rattle.index_keys.proofs.KeyNumbers.{are_bytes, number_cons}
 use Rattle.tune_incipit.specs.ScaleAndIncipitKeys.{bytes_of_steps, step_bytes}
 
 tail_bytes : (n b : ℕ) (bs : List ℕ) → AreBytes (suc n) (b ∷ bs) → AreBytes n bs

@@ -20,11 +20,16 @@ use std::alloc::{AllocError, Global};
 pub enum EightNoteKeys {}
 
 impl Keyed<32> for EightNoteKeys {
-    ghost use Rattle.std.specs.Prelude.{ℕ};
+    ghost use Rattle.std.specs.Prelude.{[], ◌∷◌};
+    ghost use Rattle.std.specs.Ordering.{int_eq};
+    ghost use Rattle.std.proofs.Common.{refl};
+    ghost use Rattle.std.proofs.lemmas.Bool.Decides.{Decides-int_eq};
     ghost use Rattle.index_keys.specs.Cuts.{cut_number};
+    ghost use Rattle.index_keys.specs.KeyLists.{KeysRise};
+    ghost use Rattle.index_keys.proofs.FoundKeys.{one_rises, begun_list_found};
     ghost use Rattle.tune_incipit.specs.Incipits.{incipit_of, tune_notes, finds_steps};
     ghost use Rattle.tune_incipit.specs.ScaleAndIncipitKeys.{bytes_of_steps, incipit_keys};
-    ghost use Rattle.tune_incipit.specs.Inside.KeyLaws.{incipit_rises, incipit_found};
+    ghost use Rattle.tune_incipit.specs.ScaleAndIncipitKeys.{step_bytes, incipit_keys_of};
 
     type Text = TuneText;
 
@@ -55,10 +60,15 @@ impl Keyed<32> for EightNoteKeys {
         finds_steps(8, query, text)
     }
 
-    ghost rise = { λ text. incipit_rises 32 (incipit_of 8 (tune_notes text)) };
+    ghost rise = { λ text. elim (incipit_of 8 (tune_notes text))
+        as (λ own. KeysRise 0 (incipit_keys_of 32 own)) [
+          | [] ↦ tt
+          | step ∷ steps ↦ one_rises (cut_number 32 0 (bytes_of_steps (step ∷ steps)))
+        ] };
 
     ghost law = { λ query text is.
-        incipit_found 32 (incipit_of 8 (tune_notes text)) query.steps query.some is };
+        begun_list_found int_eq Decides-int_eq step_bytes 32 (incipit_keys_of 32)
+        (λ _ _. refl) (incipit_of 8 (tune_notes text)) query.steps query.some is };
 }
 
 /// Tunes by the steps between their first twelve notes that count: each step and 2^31 in four
@@ -66,11 +76,16 @@ impl Keyed<32> for EightNoteKeys {
 pub enum TwelveNoteKeys {}
 
 impl Keyed<48> for TwelveNoteKeys {
-    ghost use Rattle.std.specs.Prelude.{ℕ};
+    ghost use Rattle.std.specs.Prelude.{[], ◌∷◌};
+    ghost use Rattle.std.specs.Ordering.{int_eq};
+    ghost use Rattle.std.proofs.Common.{refl};
+    ghost use Rattle.std.proofs.lemmas.Bool.Decides.{Decides-int_eq};
     ghost use Rattle.index_keys.specs.Cuts.{cut_number};
+    ghost use Rattle.index_keys.specs.KeyLists.{KeysRise};
+    ghost use Rattle.index_keys.proofs.FoundKeys.{one_rises, begun_list_found};
     ghost use Rattle.tune_incipit.specs.Incipits.{incipit_of, tune_notes, finds_steps};
     ghost use Rattle.tune_incipit.specs.ScaleAndIncipitKeys.{bytes_of_steps, incipit_keys};
-    ghost use Rattle.tune_incipit.specs.Inside.KeyLaws.{incipit_rises, incipit_found};
+    ghost use Rattle.tune_incipit.specs.ScaleAndIncipitKeys.{step_bytes, incipit_keys_of};
 
     type Text = TuneText;
 
@@ -101,10 +116,15 @@ impl Keyed<48> for TwelveNoteKeys {
         finds_steps(12, query, text)
     }
 
-    ghost rise = { λ text. incipit_rises 48 (incipit_of 12 (tune_notes text)) };
+    ghost rise = { λ text. elim (incipit_of 12 (tune_notes text))
+        as (λ own. KeysRise 0 (incipit_keys_of 48 own)) [
+          | [] ↦ tt
+          | step ∷ steps ↦ one_rises (cut_number 48 0 (bytes_of_steps (step ∷ steps)))
+        ] };
 
     ghost law = { λ query text is.
-        incipit_found 48 (incipit_of 12 (tune_notes text)) query.steps query.some is };
+        begun_list_found int_eq Decides-int_eq step_bytes 48 (incipit_keys_of 48)
+        (λ _ _. refl) (incipit_of 12 (tune_notes text)) query.steps query.some is };
 }
 
 /// Whether the incipit of the tune, by its first `notes` notes that count, begins with these steps.

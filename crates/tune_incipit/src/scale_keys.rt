@@ -17,9 +17,15 @@ use std::alloc::{AllocError, Global};
 pub enum ScaleKeys {}
 
 impl Keyed<32> for ScaleKeys {
-    ghost use Rattle.tune_incipit.specs.Scales.{finds_scale};
-    ghost use Rattle.tune_incipit.specs.ScaleAndIncipitKeys.{scale_key, scale_keys};
-    ghost use Rattle.tune_incipit.specs.Inside.KeyLaws.{scales_rise, scale_found};
+    ghost use Rattle.std.specs.Prelude.{◌≡◌, true, Some, None};
+    ghost use Rattle.std.proofs.Common.{sym, ap};
+    ghost use Rattle.std.proofs.lemmas.Bool.{true≢false};
+    ghost use Rattle.abc_fields.specs.Fields.{key_text_of};
+    ghost use Rattle.abc_keys.specs.Inside.SameScales.{same_is};
+    ghost use Rattle.index_keys.specs.KeyLists.{KeysRise, HasKeyWithin};
+    ghost use Rattle.index_keys.proofs.FoundKeys.{one_rises, one_is_within};
+    ghost use Rattle.tune_incipit.specs.Scales.{finds_scale, is_scale, scale_of_text};
+    ghost use Rattle.tune_incipit.specs.ScaleAndIncipitKeys.{scale_key, scale_keys, scale_keys_of};
 
     type Text = TuneText;
 
@@ -50,9 +56,18 @@ impl Keyed<32> for ScaleKeys {
         is_in_scale(query, text)
     }
 
-    ghost rise = { λ text. scales_rise text };
+    ghost rise = { λ text. elim (scale_of_text (key_text_of text))
+        as (λ own. KeysRise 0 (scale_keys_of own)) [
+          | None ↦ tt
+          | Some own ↦ one_rises (scale_key own)
+        ] };
 
-    ghost law = { λ query text is. scale_found query text is };
+    ghost law = { λ query text. elim (scale_of_text (key_text_of text))
+        as (λ own. is_scale query own ≡ true
+        → HasKeyWithin (scale_keys_of own) (scale_key query) (scale_key query)) [
+          | None ↦ λ is. absurd (true≢false (sym is))
+          | Some own ↦ λ is. one_is_within _ _ (ap scale_key (same_is query own is))
+        ] };
 }
 
 // Whether the key of the tune is in this scale.

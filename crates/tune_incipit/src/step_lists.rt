@@ -34,11 +34,10 @@ impl Model for Steps {
     ghost inverse = { λ steps. record { items = padded most_steps steps; count = length steps } };
 
     ghost use Rattle.std.proofs.Common.{sym};
-    ghost use Rattle.tune_incipit.specs.Inside.StepRows.{length-held};
 
     ghost inverse_ok = { λ s h i. record {
-      items = sym h.1 i;
-      count = length-held s.count s.items h.0 h.1 i;
+      items = sym h.1.zeros i;
+      count = h.1.steps i;
     } };
 }
 

@@ -11,7 +11,7 @@ use Rattle.tune_index.specs.Inside.EachPage.{HasEachPage}
 use Rattle.tune_index.specs.Inside.LeafLists.{leaves_of, joined, firsts, HasLeaves}
 use Rattle.tune_index.specs.Leaves.{slice_entry, leaf_in, IsLeaf}
 use Rattle.tune_pages.proofs.Marks.{apart_or, not_both}
-use Rattle.index_keys.specs.Inside.Members.{contains_first, contains_later, contains_cases, contains_none}
+use Rattle.index_keys.proofs.Members.{contains_first, contains_later, contains_cases, contains_none}
 use Rattle.std.proofs.lemmas.List.{take-append-drop, drop-drop}
 use Rattle.tune_index.proofs.Puts.{put_form, put_in_use}
 

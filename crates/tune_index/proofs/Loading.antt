@@ -13,8 +13,8 @@ use Rattle.tune_pages.specs.Stand.{Stand, IsFree, AllFree, marked}
 use Rattle.tune_pages.proofs.Chains.{chain_once, free_middle}
 use Rattle.tune_pages.proofs.FreePages.{chain_count}
 use Rattle.tune_pages.proofs.Marks.{free_in}
-use Rattle.index_keys.specs.Inside.KeyNumbers.{bytes_back}
-use Rattle.index_keys.specs.Inside.KeyBytes.{AreBytes}
+use Rattle.index_keys.proofs.KeyNumbers.{bytes_back}
+use Rattle.index_keys.proofs.KeyNumbers.{AreBytes}
 use Rattle.index_keys.specs.Entries.{Entry, IsRising, AllFit}
 use Rattle.index_keys.proofs.RisingEntries.{rises_front}
 use Rattle.tune_index.specs.Indexes.{AllLeaves, Shape, entries_of, heads_of}

@@ -9,7 +9,7 @@ use Rattle.tune_disk.specs.Inside.Spares.{Agrees}
 use Rattle.tune_disk.specs.Stops.{SinceThen, LeavesOnly}
 use Rattle.tune_disk.proofs.Moments.{since_same, since_then}
 use Rattle.tune_disk.proofs.Writes.{written_long}
-use Rattle.tune_disk.specs.Inside.Overwrites.{length_after_some}
+use Rattle.tune_disk.proofs.Overwrites.{length_after_some}
 use Rattle.tune_journal.specs.Image.{window, gate_of, count_of, pages_of, HasPageCount, StandsFor, StandsForNone}
 use Rattle.tune_journal.specs.Inside.LaidFile.{IsCleared, IsLaid}
 use Rattle.tune_journal.specs.Inside.Phases.{IsOutside, Settles}

@@ -11,7 +11,7 @@ use Rattle.std.specs.Ordering.{nat_cmp}
 use Rattle.std.specs.Prelude.{◌==◌, Ok, Err}
 use Rattle.index_keys.specs.Entries.{Entry}
 use Rattle.index_keys.specs.Holdings.{keys_at}
-use Rattle.index_keys.specs.Inside.Members.{kept_front, dropped_front}
+use Rattle.index_keys.proofs.Members.{kept_front, dropped_front}
 use Rattle.tune_index.specs.Leaves.{slice_entry}
 use Rattle.tune_search.specs.SearchClaims.{AreKnown}
 use Rattle.tune_search.specs.Inside.EntryLinks.{first_place, place_from}

@@ -13,8 +13,8 @@ use Rattle.abc_keys.specs.declared.scales.Scale.{Scale}
 use Rattle.index_keys.specs.Cuts.{cut_number}
 use Rattle.index_keys.specs.Entries.{Entry, IsRising, rank, RisesFrom}
 use Rattle.index_keys.specs.Holdings.{HoldsEntries}
-use Rattle.index_keys.specs.Inside.KeyOrder.{with_front, with_later, with_there}
-use Rattle.index_keys.specs.Inside.Members.{contains_cases, contains_first, contains_later, contains_none}
+use Rattle.index_keys.proofs.KeyOrder.{with_front, with_later, with_there}
+use Rattle.index_keys.proofs.Members.{contains_cases, contains_first, contains_later, contains_none}
 use Rattle.index_keys.specs.KeyLists.{rising_keys, with_key}
 use Rattle.tune_incipit.specs.Incipits.{incipit_of, tune_notes}
 use Rattle.tune_incipit.specs.Scales.{scale_of_text}

@@ -8,7 +8,7 @@ use Rattle.std.specs.Prelude.{◌==◌}
 use Rattle.index_keys.specs.Entries.{Entry}
 use Rattle.index_keys.specs.Groups.{Grouped, grouped_entries}
 use Rattle.index_keys.specs.Holdings.{keys_at}
-use Rattle.index_keys.specs.Inside.Members.{dropped_front}
+use Rattle.index_keys.proofs.Members.{dropped_front}
 use Rattle.tune_index.specs.Leaves.{slice_entry}
 use Rattle.tune_search.proofs.ClaimLinks.{keys_from, rising_once}
 use Rattle.tune_search.specs.SearchClaims.{AreKnown}

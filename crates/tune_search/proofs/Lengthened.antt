@@ -9,7 +9,7 @@ use Rattle.index_keys.proofs.Entering.{SmallValues, all_back, all_new}
 use Rattle.index_keys.proofs.RisingEntries.{inserted_all_rises}
 use Rattle.index_keys.specs.Entries.{AllFit, Entry, IsRising, inserted_all}
 use Rattle.index_keys.specs.Holdings.{HoldsEntries}
-use Rattle.index_keys.specs.Inside.Members.{contains_none}
+use Rattle.index_keys.proofs.Members.{contains_none}
 use Rattle.tune_incipit.specs.ScaleAndIncipitKeys.{incipit_keys}
 use Rattle.tune_index.specs.Indexes.{AllLeaves, HasPages, IsIndex, KeepsBalance, KeepsList, Shape, entries_of, heads_of}
 use Rattle.tune_index.specs.Leaves.{leaf_in, slice_entry}

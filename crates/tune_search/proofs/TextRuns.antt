@@ -12,8 +12,8 @@ use Rattle.std.proofs.lemmas.Map.Keys.{IsDistinct-cons, IsDistinct-head, IsDisti
 use Rattle.index_keys.specs.Entries.{AllFit, Entry, FitsLeaf, IsRising, rank, RisesFrom}
 use Rattle.index_keys.specs.Holdings.{AreSmall}
 use Rattle.index_keys.specs.KeyLists.{KeysRise}
-use Rattle.index_keys.specs.Inside.Members.{contains_cases, contains_either, contains_first, contains_later, contains_left, contains_map, contains_none}
-use Rattle.index_keys.specs.Inside.Members.{contains_right, for_each}
+use Rattle.index_keys.proofs.Members.{contains_cases, contains_either, contains_first, contains_later, contains_left, contains_map, contains_none}
+use Rattle.index_keys.proofs.Members.{contains_right, for_each}
 use Rattle.tune_index.proofs.Codec.{AllFit-push}
 use Rattle.tune_search.specs.IncipitRuns.{NumbersRise}
 use Rattle.tune_search.specs.Inside.TextEntries.{entries_at, entries_of_tunes}

@@ -22,7 +22,6 @@ pub struct SetName {
 impl Model for SetName {
     ghost use Rattle.std.specs.Prelude.{ℕ, List, length, take};
     ghost use Rattle.tune_sets.specs.Inside.HeldNames.{IsHeldName, padded};
-    ghost use Rattle.tune_sets.specs.Inside.HeldNames.{padded_again, held_length};
 
     ghost Value = { List ℕ };
 
@@ -32,10 +31,7 @@ impl Model for SetName {
 
     ghost inverse = { λ name. record { bytes = padded name; len = length name } };
 
-    ghost inverse_ok = { λ name held i. record {
-      bytes = padded_again name.len name.bytes held i;
-      len = held_length name.len name.bytes held i;
-    } };
+    ghost inverse_ok = { λ name held i. record { bytes = held.zeros i; len = held.size i } };
 }
 
 impl SetName {

@@ -12,8 +12,8 @@ use Rattle.std.specs.Cmp.Lexicographic.{slice_cmp, nat_list_cmp_total}
 use Rattle.byteorder.specs.Endian.{big_number, big_bytes}
 use Rattle.byteorder.specs.Numbers.{big_number-reads_back}
 use Rattle.index_keys.specs.Cuts.{cut_number}
-use Rattle.index_keys.specs.Inside.CutLaw.{cut_within}
-use Rattle.index_keys.specs.Inside.KeyNumbers.{Answers}
+use Rattle.index_keys.proofs.CutLaw.{cut_within}
+use Rattle.index_keys.proofs.KeyNumbers.{Answers}
 use Rattle.tune_titles.specs.Articles.{small_letters}
 use Rattle.tune_titles.specs.Order.{small_order}
 

@@ -1,3 +1,4 @@
+pub mod KindLaws
 pub mod CutLemmas
 pub mod FrontLemmas
 pub mod ArticleLaw

@@ -1,2 +1,1 @@
 pub mod ArticleBytes
-pub mod KindLaws

@@ -27,10 +27,13 @@ pub struct RhythmKeys<'a> {
 }
 
 impl<'a> Keyed<32> for TitleKeys<'a> {
+    ghost use Rattle.std.specs.Prelude.{map};
+    ghost use Rattle.abc_fields.specs.Fields.{titles_of};
     ghost use Rattle.index_keys.specs.Cuts.{cut_number};
+    ghost use Rattle.index_keys.proofs.FoundKeys.{begun_found};
+    ghost use Rattle.index_keys.proofs.KeyOrder.{keys_rise};
     ghost use Rattle.tune_titles.specs.TitleAndRhythmKeys.{title_keys};
-    ghost use Rattle.tune_titles.specs.Titles.{finds_title};
-    ghost use Rattle.tune_titles.specs.Inside.KindLaws.{titles_found, titles_rise};
+    ghost use Rattle.tune_titles.specs.Titles.{finds_title, sorting_title};
 
     type Text = TuneText;
 
@@ -44,9 +47,10 @@ impl<'a> Keyed<32> for TitleKeys<'a> {
 
     ghost matches = { λ query text. finds_title query text };
 
-    ghost rise = { λ text. titles_rise text };
+    ghost rise = { λ text. keys_rise
+        (map (λ title. cut_number 32 0 (sorting_title title)) (titles_of text)) };
 
-    ghost law = { λ query text is. titles_found query text is };
+    ghost law = { λ query text is. begun_found 32 sorting_title query (titles_of text) is };
 
     fn keys(alloc: Global, text: &TuneText) -> Result<Vec<IndexKey<32>>, AllocError>
         ensures { IfOk result (λ keys. keys.items ≡ title_keys text.now) }
@@ -67,11 +71,17 @@ impl<'a> Keyed<32> for TitleKeys<'a> {
 }
 
 impl<'a> Keyed<32> for RhythmKeys<'a> {
+    ghost use Rattle.std.specs.Prelude.{◌≡◌, false, true, Some, None};
+    ghost use Rattle.std.proofs.Common.{sym};
+    ghost use Rattle.std.proofs.lemmas.Bool.{true≢false};
+    ghost use Rattle.std.specs.Option.{option_map_or};
+    ghost use Rattle.abc_fields.specs.Fields.{rhythm_of};
     ghost use Rattle.index_keys.specs.Cuts.{cut_number};
+    ghost use Rattle.index_keys.specs.KeyLists.{KeysRise, HasKeyWithin};
+    ghost use Rattle.index_keys.proofs.FoundKeys.{one_rises, same_found};
     ghost use Rattle.tune_titles.specs.Articles.{small_letters};
-    ghost use Rattle.tune_titles.specs.TitleAndRhythmKeys.{rhythm_keys};
-    ghost use Rattle.tune_titles.specs.Titles.{finds_rhythm};
-    ghost use Rattle.tune_titles.specs.Inside.KindLaws.{rhythm_found, rhythm_rises};
+    ghost use Rattle.tune_titles.specs.TitleAndRhythmKeys.{rhythm_keys, rhythm_keys_of};
+    ghost use Rattle.tune_titles.specs.Titles.{finds_rhythm, same_rhythm};
 
     type Text = TuneText;
 
@@ -85,9 +95,18 @@ impl<'a> Keyed<32> for RhythmKeys<'a> {
 
     ghost matches = { λ query text. finds_rhythm query.now text };
 
-    ghost rise = { λ text. rhythm_rises text };
+    ghost rise = { λ text. elim (rhythm_of text) as (λ own. KeysRise 0 (rhythm_keys_of own)) [
+      | None ↦ tt
+      | Some own ↦ one_rises (cut_number 32 0 (small_letters own))
+    ] };
 
-    ghost law = { λ query text is. rhythm_found query.now text is };
+    ghost law = { λ query text. elim (rhythm_of text)
+        as (λ own. option_map_or (same_rhythm query.now) own false ≡ true
+        → HasKeyWithin (rhythm_keys_of own) (cut_number 32 0 (small_letters query.now))
+        (cut_number 32 255 (small_letters query.now))) [
+          | None ↦ λ is. absurd (true≢false (sym is))
+          | Some own ↦ λ is. same_found 32 (small_letters query.now) (small_letters own) is
+        ] };
 
     fn keys(alloc: Global, text: &TuneText) -> Result<Vec<IndexKey<32>>, AllocError>
         ensures { IfOk result (λ keys. keys.items ≡ rhythm_keys text.now) }

@@ -1,17 +1,7 @@
 -- A disk of which a stop leaves a mark.
 use Rattle.std.specs.Prelude.{ℕ, ◌≤◌, List, length}
-use Rattle.std.proofs.Common.{arith}
 use Rattle.tune_disk.specs.Disk.{DiskState}
 use Rattle.tune_disk.specs.Stops.{SinceThen}
-use Rattle.tune_archive.specs.Media.{moment_of, LeftFrom}
-use Rattle.tune_archive.specs.Inside.Media.{left_now}
-
--- where a stop now leaves marks alone, it leaves a mark
-pub is_mark : (disk : DiskState) (file : List ℕ) → disk.now.reach ≤ 1
-    → LeftFrom disk (moment_of disk) file → length file ≤ 1
-is_mark disk file one left =
-    let long = (left_now disk file left).no_longer in
-    omega arith
 
 -- where a stop left marks alone, this is one
 abbrev pub StaysMark : DiskState → List ℕ → Type 0

@@ -1,4 +1,4 @@
-use Rattle.index_keys.specs.Inside.CutLaw.{cut_within}
+use Rattle.index_keys.proofs.CutLaw.{cut_within}
 use Rattle.index_keys.proofs.laws.law_of_cuts.Goals as goal
 
 pub returns : goal.returns

@@ -1,4 +1,4 @@
-use Rattle.index_keys.specs.Inside.KeyOrder.{keys_rise}
+use Rattle.index_keys.proofs.KeyOrder.{keys_rise}
 use Rattle.index_keys.proofs.KeyLists.{keys_held}
 use Rattle.index_keys.proofs.laws.law_of_keys.Goals as goal
 

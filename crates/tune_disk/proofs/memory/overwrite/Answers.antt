@@ -1,6 +1,6 @@
 use Rattle.std.proofs.Common.{◌≡◌, ◌+◌, ◌<◌, ℕ, length, ap, ◌∙◌, arith, rules}
 use Rattle.tune_disk.specs.ByteWrites.{filled, pasted}
-use Rattle.tune_disk.specs.Inside.Overwrites.{written_pasted, length-pasted, length-filled}
+use Rattle.tune_disk.proofs.Overwrites.{written_pasted, length-pasted, length-filled}
 use Rattle.tune_disk.proofs.Writes.{whole}
 use Rattle.tune_disk.proofs.memory.overwrite.Goals as goal
 

@@ -1,7 +1,7 @@
 use Rattle.std.proofs.Common.{◌≡◌, rules, ◌∙◌, sym, ap, take, ◌+◌}
 use Rattle.tune_disk.specs.ByteWrites.{put}
 use Rattle.tune_disk.specs.Disk.{DiskState, Written, fresh}
-use Rattle.tune_disk.specs.Inside.Overwrites.{put_written}
+use Rattle.tune_disk.proofs.Overwrites.{put_written}
 use Rattle.tune_disk.specs.Records.{record_to, replayed}
 use Rattle.tune_disk.specs.declared.memory.Record.{Record}
 use Rattle.tune_disk.specs.declared.memory.Record.TheVariants.{Write, Sync}

@@ -2,7 +2,7 @@ use Rattle.std.proofs.Common.{◌≡◌, ℕ, ◌<◌, List, [], ap, sym, ◌∙
 use Rattle.std.proofs.lemmas.List.{append-nil}
 use Rattle.byteorder.specs.Endian.{big_bytes, big_from, big_number}
 use Rattle.byteorder.specs.Numbers.{big_number-reads_back}
-use Rattle.index_keys.specs.Inside.KeyNumbers.{are_bytes}
+use Rattle.index_keys.proofs.KeyNumbers.{are_bytes}
 use Rattle.tune_format.specs.Written.{number_key}
 use Rattle.tune_format.proofs.Bytes.{key_number}
 use Rattle.tune_format.proofs.rows.number_of_key.Goals as goal

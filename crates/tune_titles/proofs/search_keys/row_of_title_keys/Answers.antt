@@ -2,7 +2,7 @@ use Rattle.std.proofs.Common.{◌≡◌, ℕ, ◌+◌, ◌-◌, ◌<◌, ◌≤�
 use Rattle.std.proofs.lemmas.List.{drop_more}
 use Rattle.index_keys.specs.Cuts.{cut_number}
 use Rattle.index_keys.specs.KeyLists.{with_key, rising_keys}
-use Rattle.index_keys.specs.Inside.KeyOrder.{keys_rise}
+use Rattle.index_keys.proofs.KeyOrder.{keys_rise}
 use Rattle.tune_titles.specs.Titles.{sorting_title}
 use Rattle.tune_titles.proofs.search_keys.row_of_title_keys.Goals as goal
 

@@ -5,7 +5,11 @@ use Rattle.tune_disk.specs.Inside.ToldMore.{IsToldMore}
 use Rattle.tune_disk.specs.FileTold.{at_opening}
 use Rattle.tune_disk.proofs.Kept.{holds_then}
 use Rattle.tune_disk.proofs.Told.{length_more, length_told}
+use Rattle.tune_disk.proofs.FileStays.{telling_stays}
 use Rattle.tune_disk.proofs.file.FileDiskDisk.len.Goals as goal
+
+pub invariant_of-self-2 : goal.invariant_of-self-2
+invariant_of-self-2 g c = record { stays = telling_stays c.measure-size.new.log.items }
 
 pub returns-clause-len : goal.returns-clause-len
 returns-clause-len g c =

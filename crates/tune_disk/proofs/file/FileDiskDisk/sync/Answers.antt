@@ -3,7 +3,11 @@ use Rattle.tune_disk.specs.Disk.{CountsFailure}
 use Rattle.tune_disk.specs.FileDisk.{file_history}
 use Rattle.tune_disk.specs.FileTold.{at_opening}
 use Rattle.tune_disk.proofs.Told.{sync_more, sync_told, same_answer}
+use Rattle.tune_disk.proofs.FileStays.{telling_stays}
 use Rattle.tune_disk.proofs.file.FileDiskDisk.sync.Goals as goal
+
+pub invariant_of-self-2 : goal.invariant_of-self-2
+invariant_of-self-2 g c = record { stays = telling_stays c.make_stable-done.new.log.items }
 
 pub returns-clause-calls : goal.returns-clause-calls
 returns-clause-calls g c =

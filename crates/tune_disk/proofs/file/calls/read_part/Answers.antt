@@ -1,5 +1,5 @@
 use Rattle.std.proofs.Common.{◌∙◌, ◌-◌, ◌++◌, ◌∷◌, [], ℕ, List, ap, get_or, length}
-use Rattle.tune_disk.specs.Inside.Overwrites.{same_byte}
+use Rattle.tune_disk.proofs.Overwrites.{same_byte}
 use Rattle.tune_disk.specs.declared.file.told.Told.{Told}
 use Rattle.tune_disk.specs.declared.file.told.Told.TheVariants.{Ended}
 use Rattle.tune_disk.proofs.Told.{read_ended}

@@ -1,6 +1,5 @@
 use Rattle.std.proofs.Common.{◌≡◌, ◌-◌, ◌++◌, ℕ, List, length, replicate, sym, ap, ◌∙◌, subst, rules}
 use Rattle.tune_disk.specs.Inside.Fills.{Fills}
-use Rattle.tune_disk.specs.Inside.Stays.{memory_stays}
 use Rattle.tune_disk.specs.Memory.{memory_state, IsFilled}
 use Rattle.tune_disk.specs.Records.{state_of}
 use Rattle.tune_disk.specs.declared.memory.Record.{Record}
@@ -28,4 +27,4 @@ returns c =
     let fills : Fills byte s.now.written longer new = subst (λ (l : List ℕ). Fills byte s.now.written l new) from filled in
     let same : length new ≡ length longer = fills.long in
     let n : c.lengthen.new.file.len ≡ length longer = search rules in
-    subst (IsFilled byte s) (sym (whole c.lengthen.new.file.len longer new same n)) (filled_is byte s longer new (memory_stays disk) long fills)
+    subst (IsFilled byte s) (sym (whole c.lengthen.new.file.len longer new same n)) (filled_is byte s longer new disk.stays long fills)

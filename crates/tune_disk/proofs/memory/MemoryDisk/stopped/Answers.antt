@@ -1,6 +1,5 @@
 use Rattle.std.proofs.Common.{◌≡◌, rules, sym, ap, subst}
 use Rattle.tune_disk.specs.Disk.{DiskState, MayLeave}
-use Rattle.tune_disk.specs.Inside.Stays.{memory_stays}
 use Rattle.tune_disk.specs.Memory.{memory_state, IsFilled}
 use Rattle.tune_disk.proofs.Filled.{filled_stays}
 use Rattle.tune_disk.proofs.Kept.{stable_stays, holds_then}
@@ -11,7 +10,7 @@ use Rattle.tune_disk.proofs.memory.MemoryDisk.stopped.Goals.{in-Fill+in_ok-file-
 pub returns-clause-file : goal.returns-clause-file
 returns-clause-file c =
     let s = memory_state c.args.self.now in
-    let stays = memory_stays c.args.self.now in
+    let stays = c.args.self.now.stays in
     let file = c.match-choice.file.items in
     let left : MayLeave s.now file = elim c.match-choice.branch [
       | in-Lost+in_ok-file-in-Lost w ↦ (let is : file ≡ s.now.stable = search rules in subst (MayLeave s.now) (sym is) (stable_stays _ _ stays))

@@ -1,10 +1,14 @@
 use Rattle.tune_disk.proofs.Kept.{write_kept, write_done}
+use Rattle.tune_disk.proofs.Stays.{state_stays}
 use Rattle.tune_disk.proofs.memory.MemoryDiskDisk.write_at.Goals as goal
 
 pub invariant_of-self : goal.invariant_of-self
 invariant_of-self c =
     let done = c.write_and_record-done.ensures in
-    record { replays = write_kept _ _ _ _ c.args.self.now.replays _ _ _ _ done.content done.content_err done.records done.records_err }
+    record {
+      replays = write_kept _ _ _ _ c.args.self.now.replays _ _ _ _ done.content done.content_err done.records done.records_err;
+      stays = state_stays c.args.self.now.first.items c.write_and_record-done.new.records.items;
+    }
 
 pub returns-clause-write : goal.returns-clause-write
 returns-clause-write c =

@@ -1,11 +1,11 @@
 use Rattle.std.proofs.Common.{◌<◌, length, arith, ap, to_z, of_z, w8}
-use Rattle.tune_incipit.specs.Inside.StepRows.{most_steps, length-held}
+use Rattle.tune_incipit.specs.Inside.StepRows.{most_steps}
 use Rattle.tune_incipit.proofs.StepRows.{padded_more}
 use Rattle.tune_incipit.proofs.small_steps.SmallSteps.push.Goals as goal
 
 pub invariant_of-self : goal.invariant_of-self
 invariant_of-self c =
     let row = c.self.inside in
-    let long = length-held row.count row.items c.self.invariant.0 c.self.invariant.1 in
+    let long = c.self.invariant.1.steps in
     let room : row.count < most_steps = omega (arith, long, ap length c.self.view_is) in
     (omega arith, padded_more row.count row.items (to_z w8 (of_z w8 c.args.step)) room c.self.invariant.1)

@@ -5,14 +5,13 @@ use Rattle.std.proofs.lemmas.Bool.{cases_lt}
 use Rattle.std.proofs.lemmas.Int.{ints}
 use Rattle.std.proofs.lemmas.List.{take_more_set, length-take-le}
 use Rattle.tune_incipit.specs.Incipits.{differences}
-use Rattle.tune_incipit.specs.Inside.StepRows.{length-row}
 use Rattle.tune_incipit.proofs.Growing.{differences_few, differences_more}
-use Rattle.tune_incipit.proofs.StepRows.{padded_more}
+use Rattle.tune_incipit.proofs.StepRows.{length-row, padded_more}
 use Rattle.tune_incipit.proofs.step_lists.Steps.between.Goals as goal
 
 pub loop-place-init : goal.loop-place-init
 loop-place-init c = record {
-  padded = refl;
+  padded = record { steps = refl; zeros = refl };
   steps = sym (differences_few (take 1 c.args.pitches.now) (omega (arith, length-take-le 1 c.args.pitches.now (omega (arith, c.told-pitches)))));
 }
 

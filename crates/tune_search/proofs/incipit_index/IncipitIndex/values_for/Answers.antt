@@ -7,7 +7,7 @@ use Rattle.index_keys.specs.Holdings.{HoldsEntries}
 use Rattle.index_keys.specs.KeyLists.{HasKeyWithin}
 use Rattle.index_keys.proofs.Holding.{holds_within}
 use Rattle.tune_incipit.specs.Incipits.{finds_steps, incipit_of, tune_notes}
-use Rattle.tune_incipit.specs.Inside.KeyLaws.{incipit_found}
+use Rattle.tune_incipit.proofs.KeyLaws.{incipit_found}
 use Rattle.tune_incipit.specs.ScaleAndIncipitKeys.{bytes_of_steps, incipit_keys}
 use Rattle.tune_index.specs.Indexes.{Shape, entries_of}
 use Rattle.tune_search.specs.IncipitForms.{notes_of_index, shape_of}

@@ -1,7 +1,7 @@
 use Rattle.std.proofs.Common.{List, subst, sym}
 use Rattle.index_keys.specs.Entries.{Entry}
 use Rattle.tune_incipit.specs.Incipits.{incipit_of, tune_notes}
-use Rattle.tune_incipit.specs.Inside.KeyLaws.{incipit_rises}
+use Rattle.tune_incipit.proofs.KeyLaws.{incipit_rises}
 use Rattle.tune_incipit.specs.ScaleAndIncipitKeys.{incipit_keys}
 use Rattle.tune_search.specs.IncipitRuns.{GathersIncipits}
 use Rattle.tune_search.specs.Searches.{incipit_bytes}

@@ -1,11 +1,11 @@
 use Rattle.std.proofs.Common.{◌≡◌, ℕ, List, ◌∙◌, ap, sym}
 use Rattle.tune_incipit.specs.Incipits.{incipit_of, tune_notes}
-use Rattle.tune_incipit.specs.Inside.KeyLaws.{incipit_rises, scales_rise}
+use Rattle.tune_incipit.proofs.KeyLaws.{incipit_rises, scales_rise}
 use Rattle.tune_incipit.specs.Scales.{scale_of_text}
 use Rattle.tune_incipit.specs.ScaleAndIncipitKeys.{incipit_keys, scale_keys, scale_keys_of}
 use Rattle.tune_search.specs.IncipitForms.{entries_in, notes_in, notes_of_entries}
 use Rattle.tune_search.specs.Searches.{incipit_bytes, key_bytes, numbered}
-use Rattle.tune_titles.specs.Inside.KindLaws.{rhythm_rises, titles_rise}
+use Rattle.tune_titles.proofs.KindLaws.{rhythm_rises, titles_rise}
 use Rattle.tune_titles.specs.TitleAndRhythmKeys.{rhythm_keys, rhythm_keys_of, title_keys, title_keys_of}
 use Rattle.tune_search.proofs.TextRuns.{gathered_more, is_run_of, shown_alone}
 use Rattle.tune_search.proofs.AsManyNotes.{notes_more, notes_run}

@@ -1,11 +1,11 @@
-use Rattle.std.proofs.Common.{◌≡◌, ℕ, ◌-◌, ◌≤◌, List, ◌++◌, length, drop, true, ap, ◌∙◌, arith, length-append}
-use Rattle.std.proofs.Math.Seq.{take-append_seam, drop-append_seam}
+use Rattle.std.proofs.Common.{◌≡◌, ℕ, ◌-◌, ◌≤◌, List, ◌++◌, length, drop, true, ap, sym, ◌∙◌, arith}
+use Rattle.std.proofs.Math.Seq.{take-append_seam}
 use Rattle.std.proofs.Math.ListN.{replicate}
 use Rattle.std.proofs.lemmas.Bool.Decides.{nat_tests}
-use Rattle.std.proofs.lemmas.List.{drop-replicate, length-replicate}
+use Rattle.std.proofs.lemmas.List.{drop-replicate}
 use Rattle.tune_sets.specs.Limits.{longest_name}
 use Rattle.tune_sets.specs.Names.{is_good_name}
-use Rattle.tune_sets.specs.Inside.HeldNames.{IsHeldName}
+use Rattle.tune_sets.specs.Inside.HeldNames.{IsHeldName, padded}
 use Rattle.tune_sets.proofs.names.SetName.held.Goals as goal
 
 short_name : (name : List ℕ) → is_good_name name ≡ true → length name ≤ longest_name
@@ -15,14 +15,13 @@ short_name name good = grind (arith, nat_tests)
 held : (name front tail : List ℕ) → is_good_name name ≡ true → front ≡ name → tail ≡ drop (length name) (replicate longest_name 0)
     → IsHeldName (length name) (front ++ tail)
 held name front tail good copied rest =
-    let short = short_name name good in
     let zeros : tail ≡ replicate (longest_name - length name) 0 = rest ∙ drop-replicate (length name) longest_name 0 in
-    let size = ap length zeros in
+    let begins = take-append_seam name tail in
     rw copied record {
-      short = short;
-      size = omega (arith, length-append name tail, length-replicate {A = ℕ} (longest_name - length name) 0, size);
-      good = ap is_good_name (take-append_seam name tail) ∙ good;
-      zeros = drop-append_seam name tail ∙ zeros;
+      short = short_name name good;
+      size = ap length begins;
+      good = ap is_good_name begins ∙ good;
+      zeros = ap padded begins ∙ ap (λ more. name ++ more) (sym zeros);
     }
 
 pub invariant_of-result : goal.invariant_of-result

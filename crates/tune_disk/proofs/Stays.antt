@@ -2,10 +2,8 @@
 use Rattle.std.specs.Prelude.{ℕ, List, [], ◌∷◌, length, refl}
 use Rattle.std.proofs.Common.{◌∙◌, arith}
 use Rattle.tune_disk.specs.Disk.{Medium, DiskState, MayLeave, Written, touched, settled}
-use Rattle.tune_disk.specs.Inside.Overwrites.{longer_after, length_after_rises, put_written}
-use Rattle.tune_disk.specs.Memory.{memory_state}
-use Rattle.tune_disk.specs.Records.{record_to, replayed}
-use Rattle.tune_disk.specs.declared.memory.MemoryDisk.{MemoryDisk}
+use Rattle.tune_disk.proofs.Overwrites.{longer_after, length_after_rises, put_written}
+use Rattle.tune_disk.specs.Records.{record_to, replayed, state_of}
 use Rattle.tune_disk.specs.declared.memory.Record.{Record}
 use Rattle.tune_disk.specs.declared.memory.Record.TheVariants.{Write, Sync}
 
@@ -39,5 +37,6 @@ replayed_stays [] s stays = stays
 replayed_stays (one ∷ more) s stays =
     replayed_stays more (record_to one s) (record_stays one s stays)
 
-pub memory_stays : (disk : MemoryDisk) → MayLeave (memory_state disk).now (memory_state disk).seen
-memory_stays disk = replayed_stays disk.records.items _ (settled_stays disk.first.items)
+-- a state of a disk in memory
+pub state_stays : (first : List ℕ) (records : List Record) → MayLeave (state_of first records).now (state_of first records).seen
+state_stays first records = replayed_stays records _ (settled_stays first)

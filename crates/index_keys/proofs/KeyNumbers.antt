@@ -1,7 +1,7 @@
 -- Keys as numbers: the bytes of a key are those of its number, and the order of the bytes is
 -- that of the numbers.
 use Rattle.std.proofs.Common.{◌≡◌, ℕ, zero, suc, ◌+◌, ◌/◌, ◌*◌, ◌^◌, ◌<◌, ◌≤◌, List, [], ◌∷◌, ◌++◌}
-use Rattle.std.proofs.Common.{slice_index, refl, sym, ap, ◌∙◌, arith, Ordering}
+use Rattle.std.proofs.Common.{length, slice_index, subst, refl, sym, ap, ◌∙◌, arith, Ordering}
 use Rattle.std.specs.Ordering.{nat_cmp, ordering_then, MatchOrdering}
 use Rattle.std.specs.declared.cmp.Ordering.TheVariants.{Less, Equal, Greater}
 use Rattle.std.specs.Cmp.{ranks}
@@ -12,7 +12,11 @@ use Rattle.std.proofs.Math.Nat.{mul-le-mul_right, add-mul, mod-lt}
 use Rattle.byteorder.specs.Endian.{big_from, big_bytes}
 use Rattle.byteorder.specs.Numbers.{big_from-cons, big_from-lt, big_number-reads_back}
 use Rattle.byteorder.specs.Numbers.{length-bytes_high_first}
-use Rattle.index_keys.specs.Inside.KeyBytes.{AreBytes}
+
+-- a list of n bytes
+pub record AreBytes (n : ℕ) (bytes : List ℕ) : Type 0 where
+  pub size : length bytes ≡ n
+  pub small : (k : ℕ) → slice_index bytes k < 256
 
 -- what an answer says of two numbers
 abbrev pub Answers : Ordering → ℕ → ℕ → Type 0
@@ -109,3 +113,7 @@ bytes_back n xs h =
     big_number-reads_back n (big_from 0 n xs) [] (big_from-lt 0 n xs h.small) in
     same_bytes n (bytes_high_first n (big_from 0 n xs)) xs (are_bytes n (big_from 0 n xs)) h
     (rw append-nil at e)
+
+-- bytes that are those of their number are so many bytes
+pub bytes_of_back : (n : ℕ) (xs : List ℕ) → big_bytes n (big_from 0 n xs) ≡ xs → AreBytes n xs
+bytes_of_back n xs back = subst (AreBytes n) back (are_bytes n (big_from 0 n xs))

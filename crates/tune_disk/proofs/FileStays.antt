@@ -2,12 +2,11 @@
 use Rattle.std.specs.Prelude.{ℕ, List, [], ◌∷◌, length}
 use Rattle.std.proofs.Common.{◌∙◌, arith}
 use Rattle.tune_disk.specs.Disk.{Medium, MayLeave, Torn, touched}
-use Rattle.tune_disk.specs.FileDisk.{file_history, file_state, FileIsHonest}
+use Rattle.tune_disk.specs.Inside.MayStay.{TellingMayStay}
 use Rattle.tune_disk.specs.FileTold.{History, Course, told, course, at_opening, AnswerFits}
 use Rattle.tune_disk.specs.FileTold.{AnswersFit}
-use Rattle.tune_disk.specs.Inside.Overwrites.{length_after_rises, put_written}
-use Rattle.tune_disk.specs.Inside.Stays.{written_stays, settled_stays}
-use Rattle.tune_disk.specs.declared.file.FileDisk.{FileDisk}
+use Rattle.tune_disk.proofs.Overwrites.{length_after_rises, put_written}
+use Rattle.tune_disk.proofs.Stays.{written_stays, settled_stays}
 use Rattle.tune_disk.specs.declared.file.told.Told.{Told}
 use Rattle.tune_disk.specs.declared.file.told.Told.TheVariants.{Length, Byte, Ended, Begun, Put}
 use Rattle.tune_disk.specs.declared.file.told.Told.TheVariants.{Wrote, Broke, Synced}
@@ -42,9 +41,6 @@ course_stays h c (one ∷ more) stays fit =
     let after = told h one.0 one.1 c in
     course_stays h after more (told_stays h one.0 one.1 c stays fit.0) fit.1
 
-pub file_stays : {H : Type 0} (history : H → History) (disk : FileDisk H)
-    → FileIsHonest history disk
-    → MayLeave (file_state history disk).now (file_state history disk).seen
-file_stays history disk honest =
-    let h = file_history history disk in
-    course_stays h (at_opening h) disk.log.items honest.opened honest.told
+-- whatever a file told
+pub telling_stays : (log : List (ℕ × Told)) → TellingMayStay log
+telling_stays log h opened fit = course_stays h (at_opening h) log opened fit

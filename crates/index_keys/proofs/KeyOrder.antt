@@ -5,7 +5,7 @@ use Rattle.std.proofs.lemmas.Bool.{cases_lt}
 use Rattle.std.proofs.lemmas.Bool.Decides.{nat_tests}
 use Rattle.std.specs.List.{Contains}
 use Rattle.index_keys.specs.KeyLists.{KeysRise, with_key, rising_keys}
-use Rattle.index_keys.specs.Inside.Members.{contains_first, contains_later}
+use Rattle.index_keys.proofs.Members.{contains_first, contains_later}
 
 -- the three cases of `with_key`
 pub with_front : (key other : ℕ) (keys : List ℕ) → key < other
