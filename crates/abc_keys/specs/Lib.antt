@@ -1,7 +1,8 @@
 pub mod ByteRuns
 pub mod Letters
 pub mod Signatures
-pub mod ScaleTable
+pub mod Fifths
+pub mod SameScales
 pub mod Accidentals
 pub mod ModeWords
 pub mod Keys

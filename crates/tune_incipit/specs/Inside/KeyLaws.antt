@@ -11,7 +11,7 @@ use Rattle.std.proofs.lemmas.List.{length-append}
 use Rattle.std.proofs.lemmas.Slice.Eq.{starts_is}
 use Rattle.abc_fields.specs.Fields.{key_text_of}
 use Rattle.abc_keys.specs.declared.scales.Scale.{Scale}
-use Rattle.abc_keys.specs.Inside.SameScales.{same_is}
+use Rattle.abc_keys.specs.Inside.SameScaleLaw.{same_is}
 use Rattle.index_keys.specs.Cuts.{cut_number, LiesWithin}
 use Rattle.index_keys.specs.Inside.CutLaw.{cut_within}
 use Rattle.index_keys.specs.KeyLists.{KeysRise, HasKeyWithin}
