@@ -1,5 +1,6 @@
 pub mod LetterCounts
 pub mod SameScaleLaw
+pub mod ModeWords
 pub mod KeySteps
 pub mod RunLaw
 pub mod ModeWordLaw

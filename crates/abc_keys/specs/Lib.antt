@@ -4,7 +4,6 @@ pub mod Signatures
 pub mod Fifths
 pub mod SameScales
 pub mod Accidentals
-pub mod ModeWords
 pub mod Keys
 pub mod KeyCases
 pub mod Inside

@@ -27,7 +27,7 @@ use Rattle.abc_keys.specs.declared.keys.Key.TheVariants as key
 use Rattle.abc_keys.specs.Signatures.{no_accidentals, of_count}
 use Rattle.abc_keys.specs.Fifths.{listed_count}
 use Rattle.abc_keys.specs.Accidentals.{with_words}
-use Rattle.abc_keys.specs.ModeWords.{is_word}
+use Rattle.abc_keys.specs.Inside.ModeWords.{is_word}
 use Rattle.abc_keys.specs.ByteRuns.{IsRun}
 use Rattle.abc_keys.specs.Inside.KeySteps.{is_ink, past, pipes_signature, is_none, key_of_scale}
 use Rattle.abc_keys.specs.Inside.KeySteps.{key_after_tonic, key_with_tonic, key_of_trimmed}

@@ -19,12 +19,12 @@ use Rattle.abc_keys.specs.declared.mode_words.ModeWord.{ModeWord}
 use Rattle.abc_keys.specs.declared.mode_words.ModeWord.TheVariants.{Mode, Explicit}
 use Rattle.abc_keys.specs.declared.keys.Key.{Key}
 use Rattle.abc_keys.specs.declared.keys.Key.TheVariants as key
-use Rattle.abc_keys.specs.Letters.{capital_letter}
+use Rattle.abc_keys.specs.Letters.{letter_of}
 use Rattle.abc_keys.specs.Signatures.{no_accidentals, of_count}
 use Rattle.abc_keys.specs.Fifths.{listed_count}
 use Rattle.abc_keys.specs.KeyCases.{may_follow_tonic}
 use Rattle.abc_keys.specs.Accidentals.{with_words}
-use Rattle.abc_keys.specs.ModeWords.{is_word, mode_of}
+use Rattle.abc_keys.specs.Inside.ModeWords.{is_word, mode_of}
 
 -- PARTS OF A TEXT
 -- a byte that is not blank
@@ -83,6 +83,10 @@ key_after_letter tonic (byte ∷ text) =
     if is_one_of (codes "#") byte then key_after_sign tonic Sharp text
     else if is_one_of (codes "b") byte then key_after_sign tonic Flat text
     else key_after_sign tonic Natural (byte ∷ text)
+
+-- the letter that a capital names
+abbrev pub capital_letter : ℕ → Option Letter
+capital_letter byte = if is_one_of (codes "ABCDEFG") byte then letter_of byte else None
 
 -- a tonic from `A` to `G`, or no key
 abbrev pub key_with_tonic : List ℕ → Key

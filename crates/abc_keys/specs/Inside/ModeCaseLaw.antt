@@ -19,7 +19,7 @@ use Rattle.abc_keys.specs.declared.mode_words.ModeWord.TheVariants.{Mode as AsMo
 use Rattle.abc_keys.specs.declared.keys.Key.{Key}
 use Rattle.abc_keys.specs.declared.keys.Key.TheVariants as key
 use Rattle.abc_keys.specs.ByteRuns.{IsRun}
-use Rattle.abc_keys.specs.ModeWords.{mode_of}
+use Rattle.abc_keys.specs.Inside.ModeWords.{mode_of}
 use Rattle.abc_keys.specs.Inside.KeySteps.{past, key_of_scale, key_of_mode, key_after_tonic}
 use Rattle.abc_keys.specs.KeyCases.{IsOtherWord, HasWord, SaysMode, by_word, without_word}
 use Rattle.abc_keys.specs.KeyCases.{by_other_word}

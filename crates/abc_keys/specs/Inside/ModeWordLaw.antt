@@ -12,7 +12,7 @@ use Rattle.abc_keys.specs.declared.scales.Mode.TheVariants.{Major, Lydian, Mixol
 use Rattle.abc_keys.specs.declared.scales.Mode.TheVariants.{Minor, Phrygian, Locrian}
 use Rattle.abc_keys.specs.declared.mode_words.ModeWord.{ModeWord}
 use Rattle.abc_keys.specs.declared.mode_words.ModeWord.TheVariants.{Mode as AsMode, Explicit}
-use Rattle.abc_keys.specs.ModeWords.{mode_of}
+use Rattle.abc_keys.specs.Inside.ModeWords.{mode_of}
 use Rattle.abc_keys.specs.KeyCases.{IsName, IsModeWord, m_alone, begins_with_name}
 
 -- BYTES IN SMALL LETTERS

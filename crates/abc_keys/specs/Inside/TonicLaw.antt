@@ -12,7 +12,7 @@ use Rattle.abc_keys.specs.declared.letters.Letter.TheVariants.{C, D, E, F, G, A,
 use Rattle.abc_keys.specs.declared.scales.Sign.{Sign}
 use Rattle.abc_keys.specs.declared.scales.Sign.TheVariants.{Natural, Sharp, Flat}
 use Rattle.abc_keys.specs.declared.keys.Key.TheVariants as key
-use Rattle.abc_keys.specs.Letters.{capital_letter}
+use Rattle.abc_keys.specs.Inside.KeySteps.{capital_letter}
 use Rattle.abc_keys.specs.Inside.KeySteps.{key_after_tonic, key_after_sign, key_after_letter}
 use Rattle.abc_keys.specs.Inside.KeySteps.{key_with_tonic}
 use Rattle.abc_keys.specs.KeyCases.{tonic_text, sign_text, may_follow_tonic, HasTonic}
