@@ -36,7 +36,7 @@ USE_LIST = re.compile(r"use\s+(Rattle\.[\w.]+)\.\{([^}]*)\}")
 USE_MODULE = re.compile(r"use\s+(Rattle\.[\w.]+?)(?:\s+as\s+(\w+))?;?\s*$", re.M)
 DEFINITION = re.compile(r"^\s{0,4}(?:(?:abbrev|unfoldable|pub|record|data)\s+)+([^\s:{}()]+)")
 FIELD = re.compile(r"^\s+pub \S+ :")
-THERE_IS = re.compile(r" (?:→|:) \(\w+ : [^()]*\) × [^→]*$")
+THERE_IS = re.compile(r"\s(?:→|:)\s+\(\w+ : [^()]*\)\s+× [^→]*$")
 WORD = re.compile(r"[^\s(){}\[\],;:`\"→λ]+")
 HEAD = re.compile(r"^(\s*)((?:(?:abbrev|unfoldable|pub|record|data|module) +)*)"
                   r"([^\s:{}()]+)((?:\s|$).*)")

@@ -1,6 +1,8 @@
 pub mod LetterCounts
 pub mod SameScaleLaw
 pub mod ModeWords
+pub mod PairSteps
+pub mod PairLaw
 pub mod KeySteps
 pub mod RunLaw
 pub mod ModeWordLaw

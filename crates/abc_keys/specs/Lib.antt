@@ -3,6 +3,7 @@ pub mod Letters
 pub mod Signatures
 pub mod Fifths
 pub mod SameScales
+pub mod Pairs
 pub mod Accidentals
 pub mod Keys
 pub mod KeyCases

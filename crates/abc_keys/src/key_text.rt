@@ -7,7 +7,8 @@ ghost use Rattle.abc_keys.specs.declared.signatures.Signature.{Signature as AnyS
 ghost use Rattle.abc_keys.specs.declared.scales.Scale.{Scale as AnyScale};
 ghost use Rattle.abc_keys.specs.Signatures.{of_count, HasCount};
 ghost use Rattle.abc_keys.specs.Fifths.{listed_count};
-ghost use Rattle.abc_keys.specs.Accidentals.{with_words, Setting, SetsItsPairs, LastCounts};
+ghost use Rattle.abc_keys.specs.Pairs.{Setting};
+ghost use Rattle.abc_keys.specs.Accidentals.{with_words, SetsItsPairs, LastCounts};
 ghost use Rattle.abc_keys.specs.declared.keys.Key.{Key as AnyKey};
 ghost use Rattle.abc_keys.specs.KeyCases.{IsKeyText, tonic_text};
 ghost use Rattle.abc_keys.specs.Keys.{key_of_text, SkipsBlanks};
