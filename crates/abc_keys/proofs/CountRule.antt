@@ -3,7 +3,7 @@ use Rattle.std.proofs.Common.{◌≡◌, ℕ, zero, suc, ◌<◌, refl, ℤ, pos
 use Rattle.std.proofs.lemmas.Int.{ints}
 use Rattle.abc_keys.specs.declared.letters.Accidental.{Accidental}
 use Rattle.abc_keys.specs.declared.signatures.Signature.{Signature}
-use Rattle.abc_keys.specs.Inside.Fifths.{by_count}
+use Rattle.abc_keys.specs.Inside.LetterCounts.{by_count}
 use Rattle.abc_keys.specs.Signatures.{of_count, HasCount}
 
 -- THE CODE'S NUMBERS GIVE THE ORDERS
@@ -70,7 +70,7 @@ flats_in_order (suc (suc (suc (suc (suc zero))))) few = (refl, (refl, (refl, (re
 flats_in_order (suc (suc (suc (suc (suc (suc zero)))))) few = (refl, (refl, (refl, (refl, (refl, (refl, (refl, tt)))))))
 flats_in_order (suc (suc (suc (suc (suc (suc (suc n))))))) few = absurd (omega arith)
 
--- a count of the table has its sharps or flats in their order
+-- a count that is listed has its sharps or flats in their order
 pub in_order : (z : ℤ) → negsuc 6 ≤ℤ z → z ≤ℤ pos 7 → HasCount z (of_count z)
 in_order (pos n) low high = sharps_in_order n (omega (arith, ints))
 in_order (negsuc n) low high = flats_in_order n (omega (arith, ints))

@@ -1,9 +1,5 @@
-pub mod TableRule
+pub mod FifthBounds
 pub mod CountRule
 pub mod AccidentalLaws
-pub mod ByteRuns
-pub mod ModeWordLaw
-pub mod ModeCaseLaw
-pub mod TonicLaw
-pub mod KeyCaseLaw
+mod ScaleTable
 mod WorkedKeys

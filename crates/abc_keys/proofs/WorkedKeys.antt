@@ -12,11 +12,11 @@ use Rattle.abc_keys.specs.declared.scales.Scale.{Scale}
 use Rattle.abc_keys.specs.declared.mode_words.ModeWord.TheVariants.{Mode as AsMode, Explicit}
 use Rattle.abc_keys.specs.declared.keys.Key.TheVariants as key
 use Rattle.abc_keys.specs.Signatures.{no_accidentals}
-use Rattle.abc_keys.specs.ScaleTable.{listed_count}
+use Rattle.abc_keys.specs.Fifths.{listed_count}
 use Rattle.abc_keys.specs.Keys.{key_of_text}
 use Rattle.abc_keys.specs.KeyCases.{IsModeWord, begins_with_name, HasWord, by_word, by_other_word, HasTonic, none_first, pipes, pipes_with_sharps}
 use Rattle.abc_keys.specs.KeyCases.{modal, explicit, by_case, IsKeyText}
-use Rattle.abc_keys.proofs.KeyCaseLaw.{is_key_text}
+use Rattle.abc_keys.specs.Inside.KeyCaseLaw.{is_key_text}
 
 -- a scale by its parts
 abbrev scale : Letter → Sign → Mode → Scale
@@ -74,7 +74,7 @@ sharp_pipes = by_case _ _ (pipes_with_sharps _ (codes " ^g") refl refl)
 no_key : IsKeyText (codes " None ^f\t") (key.Bare (record no_accidentals { f = accidental.Sharp }))
 no_key = by_case _ _ (none_first _ (codes "None") (codes " ^f") refl refl refl)
 
--- G sharp major stands in no row of the table, and a small letter is no tonic: no case says a key
+-- G sharp major has eight sharps, and a small letter is no tonic: no case says a key
 unlisted_scale : IsKeyText (codes "G#") key.Unread
 unfolding key_of_text listed_count
 unlisted_scale = is_key_text (codes "G#")

@@ -1,6 +1,6 @@
 -- A key text read by cases (ABC 2.1, 3.1.14; own profile where the standard is silent).
-use Rattle.std.specs.Prelude.{◌≡◌, ◌⊎◌, ℕ, ◌<◌, ℤ, true, false, List, [], ◌++◌, codes, map, length}
-use Rattle.std.specs.Prelude.{Some}
+use Rattle.std.specs.Prelude.{◌≡◌, ◌⊎◌, ℕ, ◌<◌, ℤ, Bool, true, false, ◌||◌, List, [], ◌∷◌, ◌++◌}
+use Rattle.std.specs.Prelude.{codes, map, length, Some}
 use Rattle.std.specs.Char.{to_ascii_lowercase, is_ascii_alphabetic}
 use Rattle.abc_fields.specs.Bytes.{is_blank, is_all_blank, is_one_of, begins}
 use Rattle.abc_fields.specs.Words.{ends_part, trimmed}
@@ -18,9 +18,8 @@ use Rattle.abc_keys.specs.declared.keys.Key.{Key}
 use Rattle.abc_keys.specs.declared.keys.Key.TheVariants as key
 use Rattle.abc_keys.specs.ByteRuns.{IsRun}
 use Rattle.abc_keys.specs.Signatures.{no_accidentals, of_count}
-use Rattle.abc_keys.specs.ScaleTable.{listed_count}
+use Rattle.abc_keys.specs.Fifths.{listed_count}
 use Rattle.abc_keys.specs.Accidentals.{with_words}
-use Rattle.abc_keys.specs.Keys.{may_follow_tonic}
 
 -- MODE WORDS
 -- the names of modes and of `exp`: the first three letters of their words
@@ -87,6 +86,12 @@ sign_text Natural = []
 sign_text Sharp = codes "#"
 sign_text Flat = codes "b"
 
+-- what may follow a tonic and its sign: nothing, a space, a tab, a letter, `^`, `_` or `=`
+abbrev pub may_follow_tonic : List ℕ → Bool
+may_follow_tonic [] = true
+may_follow_tonic (byte ∷ text) =
+    is_blank byte || is_ascii_alphabetic byte || is_one_of (codes "^_=") byte
+
 -- a text that begins with a tonic and its sign, which is taken where there is one, and the rest of
 -- the text, which may follow them
 pub record HasTonic (tonic : Letter) (sign : Sign) (rest text : List ℕ) : Type 0 where
@@ -111,8 +116,8 @@ pub data SaysKey : List ℕ → Key → Type 0 where
       → text ≡ codes "Hp" ++ after
       → SaysKey text (key.Highland
       (record no_accidentals { c = accidental.Sharp; f = accidental.Sharp }))
-  -- a tonic, its sign and a mode that stand in the table: its sharps or flats, and then the words
-  -- that set accidentals
+  -- a tonic, its sign and a mode that are listed: its sharps or flats, and then the words that set
+  -- accidentals
   modal : (text rest after : List ℕ) (tonic : Letter) (sign : Sign) (mode : Mode) (count : ℤ)
       → HasTonic tonic sign rest text → SaysMode rest (AsMode mode) after
       → listed_count (record { tonic = tonic; sign = sign; mode = mode }) ≡ Some count

@@ -21,10 +21,6 @@ letter_of byte =
     else if is_one_of (codes "Bb") byte then Some B
     else None
 
--- the letter that a capital names
-abbrev pub capital_letter : ℕ → Option Letter
-capital_letter byte = if is_one_of (codes "ABCDEFG") byte then letter_of byte else None
-
 -- ACCIDENTALS
 -- the semitones that an accidental adds
 abbrev pub semitones_of : Accidental → ℤ

@@ -1,9 +1,10 @@
 pub mod ByteRuns
 pub mod Letters
 pub mod Signatures
-pub mod ScaleTable
+pub mod Fifths
+pub mod SameScales
+pub mod Pairs
 pub mod Accidentals
-pub mod ModeWords
 pub mod Keys
 pub mod KeyCases
 pub mod Inside

@@ -6,13 +6,15 @@ ghost use Rattle.abc_fields.specs.Bytes.{is_blank, begins};
 ghost use Rattle.abc_keys.specs.declared.signatures.Signature.{Signature as AnySignature};
 ghost use Rattle.abc_keys.specs.declared.scales.Scale.{Scale as AnyScale};
 ghost use Rattle.abc_keys.specs.Signatures.{of_count, HasCount};
-ghost use Rattle.abc_keys.specs.ScaleTable.{listed_count};
-ghost use Rattle.abc_keys.specs.Accidentals.{with_words, Setting, SetsItsPairs, LastCounts};
+ghost use Rattle.abc_keys.specs.Fifths.{listed_count};
+ghost use Rattle.abc_keys.specs.Pairs.{Setting};
+ghost use Rattle.abc_keys.specs.Accidentals.{with_words, SetsItsPairs, LastCounts};
 ghost use Rattle.abc_keys.specs.declared.keys.Key.{Key as AnyKey};
 ghost use Rattle.abc_keys.specs.KeyCases.{IsKeyText, tonic_text};
-ghost use Rattle.abc_keys.specs.Keys.{is_ink, is_none, pipes_signature, key_of_scale, key_of_mode};
-ghost use Rattle.abc_keys.specs.Keys.{key_after_tonic, key_after_sign, key_after_letter};
-ghost use Rattle.abc_keys.specs.Keys.{key_with_tonic, key_of_trimmed, key_of_text, SkipsBlanks};
+ghost use Rattle.abc_keys.specs.Keys.{key_of_text, SkipsBlanks};
+ghost use Rattle.abc_keys.specs.Inside.KeySteps.{is_ink, is_none, pipes_signature, key_of_scale};
+ghost use Rattle.abc_keys.specs.Inside.KeySteps.{key_of_mode, key_after_tonic, key_after_sign};
+ghost use Rattle.abc_keys.specs.Inside.KeySteps.{key_after_letter, key_with_tonic, key_of_trimmed};
 
 use crate::accidentals::with_words;
 use crate::keys::Key;
@@ -31,9 +33,9 @@ use abc_fields::{is_blank, trim_blanks};
 /// unread.
 ///
 /// Words that set accidentals are pairs of an accidental and a letter, one after another, of which
-/// the last one for a letter counts; other words set none. A scale of the table has as many sharps
-/// or flats as its count says, in their order, and no others. Spaces and tabs at the ends of a text
-/// say nothing.
+/// the last one for a letter counts; other words set none. A scale from seven flats to seven sharps
+/// along the line of fifths has as many sharps or flats as its count says, in their order, and no
+/// others. Spaces and tabs at the ends of a text say nothing.
 #[tactic(auto, unfolding(crate::specs::Keys::key_of_text))]
 #[inline(always)]
 pub fn key_of(text: &[u8]) -> Key

@@ -9,7 +9,7 @@ use crate::signatures::{NO_ACCIDENTALS, Signature};
 /// the words of the text set it.
 #[derive(Clone, Copy, Debug, PartialEq, Eq)]
 pub enum Key {
-    /// A scale of the table of 105.
+    /// One of the 105 scales from seven flats to seven sharps.
     Modal { scale: Scale, signature: Signature },
     /// `exp`: the accidentals that are set and no others.
     Explicit { signature: Signature },

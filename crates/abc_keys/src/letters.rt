@@ -1,6 +1,7 @@
 // The letters of notes, and the accidentals that change them.
 ghost use Rattle.std.specs.Prelude.{◌≡◌, ◌≤ℤ◌, pos, negsuc};
-ghost use Rattle.abc_keys.specs.Letters.{capital_letter, letter_of, semitones_of};
+ghost use Rattle.abc_keys.specs.Letters.{letter_of, semitones_of};
+ghost use Rattle.abc_keys.specs.Inside.KeySteps.{capital_letter};
 
 /// The letter of a note or of a tonic (ABC 2.1, 4.1).
 #[derive(Clone, Copy, Debug, PartialEq, Eq)]

@@ -1,6 +1,6 @@
 // The words of a key text that name a mode.
 ghost use Rattle.std.specs.Prelude.{◌≡◌};
-ghost use Rattle.abc_keys.specs.ModeWords.{is_word, mode_of, mode_of_three};
+ghost use Rattle.abc_keys.specs.Inside.ModeWords.{is_word, mode_of, mode_of_three};
 
 use crate::scales::Mode;
 

@@ -1,8 +1,7 @@
 // Scales, which of them are the same, and how far along the line of fifths they lie.
 ghost use Rattle.std.specs.Prelude.{◌≡◌, ◌≤ℤ◌, ◌==◌, pos, negsuc, IfSome};
-ghost use Rattle.abc_keys.specs.ScaleTable.{listed_count, same_scale};
-ghost use Rattle.abc_keys.specs.ScaleTable.{letter_number, sign_number, mode_number};
-ghost use Rattle.abc_keys.specs.Inside.Fifths.{tonic_fifths, sign_fifths, mode_fifths};
+ghost use Rattle.abc_keys.specs.Fifths.{tonic_fifths, sign_fifths, mode_fifths, listed_count};
+ghost use Rattle.abc_keys.specs.SameScales.{same_scale, letter_number, sign_number, mode_number};
 
 use crate::letters::Letter;
 
@@ -35,8 +34,8 @@ pub struct Scale {
 }
 
 impl Scale {
-    // How many sharps the scale has, or flats below zero, where it stands in the table of 105
-    // scales: from seven flats to seven sharps.
+    // How many sharps the scale has, or flats below zero, where it is one of the 105 scales from
+    // seven flats to seven sharps.
     #[inline(always)]
     pub(crate) fn sharp_count(self) -> Option<i32>
         ensures value { result ≡ listed_count self }

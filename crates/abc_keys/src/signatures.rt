@@ -2,7 +2,7 @@
 ghost use Rattle.std.specs.Prelude.{◌≡◌, ◌≤ℤ◌, pos, negsuc};
 ghost use Rattle.abc_keys.specs.Signatures.{accidental_at, with_accidental, no_accidentals};
 ghost use Rattle.abc_keys.specs.Signatures.{of_count};
-ghost use Rattle.abc_keys.specs.Inside.Fifths.{by_count};
+ghost use Rattle.abc_keys.specs.Inside.LetterCounts.{by_count};
 
 use crate::letters::{Accidental, Letter};
 

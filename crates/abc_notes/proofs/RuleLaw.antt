@@ -8,7 +8,7 @@ use Rattle.abc_keys.specs.declared.letters.Letter.TheVariants.{C, D, E, F, G, A,
 use Rattle.abc_keys.specs.declared.letters.Accidental.{Accidental}
 use Rattle.abc_keys.specs.declared.signatures.Signature.{Signature}
 use Rattle.abc_keys.specs.Signatures.{accidental_at}
-use Rattle.abc_keys.specs.ScaleTable.{letter_number}
+use Rattle.abc_keys.specs.SameScales.{letter_number}
 use Rattle.abc_notes.specs.Events.{WrittenNote, Event, note, bar, change}
 use Rattle.abc_notes.specs.Pitches.{same_octave, borne, in_force, IsSilentFor, IsUnmarked, FollowsTheRule}
 use Rattle.abc_notes.proofs.PastLemmas.{same_octave_is}

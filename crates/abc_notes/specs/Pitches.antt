@@ -9,7 +9,7 @@ use Rattle.abc_keys.specs.declared.letters.Accidental.{Accidental}
 use Rattle.abc_keys.specs.declared.signatures.Signature.{Signature}
 use Rattle.abc_keys.specs.Letters.{semitones_of}
 use Rattle.abc_keys.specs.Signatures.{accidental_at}
-use Rattle.abc_keys.specs.ScaleTable.{letter_number}
+use Rattle.abc_keys.specs.SameScales.{letter_number}
 use Rattle.abc_notes.specs.Events.{WrittenNote, Event, note, bar, change}
 
 -- THE ACCIDENTAL IN FORCE

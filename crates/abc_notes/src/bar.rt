@@ -2,7 +2,7 @@
 ghost use Rattle.std.specs.Prelude.{◌≡◌, ◌+◌, ◌^◌, ◌<◌, ℕ, ℤ, List, [], ◌∷◌, Some, None};
 ghost use Rattle.std.specs.Prelude.{slice_index_or, length, IsTrue, if◌then◌else◌};
 ghost use Rattle.abc_keys.specs.declared.letters.Letter.{Letter as AnyLetter};
-ghost use Rattle.abc_keys.specs.ScaleTable.{letter_number};
+ghost use Rattle.abc_keys.specs.SameScales.{letter_number};
 ghost use Rattle.abc_notes.specs.Events.{Event as AnyEvent, note, bar, change};
 ghost use Rattle.abc_notes.specs.Inside.EventView.{written_note};
 ghost use Rattle.abc_notes.specs.Inside.BarTables.{IsNear, IsBarAfter, held_in, index_of};

@@ -4,7 +4,7 @@ use Rattle.std.specs.List.{Contains}
 use Rattle.byteorder.specs.Endian.{big_bytes}
 use Rattle.abc_items.specs.ItemRows as Rows
 use Rattle.abc_keys.specs.Keys as Keys
-use Rattle.abc_keys.specs.ScaleTable as ScaleTable
+use Rattle.abc_keys.specs.Fifths as Fifths
 use Rattle.abc_notes.specs.Music as Music
 use Rattle.abc_notes.specs.Pitches as Pitches
 use Rattle.index_keys.specs.Cuts.{cut_number}
@@ -51,11 +51,11 @@ its_rhythm : rhythm_keys text ≡ rhythm_key ∷ []
 its_rhythm = refl
 
 its_scale : scale_keys text ≡ scale_key ∷ []
-unfolding Keys.key_of_text ScaleTable.listed_count
+unfolding Keys.key_of_text Fifths.listed_count
 its_scale = refl
 
 its_incipit : incipit_keys 8 text ≡ incipit_key ∷ []
-unfolding Keys.key_of_text ScaleTable.listed_count Incipits.incipit_of Incipits.differences Pitches.sounded_notes Music.events_after_header
+unfolding Keys.key_of_text Fifths.listed_count Incipits.incipit_of Incipits.differences Pitches.sounded_notes Music.events_after_header
     Music.body_events Music.line_events Music.item_events Rows.first_item Rows.enclosed Rows.inline_field Rows.chord Rows.tuplet Rows.note Music.plain_events
     Music.written Pitches.borne Pitches.in_force
 its_incipit = refl

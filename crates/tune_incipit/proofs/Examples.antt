@@ -5,7 +5,7 @@ use Rattle.abc_keys.specs.declared.letters.Letter.TheVariants as letter
 use Rattle.abc_keys.specs.declared.scales.Mode.TheVariants as mode
 use Rattle.abc_keys.specs.declared.scales.Sign.TheVariants as sign
 use Rattle.abc_keys.specs.Keys as Keys
-use Rattle.abc_keys.specs.ScaleTable as ScaleTable
+use Rattle.abc_keys.specs.Fifths as Fifths
 use Rattle.abc_notes.specs.Music as Music
 use Rattle.abc_notes.specs.Pitches as Pitches
 use Rattle.index_keys.specs.Cuts.{cut_number}
@@ -25,13 +25,13 @@ abbrev kesh : List ℕ
 kesh = codes "T:The Kesh Jig\nR:jig\nM:6/8\nK:G\nG3 GAB|A3 ABd|\n"
 
 kesh_incipit : incipit_keys 8 kesh ≡ steps_key ∷ []
-unfolding Keys.key_of_text ScaleTable.listed_count Incipits.incipit_of Incipits.differences Pitches.sounded_notes Music.events_after_header
+unfolding Keys.key_of_text Fifths.listed_count Incipits.incipit_of Incipits.differences Pitches.sounded_notes Music.events_after_header
     Music.body_events Music.line_events Music.item_events Rows.first_item Rows.enclosed Rows.inline_field Rows.chord Rows.tuplet Rows.note Music.plain_events
     Music.written Pitches.borne Pitches.in_force
 kesh_incipit = refl
 
 kesh_scale : scale_keys kesh ≡ cut_number 32 0 (codes "G 0") ∷ []
-unfolding Keys.key_of_text ScaleTable.listed_count
+unfolding Keys.key_of_text Fifths.listed_count
 kesh_scale = refl
 
 -- a tune of one note has no step, and so no key
@@ -44,5 +44,5 @@ e_dorian = refl
 
 -- a key text that says no scale has no key
 no_scale : scale_keys (codes "K:G#\n") ≡ []
-unfolding Keys.key_of_text ScaleTable.listed_count
+unfolding Keys.key_of_text Fifths.listed_count
 no_scale = refl

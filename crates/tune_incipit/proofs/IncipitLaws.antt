@@ -5,7 +5,7 @@ use Rattle.std.proofs.lemmas.List.{length-take, length-map, take-map}
 use Rattle.std.proofs.lemmas.List.Sums.{length-filter}
 use Rattle.std.proofs.lemmas.Int.{ints}
 use Rattle.abc_keys.specs.Keys.{key_of_text, signature_of}
-use Rattle.abc_keys.specs.ScaleTable.{listed_count}
+use Rattle.abc_keys.specs.Fifths.{listed_count}
 use Rattle.abc_keys.specs.Signatures.{no_accidentals}
 use Rattle.abc_notes.specs.Pitches.{SoundedNote}
 use Rattle.tune_incipit.specs.Incipits.{counting_pitches, differences, incipit_of, raised, raised_note}

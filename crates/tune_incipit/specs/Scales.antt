@@ -4,7 +4,7 @@ use Rattle.std.specs.Option.{option_map_or}
 use Rattle.abc_fields.specs.Fields.{key_text_of}
 use Rattle.abc_keys.specs.declared.scales.Scale.{Scale}
 use Rattle.abc_keys.specs.Keys.{key_of_text, scale_of}
-use Rattle.abc_keys.specs.ScaleTable.{same_scale}
+use Rattle.abc_keys.specs.SameScales.{same_scale}
 
 -- the scale that a key text says, where it says one
 abbrev pub scale_of_text : List ℕ → Option Scale

@@ -10,9 +10,9 @@ use Rattle.std.proofs.lemmas.Bool.Decides.{Decides-eqb, Decides-int_eq}
 use Rattle.std.proofs.lemmas.Slice.Eq.{starts_is, bytes_eq-Decides}
 use Rattle.abc_fields.specs.Fields.{titles_of, rhythm_of, key_text_of}
 use Rattle.abc_keys.specs.declared.scales.Scale.{Scale}
-use Rattle.abc_keys.specs.ScaleTable.{same_scale}
+use Rattle.abc_keys.specs.SameScales.{same_scale}
 use Rattle.tune_incipit.specs.Incipits.{incipit_of, tune_notes, query_notes}
-use Rattle.abc_keys.specs.Inside.SameScales.{same_is, same_self}
+use Rattle.abc_keys.specs.Inside.SameScaleLaw.{same_is, same_self}
 use Rattle.tune_incipit.specs.Scales.{scale_of_text, is_scale}
 use Rattle.tune_titles.specs.Articles.{small_letters}
 use Rattle.tune_titles.specs.Titles.{sorting_title, title_matches, same_rhythm}

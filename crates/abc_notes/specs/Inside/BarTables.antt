@@ -3,7 +3,7 @@ use Rattle.std.specs.Prelude.{◌≡◌, ℕ, ◌+◌, ◌*◌, false, ℤ, pos,
 use Rattle.std.specs.Prelude.{◌≤ℤ◌, ◌<ℤ◌, Option, None, slice_index_or, List, length, nat_abs}
 use Rattle.abc_keys.specs.declared.letters.Letter.{Letter}
 use Rattle.abc_keys.specs.declared.letters.Accidental.{Accidental}
-use Rattle.abc_keys.specs.ScaleTable.{letter_number}
+use Rattle.abc_keys.specs.SameScales.{letter_number}
 use Rattle.abc_notes.specs.declared.bar.Bar.{Bar}
 use Rattle.abc_notes.specs.Events.{Event}
 use Rattle.abc_notes.specs.Pitches.{borne, in_force}

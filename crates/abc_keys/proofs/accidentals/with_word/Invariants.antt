@@ -1,6 +1,7 @@
 use Rattle.std.proofs.Common.{◌≡◌, drop}
 use Rattle.std.specs.Prelude.{unwrap_or}
-use Rattle.abc_keys.specs.Accidentals.{changed_by, with_word}
+use Rattle.abc_keys.specs.Accidentals.{with_word}
+use Rattle.abc_keys.specs.Inside.PairSteps.{changed_by}
 use Rattle.abc_keys.proofs.accidentals.with_word.Given as goal
 
 -- what is left of the word leads to what the whole word leads to

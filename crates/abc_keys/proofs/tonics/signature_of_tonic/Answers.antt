@@ -1,6 +1,6 @@
 use Rattle.std.proofs.Common.{◌≡◌, ◌∷◌, [], ℕ, ◌+◌, ◌-◌, ◌<◌, get_or, suc, zero, refl, subst, arith}
 use Rattle.abc_keys.specs.Keys.{key_of_text, signature_of}
-use Rattle.abc_keys.specs.ScaleTable.{listed_count}
+use Rattle.abc_keys.specs.Fifths.{listed_count}
 use Rattle.abc_keys.specs.declared.signatures.Signature.{Signature}
 use Rattle.abc_keys.specs.declared.tonics.TheConstants.{MAJORS}
 use Rattle.abc_keys.proofs.tonics.signature_of_tonic.Goals as goal

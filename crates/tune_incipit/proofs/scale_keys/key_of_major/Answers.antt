@@ -1,6 +1,6 @@
 use Rattle.std.proofs.Common.{◌≡◌, ◌∷◌, [], ℕ, ◌+◌, ◌-◌, ◌<◌, suc, zero, refl, subst, ap, ◌∙◌, arith}
 use Rattle.abc_keys.specs.Keys.{key_of_text}
-use Rattle.abc_keys.specs.ScaleTable.{listed_count}
+use Rattle.abc_keys.specs.Fifths.{listed_count}
 use Rattle.index_keys.specs.Cuts.{cut_number}
 use Rattle.tune_incipit.specs.Scales.{scale_of_text}
 use Rattle.tune_incipit.specs.ScaleAndIncipitKeys.{scale_keys_of}

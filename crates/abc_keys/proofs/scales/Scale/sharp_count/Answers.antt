@@ -1,6 +1,6 @@
 use Rattle.std.proofs.Common.{arith, inl, inr}
 use Rattle.std.proofs.lemmas.Int.{ints}
-use Rattle.abc_keys.proofs.TableRule.{listed, not_listed, fifths_of, tonic_fifths_small, sign_fifths_small, mode_fifths_small}
+use Rattle.abc_keys.proofs.FifthBounds.{has_count, has_no_count, tonic_fifths_small, sign_fifths_small, mode_fifths_small}
 use Rattle.abc_keys.proofs.scales.Scale.sharp_count.Goals as goal
 use Rattle.abc_keys.proofs.scales.Scale.sharp_count.Goals.{else-count-geminus7-via-then-count-geminus7+else-count-le7}
 use Rattle.abc_keys.proofs.scales.Scale.sharp_count.Goals.{else-count-geminus7-via-else-count-geminus7}
@@ -10,7 +10,7 @@ returns-then-count-le7-clause-value c =
     let t = tonic_fifths_small c.args.self.tonic in
     let g = sign_fifths_small c.args.self.sign in
     let m = mode_fifths_small c.args.self.mode in
-    listed c.args.self _ (omega (arith, ints)) (omega (arith, ints)) (omega (arith, ints))
+    has_count c.args.self _ (omega (arith, ints)) (omega (arith, ints)) (omega (arith, ints))
 
 pub returns-else-count-geminus7-clause-value : goal.returns-else-count-geminus7-clause-value
 returns-else-count-geminus7-clause-value c =
@@ -18,7 +18,6 @@ returns-else-count-geminus7-clause-value c =
     let g = sign_fifths_small c.args.self.sign in
     let m = mode_fifths_small c.args.self.mode in
     elim c.else-count-geminus7.branch [
-      | else-count-geminus7-via-then-count-geminus7+else-count-le7 w ↦ not_listed c.args.self (fifths_of c.args.self) (λ i. fifths_of c.args.self)
-          (inr (omega (arith, ints)))
-      | else-count-geminus7-via-else-count-geminus7 w ↦ not_listed c.args.self (fifths_of c.args.self) (λ i. fifths_of c.args.self) (inl (omega (arith, ints)))
+      | else-count-geminus7-via-then-count-geminus7+else-count-le7 w ↦ has_no_count c.args.self (inr (omega (arith, ints)))
+      | else-count-geminus7-via-else-count-geminus7 w ↦ has_no_count c.args.self (inl (omega (arith, ints)))
     ]

@@ -10,7 +10,7 @@ use Rattle.abc_keys.specs.declared.scales.Sign.TheVariants.{Natural, Sharp, Flat
 use Rattle.abc_keys.specs.declared.scales.Mode.{Mode}
 use Rattle.abc_keys.specs.declared.scales.Mode.TheVariants.{Major, Lydian, Mixolydian, Dorian}
 use Rattle.abc_keys.specs.declared.scales.Mode.TheVariants.{Minor, Phrygian, Locrian}
-use Rattle.abc_keys.specs.ScaleTable.{letter_number, sign_number, mode_number, same_scale}
+use Rattle.abc_keys.specs.SameScales.{letter_number, sign_number, mode_number, same_scale}
 
 letter_at : ℕ → Letter
 letter_at n =

@@ -1,15 +1,15 @@
--- The line of fifths: how far along it a tonic, its sign and a mode lie from C major, and from
--- where on it a letter is sharp or flat.
-use Rattle.std.specs.Prelude.{ℤ, pos, negsuc, neg_ℤ, not, if◌then◌else◌, int_lt}
+-- The line of fifths: how far along it a scale lies from C major. So many sharps it has, or flats
+-- below zero (ABC 2.1, 3.1.14, carried on to seven sharps and seven flats in each mode). `negsuc n`
+-- is -(n + 1).
+use Rattle.std.specs.Prelude.{◌||◌, if◌then◌else◌, ℤ, pos, negsuc, ◌+ℤ◌, int_lt, Option, Some, None}
 use Rattle.abc_keys.specs.declared.letters.Letter.{Letter}
 use Rattle.abc_keys.specs.declared.letters.Letter.TheVariants.{C, D, E, F, G, A, B}
-use Rattle.abc_keys.specs.declared.letters.Accidental.{Accidental}
-use Rattle.abc_keys.specs.declared.letters.Accidental.TheVariants as accidental
 use Rattle.abc_keys.specs.declared.scales.Sign.{Sign}
 use Rattle.abc_keys.specs.declared.scales.Sign.TheVariants.{Natural, Sharp, Flat}
 use Rattle.abc_keys.specs.declared.scales.Mode.{Mode}
 use Rattle.abc_keys.specs.declared.scales.Mode.TheVariants.{Major, Lydian, Mixolydian, Dorian}
 use Rattle.abc_keys.specs.declared.scales.Mode.TheVariants.{Minor, Phrygian, Locrian}
+use Rattle.abc_keys.specs.declared.scales.Scale.{Scale}
 
 -- the fifths from C up to a tonic without a sign
 abbrev pub tonic_fifths : Letter → ℤ
@@ -37,9 +37,15 @@ mode_fifths Minor = negsuc 2
 mode_fifths Phrygian = negsuc 3
 mode_fifths Locrian = negsuc 4
 
--- sharp from so many sharps on, flat from so many flats on
-abbrev pub by_count : ℤ → ℤ → ℤ → Accidental
-by_count count sharp_from flat_from =
-    if not (int_lt count sharp_from) then accidental.Sharp
-    else if not (int_lt (neg_ℤ flat_from) count) then accidental.Flat
-    else accidental.Natural
+-- how many fifths a scale lies from C major: its sharps, or its flats below zero
+abbrev pub fifths_of : Scale → ℤ
+fifths_of scale = tonic_fifths scale.tonic +ℤ sign_fifths scale.sign +ℤ mode_fifths scale.mode
+
+-- a count from seven flats to seven sharps
+abbrev pub listed : ℤ → Option ℤ
+listed count = if int_lt count (negsuc 6) || int_lt (pos 7) count then None else Some count
+
+-- the count of sharps, or of flats below zero, of a scale that is listed: from seven flats to seven
+-- sharps
+unfoldable pub listed_count : Scale → Option ℤ
+listed_count scale = listed (fifths_of scale)

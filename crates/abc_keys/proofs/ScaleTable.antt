@@ -1,8 +1,7 @@
--- The scales that have a signature: 105 rows of a tonic, its sign and a mode, each with its count
--- of sharps, or of flats where the count is below zero (ABC 2.1, 3.1.14, carried on to seven sharps
--- and seven flats in each mode). `negsuc n` is -(n + 1).
-use Rattle.std.specs.Prelude.{ℕ, ◌==◌, ◌&&◌, if◌then◌else◌, Bool, ℤ, pos, negsuc, List, [], ◌∷◌}
-use Rattle.std.specs.Prelude.{Option, Some, None}
+-- The standard's table of scales, carried on to seven sharps and seven flats in each mode (ABC 2.1,
+-- 3.1.14): the scales that stand in it are those that are listed by their fifths, each with its
+-- count of sharps or flats.
+use Rattle.std.proofs.Common.{◌≡◌, ℤ, pos, negsuc, cond, List, [], ◌∷◌, Option, Some, None, refl}
 use Rattle.abc_keys.specs.declared.letters.Letter.{Letter}
 use Rattle.abc_keys.specs.declared.letters.Letter.TheVariants.{C, D, E, F, G, A, B}
 use Rattle.abc_keys.specs.declared.scales.Sign.{Sign}
@@ -11,21 +10,23 @@ use Rattle.abc_keys.specs.declared.scales.Mode.{Mode}
 use Rattle.abc_keys.specs.declared.scales.Mode.TheVariants.{Major, Lydian, Mixolydian, Dorian}
 use Rattle.abc_keys.specs.declared.scales.Mode.TheVariants.{Minor, Phrygian, Locrian}
 use Rattle.abc_keys.specs.declared.scales.Scale.{Scale}
+use Rattle.abc_keys.specs.Fifths.{listed_count}
+use Rattle.abc_keys.specs.SameScales.{same_scale}
 
 -- a scale, and its count of sharps, or of flats below zero
-pub record ScaleRow : Type 0 where
-  pub scale : Scale
-  pub count : ℤ
+record ScaleRow : Type 0 where
+  scale : Scale
+  count : ℤ
 
 -- a row of the table
-abbrev pub row : Letter → Sign → Mode → ℤ → ScaleRow
+abbrev row : Letter → Sign → Mode → ℤ → ScaleRow
 row tonic sign mode count = record {
   scale = record { tonic = tonic; sign = sign; mode = mode };
   count = count;
 }
 
 -- by mode, from seven flats to seven sharps
-abbrev pub table : List ScaleRow
+abbrev table : List ScaleRow
 table =
     row C Flat Major (negsuc 6) ∷
     row G Flat Major (negsuc 5) ∷
@@ -134,42 +135,34 @@ table =
     row B Sharp Locrian (pos 7) ∷
     []
 
--- numbers by which letters, signs and modes are compared
-abbrev pub letter_number : Letter → ℕ
-letter_number C = 0
-letter_number D = 1
-letter_number E = 2
-letter_number F = 3
-letter_number G = 4
-letter_number A = 5
-letter_number B = 6
-
-abbrev pub sign_number : Sign → ℕ
-sign_number Flat = 0
-sign_number Natural = 1
-sign_number Sharp = 2
-
-abbrev pub mode_number : Mode → ℕ
-mode_number Major = 0
-mode_number Lydian = 1
-mode_number Mixolydian = 2
-mode_number Dorian = 3
-mode_number Minor = 4
-mode_number Phrygian = 5
-mode_number Locrian = 6
-
--- whether two scales are the same
-abbrev pub same_scale : Scale → Scale → Bool
-same_scale a b =
-    letter_number a.tonic == letter_number b.tonic
-    && sign_number a.sign == sign_number b.sign
-    && mode_number a.mode == mode_number b.mode
-
 -- the count that stands beside the scale in a list of rows
-abbrev pub count_in : List ScaleRow → Scale → Option ℤ
+abbrev count_in : List ScaleRow → Scale → Option ℤ
 count_in [] scale = None
-count_in (r ∷ rows) scale = if same_scale r.scale scale then Some r.count else count_in rows scale
+count_in (r ∷ rows) scale = cond (same_scale r.scale scale) (Some r.count) (count_in rows scale)
 
--- the count of sharps, or of flats below zero, of a scale of the table
-unfoldable pub listed_count : Scale → Option ℤ
-listed_count scale = count_in table scale
+-- each of the 147 scales, those that stand in no row included
+table_by_fifths : (tonic : Letter) (sign : Sign) (mode : Mode)
+    → count_in table (record { tonic = tonic; sign = sign; mode = mode }) ≡ listed_count (record { tonic = tonic; sign = sign; mode = mode })
+unfolding listed_count
+table_by_fifths C Natural Major = refl
+table_by_fifths C Sharp Major = refl
+table_by_fifths C Flat Major = refl
+table_by_fifths D Natural Major = refl
+table_by_fifths D Sharp Major = refl
+table_by_fifths D Flat Major = refl
+table_by_fifths E Natural Major = refl
+table_by_fifths E Sharp Major = refl
+table_by_fifths E Flat Major = refl
+table_by_fifths F Natural Major = refl
+table_by_fifths F Sharp Major = refl
+table_by_fifths F Flat Major = refl
+table_by_fifths G Natural Major = refl
+table_by_fifths G Sharp Major = refl
+table_by_fifths G Flat Major = refl
+table_by_fifths A Natural Major = refl
+table_by_fifths A Sharp Major = refl
+table_by_fifths A Flat Major = refl
+table_by_fifths B Natural Major = refl
+table_by_fifths B Sharp Major = refl
+table_by_fifths B Flat Major = refl
+table_by_fifths _ _ _ = refl
