@@ -18,14 +18,11 @@ fails:
   trait, the crates that meet the trait are among them. `--write` writes the numbers into the page.
 - A definition, a record or a relation of specs/ has at most six arguments by place: what it says
   of more things it says of a record of them. Arguments in braces do not count, those of a module
-  around it do; lemmas are no definitions. checks/data/arguments.txt has those that are known to
-  have more: how many, the name and its file. The list may only get shorter, and its numbers only
-  smaller.
+  around it do; lemmas are no definitions.
 - A file of specs/ has definitions and no lemma: each item is an abbrev, an unfoldable, a record, a
   data type, a module or an import.
 
-`--ways CRATE` prints from where each definition of a crate is reached. `--arguments` prints what
-the list of known ones would have today.
+`--ways CRATE` prints from where each definition of a crate is reached.
 """
 import glob
 import os
@@ -43,7 +40,6 @@ WORD = re.compile(r"[^\s(){}\[\],;:`\"→λ]+")
 HEAD = re.compile(r"^(\s*)((?:(?:abbrev|unfoldable|pub|record|data|module) +)*)"
                   r"([^\s:{}()]+)((?:\s|$).*)")
 MOST_ARGUMENTS = 6
-KNOWN_LONG = "checks/data/arguments.txt"
 PROOFS = "docs/PROOFS.md"
 CALL = re.compile(r"\[`([\w:]+)`\]\(([^()\s]+\.rt)\)((?:,?(?: and)? `\w+`)*)")
 READ = re.compile(r"\[`(\w+)`\]\(([^()\s]+\.antt)\)")
@@ -368,39 +364,15 @@ def heads(path):
 
 
 def long_definitions():
-    """How many arguments by place each definition has that has too many, by name and file."""
-    found = {}
-    for module in MODULES.values():
+    """Prints each definition with too many arguments by place, and counts them."""
+    wrong = 0
+    for _, module in sorted(MODULES.items()):
         for name, head, around in heads(module.path):
             count = arguments(head) + sum(bound(other) for other in around)
             if count > MOST_ARGUMENTS:
-                found[name, module.path[len("crates/"):]] = count
-    return found
-
-
-def known_long():
-    """What the list of known ones has, in the same form."""
-    listed = {}
-    for line in open(KNOWN_LONG, encoding="utf-8").read().split("\n"):
-        if line and not line.startswith("#"):
-            count, name, path = line.split()
-            listed[name, path] = int(count)
-    return listed
-
-
-def wrong_arguments():
-    """Prints each definition with more arguments by place than are known, and each line of the
-    list that says more than there is, and counts them.
-    """
-    found, listed, wrong = long_definitions(), known_long(), 0
-    for name, path in sorted(found.keys() | listed.keys()):
-        count, told = found.get((name, path), 0), listed.get((name, path), 0)
-        if count > told:
-            print(f"crates/{path}: {name} has {count} arguments by place")
-        elif count < told:
-            print(f"{KNOWN_LONG}: {name} has {count or 'few enough'} arguments, and not {told}")
-        wrong += count != told
-    print(f"{len(listed)} definitions have more than {MOST_ARGUMENTS} arguments, as is known")
+                print(f"{module.path}: {name} has {count} arguments by place")
+                wrong += 1
+    print(f"{wrong} definitions with more than {MOST_ARGUMENTS} arguments by place")
     return wrong
 
 
@@ -447,9 +419,5 @@ def lemmas_of_specs():
     return count
 
 
-if "--arguments" in sys.argv:
-    for key, amount in sorted(long_definitions().items()):
-        print(amount, *key)
-    sys.exit(0)
-failed = missed_files() + wrong_counts() + wrong_arguments() + lemmas_of_specs()
+failed = missed_files() + wrong_counts() + long_definitions() + lemmas_of_specs()
 sys.exit(1 if failed else 0)

@@ -2,10 +2,10 @@
 use Rattle.std.proofs.Common.{ℕ, ◌^◌, ◌<◌, List, length, Bool, subst}
 use Rattle.index_keys.specs.Entries.{Entry}
 use Rattle.tune_index.specs.Indexes.{Shape}
-use Rattle.tune_index.specs.ListedLeaves.{IsStored, LoadsIndex}
+use Rattle.tune_index.specs.ListedLeaves.{IsStored, LoadsIndex, index_with, pages_claimed}
 use Rattle.tune_parts.specs.Parts.{Part}
 use Rattle.tune_search.specs.LoadedParts.{HasClaimed, firsts_of, parts_loaded, search_loaded}
-use Rattle.tune_search.specs.Loaded.{AreStored, LoadsSearch}
+use Rattle.tune_search.specs.Loaded.{AreStored, LoadsSearch, search_with}
 use Rattle.tune_search.specs.Searches.{SearchRuns, SearchShape, key_bytes}
 use Rattle.tune_search.specs.declared.loading.SearchFirsts.{SearchFirsts}
 use Rattle.tune_search.proofs.LoadedFour.{held_four, same_four, there_four}
@@ -13,8 +13,8 @@ use Rattle.tune_search.proofs.LoadedIndex.{held_loaded, same_loaded, there_store
 use Rattle.tune_contents.specs.Inside.ClaimedParts.{ClaimsIndex, ClaimsSearch, IsIndexThere, IsSearchThere}
 
 pub index_claimed : (most : ℕ) (pages : List (List ℕ)) (claimed now : List Bool) (first : ℕ) (shape : Shape) (entries : List Entry) (front : List Part)
-    → length claimed < 256 ^ 4 → HasClaimed pages claimed front → LoadsIndex key_bytes most pages claimed now first shape entries
-    → ClaimsIndex most pages front now first shape entries
+    → length claimed < 256 ^ 4 → HasClaimed pages claimed front → LoadsIndex key_bytes most (pages_claimed pages claimed) now first (index_with shape entries)
+    → ClaimsIndex most (pages_claimed pages now) front first (index_with shape entries)
 index_claimed most pages claimed now first shape entries front few has loads = record {
   parts = parts_loaded loads;
   held = held_loaded key_bytes most pages claimed now first shape entries front has loads;
@@ -30,8 +30,9 @@ index_stored most pages claimed first front has there =
     (there_stored key_bytes most pages claimed there.parts there.entries front there.more there.are has.marks there.holds)
 
 pub search_claimed : (most : ℕ) (pages : List (List ℕ)) (claimed now : List Bool) (firsts : SearchFirsts) (shape : SearchShape) (runs : SearchRuns)
-    (front : List Part) → length claimed < 256 ^ 4 → HasClaimed pages claimed front → LoadsSearch most pages claimed now firsts shape runs
-    → ClaimsSearch most pages front now firsts shape runs
+    (front : List Part) → length claimed < 256 ^ 4 → HasClaimed pages claimed front
+    → LoadsSearch most (pages_claimed pages claimed) now firsts (search_with shape runs)
+    → ClaimsSearch most (pages_claimed pages now) front firsts (search_with shape runs)
 search_claimed most pages claimed now firsts shape runs front few has loads = record {
   parts = search_loaded loads;
   held = held_four most pages claimed now firsts shape runs front has loads;

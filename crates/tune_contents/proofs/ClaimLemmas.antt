@@ -13,7 +13,7 @@ use Rattle.tune_store.specs.declared.layout.Layout.{Layout}
 use Rattle.tune_search.specs.LoadedParts.{HasClaimed}
 use Rattle.tune_search.specs.SearchClaims.{StandsAtKeys}
 use Rattle.tune_search.specs.Searches.{SearchRuns}
-use Rattle.tune_contents.specs.Inside.ClaimedParts.{ClaimsPart, HoldsTune, IsPartThere, IsTuneChain, IsTuneThere}
+use Rattle.tune_contents.specs.Inside.ClaimedParts.{ClaimsPart, HoldsTune, IsPartThere, IsTuneChain, IsTuneThere, tune_site}
 
 pub ok_as : {T E : Type 0} (r : Result T E) (P Q : T → Type 0) → ((x : T) → P x → Q x) → IfOk r P → IfOk r Q
 ok_as (Ok x) P Q as_q p = as_q x p
@@ -82,7 +82,8 @@ part_claimable pages claimed first most front has there =
 -- ONE TUNE
 -- of the part that was claimed, each tune there is the one of its bytes
 pub tune_claimed : {layout : Layout} → (pages : List (List ℕ)) (front : List Part) (runs : SearchRuns) (now : List Bool) (number first : ℕ) (bytes : List ℕ)
-    → ClaimsPart pages front now first bytes → (is : IsTuneThere layout pages front runs number first) → IsTuneChain layout bytes is.revision is.text
+    → ClaimsPart pages front now first bytes → (is : IsTuneThere (tune_site layout pages front runs) number first)
+    → IsTuneChain layout bytes is.revision is.text
 tune_claimed {layout} pages front runs now number first bytes claims is =
     let part = is.there.part in
     let same : part ≡ claims.part = claims.only part is.there.is_chain (its_part pages front part is.there.more is.there.are) is.there.is_first in

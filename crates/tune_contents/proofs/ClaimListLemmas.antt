@@ -2,6 +2,8 @@
 use Rattle.std.proofs.Common.{◌≡◌, ℕ, ◌*◌, ◌<◌, ◌≤◌, List, [], ◌∷◌, ◌++◌, length, Bool, sym, ◌∙◌, ap, subst, append_assoc, arith}
 use Rattle.std.proofs.lemmas.List.{length-map}
 use Rattle.index_keys.specs.Entries.{Entry}
+use Rattle.tune_search.specs.Loaded.{search_with}
+use Rattle.tune_index.specs.ListedLeaves.{index_with, pages_claimed}
 use Rattle.tune_index.specs.Indexes.{Shape}
 use Rattle.tune_journal.specs.Pages.{page_at}
 use Rattle.tune_pages.specs.Claim.{IsChainFault}
@@ -168,7 +170,8 @@ sets_there pages firsts numbers searches root sized (state, is) same also =
 -- what was claimed is what a state has
 same_numbers : {layout : Layout} → (pages : List (List ℕ)) (now : List Bool) (firsts : Firsts) (most : ℕ) (shape : Shape) (entries : List Entry)
     → IsRoot layout (page_at pages 0) firsts
-    → 1 * most_tunes layout ≤ most → (first : ClaimsIndex most pages [] now firsts.numbers shape entries) (state : State) (is : IsStateOf pages state)
+    → 1 * most_tunes layout ≤ most → (first : ClaimsIndex most (pages_claimed pages now) [] firsts.numbers (index_with shape entries)) (state : State)
+    (is : IsStateOf pages state)
     → (is.filed.numbers ≡ first.parts) × (number_entries (rows_of state.tunes is.filed.texts) ≡ entries)
 same_numbers pages now firsts most shape entries root le first state is =
     first.only is.filed.numbers (number_entries (rows_of state.tunes is.filed.texts))
@@ -177,7 +180,8 @@ same_numbers pages now firsts most shape entries root le first state is =
 
 same_searches : {layout : Layout} → (pages : List (List ℕ)) (now : List Bool) (firsts : Firsts) (most : ℕ) (numbers : IndexParts)
     (shape : SearchShape) (runs : SearchRuns) → IsRoot layout (page_at pages 0) firsts
-    → 8 * most_tunes layout ≤ most → (then : ClaimsSearch most pages (parts_of_index numbers) now firsts.searches shape runs) → shape.notes ≡ notes_of layout
+    → 8 * most_tunes layout ≤ most → (then : ClaimsSearch most (pages_claimed pages now) (parts_of_index numbers) firsts.searches (search_with shape runs))
+    → shape.notes ≡ notes_of layout
     → (state : State) (is : IsStateOf pages state) → is.filed.numbers ≡ numbers
     → (is.filed.searches ≡ then.parts) × (runs_filed is.filed.are_searches ≡ runs)
 same_searches pages now firsts most numbers shape runs root le then notes state is same =
@@ -199,15 +203,16 @@ numbers_fault f now pages claimed firsts most on marks root le call = fault_wher
 -- the index of numbers, claimed first
 pub numbers_claimed : (now pages : List (List ℕ)) (claimed then : List Bool) (first most : ℕ) (shape : Shape) (entries : List Entry) → now ≡ pages
     → claimed ≡ only_root (length pages) → 0 < length pages
-    → ((front : List Part) → HasClaimed now claimed front → ClaimsIndex most now front then first shape entries)
-    → ClaimsIndex most pages [] then first shape entries
+    → ((front : List Part) → HasClaimed now claimed front → ClaimsIndex most (pages_claimed now then) front first (index_with shape entries))
+    → ClaimsIndex most (pages_claimed pages then) [] first (index_with shape entries)
 numbers_claimed now pages claimed then first most shape entries on marks some call =
-    at_pages (λ l front. ClaimsIndex most l front then first shape entries) now pages claimed [] on (no_front pages claimed marks some) call
+    at_pages (λ l front. ClaimsIndex most (pages_claimed l then) front first (index_with shape entries)) now pages claimed [] on
+    (no_front pages claimed marks some) call
 
 pub searches_fault : {layout : Layout} → (f : ClaimFault) (now pages : List (List ℕ)) (then : List Bool) (firsts : Firsts)
     (most many notes : ℕ) (shape : Shape) (entries : List Entry) → notes ≡ notes_of layout → now ≡ pages → IsRoot layout (page_at pages 0) firsts
     → 1 * most_tunes layout ≤ most → 8 * most_tunes layout ≤ many
-    → (0 < length pages → ClaimsIndex most pages [] then firsts.numbers shape entries)
+    → (0 < length pages → ClaimsIndex most (pages_claimed pages then) [] firsts.numbers (index_with shape entries))
     → ((front : List Part) → HasClaimed now then front → IsChainFault f (IsSearchThere notes many now front firsts.searches))
     → IsChainFault f (IsStateThere pages)
 searches_fault f now pages then firsts most many notes shape entries by on root le less claims call = fault_where f (IsStateThere pages) (λ there.
@@ -221,17 +226,18 @@ searches_fault f now pages then firsts most many notes shape entries by on root 
 
 pub searches_claimed : (now pages : List (List ℕ)) (then last : List Bool) (first most many : ℕ) (firsts : SearchFirsts) (shape : Shape)
     (entries : List Entry)
-    (shapes : SearchShape) (runs : SearchRuns) → now ≡ pages → (head : ClaimsIndex most pages [] then first shape entries)
-    → ((front : List Part) → HasClaimed now then front → ClaimsSearch many now front last firsts shapes runs)
-    → ClaimsSearch many pages (parts_of_index head.parts) last firsts shapes runs
+    (shapes : SearchShape) (runs : SearchRuns) → now ≡ pages → (head : ClaimsIndex most (pages_claimed pages then) [] first (index_with shape entries))
+    → ((front : List Part) → HasClaimed now then front → ClaimsSearch many (pages_claimed now last) front firsts (search_with shapes runs))
+    → ClaimsSearch many (pages_claimed pages last) (parts_of_index head.parts) firsts (search_with shapes runs)
 searches_claimed now pages then last first most many firsts shape entries shapes runs on head call =
-    at_pages (λ l front. ClaimsSearch many l front last firsts shapes runs) now pages then (parts_of_index head.parts) on head.held.has call
+    at_pages (λ l front. ClaimsSearch many (pages_claimed l last) front firsts (search_with shapes runs)) now pages then (parts_of_index head.parts) on
+    head.held.has call
 
 -- Both indexes of numbers and of texts were claimed.
 pub record ClaimsBoth (most many : ℕ) (pages : List (List ℕ)) (then last : List Bool) (firsts : Firsts) (shape : Shape) (entries : List Entry)
     (shapes : SearchShape) (runs : SearchRuns) : Type 0 where
-  pub head : ClaimsIndex most pages [] then firsts.numbers shape entries
-  pub tail : ClaimsSearch many pages (parts_of_index head.parts) last firsts.searches shapes runs
+  pub head : ClaimsIndex most (pages_claimed pages then) [] firsts.numbers (index_with shape entries)
+  pub tail : ClaimsSearch many (pages_claimed pages last) (parts_of_index head.parts) firsts.searches (search_with shapes runs)
 
 abbrev front_of : {most many : ℕ} {pages : List (List ℕ)} {then last : List Bool} {firsts : Firsts} {shape : Shape} {entries : List Entry}
     {shapes : SearchShape} {runs : SearchRuns} → ClaimsBoth most many pages then last firsts shape entries shapes runs → List Part
@@ -239,8 +245,8 @@ front_of both = parts_of_index both.head.parts ++ parts_of_search both.tail.part
 
 pub both_claimed : (mid now pages : List (List ℕ)) (claimed then last : List Bool) (firsts : Firsts) (most many : ℕ) (shape : Shape) (entries : List Entry)
     (shapes : SearchShape) (runs : SearchRuns) → mid ≡ pages → now ≡ pages → claimed ≡ only_root (length pages) → 0 < length pages
-    → ((front : List Part) → HasClaimed mid claimed front → ClaimsIndex most mid front then firsts.numbers shape entries)
-    → ((front : List Part) → HasClaimed now then front → ClaimsSearch many now front last firsts.searches shapes runs)
+    → ((front : List Part) → HasClaimed mid claimed front → ClaimsIndex most (pages_claimed mid then) front firsts.numbers (index_with shape entries))
+    → ((front : List Part) → HasClaimed now then front → ClaimsSearch many (pages_claimed now last) front firsts.searches (search_with shapes runs))
     → ClaimsBoth most many pages then last firsts shape entries shapes runs
 both_claimed mid now pages claimed then last firsts most many shape entries shapes runs on also marks some call more =
     let head = numbers_claimed mid pages claimed then firsts.numbers most shape entries on marks some call in
@@ -272,7 +278,7 @@ pub lists_claimed : {layout : Layout} → (now pages : List (List ℕ)) (then la
     → 1 * most_tunes layout ≤ most
     → 8 * most_tunes layout ≤ many → shapes.notes ≡ notes_of layout → ClaimsBoth most many pages then last firsts shape entries shapes runs
     → ((front : List Part) → HasClaimed now last front → ClaimsPart now front end firsts.sets bytes)
-    → ClaimsLists layout pages end firsts shape entries shapes runs bytes
+    → ClaimsLists layout (pages_claimed pages end) firsts (index_with shape entries) (search_with shapes runs) bytes
 lists_claimed now pages then last end firsts most many shape entries shapes runs bytes on root le less notes both call =
     let front = front_of both in
     let sets : ClaimsPart pages front end firsts.sets bytes =

@@ -8,11 +8,12 @@ use Rattle.index_keys.specs.Entries.{Entry}
 use Rattle.index_keys.specs.Holdings.{HaveOwnNumbers, HoldsEntries, keys_at}
 use Rattle.index_keys.proofs.Members.{contains_cases, contains_none}
 use Rattle.index_keys.proofs.ByNumber.{by_number_held, held_by_number}
+use Rattle.tune_search.specs.Loaded.{search_with}
 use Rattle.tune_incipit.specs.Incipits.{incipit_of, tune_notes}
 use Rattle.tune_incipit.specs.ScaleAndIncipitKeys.{incipit_keys, scale_keys}
 use Rattle.tune_incipit.proofs.KeyLaws.{incipit_rises, scales_rise}
 use Rattle.tune_index.specs.Indexes.{Shape}
-use Rattle.tune_index.specs.ListedLeaves.{listed_bytes}
+use Rattle.tune_index.specs.ListedLeaves.{listed_bytes, index_with, pages_claimed}
 use Rattle.tune_journal.specs.Pages.{page_at}
 use Rattle.tune_parts.specs.Parts.{AreParts, Part}
 use Rattle.tune_parts.proofs.Lists.{all_map}
@@ -42,7 +43,7 @@ use Rattle.tune_titles.proofs.KindLaws.{rhythm_rises, titles_rise}
 use Rattle.tune_contents.specs.Claimed.{AreRows, IsClaimed, RowsRise}
 use Rattle.tune_contents.specs.declared.contents.Contents.{Contents}
 use Rattle.tune_contents.specs.Inside.ClaimedParts.{AreBlocks, AreRowsThere, AreTunesThere, ClaimsLists, HasLists, IsStateThere, ListsClaimed, StandAtKeys}
-use Rattle.tune_contents.specs.Inside.ClaimedParts.{TunesClaimed, runs_filed}
+use Rattle.tune_contents.specs.Inside.ClaimedParts.{TunesClaimed, runs_filed, tune_site}
 use Rattle.tune_contents.specs.Inside.ClaimedRows.{AreEntriesOfRows, HasNumber, HaveFew, NumberRows, NameRows}
 use Rattle.tune_contents.specs.Inside.TuneRows.{numbers_in}
 use Rattle.tune_contents.proofs.ClaimLemmas.{at_pages, claimed_as}
@@ -250,7 +251,7 @@ few_tunes One = omega arith
 few_tunes Two = omega arith
 
 module _ (pages : List (List ℕ)) (state : State) (is : IsStateOf pages state) (numbers : IndexParts) (searches : SearchParts) (set_lists : Part)
-    (entries : List Entry) (runs : SearchRuns) (has : HasLists pages state is numbers searches set_lists entries runs) where
+    (entries : List Entry) (runs : SearchRuns) (has : HasLists is numbers searches set_lists entries runs) where
   -- its rows are those of the entries
   listed_there : AreEntriesOfRows state.layout entries
   listed_there = (rows_of state.tunes is.filed.texts, state_rows pages state is, has.are_entries)
@@ -287,7 +288,7 @@ module _ (pages : List (List ℕ)) (state : State) (is : IsStateOf pages state) 
 
   -- its tunes stand behind the lists
   tunes_there : (rows : List Row) → number_entries rows ≡ entries → AreBlocks pages
-      → AreTunesThere state.layout pages (archive_parts numbers searches set_lists []) runs rows
+      → AreTunesThere (tune_site state.layout pages (archive_parts numbers searches set_lists []) runs) rows
   tunes_there rows same sized = (
     state.tunes,
     is.filed.texts,
@@ -306,7 +307,8 @@ module _ (pages : List (List ℕ)) (state : State) (is : IsStateOf pages state) 
 
 -- THE FAULTS
 module _ (f : ClaimFault) (layout : Layout) (pages : List (List ℕ)) (now : List Bool) (firsts : Firsts) (shape : Shape) (entries : List Entry)
-    (shapes : SearchShape) (runs : SearchRuns) (bytes : List ℕ) (lists : ListsClaimed layout pages now firsts shape entries shapes runs bytes) where
+    (shapes : SearchShape) (runs : SearchRuns) (bytes : List ℕ)
+    (lists : ListsClaimed layout (pages_claimed pages now) firsts (index_with shape entries) (search_with shapes runs) bytes) where
   pub listed_fault : (other : List Entry) → other ≡ entries → IsChainFault f (AreEntriesOfRows layout other) → IsChainFault f (IsStateThere pages)
   listed_fault other same call = fault_where f (IsStateThere pages) (λ there.
       let l = lists (state_some pages there) in
@@ -316,22 +318,22 @@ module _ (f : ClaimFault) (layout : Layout) (pages : List (List ℕ)) (now : Lis
       (listed_there pages some.0 some.1 l.numbers l.searches l.set_lists entries runs (l.only some.0 some.1)))) call)
 
   pub rows_fault : (at : List (List ℕ)) (rows : List Row) → at ≡ pages → number_entries rows ≡ entries → AreBlocks pages
-      → ((front : List Part) → HasClaimed at now front → IsChainFault f (AreRowsThere layout at front runs rows))
+      → ((front : List Part) → HasClaimed at now front → IsChainFault f (AreRowsThere (tune_site layout at front runs) rows))
       → IsChainFault f (IsStateThere pages)
   rows_fault at rows on same sized call = fault_where f (IsStateThere pages) (λ there.
       let l = lists (state_some pages there) in
       let front = archive_parts l.numbers l.searches l.set_lists [] in
-      fault_as f (AreRowsThere layout pages front runs rows) (IsStateThere pages)
+      fault_as f (AreRowsThere (tune_site layout pages front runs) rows) (IsStateThere pages)
       (λ (some : IsStateThere pages).
       let its = l.only some.0 some.1 in
       let known = known_there pages some.0 some.1 l.numbers l.searches l.set_lists entries runs its rows same in
       record {
         few = known.0;
         known = known.1;
-        tunes = subst (λ (its : Layout). AreTunesThere its pages front runs rows) (layout_there pages firsts l.root some.0 some.1)
+        tunes = subst (λ (its : Layout). AreTunesThere (tune_site its pages front runs) rows) (layout_there pages firsts l.root some.0 some.1)
             (tunes_there pages some.0 some.1 l.numbers l.searches l.set_lists entries runs its rows same sized);
       })
-      (at_pages (λ p before. IsChainFault f (AreRowsThere layout p before runs rows)) at pages now front on l.has call))
+      (at_pages (λ p before. IsChainFault f (AreRowsThere (tune_site layout p before runs) rows)) at pages now front on l.has call))
 
   pub sets_fault : (rows : List Row) → number_entries rows ≡ entries
       → IsChainFault f ((sets : List TuneSet) × AreSetLists sets × (written_sets sets ≡ bytes) × NameRows rows sets)
@@ -361,17 +363,17 @@ kept_index shape parts listed keeps = record {
 
 pub state_claimed : (at pages : List (List ℕ)) (now last : List Bool) (contents : Contents) (entries : List Entry) (runs : SearchRuns)
     (bytes : List ℕ) (listed : List Row) → at ≡ pages
-    → ClaimsLists contents.layout pages now contents.firsts contents.numbers entries contents.searches runs bytes
+    → ClaimsLists contents.layout (pages_claimed pages now) contents.firsts (index_with contents.numbers entries) (search_with contents.searches runs) bytes
     → AreRows contents.layout contents.rows.items → number_entries listed ≡ entries → number_entries contents.rows.items ≡ number_entries listed
     → AreAllKnown (numbers_in listed) runs
     → written_sets contents.sets ≡ bytes → AreSetLists contents.sets → NameRows contents.rows.items contents.sets
-    → ((front : List Part) → HasClaimed at now front → TunesClaimed contents.layout at front runs last contents.rows.items)
+    → ((front : List Part) → HasClaimed at now front → TunesClaimed (tune_site contents.layout at front runs) last contents.rows.items)
     → IsClaimed pages contents last
 state_claimed at pages now last contents entries runs bytes listed on l are same also known written are_sets names call =
     let front = archive_parts l.numbers l.searches l.set_lists [] in
     let rows : List Row = contents.rows.items in
-    let t : TunesClaimed contents.layout pages front runs last rows =
-    at_pages (λ p before. TunesClaimed contents.layout p before runs last rows) at pages now front on l.has call in
+    let t : TunesClaimed (tune_site contents.layout pages front runs) last rows =
+    at_pages (λ p before. TunesClaimed (tune_site contents.layout p before runs) last rows) at pages now front on l.has call in
     let has = claimed_as pages last _ _ (joined l.numbers l.searches l.set_lists t.texts) t.has in
     let rows_same : number_entries (rows_of t.tunes t.texts) ≡ entries = ap number_entries (sym t.rows_are) ∙ also ∙ same in
     let its : AreRows contents.layout (rows_of t.tunes t.texts) = subst (AreRows contents.layout) t.rows_are are in
@@ -458,33 +460,36 @@ state_claimed at pages now last contents entries runs bytes listed on l are same
 pub texts_claimed : {layout : Layout} → (at pages : List (List ℕ)) (now last : List Bool) (contents : Contents) (entries : List Entry)
     (runs : SearchRuns) (bytes : List ℕ) (listed rows : List Row) (sets : List TuneSet) → at ≡ pages
     → contents.layout ≡ layout → contents.rows.items ≡ rows → contents.sets ≡ sets
-    → ClaimsLists layout pages now contents.firsts contents.numbers entries contents.searches runs bytes
+    → ClaimsLists layout (pages_claimed pages now) contents.firsts (index_with contents.numbers entries) (search_with contents.searches runs) bytes
     → AreRows layout listed → number_entries listed ≡ entries → number_entries rows ≡ number_entries listed
     → AreAllKnown (numbers_in listed) runs → written_sets sets ≡ bytes → AreSetLists sets → NameRows rows sets
-    → ((front : List Part) → HasClaimed at now front → TunesClaimed layout at front runs last rows)
+    → ((front : List Part) → HasClaimed at now front → TunesClaimed (tune_site layout at front runs) last rows)
     → IsClaimed pages contents last
 texts_claimed at pages now last contents entries runs bytes listed rows sets on its its_rows its_sets l are same also known written good names call =
     let entries_are : number_entries contents.rows.items ≡ number_entries listed = ap number_entries its_rows ∙ also in
     state_claimed at pages now last contents entries runs bytes listed on
-    (subst (λ (n : Layout). ClaimsLists n pages now contents.firsts contents.numbers entries contents.searches runs bytes) (sym its) l)
+    (subst (λ (n : Layout). ClaimsLists n (pages_claimed pages now) contents.firsts (index_with contents.numbers entries) (search_with contents.searches runs)
+    bytes) (sym its) l)
     (rows_as contents.rows.items listed entries_are (subst (λ layout. AreRows layout listed) (sym its) are)) same entries_are known
     (ap written_sets its_sets ∙ written) (subst AreSetLists (sym its_sets) good)
     (subst (λ r. NameRows r contents.sets) (sym its_rows) (subst (NameRows rows) (sym its_sets) names))
-    (λ front has. subst (λ r. TunesClaimed contents.layout at front runs last r) (sym its_rows)
-    (subst (λ layout. TunesClaimed layout at front runs last rows) (sym its) (call front has)))
+    (λ front has. subst (λ r. TunesClaimed (tune_site contents.layout at front runs) last r) (sym its_rows)
+    (subst (λ layout. TunesClaimed (tune_site layout at front runs) last rows) (sym its) (call front has)))
 
 -- of equal pages, entries and bytes
 pub lists_as : {layout : Layout} → (at pages : List (List ℕ)) (now : List Bool) (firsts : Firsts) (shape : Shape) (other entries : List Entry)
     (shapes : SearchShape) (runs : SearchRuns) (others bytes : List ℕ) → at ≡ pages → other ≡ entries → others ≡ bytes
-    → ClaimsLists layout pages now firsts shape entries shapes runs bytes → ClaimsLists layout at now firsts shape other shapes runs others
+    → ClaimsLists layout (pages_claimed pages now) firsts (index_with shape entries) (search_with shapes runs) bytes
+    → ClaimsLists layout (pages_claimed at now) firsts (index_with shape other) (search_with shapes runs) others
 lists_as {layout} at pages now firsts shape other entries shapes runs others bytes on same also l =
-    subst (λ p. ClaimsLists layout p now firsts shape other shapes runs others) (sym on)
-    (subst (λ es. ClaimsLists layout pages now firsts shape es shapes runs others) (sym same)
-    (subst (λ b. ClaimsLists layout pages now firsts shape entries shapes runs b) (sym also) l))
+    subst (λ p. ClaimsLists layout (pages_claimed p now) firsts (index_with shape other) (search_with shapes runs) others) (sym on)
+    (subst (λ es. ClaimsLists layout (pages_claimed pages now) firsts (index_with shape es) (search_with shapes runs) others) (sym same)
+    (subst (λ b. ClaimsLists layout (pages_claimed pages now) firsts (index_with shape entries) (search_with shapes runs) b) (sym also) l))
 
 pub lists_at : {layout : Layout} → (at pages : List (List ℕ)) (now : List Bool) (firsts : Firsts) (shape : Shape) (other entries : List Entry)
     (shapes : SearchShape) (runs : SearchRuns) (others bytes : List ℕ) → at ≡ pages → other ≡ entries → others ≡ bytes
-    → ListsClaimed layout pages now firsts shape entries shapes runs bytes → ListsClaimed layout at now firsts shape other shapes runs others
+    → ListsClaimed layout (pages_claimed pages now) firsts (index_with shape entries) (search_with shapes runs) bytes
+    → ListsClaimed layout (pages_claimed at now) firsts (index_with shape other) (search_with shapes runs) others
 lists_at at pages now firsts shape other entries shapes runs others bytes on same also lists = λ some.
     lists_as at pages now firsts shape other entries shapes runs others bytes on same also
     (lists (subst (λ (p : List (List ℕ)). 0 < length p) on some))

@@ -21,7 +21,7 @@ use Rattle.tune_format.specs.declared.rows.Row.{Row}
 use Rattle.tune_format.proofs.TextLemmas.{none_held, one_held, first_held, later_held, texts_join, rows_join}
 use Rattle.tune_contents.specs.Most.{most_tune_pages}
 use Rattle.tune_contents.specs.Inside.ClaimedParts.{AreTunesThere, ChainsClaimed, ClaimsPart, ClaimsSoFar, ClaimsTune, HoldsTune, HoldsTuneOf}
-use Rattle.tune_contents.specs.Inside.ClaimedParts.{IsPartThere, IsTuneThere, TunesStand}
+use Rattle.tune_contents.specs.Inside.ClaimedParts.{IsPartThere, IsTuneThere, TunesStand, tune_site}
 use Rattle.tune_contents.specs.Inside.TuneRows.{numbers_in}
 use Rattle.tune_contents.proofs.ClaimLemmas.{at_pages, claimed_as, its_part, tune_claimed}
 use Rattle.tune_contents.proofs.ClaimSizes.{tune_few}
@@ -33,17 +33,17 @@ record FirstTune (layout : Layout) (pages : List (List ℕ)) (front : List Part)
   pub part : Part
   pub tail : List Tune
   pub more : List Part
-  pub stand : TunesStand layout pages front runs (row ∷ rows) (tune ∷ tail) (part ∷ more)
+  pub stand : TunesStand (tune_site layout pages front runs) (row ∷ rows) (tune ∷ tail) (part ∷ more)
 
 first_of_tunes : {layout : Layout} → (pages : List (List ℕ)) (front : List Part) (runs : SearchRuns) (row : Row) (rows : List Row) (tunes : List Tune)
-    (texts : List Part) → TunesStand layout pages front runs (row ∷ rows) tunes texts → FirstTune layout pages front runs row rows
+    (texts : List Part) → TunesStand (tune_site layout pages front runs) (row ∷ rows) tunes texts → FirstTune layout pages front runs row rows
 first_of_tunes pages front runs row rows [] texts stand = absurd (let size = ap (λ (l : List Entry). length l) stand.listed in omega arith)
 first_of_tunes pages front runs row rows (tune ∷ tail) [] stand = absurd (let size = ap (λ (l : List Entry). length l) stand.listed in omega arith)
 first_of_tunes pages front runs row rows (tune ∷ tail) (part ∷ more) stand =
     record { tune = tune; part = part; tail = tail; more = more; stand = stand }
 
 first_tune : {layout : Layout} → (pages : List (List ℕ)) (front : List Part) (runs : SearchRuns) (row : Row) (rows : List Row)
-    → AreTunesThere layout pages front runs (row ∷ rows) → FirstTune layout pages front runs row rows
+    → AreTunesThere (tune_site layout pages front runs) (row ∷ rows) → FirstTune layout pages front runs row rows
 first_tune pages front runs row rows (tunes, texts, stand) = first_of_tunes pages front runs row rows tunes texts stand
 
 -- its entry
@@ -53,7 +53,7 @@ its_entry pages front runs row rows f = first_entry _ _ _ _ f.stand.listed
 
 -- where the tunes of rows stand, the first of them does
 pub tune_there : {layout : Layout} → (pages : List (List ℕ)) (front : List Part) (runs : SearchRuns) (row : Row) (rows : List Row)
-    → AreTunesThere layout pages front runs (row ∷ rows) → IsTuneThere layout pages front runs row.number row.first
+    → AreTunesThere (tune_site layout pages front runs) (row ∷ rows) → IsTuneThere (tune_site layout pages front runs) row.number row.first
 tune_there {layout} pages front runs row rows all =
     let f = first_tune pages front runs row rows all in
     let stand = f.stand in
@@ -78,7 +78,7 @@ tune_there {layout} pages front runs row rows all =
 -- and the others stand behind it
 tunes_behind_as : {layout : Layout} → (pages : List (List ℕ)) (front : List Part) (runs : SearchRuns) (row : Row) (rows : List Row)
     (now : List Bool) (bytes : List ℕ) (first : ℕ) → first ≡ row.first → (claims : ClaimsPart pages front now first bytes)
-    → AreTunesThere layout pages front runs (row ∷ rows) → AreTunesThere layout pages (front ++ claims.part ∷ []) runs rows
+    → AreTunesThere (tune_site layout pages front runs) (row ∷ rows) → AreTunesThere (tune_site layout pages (front ++ claims.part ∷ []) runs) rows
 tunes_behind_as {layout} pages front runs row rows now bytes first alike claims all =
     let f = first_tune pages front runs row rows all in
     let stand = f.stand in
@@ -100,7 +100,7 @@ tunes_behind_as {layout} pages front runs row rows now bytes first alike claims 
 
 -- CLAIMS SO FAR
 pub claims_start : {layout : Layout} → (pages : List (List ℕ)) (front : List Part) (runs : SearchRuns) (list : List Row) (claimed : List Bool)
-    (rows : List Row) → rows ≡ [] → HasClaimed pages claimed front → ClaimsSoFar layout pages front runs list claimed rows list
+    (rows : List Row) → rows ≡ [] → HasClaimed pages claimed front → ClaimsSoFar (tune_site layout pages front runs) list claimed rows list
 claims_start {layout} pages front runs list claimed rows none has = record {
   so_far = record {
     tunes = [];
@@ -111,24 +111,25 @@ claims_start {layout} pages front runs list claimed rows none has = record {
     each = tt;
     keys = tt;
   };
-  goes_on = λ there. subst (λ l. AreTunesThere layout pages l runs list) (sym (append-nil front)) there;
+  goes_on = λ there. subst (λ l. AreTunesThere (tune_site layout pages l runs) list) (sym (append-nil front)) there;
 }
 
 -- the part of the next tune is the one that was claimed
 claims_behind : {layout : Layout} → (pages : List (List ℕ)) (front : List Part) (runs : SearchRuns) (list : List Row) (claimed now : List Bool)
-    (rows : List Row) (next : Row) (later : List Row) (row : Row) (so : ClaimsSoFar layout pages front runs list claimed rows (next ∷ later))
-    → row_entry row ≡ row_entry next → (claims : ClaimsTune layout pages (front ++ so.so_far.texts) runs now row)
-    → AreTunesThere layout pages front runs list → AreTunesThere layout pages (front ++ (so.so_far.texts ++ claims.claims.part ∷ [])) runs later
+    (rows : List Row) (next : Row) (later : List Row) (row : Row) (so : ClaimsSoFar (tune_site layout pages front runs) list claimed rows (next ∷ later))
+    → row_entry row ≡ row_entry next → (claims : ClaimsTune (tune_site layout pages (front ++ so.so_far.texts) runs) now row)
+    → AreTunesThere (tune_site layout pages front runs) list
+    → AreTunesThere (tune_site layout pages (front ++ (so.so_far.texts ++ claims.claims.part ∷ [])) runs) later
 claims_behind {layout} pages front runs list claimed now rows next later row so same claims there =
     let texts = so.so_far.texts in
     let part = claims.claims.part in
-    subst (λ l. AreTunesThere layout pages l runs later) (append_assoc front texts (part ∷ []))
+    subst (λ l. AreTunesThere (tune_site layout pages l runs) later) (append_assoc front texts (part ∷ []))
     (tunes_behind_as pages (front ++ texts) runs next later now claims.bytes row.first (entry_first row next same) claims.claims (so.goes_on there))
 
 claims_more : {layout : Layout} → (pages : List (List ℕ)) (front : List Part) (runs : SearchRuns) (list : List Row) (claimed now : List Bool)
-    (rows : List Row) (next : Row) (later : List Row) (row : Row) (so : ClaimsSoFar layout pages front runs list claimed rows (next ∷ later))
-    → row_entry row ≡ row_entry next → ClaimsTune layout pages (front ++ so.so_far.texts) runs now row
-    → ClaimsSoFar layout pages front runs list now (rows ++ row ∷ []) later
+    (rows : List Row) (next : Row) (later : List Row) (row : Row) (so : ClaimsSoFar (tune_site layout pages front runs) list claimed rows (next ∷ later))
+    → row_entry row ≡ row_entry next → ClaimsTune (tune_site layout pages (front ++ so.so_far.texts) runs) now row
+    → ClaimsSoFar (tune_site layout pages front runs) list now (rows ++ row ∷ []) later
 claims_more {layout} pages front runs list claimed now rows next later row so same claims =
     let s = so.so_far in
     let part = claims.claims.part in
@@ -174,15 +175,16 @@ chains_more pages front claimed now (r ∷ rows) (b ∷ chains) row bytes (mid, 
 chains_fault : (layout : Layout) (f : ClaimFault) (pages : List (List ℕ)) (front : List Part) (runs : SearchRuns) (claimed : List Bool) (rows : List Row)
     (chains : List (List ℕ)) (next : Row) (later : List Row) → ChainsClaimed pages front claimed rows chains
     → ((before : List Part) → HasClaimed pages claimed before → IsChainFault f (IsPartThere pages before next.first (most_tune_pages layout)))
-    → IsChainFault f (AreTunesThere layout pages front runs (rows ++ next ∷ later))
+    → IsChainFault f (AreTunesThere (tune_site layout pages front runs) (rows ++ next ∷ later))
 chains_fault layout f pages front runs claimed [] [] next later so call =
-    fault_as f (IsPartThere pages front next.first (most_tune_pages layout)) (AreTunesThere layout pages front runs (next ∷ later))
+    fault_as f (IsPartThere pages front next.first (most_tune_pages layout)) (AreTunesThere (tune_site layout pages front runs) (next ∷ later))
     (λ there. (tune_there pages front runs next later there).there) (call front so)
 chains_fault layout f pages front runs claimed [] (b ∷ chains) next later so call = absurd so
 chains_fault layout f pages front runs claimed (r ∷ rows) [] next later so call = absurd so
 chains_fault layout f pages front runs claimed (r ∷ rows) (b ∷ chains) next later (mid, claims, more) call =
     let behind = front ++ claims.part ∷ [] in
-    fault_as f (AreTunesThere layout pages behind runs (rows ++ next ∷ later)) (AreTunesThere layout pages front runs (r ∷ (rows ++ next ∷ later)))
+    fault_as f (AreTunesThere (tune_site layout pages behind runs) (rows ++ next ∷ later))
+    (AreTunesThere (tune_site layout pages front runs) (r ∷ (rows ++ next ∷ later)))
     (λ there. tunes_behind_as pages front runs r (rows ++ next ∷ later) mid b r.first refl claims there)
     (chains_fault layout f pages behind runs claimed rows chains next later more call)
 
@@ -202,13 +204,13 @@ pub chains_turn_fault : (layout : Layout) (f : ClaimFault) (old pages : List (Li
     (rows : List Row) (chains : List (List ℕ)) (place : ℕ) (next : Row) (later : List Row) → old ≡ pages
     → ChainsClaimed pages front claimed (take place rows) (take place chains) → drop place rows ≡ next ∷ drop (place + 1) rows
     → ((before : List Part) → HasClaimed old claimed before → IsChainFault f (IsPartThere old before next.first (most_tune_pages layout)))
-    → IsChainFault f (AreTunesThere layout pages front runs (rows ++ later))
+    → IsChainFault f (AreTunesThere (tune_site layout pages front runs) (rows ++ later))
 chains_turn_fault layout f old pages front runs claimed rows chains place next later on so at call =
     let behind : List Row = drop (place + 1) rows ++ later in
     let listing : take place rows ++ next ∷ behind ≡ rows ++ later =
     ap (λ (l : List Row). take place rows ++ (l ++ later)) (sym at) ∙ sym (append_assoc (take place rows) (drop place rows) later)
     ∙ ap (λ (l : List Row). l ++ later) (take-append-drop place rows) in
-    subst (λ (l : List Row). IsChainFault f (AreTunesThere layout pages front runs l)) listing
+    subst (λ (l : List Row). IsChainFault f (AreTunesThere (tune_site layout pages front runs) l)) listing
     (chains_fault layout f pages front runs claimed (take place rows) (take place chains) next behind so
     (λ before has. at_pages (λ l b. IsChainFault f (IsPartThere l b next.first (most_tune_pages layout))) old pages claimed before on has call))
 
@@ -217,7 +219,7 @@ chains_turn_fault layout f old pages front runs claimed rows chains place next l
 pub record ComparedSoFar (layout : Layout) (pages : List (List ℕ)) (front : List Part) (runs : SearchRuns) (list : List Row) (claimed : List Bool)
     (rows rest later : List Row) (chains : List (List ℕ)) : Type 0 where
   pub mid : List Bool
-  pub so : ClaimsSoFar layout pages front runs list mid rows (rest ++ later)
+  pub so : ClaimsSoFar (tune_site layout pages front runs) list mid rows (rest ++ later)
   pub ahead : ChainsClaimed pages (front ++ so.so_far.texts) claimed rest chains
 
 pub compared_start : {layout : Layout} → (pages : List (List ℕ)) (front : List Part) (runs : SearchRuns) (was claimed : List Bool) (rows later : List Row)
@@ -239,7 +241,7 @@ compared_more {layout} pages front runs list claimed rows next rest later bytes 
     let texts = g.so.so_far.texts in
     let claims = g.ahead.1 in
     let first = entry_first row next same in
-    let its : ClaimsTune layout pages (front ++ texts) runs g.ahead.0 row = record {
+    let its : ClaimsTune (tune_site layout pages (front ++ texts) runs) g.ahead.0 row = record {
       bytes = bytes;
       claims = record {
         part = claims.part;
@@ -277,10 +279,10 @@ compared_turn {layout} pages front runs list claimed rows items all later chains
 compared_fault : {layout : Layout} → (f : ClaimFault) (pages : List (List ℕ)) (front : List Part) (runs : SearchRuns) (list : List Row) (claimed : List Bool)
     (rows : List Row) (next : Row) (rest later : List Row) (bytes : List ℕ) (chains : List (List ℕ))
     → ComparedSoFar layout pages front runs list claimed rows (next ∷ rest) later (bytes ∷ chains)
-    → IsChainFault f (HoldsTune layout runs next.number bytes) → IsChainFault f (AreTunesThere layout pages front runs list)
+    → IsChainFault f (HoldsTune layout runs next.number bytes) → IsChainFault f (AreTunesThere (tune_site layout pages front runs) list)
 compared_fault {layout} f pages front runs list claimed rows next rest later bytes chains g none =
     let ahead = front ++ g.so.so_far.texts in
-    fault_as f (HoldsTune layout runs next.number bytes) (AreTunesThere layout pages front runs list)
+    fault_as f (HoldsTune layout runs next.number bytes) (AreTunesThere (tune_site layout pages front runs) list)
     (λ there. (let is = tune_there pages ahead runs next (rest ++ later) (g.so.goes_on there) in record {
       revision = is.revision;
       text = is.text;
@@ -292,7 +294,7 @@ pub compared_turn_fault : {layout : Layout} → (f : ClaimFault) (pages : List (
     (claimed : List Bool) (rows all later : List Row) (chains : List (List ℕ)) (place : ℕ) (next : Row) (bytes : List ℕ)
     → ComparedSoFar layout pages front runs list claimed rows (drop place all) later (drop place chains)
     → drop place all ≡ next ∷ drop (place + 1) all → drop place chains ≡ bytes ∷ drop (place + 1) chains
-    → IsChainFault f (HoldsTune layout runs next.number bytes) → IsChainFault f (AreTunesThere layout pages front runs list)
+    → IsChainFault f (HoldsTune layout runs next.number bytes) → IsChainFault f (AreTunesThere (tune_site layout pages front runs) list)
 compared_turn_fault {layout} f pages front runs list claimed rows all later chains place next bytes g at held none =
     let one = subst (λ rest. ComparedSoFar layout pages front runs list claimed rows rest later (drop place chains)) at g in
     let two = subst (λ l. ComparedSoFar layout pages front runs list claimed rows (next ∷ drop (place + 1) all) later l) held one in
@@ -301,7 +303,7 @@ compared_turn_fault {layout} f pages front runs list claimed rows all later chai
 -- all of it was compared
 pub compared_all : {layout : Layout} → (pages : List (List ℕ)) (front : List Part) (runs : SearchRuns) (list : List Row) (claimed : List Bool)
     (rows rest later : List Row) (chains : List (List ℕ)) → ComparedSoFar layout pages front runs list claimed rows rest later chains → rest ≡ []
-    → chains ≡ [] → ClaimsSoFar layout pages front runs list claimed rows later
+    → chains ≡ [] → ClaimsSoFar (tune_site layout pages front runs) list claimed rows later
 compared_all {layout} pages front runs list claimed rows rest later chains g none empty =
     let one = subst (λ r. ComparedSoFar layout pages front runs list claimed rows r later chains) none g in
     let two = subst (λ c. ComparedSoFar layout pages front runs list claimed rows [] later c) empty one in
@@ -313,9 +315,9 @@ compared_all {layout} pages front runs list claimed rows rest later chains g non
 
 -- GROUP AFTER GROUP
 claims_join : {layout : Layout} → (pages : List (List ℕ)) (front : List Part) (runs : SearchRuns) (list : List Row) (claimed now : List Bool)
-    (rows more behind later : List Row) (so : ClaimsSoFar layout pages front runs list claimed rows behind)
-    → ClaimsSoFar layout pages (front ++ so.so_far.texts) runs behind now more later
-    → ClaimsSoFar layout pages front runs list now (rows ++ more) later
+    (rows more behind later : List Row) (so : ClaimsSoFar (tune_site layout pages front runs) list claimed rows behind)
+    → ClaimsSoFar (tune_site layout pages (front ++ so.so_far.texts) runs) behind now more later
+    → ClaimsSoFar (tune_site layout pages front runs) list now (rows ++ more) later
 claims_join {layout} pages front runs list claimed now rows more behind later so next =
     let s = so.so_far in
     let n = next.so_far in
@@ -329,7 +331,8 @@ claims_join {layout} pages front runs list claimed now rows more behind later so
         each = all_join (IsTune layout) s.tunes n.tunes s.each n.each;
         keys = all_join (λ (t : Tune). StandsAtKeys runs t.number t.text) s.tunes n.tunes s.keys n.keys;
       };
-      goes_on = λ there. subst (λ l. AreTunesThere layout pages l runs later) (append_assoc front s.texts n.texts) (next.goes_on (so.goes_on there));
+      goes_on = λ there. subst (λ l. AreTunesThere (tune_site layout pages l runs) later) (append_assoc front s.texts n.texts)
+          (next.goes_on (so.goes_on there));
     }
 
 -- a group and the rows behind it
@@ -375,29 +378,31 @@ group_numbers rows list numbers from n are later =
 
 -- A turn, as the code has it.
 pub claims_turn : {layout : Layout} → (old pages : List (List ℕ)) (front : List Part) (runs : SearchRuns) (list : List Row) (claimed now : List Bool)
-    (rows items group more : List Row) (from to : ℕ) → old ≡ pages → ClaimsSoFar layout pages front runs list claimed rows (drop from list)
+    (rows items group more : List Row) (from to : ℕ) → old ≡ pages → ClaimsSoFar (tune_site layout pages front runs) list claimed rows (drop from list)
     → group ++ drop to list ≡ drop from list
-    → ((before : List Part) → HasClaimed old claimed before → ClaimsSoFar layout old before runs (group ++ drop to list) now more (drop to list))
-    → items ≡ rows ++ more → ClaimsSoFar layout pages front runs list now items (drop to list)
+    → ((before : List Part) → HasClaimed old claimed before → ClaimsSoFar (tune_site layout old before runs) (group ++ drop to list) now more (drop to list))
+    → items ≡ rows ++ more → ClaimsSoFar (tune_site layout pages front runs) list now items (drop to list)
 claims_turn {layout} old pages front runs list claimed now rows items group more from to on so listing call pushed =
     let ahead = front ++ so.so_far.texts in
-    let its = at_pages (λ l before. ClaimsSoFar layout l before runs (group ++ drop to list) now more (drop to list)) old pages claimed ahead on
+    let its = at_pages (λ l before. ClaimsSoFar (tune_site layout l before runs) (group ++ drop to list) now more (drop to list)) old pages claimed ahead on
     so.so_far.has call in
-    subst (λ r. ClaimsSoFar layout pages front runs list now r (drop to list)) (sym pushed)
+    subst (λ r. ClaimsSoFar (tune_site layout pages front runs) list now r (drop to list)) (sym pushed)
     (claims_join pages front runs list claimed now rows more (drop from list) (drop to list) so
-    (subst (λ l. ClaimsSoFar layout pages ahead runs l now more (drop to list)) listing its))
+    (subst (λ l. ClaimsSoFar (tune_site layout pages ahead runs) l now more (drop to list)) listing its))
 
 -- where the tunes of all rows stand, those of the rows that are left do
 pub turn_fault : {layout : Layout} → (f : ClaimFault) (old pages : List (List ℕ)) (front : List Part) (runs : SearchRuns) (list : List Row)
-    (claimed : List Bool) (rows group : List Row) (from to : ℕ) → old ≡ pages → ClaimsSoFar layout pages front runs list claimed rows (drop from list)
+    (claimed : List Bool) (rows group : List Row) (from to : ℕ) → old ≡ pages
+    → ClaimsSoFar (tune_site layout pages front runs) list claimed rows (drop from list)
     → group ++ drop to list ≡ drop from list
-    → ((before : List Part) → HasClaimed old claimed before → IsChainFault f (AreTunesThere layout old before runs (group ++ drop to list)))
-    → IsChainFault f (AreTunesThere layout pages front runs list)
+    → ((before : List Part) → HasClaimed old claimed before → IsChainFault f (AreTunesThere (tune_site layout old before runs) (group ++ drop to list)))
+    → IsChainFault f (AreTunesThere (tune_site layout pages front runs) list)
 turn_fault {layout} f old pages front runs list claimed rows group from to on so listing call =
     let ahead = front ++ so.so_far.texts in
-    fault_as f (AreTunesThere layout pages ahead runs (group ++ drop to list)) (AreTunesThere layout pages front runs list)
-    (λ there. subst (λ l. AreTunesThere layout pages ahead runs l) (sym listing) (so.goes_on there))
-    (at_pages (λ l before. IsChainFault f (AreTunesThere layout l before runs (group ++ drop to list))) old pages claimed ahead on so.so_far.has call)
+    fault_as f (AreTunesThere (tune_site layout pages ahead runs) (group ++ drop to list)) (AreTunesThere (tune_site layout pages front runs) list)
+    (λ there. subst (λ l. AreTunesThere (tune_site layout pages ahead runs) l) (sym listing) (so.goes_on there))
+    (at_pages (λ l before. IsChainFault f (AreTunesThere (tune_site layout l before runs) (group ++ drop to list))) old pages claimed ahead on so.so_far.has
+    call)
 
 -- ENTRIES
 pub entries_turn : (list rows items : List Row) (place : ℕ) (next row : Row) → number_entries rows ++ number_entries (drop place list) ≡ number_entries list

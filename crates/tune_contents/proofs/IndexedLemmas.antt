@@ -7,6 +7,7 @@ use Rattle.index_keys.specs.Entries.{AllFit, Entry, inserted_all, removed_all}
 use Rattle.index_keys.specs.Holdings.{AreSmall, SameMembers}
 use Rattle.index_keys.proofs.Members.{contains_cases, contains_none}
 use Rattle.index_keys.proofs.Holding.{holds_same}
+use Rattle.tune_index.specs.ListedLeaves.{index_with}
 use Rattle.tune_incipit.specs.ScaleAndIncipitKeys.{incipit_keys, scale_keys}
 use Rattle.tune_index.specs.Indexes.{Shape}
 use Rattle.tune_pages.specs.Faults.{pages_for}
@@ -121,7 +122,7 @@ module _ (s : Stand) (index : Shape) (entries : List Entry) (search : SearchShap
     listed = st.listed;
   }
 
-  pub index_there : HoldsIndexAmong key_bytes s index [] (parts_of_search st.searches ++ set_lists ∷ st.texts) st.numbers entries
+  pub index_there : HoldsIndexAmong key_bytes s (index_with index entries) [] (parts_of_search st.searches ++ set_lists ∷ st.texts) st.numbers
   index_there = record { holds = st.holds; keeps = st.keeps_numbers }
 
   pub texts_there : HoldsTexts s search (parts_of_index st.numbers) (set_lists ∷ st.texts) st.searches held
@@ -282,7 +283,7 @@ entries_after gone come entries = inserted_all come (removed_all gone entries)
 -- how many pages the index of numbers takes, by what is ensured of it
 abbrev pub NumbersTake : {T : Type 0} → Result T Fault → Stand → Stand → Shape → List Entry → List Entry → Type 0
 NumbersTake result old new was gone come = (before after : List Part) (parts : IndexParts) (entries : List Entry)
-    → HoldsIndexAmong key_bytes old was before after parts entries
+    → HoldsIndexAmong key_bytes old (index_with was entries) before after parts
     → let count = length (inserted_all come (removed_all gone entries)) in TakesAtMost (count + pages_for (number_bytes * count)) result old new
 
 -- and the search indexes

@@ -3,6 +3,7 @@ ghost use Rattle.std.specs.Prelude.{◌≡◌, ◌≢◌, ◌↔◌, ℕ, ◌^�
 ghost use Rattle.std.specs.Prelude.{drop, slice_index, take};
 ghost use Rattle.std.specs.Prelude.{IfOk, IfErr, IfSome, IfNone, IsTrue, OnOk};
 ghost use Rattle.tune_index.specs.Indexes.{Shape};
+ghost use Rattle.tune_index.specs.ListedLeaves.{index_with, pages_claimed};
 ghost use Rattle.tune_pages.specs.Claim.{IsChainFault, LooksOpening};
 ghost use Rattle.tune_pages.specs.OpenedPages.{only_root};
 ghost use Rattle.tune_parts.specs.Parts.{Part};
@@ -10,7 +11,7 @@ ghost use Rattle.tune_search.specs.LoadedParts.{HasClaimed};
 ghost use Rattle.tune_search.specs.SearchClaims.{AreAllKnown};
 ghost use Rattle.tune_search.specs.Searches.{SearchRuns, SearchShape};
 ghost use Rattle.tune_search.specs.IncipitForms.{notes_in};
-ghost use Rattle.tune_search.specs.Loaded.{runs_in};
+ghost use Rattle.tune_search.specs.Loaded.{runs_in, search_with};
 ghost use Rattle.tune_sets.specs.Sets.{AreSetLists};
 ghost use Rattle.tune_sets.specs.SetBytes.{written_sets};
 ghost use Rattle.tune_sets.specs.declared.set_lists.TuneSet.{TuneSet};
@@ -29,6 +30,7 @@ ghost use Rattle.tune_contents.specs.Inside.ClaimedParts.{ClaimsPart, ClaimsSear
 ghost use Rattle.tune_contents.specs.Inside.ClaimedParts.{HoldsTune, HoldsTuneOf, IsIndexThere};
 ghost use Rattle.tune_contents.specs.Inside.ClaimedParts.{IsPartThere, IsSearchThere, IsStateThere};
 ghost use Rattle.tune_contents.specs.Inside.ClaimedParts.{IsTuneChain, ListsClaimed, TunesClaimed};
+ghost use Rattle.tune_contents.specs.Inside.ClaimedParts.{tune_site};
 ghost use Rattle.tune_contents.specs.Inside.TuneRows.{numbers_in};
 ghost use Rattle.tune_contents.specs.declared.contents.Contents.{Contents};
 
@@ -131,13 +133,15 @@ fn claim_texts<D: Disk>(
     requires sized { D.honest opening.old.disk → AreBlocks opening.old.pages }
     ensures claimed { IfOk result (λ made. D.honest opening.new.disk → (contents : Contents)
         → contents.layout ≡ layout → contents.rows.items ≡ made.0.items → contents.sets ≡ made.1
-        → ClaimsLists layout opening.old.pages opening.old.claimed contents.firsts
-        contents.numbers tunes.items contents.searches (runs_in entries) sets.now
+        → ClaimsLists layout (pages_claimed opening.old.pages opening.old.claimed)
+        contents.firsts (index_with contents.numbers tunes.items)
+        (search_with contents.searches (runs_in entries)) sets.now
         → IsClaimed opening.old.pages contents opening.new.claimed) }
     ensures rows { IfOk result (λ made. AreRows layout made.0.items) }
     ensures damaged { IfErr result (λ fault. D.honest opening.new.disk → (firsts : Firsts)
-        (shape : Shape) (shapes : SearchShape) → ListsClaimed layout opening.old.pages
-        opening.old.claimed firsts shape tunes.items shapes (runs_in entries) sets.now
+        (shape : Shape) (shapes : SearchShape) → ListsClaimed layout
+        (pages_claimed opening.old.pages opening.old.claimed) firsts
+        (index_with shape tunes.items) (search_with shapes (runs_in entries)) sets.now
         → IsChainFault fault (IsStateThere opening.old.pages)) }
     ensures looks { LooksOpening D.honest D.failures D.state result opening.old opening.new }
 {
@@ -155,9 +159,9 @@ fn claim_lists<D: Disk>(alloc: Global, opening: &mut Opening<D>) -> Result<Lists
     requires sized { D.honest opening.old.disk → AreBlocks opening.old.pages }
     ensures claims { IfOk result (λ lists. D.honest opening.new.disk
         → 0 < length opening.old.pages
-        → ClaimsLists lists.layout opening.old.pages opening.new.claimed lists.firsts
-        lists.numbers lists.tunes.items lists.searches (runs_in lists.entries)
-        lists.sets.items) }
+        → ClaimsLists lists.layout (pages_claimed opening.old.pages opening.new.claimed)
+        lists.firsts (index_with lists.numbers lists.tunes.items)
+        (search_with lists.searches (runs_in lists.entries)) lists.sets.items) }
     ensures damaged { IfErr result (λ fault. D.honest opening.new.disk
         → IsChainFault fault (IsStateThere opening.old.pages)) }
     ensures looks { LooksOpening D.honest D.failures D.state result opening.old opening.new }
@@ -200,8 +204,8 @@ fn claim_index<D: Disk>(
 ) -> Result<(Index<32>, Vec<(IndexKey<32>, u32)>), ClaimFault>
     ensures claims { IfOk result (λ loaded. D.honest opening.new.disk → (front : List Part)
         → HasClaimed opening.old.pages opening.old.claimed front
-        → ClaimsIndex most opening.old.pages front opening.new.claimed first loaded.0
-        loaded.1.items) }
+        → ClaimsIndex most (pages_claimed opening.old.pages opening.new.claimed) front first
+        (index_with loaded.0 loaded.1.items)) }
     ensures damaged { IfErr result (λ fault. D.honest opening.new.disk → (front : List Part)
         → HasClaimed opening.old.pages opening.old.claimed front
         → IsChainFault fault (IsIndexThere most opening.old.pages front first)) }
@@ -223,8 +227,8 @@ fn claim_searches<D: Disk>(
     ensures notes { IfOk result (λ loaded. loaded.0.notes ≡ notes_in notes) }
     ensures claims { IfOk result (λ loaded. D.honest opening.new.disk → (front : List Part)
         → HasClaimed opening.old.pages opening.old.claimed front
-        → ClaimsSearch most opening.old.pages front opening.new.claimed firsts loaded.0
-        (runs_in loaded.1)) }
+        → ClaimsSearch most (pages_claimed opening.old.pages opening.new.claimed) front firsts
+        (search_with loaded.0 (runs_in loaded.1))) }
     ensures damaged { IfErr result (λ fault. D.honest opening.new.disk → (front : List Part)
         → HasClaimed opening.old.pages opening.old.claimed front
         → IsChainFault fault
@@ -419,11 +423,12 @@ fn claim_rows<D: Disk>(
     ensures known { OnOk result (AreAllKnown (numbers_in rows.old) (runs_in entries)) }
     ensures claimed { OnOk result (D.honest opening.new.disk → (front : List Part)
         → HasClaimed opening.old.pages opening.old.claimed front
-        → TunesClaimed layout opening.old.pages front (runs_in entries) opening.new.claimed
-        rows.new) }
+        → TunesClaimed (tune_site layout opening.old.pages front (runs_in entries))
+        opening.new.claimed rows.new) }
     ensures damaged { IfErr result (λ fault. D.honest opening.new.disk → (front : List Part)
         → HasClaimed opening.old.pages opening.old.claimed front → IsChainFault fault
-        (AreRowsThere layout opening.old.pages front (runs_in entries) rows.old)) }
+        (AreRowsThere (tune_site layout opening.old.pages front (runs_in entries))
+        rows.old)) }
     ensures looks { LooksOpening D.honest D.failures D.state result opening.old opening.new }
 {
     let claims = search_claims(alloc, rows, entries)?;
@@ -443,11 +448,12 @@ fn claim_tunes<D: Disk>(
     ensures same { OnOk result (number_entries rows.new ≡ number_entries rows.old) }
     ensures claimed { OnOk result (D.honest opening.new.disk → (front : List Part)
         → HasClaimed opening.old.pages opening.old.claimed front
-        → TunesClaimed layout opening.old.pages front claims.now.runs opening.new.claimed
-        rows.new) }
+        → TunesClaimed (tune_site layout opening.old.pages front claims.now.runs)
+        opening.new.claimed rows.new) }
     ensures damaged { IfErr result (λ fault. D.honest opening.new.disk → (front : List Part)
         → HasClaimed opening.old.pages opening.old.claimed front → IsChainFault fault
-        (AreTunesThere layout opening.old.pages front claims.now.runs rows.old)) }
+        (AreTunesThere (tune_site layout opening.old.pages front claims.now.runs)
+        rows.old)) }
     ensures looks { LooksOpening D.honest D.failures D.state result opening.old opening.new }
 {
     let mut image = PageImage::blank();
@@ -503,7 +509,8 @@ fn claim_chains<D: Disk>(
     ensures damaged { IfErr result (λ fault. D.honest opening.new.disk → (front : List Part)
         → HasClaimed opening.old.pages opening.old.claimed front
         → (runs : SearchRuns) (later : List Row) → IsChainFault fault
-        (AreTunesThere layout opening.old.pages front runs (rows.now ++ later))) }
+        (AreTunesThere (tune_site layout opening.old.pages front runs)
+        (rows.now ++ later))) }
     ensures looks { LooksOpening D.honest D.failures D.state result opening.old opening.new }
 {
     let most = pages_for(layout.longest_text() + REVISION_BYTES);
@@ -533,13 +540,14 @@ fn compare_tunes(
     ensures claimed { OnOk result ((pages : List (List ℕ)) (front : List Part)
         (was claimed : List Bool) (later : List Row) → HasClaimed pages was front
         → ChainsClaimed pages front claimed rows.old (take (length rows.old) chains.now)
-        → ClaimsSoFar layout pages front claims.now.runs (rows.old ++ later) claimed rows.new
-        later) }
+        → ClaimsSoFar (tune_site layout pages front claims.now.runs) (rows.old ++ later)
+        claimed rows.new later) }
     ensures damaged { IfErr result (λ fault. (pages : List (List ℕ)) (front : List Part)
         (was claimed : List Bool) (later : List Row) → HasClaimed pages was front
         → ChainsClaimed pages front claimed rows.old (take (length rows.old) chains.now)
         → IsChainFault fault
-        (AreTunesThere layout pages front claims.now.runs (rows.old ++ later))) }
+        (AreTunesThere (tune_site layout pages front claims.now.runs)
+        (rows.old ++ later))) }
     ensures err { IfErr result (λ fault. fault ≢ ClaimFault.Device) }
 {
     for place in 0..rows.len() {

@@ -8,6 +8,7 @@ ghost use Rattle.tune_pages.specs.PageLooks.{LooksAt};
 ghost use Rattle.tune_pages.specs.Work.{stand, Fits};
 ghost use Rattle.index_keys.specs.Entries.{AllFit, Entry, FitsLeaf, IsRising, inserted_all};
 ghost use Rattle.index_keys.specs.Entries.{removed_all};
+ghost use Rattle.tune_index.specs.ListedLeaves.{index_with};
 ghost use Rattle.tune_parts.specs.Parts.{Part};
 ghost use Rattle.tune_search.specs.IndexParts.{HoldsIndexAmong, HoldsSomeIndex, IndexParts};
 ghost use Rattle.tune_search.specs.IndexParts.{LaysIndex};
@@ -132,8 +133,8 @@ pub(crate) fn change_numbers<D: Disk>(
         × (numbers.new.listed ≡ true)) }
     ensures takes { HonestAt D.honest pages.new.disk
         → (before after : List Part) (parts : IndexParts) (entries : List Entry)
-        → HoldsIndexAmong key_bytes (stand pages.old work.old) numbers.old before after parts
-        entries → let count = length (inserted_all runs.now.come.items
+        → HoldsIndexAmong key_bytes (stand pages.old work.old) (index_with numbers.old entries)
+        before after parts → let count = length (inserted_all runs.now.come.items
         (removed_all runs.now.gone.items entries)) in
         TakesAtMost (count + pages_for (number_bytes * count)) result
         (stand pages.old work.old) (stand pages.new work.new) }

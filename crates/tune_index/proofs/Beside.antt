@@ -7,7 +7,7 @@ use Rattle.index_keys.specs.Entries.{AllFit, Entry, IsRising}
 use Rattle.tune_index.specs.Indexes.{AllLeaves, HasPages, IsIndex, Shape, entries_of, heads_of}
 use Rattle.tune_index.specs.Inside.EachPage.{HasEachPage}
 use Rattle.tune_index.specs.Leaves.{IsLeaf, leaf_in, slice_entry}
-use Rattle.tune_index.specs.ListedLeaves.{HasList, LoadsIndex, StoresList, listed_bytes, shown}
+use Rattle.tune_index.specs.ListedLeaves.{ClaimedPages, HasList, IndexWithEntries, LoadsIndex, StoresList, listed_bytes, pages_claimed, shown}
 use Rattle.tune_index.proofs.EachPage.{all_of, each_of}
 use Rattle.tune_index.proofs.Puts.{leaves_within}
 
@@ -70,14 +70,15 @@ shown_entries : (width : ℕ) (s : Stand) (pages : List ℕ) → entries_of widt
 shown_entries width s [] = refl
 shown_entries width s (p ∷ ps) = ap (λ (es : List Entry). leaf_in width (image_at s p) ++ es) (shown_entries width s ps)
 
-pub index_opened : (width most : ℕ) (pages : List (List ℕ)) (claimed after : List Bool) (first : ℕ) (shape : Shape) (entries : List Entry) (s : Stand)
-    → LoadsIndex width most pages claimed after first shape entries → s.pages ≡ pages → IsIndex width s shape × (entries_of width s shape.pages ≡ entries)
-index_opened width most pages claimed after first shape entries s loads same =
-    let here = subst (λ (images : List (List ℕ)). LoadsIndex width most images claimed after first shape entries) (sym same) loads in
-    let are = shown_entries width s shape.pages in (
+pub index_opened : (width most : ℕ) (was : ClaimedPages) (after : List Bool) (first : ℕ) (loaded : IndexWithEntries) (s : Stand)
+    → LoadsIndex width most was after first loaded → s.pages ≡ was.pages
+    → IsIndex width s loaded.shape × (entries_of width s loaded.shape.pages ≡ loaded.entries)
+index_opened width most was after first loaded s loads same =
+    let here = subst (λ (images : List (List ℕ)). LoadsIndex width most (pages_claimed images was.claimed) after first loaded) (sym same) loads in
+    let are = shown_entries width s loaded.shape.pages in (
       record {
-        form = shown_form width s shape.pages here.stored.form;
-        heads = here.heads ∙ shown_heads width s shape.pages;
+        form = shown_form width s loaded.shape.pages here.stored.form;
+        heads = here.heads ∙ shown_heads width s loaded.shape.pages;
         rising = subst (λ (es : List Entry). IsRising es) are here.stored.rising;
         fit = subst (λ (es : List Entry). AllFit width es) (here.are ∙ are) here.fit;
       },
@@ -85,11 +86,12 @@ index_opened width most pages claimed after first shape entries s loads same =
     )
 
 -- THE LIST OF ITS LEAVES
-pub list_opened : (width most : ℕ) (pages : List (List ℕ)) (claimed after : List Bool) (first : ℕ) (shape : Shape) (entries : List Entry) (s : Stand)
-    (loads : LoadsIndex width most pages claimed after first shape entries) → s.pages ≡ pages → AllUsed loads.trail s.used → HasList s shape
-list_opened width most pages claimed after first shape entries s loads same used =
+pub list_opened : (width most : ℕ) (was : ClaimedPages) (after : List Bool) (first : ℕ) (loaded : IndexWithEntries) (s : Stand)
+    (loads : LoadsIndex width most was after first loaded) → s.pages ≡ was.pages → AllUsed loads.trail s.used → HasList s loaded.shape
+list_opened width most was after first loaded s loads same used =
+    let shape = loaded.shape in
     let chain = subst (λ (images : List (List ℕ)). IsChain images shape.first loads.trail (listed_bytes shape.pages)) (sym same)
-    (subst (λ (n : ℕ). IsChain pages n loads.trail (listed_bytes shape.pages)) (sym loads.begins) loads.stored.list.chain) in
+    (subst (λ (n : ℕ). IsChain was.pages n loads.trail (listed_bytes shape.pages)) (sym loads.begins) loads.stored.list.chain) in
     (loads.trail, listed_bytes shape.pages, record { chain = chain; used = used }, λ on. refl)
 
 pub list_stored : (old new : Stand) (was is : Shape) → HasList old was → StoresList old new was.first is.first is.pages → HasList new is

@@ -20,7 +20,7 @@ use Rattle.index_keys.proofs.RisingEntries.{rises_front}
 use Rattle.tune_index.specs.Indexes.{AllLeaves, Shape, entries_of, heads_of}
 use Rattle.tune_index.specs.Inside.Loading.{LoadsLeaf}
 use Rattle.tune_index.specs.Leaves.{slice_entry, leaf_in, value_bytes, value_in, IsLeaf}
-use Rattle.tune_index.specs.ListedLeaves.{StoredIndex, IsStored, listed_bytes, numbers_in, shown}
+use Rattle.tune_index.specs.ListedLeaves.{StoredIndex, IsStored, index_with, listed_bytes, numbers_in, pages_claimed, shown}
 use Rattle.tune_index.proofs.Puts.{leaves_within}
 use Rattle.tune_index.proofs.Storing.{length-listed}
 use Rattle.tune_index.proofs.Ranges.{entries_of-push}
@@ -78,7 +78,8 @@ pub record LoadedSoFar (width : ℕ) (pages : List (List ℕ)) (bytes : List ℕ
 
 pub loaded_more : (width : ℕ) (pages : List (List ℕ)) (bytes : List ℕ) (first i page : ℕ) (was is : Shape) (old new : List Entry)
     → LoadedSoFar width pages bytes first i was old
-    → page ≡ value_in (drop (4 * i) bytes) → LoadsLeaf width pages page was is old new → LoadedSoFar width pages bytes first (suc i) is new
+    → page ≡ value_in (drop (4 * i) bytes) → LoadsLeaf width pages page (index_with was old) (index_with is new)
+    → LoadedSoFar width pages bytes first (suc i) is new
 loaded_more width pages bytes first i page was is old new so at leaf =
     let s = shown pages in
     let e : is.pages ≡ was.pages ++ page ∷ [] = leaf.pages_are in
@@ -152,7 +153,8 @@ length-marked (p ∷ t) m = length-marked t (set m p true) ∙ length-set m p tr
 -- it has the leaves that this chain lists
 pub stored_bytes : (width most : ℕ) (pages : List (List ℕ)) (claimed : List Bool) (first : ℕ) (trail bytes t leaves : List ℕ) → length claimed < 256 ^ 4
     → Claimable pages claimed first trail bytes
-    → StoredIndex width most pages claimed first t leaves → (trail ≡ t) × (length bytes ≡ length leaves * 4) × (leaves ≡ numbers_in (length leaves) bytes)
+    → StoredIndex width most (pages_claimed pages claimed) first t leaves
+    → (trail ≡ t) × (length bytes ≡ length leaves * 4) × (leaves ≡ numbers_in (length leaves) bytes)
 stored_bytes width most pages claimed first trail bytes t leaves few list stored =
     let same = chain_once pages first trail t bytes (listed_bytes leaves) list.chain stored.list.chain in
     let size = length-listed leaves in

@@ -33,30 +33,47 @@ StoresList old new first next pages = (trail all : List ℕ) → HasChain old fi
 abbrev pub shown : List (List ℕ) → Stand
 shown pages = record { pages = pages; used = [] }
 
+-- pages, and which of them are claimed
+pub record ClaimedPages : Type 0 where
+  pub pages : List (List ℕ)
+  pub claimed : List Bool
+
+abbrev pub pages_claimed : List (List ℕ) → List Bool → ClaimedPages
+pages_claimed pages claimed = record { pages = pages; claimed = claimed }
+
 -- An index stands on pages that are still to be claimed: its leaves are listed on the chain that
 -- begins at `first`, no page is taken twice, the entries rise from leaf to leaf, and there are at
 -- most so many of them.
-pub record StoredIndex (width most : ℕ) (pages : List (List ℕ)) (claimed : List Bool)
-    (first : ℕ) (trail leaves : List ℕ) : Type 0 where
-  pub list : Claimable pages claimed first trail (listed_bytes leaves)
-  pub free : AllFree leaves (marked true trail claimed)
-  pub form : AllLeaves width (shown pages) leaves
-  pub rising : IsRising (entries_of width (shown pages) leaves)
-  pub few : length (entries_of width (shown pages) leaves) ≤ most
+pub record StoredIndex (width most : ℕ) (now : ClaimedPages) (first : ℕ) (trail leaves : List ℕ)
+    : Type 0 where
+  pub list : Claimable now.pages now.claimed first trail (listed_bytes leaves)
+  pub free : AllFree leaves (marked true trail now.claimed)
+  pub form : AllLeaves width (shown now.pages) leaves
+  pub rising : IsRising (entries_of width (shown now.pages) leaves)
+  pub few : length (entries_of width (shown now.pages) leaves) ≤ most
 
 -- some index is stored there
 abbrev pub IsStored : ℕ → ℕ → List (List ℕ) → List Bool → ℕ → Type 0
 IsStored width most pages claimed first = (trail : List ℕ) × (leaves : List ℕ)
-    × StoredIndex width most pages claimed first trail leaves
+    × StoredIndex width most (pages_claimed pages claimed) first trail leaves
 
--- What is loaded is the index that is stored there, with its entries, and its pages are claimed.
-pub record LoadsIndex (width most : ℕ) (pages : List (List ℕ)) (claimed after : List Bool)
-    (first : ℕ) (shape : Shape) (entries : List Entry) : Type 0 where
+-- An index and its entries: what memory has of the one, and the other.
+pub record IndexWithEntries : Type 0 where
+  pub shape : Shape
+  pub entries : List Entry
+
+abbrev pub index_with : Shape → List Entry → IndexWithEntries
+index_with shape entries = record { shape = shape; entries = entries }
+
+-- What is loaded is the index that is stored there, with its entries, and its pages are claimed:
+-- `after` has what is claimed then.
+pub record LoadsIndex (width most : ℕ) (was : ClaimedPages) (after : List Bool) (first : ℕ)
+    (loaded : IndexWithEntries) : Type 0 where
   pub trail : List ℕ
-  pub stored : StoredIndex width most pages claimed first trail shape.pages
-  pub marks : after ≡ marked true shape.pages (marked true trail claimed)
-  pub are : entries ≡ entries_of width (shown pages) shape.pages
-  pub heads : shape.heads ≡ heads_of width (shown pages) shape.pages
-  pub begins : shape.first ≡ first
-  pub listed : shape.listed ≡ true
-  pub fit : AllFit width entries
+  pub stored : StoredIndex width most was first trail loaded.shape.pages
+  pub marks : after ≡ marked true loaded.shape.pages (marked true trail was.claimed)
+  pub are : loaded.entries ≡ entries_of width (shown was.pages) loaded.shape.pages
+  pub heads : loaded.shape.heads ≡ heads_of width (shown was.pages) loaded.shape.pages
+  pub begins : loaded.shape.first ≡ first
+  pub listed : loaded.shape.listed ≡ true
+  pub fit : AllFit width loaded.entries

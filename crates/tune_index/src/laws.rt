@@ -2,9 +2,9 @@
 ghost use Rattle.std.specs.Prelude.{◌≡◌, ℕ, ◌≤◌, List, Bool, length};
 ghost use Rattle.tune_pages.specs.Frame.{AllApart, TradesPages};
 ghost use Rattle.tune_pages.specs.Stand.{AllUsed, Stand};
-ghost use Rattle.index_keys.specs.Entries.{Entry};
 ghost use Rattle.tune_index.specs.Indexes.{HasPages, IsIndex, Shape, entries_of};
-ghost use Rattle.tune_index.specs.ListedLeaves.{HasList, LoadsIndex, StoresList};
+ghost use Rattle.tune_index.specs.ListedLeaves.{ClaimedPages, HasList, IndexWithEntries};
+ghost use Rattle.tune_index.specs.ListedLeaves.{LoadsIndex, StoresList};
 
 /// The laws of indexes. They speak of pages as a work stands for them (`Stand`), and of what
 /// contracts see of an index (`Shape`).
@@ -23,14 +23,14 @@ pub fn law_of_indexes()
         → AllApart shape.pages before → IsIndex width old shape
         → IsIndex width new shape × HasPages new shape.pages × AllApart shape.pages after
         × (entries_of width new shape.pages ≡ entries_of width old shape.pages) }
-    ensures opened { (width most : ℕ) (pages : List (List ℕ)) (claimed after : List Bool)
-        (first : ℕ) (shape : Shape) (entries : List Entry) (s : Stand)
-        → LoadsIndex width most pages claimed after first shape entries → s.pages ≡ pages
-        → IsIndex width s shape × (entries_of width s shape.pages ≡ entries) }
-    ensures listed { (width most : ℕ) (pages : List (List ℕ)) (claimed after : List Bool)
-        (first : ℕ) (shape : Shape) (entries : List Entry) (s : Stand)
-        (loads : LoadsIndex width most pages claimed after first shape entries)
-        → s.pages ≡ pages → AllUsed loads.trail s.used → HasList s shape }
+    ensures opened { (width most : ℕ) (was : ClaimedPages) (after : List Bool) (first : ℕ)
+        (loaded : IndexWithEntries) (s : Stand) → LoadsIndex width most was after first loaded
+        → s.pages ≡ was.pages → IsIndex width s loaded.shape
+        × (entries_of width s loaded.shape.pages ≡ loaded.entries) }
+    ensures listed { (width most : ℕ) (was : ClaimedPages) (after : List Bool) (first : ℕ)
+        (loaded : IndexWithEntries) (s : Stand)
+        (loads : LoadsIndex width most was after first loaded) → s.pages ≡ was.pages
+        → AllUsed loads.trail s.used → HasList s loaded.shape }
     ensures stored { (old new : Stand) (was is : Shape) → HasList old was
         → StoresList old new was.first is.first is.pages → HasList new is }
 {}

@@ -7,7 +7,8 @@ ghost use Rattle.tune_pages.specs.Stand.{IsFree};
 ghost use Rattle.index_keys.specs.Entries.{AllFit, IsRising};
 ghost use Rattle.tune_index.specs.Inside.Loading.{LoadsLeaf};
 ghost use Rattle.tune_index.specs.Leaves.{leaf_in, value_in, IsLeaf};
-ghost use Rattle.tune_index.specs.ListedLeaves.{IsStored, LoadsIndex, listed_bytes, numbers_in};
+ghost use Rattle.tune_index.specs.ListedLeaves.{IsStored, LoadsIndex, index_with, listed_bytes};
+ghost use Rattle.tune_index.specs.ListedLeaves.{numbers_in, pages_claimed};
 
 use crate::index::Index;
 use crate::leaf::{capacity_of, entry_at, is_leaf, leaf_length, page_bytes, read_value};
@@ -108,7 +109,8 @@ fn load_leaf<D: Disk, L: EntryList<W>, const W: usize>(
     ensures free { OnOk result (IsFree opening.old.claimed page
         × (opening.new.claimed ≡ slice_set opening.old.claimed page true)) }
     ensures leaf { OnOk result (D.honest opening.new.disk → LoadsLeaf W opening.old.pages page
-        index.old index.new (L.entries entries.old) (L.entries entries.new)) }
+        (index_with index.old (L.entries entries.old))
+        (index_with index.new (L.entries entries.new))) }
     ensures rising { OnOk result (IsRising (L.entries entries.new)) }
     ensures few { OnOk result (length (L.entries entries.new) ≤ most) }
     ensures damaged { IfErr result (λ fault. D.honest opening.new.disk → IsChainFault fault
@@ -152,8 +154,8 @@ impl<const W: usize> Index<W> {
     ) -> Result<(Index<W>, L), ClaimFault>
         requires { W ≤ 4090 }
         ensures loads { IfOk result (λ loaded. D.honest opening.new.disk → LoadsIndex W most
-            opening.old.pages opening.old.claimed opening.new.claimed first loaded.0
-            (L.entries loaded.1)) }
+            (pages_claimed opening.old.pages opening.old.claimed) opening.new.claimed first
+            (index_with loaded.0 (L.entries loaded.1))) }
         ensures damaged { IfErr result (λ fault. D.honest opening.new.disk → IsChainFault fault
             (IsStored W most opening.old.pages opening.old.claimed first)) }
         ensures looks { LooksOpening D.honest D.failures D.state result opening.old opening.new }

@@ -7,7 +7,7 @@ use Rattle.tune_pages.proofs.Marks.{apart_left, apart_right}
 use Rattle.index_keys.specs.Entries.{AllFit, Entry, IsRising}
 use Rattle.tune_index.specs.Indexes.{AllLeaves, HasPages, IsIndex, Shape, entries_of, heads_of}
 use Rattle.tune_index.specs.Leaves.{IsLeaf, leaf_in, slice_entry}
-use Rattle.tune_index.specs.ListedLeaves.{HasList}
+use Rattle.tune_index.specs.ListedLeaves.{HasList, index_with}
 use Rattle.tune_parts.specs.Parts.{HoldsParts, IsLeafPage, IsPart, IsPartOf, Part, PartKind, trails}
 use Rattle.tune_parts.proofs.Lists.{all_left, all_right}
 use Rattle.tune_parts.proofs.Once.{EachFree, free_once, free_past, marked_put, once_cut}
@@ -73,14 +73,14 @@ leaves_apart s before after parts holds = subst (HoldsParts s) (sym (append_asso
 -- WHAT CALLS OF AN INDEX ASK FOR
 -- how its leaves stand on pages
 pub among_leaves : (width : ℕ) (s : Stand) (shape : Shape) (before after : List Part) (parts : IndexParts) (entries : List Entry)
-    → HoldsIndexAmong width s shape before after parts entries → OnPages width s parts.leaves
+    → HoldsIndexAmong width s (index_with shape entries) before after parts → OnPages width s parts.leaves
 among_leaves width s shape before after parts entries among =
     leaves_on_pages width s parts.leaves among.keeps.leaves (all_left (IsPart s.pages) parts.leaves after
     (all_right (IsPart s.pages) before (parts_of_index parts ++ after) among.holds.stand).1)
 
 -- the pages of its leaves
 pub among_pages : (width : ℕ) (s : Stand) (shape : Shape) (before after : List Part) (parts : IndexParts) (entries : List Entry)
-    → HoldsIndexAmong width s shape before after parts entries → HasPages s shape.pages
+    → HoldsIndexAmong width s (index_with shape entries) before after parts → HasPages s shape.pages
 among_pages width s shape before after parts entries among =
     let leaves = among_leaves width s shape before after parts entries among in
     subst (HasPages s) (leaves.alone ∙ sym among.keeps.pages)
@@ -88,13 +88,13 @@ among_pages width s shape before after parts entries among =
 
 -- its entries
 pub among_entries : (width : ℕ) (s : Stand) (shape : Shape) (before after : List Part) (parts : IndexParts) (entries : List Entry)
-    → HoldsIndexAmong width s shape before after parts entries → entries_of width s shape.pages ≡ entries
+    → HoldsIndexAmong width s (index_with shape entries) before after parts → entries_of width s shape.pages ≡ entries
 among_entries width s shape before after parts entries among =
     ap (entries_of width s) among.keeps.pages ∙ (among_leaves width s shape before after parts entries among).entries ∙ among.keeps.hold
 
 -- its leaves
 pub among_index : (width : ℕ) (s : Stand) (shape : Shape) (before after : List Part) (parts : IndexParts) (entries : List Entry)
-    → HoldsIndexAmong width s shape before after parts entries → IsIndex width s shape
+    → HoldsIndexAmong width s (index_with shape entries) before after parts → IsIndex width s shape
 among_index width s shape before after parts entries among =
     let leaves = among_leaves width s shape before after parts entries among in
     let are = among_entries width s shape before after parts entries among in
@@ -107,7 +107,7 @@ among_index width s shape before after parts entries among =
 
 -- and the chain that lists them
 pub among_list : (width : ℕ) (s : Stand) (shape : Shape) (before after : List Part) (parts : IndexParts) (entries : List Entry)
-    → HoldsIndexAmong width s shape before after parts entries → HasList s shape
+    → HoldsIndexAmong width s (index_with shape entries) before after parts → HasList s shape
 among_list width s shape before after parts entries among =
     let its = has_part s parts.list before (parts.leaves ++ after) among.keeps.is_chain among.holds in (
       parts.list.trail,
@@ -165,17 +165,19 @@ at_incipits before after parts =
 -- each of them stands among the others
 module _ (s : Stand) (shape : SearchShape) (before after : List Part) (parts : SearchParts) (tunes : List (ℕ × List ℕ))
     (texts : HoldsTexts s shape before after parts tunes) where
-  pub titles_among : HoldsIndexAmong key_bytes s shape.titles before (behind_titles parts after) parts.titles texts.titles.entries
+  pub titles_among : HoldsIndexAmong key_bytes s (index_with shape.titles texts.titles.entries) before (behind_titles parts after) parts.titles
   titles_among = record { holds = subst (HoldsParts s) (at_titles before after parts) texts.holds; keeps = texts.titles.keeps }
 
-  pub rhythms_among : HoldsIndexAmong key_bytes s shape.rhythms (before_rhythms before parts) (behind_rhythms parts after) parts.rhythms
-      texts.rhythms.entries
+  pub rhythms_among : HoldsIndexAmong key_bytes s (index_with shape.rhythms texts.rhythms.entries) (before_rhythms before parts) (behind_rhythms parts after)
+      parts.rhythms
   rhythms_among = record { holds = subst (HoldsParts s) (at_rhythms before after parts) texts.holds; keeps = texts.rhythms.keeps }
 
-  pub scales_among : HoldsIndexAmong key_bytes s shape.scales (before_scales before parts) (behind_scales parts after) parts.scales texts.scales.entries
+  pub scales_among : HoldsIndexAmong key_bytes s (index_with shape.scales texts.scales.entries) (before_scales before parts) (behind_scales parts after)
+      parts.scales
   scales_among = record { holds = subst (HoldsParts s) (at_scales before after parts) texts.holds; keeps = texts.scales.keeps }
 
-  pub incipits_among : HoldsIndexAmong (incipit_bytes shape.notes) s shape.incipits (before_incipits before parts) after parts.incipits texts.incipits.entries
+  pub incipits_among : HoldsIndexAmong (incipit_bytes shape.notes) s (index_with shape.incipits texts.incipits.entries) (before_incipits before parts) after
+      parts.incipits
   incipits_among = record { holds = subst (HoldsParts s) (at_incipits before after parts) texts.holds; keeps = texts.incipits.keeps }
 
 -- whatever tunes stand there

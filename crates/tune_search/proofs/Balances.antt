@@ -1,5 +1,6 @@
 -- How many pages are free as runs go into four indexes, one after another.
 use Rattle.std.proofs.Common.{◌≡◌, ℕ, ◌+◌, ◌*◌, ◌<◌, ◌≤◌, List, ◌++◌, length, arith}
+use Rattle.tune_index.specs.ListedLeaves.{index_with}
 use Rattle.tune_pages.specs.Faults.{free_pages}
 use Rattle.tune_pages.specs.Stand.{Stand}
 use Rattle.index_keys.specs.Entries.{Entry, IsRising, inserted_all}
@@ -25,7 +26,7 @@ use Rattle.tune_titles.specs.TitleAndRhythmKeys.{rhythm_keys, title_keys}
 -- for one index, and for four
 abbrev pub IsFullFor : ℕ → Stand → Shape → (List Entry → List Entry) → Type 0
 IsFullFor width s shape change = (before after : List Part) (parts : IndexParts) (entries : List Entry)
-    → HoldsIndexAmong width s shape before after parts entries → free_pages s.used + length shape.pages < length (change entries)
+    → HoldsIndexAmong width s (index_with shape entries) before after parts → free_pages s.used + length shape.pages < length (change entries)
 
 abbrev pub AreFullFor : Stand → SearchShape → (SearchRuns → SearchRuns) → Type 0
 AreFullFor s shape change = (before after : List Part) (parts : SearchParts) (entries : SearchRuns)

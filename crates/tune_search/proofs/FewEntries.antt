@@ -6,6 +6,7 @@ use Rattle.std.specs.Prelude.{ℤ}
 use Rattle.std.proofs.Math.Nat.{mul-suc}
 use Rattle.std.proofs.lemmas.Bool.{cases_lt}
 use Rattle.std.proofs.lemmas.List.{length-map, length-take}
+use Rattle.tune_index.specs.ListedLeaves.{index_with}
 use Rattle.tune_pages.specs.Stand.{Stand}
 use Rattle.abc_fields.specs.Fields.{key_text_of, rhythm_of, titles_of}
 use Rattle.abc_fields.specs.Limits.{most_titles}
@@ -160,7 +161,7 @@ few_by_incipit notes tunes es up holds =
 
 -- LEAVES
 pub few_among : (width : ℕ) (s : Stand) (shape : Shape) (before after : List Part) (parts : IndexParts) (entries : List Entry)
-    → HoldsIndexAmong width s shape before after parts entries → length shape.pages ≤ length entries
+    → HoldsIndexAmong width s (index_with shape entries) before after parts → length shape.pages ≤ length entries
 few_among width s shape before after parts entries among =
     subst (λ (es : List Entry). length shape.pages ≤ length es) (among_entries width s shape before after parts entries among)
     (few_leaves width s shape (among_index width s shape before after parts entries among))

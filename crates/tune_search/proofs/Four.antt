@@ -1,6 +1,7 @@
 -- Four indexes, one after another, among all other parts.
 use Rattle.std.proofs.Common.{◌≡◌, ℕ, List, ◌++◌, sym, ◌∙◌, ap, subst, append_assoc}
 use Rattle.index_keys.specs.Entries.{Entry}
+use Rattle.tune_index.specs.ListedLeaves.{index_with}
 use Rattle.tune_index.specs.Indexes.{Shape}
 use Rattle.tune_pages.specs.Stand.{Stand}
 use Rattle.tune_parts.specs.Parts.{HoldsParts, Part}
@@ -25,8 +26,8 @@ module _ (before a b c d after : List Part) where
 -- EACH INDEX AMONG ALL OTHERS
 module _ (s : Stand) (shape : SearchShape) (before after : List Part) (parts : SearchParts) (entries : SearchRuns)
     (h : HoldsFour s shape before after parts entries) where
-  pub titles_among : HoldsIndexAmong key_bytes s shape.titles before
-      ((parts_of_index parts.rhythms ++ (parts_of_index parts.scales ++ parts_of_index parts.incipits)) ++ after) parts.titles entries.titles
+  pub titles_among : HoldsIndexAmong key_bytes s (index_with shape.titles entries.titles) before
+      ((parts_of_index parts.rhythms ++ (parts_of_index parts.scales ++ parts_of_index parts.incipits)) ++ after) parts.titles
   titles_among = record {
     holds = subst (λ (l : List Part). HoldsParts s l)
         (first_of before (parts_of_index parts.titles) (parts_of_index parts.rhythms) (parts_of_index parts.scales)
@@ -34,16 +35,16 @@ module _ (s : Stand) (shape : SearchShape) (before after : List Part) (parts : S
     keeps = h.keeps.titles;
   }
 
-  pub rhythms_among : HoldsIndexAmong key_bytes s shape.rhythms (before ++ parts_of_index parts.titles)
-      ((parts_of_index parts.scales ++ parts_of_index parts.incipits) ++ after) parts.rhythms entries.rhythms
+  pub rhythms_among : HoldsIndexAmong key_bytes s (index_with shape.rhythms entries.rhythms) (before ++ parts_of_index parts.titles)
+      ((parts_of_index parts.scales ++ parts_of_index parts.incipits) ++ after) parts.rhythms
   rhythms_among = record {
     holds = subst (λ (l : List Part). HoldsParts s l) (second_of before (parts_of_index parts.titles) (parts_of_index parts.rhythms)
         (parts_of_index parts.scales) (parts_of_index parts.incipits) after) h.holds;
     keeps = h.keeps.rhythms;
   }
 
-  pub scales_among : HoldsIndexAmong key_bytes s shape.scales ((before ++ parts_of_index parts.titles) ++ parts_of_index parts.rhythms)
-      (parts_of_index parts.incipits ++ after) parts.scales entries.scales
+  pub scales_among : HoldsIndexAmong key_bytes s (index_with shape.scales entries.scales)
+      ((before ++ parts_of_index parts.titles) ++ parts_of_index parts.rhythms) (parts_of_index parts.incipits ++ after) parts.scales
   scales_among = record {
     holds = subst (λ (l : List Part). HoldsParts s l)
         (third_of before (parts_of_index parts.titles) (parts_of_index parts.rhythms) (parts_of_index parts.scales)
@@ -51,8 +52,8 @@ module _ (s : Stand) (shape : SearchShape) (before after : List Part) (parts : S
     keeps = h.keeps.scales;
   }
 
-  pub incipits_among : HoldsIndexAmong (incipit_bytes shape.notes) s shape.incipits
-      (((before ++ parts_of_index parts.titles) ++ parts_of_index parts.rhythms) ++ parts_of_index parts.scales) after parts.incipits entries.incipits
+  pub incipits_among : HoldsIndexAmong (incipit_bytes shape.notes) s (index_with shape.incipits entries.incipits)
+      (((before ++ parts_of_index parts.titles) ++ parts_of_index parts.rhythms) ++ parts_of_index parts.scales) after parts.incipits
   incipits_among = record {
     holds = subst (λ (l : List Part). HoldsParts s l) (fourth_of before (parts_of_index parts.titles) (parts_of_index parts.rhythms)
         (parts_of_index parts.scales) (parts_of_index parts.incipits) after) h.holds;

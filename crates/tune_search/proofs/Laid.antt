@@ -19,7 +19,7 @@ use Rattle.std.proofs.lemmas.List.Elements.{All-nil, All-cons}
 use Rattle.index_keys.specs.Entries.{AllFit, Entry, IsRising, removed, removed_all}
 use Rattle.tune_index.specs.Indexes.{HasPages, IsIndex, KeepsList, Shape, entries_of}
 use Rattle.tune_index.specs.Leaves.{leaf_in, slice_entry}
-use Rattle.tune_index.specs.ListedLeaves.{HasList, StoresList, listed_bytes}
+use Rattle.tune_index.specs.ListedLeaves.{HasList, StoresList, listed_bytes, index_with}
 use Rattle.tune_parts.specs.Parts.{HoldsParts, chain_part, IsPart, IsPartOf, Part, PartKind, root_and_trails, trails}
 use Rattle.tune_parts.specs.Parts.PartKind.{chain, leaf}
 use Rattle.tune_parts.proofs.Lists.{all_left, all_right}
@@ -46,7 +46,7 @@ worked honest old new was is fits still same = record {
 
 -- the leaves of an index are those of its pages
 pub leaves_of : (width : ℕ) (s : Stand) (shape : Shape) (before after : List Part) (parts : IndexParts) (entries : List Entry)
-    → HoldsIndexAmong width s shape before after parts entries → parts.leaves ≡ leaf_parts s shape.pages
+    → HoldsIndexAmong width s (index_with shape entries) before after parts → parts.leaves ≡ leaf_parts s shape.pages
 leaves_of width s shape before after parts entries h =
     let stands = all_left (IsPart s.pages) parts.leaves after (all_right (IsPart s.pages) before (parts.list ∷ (parts.leaves ++ after)) h.holds.stand).1 in
     leaves_back width s parts.leaves stands h.keeps.leaves ∙ ap (λ (pages : List ℕ). leaf_parts s pages) (sym h.keeps.pages)
@@ -81,7 +81,7 @@ parts_used s before mine after h =
 
 -- what an index among other parts is to the calls that change it
 pub index_among : (width : ℕ) (s : Stand) (shape : Shape) (before after : List Part) (parts : IndexParts) (entries : List Entry)
-    → HoldsIndexAmong width s shape before after parts entries
+    → HoldsIndexAmong width s (index_with shape entries) before after parts
     → HasPages s shape.pages × IsIndex width s shape × (entries_of width s shape.pages ≡ entries)
 index_among width s shape before after parts entries h = (rw (← trails_leaves s shape.pages, ← leaves) used, is, are)
   where
@@ -110,7 +110,7 @@ chain_of s chain first trail bytes is stands = stands
 chain_of s leaf first trail bytes is stands = absurd (no_chain (sym is))
 
 pub list_among : (width : ℕ) (s : Stand) (shape : Shape) (before after : List Part) (parts : IndexParts) (entries : List Entry)
-    → HoldsIndexAmong width s shape before after parts entries → HasChain s shape.first parts.list.trail parts.list.bytes
+    → HoldsIndexAmong width s (index_with shape entries) before after parts → HasChain s shape.first parts.list.trail parts.list.bytes
 list_among width s shape before after parts entries h =
     let stands = (all_right (IsPart s.pages) before (parts.list ∷ (parts.leaves ++ after)) h.holds.stand).0 in
     let used = parts_used s before (parts.list ∷ []) (parts.leaves ++ after) h.holds in
@@ -145,9 +145,9 @@ lays_then width one two three was mid is first second lays more = λ before afte
 
 -- The leaves were traded.
 pub laid : (width : ℕ) (old new : Stand) (was is : Shape) (before after : List Part) (parts : IndexParts) (entries more : List Entry)
-    → HoldsIndexAmong width old was before after parts entries → KeepsList was is → HasPages new is.pages → TradesPages was.pages is.pages old new
+    → HoldsIndexAmong width old (index_with was entries) before after parts → KeepsList was is → HasPages new is.pages → TradesPages was.pages is.pages old new
     → IsIndex width new is → entries_of width new is.pages ≡ more → IsWorked old new
-    → (next : IndexParts) × HoldsIndexAmong width new is before after next more
+    → (next : IndexParts) × HoldsIndexAmong width new (index_with is more) before after next
 laid width old new was is before after parts entries more h list pages trades index are worked = (next, record { holds = held; keeps = kept })
   where
     next : IndexParts
@@ -191,9 +191,9 @@ leads_some pages first (p ∷ trail) leads = All-cons (λ q. q ≢ 0) p trail (�
 
 -- The list was stored.
 pub listed : (width : ℕ) (old new : Stand) (was is : Shape) (before after : List Part) (parts : IndexParts) (entries : List Entry)
-    → HoldsIndexAmong width old was before after parts entries → StoresList old new was.first is.first was.pages
+    → HoldsIndexAmong width old (index_with was entries) before after parts → StoresList old new was.first is.first was.pages
     → is.pages ≡ was.pages → is.heads ≡ was.heads → IsWorked old new
-    → (next : IndexParts) × HoldsIndexAmong width new is before after next entries
+    → (next : IndexParts) × HoldsIndexAmong width new (index_with is entries) before after next
 listed width old new was is before after parts entries h stores same heads worked = (next, record { holds = held; keeps = kept })
   where
     stored : (along : List ℕ) × HasChain new is.first along (listed_bytes was.pages) × TradesPages parts.list.trail along old new

@@ -13,7 +13,7 @@ use Rattle.index_keys.proofs.Members.{contains_none}
 use Rattle.tune_incipit.specs.ScaleAndIncipitKeys.{incipit_keys}
 use Rattle.tune_index.specs.Indexes.{AllLeaves, HasPages, IsIndex, KeepsBalance, KeepsList, Shape, entries_of, heads_of}
 use Rattle.tune_index.specs.Leaves.{leaf_in, slice_entry}
-use Rattle.tune_index.specs.ListedLeaves.{listed_bytes}
+use Rattle.tune_index.specs.ListedLeaves.{listed_bytes, index_with}
 use Rattle.tune_search.specs.IndexParts.{HoldsIndexAmong, HoldsSomeIndex, IndexParts, IsLeafPart, LaysIndex, entries_of_parts, parts_of_index}
 use Rattle.tune_search.specs.IncipitRuns.{AreIncipitsOf, HoldsIncipits}
 use Rattle.tune_search.specs.Inside.Lengthening.{Lengthens}
@@ -38,7 +38,8 @@ pub record HasNoLeaf (shape : Shape) (parts : IndexParts) : Type 0 where
   pub pages : shape.pages ≡ []
   pub leaves : parts.leaves ≡ []
 
-pub no_leaf : (width : ℕ) (s : Stand) (shape : Shape) (before after : List Part) (parts : IndexParts) → HoldsIndexAmong width s shape before after parts []
+pub no_leaf : (width : ℕ) (s : Stand) (shape : Shape) (before after : List Part) (parts : IndexParts)
+    → HoldsIndexAmong width s (index_with shape []) before after parts
     → HasNoLeaf shape parts
 no_leaf width s shape before after parts h =
     let few = few_among width s shape before after parts [] h in
@@ -55,7 +56,7 @@ pub record IsInPlaceOf (shape other : Shape) : Type 0 where
 
 -- where that has no entry left, the index stands on its parts, of keys of any length
 emptied : (width other : ℕ) (s : Stand) (shape made : Shape) (before after : List Part) (parts : IndexParts) → IsInPlaceOf made shape
-    → HoldsIndexAmong width s shape before after parts [] → HoldsIndexAmong other s made before after parts []
+    → HoldsIndexAmong width s (index_with shape []) before after parts → HoldsIndexAmong other s (index_with made []) before after parts
 emptied width other s shape made before after parts is h =
     let none = no_leaf width s shape before after parts h in
     record {
@@ -84,17 +85,17 @@ bare_index width s shape bare none = record {
 
 -- Where all leaves went, the index stands there without an entry.
 pub bare_laid : (width : ℕ) (old new : Stand) (was is : Shape) (before after : List Part) (parts : IndexParts) (entries : List Entry)
-    → HoldsIndexAmong width old was before after parts entries → KeepsList was is → is.pages ≡ [] → is.heads ≡ []
+    → HoldsIndexAmong width old (index_with was entries) before after parts → KeepsList was is → is.pages ≡ [] → is.heads ≡ []
     → TradesPages was.pages is.pages old new → IsWorked old new
-    → (next : IndexParts) × HoldsIndexAmong width new is before after next []
+    → (next : IndexParts) × HoldsIndexAmong width new (index_with is []) before after next
 bare_laid width old new was is before after parts entries h list bare none trades worked =
     laid width old new was is before after parts entries [] h list (subst (λ (pages : List ℕ). HasPages new pages) (sym bare) (tt, tt)) trades
     (bare_index width new is bare none) (ap (λ (pages : List ℕ). entries_of width new pages) bare) worked
 
 -- The index that is made, in the place of the old one.
 pub taken : (old new : Stand) (was is made : Shape) → LaysIndex 32 old new was is (λ entries. []) → IsInPlaceOf made is
-    → (before after : List Part) (parts : IndexParts) (entries : List Entry) → HoldsIndexAmong 32 old was before after parts entries
-    → (next : IndexParts) × HoldsIndexAmong 48 new made before after next []
+    → (before after : List Part) (parts : IndexParts) (entries : List Entry) → HoldsIndexAmong 32 old (index_with was entries) before after parts
+    → (next : IndexParts) × HoldsIndexAmong 48 new (index_with made []) before after next
 taken old new was is made lays in_place before after parts entries h =
     let done = lays before after parts entries h in
     (done.0, emptied 32 48 new is made before after done.0 in_place done.1)
@@ -141,8 +142,8 @@ module _ (old new : Stand) (titles rhythms scales was is : Shape) (run : List En
   -- the index of incipits among all other parts
   pub eight_among : (before after : List Part) (parts : SearchParts) (tunes : List (ℕ × List ℕ))
       → (h : HoldsTexts old (with_notes 8 titles rhythms scales was) before after parts tunes)
-      → HoldsIndexAmong 32 old was (((before ++ parts_of_index parts.titles) ++ parts_of_index parts.rhythms) ++ parts_of_index parts.scales) after
-      parts.incipits h.incipits.entries
+      → HoldsIndexAmong 32 old (index_with was h.incipits.entries)
+      (((before ++ parts_of_index parts.titles) ++ parts_of_index parts.rhythms) ++ parts_of_index parts.scales) after parts.incipits
   eight_among before after parts tunes h = incipits_among old (with_notes 8 titles rhythms scales was) before after parts tunes h
 
   -- some index stands there

@@ -7,7 +7,7 @@ use Rattle.tune_pages.proofs.Chains.{length-marked}
 use Rattle.tune_pages.proofs.Claiming.{fault_as}
 use Rattle.index_keys.specs.Entries.{Entry}
 use Rattle.tune_index.specs.Indexes.{Shape}
-use Rattle.tune_index.specs.ListedLeaves.{IsStored, LoadsIndex, StoredIndex, listed_bytes, numbers_in}
+use Rattle.tune_index.specs.ListedLeaves.{IsStored, LoadsIndex, StoredIndex, listed_bytes, numbers_in, index_with, pages_claimed}
 use Rattle.tune_index.proofs.Loading.{stored_bytes}
 use Rattle.tune_search.specs.Loaded.{AreStored, IsStoredThen}
 use Rattle.tune_search.specs.Searches.{incipit_bytes, key_bytes}
@@ -15,7 +15,7 @@ use Rattle.tune_search.specs.declared.loading.SearchFirsts.{SearchFirsts}
 
 -- what is stored there is one index, with one list and its leaves
 pub stored_once : (width most : ℕ) (pages : List (List ℕ)) (claimed : List Bool) (first : ℕ) (trail leaves t others : List ℕ) → length claimed < 256 ^ 4
-    → StoredIndex width most pages claimed first trail leaves → StoredIndex width most pages claimed first t others
+    → StoredIndex width most (pages_claimed pages claimed) first trail leaves → StoredIndex width most (pages_claimed pages claimed) first t others
     → (trail ≡ t) × (leaves ≡ others)
 stored_once width most pages claimed first trail leaves t others few one other =
     let bytes = listed_bytes leaves in
@@ -25,7 +25,7 @@ stored_once width most pages claimed first trail leaves t others few one other =
 
 -- what is loaded is what is stored there
 stored_then : (most : ℕ) (pages : List (List ℕ)) (claimed after : List Bool) (first : ℕ) (shape : Shape) (entries : List Entry) (Then : List Bool → Type 0)
-    → length claimed < 256 ^ 4 → LoadsIndex key_bytes most pages claimed after first shape entries
+    → length claimed < 256 ^ 4 → LoadsIndex key_bytes most (pages_claimed pages claimed) after first (index_with shape entries)
     → IsStoredThen most pages claimed first Then → Then after
 stored_then most pages claimed after first shape entries Then few loads (trail, leaves, stored, then) =
     let same = stored_once key_bytes most pages claimed first loads.trail shape.pages trail leaves few loads.stored stored in
@@ -34,7 +34,7 @@ stored_then most pages claimed after first shape entries Then few loads (trail, 
 
 -- there are as many marks as before
 pub still_few : (width most : ℕ) (pages : List (List ℕ)) (claimed after : List Bool) (first : ℕ) (shape : Shape) (entries : List Entry)
-    → LoadsIndex width most pages claimed after first shape entries → length claimed < 256 ^ 4 → length after < 256 ^ 4
+    → LoadsIndex width most (pages_claimed pages claimed) after first (index_with shape entries) → length claimed < 256 ^ 4 → length after < 256 ^ 4
 still_few width most pages claimed after first shape entries loads few =
     let marks = marked true loads.trail claimed in
     let same = ap (λ (m : List Bool). length m) loads.marks in
@@ -49,7 +49,7 @@ fault_first fault most pages claimed first Then none =
 
 -- and what is not there behind one that was loaded
 fault_behind : (fault : ClaimFault) (most : ℕ) (pages : List (List ℕ)) (claimed after : List Bool) (first : ℕ) (shape : Shape) (entries : List Entry)
-    (Then : List Bool → Type 0) → length claimed < 256 ^ 4 → LoadsIndex key_bytes most pages claimed after first shape entries
+    (Then : List Bool → Type 0) → length claimed < 256 ^ 4 → LoadsIndex key_bytes most (pages_claimed pages claimed) after first (index_with shape entries)
     → IsChainFault fault (Then after) → IsChainFault fault (IsStoredThen most pages claimed first Then)
 fault_behind fault most pages claimed after first shape entries Then few loads none = fault_as fault (Then after) (IsStoredThen most pages claimed first Then)
     (λ all. stored_then most pages claimed after first shape entries Then few loads all) none
@@ -66,9 +66,10 @@ Rhythms notes most pages firsts marks = IsStoredThen most pages marks firsts.rhy
 
 -- calls see the pages again, the same ones
 loads_here : (most : ℕ) (now pages : List (List ℕ)) (claimed after : List Bool) (first : ℕ) (shape : Shape) (entries : List Entry) → now ≡ pages
-    → LoadsIndex key_bytes most now claimed after first shape entries → LoadsIndex key_bytes most pages claimed after first shape entries
+    → LoadsIndex key_bytes most (pages_claimed now claimed) after first (index_with shape entries)
+    → LoadsIndex key_bytes most (pages_claimed pages claimed) after first (index_with shape entries)
 loads_here most now pages claimed after first shape entries same loads =
-    subst (λ (ps : List (List ℕ)). LoadsIndex key_bytes most ps claimed after first shape entries) same loads
+    subst (λ (ps : List (List ℕ)). LoadsIndex key_bytes most (pages_claimed ps claimed) after first (index_with shape entries)) same loads
 
 fault_here : (fault : ClaimFault) (width most : ℕ) (now pages : List (List ℕ)) (claimed : List Bool) (first : ℕ) → now ≡ pages
     → IsChainFault fault (IsStored width most now claimed first) → IsChainFault fault (IsStored width most pages claimed first)
@@ -81,7 +82,7 @@ pub record Loaded (most : ℕ) (pages : List (List ℕ)) (claimed after : List B
   pub same : now ≡ pages
   pub shape : Shape
   pub entries : List Entry
-  pub loads : LoadsIndex key_bytes most now claimed after first shape entries
+  pub loads : LoadsIndex key_bytes most (pages_claimed now claimed) after first (index_with shape entries)
 
 few_behind : (most : ℕ) (pages : List (List ℕ)) (claimed after : List Bool) (first : ℕ) → Loaded most pages claimed after first
     → length claimed < 256 ^ 4 → length after < 256 ^ 4

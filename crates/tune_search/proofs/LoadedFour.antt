@@ -2,12 +2,12 @@
 use Rattle.std.proofs.Common.{◌≡◌, ℕ, ◌^◌, ◌<◌, List, ◌++◌, length, Bool, refl, sym, ◌∙◌, ap, subst, append_assoc}
 use Rattle.index_keys.specs.Entries.{Entry}
 use Rattle.tune_index.specs.Indexes.{Shape}
-use Rattle.tune_index.specs.ListedLeaves.{LoadsIndex}
+use Rattle.tune_index.specs.ListedLeaves.{LoadsIndex, index_with, pages_claimed}
 use Rattle.tune_parts.specs.Parts.{AreParts, Part}
 use Rattle.tune_search.specs.LoadedParts.{ClaimsParts, HasClaimed, HoldEachAtMost, HoldsAtMost, HoldsLoadedSearch, firsts_of, parts_loaded}
 use Rattle.tune_search.specs.LoadedParts.{search_loaded}
 use Rattle.tune_search.specs.IndexParts.{IndexParts, parts_of_index}
-use Rattle.tune_search.specs.Loaded.{AreStored, IsStoredThen, LoadsSearch}
+use Rattle.tune_search.specs.Loaded.{AreStored, IsStoredThen, LoadsSearch, search_with}
 use Rattle.tune_search.specs.Searches.{SearchParts, SearchRuns, SearchShape, incipit_bytes, key_bytes, parts_of_search}
 use Rattle.tune_search.specs.declared.loading.SearchFirsts.{SearchFirsts}
 use Rattle.tune_search.proofs.ClaimedParts.{parts_behind}
@@ -19,8 +19,8 @@ joined : (front a b c d : List Part) → (((front ++ a) ++ b) ++ c) ++ d ≡ fro
 joined front a b c d = append_assoc ((front ++ a) ++ b) c d ∙ append_assoc (front ++ a) b (c ++ d) ∙ append_assoc front a (b ++ (c ++ d))
 
 pub held_four : (most : ℕ) (pages : List (List ℕ)) (claimed after : List Bool) (firsts : SearchFirsts) (shape : SearchShape) (entries : SearchRuns)
-    (front : List Part) → HasClaimed pages claimed front → (loads : LoadsSearch most pages claimed after firsts shape entries)
-    → HoldsLoadedSearch pages after front firsts shape (search_loaded loads) entries
+    (front : List Part) → HasClaimed pages claimed front → (loads : LoadsSearch most (pages_claimed pages claimed) after firsts (search_with shape entries))
+    → HoldsLoadedSearch (pages_claimed pages after) front firsts (search_loaded loads) (search_with shape entries)
 held_four most pages claimed after firsts shape entries front has loads =
     let a : List Part = parts_of_index (parts_loaded loads.titles) in
     let b : List Part = parts_of_index (parts_loaded loads.rhythms) in
@@ -92,7 +92,8 @@ pub record SameThen (pages : List (List ℕ)) (after : List Bool) (loaded other 
   pub few : length after < 256 ^ 4
 
 same_then : (most : ℕ) (pages : List (List ℕ)) (claimed after : List Bool) (first : ℕ) (shape : Shape) (entries : List Entry)
-    (loads : LoadsIndex key_bytes most pages claimed after first shape entries) (other : IndexParts) (others : List Entry) (front more : List Part)
+    (loads : LoadsIndex key_bytes most (pages_claimed pages claimed) after first (index_with shape entries)) (other : IndexParts) (others : List Entry)
+    (front more : List Part)
     → length claimed < 256 ^ 4 → AreParts pages (front ++ (parts_of_index other ++ more)) → ClaimsParts pages claimed front
     → HoldsAtMost key_bytes most other others → other.list.first ≡ first
     → SameThen pages after (parts_loaded loads) other entries others front more
@@ -108,7 +109,8 @@ same_then most pages claimed after first shape entries loads other others front 
     }
 
 pub same_four : (most : ℕ) (pages : List (List ℕ)) (claimed after : List Bool) (firsts : SearchFirsts) (shape : SearchShape) (entries : SearchRuns)
-    (loads : LoadsSearch most pages claimed after firsts shape entries) (other : SearchParts) (others : SearchRuns) (front more : List Part)
+    (loads : LoadsSearch most (pages_claimed pages claimed) after firsts (search_with shape entries)) (other : SearchParts) (others : SearchRuns)
+    (front more : List Part)
     → length claimed < 256 ^ 4 → AreParts pages (front ++ (parts_of_search other ++ more)) → ClaimsParts pages claimed front
     → others.notes ≡ entries.notes → HoldEachAtMost most other others → firsts_of other ≡ firsts → (other ≡ search_loaded loads) × (others ≡ entries)
 same_four most pages claimed after firsts shape entries loads other others front more few are marks notes hold begin =

@@ -4,7 +4,7 @@ use Rattle.std.specs.List.{AllByRecursion}
 use Rattle.index_keys.specs.Entries.{Entry, IsRising}
 use Rattle.tune_index.specs.Indexes.{Shape, entries_of}
 use Rattle.tune_index.specs.Leaves.{leaf_in, slice_entry}
-use Rattle.tune_index.specs.ListedLeaves.{IsStored, LoadsIndex, StoredIndex, shown}
+use Rattle.tune_index.specs.ListedLeaves.{IsStored, LoadsIndex, StoredIndex, shown, index_with, pages_claimed}
 use Rattle.tune_pages.specs.Chain.{IsChain}
 use Rattle.tune_pages.specs.Stand.{AllFree, marked}
 use Rattle.tune_parts.specs.Parts.{AreParts, IsPart, Part, trails}
@@ -20,7 +20,7 @@ use Rattle.tune_search.proofs.LoadLemmas.{stored_once}
 
 -- WHAT WAS LOADED
 module _ (width most : ℕ) (pages : List (List ℕ)) (claimed after : List Bool) (first : ℕ) (shape : Shape) (entries : List Entry) (front : List Part)
-    (loads : LoadsIndex width most pages claimed after first shape entries) where
+    (loads : LoadsIndex width most (pages_claimed pages claimed) after first (index_with shape entries)) where
   -- the pages that it runs through
   loaded_pages : trails (parts_of_index (parts_loaded loads)) ≡ loads.trail ++ shape.pages
   loaded_pages = ap (λ (l : List ℕ). loads.trail ++ l) (ap trails (leaves_are pages shape.pages) ∙ trails_leaves (shown pages) shape.pages)
@@ -40,8 +40,8 @@ module _ (width most : ℕ) (pages : List (List ℕ)) (claimed after : List Bool
 
 -- Behind parts that were claimed, those of an index that was loaded are.
 pub held_loaded : (width most : ℕ) (pages : List (List ℕ)) (claimed after : List Bool) (first : ℕ) (shape : Shape) (entries : List Entry) (front : List Part)
-    → HasClaimed pages claimed front → (loads : LoadsIndex width most pages claimed after first shape entries)
-    → HoldsLoaded width pages after front first shape (parts_loaded loads) entries
+    → HasClaimed pages claimed front → (loads : LoadsIndex width most (pages_claimed pages claimed) after first (index_with shape entries))
+    → HoldsLoaded width (pages_claimed pages after) front first (parts_loaded loads) (index_with shape entries)
 held_loaded width most pages claimed after first shape entries front has loads = record {
   has = record {
     are = are_more pages claimed front (parts_of_index (parts_loaded loads)) has
@@ -97,7 +97,7 @@ module _ (width most : ℕ) (pages : List (List ℕ)) (parts : IndexParts) (entr
 
   -- they can be loaded
   pub stored_there : (claimed : List Bool) → ClaimsParts pages claimed front
-      → StoredIndex width most pages claimed parts.list.first parts.list.trail (pages_of parts)
+      → StoredIndex width most (pages_claimed pages claimed) parts.list.first parts.list.trail (pages_of parts)
   stored_there claimed marks = record {
     list = record {
       chain = subst (λ (bytes : List ℕ). IsChain pages parts.list.first parts.list.trail bytes) holds.holds.listed
@@ -126,11 +126,12 @@ there_stored width most pages claimed parts entries front more are marks holds =
 
 -- What is loaded is what stands there.
 pub same_loaded : (width most : ℕ) (pages : List (List ℕ)) (claimed after : List Bool) (first : ℕ) (shape : Shape) (entries : List Entry)
-    (loads : LoadsIndex width most pages claimed after first shape entries) (other : IndexParts) (others : List Entry) (front more : List Part)
+    (loads : LoadsIndex width most (pages_claimed pages claimed) after first (index_with shape entries)) (other : IndexParts) (others : List Entry)
+    (front more : List Part)
     → length claimed < 256 ^ 4 → AreParts pages (front ++ (parts_of_index other ++ more)) → ClaimsParts pages claimed front
     → HoldsAtMost width most other others → other.list.first ≡ first → (other ≡ parts_loaded loads) × (others ≡ entries)
 same_loaded width most pages claimed after first shape entries loads other others front more few are marks holds begins =
-    let stored = subst (λ (f : ℕ). StoredIndex width most pages claimed f other.list.trail (pages_of other)) begins
+    let stored = subst (λ (f : ℕ). StoredIndex width most (pages_claimed pages claimed) f other.list.trail (pages_of other)) begins
     (stored_there width most pages other others front more are holds claimed marks) in
     let once = stored_once width most pages claimed first other.list.trail (pages_of other) loads.trail shape.pages few stored loads.stored in
     let parts : index_parts pages other.list.first other.list.trail (pages_of other) ≡ parts_loaded loads

@@ -4,7 +4,7 @@ use Rattle.std.specs.List.{AllByRecursion, flat_map}
 use Rattle.index_keys.specs.Entries.{AllFit, Entry, IsRising}
 use Rattle.tune_index.specs.Indexes.{Shape}
 use Rattle.tune_index.specs.Leaves.{IsLeaf, leaf_in, slice_entry}
-use Rattle.tune_index.specs.ListedLeaves.{listed_bytes}
+use Rattle.tune_index.specs.ListedLeaves.{IndexWithEntries, index_with, listed_bytes}
 use Rattle.tune_pages.specs.Stand.{Stand}
 use Rattle.tune_parts.specs.Parts.{HoldsParts, Part}
 use Rattle.tune_parts.specs.Parts.PartKind.{chain, leaf}
@@ -50,19 +50,20 @@ pub record KeepsIndex (width : ℕ) (shape : Shape) (parts : IndexParts) (entrie
   pub fit : AllFit width entries
 
 -- Among any others stand the parts of an index.
-pub record HoldsIndexAmong (width : ℕ) (s : Stand) (shape : Shape) (before after : List Part)
-    (parts : IndexParts) (entries : List Entry) : Type 0 where
+pub record HoldsIndexAmong (width : ℕ) (s : Stand) (index : IndexWithEntries)
+    (before after : List Part) (parts : IndexParts) : Type 0 where
   pub holds : HoldsParts s (before ++ (parts_of_index parts ++ after))
-  pub keeps : KeepsIndex width shape parts entries
+  pub keeps : KeepsIndex width index.shape parts index.entries
 
 -- some index stands so
 abbrev pub HoldsSomeIndex : ℕ → Stand → Shape → Type 0
 HoldsSomeIndex width s shape = (before : List Part) × (after : List Part) × (parts : IndexParts)
-    × (entries : List Entry) × HoldsIndexAmong width s shape before after parts entries
+    × (entries : List Entry) × HoldsIndexAmong width s (index_with shape entries) before after parts
 
 -- Whatever index stands there, among whatever parts, its entries are changed so, and all other
 -- parts stay.
 abbrev pub LaysIndex : ℕ → Stand → Stand → Shape → Shape → (List Entry → List Entry) → Type 0
 LaysIndex width old new was is change = (before after : List Part) (parts : IndexParts)
-    (entries : List Entry) → HoldsIndexAmong width old was before after parts entries
-    → (next : IndexParts) × HoldsIndexAmong width new is before after next (change entries)
+    (entries : List Entry) → HoldsIndexAmong width old (index_with was entries) before after parts
+    → (next : IndexParts)
+    × HoldsIndexAmong width new (index_with is (change entries)) before after next

@@ -1,7 +1,8 @@
 -- Search indexes as an opening claims them, one after another.
 use Rattle.std.specs.Prelude.{◌≡◌, ℕ, Bool, true, List}
 use Rattle.index_keys.specs.Groups.{grouped_entries}
-use Rattle.tune_index.specs.ListedLeaves.{IsStored, LoadsIndex, StoredIndex}
+use Rattle.tune_index.specs.ListedLeaves.{ClaimedPages, IsStored, LoadsIndex, StoredIndex}
+use Rattle.tune_index.specs.ListedLeaves.{index_with, pages_claimed}
 use Rattle.tune_pages.specs.Stand.{marked}
 use Rattle.tune_search.specs.IncipitForms.{entries_held, notes_held}
 use Rattle.tune_search.specs.Searches.{SearchRuns, SearchShape, incipit_bytes, key_bytes}
@@ -18,27 +19,36 @@ runs_in entries = record {
   incipits = entries_held entries.incipits;
 }
 
+-- the four indexes and their entries: what memory has of the ones, and the others
+pub record SearchWithEntries : Type 0 where
+  pub shape : SearchShape
+  pub runs : SearchRuns
+
+abbrev pub search_with : SearchShape → SearchRuns → SearchWithEntries
+search_with shape runs = record { shape = shape; runs = runs }
+
 -- What is loaded are the four indexes that are stored there, with their entries, and their pages
 -- are claimed: first those of the titles, then those of the rhythms, the scales and the incipits.
-pub record LoadsSearch (most : ℕ) (pages : List (List ℕ)) (claimed after : List Bool)
-    (firsts : SearchFirsts) (shape : SearchShape) (entries : SearchRuns) : Type 0 where
-  pub notes : entries.notes ≡ shape.notes
+pub record LoadsSearch (most : ℕ) (was : ClaimedPages) (after : List Bool)
+    (firsts : SearchFirsts) (loaded : SearchWithEntries) : Type 0 where
+  pub notes : loaded.runs.notes ≡ loaded.shape.notes
   pub with_titles : List Bool
   pub with_rhythms : List Bool
   pub with_scales : List Bool
-  pub titles : LoadsIndex key_bytes most pages claimed with_titles firsts.titles shape.titles
-      entries.titles
-  pub rhythms : LoadsIndex key_bytes most pages with_titles with_rhythms firsts.rhythms
-      shape.rhythms entries.rhythms
-  pub scales : LoadsIndex key_bytes most pages with_rhythms with_scales firsts.scales shape.scales
-      entries.scales
-  pub incipits : LoadsIndex (incipit_bytes shape.notes) most pages with_scales after
-      firsts.incipits shape.incipits entries.incipits
+  pub titles : LoadsIndex key_bytes most was with_titles firsts.titles
+      (index_with loaded.shape.titles loaded.runs.titles)
+  pub rhythms : LoadsIndex key_bytes most (pages_claimed was.pages with_titles) with_rhythms
+      firsts.rhythms (index_with loaded.shape.rhythms loaded.runs.rhythms)
+  pub scales : LoadsIndex key_bytes most (pages_claimed was.pages with_rhythms) with_scales
+      firsts.scales (index_with loaded.shape.scales loaded.runs.scales)
+  pub incipits : LoadsIndex (incipit_bytes loaded.shape.notes) most
+      (pages_claimed was.pages with_scales) after firsts.incipits
+      (index_with loaded.shape.incipits loaded.runs.incipits)
 
 -- An index is stored on pages that are still to be claimed, and once they are, this holds.
 abbrev pub IsStoredThen : ℕ → List (List ℕ) → List Bool → ℕ → (List Bool → Type 0) → Type 0
 IsStoredThen most pages claimed first Then = (trail : List ℕ) × (leaves : List ℕ)
-    × StoredIndex key_bytes most pages claimed first trail leaves
+    × StoredIndex key_bytes most (pages_claimed pages claimed) first trail leaves
     × Then (marked true leaves (marked true trail claimed))
 
 -- Four indexes are stored there, that of incipits by so many notes, each on pages that those before

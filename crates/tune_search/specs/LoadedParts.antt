@@ -1,15 +1,15 @@
 -- How a loaded index is held: its parts stand behind those that were claimed before it.
 use Rattle.std.specs.Prelude.{◌≡◌, ℕ, ◌≤◌, ◌++◌, Bool, true, false, List, length, map, replicate}
 use Rattle.index_keys.specs.Entries.{Entry}
-use Rattle.tune_index.specs.Indexes.{Shape}
-use Rattle.tune_index.specs.ListedLeaves.{LoadsIndex, listed_bytes}
+use Rattle.tune_index.specs.ListedLeaves.{ClaimedPages, IndexWithEntries, LoadsIndex}
+use Rattle.tune_index.specs.ListedLeaves.{listed_bytes}
 use Rattle.tune_journal.specs.Pages.{page_at}
 use Rattle.tune_pages.specs.Stand.{marked}
 use Rattle.tune_parts.specs.Parts.{AreParts, Part, chain_part, leaf_part, root_and_trails}
 use Rattle.tune_search.specs.IndexParts.{HoldsIndex, IndexParts, KeepsIndex, parts_of_index}
-use Rattle.tune_search.specs.Loaded.{LoadsSearch}
-use Rattle.tune_search.specs.Searches.{SearchParts, SearchRuns, SearchShape, incipit_bytes}
-use Rattle.tune_search.specs.Searches.{key_bytes, parts_of_search}
+use Rattle.tune_search.specs.Loaded.{LoadsSearch, SearchWithEntries}
+use Rattle.tune_search.specs.Searches.{SearchParts, SearchRuns, incipit_bytes, key_bytes}
+use Rattle.tune_search.specs.Searches.{parts_of_search}
 use Rattle.tune_search.specs.declared.loading.SearchFirsts.{SearchFirsts}
 
 -- what is claimed where these parts are: the root and their pages
@@ -38,18 +38,16 @@ index_parts pages first trail leaves = record {
 }
 
 -- those of an index that was loaded
-abbrev pub parts_loaded : {width most : ℕ} {pages : List (List ℕ)} {claimed after : List Bool}
-    {first : ℕ} {shape : Shape} {entries : List Entry}
-    → LoadsIndex width most pages claimed after first shape entries → IndexParts
-parts_loaded {pages = pages} {first = first} {shape = shape} loads =
-    index_parts pages first loads.trail shape.pages
+abbrev pub parts_loaded : {width most : ℕ} {was : ClaimedPages} {after : List Bool} {first : ℕ}
+    {loaded : IndexWithEntries} → LoadsIndex width most was after first loaded → IndexParts
+parts_loaded {was = was} {first = first} {loaded = loaded} loads =
+    index_parts was.pages first loads.trail loaded.shape.pages
 
 -- Behind these parts those of an index were claimed, and memory has it.
-pub record HoldsLoaded (width : ℕ) (pages : List (List ℕ)) (claimed : List Bool)
-    (front : List Part) (first : ℕ) (shape : Shape) (parts : IndexParts) (entries : List Entry)
-    : Type 0 where
-  pub has : HasClaimed pages claimed (front ++ parts_of_index parts)
-  pub keeps : KeepsIndex width shape parts entries
+pub record HoldsLoaded (width : ℕ) (now : ClaimedPages) (front : List Part) (first : ℕ)
+    (parts : IndexParts) (loaded : IndexWithEntries) : Type 0 where
+  pub has : HasClaimed now.pages now.claimed (front ++ parts_of_index parts)
+  pub keeps : KeepsIndex width loaded.shape parts loaded.entries
   pub begins : parts.list.first ≡ first
 
 -- FOUR INDEXES
@@ -70,9 +68,9 @@ pub record HoldEachAtMost (most : ℕ) (parts : SearchParts) (entries : SearchRu
   pub incipits : HoldsAtMost (incipit_bytes entries.notes) most parts.incipits entries.incipits
 
 -- the parts of four indexes that were loaded
-abbrev pub search_loaded : {most : ℕ} {pages : List (List ℕ)} {claimed after : List Bool}
-    {firsts : SearchFirsts} {shape : SearchShape} {entries : SearchRuns}
-    → LoadsSearch most pages claimed after firsts shape entries → SearchParts
+abbrev pub search_loaded : {most : ℕ} {was : ClaimedPages} {after : List Bool}
+    {firsts : SearchFirsts} {loaded : SearchWithEntries}
+    → LoadsSearch most was after firsts loaded → SearchParts
 search_loaded loads = record {
   titles = parts_loaded loads.titles;
   rhythms = parts_loaded loads.rhythms;
@@ -81,14 +79,13 @@ search_loaded loads = record {
 }
 
 -- Behind these parts those of four indexes were claimed, and memory has each of them.
-pub record HoldsLoadedSearch (pages : List (List ℕ)) (claimed : List Bool) (front : List Part)
-    (firsts : SearchFirsts) (shape : SearchShape) (parts : SearchParts) (entries : SearchRuns)
-    : Type 0 where
-  pub has : HasClaimed pages claimed (front ++ parts_of_search parts)
-  pub notes : entries.notes ≡ shape.notes
-  pub titles : KeepsIndex key_bytes shape.titles parts.titles entries.titles
-  pub rhythms : KeepsIndex key_bytes shape.rhythms parts.rhythms entries.rhythms
-  pub scales : KeepsIndex key_bytes shape.scales parts.scales entries.scales
-  pub incipits : KeepsIndex (incipit_bytes shape.notes) shape.incipits parts.incipits
-      entries.incipits
+pub record HoldsLoadedSearch (now : ClaimedPages) (front : List Part) (firsts : SearchFirsts)
+    (parts : SearchParts) (loaded : SearchWithEntries) : Type 0 where
+  pub has : HasClaimed now.pages now.claimed (front ++ parts_of_search parts)
+  pub notes : loaded.runs.notes ≡ loaded.shape.notes
+  pub titles : KeepsIndex key_bytes loaded.shape.titles parts.titles loaded.runs.titles
+  pub rhythms : KeepsIndex key_bytes loaded.shape.rhythms parts.rhythms loaded.runs.rhythms
+  pub scales : KeepsIndex key_bytes loaded.shape.scales parts.scales loaded.runs.scales
+  pub incipits : KeepsIndex (incipit_bytes loaded.shape.notes) loaded.shape.incipits
+      parts.incipits loaded.runs.incipits
   pub begin : firsts_of parts ≡ firsts

@@ -2,6 +2,7 @@
 ghost use Rattle.std.specs.Prelude.{◌≡◌, ℕ, List, Contains, IfOk, OnOk, false, true};
 ghost use Rattle.index_keys.specs.Entries.{Entry};
 ghost use Rattle.index_keys.specs.Holdings.{HoldsEntries};
+ghost use Rattle.tune_index.specs.ListedLeaves.{index_with};
 ghost use Rattle.tune_pages.specs.Faults.{AnswersRead};
 ghost use Rattle.tune_pages.specs.Kept.{HonestAt};
 ghost use Rattle.tune_pages.specs.PageLooks.{LooksAt, SameStand};
@@ -36,8 +37,8 @@ pub(crate) fn values_for<D: Disk, K: Keyed<32>>(
         → HoldsSomeIndex key_bytes (stand pages.old work.now) index.now }
     ensures finds { IfOk result (λ values. HonestAt D.honest pages.new.disk
         → (before after : List Part) (parts : IndexParts) (entries : List Entry)
-        → HoldsIndexAmong key_bytes (stand pages.old work.now) index.now before after parts
-        entries → (tunes : List (ℕ × K.Text)) → HoldsEntries K.keys_of tunes entries
+        → HoldsIndexAmong key_bytes (stand pages.old work.now) (index_with index.now entries)
+        before after parts → (tunes : List (ℕ × K.Text)) → HoldsEntries K.keys_of tunes entries
         → (tune : ℕ × K.Text) → Contains tunes tune → K.matches query.now tune.1 ≡ true
         → Contains values.items tune.0) }
     ensures fits { OnOk result (Fits pages.new work.now) }

@@ -13,7 +13,7 @@ ghost use Rattle.tune_incipit.specs.Incipits.{finds_steps};
 ghost use Rattle.tune_incipit.specs.ScaleAndIncipitKeys.{incipit_keys};
 ghost use Rattle.tune_index.specs.IndexAnswers.{AnswersEdit};
 ghost use Rattle.tune_index.specs.Indexes.{KeepsBalance};
-ghost use Rattle.tune_index.specs.ListedLeaves.{IsStored, LoadsIndex};
+ghost use Rattle.tune_index.specs.ListedLeaves.{IsStored, LoadsIndex, index_with, pages_claimed};
 ghost use Rattle.tune_parts.specs.Parts.{Part};
 ghost use Rattle.tune_search.specs.Empty.{no_leaves};
 ghost use Rattle.tune_search.specs.IncipitForms.{entries_in, notes_in, notes_of_entries};
@@ -100,8 +100,9 @@ impl IncipitIndex {
         ensures notes { IfOk result (λ loaded. notes_of_index loaded.0 ≡ notes_in notes) }
         ensures same { IfOk result (λ loaded. notes_held loaded.1 ≡ notes_in notes) }
         ensures loads { IfOk result (λ loaded. D.honest opening.new.disk → LoadsIndex
-            (incipit_bytes (notes_in notes)) most opening.old.pages opening.old.claimed
-            opening.new.claimed first (shape_of loaded.0) (entries_held loaded.1)) }
+            (incipit_bytes (notes_in notes)) most
+            (pages_claimed opening.old.pages opening.old.claimed) opening.new.claimed first
+            (index_with (shape_of loaded.0) (entries_held loaded.1))) }
         ensures damaged { IfErr result (λ fault. D.honest opening.new.disk → IsChainFault fault
             (IsStored (incipit_bytes (notes_in notes)) most opening.old.pages
             opening.old.claimed first)) }
@@ -150,7 +151,7 @@ impl IncipitIndex {
         ensures answer { AnswersEdit result pages.new.closed (HonestAt D.honest pages.new.disk
             → (before after : List Part) (parts : IndexParts) (entries : List Entry)
             → HoldsIndexAmong (incipit_bytes (notes_of_index self.old))
-            (stand pages.old work.old) (shape_of self.old) before after parts entries
+            (stand pages.old work.old) (index_with (shape_of self.old) entries) before after parts
             → free_pages (stand pages.old work.old).used + length (shape_of self.old).pages
             < length (inserted_all (entries_in run.now) entries)) }
     {
@@ -252,7 +253,7 @@ impl IncipitIndex {
         ensures finds { IfOk result (λ values. HonestAt D.honest pages.new.disk
             → (before after : List Part) (parts : IndexParts) (entries : List Entry)
             → HoldsIndexAmong (incipit_bytes (notes_of_index self.now))
-            (stand pages.old work.now) (shape_of self.now) before after parts entries
+            (stand pages.old work.now) (index_with (shape_of self.now) entries) before after parts
             → (tunes : List (ℕ × List ℕ))
             → HoldsEntries (incipit_keys (notes_of_index self.now)) tunes entries
             → (tune : ℕ × List ℕ) → Contains tunes tune

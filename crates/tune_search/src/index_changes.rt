@@ -9,6 +9,7 @@ ghost use Rattle.index_keys.specs.Entries.{Entry, IsRising, inserted_all, remove
 ghost use Rattle.index_keys.specs.Entries.{removed_all};
 ghost use Rattle.tune_index.specs.IndexAnswers.{AnswersEdit};
 ghost use Rattle.tune_index.specs.Indexes.{KeepsBalance};
+ghost use Rattle.tune_index.specs.ListedLeaves.{index_with};
 ghost use Rattle.tune_parts.specs.Parts.{Part};
 ghost use Rattle.tune_search.specs.IndexParts.{HoldsIndexAmong, HoldsSomeIndex, IndexParts};
 ghost use Rattle.tune_search.specs.IndexParts.{LaysIndex};
@@ -46,7 +47,8 @@ pub fn put_run<D: Disk, const W: usize>(
     ensures looks { LooksAt D.honest D.failures D.state result pages.old pages.new }
     ensures answer { AnswersEdit result pages.new.closed (HonestAt D.honest pages.new.disk
         → (before after : List Part) (parts : IndexParts) (entries : List Entry)
-        → HoldsIndexAmong W (stand pages.old work.old) index.old before after parts entries
+        → HoldsIndexAmong W (stand pages.old work.old) (index_with index.old entries) before after
+        parts
         → free_pages (stand pages.old work.old).used + length index.old.pages
         < length (inserted_all run.now entries)) }
 {

@@ -1,8 +1,9 @@
 // The search indexes as an opening claims them.
 ghost use Rattle.std.specs.Prelude.{◌≡◌, IfErr, IfOk};
+ghost use Rattle.tune_index.specs.ListedLeaves.{pages_claimed};
 ghost use Rattle.tune_pages.specs.Claim.{IsChainFault, LooksOpening};
 ghost use Rattle.tune_search.specs.IncipitForms.{notes_in};
-ghost use Rattle.tune_search.specs.Loaded.{AreStored, LoadsSearch, runs_in};
+ghost use Rattle.tune_search.specs.Loaded.{AreStored, LoadsSearch, runs_in, search_with};
 
 use crate::held_entries::HeldEntries;
 use crate::incipit_entries::IncipitNotes;
@@ -52,8 +53,8 @@ impl SearchIndexes {
     ) -> Result<(SearchIndexes, SearchEntries), ClaimFault>
         ensures notes { IfOk result (λ loaded. loaded.0.notes ≡ notes_in notes) }
         ensures loads { IfOk result (λ loaded. D.honest opening.new.disk → LoadsSearch most
-            opening.old.pages opening.old.claimed opening.new.claimed firsts loaded.0
-            (runs_in loaded.1)) }
+            (pages_claimed opening.old.pages opening.old.claimed) opening.new.claimed firsts
+            (search_with loaded.0 (runs_in loaded.1))) }
         ensures damaged { IfErr result (λ fault. D.honest opening.new.disk → IsChainFault fault
             (AreStored (notes_in notes) most opening.old.pages opening.old.claimed firsts)) }
         ensures looks { LooksOpening D.honest D.failures D.state result opening.old opening.new }

@@ -3,7 +3,7 @@ use Rattle.std.specs.Prelude.{◌≡◌, ℕ, ◌<◌, ◌≤◌, List, [], ◌�
 use Rattle.std.specs.List.{AllByRecursion}
 use Rattle.abc_fields.specs.Tunes.{IsTextWithin}
 use Rattle.index_keys.specs.Entries.{Entry}
-use Rattle.tune_index.specs.Indexes.{Shape}
+use Rattle.tune_index.specs.ListedLeaves.{ClaimedPages, IndexWithEntries}
 use Rattle.tune_journal.specs.FileOffsets.{block_bytes}
 use Rattle.tune_journal.specs.Pages.{page_at}
 use Rattle.tune_parts.specs.Parts.{AreParts, IsPart, Part}
@@ -11,11 +11,12 @@ use Rattle.tune_parts.specs.Parts.PartKind.{chain}
 use Rattle.tune_search.specs.LoadedParts.{HasClaimed, HoldEachAtMost, HoldsAtMost, HoldsLoaded}
 use Rattle.tune_search.specs.LoadedParts.{HoldsLoadedSearch}
 use Rattle.tune_search.specs.LoadedParts as loaded
+use Rattle.tune_search.specs.Loaded.{SearchWithEntries}
 use Rattle.tune_search.specs.SearchClaims.{AreAllKnown, StandsAtKeys}
 use Rattle.tune_search.specs.IndexParts.{IndexParts, KeepsIndex, parts_of_index}
 use Rattle.tune_search.specs.SearchPages.{AreListed}
-use Rattle.tune_search.specs.Searches.{SearchParts, SearchRuns, SearchShape, incipit_bytes}
-use Rattle.tune_search.specs.Searches.{key_bytes, parts_of_search}
+use Rattle.tune_search.specs.Searches.{SearchParts, SearchRuns, incipit_bytes, key_bytes}
+use Rattle.tune_search.specs.Searches.{parts_of_search}
 use Rattle.tune_search.specs.declared.loading.SearchFirsts.{SearchFirsts}
 use Rattle.tune_store.specs.Limits.{greatest_revision, longest_text, notes_of}
 use Rattle.tune_store.specs.State.{State, IsTune}
@@ -60,15 +61,15 @@ pub record IsPartThere (pages : List (List ℕ)) (front : List Part) (first most
 -- INDEXES
 -- Behind parts that were claimed, an index of at most so many entries was whose list begins at
 -- this page, and memory has it, with these entries. No other stands there.
-pub record ClaimsIndex (most : ℕ) (pages : List (List ℕ)) (front : List Part) (now : List Bool)
-    (first : ℕ) (shape : Shape) (entries : List Entry) : Type 0 where
+pub record ClaimsIndex (most : ℕ) (now : ClaimedPages) (front : List Part) (first : ℕ)
+    (index : IndexWithEntries) : Type 0 where
   pub parts : IndexParts
-  pub held : HoldsLoaded key_bytes pages now front first shape parts entries
-  pub listed : shape.listed ≡ true
+  pub held : HoldsLoaded key_bytes now front first parts index
+  pub listed : index.shape.listed ≡ true
   pub only : (other : IndexParts) (others : List Entry) (more : List Part)
-      → AreParts pages (front ++ (parts_of_index other ++ more))
+      → AreParts now.pages (front ++ (parts_of_index other ++ more))
       → HoldsAtMost key_bytes most other others → other.list.first ≡ first
-      → (other ≡ parts) × (others ≡ entries)
+      → (other ≡ parts) × (others ≡ index.entries)
 
 -- Behind these parts some index stands there whose list begins at this page, of at most so many
 -- entries, and more parts behind it.
@@ -82,15 +83,15 @@ pub record IsIndexThere (most : ℕ) (pages : List (List ℕ)) (front : List Par
   pub is_first : parts.list.first ≡ first
 
 -- the same of the four search indexes
-pub record ClaimsSearch (most : ℕ) (pages : List (List ℕ)) (front : List Part) (now : List Bool)
-    (firsts : SearchFirsts) (shape : SearchShape) (runs : SearchRuns) : Type 0 where
+pub record ClaimsSearch (most : ℕ) (now : ClaimedPages) (front : List Part)
+    (firsts : SearchFirsts) (search : SearchWithEntries) : Type 0 where
   pub parts : SearchParts
-  pub held : HoldsLoadedSearch pages now front firsts shape parts runs
-  pub listed : AreListed shape
+  pub held : HoldsLoadedSearch now front firsts parts search
+  pub listed : AreListed search.shape
   pub only : (other : SearchParts) (others : SearchRuns) (more : List Part)
-      → AreParts pages (front ++ (parts_of_search other ++ more)) → others.notes ≡ runs.notes
-      → HoldEachAtMost most other others → loaded.firsts_of other ≡ firsts
-      → (other ≡ parts) × (others ≡ runs)
+      → AreParts now.pages (front ++ (parts_of_search other ++ more))
+      → others.notes ≡ search.runs.notes → HoldEachAtMost most other others
+      → loaded.firsts_of other ≡ firsts → (other ≡ parts) × (others ≡ search.runs)
 
 pub record IsSearchThere (notes most : ℕ) (pages : List (List ℕ)) (front : List Part)
     (firsts : SearchFirsts) : Type 0 where
@@ -115,7 +116,7 @@ runs_filed {notes = notes} are = record {
 }
 
 -- What is filed has these indexes and set lists, with these entries.
-pub record HasLists (pages : List (List ℕ)) (state : State) (is : IsStateOf pages state)
+pub record HasLists {pages : List (List ℕ)} {state : State} (is : IsStateOf pages state)
     (numbers : IndexParts) (searches : SearchParts) (set_lists : Part) (entries : List Entry)
     (runs : SearchRuns) : Type 0 where
   pub are_numbers : is.filed.numbers ≡ numbers
@@ -127,37 +128,48 @@ pub record HasLists (pages : List (List ℕ)) (state : State) (is : IsStateOf pa
 -- The root says the layout, and names the index of numbers, the search indexes and the set lists,
 -- and these were claimed: memory has the indexes, with these entries, and the set lists are these
 -- bytes. Each state that stands on the pages has them.
-pub record ClaimsLists (layout : Layout) (pages : List (List ℕ)) (now : List Bool)
-    (firsts : Firsts) (shape : Shape) (entries : List Entry) (shapes : SearchShape)
-    (runs : SearchRuns) (bytes : List ℕ) : Type 0 where
+pub record ClaimsLists (layout : Layout) (now : ClaimedPages) (firsts : Firsts)
+    (index : IndexWithEntries) (search : SearchWithEntries) (bytes : List ℕ) : Type 0 where
   pub numbers : IndexParts
   pub searches : SearchParts
   pub set_lists : Part
-  pub has : HasClaimed pages now (archive_parts numbers searches set_lists [])
-  pub root : IsRoot layout (page_at pages 0) firsts
+  pub has : HasClaimed now.pages now.claimed (archive_parts numbers searches set_lists [])
+  pub root : IsRoot layout (page_at now.pages 0) firsts
   pub firsts_are : firsts ≡ firsts_of numbers searches set_lists
-  pub keeps : KeepsIndex key_bytes shape numbers entries
-  pub listed : shape.listed ≡ true
-  pub notes : shapes.notes ≡ notes_of layout
-  pub of_runs : runs.notes ≡ shapes.notes
-  pub titles : KeepsIndex key_bytes shapes.titles searches.titles runs.titles
-  pub rhythms : KeepsIndex key_bytes shapes.rhythms searches.rhythms runs.rhythms
-  pub scales : KeepsIndex key_bytes shapes.scales searches.scales runs.scales
-  pub incipits : KeepsIndex (incipit_bytes shapes.notes) shapes.incipits searches.incipits
-      runs.incipits
-  pub all_listed : AreListed shapes
+  pub keeps : KeepsIndex key_bytes index.shape numbers index.entries
+  pub listed : index.shape.listed ≡ true
+  pub notes : search.shape.notes ≡ notes_of layout
+  pub of_runs : search.runs.notes ≡ search.shape.notes
+  pub titles : KeepsIndex key_bytes search.shape.titles searches.titles search.runs.titles
+  pub rhythms : KeepsIndex key_bytes search.shape.rhythms searches.rhythms search.runs.rhythms
+  pub scales : KeepsIndex key_bytes search.shape.scales searches.scales search.runs.scales
+  pub incipits : KeepsIndex (incipit_bytes search.shape.notes) search.shape.incipits
+      searches.incipits search.runs.incipits
+  pub all_listed : AreListed search.shape
   pub sets_are_chain : set_lists.kind ≡ chain
   pub sets_hold : set_lists.bytes ≡ bytes
-  pub only : (state : State) (is : IsStateOf pages state)
-      → HasLists pages state is numbers searches set_lists entries runs
+  pub only : (state : State) (is : IsStateOf now.pages state)
+      → HasLists is numbers searches set_lists index.entries search.runs
 
 -- where there is a page
-abbrev pub ListsClaimed : Layout → List (List ℕ) → List Bool → Firsts → Shape → List Entry
-    → SearchShape → SearchRuns → List ℕ → Type 0
-ListsClaimed layout pages now firsts shape entries shapes runs bytes = 0 < length pages
-    → ClaimsLists layout pages now firsts shape entries shapes runs bytes
+abbrev pub ListsClaimed : Layout → ClaimedPages → Firsts → IndexWithEntries → SearchWithEntries
+    → List ℕ → Type 0
+ListsClaimed layout now firsts index search bytes = 0 < length now.pages
+    → ClaimsLists layout now firsts index search bytes
 
 -- ONE TUNE
+-- Where tunes are claimed: in an archive of this layout, on these pages, behind these parts, and
+-- with these entries in the search indexes.
+pub record TuneSite : Type 0 where
+  pub layout : Layout
+  pub pages : List (List ℕ)
+  pub front : List Part
+  pub runs : SearchRuns
+
+abbrev pub tune_site : Layout → List (List ℕ) → List Part → SearchRuns → TuneSite
+tune_site layout pages front runs =
+    record { layout = layout; pages = pages; front = front; runs = runs }
+
 -- these bytes are a revision and the text of one tune, within the limits
 pub record IsTuneChain (layout : Layout) (bytes : List ℕ) (revision : ℕ) (text : List ℕ)
     : Type 0 where
@@ -167,14 +179,13 @@ pub record IsTuneChain (layout : Layout) (bytes : List ℕ) (revision : ℕ) (te
   pub good : IsTextWithin (longest_text layout) text
 
 -- Behind parts that were claimed, the tune of a row was, and its number stands at its keys.
-pub record ClaimsTune (layout : Layout) (pages : List (List ℕ)) (front : List Part)
-    (runs : SearchRuns) (now : List Bool) (row : Row) : Type 0 where
+pub record ClaimsTune (site : TuneSite) (now : List Bool) (row : Row) : Type 0 where
   pub bytes : List ℕ
-  pub claims : ClaimsPart pages front now row.first bytes
+  pub claims : ClaimsPart site.pages site.front now row.first bytes
   pub text : List ℕ
-  pub tune : IsTuneChain layout bytes row.revision text
+  pub tune : IsTuneChain site.layout bytes row.revision text
   pub measured : row.length ≡ length text
-  pub keys : StandsAtKeys runs row.number text
+  pub keys : StandsAtKeys site.runs row.number text
 
 -- A chain of these bytes holds the tune of a row, whose number stands at its keys.
 pub record HoldsTuneOf (layout : Layout) (runs : SearchRuns) (bytes : List ℕ) (row : Row)
@@ -194,13 +205,12 @@ pub record HoldsTune (layout : Layout) (runs : SearchRuns) (number : ℕ) (bytes
 
 -- Behind these parts some tune stands there at whose keys this number stands, and more parts
 -- behind it.
-pub record IsTuneThere (layout : Layout) (pages : List (List ℕ)) (front : List Part)
-    (runs : SearchRuns) (number first : ℕ) : Type 0 where
-  pub there : IsPartThere pages front first (most_tune_pages layout)
+pub record IsTuneThere (site : TuneSite) (number first : ℕ) : Type 0 where
+  pub there : IsPartThere site.pages site.front first (most_tune_pages site.layout)
   pub revision : ℕ
   pub text : List ℕ
-  pub tune : IsTuneChain layout there.part.bytes revision text
-  pub keys : StandsAtKeys runs number text
+  pub tune : IsTuneChain site.layout there.part.bytes revision text
+  pub keys : StandsAtKeys site.runs number text
 
 -- THE TUNES OF A LIST
 -- Behind parts that were claimed, the chains of these rows were, one after another, each with its
@@ -220,46 +230,44 @@ StandAtKeys runs tunes = AllByRecursion (λ tune. StandsAtKeys runs tune.number 
 
 -- Behind these parts stand those of tunes, each within the limits, with the numbers and the first
 -- pages of these rows, and each number stands at the keys of its tune.
-pub record TunesStand (layout : Layout) (pages : List (List ℕ)) (front : List Part)
-    (runs : SearchRuns) (rows : List Row) (tunes : List Tune) (texts : List Part) : Type 0 where
-  pub sized : AreBlocks pages
-  pub are : AreParts pages (front ++ texts)
+pub record TunesStand (site : TuneSite) (rows : List Row) (tunes : List Tune)
+    (texts : List Part) : Type 0 where
+  pub sized : AreBlocks site.pages
+  pub are : AreParts site.pages (site.front ++ texts)
   pub hold : HoldTunes texts tunes
   pub listed : number_entries (rows_of tunes texts) ≡ number_entries rows
-  pub each : AllByRecursion (IsTune layout) tunes
-  pub keys : StandAtKeys runs tunes
+  pub each : AllByRecursion (IsTune site.layout) tunes
+  pub keys : StandAtKeys site.runs tunes
 
 -- tunes of these rows stand behind these parts
-abbrev pub AreTunesThere : Layout → List (List ℕ) → List Part → SearchRuns → List Row → Type 0
-AreTunesThere layout pages front runs rows = (tunes : List Tune) × (texts : List Part)
-    × TunesStand layout pages front runs rows tunes texts
+abbrev pub AreTunesThere : TuneSite → List Row → Type 0
+AreTunesThere site rows =
+    (tunes : List Tune) × (texts : List Part) × TunesStand site rows tunes texts
 
 -- So they do, and no other number stands in the search indexes, which have few entries.
-pub record AreRowsThere (layout : Layout) (pages : List (List ℕ)) (front : List Part)
-    (runs : SearchRuns) (rows : List Row) : Type 0 where
-  pub few : HaveFew runs
-  pub known : AreAllKnown (numbers_in rows) runs
-  pub tunes : AreTunesThere layout pages front runs rows
+pub record AreRowsThere (site : TuneSite) (rows : List Row) : Type 0 where
+  pub few : HaveFew site.runs
+  pub known : AreAllKnown (numbers_in rows) site.runs
+  pub tunes : AreTunesThere site rows
 
 -- Behind parts that were claimed, the tunes of these rows were.
-pub record TunesClaimed (layout : Layout) (pages : List (List ℕ)) (front : List Part)
-    (runs : SearchRuns) (claimed : List Bool) (rows : List Row) : Type 0 where
+pub record TunesClaimed (site : TuneSite) (claimed : List Bool) (rows : List Row)
+    : Type 0 where
   pub tunes : List Tune
   pub texts : List Part
-  pub has : HasClaimed pages claimed (front ++ texts)
+  pub has : HasClaimed site.pages claimed (site.front ++ texts)
   pub hold : HoldTunes texts tunes
   pub rows_are : rows ≡ rows_of tunes texts
-  pub each : AllByRecursion (IsTune layout) tunes
-  pub keys : StandAtKeys runs tunes
+  pub each : AllByRecursion (IsTune site.layout) tunes
+  pub keys : StandAtKeys site.runs tunes
 
 -- So far: the tunes of these rows were claimed, and where tunes of the whole list stand, those of
 -- the rest of it stand behind these.
-pub record ClaimsSoFar (layout : Layout) (pages : List (List ℕ)) (front : List Part)
-    (runs : SearchRuns) (list : List Row) (claimed : List Bool) (rows rest : List Row)
-    : Type 0 where
-  pub so_far : TunesClaimed layout pages front runs claimed rows
-  pub goes_on : AreTunesThere layout pages front runs list
-      → AreTunesThere layout pages (front ++ so_far.texts) runs rest
+pub record ClaimsSoFar (site : TuneSite) (list : List Row) (claimed : List Bool)
+    (rows rest : List Row) : Type 0 where
+  pub so_far : TunesClaimed site claimed rows
+  pub goes_on : AreTunesThere site list
+      → AreTunesThere (record site { front = site.front ++ so_far.texts }) rest
 
 -- ALL
 -- some state stands on the pages

@@ -7,7 +7,7 @@ use Rattle.tune_pages.specs.Faults.{pages_for}
 use Rattle.tune_format.specs.RootOffsets.{revision_bytes}
 use Rattle.tune_format.specs.declared.rows.Row.{Row}
 use Rattle.tune_contents.specs.Most.{most_tune_pages}
-use Rattle.tune_contents.specs.Inside.ClaimedParts.{AreTunesThere, ChainsClaimed}
+use Rattle.tune_contents.specs.Inside.ClaimedParts.{AreTunesThere, ChainsClaimed, tune_site}
 use Rattle.tune_contents.proofs.ClaimStepLemmas.{chains_turn, chains_turn_fault}
 use Rattle.tune_contents.proofs.claiming.claim_chains.Goals as goal
 
@@ -35,7 +35,7 @@ returns-in_err-claim_part-clause-damaged g c =
     let d : Row = record { number = 0; revision = 0; first = 0; length = 0 } in
     rw p.1 (λ h front has runs later.
     let one = call.looks.was_honest h in
-    subst (λ (f : ClaimFault). IsChainFault f (AreTunesThere c.args.layout c.args.opening.now.pages front runs (rows ++ later))) (sym p.2)
+    subst (λ (f : ClaimFault). IsChainFault f (AreTunesThere (tune_site c.args.layout c.args.opening.now.pages front runs) (rows ++ later))) (sym p.2)
     (chains_turn_fault c.args.layout c.in_err-claim_part.field-0.0 _ _ front runs _ rows _ place (get_or rows place d) later (inv.pages one)
     (inv.claims one front has) (drop_more rows place d c.loop-place-test.true) (λ before had. (rw most at call.damaged h before had))))
 

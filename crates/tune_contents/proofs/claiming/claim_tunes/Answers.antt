@@ -7,7 +7,7 @@ use Rattle.tune_pages.specs.declared.fault.ClaimFault.{ClaimFault}
 use Rattle.index_keys.specs.Entries.{Entry}
 use Rattle.tune_format.specs.Written.{row_entry}
 use Rattle.tune_format.specs.declared.rows.Row.{Row}
-use Rattle.tune_contents.specs.Inside.ClaimedParts.{AreTunesThere, ChainsClaimed, TunesClaimed}
+use Rattle.tune_contents.specs.Inside.ClaimedParts.{AreTunesThere, ChainsClaimed, TunesClaimed, tune_site}
 use Rattle.tune_contents.proofs.ClaimStepLemmas.{claims_start, claims_turn, turn_fault, entries_group, group_length, group_listing, group_numbers}
 use Rattle.tune_contents.proofs.ClaimStepLemmas.{later_behind, lent_back}
 use Rattle.tune_contents.proofs.claiming.claim_tunes.Goals as goal
@@ -49,7 +49,7 @@ returns-in_err-claim_chains-clause-damaged g c =
     let to : ℕ = c.min-to.result in
     rw p.1 (λ h front has.
     let one = call.looks.was_honest h in
-    subst (λ (f : ClaimFault). IsChainFault f (AreTunesThere c.args.layout c.args.opening.now.pages front c.args.claims.now.runs list)) (sym p.2)
+    subst (λ (f : ClaimFault). IsChainFault f (AreTunesThere (tune_site c.args.layout c.args.opening.now.pages front c.args.claims.now.runs) list)) (sym p.2)
     (turn_fault c.in_err-claim_chains.field-0.0 _ _ front c.args.claims.now.runs list _ _ (take (to - from) (drop from rows)) from to
     (inv.pages one) (inv.claims one front has) (group_listing rows list from to inv.later (omega arith))
     (λ before had. call.damaged h before had c.args.claims.now.runs (drop to list))))
@@ -68,7 +68,7 @@ returns-in_err-compare_tunes-clause-damaged g c =
     read.room in
     rw p.1 (λ h front has.
     let one = read.looks.was_honest h in
-    subst (λ (f : ClaimFault). IsChainFault f (AreTunesThere c.args.layout c.args.opening.now.pages front c.args.claims.now.runs list)) (sym p.2)
+    subst (λ (f : ClaimFault). IsChainFault f (AreTunesThere (tune_site c.args.layout c.args.opening.now.pages front c.args.claims.now.runs) list)) (sym p.2)
     (turn_fault c.in_err-compare_tunes.field-0.0 _ _ front c.args.claims.now.runs list _ _ (take (to - from) (drop from rows)) from to
     (inv.pages one) (inv.claims one front has) (group_listing rows list from to inv.later (omega arith))
     (λ before had. call.damaged _ before _ _ (drop to list) had (subst (λ (l : List (List ℕ)). ChainsClaimed c.loop-from.opening.pages before
@@ -119,5 +119,5 @@ pub returns-clause-claimed : goal.returns-clause-claimed
 returns-clause-claimed g c = λ h front has.
     let rows : List Row = c.loop-from.rows in
     let end : length rows ≤ c.loop-from.from = omega (arith, c.loop-from-test.false) in
-    subst (λ (r : List Row). TunesClaimed c.args.layout c.args.opening.now.pages front c.args.claims.now.runs c.loop-from.opening.claimed r)
+    subst (λ (r : List Row). TunesClaimed (tune_site c.args.layout c.args.opening.now.pages front c.args.claims.now.runs) c.loop-from.opening.claimed r)
     (take_all c.loop-from.from rows end) (c.loop-from.invariant.claims h front has).so_far

@@ -2,7 +2,7 @@ use Rattle.std.proofs.Common.{◌≡◌, ◌++◌, ◌-◌, ◌≤◌, List, dro
 use Rattle.tune_parts.specs.Parts.{Part}
 use Rattle.tune_search.specs.LoadedParts.{HasClaimed}
 use Rattle.tune_format.specs.Written.{number_entries}
-use Rattle.tune_contents.specs.Inside.ClaimedParts.{ClaimsSoFar}
+use Rattle.tune_contents.specs.Inside.ClaimedParts.{ClaimsSoFar, tune_site}
 use Rattle.tune_contents.proofs.claiming.claim_tunes.Given as goal
 
 abbrev pub invariant-loop-from : goal.invariant-loop-from
@@ -18,7 +18,7 @@ invariant-loop-from g l = record {
   later : drop l.from l.rows ≡ drop l.from l.initial.rows;
   entries : number_entries (take l.from l.rows) ++ number_entries (drop l.from l.initial.rows) ≡ number_entries l.initial.rows;
   claims : g.D.Disk.honest l.opening.disk → (front : List Part) → HasClaimed l.initial.opening.pages l.initial.opening.claimed front
-      → ClaimsSoFar l.layout l.initial.opening.pages front l.claims.runs l.initial.rows l.opening.claimed (take l.from l.rows)
+      → ClaimsSoFar (tune_site l.layout l.initial.opening.pages front l.claims.runs) l.initial.rows l.opening.claimed (take l.from l.rows)
       (drop l.from l.initial.rows);
 }
 

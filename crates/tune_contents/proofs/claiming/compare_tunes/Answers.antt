@@ -4,7 +4,7 @@ use Rattle.std.proofs.lemmas.Result.{err_from_is_err_and}
 use Rattle.tune_pages.specs.Claim.{IsChainFault}
 use Rattle.tune_pages.specs.declared.fault.ClaimFault.{ClaimFault}
 use Rattle.tune_format.specs.declared.rows.Row.{Row}
-use Rattle.tune_contents.specs.Inside.ClaimedParts.{AreTunesThere, ClaimsSoFar}
+use Rattle.tune_contents.specs.Inside.ClaimedParts.{AreTunesThere, ClaimsSoFar, tune_site}
 use Rattle.tune_contents.proofs.ClaimedRowLemmas.{list_at, number_at_row}
 use Rattle.tune_contents.proofs.ClaimStepLemmas.{compared_all, compared_start, compared_turn, compared_turn_fault, entries_turn, later_at, later_set}
 use Rattle.tune_contents.proofs.claiming.compare_tunes.Goals as goal
@@ -51,7 +51,7 @@ returns-in_err-rows-clause-damaged c =
     drop_more chains place bytes (omega (arith, within, size))
     ∙ ap (λ (b : List ℕ). b ∷ drop (place + 1) chains) (get_or-take (length list) c.args.chains.now place bytes within ∙ sym c.index-chains-place.is) in
     rw p.1 (λ pages front was claimed later has ahead.
-    subst (λ (f : ClaimFault). IsChainFault f (AreTunesThere c.args.layout pages front c.args.claims.now.runs (list ++ later))) (sym p.2)
+    subst (λ (f : ClaimFault). IsChainFault f (AreTunesThere (tune_site c.args.layout pages front c.args.claims.now.runs) (list ++ later))) (sym p.2)
     (compared_turn_fault c.in_err-rows.field-0.0 pages front _ (list ++ later) claimed _ list later chains place next _
     (inv.claims pages front was claimed later has ahead) at held call.damaged))
 
@@ -94,7 +94,7 @@ returns-clause-claimed c = λ pages front was claimed later has ahead.
     let place : ℕ = c.loop-place.place in
     let end : length list ≤ place = omega (arith, c.loop-place-test.false, inv.long) in
     let size : length chains ≡ length list = length-take-le (length list) c.args.chains.now c.requires.room in
-    subst (λ (r : List Row). ClaimsSoFar c.args.layout pages front c.args.claims.now.runs (list ++ later) claimed r later)
+    subst (λ (r : List Row). ClaimsSoFar (tune_site c.args.layout pages front c.args.claims.now.runs) (list ++ later) claimed r later)
     (take_all place rows (omega (arith, end, inv.long)))
     (compared_all pages front _ (list ++ later) claimed _ _ later _ (inv.claims pages front was claimed later has ahead)
     (drop_all place list end) (drop_all place chains (omega (arith, end, size))))

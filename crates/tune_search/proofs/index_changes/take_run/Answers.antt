@@ -1,5 +1,6 @@
 use Rattle.std.proofs.Common.{◌≡◌, ◌+◌, List, [], ◌∷◌, ◌++◌, take, sym, subst, ap, ◌∙◌}
 use Rattle.std.proofs.lemmas.List.{take_more}
+use Rattle.tune_index.specs.ListedLeaves.{index_with}
 use Rattle.tune_pages.specs.Work.{stand}
 use Rattle.tune_pages.proofs.Looking.{looked_more}
 use Rattle.index_keys.specs.Entries.{Entry, removed_all}
@@ -26,8 +27,8 @@ loop-entry-preserved g c =
           let is : removed_all (gone ∷ []) (removed_all (take at run) entries) ≡ removed_all (take (at + 1) run) entries =
           sym (removed_all-append (take at run) (gone ∷ []) entries) ∙ ap (λ (x : List Entry). removed_all x entries) (sym more) in (
             done.0,
-            subst (λ (es : List Entry). HoldsIndexAmong g.row.W (stand c.take_entry.new.pages c.take_entry.new.work) c.take_entry.new.index before after done.0
-                es)
+            subst (λ (es : List Entry). HoldsIndexAmong g.row.W (stand c.take_entry.new.pages c.take_entry.new.work) (index_with c.take_entry.new.index es)
+                before after done.0)
                 is done.1,
           );
       balance = i.balance ∙ e.balance;

@@ -9,7 +9,7 @@ use Rattle.index_keys.specs.Entries.{Entry, IsRising}
 use Rattle.tune_index.specs.Indexes.{entries_of}
 use Rattle.tune_index.specs.Inside.Loading.{LoadsLeaf}
 use Rattle.tune_index.specs.Leaves.{leaf_in, value_in, IsLeaf}
-use Rattle.tune_index.specs.ListedLeaves.{IsStored, listed_bytes, numbers_in, shown}
+use Rattle.tune_index.specs.ListedLeaves.{IsStored, index_with, listed_bytes, numbers_in, shown}
 use Rattle.tune_index.proofs.Loading.{LoadedSoFar, loaded_more, stored_bytes, stored_next, stored_within, length-numbers}
 use Rattle.tune_index.proofs.index.Index.load.Goals as goal
 
@@ -94,7 +94,7 @@ loop-place-preserved g c =
       few = call.few;
       so_far = λ h.
           let back = call.looks.was_honest h in
-          let leaf = subst (λ (ps : List (List ℕ)). LoadsLeaf W ps page was is old new) (inv.pages back) (call.leaf h) in
+          let leaf = subst (λ (ps : List (List ℕ)). LoadsLeaf W ps page (index_with was old) (index_with is new)) (inv.pages back) (call.leaf h) in
           subst (λ (k : ℕ). LoadedSoFar W start.pages bytes c.args.first k is new) next
           (loaded_more W start.pages bytes c.args.first place page was is old new (inv.so_far back) at leaf);
       after = λ h.

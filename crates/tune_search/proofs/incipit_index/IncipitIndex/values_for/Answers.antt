@@ -1,5 +1,6 @@
 use Rattle.std.proofs.Common.{◌≡◌, ℕ, List, Contains, true, sym, ap, ◌∙◌, subst, arith}
 use Rattle.std.proofs.lemmas.Result.{IfOk-weaker}
+use Rattle.tune_index.specs.ListedLeaves.{index_with}
 use Rattle.tune_pages.specs.Work.{stand}
 use Rattle.index_keys.specs.Entries.{Entry, values_within}
 use Rattle.index_keys.specs.Cuts.{cut_number}
@@ -48,8 +49,9 @@ returns-in-Twelve-clause-finds g c = IfOk-weaker c.candidates.result _ _
     let all : List Entry = entries_of 48 s shape.pages in
     let low = cut_number 48 0 (bytes_of_steps front.steps) in
     let high = cut_number 48 255 (bytes_of_steps front.steps) in
-    let its : HoldsIndexAmong 48 s shape before after parts entries =
-    subst (λ (i : IncipitIndex). HoldsIndexAmong (incipit_bytes (notes_of_index i)) s (shape_of i) before after parts entries) c.in-Twelve.is among in
+    let its : HoldsIndexAmong 48 s (index_with shape entries) before after parts =
+    subst (λ (i : IncipitIndex). HoldsIndexAmong (incipit_bytes (notes_of_index i)) s (index_with (shape_of i) entries) before after parts) c.in-Twelve.is
+    among in
     let own : HoldsEntries (incipit_keys 12) tunes entries =
     subst (λ (i : IncipitIndex). HoldsEntries (incipit_keys (notes_of_index i)) tunes entries) c.in-Twelve.is held in
     let finds : finds_steps 12 front.steps tune.1 ≡ true =

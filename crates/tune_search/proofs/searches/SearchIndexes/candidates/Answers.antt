@@ -1,6 +1,7 @@
 use Rattle.std.proofs.Common.{◌≡◌, true, sym, ap, subst}
 use Rattle.std.proofs.lemmas.Result.{IfOk-weaker}
 use Rattle.index_keys.specs.Holdings.{HoldsEntries}
+use Rattle.tune_index.specs.ListedLeaves.{index_with}
 use Rattle.tune_incipit.specs.ScaleAndIncipitKeys.{incipit_keys}
 use Rattle.tune_index.specs.Indexes.{Shape}
 use Rattle.tune_pages.specs.Work.{stand}
@@ -21,7 +22,7 @@ values_for-requires-clause-holds g c = λ h. subst (HoldsSomeIndex key_bytes (st
 pub returns-in-Title-clause-finds : goal.returns-in-Title-clause-finds
 returns-in-Title-clause-finds g c = IfOk-weaker c.values_for.result _ _ (λ values all h before after parts tunes texts tune there found.
     let s = stand c.args.pages.now c.args.work.now in
-    let among = subst (λ (shape : Shape). HoldsIndexAmong key_bytes s shape before (behind_titles parts after) parts.titles texts.titles.entries)
+    let among = subst (λ (shape : Shape). HoldsIndexAmong key_bytes s (index_with shape texts.titles.entries) before (behind_titles parts after) parts.titles)
     (sym (ap (λ (shape : SearchShape). shape.titles) c.self.view_is)) (titles_among s c.args.self.now before after parts tunes texts) in
     all h before (behind_titles parts after) parts.titles texts.titles.entries among tunes texts.titles.exact tune there
     (subst (λ (x : Sought). finds c.args.self.now.notes x tune.1 ≡ true) c.in-Title.is found)) c.values_for.ensures.finds
@@ -35,7 +36,8 @@ pub returns-in-Rhythm-clause-finds : goal.returns-in-Rhythm-clause-finds
 returns-in-Rhythm-clause-finds g c = IfOk-weaker c.values_for-in-Rhythm.result _ _ (λ values all h before after parts tunes texts tune there found.
     let s = stand c.args.pages.now c.args.work.now in
     let among = subst
-    (λ (shape : Shape). HoldsIndexAmong key_bytes s shape (before_rhythms before parts) (behind_rhythms parts after) parts.rhythms texts.rhythms.entries)
+    (λ (shape : Shape). HoldsIndexAmong key_bytes s (index_with shape texts.rhythms.entries) (before_rhythms before parts) (behind_rhythms parts after)
+    parts.rhythms)
     (sym (ap (λ (shape : SearchShape). shape.rhythms) c.self.view_is)) (rhythms_among s c.args.self.now before after parts tunes texts) in
     all h (before_rhythms before parts) (behind_rhythms parts after) parts.rhythms texts.rhythms.entries among tunes texts.rhythms.exact tune there
     (subst (λ (x : Sought). finds c.args.self.now.notes x tune.1 ≡ true) c.in-Rhythm.is found)) c.values_for-in-Rhythm.ensures.finds
@@ -49,7 +51,8 @@ pub returns-in-Key-clause-finds : goal.returns-in-Key-clause-finds
 returns-in-Key-clause-finds g c = IfOk-weaker c.values_for-in-Key.result _ _ (λ values all h before after parts tunes texts tune there found.
     let s = stand c.args.pages.now c.args.work.now in
     let among = subst
-    (λ (shape : Shape). HoldsIndexAmong key_bytes s shape (before_scales before parts) (behind_scales parts after) parts.scales texts.scales.entries)
+    (λ (shape : Shape). HoldsIndexAmong key_bytes s (index_with shape texts.scales.entries) (before_scales before parts) (behind_scales parts after)
+    parts.scales)
     (sym (ap (λ (shape : SearchShape). shape.scales) c.self.view_is)) (scales_among s c.args.self.now before after parts tunes texts) in
     all h (before_scales before parts) (behind_scales parts after) parts.scales texts.scales.entries among tunes texts.scales.exact tune there
     (subst (λ (x : Sought). finds c.args.self.now.notes x tune.1 ≡ true) c.in-Key.is found)) c.values_for-in-Key.ensures.finds
@@ -65,7 +68,8 @@ returns-in-Notes-clause-finds g c = IfOk-weaker c.values_for-in-Notes.result _ _
     let s = stand c.args.pages.now c.args.work.now in
     let entries = texts.incipits.entries in
     let among = subst
-    (λ (shape : SearchShape). HoldsIndexAmong (incipit_bytes shape.notes) s shape.incipits (before_incipits before parts) after parts.incipits entries)
+    (λ (shape : SearchShape). HoldsIndexAmong (incipit_bytes shape.notes) s (index_with shape.incipits entries) (before_incipits before parts) after
+    parts.incipits)
     (sym c.self.view_is) (incipits_among s c.args.self.now before after parts tunes texts) in
     let exact = subst (λ (shape : SearchShape). HoldsEntries (incipit_keys shape.notes) tunes entries) (sym c.self.view_is) texts.incipits.exact in
     let its = subst (λ (shape : SearchShape). finds shape.notes c.args.sought.now tune.1 ≡ true) (sym c.self.view_is) found in
