@@ -5,7 +5,7 @@ use Rattle.tune_disk.specs.Disk.{DiskState}
 use Rattle.tune_disk.specs.Stops.{LeavesOnly, SinceThen}
 use Rattle.tune_disk.proofs.Moments.{since_weaker}
 use Rattle.tune_pages.specs.Kept.{HonestAt, state_at}
-use Rattle.tune_format.specs.States.{StandsForState, state_in}
+use Rattle.tune_format.specs.States.{Holds, state_in}
 use Rattle.tune_store.specs.State.{State, IsState}
 use Rattle.tune_store.specs.Step.{step}
 use Rattle.tune_store.specs.TuneSteps.{Outcome}
@@ -81,12 +81,12 @@ may_fail command why changes failed = rw (failed, changes) refl
 -- AN ARCHIVE
 module _ {D : Type 0} (honest : D → Type 0) (failures : D → ℕ) (state : D → DiskState) where
   -- what always holds of an archive
-  abbrev pub Holds : Shelf D → Type 0
-  Holds archive = IsShelf honest state archive.pages archive.contents archive.closed
+  abbrev pub KeepsShelf : Shelf D → Type 0
+  KeepsShelf archive = IsShelf honest state archive.pages archive.contents archive.closed
 
   -- a stop now leaves the state of an open archive
-  pub at_rest : (archive : Shelf D) → Holds archive → HonestAt honest archive.pages.disk → archive.closed ≡ false
-      → LeavesOnly (state_at state archive.pages.disk).now (λ file. StandsForState file (state_of state archive))
+  pub at_rest : (archive : Shelf D) → KeepsShelf archive → HonestAt honest archive.pages.disk → archive.closed ≡ false
+      → LeavesOnly (state_at state archive.pages.disk).now (λ file. Holds file (state_of state archive))
   at_rest archive holds h is_open = λ file may. (let held = holds.holds h is_open in
       record {
         pages = archive.pages.pages;
@@ -95,11 +95,11 @@ module _ {D : Type 0} (honest : D → Type 0) (failures : D → ℕ) (state : D 
       })
 
   -- what an open archive knows in memory is that of its state
-  pub tells : (archive : Shelf D) → Holds archive → archive.closed ≡ false → HonestAt honest archive.pages.disk → Tells honest state archive
+  pub tells : (archive : Shelf D) → KeepsShelf archive → archive.closed ≡ false → HonestAt honest archive.pages.disk → Tells honest state archive
   tells archive holds is_open h = (let held = holds.holds h is_open in
       record { was_honest = h; labels = labels_held _ archive.contents _ held.holds; layout = held.holds.layout; sets = held.holds.sets })
 
-  pub within : (archive : Shelf D) → Holds archive → archive.closed ≡ false → HonestAt honest archive.pages.disk → IsState (state_of state archive)
+  pub within : (archive : Shelf D) → KeepsShelf archive → archive.closed ≡ false → HonestAt honest archive.pages.disk → IsState (state_of state archive)
   within archive holds is_open h = (holds.holds h is_open).within
 
   -- A call was answered, and the disk is as it was; or the call may write, and a stop since then leaves states that it passed.
@@ -110,7 +110,7 @@ module _ {D : Type 0} (honest : D → Type 0) (failures : D → ℕ) (state : D 
     pub moves : HonestAt honest new.pages.disk → (state_at state new.pages.disk ≡ state_at state old.pages.disk)
         ⊎ ((may_write command answer ≡ true) × ((step (state_of state old) command).0 ≢ state_of state old)
         × SinceThen (state_at state old.pages.disk) (state_at state new.pages.disk)
-        (StandsForOne StandsForState (state_of state old ∷ passed (state_of state old) command answer)))
+        (StandsForOne Holds (state_of state old ∷ passed (state_of state old) command answer)))
 
   -- what may not have written left the disk at its moment
   pub stays_at : (old new : Shelf D) (command : Command) (answer : Result Reply Refusal) → Ended old new command answer
@@ -131,7 +131,7 @@ module _ {D : Type 0} (honest : D → Type 0) (failures : D → ℕ) (state : D 
   ]
 
   -- it passes the states of its answer
-  pub passes : (old new : Shelf D) (command : Command) (answer : Result Reply Refusal) → Ended old new command answer → Holds new
+  pub passes : (old new : Shelf D) (command : Command) (answer : Result Reply Refusal) → Ended old new command answer → KeepsShelf new
       → Passes {S = Shelf D}
       (record {
         honest = λ archive. HonestAt honest archive.pages.disk;
@@ -140,7 +140,7 @@ module _ {D : Type 0} (honest : D → Type 0) (failures : D → ℕ) (state : D 
         moment = λ archive. moment_of (state_at state archive.pages.disk);
         left_at = λ archive. LeftAt (state_at state archive.pages.disk);
         left_since = λ archive. LeftFrom (state_at state archive.pages.disk);
-        stands_for = StandsForState;
+        stands_for = Holds;
       }) old new
       (passed (state_of state old) command answer)
   passes old new command answer ended holds =
@@ -160,7 +160,7 @@ module _ {D : Type 0} (honest : D → Type 0) (failures : D → ℕ) (state : D 
   }
 
   -- a command that was refused as it was decided
-  pub ended_refused : (old new : Shelf D) (command : Command) (why : Refusal) → Holds old → Holds new → old.closed ≡ false
+  pub ended_refused : (old new : Shelf D) (command : Command) (why : Refusal) → KeepsShelf old → KeepsShelf new → old.closed ≡ false
       → (Tells honest state new → IsState (state_of state old) → Decides (state_of state old) command (Err why))
       → EndsFetch (Fetches honest failures state) (FailsFetch honest failures state) old why new → Ended old new command (Err why)
   ended_refused old new command why was is e decides (inl ends) =
@@ -187,7 +187,7 @@ module _ {D : Type 0} (honest : D → Type 0) (failures : D → ℕ) (state : D 
       }
 
   -- what was decided, of an archive from which texts were read
-  pub decided : (old mid : Shelf D) (command : Command) (plan : Plan) → Holds old → Holds mid → old.closed ≡ false → Fetches honest failures state old mid
+  pub decided : (old mid : Shelf D) (command : Command) (plan : Plan) → KeepsShelf old → KeepsShelf mid → old.closed ≡ false → Fetches honest failures state old mid
       → (Tells honest state mid → IsState (state_of state old) → Decides (state_of state old) command (Ok plan)) → HonestAt honest mid.pages.disk
       → step (state_of state old) command ≡ (after plan.change (state_of state old), Ok plan.reply)
   decided old mid command plan was is e fetches decides h =
@@ -195,7 +195,7 @@ module _ {D : Type 0} (honest : D → Type 0) (failures : D → ℕ) (state : D 
 
   -- a question that was answered
   -- a change that was decided alters the state
-  pub alters : (old mid : Shelf D) (command : Command) (asked : Option Change) (change : Change) → Holds old → Holds mid → old.closed ≡ false
+  pub alters : (old mid : Shelf D) (command : Command) (asked : Option Change) (change : Change) → KeepsShelf old → KeepsShelf mid → old.closed ≡ false
       → Fetches honest failures state old mid
       → (Tells honest state mid → IsState (state_of state old) → (step (state_of state old) command).0 ≡ state_of state old → asked ≡ None)
       → asked ≡ Some change → HonestAt honest mid.pages.disk → (step (state_of state old) command).0 ≢ state_of state old
@@ -216,7 +216,7 @@ module _ {D : Type 0} (honest : D → Type 0) (failures : D → ℕ) (state : D 
 
   -- A CHANGE
   -- a change that is asked for keeps the limits
-  pub stays_within : (old mid : Shelf D) (command : Command) (change : Change) (reply : Reply) → Holds old → old.closed ≡ false
+  pub stays_within : (old mid : Shelf D) (command : Command) (change : Change) (reply : Reply) → KeepsShelf old → old.closed ≡ false
       → Fetches honest failures state old mid
       → (HonestAt honest mid.pages.disk → step (state_of state old) command ≡ (changed change (state_of state old), Ok reply))
       → HonestAt honest mid.pages.disk → IsState (changed change (state_of state mid))
@@ -231,17 +231,17 @@ module _ {D : Type 0} (honest : D → Type 0) (failures : D → ℕ) (state : D 
       → step (state_of state old) command ≡ (changed change (state_of state old), Ok reply) → HonestAt honest mid.pages.disk
       → SinceThen (state_at state mid.pages.disk) (state_at state new.pages.disk) (StandsForOneOf (state_of state mid) (changed change (state_of state mid)))
       → SinceThen (state_at state old.pages.disk) (state_at state new.pages.disk)
-      (StandsForOne StandsForState (state_of state old ∷ (step (state_of state old) command).0 ∷ []))
+      (StandsForOne Holds (state_of state old ∷ (step (state_of state old) command).0 ∷ []))
   moved old mid new command change reply fetches steps h since =
       let disk = fetches.same_state h in
       let same : state_of state mid ≡ state_of state old = ap (λ disk. state_in disk.seen) disk in
       let next : changed change (state_of state mid) ≡ (step (state_of state old) command).0 =
       ap (changed change) same ∙ sym (ap (λ (o : Outcome). o.0) steps) in
       let P : List ℕ → Type 0 = StandsForOneOf (state_of state mid) (changed change (state_of state mid)) in
-      let Q : List ℕ → Type 0 = StandsForOne StandsForState (state_of state old ∷ (step (state_of state old) command).0 ∷ []) in
+      let Q : List ℕ → Type 0 = StandsForOne Holds (state_of state old ∷ (step (state_of state old) command).0 ∷ []) in
       let weaker : (file : List ℕ) → P file → Q file = λ file stands. elim stands [
-        | inl before ↦ inl (subst (StandsForState file) same before)
-        | inr behind ↦ inr (inl (subst (StandsForState file) next behind))
+        | inl before ↦ inl (subst (Holds file) same before)
+        | inr behind ↦ inr (inl (subst (Holds file) next behind))
       ] in
       subst (λ from. SinceThen from (state_at state new.pages.disk) Q) disk
       (since_weaker P Q weaker (state_at state mid.pages.disk) (state_at state new.pages.disk) since)
@@ -299,7 +299,7 @@ module _ {D : Type 0} (honest : D → Type 0) (failures : D → ℕ) (state : D 
       moves = λ h.
           (let before = makes.was_honest h in
           let Q : Refusal → Type 0 = λ one. SinceThen (state_at state old.pages.disk) (state_at state new.pages.disk)
-          (StandsForOne StandsForState (state_of state old ∷ passed (state_of state old) command (Err one))) in
+          (StandsForOne Holds (state_of state old ∷ passed (state_of state old) command (Err one))) in
           inr (
             may_fail command why changes fails.0,
             differs before,

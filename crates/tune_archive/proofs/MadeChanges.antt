@@ -15,11 +15,11 @@ use Rattle.tune_store.specs.StoreStops.{HasFailed}
 use Rattle.tune_store.specs.declared.command.Refusal.{Refusal}
 use Rattle.tune_store.specs.declared.plans.Change.{Change}
 use Rattle.tune_format.specs.RootOffsets.{most_pages_of}
-use Rattle.tune_format.specs.States.{IsStateOf, StandsForState, state_in}
+use Rattle.tune_format.specs.States.{IsStateOf, Holds, state_in}
 use Rattle.tune_format.proofs.StateLemmas.{file_read, either_state}
 use Rattle.tune_contents.specs.LayAnswers.{IsLayFault}
 use Rattle.tune_contents.specs.Claimed.{AreRows}
-use Rattle.tune_contents.specs.Holds.{HoldsContents, HoldsMemory, Memory, memory_of}
+use Rattle.tune_contents.specs.KeepsShelf.{HoldsContents, HoldsMemory, Memory, memory_of}
 use Rattle.tune_contents.specs.declared.contents.Contents.{Contents}
 use Rattle.tune_archive.specs.Shelf.{Shelf, state_on, state_of, StandsForOneOf}
 use Rattle.tune_archive.specs.Inside.Changing.{CallsWhere, PassesChange, PassesLaid, HasLaid, StaysKept, StaysWithin}
@@ -43,7 +43,7 @@ module _ {D : Type 0} (honest : D → Type 0) (state : D → DiskState) (may_sta
   seen_stays None h = absurd h
 
   -- so where a stop leaves one state alone, that is the state of the disk
-  state_left : (at : Option D) (s : State) → HonestAt honest at → LeavesOnly (state_at state at).now (λ file. StandsForState file s)
+  state_left : (at : Option D) (s : State) → HonestAt honest at → LeavesOnly (state_at state at).now (λ file. Holds file s)
       → state_on state at ≡ s
   state_left at s h leaves = file_read (state_at state at).seen s (leaves (state_at state at).seen (seen_stays at h))
 
@@ -58,7 +58,7 @@ module _ {D : Type 0} (honest : D → Type 0) (state : D → DiskState) (may_sta
     before_is : IsStateOf old.pages (state_on state old.disk)
     before_is = record { filed = holds.holds.filed; within = holds.within; few = holds.few }
 
-    rests : LeavesOnly (state_at state old.disk).now (λ file. StandsForState file (state_on state old.disk))
+    rests : LeavesOnly (state_at state old.disk).now (λ file. Holds file (state_on state old.disk))
     rests file may = record { pages = old.pages; stands = holds.rest file may; is = before_is }
 
     module _ (marks : length old.used ≡ most_pages_of contents.layout) where

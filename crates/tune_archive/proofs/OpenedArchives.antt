@@ -33,13 +33,13 @@ use Rattle.tune_store.specs.declared.layout.Layout.TheVariants.{Two}
 use Rattle.tune_format.specs.Filed.{archive_parts}
 use Rattle.tune_format.specs.RootOffsets.{most_pages_of}
 use Rattle.tune_format.specs.Searched.{IsSearchIndex}
-use Rattle.tune_format.specs.States.{IsStateOf, StandsForState}
+use Rattle.tune_format.specs.States.{IsStateOf, Holds}
 use Rattle.tune_format.specs.Written.{IsRoot, no_firsts}
 use Rattle.tune_format.specs.declared.root.Firsts.{Firsts}
 use Rattle.tune_format.proofs.StateLemmas.{same_layout, file_read, empty_within, empty_state_of, none_among}
 use Rattle.tune_format.proofs.TextLemmas.{none_held}
 use Rattle.tune_contents.specs.Claimed.{AreRows, IsClaimed}
-use Rattle.tune_contents.specs.Holds.{HoldsContents, KeepsTexts}
+use Rattle.tune_contents.specs.KeepsShelf.{HoldsContents, KeepsTexts}
 use Rattle.tune_contents.specs.declared.contents.Contents.{Contents}
 use Rattle.tune_contents.proofs.ClaimListLemmas.{state_some}
 use Rattle.tune_archive.specs.Inside.Holding.{stand_of, HoldsState, IsShelf}
@@ -205,8 +205,8 @@ disk_holds state kept contents s stays rest few within holds =
 pub opening_keeps_states : (old new : DiskState) → MayLeave old.now old.seen → SinceThen old new (LeftOrSame old) → KeepsStates old new
 opening_keeps_states old new stays since = λ a b leaves. since_weaker (LeftOrSame old) (StandsForOneOf a b) (one a b leaves) old new since
   where
-    same : (s : State) (pages : List (List ℕ)) (file : List ℕ) → StandsFor pages old.seen → StandsFor pages file → StandsForState old.seen s
-        → StandsForState file s
+    same : (s : State) (pages : List (List ℕ)) (file : List ℕ) → StandsFor pages old.seen → StandsFor pages file → Holds old.seen s
+        → Holds file s
     same s pages file here there stands = record {
       pages = stands.pages;
       stands = subst (λ (l : List (List ℕ)). StandsFor l file) (stands_once pages stands.pages old.seen here stands.stands) there;
@@ -355,7 +355,7 @@ pub opened_sound : {D : Type 0} (honest : D → Type 0) (state : D → DiskState
 opened_sound {D} honest state kept contents archive shelf same = record {
   within = subst (λ (k : Kept D). HonestAt honest k.disk → IsState (state_on state k.disk)) (sym same) (λ h. (shelf.holds h refl).within);
   rest = λ here e. (subst
-      (λ (k : Kept D). HonestAt honest k.disk → LeavesOnly (state_at state k.disk).now (λ file. StandsForState file (state_on state k.disk))) (sym same)
+      (λ (k : Kept D). HonestAt honest k.disk → LeavesOnly (state_at state k.disk).now (λ file. Holds file (state_on state k.disk))) (sym same)
       (λ h file may.
       let held = shelf.holds h refl in
       record { pages = kept.pages; stands = held.rest file may; is = state_there state kept contents held })) here;
@@ -400,7 +400,7 @@ pub made_sound : {D : Type 0} (honest : D → Type 0) (state : D → DiskState) 
 made_sound honest state stays archive image root rest = record {
   within = λ h. subst IsState (sym (made_state honest state stays archive.pages.disk image root h (rest h))) (empty_within Two);
   rest = λ h e file left.
-      subst (StandsForState file) (sym (made_state honest state stays archive.pages.disk image root h (rest h)))
+      subst (Holds file) (sym (made_state honest state stays archive.pages.disk image root h (rest h)))
       (record { pages = image ∷ []; stands = rest h file left; is = empty_state_of Two image root });
 }
 

@@ -2,7 +2,7 @@
 use Rattle.tune_disk.specs.declared.disk.Disk as disk
 use Rattle.tune_pages.specs.Kept.{HonestAt, state_at, failures_at}
 use Rattle.tune_store.specs.declared.tune_store.TuneStore as store
-use Rattle.tune_format.specs.States.{StandsForState}
+use Rattle.tune_format.specs.States.{Holds}
 use Rattle.tune_archive.specs.Media.{moment_of, LeftAt, LeftFrom}
 use Rattle.tune_archive.specs.Shelf.{Shelf, state_of, IsSound}
 
@@ -18,5 +18,5 @@ store_on disks = record {
   moment = λ archive. moment_of (state_at disks.state archive.pages.disk);
   left_at = λ archive. LeftAt (state_at disks.state archive.pages.disk);
   left_since = λ archive. LeftFrom (state_at disks.state archive.pages.disk);
-  stands_for = StandsForState;
+  stands_for = Holds;
 }

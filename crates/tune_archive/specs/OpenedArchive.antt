@@ -13,7 +13,7 @@ use Rattle.tune_journal.specs.declared.open_fault.Refused.{Refused}
 use Rattle.tune_pages.specs.OpenedPages.{LeavesSame}
 use Rattle.tune_store.specs.State.{State, empty_of}
 use Rattle.tune_store.specs.declared.layout.Layout.TheVariants.{Two}
-use Rattle.tune_format.specs.States.{StandsForState}
+use Rattle.tune_format.specs.States.{Holds}
 use Rattle.tune_archive.specs.Shelf.{Shelf, StandsForOneOf}
 
 -- the disk that a call answers, in an archive or on its own
@@ -23,7 +23,7 @@ disk_of (Err refused) = Some refused.disk
 
 -- no archive, or an empty one
 abbrev pub StandsForNoneOrEmpty : List ℕ → Type 0
-StandsForNoneOrEmpty file = StandsForNone file ⊎ StandsForState file (empty_of Two)
+StandsForNoneOrEmpty file = StandsForNone file ⊎ Holds file (empty_of Two)
 
 -- Where each file that a stop may leave at first stands for one of two states, so does each since
 -- then.
@@ -36,7 +36,7 @@ KeepsStates old new = (a b : State) → LeavesOnly old.now (StandsForOneOf a b)
 pub record IsDamagedArchive (old new : DiskState) : Type 0 where
   pub magic : magic_of old.seen ≡ magic
   pub long : magic_bytes ≤ length old.seen
-  pub stateless : (state : State) → ¬ StandsForState old.seen state
+  pub stateless : (state : State) → ¬ Holds old.seen state
   pub rest : IsSynced old new ⊎ ((gate_of old.seen ≡ gate_open) × LeavesSame old new)
 
 -- Where the file is no archive, nothing was written; where it is damaged, or out of memory, no page

@@ -4,7 +4,7 @@ use Rattle.tune_disk.specs.Disk.{DiskState}
 use Rattle.tune_disk.specs.Stops.{LeavesOnly}
 use Rattle.tune_pages.specs.Kept.{Kept, HonestAt, state_at}
 use Rattle.tune_store.specs.State.{State, IsState}
-use Rattle.tune_format.specs.States.{StandsForState, state_in}
+use Rattle.tune_format.specs.States.{Holds, state_in}
 use Rattle.tune_contents.specs.declared.contents.Contents.{Contents}
 use Rattle.tune_archive.specs.declared.archive.Fetched.{Fetched}
 
@@ -26,7 +26,7 @@ state_of state archive = state_on state archive.pages.disk
 
 -- a file stands for one of two states
 abbrev pub StandsForOneOf : State → State → List ℕ → Type 0
-StandsForOneOf a b file = StandsForState file a ⊎ StandsForState file b
+StandsForOneOf a b file = Holds file a ⊎ Holds file b
 
 -- Where its disk is honest, its state is within the limits; and where no call failed, each file
 -- that a stop leaves now stands for it.
@@ -35,4 +35,4 @@ pub record IsSound {D : Type 0} (honest : D → Type 0) (state : D → DiskState
   pub within : HonestAt honest archive.pages.disk → IsState (state_of state archive)
   pub rest : HonestAt honest archive.pages.disk → archive.closed ≡ false
       → LeavesOnly (state_at state archive.pages.disk).now
-      (λ file. StandsForState file (state_of state archive))
+      (λ file. Holds file (state_of state archive))

@@ -1,7 +1,7 @@
 // An archive in a file.
 ghost use Rattle.std.specs.Prelude.{◌≡◌, true, false, None, Some, length, MatchResult};
 ghost use Rattle.tune_disk.specs.Stops.{LeavesOnly};
-ghost use Rattle.tune_format.specs.States.{StandsForState};
+ghost use Rattle.tune_format.specs.States.{Holds};
 ghost use Rattle.tune_pages.specs.Kept.{HonestAt, state_at};
 ghost use Rattle.tune_store.specs.Limits.{layout_number};
 ghost use Rattle.tune_archive.specs.Shelf.{state_of};
@@ -115,7 +115,7 @@ impl<D: Disk> Archive<D> {
         ensures disk { self.pages.disk ≡ Some result }
         ensures rest { HonestAt D.honest self.pages.disk → self.closed ≡ false
             → LeavesOnly (D.state result).now
-            (λ file. StandsForState file (state_of D.state self)) }
+            (λ file. Holds file (state_of D.state self)) }
     {
         let Archive {
             alloc: _,

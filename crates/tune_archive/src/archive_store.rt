@@ -31,7 +31,7 @@ impl<D: Disk> TuneStore for Archive<D> {
     ghost use Rattle.std.proofs.Math.Nat.{le_trans};
     ghost use Rattle.tune_disk.proofs.Moments.{left_by_present};
     ghost use Rattle.tune_pages.specs.Kept.{HonestAt, state_at, failures_at};
-    ghost use Rattle.tune_format.specs.States.{StandsForState};
+    ghost use Rattle.tune_format.specs.States.{Holds};
     ghost use Rattle.tune_archive.specs.Media.{LeftAt, LeftFrom, moment_of};
     ghost use Rattle.tune_archive.specs.Shelf.{state_of, IsSound};
 
@@ -51,7 +51,7 @@ impl<D: Disk> TuneStore for Archive<D> {
 
     ghost left_since = { λ archive. LeftFrom (state_at D.Disk.state archive.pages.disk) };
 
-    ghost stands_for = { StandsForState };
+    ghost stands_for = { Holds };
 
     ghost settled = { λ archive file sound honest is_open left. sound.rest honest is_open file
         (left_by_present _ _ left.newer left.medium left.older file left.history left.later

@@ -14,7 +14,7 @@ ghost use Rattle.tune_store.specs.State.{empty_of};
 ghost use Rattle.tune_store.specs.declared.layout.Layout.TheVariants.{Two};
 ghost use Rattle.tune_format.specs.RootOffsets.{most_pages_of};
 ghost use Rattle.tune_search.specs.Empty.{no_indexes, no_leaves};
-ghost use Rattle.tune_format.specs.States.{IsStateOf, StandsForState};
+ghost use Rattle.tune_format.specs.States.{IsStateOf, Holds};
 ghost use Rattle.tune_format.specs.Written.{no_firsts};
 ghost use Rattle.tune_contents.specs.Claimed.{AreRows, IsClaimed};
 ghost use Rattle.tune_archive.specs.OpenedArchive.{disk_of, StandsForNoneOrEmpty, KeepsStates};
@@ -138,7 +138,7 @@ impl<D: Disk> Archive<D> {
             → gate_of (D.state disk).seen ≢ gate_open
             → IsUnwritten (D.state disk) (state_at D.state (disk_of result)) }
         ensures state { IfOk result (λ archive. HonestAt D.honest archive.pages.disk
-            → StandsForState (D.state disk).seen (state_of D.state archive)) }
+            → Holds (D.state disk).seen (state_of D.state archive)) }
         ensures sound { IfOk result (λ archive. IsSound D.honest D.state archive) }
         ensures is_open { IfOk result (λ archive. archive.closed ≡ false) }
         ensures refused { IfErr result (λ refused. D.honest refused.disk

@@ -19,7 +19,7 @@ use Rattle.tune_store.specs.Runs.{Answered}
 use Rattle.tune_store.specs.State.{State, empty_of, empty_state}
 use Rattle.tune_store.specs.declared.tune_store.TuneStore.{Ghosts}
 use Rattle.tune_store.specs.declared.layout.Layout.TheVariants.{Two}
-use Rattle.tune_format.specs.States.{StandsForState, IsStateOf}
+use Rattle.tune_format.specs.States.{Holds, IsStateOf}
 use Rattle.tune_format.proofs.StateLemmas.{state_once}
 use Rattle.tune_archive.specs.AsStore.{store_on}
 use Rattle.tune_archive.proofs.Media.{left_now, left_then, left_before}
@@ -54,27 +54,27 @@ since_each : (old new : DiskState) (P : List ℕ → Type 0) → SinceThen old n
 since_each old new P since moment left late at = left_of_kind old new P since left (left_then new moment (moment_of old) left late at)
 
 -- a file of the same pages as another holds its states
-same_holds : (seen left : List ℕ) (pages : List (List ℕ)) (state : State) → StandsFor pages seen → StandsFor pages left → StandsForState seen state
-    → StandsForState left state
+same_holds : (seen left : List ℕ) (pages : List (List ℕ)) (state : State) → StandsFor pages seen → StandsFor pages left → Holds seen state
+    → Holds left state
 same_holds seen left pages state stood stands holds = record {
   pages = pages;
   stands = stands;
   is = subst (λ p. IsStateOf p state) (stands_once holds.pages pages seen holds.stands stood) holds.is;
 }
 
-as_before : (old : DiskState) (left : List ℕ) (state : State) → LeftOrSame old left → StandsForState old.seen state
-    → MayLeave old.now left ⊎ StandsForState left state
+as_before : (old : DiskState) (left : List ℕ) (state : State) → LeftOrSame old left → Holds old.seen state
+    → MayLeave old.now left ⊎ Holds left state
 as_before old left state (inl may) holds = inl may
 as_before old left state (inr same) holds = inr (same_holds old.seen left same.0 state same.1 same.2 holds)
 
 -- the same, of each state
 as_before_each : (old : DiskState) (left : List ℕ) → LeftOrSame old left
-    → MayLeave old.now left ⊎ ((state : State) → StandsForState old.seen state → StandsForState left state)
+    → MayLeave old.now left ⊎ ((state : State) → Holds old.seen state → Holds left state)
 as_before_each old left (inl may) = inl may
 as_before_each old left (inr same) = inr (λ state holds. same_holds old.seen left same.0 state same.1 same.2 holds)
 
 -- A FILE THAT IS NOT OPENED
-cause_of : (why : OpenFault) (old new : DiskState) (state : State) → IsUnopenedArchiveFor why old new → StandsForState old.seen state
+cause_of : (why : OpenFault) (old new : DiskState) (state : State) → IsUnopenedArchiveFor why old new → Holds old.seen state
     → (why ≡ fault.OutOfMemory) ⊎ (why ≡ fault.Device)
 cause_of fault.NotArchive old new state refused holds =
     let long = holds.stands.headed.long in absurd (refused.1 (omega (arith, long)) holds.stands.headed.magic)
@@ -116,7 +116,7 @@ module _ {D : Type 0} (disks : disk.Ghosts D) where
 
   -- an archive that was opened, and commands that it carried out then
   keeps_run : (carried : List (Carried (Shelf D))) (before after : Shelf D) (old new : D) → CarriesOut (store_on disks) before carried after
-      → FailsLast (run_of carried) → LeftByRun (store_on disks) before carried after → StandsForState (disks.state old).seen (state_of disks.state before)
+      → FailsLast (run_of carried) → LeftByRun (store_on disks) before carried after → Holds (disks.state old).seen (state_of disks.state before)
       → SinceThen (disks.state old) (state_at disks.state before.pages.disk) (LeftOrSame (disks.state old)) → before.closed ≡ false
       → after.pages.disk ≡ Some new → disks.honest new → HoldsThroughout (file_on old new) (timeline_of (store_on disks) before carried)
   keeps_run carried before after old new carries_out fails stops opened opening is_open held honest =
@@ -201,7 +201,7 @@ module _ {D : Type 0} (disks : disk.Ghosts D) where
       let now = disks.state done.disk in
       let tells = h.tells honest in
       let timeline : Timeline = record { start = tells.held; began = moment_of now; run = [] } in
-      let first : (moment : ℕ) (left : List ℕ) → StandsForState left tells.held → StandsForFirst StandsForState timeline moment left =
+      let first : (moment : ℕ) (left : List ℕ) → Holds left tells.held → StandsForFirst Holds timeline moment left =
       λ moment left holds. record { count = 0; least = omega arith; most = omega arith; between = λ is. refl; stands = holds } in
       record {
         timeline = timeline;
@@ -227,7 +227,7 @@ module _ {D : Type 0} (disks : disk.Ghosts D) where
   checks_done path streams old done (inr not) = λ honest. inr (has_refused streams old done not honest)
 
   -- MAKE
-  is_empty : (left : List ℕ) (state : State) → StandsForNoneOrEmpty left → StandsForState left state → state ≡ empty_of Two
+  is_empty : (left : List ℕ) (state : State) → StandsForNoneOrEmpty left → Holds left state → state ≡ empty_of Two
   is_empty left state (inl none) holds = absurd (none holds.pages holds.stands)
   is_empty left state (inr empty) holds = state_once left state (empty_of Two) holds empty
 

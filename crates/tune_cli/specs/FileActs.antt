@@ -18,7 +18,7 @@ use Rattle.tune_store.specs.Stores.{standing_of}
 use Rattle.tune_store.specs.declared.command.Command.TheVariants.{Upgrade}
 use Rattle.tune_store.specs.declared.command.Reply.{Reply}
 use Rattle.tune_store.specs.declared.command.Refusal.{Refusal}
-use Rattle.tune_format.specs.States.{StandsForState}
+use Rattle.tune_format.specs.States.{Holds}
 use Rattle.tune_archive.specs.AsStore.{store_on}
 use Rattle.tune_archive.specs.OpenedArchive.{IsUnopenedArchiveFor, StandsForNoneOrEmpty}
 use Rattle.tune_archive.specs.OpenedArchive.{KeepsStates}
@@ -43,7 +43,7 @@ pub record HasMade {D : Type 0} (disks : disk.Ghosts D) (streams : Streams) (old
   pub line : WritesLine streams (codes "made\n") 0 done.status
   pub empty : disks.honest done.disk → (disks.state old).seen ≡ []
   pub rest : disks.honest done.disk → LeavesOnly (disks.state done.disk).now
-      (λ file. StandsForState file (empty_of Two))
+      (λ file. Holds file (empty_of Two))
   pub counted : disks.failures done.disk ≡ disks.failures old
 
 -- It was not, and why.
@@ -86,9 +86,9 @@ pub record HasNotOpened {D : Type 0} (disks : disk.Ghosts D) (streams : Streams)
 -- The disk stands for this state, and how much that holds was written; a stop now leaves it.
 pub record TellsState (old new : DiskState) (streams : Streams) (status : ℕ) : Type 0 where
   pub held : State
-  pub stands : StandsForState old.seen held
+  pub stands : Holds old.seen held
   pub line : WritesLine streams (counts_bytes held) 0 status
-  pub rest : LeavesOnly new.now (λ file. StandsForState file held)
+  pub rest : LeavesOnly new.now (λ file. Holds file held)
 
 -- The archive was opened; meanwhile a stop leaves what it might have left before, or the same pages
 -- as the disk showed, and so the same states; and no call of the disk failed.
@@ -120,7 +120,7 @@ pub record RanScript {D : Type 0} (disks : disk.Ghosts D) (streams : Streams) (o
   pub after : Shelf D
   -- it was opened with the state that the disk stood for; meanwhile a stop leaves what it might
   -- have left before, or the same pages as the disk showed
-  pub opened : StandsForState (disks.state old).seen (state_of disks.state before)
+  pub opened : Holds (disks.state old).seen (state_of disks.state before)
   pub opening : SinceThen (disks.state old) (state_at disks.state before.pages.disk)
       (LeftOrSame (disks.state old))
   pub is_open : before.closed ≡ false
@@ -134,9 +134,9 @@ pub record RanScript {D : Type 0} (disks : disk.Ghosts D) (streams : Streams) (o
   -- where each file that a stop may leave at the start stands for one state, a stop at any moment,
   -- while the archive was opened too, leaves the state after a prefix of the commands
   pub since_start : (start : State)
-      → LeavesOnly (disks.state old).now (λ file. StandsForState file start)
+      → LeavesOnly (disks.state old).now (λ file. Holds file start)
       → (file : List ℕ) → LeftFrom (disks.state new) (moment_of (disks.state old)) file
-      → StandsForPrefix StandsForState start [] (run_of runs.carried) file
+      → StandsForPrefix Holds start [] (run_of runs.carried) file
   -- the disk that is handed back is that of the archive
   pub held : after.pages.disk ≡ Some new
 
@@ -166,7 +166,7 @@ pub record Upgraded {D : Type 0} (disks : disk.Ghosts D) (streams : Streams) (ol
   pub asked : carried.command ≡ Upgrade
   -- it was opened with the state that the disk stood for; meanwhile a stop leaves what it might
   -- have left before, or the same pages as the disk showed
-  pub opened : StandsForState (disks.state old).seen (state_of disks.state before)
+  pub opened : Holds (disks.state old).seen (state_of disks.state before)
   pub opening : SinceThen (disks.state old) (state_at disks.state before.pages.disk)
       (LeftOrSame (disks.state old))
   pub is_open : before.closed ≡ false
@@ -179,9 +179,9 @@ pub record Upgraded {D : Type 0} (disks : disk.Ghosts D) (streams : Streams) (ol
   -- where each file that a stop may leave at the start stands for one state, a stop at any moment,
   -- while the archive was opened too, leaves that state, or the one after the command
   pub since_start : (start : State)
-      → LeavesOnly (disks.state old).now (λ file. StandsForState file start)
+      → LeavesOnly (disks.state old).now (λ file. Holds file start)
       → (file : List ℕ) → LeftFrom (disks.state new) (moment_of (disks.state old)) file
-      → StandsForPrefix StandsForState start [] (run_of (carried ∷ [])) file
+      → StandsForPrefix Holds start [] (run_of (carried ∷ [])) file
   -- the disk that is handed back is that of the archive
   pub held : carried.after.pages.disk ≡ Some new
 

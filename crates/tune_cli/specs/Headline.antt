@@ -14,7 +14,7 @@ use Rattle.tune_journal.specs.declared.open_fault.OpenFault.TheVariants as fault
 use Rattle.tune_store.specs.State.{State, empty_of, empty_state}
 use Rattle.tune_store.specs.declared.layout.Layout.TheVariants.{Two}
 use Rattle.tune_store.specs.declared.command.Command.TheVariants.{Upgrade}
-use Rattle.tune_format.specs.States.{StandsForState}
+use Rattle.tune_format.specs.States.{Holds}
 use Rattle.tune_archive.specs.Media.{moment_of, LeftAt}
 use Rattle.tune_scripts.specs.Timelines.{Timed, Timeline, RisesTo, AreAnswered, StandsForFirst}
 use Rattle.tune_scripts.specs.Timelines.{answered_of}
@@ -61,11 +61,11 @@ EachStopLeaves file Kind = (moment : ℕ) (left : List ℕ) → moment_of file.w
 -- the state after those that were answered by then, and the next one or not; while FILE was still
 -- being opened it may also be one that a stop might have left before.
 pub record HoldsThroughout (file : File) (timeline : Timeline) : Type 0 where
-  pub held : StandsForState file.was.seen timeline.start
+  pub held : Holds file.was.seen timeline.start
   pub opened : moment_of file.was ≤ timeline.began
   pub rises : RisesTo timeline.began timeline.run (moment_of file.now)
   pub answered : AreAnswered timeline.start timeline.run
-  pub stops : EachStopLeaves file (λ moment left. StandsForFirst StandsForState timeline moment left
+  pub stops : EachStopLeaves file (λ moment left. StandsForFirst Holds timeline moment left
       ⊎ ((moment < timeline.began) × MayLeave file.was.now left))
 
 -- WHAT COMES OF AN ACTION ON FILE
@@ -81,17 +81,17 @@ pub record IsDone (given : Action) (streams : Streams) (file : File) (status : �
 pub record IsRefused (streams : Streams) (file : File) (status : ℕ) : Type 0 where
   pub why : OpenFault
   pub line : WritesLine streams (reason_bytes why) (status_of_opening why) status
-  pub cause : (state : State) → StandsForState file.was.seen state
+  pub cause : (state : State) → Holds file.was.seen state
       → (why ≡ fault.OutOfMemory) ⊎ (why ≡ fault.Device)
   pub unwritten : why ≡ fault.NotArchive → file.now.seen ≡ file.was.seen
   pub stops : EachStopLeaves file (λ moment left. MayLeave file.was.now left
-      ⊎ ((state : State) → StandsForState file.was.seen state → StandsForState left state))
+      ⊎ ((state : State) → Holds file.was.seen state → Holds left state))
 
 -- An empty archive was made, of a file without a byte.
 pub record IsMade (streams : Streams) (file : File) (status : ℕ) : Type 0 where
   pub line : WritesLine streams (codes "made\n") 0 status
   pub empty : file.was.seen ≡ []
-  pub holds : LeavesOnly file.now.now (λ left. StandsForState left (empty_of Two))
+  pub holds : LeavesOnly file.now.now (λ left. Holds left (empty_of Two))
 
 -- It was not, and why.
 pub record IsNotMade (streams : Streams) (file : File) (status : ℕ) : Type 0 where
@@ -103,7 +103,7 @@ pub record IsNotMade (streams : Streams) (file : File) (status : ℕ) : Type 0 w
 abbrev pub Makes : Streams → File → ℕ → Type 0
 Makes streams file status = (IsMade streams file status ⊎ IsNotMade streams file status)
     × (LeavesOnly file.was.now (λ left. left ≡ []) → EachStopLeaves file
-    (λ moment left. (state : State) → StandsForState left state → state ≡ empty_of Two))
+    (λ moment left. (state : State) → Holds left state → state ≡ empty_of Two))
 
 -- what an action does with FILE
 abbrev pub Does : Action → Streams → File → ℕ → Type 0

@@ -23,7 +23,7 @@ use Rattle.tune_store.specs.declared.command.Reply.TheVariants.{Renumbered}
 use Rattle.tune_store.specs.declared.layout.Layout.{Layout}
 use Rattle.tune_store.specs.declared.layout.Layout.TheVariants.{One, Two}
 use Rattle.tune_store.specs.declared.tune.Tune.{Tune}
-use Rattle.tune_format.specs.States.{StandsForState}
+use Rattle.tune_format.specs.States.{Holds}
 use Rattle.tune_contents.specs.FilePages.{parts_in, pages_in_use, pages_of_both}
 use Rattle.tune_contents.specs.Most.{enough_pages, most_in_use, most_part_pages}
 use Rattle.tune_contents.proofs.StatePages.{filed_count}
@@ -78,7 +78,7 @@ both_in_numbers Two = omega arith
 
 -- A FILE
 -- the chains and leaves of a file whose tunes are within the limits of a layout
-module _ (file : List ℕ) (state : State) (stands : StandsForState file state) where
+module _ (file : List ℕ) (state : State) (stands : Holds file state) where
   few_parts : (limits : Layout) → IsTunes limits state.tunes → length (trails (parts_in stands)) ≤ most_part_pages limits
   few_parts limits within = filed_count limits state.layout stands.pages state.tunes state.sets stands.is.filed
       (stands_sized stands.pages file stands.stands) within stands.is.within.sets
@@ -90,7 +90,7 @@ module _ (file : List ℕ) (state : State) (stands : StandsForState file state) 
       omega (arith, few, all)
 
 -- TWO FILES
-pub few_of_both : (one other : List ℕ) (old new : State) (before : StandsForState one old) (after : StandsForState other new) → IsTunes old.layout new.tunes
+pub few_of_both : (one other : List ℕ) (old new : State) (before : Holds one old) (after : Holds other new) → IsTunes old.layout new.tunes
     → length (pages_of_both before after) < enough_pages old.layout
 few_of_both one other old new before after within =
     let was = few_parts one old before old.layout before.is.within.tunes in
@@ -141,7 +141,7 @@ within_after state (Renumber number to) was is = renumbered state number to (is_
 within_after state (SetAdd name number) was is = added state name number (tune_at number state.tunes) was.tunes
 within_after state command was is = was.tunes
 
-pub few_together : (one other : List ℕ) (state : State) (command : Command) (before : StandsForState one state)
-    (after : StandsForState other (step state command).0) → length (pages_of_both before after) < enough_pages state.layout
+pub few_together : (one other : List ℕ) (state : State) (command : Command) (before : Holds one state)
+    (after : Holds other (step state command).0) → length (pages_of_both before after) < enough_pages state.layout
 few_together one other state command before after =
     few_of_both one other state (step state command).0 before after (within_after state command before.is.within after.is.within)

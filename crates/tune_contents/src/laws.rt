@@ -6,7 +6,7 @@ ghost use Rattle.tune_pages.specs.Stand.{Stand, AllFree};
 ghost use Rattle.tune_store.specs.State.{State, IsState};
 ghost use Rattle.tune_store.specs.Step.{step};
 ghost use Rattle.tune_store.specs.declared.command.Command.{Command};
-ghost use Rattle.tune_format.specs.States.{StandsForState};
+ghost use Rattle.tune_format.specs.States.{Holds};
 ghost use Rattle.tune_contents.specs.FilePages.{pages_in_use, pages_of_both};
 ghost use Rattle.tune_contents.specs.Holds.{HoldsContents};
 ghost use Rattle.tune_contents.specs.Most.{enough_pages, most_in_use, most_used};
@@ -29,12 +29,12 @@ pub fn law_of_state_pages()
 /// - `together`: those of the file before a command and those of the file after it are together
 ///   fewer than 640,684 where the layout was 1, and than 2,801,386 where it was 2.
 pub fn law_of_file_pages()
-    ensures apart { (file : List ℕ) (state : State) (stands : StandsForState file state)
+    ensures apart { (file : List ℕ) (state : State) (stands : Holds file state)
         → AllFree (pages_in_use stands) (replicate (length stands.pages) false) }
-    ensures few { (file : List ℕ) (state : State) (stands : StandsForState file state)
+    ensures few { (file : List ℕ) (state : State) (stands : Holds file state)
         → length (pages_in_use stands) ≤ most_in_use state.layout }
     ensures together { (one other : List ℕ) (state : State) (command : Command)
-        (before : StandsForState one state)
-        (after : StandsForState other (step state command).0)
+        (before : Holds one state)
+        (after : Holds other (step state command).0)
         → length (pages_of_both before after) < enough_pages state.layout }
 {}

@@ -6,7 +6,7 @@ use Rattle.tune_store.specs.Limits.{layout_number, notes_of}
 use Rattle.tune_store.specs.State.{State, IsState, empty_of}
 use Rattle.tune_format.specs.Filed.{Filed}
 use Rattle.tune_parts.specs.Parts.{Part, chain_part}
-use Rattle.tune_format.specs.States.{IsStateOf, StandsForState, state_of_pages, state_in}
+use Rattle.tune_format.specs.States.{IsStateOf, Holds, state_of_pages, state_in}
 use Rattle.tune_format.specs.Searched.{IsSearchIndex}
 use Rattle.tune_format.specs.RootOffsets.{most_pages_of, version_offset}
 use Rattle.tune_format.specs.Reading.{layout_in}
@@ -47,15 +47,15 @@ state_read pages state is =
     let layout = layout_read state.layout pages is.filed.root.is_version in
     (λ i. record { layout = layout i; tunes = tunes i; sets = sets i })
 
-pub file_read : (file : List ℕ) (state : State) → StandsForState file state → state_in file ≡ state
+pub file_read : (file : List ℕ) (state : State) → Holds file state → state_in file ≡ state
 unfolding state_in
 file_read file state stands = ap state_of_pages (pages_read stands.pages file stands.stands) ∙ state_read stands.pages state stands.is
 
-pub state_once : (file : List ℕ) (one other : State) → StandsForState file one → StandsForState file other → one ≡ other
+pub state_once : (file : List ℕ) (one other : State) → Holds file one → Holds file other → one ≡ other
 state_once file one other stands also = sym (file_read file one stands) ∙ file_read file other also
 
 pub either_state : (before after : List (List ℕ)) (old new : State) (file : List ℕ) → IsStateOf before old → IsStateOf after new
-    → StandsForEither before after file → StandsForState file old ⊎ StandsForState file new
+    → StandsForEither before after file → Holds file old ⊎ Holds file new
 either_state before after old new file is also (inl stands) = inl (record { pages = before; stands = stands; is = is })
 either_state before after old new file is also (inr stands) = inr (record { pages = after; stands = stands; is = also })
 

@@ -21,7 +21,7 @@ ghost use Rattle.tune_format.specs.Filed.{archive_parts, firsts_of, numbered_tex
 ghost use Rattle.tune_format.specs.Searched.{AreSearchIndexes};
 ghost use Rattle.tune_format.specs.RootOffsets.{most_pages_of};
 ghost use Rattle.tune_format.specs.Reading.{tunes_in, sets_in, pages_in};
-ghost use Rattle.tune_format.specs.States.{IsStateOf, StandsForState, state_of_pages};
+ghost use Rattle.tune_format.specs.States.{IsStateOf, Holds, state_of_pages};
 ghost use Rattle.tune_format.specs.States.{state_in};
 ghost use Rattle.tune_format.specs.Written.{IsRoot, no_firsts, number_entries, written_tune};
 
@@ -95,13 +95,13 @@ pub fn law_of_files()
         → sets_in pages ≡ sets }
     ensures state { (pages : List (List ℕ)) (state : State) → IsStateOf pages state
         → state_of_pages pages ≡ state }
-    ensures file { (file : List ℕ) (state : State) → StandsForState file state
+    ensures file { (file : List ℕ) (state : State) → Holds file state
         → state_in file ≡ state }
-    ensures once { (file : List ℕ) (one other : State) → StandsForState file one
-        → StandsForState file other → one ≡ other }
+    ensures once { (file : List ℕ) (one other : State) → Holds file one
+        → Holds file other → one ≡ other }
     ensures either { (before after : List (List ℕ)) (old new : State) (file : List ℕ)
         → IsStateOf before old → IsStateOf after new → StandsForEither before after file
-        → StandsForState file old ⊎ StandsForState file new }
+        → Holds file old ⊎ Holds file new }
     ensures empty { (layout : Layout) (image : List ℕ) → IsRoot layout image no_firsts
         → IsStateOf (image ∷ []) (empty_of layout) }
 {}

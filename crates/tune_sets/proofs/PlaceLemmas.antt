@@ -10,7 +10,7 @@ use Rattle.tune_sets.specs.Limits.{most_places, most_sets}
 use Rattle.tune_sets.specs.Numbers.{renumbered, renumbered_all, is_among, has_place}
 use Rattle.tune_sets.specs.Sets.{RisesFrom, AreSetLists, set_at, holder, inserted, empty_set, with_numbers, without, renumbered_set, renumbered_sets}
 use Rattle.tune_sets.specs.Calls.{create_unless, create_set, add_to, add_number, cut_from, cut_place, drop_found, drop_set, places_found, places_of}
-use Rattle.tune_sets.specs.Laws.{Leaves, Holds, IsLeastHolder}
+use Rattle.tune_sets.specs.Laws.{Leaves, HoldsNumber, IsLeastHolder}
 use Rattle.tune_sets.specs.declared.faults.SetFault.TheVariants.{NoSuchSet}
 use Rattle.tune_sets.specs.declared.set_lists.TuneSet.{TuneSet}
 use Rattle.tune_sets.proofs.NameOrder.{same_name, before_other, before_differs, before_trans}
@@ -207,7 +207,7 @@ least_holder number name sets are holds =
     }
 
 -- and where there is none no set holds the number
-pub no_holder : (number : ℕ) (name : List ℕ) (sets : List TuneSet) → holder number sets ≡ None → Holds number name sets → ⊥
+pub no_holder : (number : ℕ) (name : List ℕ) (sets : List TuneSet) → holder number sets ≡ None → HoldsNumber number name sets → ⊥
 no_holder number name sets none its =
     let nay = holder-none number sets name its.set none its.named in
     let e : true ≡ false = sym its.among ∙ nay in

@@ -15,12 +15,12 @@ pub record Leaves (name : List ℕ) (places : Result (List ℕ) SetFault) (old n
   pub others : (other : List ℕ) → other ≢ name → places_of other new ≡ places_of other old
 
 -- the set of a name holds a number
-pub record Holds (number : ℕ) (name : List ℕ) (sets : List TuneSet) : Type 0 where
+pub record HoldsNumber (number : ℕ) (name : List ℕ) (sets : List TuneSet) : Type 0 where
   pub set : TuneSet
   pub named : set_at name sets ≡ Some set
   pub among : is_among number set.numbers ≡ true
 
 -- it holds the number, and no set of a lesser name does
 pub record IsLeastHolder (number : ℕ) (name : List ℕ) (sets : List TuneSet) : Type 0 where
-  pub holds : Holds number name sets
-  pub least : (other : List ℕ) → is_before other name ≡ true → ¬ Holds number other sets
+  pub holds : HoldsNumber number name sets
+  pub least : (other : List ℕ) → is_before other name ≡ true → ¬ HoldsNumber number other sets

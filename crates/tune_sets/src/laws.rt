@@ -6,7 +6,7 @@ ghost use Rattle.tune_sets.specs.Numbers.{renumbered_all};
 ghost use Rattle.tune_sets.specs.Sets.{AreSetLists, holder, renumbered_sets};
 ghost use Rattle.tune_sets.specs.Calls.{create_set, add_number, cut_place, drop_set, places_of};
 ghost use Rattle.tune_sets.specs.SetBytes.{written_sets};
-ghost use Rattle.tune_sets.specs.Laws.{Leaves, Holds, IsLeastHolder};
+ghost use Rattle.tune_sets.specs.Laws.{Leaves, HoldsNumber, IsLeastHolder};
 ghost use Rattle.tune_sets.specs.declared.set_lists.TuneSet.{TuneSet};
 ghost use Rattle.tune_sets.specs.declared.faults.SetFault.TheVariants.{NoSuchSet};
 
@@ -40,7 +40,7 @@ pub fn law_of_set_lists()
     ensures held { (number : ℕ) (name : List ℕ) (sets : List TuneSet) → AreSetLists sets
         → holder number sets ≡ Some name → IsLeastHolder number name sets }
     ensures free { (number : ℕ) (name : List ℕ) (sets : List TuneSet)
-        → holder number sets ≡ None → ¬ Holds number name sets }
+        → holder number sets ≡ None → ¬ HoldsNumber number name sets }
     ensures limits_create { (name : List ℕ) (sets : List TuneSet) → AreSetLists sets
         → AreSetLists (create_set name sets).0 }
     ensures limits_add { (name : List ℕ) (number : ℕ) (sets : List TuneSet) → AreSetLists sets

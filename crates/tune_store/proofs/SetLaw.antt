@@ -13,7 +13,7 @@ use Rattle.tune_sets.specs.Names.{is_good_name}
 use Rattle.tune_sets.specs.Numbers.{has_place, renumbered, renumbered_all}
 use Rattle.tune_sets.specs.Sets.{set_at, holder, empty_set, renumbered_set}
 use Rattle.tune_sets.specs.Calls.{create_unless, create_set, add_to, cut_from, drop_found, places_found, places_of}
-use Rattle.tune_sets.specs.Laws.{Holds, IsLeastHolder}
+use Rattle.tune_sets.specs.Laws.{HoldsNumber, IsLeastHolder}
 use Rattle.tune_sets.specs.declared.set_lists.TuneSet.{TuneSet}
 use Rattle.tune_sets.specs.declared.faults.SetFault.{SetFault}
 use Rattle.tune_sets.proofs.PlaceLemmas.{set_at-inserted_other, set_at-with_numbers_other, set_at-without_other, set_at-renumbered, least_holder, no_holder}
@@ -278,6 +278,6 @@ accepted_by tunes number held None ok = cc
 accepted_by tunes number None (Some tune) ok = refl
 accepted_by tunes number (Some name) (Some tune) ok = cc
 
-pub delete_free : (state : State) (number : ℕ) (name : List ℕ) → IsTrue (accepts state (Delete number)) → Holds number name state.sets → ⊥
+pub delete_free : (state : State) (number : ℕ) (name : List ℕ) → IsTrue (accepts state (Delete number)) → HoldsNumber number name state.sets → ⊥
 delete_free state number name ok =
     no_holder number name state.sets (accepted_by state.tunes number (holder number state.sets) (tune_at number state.tunes) ok)

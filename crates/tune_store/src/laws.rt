@@ -1,7 +1,7 @@
 // What holds of commands on a plain list of tunes and set lists, over whole runs of them.
 ghost use Rattle.std.specs.Prelude.{◌≡◌, ℕ, List, true, IsTrue, IsFalse, Err, IsOk};
 ghost use Rattle.tune_sets.specs.Calls.{places_of};
-ghost use Rattle.tune_sets.specs.Laws.{Holds, IsLeastHolder};
+ghost use Rattle.tune_sets.specs.Laws.{HoldsNumber, IsLeastHolder};
 ghost use Rattle.tune_store.specs.State.{State, IsState, Standing};
 ghost use Rattle.tune_store.specs.Step.{step};
 ghost use Rattle.tune_store.specs.Answers.{changes_nothing};
@@ -67,7 +67,7 @@ pub fn law_of_places()
         → (step state (Delete number)).1 ≡ Err (InSet name)
         → IsLeastHolder number name state.sets }
     ensures free { (state : State) (number : ℕ) (name : List ℕ)
-        → IsTrue (accepts state (Delete number)) → ¬ Holds number name state.sets }
+        → IsTrue (accepts state (Delete number)) → ¬ HoldsNumber number name state.sets }
 {}
 
 /// The law of changes: which accepted commands leave a plain list of tunes and set lists as it is.

@@ -2,7 +2,7 @@ use Rattle.std.proofs.Common.{[], ◌∷◌, inl, inr, refl, sym, subst}
 use Rattle.tune_pages.specs.Kept.{HonestAt, state_at}
 use Rattle.tune_store.specs.State.{State}
 use Rattle.tune_store.specs.declared.command.Command.TheVariants.{Upgrade}
-use Rattle.tune_format.specs.States.{StandsForState}
+use Rattle.tune_format.specs.States.{Holds}
 use Rattle.tune_format.proofs.StateLemmas.{state_once}
 use Rattle.tune_archive.specs.Media.{moment_of, LeftFrom}
 use Rattle.tune_archive.specs.Shelf.{Shelf, StandsForOneOf}
@@ -52,9 +52,9 @@ returns-in-Ok-clause-upgrades g c = inl (record {
             let then = moments start start (λ one may. inl (leaves one may)) in
             let early = moment_rises old opened (StandsForOneOf start start) then in
             let here = subst (λ at. LeftFrom (state_at state at) (moment_of old) file) (sym c.into_disk-disk.ensures.disk) left in
-            subst (λ (s : State). StandsForPrefix StandsForState s [] (run_of (next ∷ [])) file) same
+            subst (λ (s : State). StandsForPrefix Holds s [] (run_of (next ∷ [])) file) same
             (left_since_earlier _ (next ∷ []) before after (moment_of old) file (carried, refl) c.in-Ok.ensures.sound at_end c.in-Ok.ensures.is_open early
-            (λ was. subst (StandsForState file) (sym same)
+            (λ was. subst (Holds file) (sym same)
             (one_of_same start file (left_of_kind old opened (StandsForOneOf start start) then file was))) here);
         held = c.into_disk-disk.ensures.disk;
       };

@@ -3,7 +3,7 @@ use Rattle.tune_pages.specs.Kept.{HonestAt}
 use Rattle.tune_archive.specs.Shelf.{state_of}
 use Rattle.tune_store.specs.Plans.{changed, after}
 use Rattle.tune_store.specs.Step.{step}
-use Rattle.tune_archive.proofs.Called.{Holds, Ended, answers_closed, passes, ended_refused, ended_unmade, ended_changed, ended_answered, stays_within}
+use Rattle.tune_archive.proofs.Called.{KeepsShelf, Ended, answers_closed, passes, ended_refused, ended_unmade, ended_changed, ended_answered, stays_within}
 use Rattle.tune_archive.proofs.Called.{decided, alters, no_question, stays_at, stays_where}
 use Rattle.tune_archive.proofs.FilesTogether.{files_together}
 use Rattle.tune_store.proofs.RevisionLemmas.{raised_where}
@@ -26,8 +26,8 @@ refused : (g : _) (c : goal.After-from_residual g)
     → Ended g.D.Disk.honest g.D.Disk.failures g.D.Disk.state c.args.self.now c.decide-decided.new.catalog c.args.command.now (Err c.in_err-change.field-0.0)
 refused g c =
     let is_open : c.args.self.now.closed ≡ false = sym (ap (λ s. s.closed) c.self.view_is) ∙ c.if-self.false in
-    let was : Holds g.D.Disk.honest g.D.Disk.failures g.D.Disk.state c.args.self.now =
-    subst (Holds g.D.Disk.honest g.D.Disk.failures g.D.Disk.state) c.self.view_is c.self.invariant in
+    let was : KeepsShelf g.D.Disk.honest g.D.Disk.failures g.D.Disk.state c.args.self.now =
+    subst (KeepsShelf g.D.Disk.honest g.D.Disk.failures g.D.Disk.state) c.self.view_is c.self.invariant in
     ended_refused g.D.Disk.honest g.D.Disk.failures g.D.Disk.state c.args.self.now c.decide-decided.new.catalog c.args.command.now
     c.in_err-change.field-0.0 was c.holds.ensures is_open c.in_err-change.ensures.decided c.in_err-change.ensures.fetched
 
@@ -51,8 +51,8 @@ returns-in_err-change-clause-stops g c =
 
 pub returns-in_err-change-clause-together : goal.returns-in_err-change-clause-together
 returns-in_err-change-clause-together g c = λ h is_open.
-    (let was : Holds g.D.Disk.honest g.D.Disk.failures g.D.Disk.state c.args.self.now =
-    subst (Holds g.D.Disk.honest g.D.Disk.failures g.D.Disk.state) c.self.view_is c.self.invariant in
+    (let was : KeepsShelf g.D.Disk.honest g.D.Disk.failures g.D.Disk.state c.args.self.now =
+    subst (KeepsShelf g.D.Disk.honest g.D.Disk.failures g.D.Disk.state) c.self.view_is c.self.invariant in
     files_together c.law_of_file_pages.ensures.together g.D.Disk.honest g.D.Disk.failures g.D.Disk.state c.args.self.now _ c.args.command.now _
     (refused g c) was h is_open)
 
@@ -60,8 +60,8 @@ returns-in_err-change-clause-together g c = λ h is_open.
 pub make_change-made-requires-clause-within : goal.make_change-made-requires-clause-within
 make_change-made-requires-clause-within g c =
     let is_open : c.args.self.now.closed ≡ false = sym (ap (λ s. s.closed) c.self.view_is) ∙ c.if-self.false in
-    let was : Holds g.D.Disk.honest g.D.Disk.failures g.D.Disk.state c.args.self.now =
-    subst (Holds g.D.Disk.honest g.D.Disk.failures g.D.Disk.state) c.self.view_is c.self.invariant in
+    let was : KeepsShelf g.D.Disk.honest g.D.Disk.failures g.D.Disk.state c.args.self.now =
+    subst (KeepsShelf g.D.Disk.honest g.D.Disk.failures g.D.Disk.state) c.self.view_is c.self.invariant in
     let old = state_of g.D.Disk.state c.args.self.now in
     let plan = c.in_ok-change.field-0 in
     let steps : HonestAt g.D.Disk.honest c.decide-decided.new.catalog.pages.disk
@@ -77,8 +77,8 @@ unmade : (g : _) (c : goal.Joined-reply g)
     → Ended g.D.Disk.honest g.D.Disk.failures g.D.Disk.state c.args.self.now c.make_change-made.new.self c.args.command.now (Err c.in_err-made.field-0.0)
 unmade g c =
     let is_open : c.args.self.now.closed ≡ false = sym (ap (λ s. s.closed) c.self.view_is) ∙ c.if-self.false in
-    let was : Holds g.D.Disk.honest g.D.Disk.failures g.D.Disk.state c.args.self.now =
-    subst (Holds g.D.Disk.honest g.D.Disk.failures g.D.Disk.state) c.self.view_is c.self.invariant in
+    let was : KeepsShelf g.D.Disk.honest g.D.Disk.failures g.D.Disk.state c.args.self.now =
+    subst (KeepsShelf g.D.Disk.honest g.D.Disk.failures g.D.Disk.state) c.self.view_is c.self.invariant in
     let old = state_of g.D.Disk.state c.args.self.now in
     let plan = c.in_ok-change.field-0 in
     let steps : HonestAt g.D.Disk.honest c.decide-decided.new.catalog.pages.disk
@@ -113,8 +113,8 @@ returns-in_err-made-clause-stops g c =
 
 pub returns-in_err-made-clause-together : goal.returns-in_err-made-clause-together
 returns-in_err-made-clause-together g c = λ h is_open.
-    (let was : Holds g.D.Disk.honest g.D.Disk.failures g.D.Disk.state c.args.self.now =
-    subst (Holds g.D.Disk.honest g.D.Disk.failures g.D.Disk.state) c.self.view_is c.self.invariant in
+    (let was : KeepsShelf g.D.Disk.honest g.D.Disk.failures g.D.Disk.state c.args.self.now =
+    subst (KeepsShelf g.D.Disk.honest g.D.Disk.failures g.D.Disk.state) c.self.view_is c.self.invariant in
     files_together c.law_of_file_pages.ensures.together g.D.Disk.honest g.D.Disk.failures g.D.Disk.state c.args.self.now _ c.args.command.now _
     (unmade g c) was h is_open)
 
@@ -122,7 +122,7 @@ returns-in_err-made-clause-together g c = λ h is_open.
 -- how the call ends, and what then holds
 record Well (g : _) (c : goal.Joined-change g) : Type 0 where
   ended : Ended g.D.Disk.honest g.D.Disk.failures g.D.Disk.state c.args.self.now c.match-change.self c.args.command.now (Ok c.in_ok-change.field-0.reply)
-  holds : Holds g.D.Disk.honest g.D.Disk.failures g.D.Disk.state c.match-change.self
+  holds : KeepsShelf g.D.Disk.honest g.D.Disk.failures g.D.Disk.state c.match-change.self
 
 well : (g : _) (c : goal.Joined-change g) → Well g c
 well g c =
@@ -130,7 +130,7 @@ well g c =
     let failures = g.D.Disk.failures in
     let state = g.D.Disk.state in
     let is_open : c.args.self.now.closed ≡ false = sym (ap (λ s. s.closed) c.self.view_is) ∙ c.if-self.false in
-    let was : Holds honest failures state c.args.self.now = subst (Holds honest failures state) c.self.view_is c.self.invariant in
+    let was : KeepsShelf honest failures state c.args.self.now = subst (KeepsShelf honest failures state) c.self.view_is c.self.invariant in
     let old = state_of state c.args.self.now in
     let plan = c.in_ok-change.field-0 in
     let fetched = c.in_ok-change.ensures.fetched in
@@ -146,13 +146,13 @@ well g c =
             (alters honest failures state c.args.self.now c.decide-decided.new.catalog c.args.command.now _ w.in-Some.change was c.holds.ensures is_open
             fetched c.in_ok-change.ensures.changes w.in-Some.is) fetched
             (λ h. subst (λ one. step old c.args.command.now ≡ (after one old, Ok plan.reply)) w.in-Some.is (planned h)) w.in_ok-made.ensures);
-        holds = subst (Holds honest failures state) (sym w.self-is) w.holds-in-Some.ensures;
+        holds = subst (KeepsShelf honest failures state) (sym w.self-is) w.holds-in-Some.ensures;
       }
       | in_default w ↦ record {
         ended = subst (λ one. Ended honest failures state c.args.self.now one c.args.command.now (Ok plan.reply)) (sym w.self-is)
             (ended_answered honest failures state c.args.self.now c.decide-decided.new.catalog c.args.command.now plan.reply is_open fetched
             (λ h. subst (λ one. step old c.args.command.now ≡ (after one old, Ok plan.reply)) w.in_default.is (planned h)));
-        holds = subst (Holds honest failures state) (sym w.self-is) c.holds.ensures;
+        holds = subst (KeepsShelf honest failures state) (sym w.self-is) c.holds.ensures;
       }
     ]
 
@@ -173,7 +173,7 @@ returns-clause-unchanged g c = stays_where g.D.Disk.honest g.D.Disk.failures g.D
 
 pub returns-clause-together : goal.returns-clause-together
 returns-clause-together g c = λ h is_open.
-    (let was : Holds g.D.Disk.honest g.D.Disk.failures g.D.Disk.state c.args.self.now =
-    subst (Holds g.D.Disk.honest g.D.Disk.failures g.D.Disk.state) c.self.view_is c.self.invariant in
+    (let was : KeepsShelf g.D.Disk.honest g.D.Disk.failures g.D.Disk.state c.args.self.now =
+    subst (KeepsShelf g.D.Disk.honest g.D.Disk.failures g.D.Disk.state) c.self.view_is c.self.invariant in
     files_together c.law_of_file_pages.ensures.together g.D.Disk.honest g.D.Disk.failures g.D.Disk.state c.args.self.now _ c.args.command.now _
     (well g c).ended was h is_open)
