@@ -1,5 +1,6 @@
 pub mod CommandLineLemmas
 mod Examples
+mod HeadlineTrials
 pub mod FileGiven
 pub mod ParseLemmas
 pub mod DriveLemmas
