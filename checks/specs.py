@@ -16,6 +16,8 @@ fails:
   type alone is read: that there is such a thing is proved by its body. The column *edits* has how
   many must-fail edits stand in the crates whose calls carry the promise; where a call is one of a
   trait, the crates that meet the trait are among them. `--write` writes the numbers into the page.
+- The headline needs fewer than 1,000 lines besides the words that its row names, and what stops
+  leave fewer than 300 besides commands, scripts and the file.
 - A definition, a record or a relation of specs/ has at most six arguments by place: what it says
   of more things it says of a record of them. Arguments in braces do not count, those of a module
   around it do; lemmas are no definitions.
@@ -40,6 +42,8 @@ WORD = re.compile(r"[^\s(){}\[\],;:`\"→λ]+")
 HEAD = re.compile(r"^(\s*)((?:(?:abbrev|unfoldable|pub|record|data|module) +)*)"
                   r"([^\s:{}()]+)((?:\s|$).*)")
 MOST_ARGUMENTS = 6
+# by the first cell of a row, and how its second number is counted
+MOST_LINES = {("headline", "but for"): 999, ("stops", "besides"): 299}
 PROOFS = "docs/PROOFS.md"
 CALL = re.compile(r"\[`([\w:]+)`\]\(([^()\s]+\.rt)\)((?:,?(?: and)? `\w+`)*)")
 READ = re.compile(r"\[`(\w+)`\]\(([^()\s]+\.antt)\)")
@@ -279,6 +283,16 @@ def counts_of(row):
     return [counts, f"{edits_of(row)}"]
 
 
+def too_many(title, counts):
+    """Whether the second number of a row is above what it may be, which is printed."""
+    found = LINES.fullmatch(counts)
+    most = MOST_LINES.get((title, found[3])) if found else None
+    if most is None or int(found[2].replace(",", "")) <= most:
+        return False
+    print(f"{PROOFS}: promise {title} needs more than {most} lines {found[3]} what is known")
+    return True
+
+
 def wrong_counts():
     """Prints the lines of definitions that each promise needs, and its edits, and counts what the
     page has wrong.
@@ -288,6 +302,7 @@ def wrong_counts():
         title = re.sub(r"\[(\w+)\]\(.*?\)", r"\1", row[0])
         counts = counts_of(row)
         print(f"promise {title}: {counts[0]} lines of definitions, {counts[1]} edits")
+        wrong += too_many(title, counts[0])
         if row[4:6] == counts:
             continue
         if "--write" in sys.argv:

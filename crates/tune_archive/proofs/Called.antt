@@ -187,7 +187,8 @@ module _ {D : Type 0} (honest : D → Type 0) (failures : D → ℕ) (state : D 
       }
 
   -- what was decided, of an archive from which texts were read
-  pub decided : (old mid : Shelf D) (command : Command) (plan : Plan) → KeepsShelf old → KeepsShelf mid → old.closed ≡ false → Fetches honest failures state old mid
+  pub decided : (old mid : Shelf D) (command : Command) (plan : Plan) → KeepsShelf old → KeepsShelf mid → old.closed ≡ false
+      → Fetches honest failures state old mid
       → (Tells honest state mid → IsState (state_of state old) → Decides (state_of state old) command (Ok plan)) → HonestAt honest mid.pages.disk
       → step (state_of state old) command ≡ (after plan.change (state_of state old), Ok plan.reply)
   decided old mid command plan was is e fetches decides h =
