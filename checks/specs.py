@@ -12,10 +12,9 @@ fails:
   definitions to read need, imports, comments and empty lines apart. The column *lines to read* of
   that page has this number. In `N, M but for `a` and `b``, M is the number where a and b are taken
   as words, and what these need is not read; in `N, M besides `a``, M is the number of those that a
-  does not need. Of a definition under specs/Inside/ whose type ends in a pair `(name : T) × ..` the
-  type alone is read: that there is such a thing is proved by its body. The column *edits* has how
-  many must-fail edits stand in the crates whose calls carry the promise; where a call is one of a
-  trait, the crates that meet the trait are among them. `--write` writes the numbers into the page.
+  does not need. The column *edits* has how many must-fail edits stand in the crates whose calls
+  carry the promise; where a call is one of a trait, the crates that meet the trait are among them.
+  `--write` writes the numbers into the page.
 - The headline needs fewer than 1,000 lines besides the words that its row names, and what stops
   leave fewer than 300 besides commands, scripts and the file.
 - A definition, a record or a relation of specs/ has at most six arguments by place: what it says
@@ -37,7 +36,6 @@ USE_LIST = re.compile(r"use\s+(Rattle\.[\w.]+)\.\{([^}]*)\}")
 USE_MODULE = re.compile(r"use\s+(Rattle\.[\w.]+?)(?:\s+as\s+(\w+))?;?\s*$", re.M)
 DEFINITION = re.compile(r"^\s{0,4}(?:(?:abbrev|unfoldable|pub|record|data)\s+)+([^\s:{}()]+)")
 FIELD = re.compile(r"^\s+pub \S+ :")
-THERE_IS = re.compile(r"\s(?:→|:)\s+\(\w+ : [^()]*\)\s+× [^→]*$")
 WORD = re.compile(r"[^\s(){}\[\],;:`\"→λ]+")
 HEAD = re.compile(r"^(\s*)((?:(?:abbrev|unfoldable|pub|record|data|module) +)*)"
                   r"([^\s:{}()]+)((?:\s|$).*)")
@@ -82,12 +80,6 @@ class Module:
                 self.definitions.setdefault(name, "")
             if name:
                 self.definitions[name] += line + "\n"
-        # that there is such a thing is proved by its body, and its type says what it is
-        if "/specs/Inside/" in path:
-            for name, whole in self.definitions.items():
-                head = whole.split(f"\n{name} ")[0]
-                if THERE_IS.search(head):
-                    self.definitions[name] = head + "\n"
 
 
 def modules():

@@ -16,7 +16,7 @@ use Rattle.abc_items.specs.Marks.{is_octave_mark, flat_sign, natural_sign, sharp
 use Rattle.abc_keys.specs.ByteRuns.{IsRun}
 use Rattle.abc_items.specs.Grammar.{IsNote, spelling_of}
 use Rattle.abc_items.specs.ItemRows.{own_accidental, is_note_name, note}
-use Rattle.abc_keys.specs.Inside.RunLaw.{front_is_run, run_is_longest}
+use Rattle.abc_keys.proofs.RunLaw.{front_is_run, run_is_longest}
 use Rattle.abc_items.proofs.RowLengths.{IsOfRow, GivesEach}
 
 -- A LETTER IS NO SIGN

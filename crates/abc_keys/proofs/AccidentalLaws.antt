@@ -8,7 +8,7 @@ use Rattle.abc_keys.specs.Signatures.{accidental_at, with_accidental, no_acciden
 use Rattle.abc_keys.specs.Pairs.{Setting, with_settings}
 use Rattle.abc_keys.specs.Accidentals.{SetsItsPairs, SetsNone, LastCounts}
 use Rattle.abc_keys.specs.Inside.PairSteps.{changed_by}
-use Rattle.abc_keys.specs.Inside.PairLaw.{pairs_set, others_change_nothing, is_pairs_or_none}
+use Rattle.abc_keys.proofs.PairLaw.{pairs_set, others_change_nothing, is_pairs_or_none}
 
 -- THE LAST ONE COUNTS
 set_same : (s : Signature) (letter : Letter) (accidental : Accidental) → accidental_at (with_accidental s letter accidental) letter ≡ accidental

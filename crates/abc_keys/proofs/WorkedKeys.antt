@@ -16,7 +16,8 @@ use Rattle.abc_keys.specs.Fifths.{listed_count}
 use Rattle.abc_keys.specs.Keys.{key_of_text}
 use Rattle.abc_keys.specs.KeyCases.{IsModeWord, begins_with_name, HasWord, by_word, by_other_word, HasTonic, none_first, pipes, pipes_with_sharps}
 use Rattle.abc_keys.specs.KeyCases.{modal, explicit, by_case, IsKeyText}
-use Rattle.abc_keys.specs.Inside.KeyCaseLaw.{is_key_text}
+use Rattle.abc_keys.proofs.PairLaw.{are_left}
+use Rattle.abc_keys.proofs.KeyCaseLaw.{is_key_text}
 
 -- a scale by its parts
 abbrev scale : Letter → Sign → Mode → Scale
@@ -32,7 +33,7 @@ sharp_tonic =
     let word : HasWord [] (codes "Mix") [] (codes "Mix") =
     record { blank = refl; some = omega arith; letters = record { all = refl; ends = refl }; whole = refl } in
     let named : IsModeWord (codes "Mix") (AsMode Mixolydian) = begins_with_name _ (codes "mix") [] _ refl refl in
-    by_case _ _ (modal _ _ [] F Sharp Mixolydian (pos 5) tonic (by_word _ [] _ [] _ word refl named) refl)
+    by_case _ _ (modal _ _ [] (scale F Sharp Mixolydian) (pos 5) _ tonic (by_word _ [] _ [] _ word refl named) refl (are_left _ []))
 
 -- D Phrygian, B and E flat, and then F sharp
 sharp_after_the_mode : IsKeyText (codes "D Phr ^f")
@@ -43,7 +44,7 @@ sharp_after_the_mode =
     let word : HasWord (codes " ") (codes "Phr") (codes " ^f") (codes " Phr ^f") =
     record { blank = refl; some = omega arith; letters = record { all = refl; ends = refl }; whole = refl } in
     let named : IsModeWord (codes "Phr") (AsMode Phrygian) = begins_with_name _ (codes "phr") [] _ refl refl in
-    by_case _ _ (modal _ _ (codes " ^f") D Natural Phrygian (negsuc 1) tonic (by_word _ _ _ (codes " ^f") _ word refl named) refl)
+    by_case _ _ (modal _ _ (codes " ^f") (scale D Natural Phrygian) (negsuc 1) _ tonic (by_word _ _ _ (codes " ^f") _ word refl named) refl (are_left _ (codes " ^f")))
 
 -- G major: the word stands before `=`, and is no pair
 word_before_equals : IsKeyText (codes "G m=d") (key.Modal (scale G Natural Major) (record no_accidentals { f = accidental.Sharp }))
@@ -52,7 +53,7 @@ word_before_equals =
     let tonic : HasTonic G Natural (codes " m=d") (codes "G m=d") = record { taken = λ same. refl; follows = refl; whole = refl } in
     let word : HasWord (codes " ") (codes "m") (codes "=d") (codes " m=d") =
     record { blank = refl; some = omega arith; letters = record { all = refl; ends = refl }; whole = refl } in
-    by_case _ _ (modal _ _ (codes " m=d") G Natural Major (pos 1) tonic (by_other_word _ _ _ (codes "=d") word (omega arith) (inl refl)) refl)
+    by_case _ _ (modal _ _ (codes " m=d") (scale G Natural Major) (pos 1) _ tonic (by_other_word _ _ _ (codes "=d") word (omega arith) (inl refl)) refl (are_left _ (codes " m=d")))
 
 -- the accidentals that are set and no others, after any tonic
 explicit_accidentals : IsKeyText (codes "G# exp _b") (key.Explicit (record no_accidentals { b = accidental.Flat }))
@@ -61,7 +62,7 @@ explicit_accidentals =
     let word : HasWord (codes " ") (codes "exp") (codes " _b") (codes " exp _b") =
     record { blank = refl; some = omega arith; letters = record { all = refl; ends = refl }; whole = refl } in
     let named : IsModeWord (codes "exp") Explicit = begins_with_name _ (codes "exp") [] _ refl refl in
-    by_case _ _ (explicit _ _ (codes " _b") G Sharp tonic (by_word _ _ _ (codes " _b") _ word refl named))
+    by_case _ _ (explicit _ _ (codes " _b") G Sharp _ tonic (by_word _ _ _ (codes " _b") _ word refl named) (are_left _ (codes " _b")))
 
 -- pipes: without a signature, and with F and C sharp
 pipes_alone : IsKeyText (codes "HP") (key.Highland no_accidentals)
@@ -72,7 +73,7 @@ sharp_pipes = by_case _ _ (pipes_with_sharps _ (codes " ^g") refl refl)
 
 -- `none`, with blanks round the text
 no_key : IsKeyText (codes " None ^f\t") (key.Bare (record no_accidentals { f = accidental.Sharp }))
-no_key = by_case _ _ (none_first _ (codes "None") (codes " ^f") refl refl refl)
+no_key = by_case _ _ (none_first _ (codes "None") (codes " ^f") _ refl refl refl (are_left _ (codes " ^f")))
 
 -- G sharp major has eight sharps, and a small letter is no tonic: no case says a key
 unlisted_scale : IsKeyText (codes "G#") key.Unread

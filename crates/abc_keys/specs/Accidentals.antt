@@ -1,17 +1,17 @@
 -- The words of a key text that set accidentals (ABC 2.1, 3.1.14; own profile for words of more than
 -- one pair, and for words after a mode word).
-use Rattle.std.specs.Prelude.{◌≡◌, ◌≢◌, ◌⊎◌, ℕ, List, ◌∷◌, ◌++◌}
+use Rattle.std.specs.Prelude.{◌≡◌, ◌≢◌, ◌⊎◌, ℕ, List, ◌∷◌, ◌++◌, None, unwrap_or}
 use Rattle.std.specs.List.{fold, slice_split, AllByRecursion}
 use Rattle.abc_fields.specs.Bytes.{is_blank}
 use Rattle.abc_keys.specs.declared.letters.Letter.{Letter}
 use Rattle.abc_keys.specs.declared.signatures.Signature.{Signature}
 use Rattle.abc_keys.specs.Signatures.{accidental_at}
 use Rattle.abc_keys.specs.Pairs.{Setting, AreSpelled, IsNoPairs, with_settings}
-use Rattle.abc_keys.specs.Inside.PairLaw.{left_by_word}
+use Rattle.abc_keys.specs.Inside.PairSteps.{changed_by}
 
--- what a word leaves of a signature: each word leaves one (`WordLeaves`), and no word leaves two
+-- a word of pairs changes the signature, and another word does nothing
 abbrev pub with_word : Signature → List ℕ → Signature
-with_word s word = (left_by_word s word).0
+with_word s word = unwrap_or (changed_by s None word) s
 
 -- each word of a text in turn; what stands between two blanks next to each other is an empty word,
 -- which does nothing

@@ -1,11 +1,4 @@
 pub mod LetterCounts
-pub mod SameScaleLaw
 pub mod ModeWords
 pub mod PairSteps
-pub mod PairLaw
 pub mod KeySteps
-pub mod RunLaw
-pub mod ModeWordLaw
-pub mod ModeCaseLaw
-pub mod TonicLaw
-pub mod KeyCaseLaw

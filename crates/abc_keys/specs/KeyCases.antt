@@ -9,7 +9,7 @@ use Rattle.abc_keys.specs.declared.letters.Letter.TheVariants.{C, D, E, F, G, A,
 use Rattle.abc_keys.specs.declared.letters.Accidental.TheVariants as accidental
 use Rattle.abc_keys.specs.declared.scales.Sign.{Sign}
 use Rattle.abc_keys.specs.declared.scales.Sign.TheVariants.{Natural, Sharp, Flat}
-use Rattle.abc_keys.specs.declared.scales.Mode.{Mode}
+use Rattle.abc_keys.specs.declared.scales.Scale.{Scale}
 use Rattle.abc_keys.specs.declared.scales.Mode.TheVariants.{Major, Lydian, Mixolydian, Dorian}
 use Rattle.abc_keys.specs.declared.scales.Mode.TheVariants.{Minor, Phrygian, Locrian}
 use Rattle.abc_keys.specs.declared.mode_words.ModeWord.{ModeWord}
@@ -19,7 +19,8 @@ use Rattle.abc_keys.specs.declared.keys.Key.TheVariants as key
 use Rattle.abc_keys.specs.ByteRuns.{IsRun}
 use Rattle.abc_keys.specs.Signatures.{no_accidentals, of_count}
 use Rattle.abc_keys.specs.Fifths.{listed_count}
-use Rattle.abc_keys.specs.Accidentals.{with_words}
+use Rattle.abc_keys.specs.declared.signatures.Signature.{Signature}
+use Rattle.abc_keys.specs.Pairs.{WordsLeave}
 
 -- MODE WORDS
 -- the names of modes and of `exp`: the first three letters of their words
@@ -105,9 +106,9 @@ pub data SaysKey : List ℕ → Key → Type 0 where
   -- nothing
   empty : SaysKey [] (key.Bare no_accidentals)
   -- a first word `none` in any capitals, and words that set accidentals
-  none_first : (text word after : List ℕ) → map to_ascii_lowercase word ≡ codes "none"
-      → ends_part is_blank after ≡ true → text ≡ word ++ after
-      → SaysKey text (key.Bare (with_words no_accidentals after))
+  none_first : (text word after : List ℕ) (s : Signature)
+      → map to_ascii_lowercase word ≡ codes "none" → ends_part is_blank after ≡ true
+      → text ≡ word ++ after → WordsLeave no_accidentals after s → SaysKey text (key.Bare s)
   -- a first word `HP`: the pipes, which no word after it changes
   pipes : (text after : List ℕ) → ends_part is_blank after ≡ true → text ≡ codes "HP" ++ after
       → SaysKey text (key.Highland no_accidentals)
@@ -118,15 +119,14 @@ pub data SaysKey : List ℕ → Key → Type 0 where
       (record no_accidentals { c = accidental.Sharp; f = accidental.Sharp }))
   -- a tonic, its sign and a mode that are listed: its sharps or flats, and then the words that set
   -- accidentals
-  modal : (text rest after : List ℕ) (tonic : Letter) (sign : Sign) (mode : Mode) (count : ℤ)
-      → HasTonic tonic sign rest text → SaysMode rest (AsMode mode) after
-      → listed_count (record { tonic = tonic; sign = sign; mode = mode }) ≡ Some count
-      → SaysKey text (key.Modal (record { tonic = tonic; sign = sign; mode = mode })
-      (with_words (of_count count) after))
+  modal : (text rest after : List ℕ) (scale : Scale) (count : ℤ) (s : Signature)
+      → HasTonic scale.tonic scale.sign rest text → SaysMode rest (AsMode scale.mode) after
+      → listed_count scale ≡ Some count → WordsLeave (of_count count) after s
+      → SaysKey text (key.Modal scale s)
   -- a tonic and `exp`: the accidentals that are set and no others
-  explicit : (text rest after : List ℕ) (tonic : Letter) (sign : Sign)
+  explicit : (text rest after : List ℕ) (tonic : Letter) (sign : Sign) (s : Signature)
       → HasTonic tonic sign rest text → SaysMode rest Explicit after
-      → SaysKey text (key.Explicit (with_words no_accidentals after))
+      → WordsLeave no_accidentals after s → SaysKey text (key.Explicit s)
 
 -- the key that a text says; where no case fits, it is unread
 pub data ReadsAs : List ℕ → Key → Type 0 where

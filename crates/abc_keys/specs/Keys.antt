@@ -6,11 +6,11 @@ use Rattle.abc_keys.specs.declared.scales.Scale.{Scale}
 use Rattle.abc_keys.specs.declared.keys.Key.{Key}
 use Rattle.abc_keys.specs.declared.keys.Key.TheVariants as key
 use Rattle.abc_keys.specs.Signatures.{no_accidentals}
-use Rattle.abc_keys.specs.Inside.KeyCaseLaw.{said_key}
+use Rattle.abc_keys.specs.Inside.KeySteps.{key_read}
 
--- the key that a text says: each text says one key (`IsKeyText`), and no text says two
+-- the key that is read from a text: by its cases (`IsKeyText`) the text says this one and no other
 unfoldable pub key_of_text : List ℕ → Key
-key_of_text text = (said_key text).0
+key_of_text text = key_read text
 
 -- its scale, where it has one
 abbrev pub scale_of : Key → Option Scale

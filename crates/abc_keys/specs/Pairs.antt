@@ -1,6 +1,8 @@
 -- Words of pairs of an accidental and a letter, which set accidentals (ABC 2.1, 3.1.14; own profile
 -- for words of more than one pair).
 use Rattle.std.specs.Prelude.{◌≡◌, ℕ, List, [], ◌∷◌, ◌++◌, Some}
+use Rattle.std.specs.List.{slice_split}
+use Rattle.abc_fields.specs.Bytes.{is_blank}
 use Rattle.abc_keys.specs.declared.letters.Letter.{Letter}
 use Rattle.abc_keys.specs.declared.letters.Accidental.{Accidental}
 use Rattle.abc_keys.specs.declared.signatures.Signature.{Signature}
@@ -37,3 +39,14 @@ pub data WordLeaves (s : Signature) (word : List ℕ) : Signature → Type 0 whe
       → WordLeaves s word (with_settings s pairs)
   -- a word that is no pairs changes nothing
   by_others : IsNoPairs word → WordLeaves s word s
+
+-- what words leave, one after another
+abbrev pub EachLeaves : Signature → List (List ℕ) → Signature → Type 0
+EachLeaves s [] after = after ≡ s
+EachLeaves s (word ∷ words) after =
+    (next : Signature) × WordLeaves s word next × EachLeaves next words after
+
+-- what the words of a text leave, each in turn; what stands between two blanks next to each other
+-- is an empty word, which does nothing
+abbrev pub WordsLeave : Signature → List ℕ → Signature → Type 0
+WordsLeave s text after = EachLeaves s (slice_split is_blank text) after

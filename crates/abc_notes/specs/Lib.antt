@@ -1,5 +1,6 @@
 pub mod Limits
 pub mod Events
+pub mod SaidKeys
 pub mod Pitches
 pub mod Music
 pub mod NoteParts

@@ -12,12 +12,13 @@ use Rattle.abc_keys.specs.declared.letters.Letter.TheVariants.{C}
 use Rattle.abc_keys.specs.declared.signatures.Signature.{Signature}
 use Rattle.abc_fields.specs.Bytes.{is_one_of}
 use Rattle.abc_keys.specs.Letters.{letter_of}
-use Rattle.abc_keys.specs.Keys.{key_of_text, signature_of}
+use Rattle.abc_keys.specs.Keys.{signature_of}
 use Rattle.abc_items.specs.declared.kinds.Kind.{Kind}
 use Rattle.abc_items.specs.declared.kinds.Kind.TheVariants as kind
 use Rattle.abc_items.specs.Grammar.{spelling_of}
 use Rattle.abc_items.specs.ItemRows.{own_accidental}
 use Rattle.abc_items.specs.ItemSpans.{ItemSpan, item_spans_of}
+use Rattle.abc_notes.specs.SaidKeys.{key_said}
 use Rattle.abc_notes.specs.Events.{WrittenNote, Event, note, bar, change}
 
 -- NOTES
@@ -71,7 +72,7 @@ inside_of text = take (length text - 2) (drop 1 text)
 abbrev pub inline_events : List ℕ → List Event
 inline_events (bracket ∷ name ∷ between ∷ rest) =
     if is_one_of (codes "K") name
-    then change (signature_of (key_of_text (take (length rest - 1) rest))) ∷ []
+    then change (signature_of (key_said (take (length rest - 1) rest))) ∷ []
     else []
 inline_events _ = []
 
@@ -92,7 +93,7 @@ music_events base line = line_events base (item_spans_of (uncommented line))
 
 -- TUNES
 abbrev pub key_events : List ℕ → List Event
-key_events line = change (signature_of (key_of_text (field_value line))) ∷ []
+key_events line = change (signature_of (key_said (field_value line))) ∷ []
 
 -- the events of a line of a tune's body: a key changes the signature, other fields, their
 -- continuations, comments and directives mean nothing, and the rest is music
@@ -125,4 +126,4 @@ tune_events text = events_after_header false (lines_of text)
 
 -- the signature with which a tune begins: that of its key text
 abbrev pub tune_signature : List ℕ → Signature
-tune_signature text = signature_of (key_of_text (key_text_of text))
+tune_signature text = signature_of (key_said (key_text_of text))

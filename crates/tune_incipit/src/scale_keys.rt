@@ -21,7 +21,7 @@ impl Keyed<32> for ScaleKeys {
     ghost use Rattle.std.proofs.Common.{sym, ap};
     ghost use Rattle.std.proofs.lemmas.Bool.{true≢false};
     ghost use Rattle.abc_fields.specs.Fields.{key_text_of};
-    ghost use Rattle.abc_keys.specs.Inside.SameScaleLaw.{same_is};
+    ghost use Rattle.abc_keys.proofs.SameScaleLaw.{same_is};
     ghost use Rattle.index_keys.specs.KeyLists.{KeysRise, HasKeyWithin};
     ghost use Rattle.index_keys.proofs.FoundKeys.{one_rises, one_is_within};
     ghost use Rattle.tune_incipit.specs.Scales.{finds_scale, is_scale, scale_of_text};

@@ -12,7 +12,7 @@ use Rattle.abc_fields.specs.Fields.{titles_of, rhythm_of, key_text_of}
 use Rattle.abc_keys.specs.declared.scales.Scale.{Scale}
 use Rattle.abc_keys.specs.SameScales.{same_scale}
 use Rattle.tune_incipit.specs.Incipits.{incipit_of, tune_notes, query_notes}
-use Rattle.abc_keys.specs.Inside.SameScaleLaw.{same_is, same_self}
+use Rattle.abc_keys.proofs.SameScaleLaw.{same_is, same_self}
 use Rattle.tune_incipit.specs.Scales.{scale_of_text, is_scale}
 use Rattle.tune_titles.specs.Articles.{small_letters}
 use Rattle.tune_titles.specs.Titles.{sorting_title, title_matches, same_rhythm}

@@ -1,5 +1,4 @@
--- The key of a text as the code reads it, step by step. That this is the key that the text says is
--- proved beside it.
+-- The key of a text as the code reads it, step by step.
 use Rattle.std.specs.Prelude.{ℕ, ◌||◌, not, if◌then◌else◌, Bool, List, [], ◌∷◌}
 use Rattle.std.specs.Prelude.{codes, nat_eq, Option, Some, None, drop}
 use Rattle.std.specs.List.{prefix_len, take_while}

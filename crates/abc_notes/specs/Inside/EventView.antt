@@ -1,6 +1,7 @@
 -- A note and an event of the code as those that definitions speak of.
 use Rattle.std.specs.Prelude.{List, [], ◌∷◌, Option, Some, None}
-use Rattle.abc_keys.specs.Keys.{key_of_text, signature_of}
+use Rattle.abc_keys.specs.Keys.{signature_of}
+use Rattle.abc_notes.specs.SaidKeys.{key_said}
 use Rattle.abc_notes.specs.declared.events.WrittenNote.{WrittenNote as CodeNote}
 use Rattle.abc_notes.specs.declared.events.Event.{Event as CodeEvent}
 use Rattle.abc_notes.specs.declared.events.Event.TheVariants.{Note, Bar, Change}
@@ -23,7 +24,7 @@ written_note n = record {
 abbrev pub event_of : CodeEvent → Event
 event_of (Note n) = note (written_note n)
 event_of Bar = bar
-event_of (Change text) = change (signature_of (key_of_text text.now))
+event_of (Change text) = change (signature_of (key_said text.now))
 
 -- an event, if there is one, as a list
 abbrev pub events_of : Option CodeEvent → List Event

@@ -3,7 +3,7 @@ use Rattle.abc_keys.specs.Inside.KeySteps.{key_of_trimmed}
 use Rattle.std.proofs.Common.{ap}
 use Rattle.abc_keys.proofs.FifthBounds.{listed_few}
 use Rattle.abc_keys.proofs.CountRule.{in_order}
-use Rattle.abc_keys.specs.Inside.KeyCaseLaw.{is_key_text, no_other_key}
+use Rattle.abc_keys.proofs.KeyCaseLaw.{is_key_text, no_other_key}
 use Rattle.abc_keys.proofs.AccidentalLaws.{sets_its_pairs, last_counts}
 use Rattle.abc_keys.proofs.key_text.key_of.Goals as goal
 
@@ -21,9 +21,7 @@ unfolding key_of_text
 returns-clause-skips_blanks c = λ front back front_blank back_blank. ap key_of_trimmed (c.trim_blanks.ensures.blanks_at_ends front back front_blank back_blank)
 
 pub returns-clause-is_key : goal.returns-clause-is_key
-unfolding key_of_text
 returns-clause-is_key c = is_key_text c.args.text.now
 
 pub returns-clause-no_other_key : goal.returns-clause-no_other_key
-unfolding key_of_text
 returns-clause-no_other_key c = no_other_key c.args.text.now

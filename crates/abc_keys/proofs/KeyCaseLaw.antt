@@ -27,17 +27,18 @@ use Rattle.abc_keys.specs.declared.keys.Key.TheVariants as key
 use Rattle.abc_keys.specs.Signatures.{no_accidentals, of_count}
 use Rattle.abc_keys.specs.Fifths.{listed_count}
 use Rattle.abc_keys.specs.Accidentals.{with_words}
+use Rattle.abc_keys.proofs.PairLaw.{are_left, only_are_left}
+use Rattle.abc_keys.specs.Keys.{key_of_text}
 use Rattle.abc_keys.specs.Inside.ModeWords.{is_word}
 use Rattle.abc_keys.specs.ByteRuns.{IsRun}
 use Rattle.abc_keys.specs.Inside.KeySteps.{is_ink, past, pipes_signature, is_none, key_of_scale}
 use Rattle.abc_keys.specs.Inside.KeySteps.{key_after_tonic, key_with_tonic, key_of_trimmed}
-use Rattle.abc_keys.specs.Inside.KeySteps.{key_read}
 use Rattle.abc_keys.specs.KeyCases.{tonic_text, sign_text, HasTonic, SaysMode, SaysKey, empty}
 use Rattle.abc_keys.specs.KeyCases.{none_first, pipes, pipes_with_sharps, modal, explicit}
 use Rattle.abc_keys.specs.KeyCases.{ReadsAs, by_case, unread, IsKeyText}
-use Rattle.abc_keys.specs.Inside.RunLaw.{front_is_run, run_taken, run_past}
-use Rattle.abc_keys.specs.Inside.ModeCaseLaw.{mode_taken, mode_said}
-use Rattle.abc_keys.specs.Inside.TonicLaw.{TonicOrNone, tonic_taken, tonic_said}
+use Rattle.abc_keys.proofs.RunLaw.{front_is_run, run_taken, run_past}
+use Rattle.abc_keys.proofs.ModeCaseLaw.{mode_taken, mode_said}
+use Rattle.abc_keys.proofs.TonicLaw.{TonicOrNone, tonic_taken, tonic_said}
 
 -- THE FIRST WORD
 -- the key of a text, from its first word and what is past it
@@ -129,18 +130,22 @@ scale_key scale after count is =
 
 only_key : (text : List ℕ) (said : Key) → SaysKey text said → said ≡ key_of_trimmed text
 only_key _ _ empty = refl
-only_key _ _ (none_first text word after is ends whole) =
-    sym (first_found text word after (small_word_ink word (ap (list_all is_ink) is)) ends whole
+only_key _ _ (none_first text word after s is ends whole leave) =
+    ap (λ t. key.Bare t) (only_are_left no_accidentals s after leave)
+    ∙ sym (first_found text word after (small_word_ink word (ap (list_all is_ink) is)) ends whole
     ∙ rw (none_is_none word is) refl)
 only_key _ _ (pipes text after ends whole) =
     sym (first_found text (codes "HP") after refl ends whole)
 only_key _ _ (pipes_with_sharps text after ends whole) =
     sym (first_found text (codes "Hp") after refl ends whole)
-only_key _ _ (modal text rest after tonic sign mode count has says listed) =
-    sym (with_tonic tonic sign rest text has ∙ mode_taken tonic sign rest (AsMode mode) after says
-    ∙ scale_key _ after (Some count) listed)
-only_key _ _ (explicit text rest after tonic sign has says) =
-    sym (with_tonic tonic sign rest text has ∙ mode_taken tonic sign rest Explicit after says)
+only_key _ _ (modal text rest after scale count s has says listed leave) =
+    ap (λ t. key.Modal scale t) (only_are_left (of_count count) s after leave)
+    ∙ sym (with_tonic scale.tonic scale.sign rest text has
+    ∙ mode_taken scale.tonic scale.sign rest (AsMode scale.mode) after says
+    ∙ scale_key scale after (Some count) listed)
+only_key _ _ (explicit text rest after tonic sign s has says leave) =
+    ap (λ t. key.Explicit t) (only_are_left no_accidentals s after leave)
+    ∙ sym (with_tonic tonic sign rest text has ∙ mode_taken tonic sign rest Explicit after says)
 
 -- THE CASE OF A KEY
 -- the key of the text is said by a case, or the text is unread
@@ -160,12 +165,15 @@ by_mode tonic sign rest after text (AsMode mode) has says =
         → listed_count (record { tonic = tonic; sign = sign; mode = mode }) ≡ count
         → SaysOrNone text
     by_count (Some count) listed =
-        found text _ (modal text rest after tonic sign mode count has says listed)
+        found text _
+        (modal text rest after (record { tonic = tonic; sign = sign; mode = mode }) count _ has says
+        listed (are_left (of_count count) after))
     by_count None none =
         inr (with_tonic tonic sign rest text has
         ∙ mode_taken tonic sign rest (AsMode mode) after says ∙ scale_key _ after None none)
 by_mode tonic sign rest after text Explicit has says =
-    found text _ (explicit text rest after tonic sign has says)
+    found text _
+    (explicit text rest after tonic sign _ has says (are_left no_accidentals after))
 
 by_tonic : (text : List ℕ) → key_of_trimmed text ≡ key_with_tonic text → TonicOrNone text
     → SaysOrNone text
@@ -200,8 +208,9 @@ by_word text first after whole ends is some true none = ⊎_elim
     (λ empty_word. absurd (cc))
     (λ said.
     found text _
-    (none_first text first after
-    ((bytes_eq-Decides (map to_ascii_lowercase first) (codes "none")).0 said) ends whole))
+    (none_first text first after _
+    ((bytes_eq-Decides (map to_ascii_lowercase first) (codes "none")).0 said) ends whole
+    (are_left no_accidentals after)))
     (or_cases (pointwise nat_eq first []) (is_word first (codes "none")) none)
 by_word text first after whole ends is some false other =
     by_pipes text first after whole ends is other _ _ refl refl
@@ -221,11 +230,11 @@ says_or_none (byte ∷ text) no_blank =
 -- THE LAW
 never_unread : (text : List ℕ) (said : Key) → SaysKey text said → said ≡ key.Unread → ⊥
 never_unread _ _ empty is = cc
-never_unread _ _ (none_first text word after _ _ _) is = cc
+never_unread _ _ (none_first text word after s _ _ _ _) is = cc
 never_unread _ _ (pipes text after _ _) is = cc
 never_unread _ _ (pipes_with_sharps text after _ _) is = cc
-never_unread _ _ (modal text rest after tonic sign mode count _ _ _) is = cc
-never_unread _ _ (explicit text rest after tonic sign _ _) is = cc
+never_unread _ _ (modal text rest after scale count s _ _ _ _) is = cc
+never_unread _ _ (explicit text rest after tonic sign s _ _ _) is = cc
 
 reads : (text : List ℕ) → SaysOrNone text → ReadsAs text (key_of_trimmed text)
 reads text (inl says) = by_case text (key_of_trimmed text) says
@@ -240,14 +249,16 @@ reads_only _ _ (unread text none) (inl says) = absurd (none (key_of_trimmed text
 reads_only _ _ (unread text none) (inr is) = sym is
 
 -- a text says the key that is read
-pub is_key_text : (text : List ℕ) → IsKeyText text (key_read text)
+pub is_key_text : (text : List ℕ) → IsKeyText text (key_of_text text)
+unfolding key_of_text
 is_key_text text = reads (trimmed text) (says_or_none (trimmed text) (is_trimmed text).first)
 
 -- and no other
-pub no_other_key : (text : List ℕ) (said : Key) → IsKeyText text said → said ≡ key_read text
+pub no_other_key : (text : List ℕ) (said : Key) → IsKeyText text said → said ≡ key_of_text text
+unfolding key_of_text
 no_other_key text said is =
     reads_only (trimmed text) said is (says_or_none (trimmed text) (is_trimmed text).first)
 
--- each text says a key
+-- so there is a key that a text says
 abbrev pub said_key : (text : List ℕ) → (said : Key) × IsKeyText text said
-said_key text = (key_read text, is_key_text text)
+said_key text = (key_of_text text, is_key_text text)

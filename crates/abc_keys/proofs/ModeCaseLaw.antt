@@ -23,8 +23,8 @@ use Rattle.abc_keys.specs.Inside.ModeWords.{mode_of}
 use Rattle.abc_keys.specs.Inside.KeySteps.{past, key_of_scale, key_of_mode, key_after_tonic}
 use Rattle.abc_keys.specs.KeyCases.{IsOtherWord, HasWord, SaysMode, by_word, without_word}
 use Rattle.abc_keys.specs.KeyCases.{by_other_word}
-use Rattle.abc_keys.specs.Inside.RunLaw.{front_is_run, run_taken, run_past}
-use Rattle.abc_keys.specs.Inside.ModeWordLaw.{mode_word_says, said_by_mode_word, no_mode_word}
+use Rattle.abc_keys.proofs.RunLaw.{front_is_run, run_taken, run_past}
+use Rattle.abc_keys.proofs.ModeWordLaw.{mode_word_says, said_by_mode_word, no_mode_word}
 
 -- THE WORD THAT IS FOUND
 -- letters are no blanks

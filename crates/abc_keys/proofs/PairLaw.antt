@@ -1,7 +1,9 @@
--- A word leaves one signature: the one that is read byte by byte.
+-- A word leaves one signature: the one that is read byte by byte. So do the words of a text.
 use Rattle.std.proofs.Common.{arith, ◌≡◌, ◌⊎◌, inl, inr, ℕ, List, [], ◌∷◌, ◌++◌, Bool, true, false}
 use Rattle.std.proofs.Common.{Option, Some, None, refl, sym, ap, ◌∙◌, subst, append_assoc, cond}
 use Rattle.std.specs.Prelude.{unwrap_or}
+use Rattle.std.specs.List.{fold, slice_split}
+use Rattle.abc_fields.specs.Bytes.{is_blank}
 use Rattle.std.specs.Option.{option_map_or}
 use Rattle.std.proofs.lemmas.Bool.Decides.{nat_tests}
 use Rattle.abc_keys.specs.declared.letters.Letter.{Letter}
@@ -13,7 +15,8 @@ use Rattle.abc_fields.specs.Bytes.{is_one_of}
 use Rattle.abc_keys.specs.Letters.{letter_of, spelling, accidental_of, doubled}
 use Rattle.abc_keys.specs.Signatures.{with_accidental}
 use Rattle.abc_keys.specs.Pairs.{Setting, AreSpelled, IsNoPairs, with_settings}
-use Rattle.abc_keys.specs.Pairs.{WordLeaves, by_pairs, by_others}
+use Rattle.abc_keys.specs.Pairs.{WordLeaves, by_pairs, by_others, EachLeaves, WordsLeave}
+use Rattle.abc_keys.specs.Accidentals.{with_word, with_words}
 use Rattle.abc_keys.specs.Inside.PairSteps.{changed_by}
 
 -- WORDS OF PAIRS CHANGE A SIGNATURE
@@ -139,13 +142,9 @@ change_pairs (byte ∷ word) s after (Some a) is =
     (change_pairs word) is
 
 -- THE SIGNATURE THAT A WORD LEAVES
--- the changed one, or the same as before
-abbrev pub read_word : Signature → List ℕ → Signature
-read_word s word = unwrap_or (changed_by s None word) s
-
 -- a word of pairs sets them
 pub pairs_set : (s : Signature) (pairs : List Setting) (word : List ℕ) → AreSpelled pairs word
-    → read_word s word ≡ with_settings s pairs
+    → with_word s word ≡ with_settings s pairs
 pairs_set s pairs word spelled =
     ap (λ changed. unwrap_or changed s) (pairs_change s pairs word spelled)
 
@@ -165,13 +164,13 @@ some_after s word None is none = refl
 some_after s word (Some after) is none =
     let pairs = change_pairs word s after None is in absurd (none pairs.0 pairs.1)
 
-pub others_change_nothing : (s : Signature) (word : List ℕ) → IsNoPairs word → read_word s word ≡ s
+pub others_change_nothing : (s : Signature) (word : List ℕ) → IsNoPairs word → with_word s word ≡ s
 others_change_nothing s word none = some_after s word (changed_by s None word) refl none
 
 -- either way it is the signature that is left
 is_left : (s : Signature) (word : List ℕ)
     → IsNoPairs word ⊎ ((pairs : List Setting) × AreSpelled pairs word)
-    → WordLeaves s word (read_word s word)
+    → WordLeaves s word (with_word s word)
 is_left s word (inl none) =
     subst (λ after. WordLeaves s word after) (sym (others_change_nothing s word none))
     (by_others none)
@@ -179,16 +178,32 @@ is_left s word (inr (pairs, spelled)) =
     subst (λ after. WordLeaves s word after) (sym (pairs_set s pairs word spelled))
     (by_pairs pairs spelled)
 
-pub is_left_by_word : (s : Signature) (word : List ℕ) → WordLeaves s word (read_word s word)
+pub is_left_by_word : (s : Signature) (word : List ℕ) → WordLeaves s word (with_word s word)
 is_left_by_word s word = is_left s word (is_pairs_or_none s word (changed_by s None word) refl)
-
--- each word leaves a signature
-abbrev pub left_by_word : (s : Signature) (word : List ℕ)
-    → (after : Signature) × WordLeaves s word after
-left_by_word s word = (read_word s word, is_left_by_word s word)
 
 -- and no second one
 pub only_left : (s after : Signature) (word : List ℕ) → WordLeaves s word after
-    → after ≡ read_word s word
+    → after ≡ with_word s word
 only_left s _ word (by_pairs pairs spelled) = sym (pairs_set s pairs word spelled)
 only_left s _ word (by_others none) = sym (others_change_nothing s word none)
+
+-- EACH WORD IN TURN
+is_left_by_each : (s : Signature) (words : List (List ℕ))
+    → EachLeaves s words (fold with_word s words)
+is_left_by_each s [] = refl
+is_left_by_each s (word ∷ words) =
+    (with_word s word, is_left_by_word s word, is_left_by_each (with_word s word) words)
+
+only_left_by_each : (s after : Signature) (words : List (List ℕ)) → EachLeaves s words after
+    → after ≡ fold with_word s words
+only_left_by_each s after [] same = same
+only_left_by_each s after (word ∷ words) (next, first, more) =
+    only_left_by_each next after words more
+    ∙ ap (λ t. fold with_word t words) (only_left s next word first)
+
+pub are_left : (s : Signature) (text : List ℕ) → WordsLeave s text (with_words s text)
+are_left s text = is_left_by_each s (slice_split is_blank text)
+
+pub only_are_left : (s after : Signature) (text : List ℕ) → WordsLeave s text after
+    → after ≡ with_words s text
+only_are_left s after text leave = only_left_by_each s after (slice_split is_blank text) leave
