@@ -14,7 +14,7 @@ use Rattle.abc_keys.specs.declared.keys.Key.TheVariants as key
 use Rattle.abc_keys.specs.Signatures.{no_accidentals}
 use Rattle.abc_keys.specs.Fifths.{listed_count}
 use Rattle.abc_keys.specs.Keys.{key_of_text}
-use Rattle.abc_keys.specs.KeyCases.{IsModeWord, begins_with_name, HasWord, by_word, by_other_word, HasTonic, none_first, pipes, pipes_with_sharps}
+use Rattle.abc_keys.specs.KeyCases.{IsModeWord, begins_with_name, HasWord, SaysMode, by_word, by_other_word, HasTonic, none_first, pipes, pipes_with_sharps}
 use Rattle.abc_keys.specs.KeyCases.{modal, explicit, by_case, IsKeyText}
 use Rattle.abc_keys.proofs.PairLaw.{are_left}
 use Rattle.abc_keys.proofs.KeyCaseLaw.{is_key_text}
@@ -44,7 +44,8 @@ sharp_after_the_mode =
     let word : HasWord (codes " ") (codes "Phr") (codes " ^f") (codes " Phr ^f") =
     record { blank = refl; some = omega arith; letters = record { all = refl; ends = refl }; whole = refl } in
     let named : IsModeWord (codes "Phr") (AsMode Phrygian) = begins_with_name _ (codes "phr") [] _ refl refl in
-    by_case _ _ (modal _ _ (codes " ^f") (scale D Natural Phrygian) (negsuc 1) _ tonic (by_word _ _ _ (codes " ^f") _ word refl named) refl (are_left _ (codes " ^f")))
+    let said : SaysMode (codes " Phr ^f") (AsMode Phrygian) (codes " ^f") = by_word _ _ _ (codes " ^f") _ word refl named in
+    by_case _ _ (modal _ _ (codes " ^f") (scale D Natural Phrygian) (negsuc 1) _ tonic said refl (are_left _ (codes " ^f")))
 
 -- G major: the word stands before `=`, and is no pair
 word_before_equals : IsKeyText (codes "G m=d") (key.Modal (scale G Natural Major) (record no_accidentals { f = accidental.Sharp }))
@@ -53,7 +54,8 @@ word_before_equals =
     let tonic : HasTonic G Natural (codes " m=d") (codes "G m=d") = record { taken = λ same. refl; follows = refl; whole = refl } in
     let word : HasWord (codes " ") (codes "m") (codes "=d") (codes " m=d") =
     record { blank = refl; some = omega arith; letters = record { all = refl; ends = refl }; whole = refl } in
-    by_case _ _ (modal _ _ (codes " m=d") (scale G Natural Major) (pos 1) _ tonic (by_other_word _ _ _ (codes "=d") word (omega arith) (inl refl)) refl (are_left _ (codes " m=d")))
+    let said : SaysMode (codes " m=d") (AsMode Major) (codes " m=d") = by_other_word _ _ _ (codes "=d") word (omega arith) (inl refl) in
+    by_case _ _ (modal _ _ (codes " m=d") (scale G Natural Major) (pos 1) _ tonic said refl (are_left _ (codes " m=d")))
 
 -- the accidentals that are set and no others, after any tonic
 explicit_accidentals : IsKeyText (codes "G# exp _b") (key.Explicit (record no_accidentals { b = accidental.Flat }))
