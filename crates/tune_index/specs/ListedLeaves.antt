@@ -38,6 +38,7 @@ pub record ClaimedPages : Type 0 where
   pub pages : List (List ℕ)
   pub claimed : List Bool
 
+-- these pages, with these marks
 abbrev pub pages_claimed : List (List ℕ) → List Bool → ClaimedPages
 pages_claimed pages claimed = record { pages = pages; claimed = claimed }
 
@@ -62,6 +63,7 @@ pub record IndexWithEntries : Type 0 where
   pub shape : Shape
   pub entries : List Entry
 
+-- this index, with these entries
 abbrev pub index_with : Shape → List Entry → IndexWithEntries
 index_with shape entries = record { shape = shape; entries = entries }
 

@@ -19,11 +19,12 @@ runs_in entries = record {
   incipits = entries_held entries.incipits;
 }
 
--- the four indexes and their entries: what memory has of the ones, and the others
+-- The four indexes and their entries: what memory has of the ones, and the others.
 pub record SearchWithEntries : Type 0 where
   pub shape : SearchShape
   pub runs : SearchRuns
 
+-- these four indexes, with these entries
 abbrev pub search_with : SearchShape → SearchRuns → SearchWithEntries
 search_with shape runs = record { shape = shape; runs = runs }
 

@@ -166,6 +166,7 @@ pub record TuneSite : Type 0 where
   pub front : List Part
   pub runs : SearchRuns
 
+-- in this archive, behind these parts
 abbrev pub tune_site : Layout → List (List ℕ) → List Part → SearchRuns → TuneSite
 tune_site layout pages front runs =
     record { layout = layout; pages = pages; front = front; runs = runs }
