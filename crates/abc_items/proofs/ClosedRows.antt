@@ -10,7 +10,7 @@ use Rattle.abc_fields.specs.Bytes.{colon, begins}
 use Rattle.abc_items.specs.Marks.{closing_bracket, is_chord_byte, is_closing_bracket, has_no, opening_bracket}
 use Rattle.abc_keys.specs.ByteRuns.{IsRun}
 use Rattle.abc_items.specs.Grammar.{IsEnclosed, IsInlineField, IsChord}
-use Rattle.abc_items.specs.ItemRows.{up_to, longer, enclosed, inline_field, chord}
+use Rattle.abc_items.specs.Inside.ItemRows.{up_to, longer, enclosed, inline_field, chord}
 use Rattle.abc_keys.proofs.RunLaw.{front_is_run, run_is_longest}
 use Rattle.abc_items.proofs.ClosingMarks.{FindsMark, search_finds, search_passes}
 use Rattle.abc_items.proofs.RowLengths.{IsOfRow, GivesEach, closed_line, closed_length}

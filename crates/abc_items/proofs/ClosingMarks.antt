@@ -8,7 +8,7 @@ use Rattle.std.proofs.lemmas.List.Sums.{prefix_len_is}
 use Rattle.std.specs.List.{prefix_len}
 use Rattle.std.proofs.lemmas.Bool.{eqb-true, eq-eqb, and_parts, and_from, not-true, not_from_false, false_from_ne_true, cases_Bool}
 use Rattle.abc_items.specs.Marks.{closing_brace, closing_bracket, has_no, is_chord_byte, bar_mark, opening_bracket}
-use Rattle.abc_items.specs.ItemRows.{up_to, longer}
+use Rattle.abc_items.specs.Inside.ItemRows.{up_to, longer}
 use Rattle.abc_items.specs.declared.item_rows.Misses.{Misses}
 use Rattle.abc_items.specs.Inside.Misses.{AreMissing}
 

@@ -10,7 +10,7 @@ use Rattle.abc_items.specs.declared.kinds.Front.{Front}
 use Rattle.abc_items.specs.declared.kinds.Kind.{Kind}
 use Rattle.abc_items.specs.declared.kinds.Kind.TheVariants.{Quoted, Decoration, Grace, InlineField, Chord, Tuplet, Note, Bar, Other}
 use Rattle.abc_items.specs.Grammar.{IsEnclosed, Fits, FitsNowhere, IsItem, rank}
-use Rattle.abc_items.specs.ItemRows.{first_item, front, or_else, enclosed, inline_field, chord, tuplet, note}
+use Rattle.abc_items.specs.Inside.ItemRows.{first_item, front, or_else, enclosed, inline_field, chord, tuplet, note}
 use Rattle.abc_items.proofs.RowLengths.{FindsText, row_finds, one_text_of, same_front}
 use Rattle.abc_items.proofs.ClosedRows.{enclosed_gives, enclosed_is, field_gives, field_is, chord_gives, chord_is}
 use Rattle.abc_items.proofs.TupletRow.{tuplet_gives, tuplet_is}

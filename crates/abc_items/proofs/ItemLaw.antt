@@ -2,7 +2,8 @@
 use Rattle.std.proofs.Common.{◌≡◌, ℕ, zero, suc, ◌+◌, ◌-◌, ◌<◌, List, [], ◌∷◌, ◌++◌, length, take, drop, refl, ap, sym, ◌∙◌, arith, subst}
 use Rattle.std.proofs.lemmas.List.{append_cancel_left, length-append, take-append-drop}
 use Rattle.abc_items.specs.Grammar.{ItemText, text_of_items, IsItem, EachIsItem, AreItems}
-use Rattle.abc_items.specs.ItemRows.{first_item, items_after, items_of}
+use Rattle.abc_items.specs.Inside.ItemRows.{first_item, items_after}
+use Rattle.abc_items.specs.ItemSpans.{items_of}
 use Rattle.abc_items.proofs.FirstItem.{first_item_is, item_has_byte, one_item}
 
 -- THE ITEMS OF A TEXT
@@ -80,6 +81,10 @@ same_items (item ∷ items) (also ∷ others) are those same =
 -- a text has no other items
 pub items_unique : (text : List ℕ) (items : List ItemText) → AreItems items text → items ≡ items_of text
 items_unique text items are = let those = items_are text in same_items items (items_of text) are.each those.each (are.whole ∙ sym those.whole)
+
+-- so each text has items
+abbrev pub said_items : (text : List ℕ) → (items : List ItemText) × AreItems items text
+said_items text = (items_of text, items_are text)
 
 -- ONE STEP
 -- skipped bytes are as good as dropped

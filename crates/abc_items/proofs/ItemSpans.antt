@@ -5,9 +5,9 @@ use Rattle.std.specs.List.{All}
 use Rattle.std.proofs.lemmas.List.{append_assoc, length-append, length-take-le}
 use Rattle.std.proofs.Math.Seq.{take-append_seam, drop-append_seam, drop-append-add}
 use Rattle.abc_items.specs.Grammar.{ItemText, text_of_items, IsItem, EachIsItem}
-use Rattle.abc_items.specs.ItemRows.{first_item, items_of}
+use Rattle.abc_items.specs.Inside.ItemRows.{first_item}
 use Rattle.abc_items.specs.declared.kinds.Front.{Front}
-use Rattle.abc_items.specs.ItemSpans.{ItemSpan, item_spans_from, item_spans_of, item_text_of, IsSpanAt, ItemSpansFill, FitsItsRow}
+use Rattle.abc_items.specs.ItemSpans.{items_of, ItemSpan, item_spans_from, item_spans_of, item_text_of, IsSpanAt, ItemSpansFill, FitsItsRow}
 use Rattle.abc_items.proofs.FirstItem.{item_has_byte}
 use Rattle.abc_items.proofs.ItemLaw.{items_are, items_step}
 

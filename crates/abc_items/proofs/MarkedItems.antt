@@ -5,7 +5,7 @@ use Rattle.abc_items.specs.declared.kinds.Kind.TheVariants.{Quoted, Decoration, 
 use Rattle.abc_items.specs.Marks.{quotation_mark, exclamation_mark, plus_sign, opening_brace, closing_brace, opening_bracket, opening_parenthesis}
 use Rattle.abc_items.specs.Marks.{sharp_sign, natural_sign, flat_sign, is_chord_byte}
 use Rattle.std.specs.List.{prefix_len}
-use Rattle.abc_items.specs.ItemRows.{enclosed, inline_field, chord, tuplet, note, front, or_else, first_item}
+use Rattle.abc_items.specs.Inside.ItemRows.{enclosed, inline_field, chord, tuplet, note, front, or_else, first_item}
 
 -- a text by its first byte
 at_mark : (P : List ℕ → Type 0) (mark : ℕ) → ((rest : List ℕ) → P (mark ∷ rest)) → (bytes : List ℕ) → 0 < length bytes → slice_index bytes 0 ≡ mark

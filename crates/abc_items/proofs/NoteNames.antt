@@ -2,7 +2,7 @@
 use Rattle.std.proofs.Common.{◌≡◌, ℕ, zero, suc, ◌<◌, Bool, true, false, refl, arith, inl, inr, subst}
 use Rattle.std.specs.Prelude.{◌&&◌, nat_lt, bit_or, if◌then◌else◌}
 use Rattle.std.proofs.lemmas.Bool.{cases_lt}
-use Rattle.abc_items.specs.ItemRows.{is_note_name}
+use Rattle.abc_items.specs.NoteFronts.{is_note_name}
 
 all_below : (ℕ → Bool) → ℕ → Bool
 all_below f zero = true

@@ -15,7 +15,8 @@ use Rattle.abc_fields.specs.Bytes.{begins}
 use Rattle.abc_items.specs.Marks.{is_octave_mark, flat_sign, natural_sign, sharp_sign}
 use Rattle.abc_keys.specs.ByteRuns.{IsRun}
 use Rattle.abc_items.specs.Grammar.{IsNote, spelling_of}
-use Rattle.abc_items.specs.ItemRows.{own_accidental, is_note_name, note}
+use Rattle.abc_items.specs.Inside.ItemRows.{note}
+use Rattle.abc_items.specs.NoteFronts.{own_accidental, is_note_name}
 use Rattle.abc_keys.proofs.RunLaw.{front_is_run, run_is_longest}
 use Rattle.abc_items.proofs.RowLengths.{IsOfRow, GivesEach}
 

@@ -12,8 +12,9 @@ use Rattle.abc_fields.specs.Bytes.{begins}
 use Rattle.abc_items.specs.declared.kinds.Front.{Front}
 use Rattle.abc_items.specs.declared.kinds.Kind.TheVariants.{Note, Bar, Other}
 use Rattle.abc_items.specs.Marks.{is_bar, is_octave_mark}
-use Rattle.abc_items.specs.ItemRows.{is_note_name, front, first_item, items_of}
-use Rattle.abc_items.specs.ItemSpans.{item_spans_from}
+use Rattle.abc_items.specs.NoteFronts.{is_note_name}
+use Rattle.abc_items.specs.Inside.ItemRows.{front, first_item}
+use Rattle.abc_items.specs.ItemSpans.{items_of, item_spans_from}
 use Rattle.abc_items.specs.Plain.{begins_longer_row, is_plain_byte, begin_plain}
 use Rattle.abc_items.specs.Inside.PlainFronts.{lone_kind, plain_front, alone}
 use Rattle.abc_items.proofs.ItemLaw.{first_item_some, items_step}

@@ -10,7 +10,8 @@ use Rattle.abc_items.specs.declared.kinds.Front.{Front}
 use Rattle.abc_items.specs.declared.kinds.Kind.TheVariants.{Note}
 use Rattle.abc_items.specs.Marks.{quotation_mark, exclamation_mark, plus_sign, opening_brace, closing_brace, opening_bracket, opening_parenthesis, sharp_sign}
 use Rattle.abc_items.specs.Marks.{flat_sign, natural_sign, is_octave_mark}
-use Rattle.abc_items.specs.ItemRows.{own_accidental, is_note_name, enclosed, inline_field, chord, tuplet, note, front, or_else, first_item}
+use Rattle.abc_items.specs.NoteFronts.{own_accidental, is_note_name}
+use Rattle.abc_items.specs.Inside.ItemRows.{enclosed, inline_field, chord, tuplet, note, front, or_else, first_item}
 use Rattle.abc_items.specs.Plain.{begins_longer_row, is_plain_byte}
 use Rattle.abc_items.specs.Inside.PlainFronts.{lone_kind, plain_front}
 

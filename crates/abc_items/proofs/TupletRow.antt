@@ -11,7 +11,7 @@ use Rattle.abc_fields.specs.Bytes.{colon, begins}
 use Rattle.abc_items.specs.Marks.{is_colon, opening_parenthesis}
 use Rattle.abc_keys.specs.ByteRuns.{IsRun}
 use Rattle.abc_items.specs.Grammar.{AreColonParts, IsTuplet}
-use Rattle.abc_items.specs.ItemRows.{colon_part, colon_parts, tuplet}
+use Rattle.abc_items.specs.Inside.ItemRows.{colon_part, colon_parts, tuplet}
 use Rattle.abc_keys.proofs.RunLaw.{front_is_run, run_is_longest, run_before}
 use Rattle.abc_items.proofs.RowLengths.{IsOfRow, GivesEach}
 

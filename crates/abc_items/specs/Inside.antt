@@ -1,3 +1,4 @@
 pub mod FrontLengths
 pub mod Misses
 pub mod PlainFronts
+pub mod ItemRows

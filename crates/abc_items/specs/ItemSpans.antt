@@ -2,7 +2,12 @@
 use Rattle.std.specs.Prelude.{◌≡◌, ℕ, ◌+◌, ◌<◌, ◌≤◌, List, [], ◌∷◌, length, drop, slice_range}
 use Rattle.abc_items.specs.declared.kinds.Kind.{Kind}
 use Rattle.abc_items.specs.Grammar.{ItemText, IsItem, Fits}
-use Rattle.abc_items.specs.ItemRows.{items_of}
+use Rattle.abc_items.specs.Inside.ItemRows.{items_read}
+
+-- the items that are read from a text: by the table (`AreItems`) they are its items, and it has no
+-- others
+abbrev pub items_of : List ℕ → List ItemText
+items_of text = items_read text
 
 -- an item, and where it begins and ends in its text, as indices of bytes from 0
 pub record ItemSpan : Type 0 where

@@ -1,6 +1,6 @@
 pub mod Marks
 pub mod Grammar
-pub mod ItemRows
+pub mod NoteFronts
 pub mod ItemSpans
 pub mod ItemView
 pub mod Plain

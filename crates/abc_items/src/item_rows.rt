@@ -7,9 +7,10 @@ ghost use Rattle.abc_fields.specs.Bytes.{begins};
 ghost use Rattle.abc_items.specs.Marks.{opening_brace, closing_brace, closing_bracket};
 ghost use Rattle.abc_items.specs.Marks.{is_closing_bracket, is_octave_mark, is_chord_byte};
 ghost use Rattle.abc_items.specs.Grammar.{spelling_of, IsNote};
-ghost use Rattle.abc_items.specs.ItemRows.{up_to, enclosed, inline_field, chord, colon_part};
-ghost use Rattle.abc_items.specs.ItemRows.{colon_parts, tuplet, own_accidental, note, first_item};
-ghost use Rattle.abc_items.specs.ItemRows.{is_note_name, front, or_else};
+ghost use Rattle.abc_items.specs.NoteFronts.{own_accidental, is_note_name};
+ghost use Rattle.abc_items.specs.Inside.ItemRows.{up_to, enclosed, inline_field, chord, colon_part};
+ghost use Rattle.abc_items.specs.Inside.ItemRows.{colon_parts, tuplet, note, front, or_else};
+ghost use Rattle.abc_items.specs.Inside.ItemRows.{first_item};
 ghost use Rattle.abc_items.specs.Plain.{begins_longer_row, is_plain_byte};
 ghost use Rattle.abc_items.specs.Inside.FrontLengths.{IsFrontLength};
 ghost use Rattle.abc_items.specs.Inside.Misses.{AreMissing, IsMissing};
@@ -56,7 +57,7 @@ fn up_to_or_miss(bytes: &[u8], closing: u8, missing: &mut bool) -> Option<usize>
 }
 
 // A text between two marks that are the same.
-#[tactic(auto, unfolding(crate::specs::ItemRows::enclosed))]
+#[tactic(auto, unfolding(crate::specs::Inside::ItemRows::enclosed))]
 fn enclosed(bytes: &[u8], mark: u8) -> Option<usize>
     ensures value { result ≡ enclosed mark mark bytes.now }
     ensures within { IsFrontLength bytes.now result }
@@ -68,7 +69,7 @@ fn enclosed(bytes: &[u8], mark: u8) -> Option<usize>
 }
 
 // Grace notes.
-#[tactic(auto, unfolding(crate::specs::ItemRows::enclosed))]
+#[tactic(auto, unfolding(crate::specs::Inside::ItemRows::enclosed))]
 fn grace(bytes: &[u8], missing: &mut bool) -> Option<usize>
     requires { IsMissing closing_brace missing.old bytes.now }
     ensures value { result ≡ enclosed opening_brace closing_brace bytes.now }
@@ -82,7 +83,7 @@ fn grace(bytes: &[u8], missing: &mut bool) -> Option<usize>
 }
 
 // An inline field.
-#[tactic(auto, unfolding(crate::specs::ItemRows::inline_field))]
+#[tactic(auto, unfolding(crate::specs::Inside::ItemRows::inline_field))]
 fn inline_field(bytes: &[u8], missing: &mut bool) -> Option<usize>
     requires { IsMissing closing_bracket missing.old bytes.now }
     ensures value { result ≡ inline_field bytes.now }
@@ -134,7 +135,7 @@ fn begins_with_closing_bracket(bytes: &[u8]) -> bool
 }
 
 // A chord.
-#[tactic(auto, unfolding(crate::specs::ItemRows::chord))]
+#[tactic(auto, unfolding(crate::specs::Inside::ItemRows::chord))]
 fn chord(bytes: &[u8]) -> Option<usize>
     ensures value { result ≡ chord bytes.now }
     ensures within { IsFrontLength bytes.now result }
@@ -184,7 +185,7 @@ fn two_colon_parts(bytes: &[u8]) -> usize
 }
 
 // A tuplet.
-#[tactic(auto, unfolding(crate::specs::ItemRows::tuplet))]
+#[tactic(auto, unfolding(crate::specs::Inside::ItemRows::tuplet))]
 fn tuplet(bytes: &[u8]) -> Option<usize>
     ensures value { result ≡ tuplet bytes.now }
     ensures within { IsFrontLength bytes.now result }
@@ -250,7 +251,7 @@ fn octave_marks(bytes: &[u8]) -> usize
 }
 
 // A note.
-#[tactic(auto, unfolding(crate::specs::ItemRows::note))]
+#[tactic(auto, unfolding(crate::specs::Inside::ItemRows::note))]
 fn note(bytes: &[u8]) -> Option<usize>
     ensures value { result ≡ note bytes.now }
     ensures within { IsFrontLength bytes.now result }
@@ -360,7 +361,7 @@ pub(crate) fn first_item(bytes: &[u8], misses: &mut Misses) -> Front
 }
 
 // The same where the first byte begins one of the longer rows: of that row, or that byte alone.
-#[tactic(auto, unfolding(crate::specs::ItemRows::enclosed))]
+#[tactic(auto, unfolding(crate::specs::Inside::ItemRows::enclosed))]
 fn marked_item(bytes: &[u8], misses: &mut Misses) -> Front
     requires some { 0 < length bytes.now }
     requires mark { IsTrue (begins begins_longer_row bytes.now) }

@@ -1,6 +1,6 @@
 // What an item of a music line is.
 ghost use Rattle.std.specs.Prelude.{◌≡◌};
-ghost use Rattle.abc_items.specs.ItemRows.{front};
+ghost use Rattle.abc_items.specs.Inside.ItemRows.{front};
 
 /// What an item of a music line is: the rows of the table of items, in its order. From each byte on
 /// the first row that fits is taken, as far as it goes.

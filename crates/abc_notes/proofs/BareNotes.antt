@@ -12,7 +12,7 @@ use Rattle.abc_keys.specs.Signatures.{accidental_at}
 use Rattle.abc_items.specs.declared.kinds.Kind.{Kind}
 use Rattle.abc_items.specs.declared.kinds.Kind.TheVariants as kind
 use Rattle.abc_items.specs.Grammar.{spelling_of}
-use Rattle.abc_items.specs.ItemRows.{own_accidental}
+use Rattle.abc_items.specs.NoteFronts.{own_accidental}
 use Rattle.abc_items.specs.ItemSpans.{ItemSpan}
 use Rattle.abc_items.specs.Plain.{is_plain_item, is_plain_byte}
 use Rattle.abc_fields.specs.Bytes.{begins}

@@ -1,6 +1,7 @@
 pub mod Limits
 pub mod Events
 pub mod SaidKeys
+pub mod SaidItems
 pub mod Pitches
 pub mod Music
 pub mod NoteParts

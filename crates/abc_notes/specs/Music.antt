@@ -16,9 +16,10 @@ use Rattle.abc_keys.specs.Keys.{signature_of}
 use Rattle.abc_items.specs.declared.kinds.Kind.{Kind}
 use Rattle.abc_items.specs.declared.kinds.Kind.TheVariants as kind
 use Rattle.abc_items.specs.Grammar.{spelling_of}
-use Rattle.abc_items.specs.ItemRows.{own_accidental}
-use Rattle.abc_items.specs.ItemSpans.{ItemSpan, item_spans_of}
+use Rattle.abc_items.specs.NoteFronts.{own_accidental}
+use Rattle.abc_items.specs.ItemSpans.{ItemSpan}
 use Rattle.abc_notes.specs.SaidKeys.{key_said}
+use Rattle.abc_notes.specs.SaidItems.{spans_said}
 use Rattle.abc_notes.specs.Events.{WrittenNote, Event, note, bar, change}
 
 -- NOTES
@@ -78,7 +79,7 @@ inline_events _ = []
 
 unfoldable pub item_events : ℕ → Kind → ItemSpan → List Event
 item_events base kind.Chord span =
-    chord_events (base + span.from + 1) true (item_spans_of (inside_of span.bytes))
+    chord_events (base + span.from + 1) true (spans_said (inside_of span.bytes))
 item_events base kind.InlineField span = inline_events span.bytes
 item_events base k span = plain_events base true k span
 
@@ -89,7 +90,7 @@ line_events base (span ∷ spans) = item_events base span.kind span ++ line_even
 
 -- a line as music, up to its comment
 abbrev pub music_events : ℕ → List ℕ → List Event
-music_events base line = line_events base (item_spans_of (uncommented line))
+music_events base line = line_events base (spans_said (uncommented line))
 
 -- TUNES
 abbrev pub key_events : List ℕ → List Event

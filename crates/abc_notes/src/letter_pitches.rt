@@ -1,6 +1,6 @@
 // How high letters sound in a signature.
 ghost use Rattle.std.specs.Prelude.{◌≡◌, ℕ, ◌<◌, ◌≤ℤ◌, pos, negsuc, true};
-ghost use Rattle.abc_items.specs.ItemRows.{is_note_name};
+ghost use Rattle.abc_items.specs.NoteFronts.{is_note_name};
 ghost use Rattle.abc_items.specs.ItemView.{item_span};
 ghost use Rattle.abc_keys.specs.declared.signatures.Signature.{Signature as AnySignature};
 ghost use Rattle.abc_notes.specs.Inside.BareNotes.{IsBareNote, bare_note};

@@ -2,7 +2,7 @@
 use Rattle.std.proofs.Common.{◌≡◌, ℕ, List, [], ◌∷◌, ◌++◌, length, refl, subst, sym, ap, zero, suc, codes, arith}
 use Rattle.std.specs.List.{Contains}
 use Rattle.byteorder.specs.Endian.{big_bytes}
-use Rattle.abc_items.specs.ItemRows as Rows
+use Rattle.abc_items.specs.Inside.ItemRows as Rows
 use Rattle.abc_keys.specs.Keys as Keys
 use Rattle.abc_keys.specs.Fifths as Fifths
 use Rattle.abc_notes.specs.Music as Music

@@ -1,6 +1,6 @@
 -- Keys of tunes, computed by the definitions, as they were written out by hand.
 use Rattle.std.proofs.Common.{◌≡◌, List, ℕ, pos, negsuc, [], ◌∷◌, refl, codes}
-use Rattle.abc_items.specs.ItemRows as Rows
+use Rattle.abc_items.specs.Inside.ItemRows as Rows
 use Rattle.abc_keys.specs.declared.letters.Letter.TheVariants as letter
 use Rattle.abc_keys.specs.declared.scales.Mode.TheVariants as mode
 use Rattle.abc_keys.specs.declared.scales.Sign.TheVariants as sign

@@ -7,7 +7,8 @@ use Rattle.abc_items.specs.declared.kinds.Kind.TheVariants.{Note, Bar, Other}
 use Rattle.abc_items.specs.declared.kinds.Front.{Front}
 use Rattle.abc_items.specs.Marks.{is_bar, is_octave_mark}
 use Rattle.abc_items.specs.Plain.{begins_longer_row}
-use Rattle.abc_items.specs.ItemRows.{front, is_note_name}
+use Rattle.abc_items.specs.Inside.ItemRows.{front}
+use Rattle.abc_items.specs.NoteFronts.{is_note_name}
 
 -- an item of one byte
 abbrev pub lone_kind : ℕ → Kind

@@ -3,7 +3,7 @@ use Rattle.std.specs.Prelude.{◌≡◌, ℕ, true, length, slice_index, None}
 use Rattle.abc_keys.specs.declared.signatures.Signature.{Signature}
 use Rattle.abc_keys.specs.Signatures.{accidental_at}
 use Rattle.abc_items.specs.declared.items.Item.{Item}
-use Rattle.abc_items.specs.ItemRows.{own_accidental, is_note_name}
+use Rattle.abc_items.specs.NoteFronts.{own_accidental, is_note_name}
 use Rattle.abc_items.specs.ItemSpans.{ItemSpan}
 use Rattle.abc_notes.specs.Music.{written}
 use Rattle.abc_notes.specs.Pitches.{SoundedNote, sounded}

@@ -1,6 +1,6 @@
 use Rattle.std.proofs.Common.{◌∙◌, ap, sym}
 use Rattle.abc_items.specs.declared.kinds.Kind.TheVariants.{Quoted, Decoration, Grace, InlineField, Chord, Tuplet, Note, Other}
-use Rattle.abc_items.specs.ItemRows.{front, or_else, chord}
+use Rattle.abc_items.specs.Inside.ItemRows.{front, or_else, chord}
 use Rattle.abc_items.proofs.MarkedItems.{quoted_item, exclaimed_item, added_item, grace_item, bracket_item, tuplet_item, sharp_item, flat_item, natural_item}
 use Rattle.abc_items.proofs.item_rows.marked_item.Goals as goal
 

@@ -1,7 +1,7 @@
 use Rattle.std.proofs.Common.{◌≡◌, ◌∙◌, sym, ap, subst, Option, length, ◌<◌, arith}
 use Rattle.std.specs.Prelude.{is_some, IfSome}
 use Rattle.abc_items.specs.declared.kinds.Kind.{Kind}
-use Rattle.abc_items.specs.ItemRows.{first_item, front}
+use Rattle.abc_items.specs.Inside.ItemRows.{first_item, front}
 use Rattle.abc_items.proofs.PlainBytes.{alone_is}
 use Rattle.abc_items.proofs.item_rows.plain_kind.Goals as goal
 

@@ -1,6 +1,6 @@
 use Rattle.abc_items.proofs.ItemLaw.{items_are, items_unique}
 use Rattle.abc_items.proofs.ItemSpans.{spans_fill, spans_have_items, spans_fit}
-use Rattle.abc_items.specs.ItemRows.{items_of}
+use Rattle.abc_items.specs.ItemSpans.{items_of}
 use Rattle.abc_items.proofs.items.Items.new.Goals as goal
 
 pub returns-clause-are_items : goal.returns-clause-are_items

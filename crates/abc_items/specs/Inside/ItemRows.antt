@@ -1,11 +1,10 @@
--- The item at the front of a line, row by row as a length, and the items of a line.
-use Rattle.std.specs.Prelude.{ℕ, zero, suc, ◌+◌, ◌-◌, ◌==◌, ◌&&◌, not, nat_lt, if◌then◌else◌, Bool}
+-- The items of a line as the code reads them: the item at the front, row by row as a length, and
+-- then the others. That they are items by the table, and no others are, is proved in `ItemLaw`.
+use Rattle.std.specs.Prelude.{ℕ, zero, suc, ◌+◌, ◌-◌, ◌==◌, ◌&&◌, not, nat_lt, if◌then◌else◌}
 use Rattle.std.specs.Prelude.{List, [], ◌∷◌, Option, Some, None, take, drop, length}
 use Rattle.std.specs.List.{prefix_len}
-use Rattle.std.specs.Option.{option_map, is_some, unwrap_or}
+use Rattle.std.specs.Option.{option_map}
 use Rattle.std.specs.Char.{is_ascii_alphabetic, is_ascii_digit}
-use Rattle.abc_keys.specs.declared.letters.Accidental.{Accidental}
-use Rattle.abc_keys.specs.Letters.{accidental_of, doubled, letter_of}
 use Rattle.abc_fields.specs.Bytes.{colon, begins}
 use Rattle.abc_items.specs.declared.kinds.Kind.{Kind}
 use Rattle.abc_items.specs.declared.kinds.Kind.TheVariants.{Quoted, Decoration, Grace, InlineField}
@@ -16,6 +15,7 @@ use Rattle.abc_items.specs.Marks.{closing_brace, opening_bracket, closing_bracke
 use Rattle.abc_items.specs.Marks.{opening_parenthesis, is_closing_bracket, is_bar}
 use Rattle.abc_items.specs.Marks.{is_octave_mark, is_chord_byte}
 use Rattle.abc_items.specs.Grammar.{ItemText, spelling_of}
+use Rattle.abc_items.specs.NoteFronts.{own_accidental, is_note_name}
 
 -- THE ROWS: HOW MANY BYTES AT THE FRONT OF A TEXT ARE OF THE ROW, IF SOME ARE
 -- so many bytes more, if there is a length
@@ -71,18 +71,6 @@ tuplet (byte ∷ text) =
     then Some (1 + digits + colon_parts 2 (drop digits text))
     else None
 
--- the accidental that a text begins with: one of two bytes before one of one byte
-abbrev pub own_accidental : List ℕ → Option Accidental
-own_accidental [] = None
-own_accidental (first ∷ []) = accidental_of first
-own_accidental (first ∷ second ∷ text) =
-    option_map (λ accidental. unwrap_or (doubled accidental second) accidental)
-    (accidental_of first)
-
--- a byte that names a letter
-abbrev pub is_note_name : ℕ → Bool
-is_note_name byte = is_some (letter_of byte)
-
 -- a note
 unfoldable pub note : List ℕ → Option ℕ
 note text =
@@ -123,6 +111,6 @@ items_after zero (byte ∷ text) =
     ∷ items_after (item.length - 1) text
 items_after (suc skip) (byte ∷ text) = items_after skip text
 
--- the items of a text
-abbrev pub items_of : List ℕ → List ItemText
-items_of text = items_after 0 text
+-- the items that are read from a text
+abbrev pub items_read : List ℕ → List ItemText
+items_read text = items_after 0 text
