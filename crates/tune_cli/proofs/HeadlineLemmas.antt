@@ -1,10 +1,10 @@
 -- That the headline follows from what the actions on a file promise.
-use Rattle.std.proofs.Common.{◌≡◌, ◌⊎◌, inl, inr, ℕ, ◌<◌, ◌≤◌, false, List, [], ◌∷◌, ◌++◌, Some, Ok, Err, refl, sym, ap, ◌∙◌, subst, arith}
+use Rattle.std.proofs.Common.{◌≡◌, ◌⊎◌, inl, inr, ℕ, ◌≤◌, false, List, [], ◌∷◌, ◌++◌, Some, Ok, Err, refl, sym, subst, arith}
 use Rattle.std.specs.Prelude.{Result, MatchResult}
 use Rattle.std.proofs.lemmas.Bool.Decides.{leb_tells}
 use Rattle.tune_disk.specs.Deeds.{Deed, closed}
 use Rattle.tune_disk.specs.Disk.{DiskState, MayLeave}
-use Rattle.tune_disk.specs.Stops.{LeavesOnly, SinceThen}
+use Rattle.tune_disk.specs.Stops.{SinceThen}
 use Rattle.tune_disk.specs.declared.disk.DeviceFault.{DeviceFault}
 use Rattle.tune_disk.specs.declared.disk.Disk as disk
 use Rattle.tune_journal.specs.Image.{StandsFor}
@@ -23,7 +23,7 @@ use Rattle.tune_format.specs.States.{Holds, IsStateOf}
 use Rattle.tune_format.proofs.StateLemmas.{state_once}
 use Rattle.tune_archive.specs.AsStore.{store_on}
 use Rattle.tune_archive.proofs.Media.{left_now, left_then, left_before}
-use Rattle.tune_archive.specs.Media.{moment_of, LeftAt, LeftFrom}
+use Rattle.tune_archive.specs.Media.{moment_of, LeftAt}
 use Rattle.tune_archive.specs.OpenedArchive.{IsUnopenedArchiveFor, StandsForNoneOrEmpty}
 use Rattle.tune_archive.specs.Shelf.{Shelf, state_of}
 use Rattle.tune_archive.proofs.DiskMoments.{left_of_kind, moment_rises}
@@ -41,7 +41,7 @@ use Rattle.tune_scripts.proofs.TimelineLemmas.{left_by_run}
 use Rattle.tune_cli.specs.Acts.{Deeds, OnFile}
 use Rattle.tune_cli.specs.FileActs.{Makes as MakesOn, Checks, RunsOn, Upgrades, HasNotOpened, HasChecked, HasRun, HasUpgraded}
 use Rattle.tune_cli.specs.FileActs.{HasMade, HasNotMade}
-use Rattle.tune_cli.specs.Headline.{File, HoldsThroughout, IsDone, IsRefused, Makes, DoesOn}
+use Rattle.tune_cli.specs.Headline.{File, HoldsThroughout, IsDone, IsRefused, DoesOn}
 use Rattle.tune_cli.specs.Headline.{IsMade, IsNotMade, RunsInMemory}
 use Rattle.tune_cli.specs.ProgramLines.{WritesLine, reason_bytes, status_of}
 use Rattle.tune_cli.specs.declared.command_line.Action.TheVariants as action
