@@ -25,7 +25,7 @@ use Rattle.tune_format.specs.declared.rows.Row.{Row}
 use Rattle.tune_format.proofs.ChangeLemmas.{row_at_place, has_text}
 use Rattle.tune_format.proofs.TextLemmas.{tune_without, later_held, text_at, rows_count}
 use Rattle.tune_contents.specs.Claimed.{RowsRise}
-use Rattle.tune_contents.specs.KeepsShelf.{label_in, labels_in, HoldsContents}
+use Rattle.tune_contents.specs.Holds.{label_in, labels_in, HoldsContents}
 use Rattle.tune_contents.specs.declared.contents.Contents.{Contents}
 use Rattle.tune_archive.specs.Shelf.{Shelf, state_of, state_on}
 use Rattle.tune_contents.specs.Texts.{HoldsText, HoldsSomeText}

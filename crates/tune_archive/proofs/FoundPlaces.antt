@@ -18,7 +18,7 @@ use Rattle.tune_store.specs.declared.catalog.Label.{Label}
 use Rattle.tune_store.specs.declared.tune.Tune.{Tune}
 use Rattle.tune_store.proofs.PlanLemmas.{label_at, labels_long, no_label}
 use Rattle.tune_format.specs.Filed.{numbered_texts}
-use Rattle.tune_contents.specs.KeepsShelf.{HoldsContents, labels_in}
+use Rattle.tune_contents.specs.Holds.{HoldsContents, labels_in}
 use Rattle.tune_contents.specs.declared.contents.Contents.{Contents}
 use Rattle.tune_archive.specs.Shelf.{Shelf, state_of}
 use Rattle.tune_archive.specs.Inside.Holding.{stand_of, IsShelf}

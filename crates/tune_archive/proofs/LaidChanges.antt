@@ -11,7 +11,7 @@ use Rattle.tune_pages.specs.declared.work.Work.{Work}
 use Rattle.tune_pages.proofs.Looking.{stand_count, stand_marks}
 use Rattle.tune_store.specs.declared.plans.Change.{Change}
 use Rattle.tune_store.specs.Plans.{changed}
-use Rattle.tune_contents.specs.KeepsShelf.{HoldsContents, LaysMemory, Memory, memory_of}
+use Rattle.tune_contents.specs.Holds.{HoldsContents, LaysMemory, Memory, memory_of}
 use Rattle.tune_contents.specs.declared.contents.Contents.{Contents}
 use Rattle.tune_archive.specs.Inside.Changing.{PassesChange, HasLaid}
 use Rattle.tune_archive.specs.Inside.Holding.{stand_of}

@@ -19,7 +19,7 @@ use Rattle.tune_format.specs.States.{IsStateOf, Holds, state_in}
 use Rattle.tune_format.proofs.StateLemmas.{file_read, either_state}
 use Rattle.tune_contents.specs.LayAnswers.{IsLayFault}
 use Rattle.tune_contents.specs.Claimed.{AreRows}
-use Rattle.tune_contents.specs.KeepsShelf.{HoldsContents, HoldsMemory, Memory, memory_of}
+use Rattle.tune_contents.specs.Holds.{HoldsContents, HoldsMemory, Memory, memory_of}
 use Rattle.tune_contents.specs.declared.contents.Contents.{Contents}
 use Rattle.tune_archive.specs.Shelf.{Shelf, state_on, state_of, StandsForOneOf}
 use Rattle.tune_archive.specs.Inside.Changing.{CallsWhere, PassesChange, PassesLaid, HasLaid, StaysKept, StaysWithin}

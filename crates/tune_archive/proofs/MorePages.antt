@@ -12,7 +12,7 @@ use Rattle.tune_store.specs.declared.plans.Change.{Change}
 use Rattle.tune_store.specs.declared.plans.Change.TheVariants.{Add, Put, Take, Move, NewSet, AddPlace, CutPlace, DropSet, Upgrade}
 use Rattle.tune_format.specs.RootOffsets.{most_pages_of}
 use Rattle.tune_format.specs.Filed.{archive_parts}
-use Rattle.tune_contents.specs.KeepsShelf.{HoldsContents}
+use Rattle.tune_contents.specs.Holds.{HoldsContents}
 use Rattle.tune_contents.specs.declared.contents.Contents.{Contents}
 
 -- the layout after a change allows no fewer pages

@@ -11,7 +11,7 @@ use Rattle.tune_store.specs.declared.layout.Layout.{Layout}
 use Rattle.tune_store.specs.declared.layout.Layout.TheVariants.{One, Two}
 use Rattle.tune_store.specs.declared.plans.Change.{Change}
 use Rattle.tune_format.specs.RootOffsets.{most_pages_of}
-use Rattle.tune_contents.specs.KeepsShelf.{HoldsContents}
+use Rattle.tune_contents.specs.Holds.{HoldsContents}
 use Rattle.tune_contents.specs.Most.{most_part_pages, most_used}
 use Rattle.tune_contents.specs.declared.contents.Contents.{Contents}
 use Rattle.tune_archive.specs.Inside.Changing.{StaysWithin}

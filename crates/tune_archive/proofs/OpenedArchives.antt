@@ -39,7 +39,7 @@ use Rattle.tune_format.specs.declared.root.Firsts.{Firsts}
 use Rattle.tune_format.proofs.StateLemmas.{same_layout, file_read, empty_within, empty_state_of, none_among}
 use Rattle.tune_format.proofs.TextLemmas.{none_held}
 use Rattle.tune_contents.specs.Claimed.{AreRows, IsClaimed}
-use Rattle.tune_contents.specs.KeepsShelf.{HoldsContents, KeepsTexts}
+use Rattle.tune_contents.specs.Holds.{HoldsContents, KeepsTexts}
 use Rattle.tune_contents.specs.declared.contents.Contents.{Contents}
 use Rattle.tune_contents.proofs.ClaimListLemmas.{state_some}
 use Rattle.tune_archive.specs.Inside.Holding.{stand_of, HoldsState, IsShelf}

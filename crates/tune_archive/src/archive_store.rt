@@ -27,7 +27,7 @@ impl<D: Disk> Archive<D> {
 }
 
 impl<D: Disk> TuneStore for Archive<D> {
-    ghost use Rattle.std.proofs.Common.{sym, subst};
+    ghost use Rattle.std.proofs.Common.{◌≤◌, sym, subst};
     ghost use Rattle.std.proofs.Math.Nat.{le_trans};
     ghost use Rattle.tune_disk.proofs.Moments.{left_by_present};
     ghost use Rattle.tune_pages.specs.Kept.{HonestAt, state_at, failures_at};

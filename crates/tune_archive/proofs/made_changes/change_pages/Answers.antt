@@ -3,7 +3,7 @@ use Rattle.std.proofs.lemmas.Result.{err_from_is_err_and}
 use Rattle.tune_pages.specs.Kept.{HonestAt, state_at}
 use Rattle.tune_pages.specs.Work.{stand}
 use Rattle.tune_contents.specs.Claimed.{AreRows}
-use Rattle.tune_contents.specs.KeepsShelf.{Memory}
+use Rattle.tune_contents.specs.Holds.{Memory}
 use Rattle.tune_contents.specs.Next.{memory_after}
 use Rattle.tune_archive.specs.Inside.Changing.{PassesChange}
 use Rattle.tune_archive.specs.Inside.Holding.{stand_of}

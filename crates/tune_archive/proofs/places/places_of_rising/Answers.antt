@@ -2,7 +2,7 @@ use Rattle.std.proofs.Common.{◌≡◌, ◌++◌, [], ◌∷◌, Some, None, ge
 use Rattle.std.proofs.lemmas.List.{take_more, take_all}
 use Rattle.tune_store.specs.Candidates.{ArePlacesOf}
 use Rattle.tune_store.proofs.NumberLemmas.{IsNextPlace, places_none, places_more, places_are, above_taken}
-use Rattle.tune_contents.specs.KeepsShelf.{labels_in}
+use Rattle.tune_contents.specs.Holds.{labels_in}
 use Rattle.tune_archive.proofs.FetchLemmas.{labels_rise, label_inside, label_found, label_none}
 use Rattle.tune_archive.proofs.places.places_of_rising.Goals as goal
 use Rattle.tune_archive.proofs.places.places_of_rising.Goals.{in-Some+in_ok-push, in_default}

@@ -1,7 +1,7 @@
 use Rattle.std.proofs.Common.{length, refl, subst, Ok, Err}
 use Rattle.tune_store.specs.Candidates.{HoldsFound, PlacesRise}
 use Rattle.tune_store.specs.Limits.{notes_of}
-use Rattle.tune_contents.specs.KeepsShelf.{labels_in}
+use Rattle.tune_contents.specs.Holds.{labels_in}
 use Rattle.tune_archive.specs.Shelf.{Shelf, state_of, state_on}
 use Rattle.tune_archive.specs.Inside.Fetching.{Fetches, Tells}
 use Rattle.tune_archive.specs.Inside.Holding.{stand_of}

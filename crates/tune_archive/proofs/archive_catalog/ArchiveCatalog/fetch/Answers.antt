@@ -1,7 +1,7 @@
 use Rattle.std.proofs.Common.{◌<◌, refl, ap, sym, subst, length, Some}
 use Rattle.std.specs.Prelude.{Ok, Err}
 use Rattle.tune_format.specs.declared.rows.Row.{Row}
-use Rattle.tune_contents.specs.KeepsShelf.{labels_in}
+use Rattle.tune_contents.specs.Holds.{labels_in}
 use Rattle.tune_archive.specs.Shelf.{Shelf, state_on}
 use Rattle.tune_archive.specs.Inside.Fetching.{HasFetched, Fetches}
 use Rattle.tune_archive.specs.Inside.Holding.{stand_of}
