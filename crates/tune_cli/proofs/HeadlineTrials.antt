@@ -102,6 +102,7 @@ runs_on_another_path {D} disks path other streams deeds status answer more h ask
     not_same rest one was =
         let same = same_front deeds.was (opened other answer ∷ more) (opened (string_bytes path) one ∷ rest) (sym asked ∙ was) in
         apart cc
+
     given : (one : Result D DeviceFault) → MatchResult one
         (λ old. (done : Done D) × deeds.IsNew old × DoesOn disks (action.Run path) streams old done × (status ≡ done.status)
         × (deeds.now ≡ deeds.was ++ opened (string_bytes path) one ∷ closed (string_bytes path) done.disk ∷ []))
