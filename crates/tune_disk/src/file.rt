@@ -22,14 +22,23 @@ use std::snapshot::Snapshot;
 use std::{fs, io};
 use told::Told;
 
+/// What a file is opened for.
+#[derive(Clone, Copy, Debug, PartialEq, Eq)]
+pub enum Access {
+    /// To read alone, beside others that do.
+    Read,
+    /// To read and write, alone.
+    Change,
+}
+
 // How often a file is opened, where its path leads to another each time that one is locked.
 const MOST_OPENINGS: u32 = 8;
 
 /// A file of the operating system, open for reading and writing, and locked as long as it is: no
-/// other `FileDisk` has the same file, in this program or another. (The lock is the system's
-/// `flock`, which binds only those who ask for it.) It is the file to which its path led when it
-/// was locked. Its answers are kept for clauses alone, which speak of files whose answers fit the
-/// history that was handed in at the opening.
+/// other `FileDisk` has the same file, in this program or another; or open to read alone, beside
+/// others that read. (The lock is the system's `flock`, which binds only those who ask for it.) It
+/// is the file to which its path led when it was locked. Its answers are kept for clauses alone,
+/// which speak of files whose answers fit the history that was handed in at the opening.
 ///
 /// A sync that failed is final: each later call is a fault. Linux forgets what an `fdatasync` that
 /// failed did not write, and answers that a second one went well.
@@ -86,7 +95,24 @@ impl<H: FileHistory> FileDisk<H> {
         ensures history { IfOk result
             (λ disk. file_history H.history disk ≡ H.history history.now) }
     {
-        Ok(FileDisk::over(open_locked(rt, path.path_text())?, history))
+        let file = open_locked(rt, path.path_text(), Access::Change)?;
+        Ok(FileDisk::over(file, history))
+    }
+
+    /// As `try_open`, to read alone: the file need not be one that may be written, and its lock is
+    /// one that readers share, so several may have the file at once in this way, and none that
+    /// writes. Each write of such a disk is a fault.
+    pub fn try_open_to_read<R: Files<File = File>, P: AsPath>(
+        rt: &R,
+        path: P,
+        history: &H,
+    ) -> io::Result<FileDisk<H>>
+        ensures opened { IfOk result HasJustOpened }
+        ensures history { IfOk result
+            (λ disk. file_history H.history disk ≡ H.history history.now) }
+    {
+        let file = open_locked(rt, path.path_text(), Access::Read)?;
+        Ok(FileDisk::over(file, history))
     }
 
     /// The file at this path, as it is, or a new empty one where nothing is there. The folder that
@@ -147,9 +173,10 @@ impl<H: FileHistory> FileDisk<H> {
 
 // The file that a path leads to, locked. Between the opening and the lock another program may give
 // the path to another file, which is then opened in the place of the first.
-fn open_locked<R: Files<File = File>>(rt: &R, path: &str) -> io::Result<File> {
+fn open_locked<R: Files<File = File>>(rt: &R, path: &str, access: Access) -> io::Result<File> {
     for _ in 0..MOST_OPENINGS {
-        if let Some(file) = lock(rt, path, open_regular(rt, path)?)? {
+        let file = open_regular(rt, path, access)?;
+        if let Some(file) = lock(rt, path, file, access)? {
             return Ok(file);
         }
     }
@@ -159,7 +186,7 @@ fn open_locked<R: Files<File = File>>(rt: &R, path: &str) -> io::Result<File> {
 // Likewise, and where the path leads to nothing, also after the lock, a new file.
 fn make_locked<R: Files<File = File>>(rt: &R, path: &str) -> io::Result<File> {
     for _ in 0..MOST_OPENINGS {
-        match lock(rt, path, open_or_make(rt, path)?) {
+        match lock(rt, path, open_or_make(rt, path)?, Access::Change) {
             Err(error) if error.kind() == io::ErrorKind::NotFound => {}
             Err(error) => return Err(error),
             Ok(Some(file)) => return Ok(file),
@@ -170,17 +197,19 @@ fn make_locked<R: Files<File = File>>(rt: &R, path: &str) -> io::Result<File> {
 }
 
 // A path that leads to a device or a pipe is not opened at all, since that alone may do something.
-fn open_regular<R: Files<File = File>>(rt: &R, path: &str) -> io::Result<File> {
+fn open_regular<R: Files<File = File>>(rt: &R, path: &str, access: Access) -> io::Result<File> {
     if !fs::metadata(rt, path)?.is_file() {
         return Err(io::ErrorKind::InvalidInput.into());
     }
     let mut how = OpenOptions::new();
-    how.read(true).write(true).open(rt, path)
+    how.read(true)
+        .write(access == Access::Change)
+        .open(rt, path)
 }
 
 // A file that is made follows no link, so it stands in the folder that the path names.
 fn open_or_make<R: Files<File = File>>(rt: &R, path: &str) -> io::Result<File> {
-    match open_regular(rt, path) {
+    match open_regular(rt, path, Access::Change) {
         Err(error) if error.kind() == io::ErrorKind::NotFound => File::create_new(rt, path),
         opened => opened,
     }
@@ -189,12 +218,20 @@ fn open_or_make<R: Files<File = File>>(rt: &R, path: &str) -> io::Result<File> {
 // The file with its lock, which it has until it is closed; or none, where the path leads to another
 // by now. What was opened is asked again whether it is a regular file, since it may be another than
 // the one that was asked before.
-fn lock<R: Files<File = File>>(rt: &R, path: &str, file: File) -> io::Result<Option<File>> {
+fn lock<R: Files<File = File>>(
+    rt: &R,
+    path: &str,
+    file: File,
+    access: Access,
+) -> io::Result<Option<File>> {
     let opened = file.metadata()?;
     if !opened.is_file() {
         return Err(io::ErrorKind::InvalidInput.into());
     }
-    file.try_lock()?;
+    match access {
+        Access::Read => file.try_lock_shared()?,
+        Access::Change => file.try_lock()?,
+    }
     let named = fs::metadata(rt, path)?;
     if named.dev() == opened.dev() && named.ino() == opened.ino() {
         Ok(Some(file))

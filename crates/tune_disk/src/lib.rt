@@ -14,7 +14,7 @@ mod one_fault;
 pub use deed_log::DeedLog;
 pub use disk::{DeviceFault, Disk};
 pub use drive::Drive;
-pub use file::{FileDisk, FileHistory, UnknownHistory};
+pub use file::{Access, FileDisk, FileHistory, UnknownHistory};
 pub use fuse::FuseDisk;
 pub use laws::law_of_stops;
 pub use memory::{MemoryDisk, StopChoice};
