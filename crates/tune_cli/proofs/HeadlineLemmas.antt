@@ -49,7 +49,7 @@ use Rattle.tune_cli.specs.declared.file_actions.Done.{Done}
 
 -- WHAT AN OPENING LEAVES
 -- each file that a stop leaves since then is of the kind
-since_each : (old new : DiskState) (P : List ℕ → Type 0) → SinceThen old new P → (moment : ℕ) (left : List ℕ) → moment_of old ≤ moment
+pub since_each : (old new : DiskState) (P : List ℕ → Type 0) → SinceThen old new P → (moment : ℕ) (left : List ℕ) → moment_of old ≤ moment
     → LeftAt new moment left → P left
 since_each old new P since moment left late at = left_of_kind old new P since left (left_then new moment (moment_of old) left late at)
 
@@ -68,7 +68,7 @@ as_before old left state (inl may) holds = inl may
 as_before old left state (inr same) holds = inr (same_holds old.seen left same.0 state same.1 same.2 holds)
 
 -- the same, of each state
-as_before_each : (old : DiskState) (left : List ℕ) → LeftOrSame old left
+pub as_before_each : (old : DiskState) (left : List ℕ) → LeftOrSame old left
     → MayLeave old.now left ⊎ ((state : State) → Holds old.seen state → Holds left state)
 as_before_each old left (inl may) = inl may
 as_before_each old left (inr same) = inr (λ state holds. same_holds old.seen left same.0 state same.1 same.2 holds)

@@ -1,7 +1,7 @@
 -- Which state the file of an archive holds.
 --
 --   offset         what stands there
---   0              the magic, 8 bytes: ACBTUNE1
+--   0              the magic, 8 bytes: ABCTUNE1
 --   4,096          the gate, 1 byte: open while the log stands for pages, and else closed
 --   8,192          the descriptor: how many pages the log leads to (m), and how many entries it has
 --   12,288         how many pages there are behind a closed gate (n)
