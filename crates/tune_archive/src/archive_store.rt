@@ -5,7 +5,9 @@ ghost use Rattle.tune_store.specs.Answers.{Answers, IsRefusalOf, passed, stays_o
 ghost use Rattle.tune_store.specs.Revisions.{RaisesReplaced};
 ghost use Rattle.tune_store.specs.Step.{step};
 ghost use Rattle.tune_store.specs.StoreStops.{HasFailed};
+ghost use Rattle.tune_store.specs.Labels.{labels_of};
 ghost use Rattle.tune_store.specs.Stores.{StorePasses, standing_of};
+ghost use Rattle.tune_contents.specs.Holds.{labels_in};
 ghost use Rattle.tune_contents.specs.Most.{enough_pages};
 ghost use Rattle.tune_archive.specs.Media.{moment_of, UseFewerSince};
 ghost use Rattle.tune_archive.specs.Shelf.{state_of};
@@ -23,6 +25,15 @@ impl<D: Disk> Archive<D> {
     {
         // For the proof.
         let _closed = self.closed;
+    }
+
+    /// An open archive knows the label of each tune of its state, without reading a text, where its
+    /// disk is honest: what it tells as a `Catalog` is that of its state. It does nothing.
+    pub fn law_of_labels(&self)
+        ensures { self.now.closed ≡ false → HonestAt D.honest self.now.pages.disk
+            → labels_in self.now.contents.rows.items ≡ labels_of (state_of D.state self.now).tunes }
+    {
+        self.holds();
     }
 }
 
