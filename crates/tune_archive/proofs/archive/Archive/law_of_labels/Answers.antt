@@ -1,5 +1,5 @@
 use Rattle.tune_archive.proofs.Called.{tells}
-use Rattle.tune_archive.proofs.archive_store.Archive.law_of_labels.Goals as goal
+use Rattle.tune_archive.proofs.archive.Archive.law_of_labels.Goals as goal
 
 pub returns : goal.returns
 returns g c = λ is_open honest.
