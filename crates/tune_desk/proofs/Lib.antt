@@ -1,0 +1,6 @@
+mod AskLemmas
+mod DeedLists
+mod NameLemmas
+mod PutLemmas
+mod ResultLemmas
+pub mod SpareLemmas

@@ -1,0 +1,6 @@
+pub mod DeskDeeds
+pub mod DeskLog
+pub mod Inside
+pub mod KeptNames
+pub mod Refusals
+pub mod Results

@@ -1,0 +1,16 @@
+//! The files of the front end, by their paths: a list of all that was done with them, and the one
+//! rule by which a result is written to a file.
+#![tactic(auto)]
+
+mod desk;
+mod desk_log;
+mod kept_names;
+mod putting;
+mod refusals;
+mod result_checks;
+mod results;
+
+pub use desk::{Desk, DeskFault, Standing};
+pub use desk_log::DeskLog;
+pub use refusals::{ResultFault, ResultRefusal};
+pub use results::write_result;
