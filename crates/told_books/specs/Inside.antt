@@ -1,0 +1,3 @@
+pub mod LetterTables
+pub mod Rooms
+pub mod Sums

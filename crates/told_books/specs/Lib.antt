@@ -1,0 +1,4 @@
+pub mod FateLines
+pub mod Fates
+pub mod Inside
+pub mod ToldTunes
