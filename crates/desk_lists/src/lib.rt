@@ -1,0 +1,24 @@
+//! Lists of tunes and of set lists, as people and as programs read them, and titles without their
+//! accents and capitals.
+//!
+//! What takes memory says so by an `AllocError`, its only error.
+#![tactic(auto)]
+
+mod folded_words;
+mod folding;
+mod form;
+mod json_lists;
+mod laws;
+mod list_forms;
+mod row_lists;
+mod shown_texts;
+mod tables;
+mod twins;
+
+pub use folded_words::{FoldedWords, begins_folded, has_words_folded};
+pub use folding::folded;
+pub use form::Form;
+pub use laws::law_of_words;
+pub use list_forms::{count_line, place_list, set_list, tune_list};
+pub use shown_texts::text_of;
+pub use twins::{Alike, TwinRow, twin_list};
