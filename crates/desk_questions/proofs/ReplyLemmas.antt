@@ -1,0 +1,72 @@
+-- What the replies to the store's own questions tell.
+use Rattle.std.proofs.Common.{◌≡◌, ℕ, ◌++◌, Bool, true, false, cond, List, map, Option, Some, None, Result, Ok, Err, refl, sym, ap, ◌∙◌, subst}
+use Rattle.std.specs.Prelude.{filter}
+use Rattle.tune_queries.specs.Queries.{matches, is_bad}
+use Rattle.tune_queries.specs.declared.queries.Query.{Query}
+use Rattle.tune_store.specs.Limits.{notes_of}
+use Rattle.tune_store.specs.State.{State, tune_at}
+use Rattle.tune_store.specs.Step.{step}
+use Rattle.tune_store.specs.Questions.{shown, find, found, titled}
+use Rattle.tune_store.specs.declared.tune.Tune.{Tune}
+use Rattle.tune_store.specs.declared.index_rows.IndexRow.{IndexRow}
+use Rattle.tune_store.specs.declared.command.Command.TheVariants.{Show, Find, Titles}
+use Rattle.tune_store.specs.declared.command.Reply.{Reply}
+use Rattle.tune_store.specs.declared.command.Reply.TheVariants.{Shown, Found, Titled}
+use Rattle.tune_store.specs.declared.command.Refusal.{Refusal}
+use Rattle.tune_store.specs.declared.command.Refusal.TheVariants.{BadQuery}
+use Rattle.desk_questions.specs.Inside.QuestionCalls.{tune_or, tune_told}
+
+-- SHOW
+pub shown_ok : (number : ℕ) (there : Option Tune) (reply : Reply) → shown number there ≡ Ok reply
+    → (tune : Tune) × (reply ≡ Shown tune) × (tune_or number there ≡ Ok tune)
+shown_ok number None reply e = absurd cc
+shown_ok number (Some tune) reply e = (tune, cc, refl)
+
+-- the tune that is shown
+pub shown_tune : (number : ℕ) (state : State) (tune : Tune) → (step state (Show number)).1 ≡ Ok (Shown tune) → tune_told number state ≡ Ok tune
+shown_tune number state tune e =
+    let h = shown_ok number (tune_at number state.tunes) (Shown tune) e in
+    let same : tune ≡ h.0 = cc (h.1) in
+    h.2 ∙ ap Ok (sym same)
+
+pub shown_is : (number : ℕ) (state : State) (reply : Reply) (tune : Tune) → (step state (Show number)).1 ≡ Ok reply → reply ≡ Shown tune
+    → tune_told number state ≡ Ok tune
+shown_is number state reply tune e is =
+    let h = shown_ok number (tune_at number state.tunes) reply e in
+    let same : tune ≡ h.0 = cc (h.1, is) in
+    h.2 ∙ ap Ok (sym same)
+
+pub shown_refused : (number : ℕ) (there : Option Tune) (refusal : Refusal) → shown number there ≡ Err refusal → tune_or number there ≡ Err refusal
+shown_refused number None refusal e = cc
+shown_refused number (Some tune) refusal e = absurd cc
+
+-- FIND
+pub found_ok : (notes : ℕ) (query : Query) (tunes : List Tune) (reply : Reply) → find notes query tunes ≡ Ok reply
+    → (is_bad query ≡ false) × (reply ≡ Found (found notes query tunes))
+found_ok notes query tunes reply e = by (is_bad query) refl
+  where
+    by : (b : Bool) → is_bad query ≡ b → (is_bad query ≡ false) × (reply ≡ Found (found notes query tunes))
+    by true bad = absurd (let f : Err BadQuery ≡ Ok reply = rw bad at e in cc)
+    by false good = (good, let f : Ok (Found (found notes query tunes)) ≡ Ok reply = rw good at e in cc)
+
+pub found_refused : (notes : ℕ) (query : Query) (tunes : List Tune) (refusal : Refusal) → find notes query tunes ≡ Err refusal
+    → (is_bad query ≡ true) × (refusal ≡ BadQuery)
+found_refused notes query tunes refusal e = by (is_bad query) refl
+  where
+    by : (b : Bool) → is_bad query ≡ b → (is_bad query ≡ true) × (refusal ≡ BadQuery)
+    by true bad = (bad, let f : Err BadQuery ≡ Err refusal = rw bad at e in cc)
+    by false good = absurd (let f : Ok (Found (found notes query tunes)) ≡ Err refusal = rw good at e in cc)
+
+pub same_rows : (rows others : List IndexRow) → Found rows ≡ Found others → rows ≡ others
+same_rows rows others e = cc
+
+-- TITLES
+pub titles_given : (tunes : List Tune) (refusal : Refusal) (answer : Result Reply Refusal) → answer ≡ Ok (Titled (titled tunes)) → answer ≡ Err refusal → ⊥
+titles_given tunes refusal answer e f = cc
+
+pub titled_ok : (tunes : List Tune) (reply : Reply) (answer : Result Reply Refusal) → answer ≡ Ok (Titled (titled tunes)) → answer ≡ Ok reply
+    → reply ≡ Titled (titled tunes)
+titled_ok tunes reply answer e f = cc
+
+pub same_titles : (rows others : List IndexRow) → Titled rows ≡ Titled others → rows ≡ others
+same_titles rows others e = cc

@@ -1,0 +1,28 @@
+use Rattle.std.proofs.Common.{◌≡◌, ◌≤◌, ◌<◌, ◌++◌, [], ◌∷◌, Ok, Err, true, false, map, take, drop, length, rules, refl, sym, ap, ◌∙◌, subst, arith, append-nil}
+use Rattle.std.proofs.Common.{append_assoc, codes}
+use Rattle.desk_questions.proofs.CallLemmas.{goes_none, goes_on, good_of, call_ok, call_err, call_no_memory, call_refused, call_refused_by, call_same}
+use Rattle.desk_questions.specs.Told.{shown_tunes}
+use Rattle.desk_questions.proofs.RowLemmas.{told_refused, told_shown}
+use Rattle.desk_questions.specs.Inside.QuestionCalls.{AreWritten}
+use Rattle.desk_questions.proofs.told_answers.show.Goals as goal
+
+pub returns-in_err-write_tunes : goal.returns-in_err-write_tunes
+returns-in_err-write_tunes g c =
+    let k = g.S.TuneStore in
+    call_err k _ _ _ _ _ _ _ (goes_none k _) c.in_err-write_tunes.ensures
+    (λ is_open honest refused. told_refused shown_tunes _ _ refused) (search rules)
+
+pub returns-in_err-without_first : goal.returns-in_err-without_first
+returns-in_err-without_first g c =
+    let k = g.S.TuneStore in
+    call_no_memory k _ _ _ _ (goes_on k _ _ _ _ _ (goes_none k c.args.store.now) c.in_ok-write_tunes.ensures) (search rules)
+
+pub returns : goal.returns
+returns g c =
+    let k = g.S.TuneStore in
+    let start = goes_none k c.args.store.now in
+    call_ok k _ _ _ _ (goes_on k _ _ _ _ _ start c.in_ok-write_tunes.ensures)
+    (λ is_open honest.
+    let none : c.new-bytes.result.items ≡ [] = search rules in
+    let are = good_of k _ _ _ _ _ start c.in_ok-write_tunes.ensures is_open honest in
+    told_shown c.args.numbers.now _ _ (rw none at are) ∙ ap Ok (ap (drop 1) (sym c.as_slice.ensures.value) ∙ sym c.in_ok-without_first.ensures))

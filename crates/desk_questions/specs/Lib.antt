@@ -1,0 +1,4 @@
+pub mod Asking
+pub mod Conditions
+pub mod Inside
+pub mod Told

@@ -1,0 +1,17 @@
+//! Questions over a store of tunes, and the bytes that are told.
+//!
+//! A question is a few of the store's own questions, one after another: it changes nothing. What
+//! is told is a function of what the store stands for (`specs/Told.antt`), whatever the store.
+#![tactic(auto)]
+
+mod conditions;
+mod found_numbers;
+mod numbers;
+mod question;
+mod shelf;
+mod store_questions;
+mod told_answers;
+
+pub use conditions::Condition;
+pub use question::Question;
+pub use told_answers::tell;
