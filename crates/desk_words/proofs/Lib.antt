@@ -1,0 +1,4 @@
+pub mod CommandLemmas
+pub mod EachLemmas
+pub mod ParseLemmas
+pub mod NumberLemmas

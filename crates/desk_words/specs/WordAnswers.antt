@@ -1,0 +1,70 @@
+-- Why words ask for nothing, and what it is that a call gives just what words ask for.
+use Rattle.std.specs.Prelude.{◌≡◌, ℕ, Option, Some, None, Result, Ok, Err, MatchOption}
+use Rattle.std.specs.Prelude.{string_bytes}
+use Rattle.clap.specs.Words.{Text, kind_of}
+use Rattle.clap.specs.declared.error.kind.ErrorKind.{ErrorKind}
+use Rattle.clap.specs.declared.error.kind.ErrorKind.TheVariants.{DisplayHelp, DisplayVersion}
+use Rattle.clap.specs.declared.error.kind.ErrorKind.TheVariants.{OutOfMemory}
+use Rattle.desk_words.specs.declared.sought_conditions.SoughtKind.{SoughtKind}
+use Rattle.desk_words.specs.declared.asked.OrderFault.{OrderFault}
+use Rattle.desk_words.specs.declared.asked.OrderFault.TheVariants as fault
+
+-- why words that parse ask for nothing
+pub data Refusal : Type 0 where
+  missing : Refusal
+  nothing_asked : Refusal
+  kind_alone : SoughtKind → Refusal
+  within_alone : Refusal
+  key_alone : Refusal
+  two_forms : Refusal
+  name_and_tunes : Refusal
+  no_number : Text → Refusal
+  no_name : Text → Refusal
+  empty_file : Refusal
+  empty_path : Refusal
+
+-- the second is asked with the value of the first, where that has one
+abbrev pub and_then : {A B : Type 0} → Result A Refusal → (A → Result B Refusal) → Result B Refusal
+and_then (Ok value) next = next value
+and_then (Err refusal) next = Err refusal
+
+-- the refusal that a fault tells; none where the fault is the parser's
+abbrev pub refusal_of : OrderFault → Option Refusal
+refusal_of (fault.Clap error) = None
+refusal_of fault.Missing = Some missing
+refusal_of fault.NothingAsked = Some nothing_asked
+refusal_of (fault.KindAlone kind) = Some (kind_alone kind)
+refusal_of fault.WithinAlone = Some within_alone
+refusal_of fault.KeyAlone = Some key_alone
+refusal_of fault.TwoForms = Some two_forms
+refusal_of fault.NameAndTunes = Some name_and_tunes
+refusal_of (fault.NoNumber word) = Some (no_number (string_bytes word))
+refusal_of (fault.NoName word) = Some (no_name (string_bytes word))
+refusal_of fault.EmptyFile = Some empty_file
+refusal_of fault.EmptyPath = Some empty_path
+
+-- out of memory, which the parser reports as its own error
+abbrev pub IsOutOfMemory : OrderFault → Type 0
+IsOutOfMemory (fault.Clap error) = kind_of error ≡ OutOfMemory
+IsOutOfMemory _ = ⊥
+
+-- The fault is the refusal that is wanted, or out of memory.
+abbrev pub Refuses : {B : Type 0} → Result B Refusal → OrderFault → Type 0
+Refuses wanted fault =
+    MatchOption (refusal_of fault) (IsOutOfMemory fault) (λ refusal. wanted ≡ Err refusal)
+
+-- A call gives the value that is wanted, or refuses as is wanted, or runs out of memory.
+abbrev pub Gives : {A B : Type 0} → (A → B) → Result B Refusal → Result A OrderFault → Type 0
+Gives view wanted (Ok value) = wanted ≡ Ok (view value)
+Gives view wanted (Err fault) = Refuses wanted fault
+
+-- the status that goes with a kind of error
+abbrev pub status_of_kind : ErrorKind → ℕ
+status_of_kind DisplayHelp = 0
+status_of_kind DisplayVersion = 0
+status_of_kind OutOfMemory = 1
+status_of_kind _ = 2
+
+abbrev pub status_of_fault : OrderFault → ℕ
+status_of_fault (fault.Clap error) = status_of_kind (kind_of error)
+status_of_fault _ = 2

@@ -1,0 +1,262 @@
+// What the program is asked to do, and what is told where the words ask for nothing.
+
+ghost use Rattle.std.specs.Prelude.{◌≡◌, [], IfOk, IfErr, IsOk, Ok, Some, map, string_bytes};
+ghost use Rattle.std.specs.Prelude.{option_map};
+ghost use Rattle.clap.specs.Words.{rows_of, found_of, subcommand_rows_of};
+ghost use Rattle.desk_words.specs.WordAnswers.{Gives, status_of_fault};
+ghost use Rattle.desk_words.specs.Arranged.{arranged};
+ghost use Rattle.desk_words.specs.AskedWords.{asked_by, asked_in, asked_of, faults_in, file_by};
+ghost use Rattle.desk_words.specs.AskedWords.{wait_by};
+ghost use Rattle.desk_words.specs.AskedWords.{order_by, FaultFits};
+ghost use Rattle.desk_words.specs.OrderMeanings.{meaning_by};
+ghost use Rattle.desk_words.specs.Inside.Sorting.{texts_of};
+
+use crate::arranging::arranged;
+use crate::desk_commands::command_line;
+use crate::found::{number, value};
+use crate::order_meanings::order_named;
+use crate::sought_conditions::SoughtKind;
+use clap::error::ErrorKind;
+use clap::{ArgMatches, Error};
+use desk_questions::Question;
+use std::alloc::{AllocError, AllocFailed, Global};
+use std::io;
+
+/// The version of the program: `tunes-book --version` prints it.
+pub const VERSION: &str = "0.1.0";
+
+/// Where a result goes.
+#[derive(Debug, PartialEq, Eq, Drop)]
+pub struct Target {
+    /// A path, taken as it stands; `-` is standard output.
+    pub out: String,
+    /// Whether a file that stands there may be written over.
+    pub force: bool,
+}
+
+/// What the program is asked to do.
+#[derive(Debug, PartialEq, Eq, Drop)]
+pub enum Order {
+    /// Answer a question, on standard output.
+    Tell(Question),
+    /// Write what answers a question to a file.
+    Write { question: Question, target: Target },
+    /// Open the archive, and tell how much it holds.
+    Check,
+    /// Write a tune to a new file, and print its revision.
+    Draft { number: u32, out: String },
+    /// Write standard input to a file, by the rule of all results.
+    Place(Target),
+    /// Tell what of books would be taken in. `-` is standard input, and a folder stands for its
+    /// books.
+    CheckBooks(Vec<String>),
+    /// Answer a script of questions, from standard input.
+    Ask,
+}
+
+/// The order, and the archive that it is for.
+#[derive(Debug, Drop)]
+pub struct Words {
+    /// The path of the archive, where one was given.
+    pub file: Option<String>,
+    /// How many seconds to wait while another program has the archive.
+    pub wait: u32,
+    /// What is asked.
+    pub order: Order,
+}
+
+/// Why words ask for nothing.
+#[derive(Drop)]
+pub enum OrderFault {
+    /// The words do not parse, help or the version was asked for, or out of memory: the error tells
+    /// which, and has a text to print.
+    Clap(Error),
+    /// They parse, and have no command.
+    Missing,
+    /// `find` has no words, and no option that says what tunes are found by.
+    NothingAsked,
+    /// A kind alone stands where words are asked for.
+    KindAlone(SoughtKind),
+    /// `--within` has no words.
+    WithinAlone,
+    /// `--in` is given without notes.
+    KeyAlone,
+    /// Both `--json` and `--csv` are given.
+    TwoForms,
+    /// A set list and `--tune` are both given.
+    NameAndTunes,
+    /// This is no number of one to nine digits.
+    NoNumber(String),
+    /// This is no name of a set list.
+    NoName(String),
+    /// The FILE of `-f` is empty.
+    EmptyFile,
+    /// A path is empty.
+    EmptyPath,
+}
+
+impl From<AllocError> for OrderFault {
+    ghost use Rattle.desk_words.specs.WordAnswers.{IsOutOfMemory};
+
+    ghost from_gives = { λ _ fault. IsOutOfMemory fault };
+
+    fn from(e: AllocError) -> OrderFault {
+        OrderFault::Clap(Error::from(e))
+    }
+}
+
+impl<T: Drop> From<AllocFailed<T>> for OrderFault {
+    ghost use Rattle.desk_words.specs.WordAnswers.{IsOutOfMemory};
+
+    ghost from_gives = { λ _ fault. IsOutOfMemory fault };
+
+    fn from(e: AllocFailed<T>) -> OrderFault {
+        OrderFault::Clap(Error::from(AllocError::from(e)))
+    }
+}
+
+// The path of the archive.
+fn file(alloc: Global, word: Option<&str>) -> Result<Option<String>, OrderFault>
+    ensures { Gives (option_map string_bytes)
+        (file_by (option_map (λ word. word.now) word.entry)) result }
+{
+    match word {
+        None => Ok(None),
+        Some(word) => {
+            if word.is_empty() {
+                return Err(OrderFault::EmptyFile);
+            }
+            let path = String::from_str(alloc, word)?;
+            Ok(Some(path))
+        }
+    }
+}
+
+// How long to wait.
+fn wait(alloc: Global, word: Option<&str>) -> Result<u32, OrderFault>
+    ensures { Gives (λ seconds. seconds)
+        (wait_by (option_map (λ word. word.now) word.entry)) result }
+{
+    match word {
+        None => Ok(0),
+        Some(word) => number(alloc, word),
+    }
+}
+
+// The order of the command.
+fn order_in(alloc: Global, matches: &ArgMatches, chance: u64) -> Result<Order, OrderFault>
+    ensures { Gives meaning_by (order_by chance (subcommand_rows_of matches.now)) result }
+{
+    match matches.subcommand() {
+        None => Err(OrderFault::Missing),
+        Some((name, found)) => order_named(alloc, name, found, chance),
+    }
+}
+
+// What is asked by what the parser found.
+fn asked_in(alloc: Global, matches: &ArgMatches, chance: u64) -> Result<Words, OrderFault>
+    ensures { Gives asked_by
+        (asked_in chance (rows_of (found_of matches.now)) (subcommand_rows_of matches.now)) result }
+{
+    let file = file(alloc, value(matches, "file"))?;
+    let wait = wait(alloc, value(matches, "wait"))?;
+    let order = order_in(alloc, matches, chance)?;
+    Ok(Words { file, wait, order })
+}
+
+// What is asked by words as the parser is given them.
+fn asked_of(alloc: Global, words: &[&str], chance: u64) -> Result<Words, OrderFault>
+    ensures asked { IfOk result (λ asked.
+        asked_of chance (texts_of words.now) ≡ Ok (asked_by asked)) }
+    ensures parsed { IfOk result (λ _. faults_in (texts_of words.now) ≡ []) }
+    ensures fault { IfErr result (FaultFits chance (texts_of words.now)) }
+{
+    match command_line(alloc)?.try_get_matches_from(words) {
+        Ok(matches) => asked_in(alloc, &matches, chance),
+        Err(error) => Err(OrderFault::Clap(error)),
+    }
+}
+
+/// What the words of the program ask for, its name being the first of them. `chance` chooses the
+/// tune of `random`.
+///
+/// The parser is given the words as `arranged` puts them. The error is `Clap` where they do not
+/// parse then, where help or the version is asked for, and out of memory; each other error says
+/// why words that parse ask for nothing.
+pub fn words_of(alloc: Global, words: &[String], chance: u64) -> Result<Words, OrderFault>
+    ensures asked { let given = arranged (map string_bytes words.now) in
+        IfOk result (λ asked. asked_of chance given ≡ Ok (asked_by asked)) }
+    ensures parsed { let given = arranged (map string_bytes words.now) in
+        IfOk result (λ _. faults_in given ≡ []) }
+    ensures fault { let given = arranged (map string_bytes words.now) in
+        IfErr result (FaultFits chance given) }
+{
+    let arranged = arranged(alloc, words)?;
+    asked_of(alloc, arranged.as_slice(), chance)
+}
+
+fn kind_text(kind: SoughtKind) -> &'static str {
+    match kind {
+        SoughtKind::Title => "title",
+        SoughtKind::Rhythm => "rhythm",
+        SoughtKind::Key => "key",
+        SoughtKind::Notes => "notes",
+    }
+}
+
+// Tells a fault that is not the parser's.
+fn say<T: Eprint>(rt: &T, fault: &OrderFault) -> io::Result<()> {
+    let lists = "`tunes-book --help` lists the commands";
+    match fault {
+        OrderFault::Clap(_) => Ok(()),
+        OrderFault::Missing => eprintln!(rt; "tunes-book: no command is given; {lists}"),
+        OrderFault::NothingAsked => eprintln!(rt; "tunes-book: find asks for words; {lists}"),
+        OrderFault::KindAlone(kind) => {
+            let kind = kind_text(*kind);
+            eprintln!(rt;
+                "tunes-book: find {kind} asks for words; for a title {kind}, say find title {kind}"
+            )
+        }
+        OrderFault::WithinAlone => eprintln!(rt; "tunes-book: --within asks for words"),
+        OrderFault::KeyAlone => eprintln!(rt; "tunes-book: --in is for notes, and none are given"),
+        OrderFault::TwoForms => {
+            eprintln!(rt; "tunes-book: --json and --csv are both given; say one of them")
+        }
+        OrderFault::NameAndTunes => {
+            eprintln!(rt; "tunes-book: a set list and --tune are both given; say one of them")
+        }
+        OrderFault::NoNumber(word) => eprintln!(rt; "tunes-book: '{word}' is no number"),
+        OrderFault::NoName(word) => {
+            eprintln!(rt; "tunes-book: '{word}' is no name of a set list")
+        }
+        OrderFault::EmptyFile => eprintln!(rt; "tunes-book: the FILE of -f is empty"),
+        OrderFault::EmptyPath => eprintln!(rt; "tunes-book: a path is empty"),
+    }
+}
+
+/// Prints why words ask for nothing, and gives the status: help and the version, on standard
+/// output, with 0; out of memory, there too, with 1; anything else on standard error, with 2, also
+/// where that cannot be written. The error is that of standard output.
+pub fn report<T: Print + Eprint>(rt: &T, fault: &OrderFault) -> io::Result<u8>
+    ensures status { IfOk result (λ status. status ≡ status_of_fault fault.now) }
+    ensures bad_words { status_of_fault fault.now ≡ 2 → IsOk result }
+{
+    let OrderFault::Clap(error) = fault else {
+        let _ = say(rt, fault);
+        return Ok(2);
+    };
+    match error.kind() {
+        ErrorKind::OutOfMemory => {
+            println!(rt; "refused 21 OutOfMemory")?;
+            Ok(1)
+        }
+        ErrorKind::DisplayHelp | ErrorKind::DisplayVersion => {
+            error.print(rt)?;
+            Ok(0)
+        }
+        _ => {
+            let _ = error.print(rt);
+            Ok(2)
+        }
+    }
+}

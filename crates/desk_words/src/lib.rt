@@ -1,0 +1,12 @@
+//! The words of the program, and what they ask for.
+#![tactic(auto)]
+
+mod arranging;
+mod asked;
+mod desk_commands;
+mod found;
+mod order_meanings;
+mod sought_conditions;
+
+pub use asked::{Order, OrderFault, Target, VERSION, Words, report, words_of};
+pub use sought_conditions::SoughtKind;

@@ -1,0 +1,267 @@
+// What a command asks for.
+ghost use Rattle.std.specs.Prelude.{◌≡◌, map, Some, None, Ok, option_map};
+ghost use Rattle.clap.specs.Words.{rows_of, found_of};
+ghost use Rattle.desk_words.specs.WordAnswers.{Gives};
+ghost use Rattle.desk_words.specs.SoughtConditions.{sought_by};
+ghost use Rattle.desk_words.specs.OrderMeanings.{asking_by, place_by, meaning_by, verb_of};
+ghost use Rattle.desk_words.specs.OrderMeanings.{finds_in};
+ghost use Rattle.desk_words.specs.OrderMeanings.{some_sought, counts_in, chooses_in, lists_in};
+ghost use Rattle.desk_words.specs.OrderMeanings.{set_in};
+ghost use Rattle.desk_words.specs.OrderMeanings.{shows_in, exports_by, exports_in, place_in};
+ghost use Rattle.desk_words.specs.OrderMeanings.{writing};
+ghost use Rattle.desk_words.specs.OrderMeanings.{drafts_in, meaning_of, meaning_named, telling};
+ghost use Rattle.desk_words.specs.OrderMeanings.{lists_titles, lists_sets, books_in};
+ghost use Rattle.desk_words.specs.OrderMeanings.{places_in};
+ghost use Rattle.desk_words.specs.Inside.Sorting.{texts_of};
+
+use crate::asked::{Order, OrderFault, Target};
+use crate::found::{first_given, form, given, is_set, name, number, numbers, path, paths, value};
+use crate::sought_conditions::conditions;
+use clap::ArgMatches;
+use desk_questions::{Condition, Question};
+use std::alloc::Global;
+
+// The commands.
+#[derive(Clone, Copy, Debug, PartialEq, Eq)]
+pub(crate) enum Verb {
+    Find,
+    Count,
+    Random,
+    Titles,
+    Sets,
+    Set,
+    Show,
+    Check,
+    Export,
+    ImportCheck,
+    Place,
+    Draft,
+    Ask,
+}
+
+fn verb_of(name: &str) -> Option<Verb>
+    ensures { result ≡ verb_of name.now }
+{
+    match name {
+        "find" => Some(Verb::Find),
+        "count" => Some(Verb::Count),
+        "random" => Some(Verb::Random),
+        "titles" => Some(Verb::Titles),
+        "sets" => Some(Verb::Sets),
+        "set" => Some(Verb::Set),
+        "show" => Some(Verb::Show),
+        "check" => Some(Verb::Check),
+        "export" => Some(Verb::Export),
+        "import-check" => Some(Verb::ImportCheck),
+        "place" => Some(Verb::Place),
+        "draft" => Some(Verb::Draft),
+        "ask" => Some(Verb::Ask),
+        _ => None,
+    }
+}
+
+// `find` asks for something.
+fn some_sought(all: Vec<Condition>) -> Result<Vec<Condition>, OrderFault>
+    ensures { Gives (λ all. map sought_by all.items)
+        (some_sought (map sought_by all.items)) result }
+{
+    if all.is_empty() {
+        return Err(OrderFault::NothingAsked);
+    }
+    Ok(all)
+}
+
+fn find(alloc: Global, found: &ArgMatches) -> Result<Question, OrderFault>
+    ensures { Gives asking_by (finds_in (rows_of (found_of found.now))) result }
+{
+    let conditions = conditions(alloc, found)?;
+    let conditions = some_sought(conditions)?;
+    let form = form(found)?;
+    Ok(Question::Find { conditions, form })
+}
+
+fn count(alloc: Global, found: &ArgMatches) -> Result<Question, OrderFault>
+    ensures { Gives asking_by (counts_in (rows_of (found_of found.now))) result }
+{
+    let conditions = conditions(alloc, found)?;
+    Ok(Question::Count(conditions))
+}
+
+fn random(alloc: Global, found: &ArgMatches, chance: u64) -> Result<Question, OrderFault>
+    ensures { Gives asking_by (chooses_in chance (rows_of (found_of found.now))) result }
+{
+    let conditions = conditions(alloc, found)?;
+    let form = form(found)?;
+    Ok(Question::Random {
+        conditions,
+        chance,
+        form,
+    })
+}
+
+fn titles(found: &ArgMatches) -> Result<Question, OrderFault>
+    ensures { Gives asking_by (lists_in lists_titles (rows_of (found_of found.now))) result }
+{
+    let form = form(found)?;
+    Ok(Question::Titles(form))
+}
+
+fn sets(found: &ArgMatches) -> Result<Question, OrderFault>
+    ensures { Gives asking_by (lists_in lists_sets (rows_of (found_of found.now))) result }
+{
+    let form = form(found)?;
+    Ok(Question::Sets(form))
+}
+
+fn set(alloc: Global, found: &ArgMatches) -> Result<Question, OrderFault>
+    ensures { Gives asking_by (set_in (rows_of (found_of found.now))) result }
+{
+    let name = name(alloc, first_given(found, "NAME"))?;
+    let form = form(found)?;
+    Ok(Question::Set { name, form })
+}
+
+fn show(alloc: Global, found: &ArgMatches) -> Result<Question, OrderFault>
+    ensures { Gives asking_by (shows_in (rows_of (found_of found.now))) result }
+{
+    let words = given(alloc, found, "NUM")?;
+    let numbers = numbers(alloc, words.as_slice())?;
+    Ok(Question::Show(numbers))
+}
+
+// What is exported, by NAME and by the words of `--tune`.
+fn exported_by(alloc: Global, name: Option<&str>, tunes: &[&str]) -> Result<Question, OrderFault>
+    ensures { Gives asking_by
+        (exports_by (option_map (λ word. word.now) name.entry) (texts_of tunes.now)) result }
+{
+    match name {
+        Some(word) => exported_set(alloc, word, tunes),
+        None => exported_tunes(alloc, tunes),
+    }
+}
+
+fn exported_set(alloc: Global, word: &str, tunes: &[&str]) -> Result<Question, OrderFault>
+    ensures { Gives asking_by (exports_by (Some word.now) (texts_of tunes.now)) result }
+{
+    match tunes {
+        [] => {
+            let name = name(alloc, word)?;
+            Ok(Question::ExportSet(name))
+        }
+        [_, ..] => Err(OrderFault::NameAndTunes),
+    }
+}
+
+fn exported_tunes(alloc: Global, tunes: &[&str]) -> Result<Question, OrderFault>
+    ensures { Gives asking_by (exports_by None (texts_of tunes.now)) result }
+{
+    match tunes {
+        [] => Ok(Question::ExportAll),
+        [_, ..] => {
+            let numbers = numbers(alloc, tunes)?;
+            Ok(Question::ExportTunes(numbers))
+        }
+    }
+}
+
+fn exported(alloc: Global, found: &ArgMatches) -> Result<Question, OrderFault>
+    ensures { Gives asking_by (exports_in (rows_of (found_of found.now))) result }
+{
+    let tunes = given(alloc, found, "tune")?;
+    exported_by(alloc, value(found, "NAME"), tunes.as_slice())
+}
+
+fn target(alloc: Global, found: &ArgMatches) -> Result<Target, OrderFault>
+    ensures { Gives place_by (place_in (rows_of (found_of found.now))) result }
+{
+    let out = path(alloc, first_given(found, "OUT"))?;
+    let force = is_set(found, "force");
+    Ok(Target { out, force })
+}
+
+// The question goes to standard output, if there is one.
+fn told(asked: Result<Question, OrderFault>) -> Result<Order, OrderFault>
+    ensures { (wanted : _) → Gives asking_by wanted asked
+        → Gives meaning_by (telling wanted) result }
+{
+    match asked {
+        Ok(question) => Ok(Order::Tell(question)),
+        Err(fault) => Err(fault),
+    }
+}
+
+fn written(alloc: Global, question: Question, found: &ArgMatches) -> Result<Order, OrderFault>
+    ensures { Gives meaning_by
+        (writing (Ok (asking_by question)) (rows_of (found_of found.now))) result }
+{
+    let target = target(alloc, found)?;
+    Ok(Order::Write { question, target })
+}
+
+fn export(alloc: Global, found: &ArgMatches) -> Result<Order, OrderFault>
+    ensures { let rows = rows_of (found_of found.now) in
+        Gives meaning_by (writing (exports_in rows) rows) result }
+{
+    let question = exported(alloc, found)?;
+    written(alloc, question, found)
+}
+
+fn check_books(alloc: Global, found: &ArgMatches) -> Result<Order, OrderFault>
+    ensures { Gives meaning_by (books_in (rows_of (found_of found.now))) result }
+{
+    let words = given(alloc, found, "BOOK")?;
+    let books = paths(alloc, words.as_slice())?;
+    Ok(Order::CheckBooks(books))
+}
+
+fn place(alloc: Global, found: &ArgMatches) -> Result<Order, OrderFault>
+    ensures { Gives meaning_by (places_in (rows_of (found_of found.now))) result }
+{
+    let target = target(alloc, found)?;
+    Ok(Order::Place(target))
+}
+
+fn draft(alloc: Global, found: &ArgMatches) -> Result<Order, OrderFault>
+    ensures { Gives meaning_by (drafts_in (rows_of (found_of found.now))) result }
+{
+    let number = number(alloc, first_given(found, "NUM"))?;
+    let word = first_given(found, "OUT");
+    let out = path(alloc, word)?;
+    Ok(Order::Draft { number, out })
+}
+
+fn order_of(alloc: Global, verb: Verb, found: &ArgMatches, chance: u64) -> Result<Order, OrderFault>
+    ensures { Gives meaning_by (meaning_of chance verb (rows_of (found_of found.now))) result }
+{
+    match verb {
+        Verb::Find => told(find(alloc, found)),
+        Verb::Count => told(count(alloc, found)),
+        Verb::Random => told(random(alloc, found, chance)),
+        Verb::Titles => told(titles(found)),
+        Verb::Sets => told(sets(found)),
+        Verb::Set => told(set(alloc, found)),
+        Verb::Show => told(show(alloc, found)),
+        Verb::Check => Ok(Order::Check),
+        Verb::Export => export(alloc, found),
+        Verb::ImportCheck => check_books(alloc, found),
+        Verb::Place => place(alloc, found),
+        Verb::Draft => draft(alloc, found),
+        Verb::Ask => Ok(Order::Ask),
+    }
+}
+
+// What the command of this name asks for.
+pub(crate) fn order_named(
+    alloc: Global,
+    name: &str,
+    found: &ArgMatches,
+    chance: u64,
+) -> Result<Order, OrderFault>
+    ensures { Gives meaning_by
+        (meaning_named chance name.now (rows_of (found_of found.now))) result }
+{
+    match verb_of(name) {
+        Some(verb) => order_of(alloc, verb, found, chance),
+        None => Err(OrderFault::Missing),
+    }
+}
