@@ -1,0 +1,11 @@
+use Rattle.std.proofs.Common.{inl, subst}
+use Rattle.tune_scripts.specs.Streams.{streams_in}
+use Rattle.desk_orders.specs.Printing.{Prints}
+use Rattle.desk_orders.proofs.orders.tell.Goals as goal
+
+pub returns-in-Ok : goal.returns-in-Ok
+returns-in-Ok g c = inl (
+  c.in-Ok.bytes,
+  c.in-Ok.ensures,
+  subst (λ bytes. Prints (streams_in g.C.Console c.args.console.now c.print.new.console) bytes c.print.result) c.as_slice-in-Ok.ensures c.print.ensures,
+)

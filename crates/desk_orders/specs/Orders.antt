@@ -1,0 +1,152 @@
+-- What is done for an order.
+use Rattle.std.specs.Prelude.{◌≡◌, ◌≢◌, ◌⊎◌, ℕ, Bool, true, false, List, [], ◌∷◌, ◌++◌, codes}
+use Rattle.std.specs.Prelude.{if◌then◌else◌, Option, Some, Result, Ok, Err, string_bytes, ⊤}
+use Rattle.std.specs.Prelude.{decimal, MatchResult}
+use Rattle.std.specs.List.{AllByRecursion}
+use Rattle.std.specs.Str.{bytes_eq}
+use Rattle.tune_disk.specs.declared.disk.Disk as disk
+use Rattle.tune_disk.specs.declared.file.Access.TheVariants.{Read}
+use Rattle.tune_books.specs.WrittenBooks.{written_tune}
+use Rattle.tune_store.specs.State.{State, tune_at}
+use Rattle.tune_store.specs.declared.tune.Tune.{Tune}
+use Rattle.tune_scripts.specs.Streams.{Streams}
+use Rattle.tune_cli.specs.FileActs.{RunsOn}
+use Rattle.tune_cli.specs.ProgramLines.{counts_bytes}
+use Rattle.tune_cli.specs.declared.file_actions.Done.{Done}
+use Rattle.tune_desk.specs.DeskDeeds.{DeskDeed, opened, closed, ChangesNothing}
+use Rattle.tune_desk.specs.Results.{Places, SparesFiles, Writes}
+use Rattle.tune_desk.specs.Refusals.{Refuses}
+use Rattle.tune_desk.specs.declared.desk.DeskFault.{DeskFault}
+use Rattle.tune_desk.specs.declared.refusals.ResultFault.{ResultFault}
+use Rattle.desk_questions.specs.Told.{told}
+use Rattle.desk_words.specs.declared.asked.Order.{Order}
+use Rattle.desk_words.specs.declared.asked.Order.TheVariants as order
+use Rattle.desk_words.specs.declared.asked.Target.{Target}
+use Rattle.desk_orders.specs.FileAnswers.{Did, IsAsked, IsUnasked}
+use Rattle.desk_orders.specs.Printing.{WritesOut, Prints, WritesNothing, IsSilent, ReadsAll}
+use Rattle.desk_orders.specs.Visits.{visit, failed_visit}
+
+-- One call: what was read and written, what was done with files, and the status.
+pub record Scene (D : Type 0) : Type 0 where
+  pub streams : Streams
+  pub was : List (DeskDeed D)
+  pub now : List (DeskDeed D)
+  pub status : ℕ
+
+-- QUESTIONS
+-- FILE was not asked, or it refused to tell: nothing was printed, and the status says so.
+abbrev pub IsRefused : {D : Type 0} → disk.Ghosts D → List ℕ → Scene D → Type 0
+IsRefused disks file scene = Did scene.was scene.now (IsUnasked disks file)
+    × IsSilent scene.streams × (scene.status ≢ 0)
+
+-- FILE was asked, and what it told was printed; or not.
+abbrev pub Tells : {D : Type 0} → disk.Ghosts D → List ℕ → (State → List ℕ → Type 0) → Scene D
+    → Type 0
+Tells disks file Told scene = ((bytes : List ℕ)
+    × Did scene.was scene.now (IsAsked disks file (λ state. Told state bytes))
+    × Prints scene.streams bytes scene.status)
+    ⊎ IsRefused disks file scene
+
+-- RESULTS
+-- A result was written to OUT, and the status is 0; or it was refused, and the status says so.
+pub record WritesResult {D : Type 0} (places : Places) (bytes : List ℕ)
+    (was now : List (DeskDeed D))
+    (status : ℕ) : Type 0 where
+  pub spares : SparesFiles places was now
+  pub answer : ((status ≡ 0) × Writes places bytes was now)
+      ⊎ ((status ≢ 0) × (fault : ResultFault) × Refuses places fault was now)
+
+-- the files of an order whose result goes to a target
+abbrev pub places_to : List ℕ → Target → Places
+places_to file target =
+    record { file = file; out = Some (string_bytes target.out); force = target.force }
+
+-- A result goes where a target says: to standard output, or to a file.
+abbrev pub DeliversRead : {D : Type 0} → List ℕ → Target → List ℕ → Scene D → Type 0
+DeliversRead file target bytes scene =
+    ((string_bytes target.out ≡ codes "-") × (scene.now ≡ scene.was)
+    × WritesOut scene.streams bytes scene.status)
+    ⊎ ((string_bytes target.out ≢ codes "-") × WritesNothing scene.streams
+    × WritesResult (places_to file target) bytes scene.was scene.now scene.status)
+
+-- And nothing is read.
+abbrev pub Delivers : {D : Type 0} → List ℕ → Target → List ℕ → Scene D → Type 0
+Delivers file target bytes scene =
+    (scene.streams.input.now ≡ scene.streams.input.was) × DeliversRead file target bytes scene
+
+-- FILE was asked, and what it told was written where a target says; or it was not asked.
+abbrev pub WritesAnswer : {D : Type 0} → disk.Ghosts D → List ℕ → (State → List ℕ → Type 0)
+    → Target → Scene D → Type 0
+WritesAnswer {D} disks file Told target scene = ((bytes : List ℕ) × (mid : List (DeskDeed D))
+    × Did scene.was mid (IsAsked disks file (λ state. Told state bytes))
+    × Delivers file target bytes (record scene { was = mid }))
+    ⊎ IsRefused disks file scene
+
+-- A tune was written to a new file, whole, and then its revision was printed; or it was not
+-- written, and the status says so.
+pub record DraftsTo {D : Type 0} (file : List ℕ) (tune : Tune) (out : List ℕ) (scene : Scene D)
+    : Type 0 where
+  pub written : ℕ
+  pub result : WritesResult (record { file = file; out = Some out; force = false })
+      (written_tune tune.number tune.text) scene.was scene.now written
+  pub told : ((written ≡ 0)
+      × Prints scene.streams (decimal tune.revision ++ codes "\n") scene.status)
+      ⊎ ((written ≢ 0) × IsSilent scene.streams × (scene.status ≡ written))
+
+-- or there was no memory for its text
+abbrev pub WritesDraft : {D : Type 0} → List ℕ → Tune → List ℕ → Scene D → Type 0
+WritesDraft file tune out scene = DraftsTo file tune out scene
+    ⊎ ((scene.now ≡ scene.was) × IsSilent scene.streams × (scene.status ≢ 0))
+
+-- The tune of a number was asked for, and so written; or it was not told.
+abbrev pub Drafts : {D : Type 0} → disk.Ghosts D → List ℕ → ℕ → List ℕ → Scene D → Type 0
+Drafts {D} disks file number out scene = ((tune : Tune) × (mid : List (DeskDeed D))
+    × Did scene.was mid (IsAsked disks file (λ state. tune_at number state.tunes ≡ Some tune))
+    × WritesDraft file tune out (record scene { was = mid }))
+    ⊎ IsRefused disks file scene
+
+-- INPUT
+-- The input was read to its end, and what was read was written where a target says; or it was not
+-- read to its end, and the status says so.
+abbrev pub PlacesInput : {D : Type 0} → List ℕ → Target → Scene D → Type 0
+PlacesInput file target scene = ((bytes : List ℕ) × ReadsAll scene.streams bytes
+    × DeliversRead file target bytes scene)
+    ⊎ ((scene.now ≡ scene.was) × WritesNothing scene.streams × (scene.status ≢ 0))
+
+-- Nothing was done with files but to look at them and to read them.
+abbrev pub IsQuiet : {D : Type 0} → List (DeskDeed D) → List (DeskDeed D) → Type 0
+IsQuiet was now = Did was now (AllByRecursion ChangesNothing)
+
+-- Books were read.
+abbrev pub ChecksBooks : {D : Type 0} → Scene D → Type 0
+ChecksBooks scene = IsQuiet scene.was scene.now
+
+-- A script was run on FILE, opened to read alone; or FILE was not opened.
+abbrev pub RunsOnce : {D : Type 0} → disk.Ghosts D → List ℕ → Scene D → Type 0
+RunsOnce {D} disks file scene = ((old : D) × (done : Done D)
+    × (scene.now ≡ scene.was ++ visit file Read old done.disk)
+    × RunsOn disks scene.streams old done × (scene.status ≡ done.status))
+    ⊎ ((fault : DeskFault) × (scene.now ≡ scene.was ++ failed_visit file Read fault)
+    × IsSilent scene.streams × (scene.status ≢ 0))
+
+-- This was done once FILE was at rest; or FILE could not be brought to rest.
+abbrev pub RunsOnFile : {D : Type 0} → disk.Ghosts D → List ℕ → Scene D → Type 0
+RunsOnFile {D} disks file scene = ((mid : List (DeskDeed D))
+    × Did scene.was mid (IsUnasked disks file)
+    × RunsOnce disks file (record scene { was = mid }))
+    ⊎ IsRefused disks file scene
+
+-- THE THEOREM OF THE FRONT END: what an order does with FILE, with other files, with standard
+-- input and output, and its status.
+abbrev pub CarriesOut : {D : Type 0} → disk.Ghosts D → List ℕ → Order → Scene D → Type 0
+CarriesOut disks file (order.Tell question) scene =
+    Tells disks file (λ state bytes. told question state ≡ Ok bytes) scene
+CarriesOut disks file (order.Write question target) scene =
+    WritesAnswer disks file (λ state bytes. told question state ≡ Ok bytes) target scene
+CarriesOut disks file order.Check scene =
+    Tells disks file (λ state bytes. bytes ≡ counts_bytes state) scene
+CarriesOut disks file (order.Draft number out) scene =
+    Drafts disks file number (string_bytes out) scene
+CarriesOut disks file (order.Place target) scene = PlacesInput file target scene
+CarriesOut disks file (order.CheckBooks books) scene = ChecksBooks scene
+CarriesOut disks file order.Ask scene = RunsOnFile disks file scene

@@ -1,0 +1,55 @@
+// Where a result goes.
+ghost use Rattle.std.specs.Prelude.{◌≡◌, Some, string_bytes};
+ghost use Rattle.tune_scripts.specs.Streams.{streams_in};
+ghost use Rattle.tune_desk.specs.Results.{places_of};
+ghost use Rattle.desk_orders.specs.Orders.{Delivers, WritesResult};
+
+use crate::printing::print;
+use crate::reasons::{DONE, say_unwritten};
+use desk_words::Target;
+use std::io::Write;
+use tune_desk::{Desk, write_result};
+use tune_scripts::Console;
+
+/// Writes a result where a target says: to standard output for `-`, and else to a file. Gives the
+/// status.
+pub(crate) fn deliver<C: Console, E: Write, K: AllocGlobal + Desk>(
+    desk: &mut K,
+    file: &String,
+    target: &Target,
+    bytes: &[u8],
+    console: &mut C,
+    errors: &mut E,
+) -> u8
+    ensures { Delivers (string_bytes file.now) target.now bytes.now (record {
+      streams = streams_in C.Console console.old console.new;
+      was = K.deeds desk.old;
+      now = K.deeds desk.new;
+      status = result;
+    }) }
+{
+    if target.out.as_str() == "-" {
+        print(console, errors, bytes)
+    } else {
+        write_file(desk, file, &target.out, target.force, bytes, errors)
+    }
+}
+
+/// Writes a result to a file, and gives the status.
+pub(crate) fn write_file<E: Write, K: AllocGlobal + Desk>(
+    desk: &mut K,
+    file: &String,
+    out: &String,
+    force: bool,
+    bytes: &[u8],
+    errors: &mut E,
+) -> u8
+    ensures { let out_path = Some (string_bytes out.now) in
+        WritesResult (places_of (string_bytes file.now) out_path force) bytes.now
+        (K.deeds desk.old) (K.deeds desk.new) result }
+{
+    match write_result(desk.alloc(), desk, file, out, force, bytes) {
+        Ok(()) => DONE,
+        Err(fault) => say_unwritten(errors, file.as_str(), out.as_str(), &fault),
+    }
+}

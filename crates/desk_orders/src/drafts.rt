@@ -1,0 +1,65 @@
+// A tune, written to a new file for an editor.
+ghost use Rattle.std.specs.Prelude.{◌≡◌, ◌++◌, codes, decimal, string_bytes, IfOk};
+ghost use Rattle.tune_books.specs.WrittenBooks.{written_tune};
+ghost use Rattle.tune_scripts.specs.Streams.{streams_in};
+ghost use Rattle.desk_orders.specs.Orders.{WritesDraft};
+
+use crate::deliveries::write_file;
+use crate::printing::print;
+use crate::reasons::{REFUSED, say};
+use std::alloc::{AllocError, Global};
+use std::io::Write;
+use tune_desk::Desk;
+use tune_scripts::Console;
+use tune_store::Tune;
+
+/// Writes a tune to a new file, and prints its revision.
+pub(crate) fn write_draft<C: Console, E: Write, K: AllocGlobal + Desk>(
+    desk: &mut K,
+    file: &String,
+    tune: &Tune,
+    out: &String,
+    console: &mut C,
+    errors: &mut E,
+) -> u8
+    ensures { WritesDraft (string_bytes file.now) tune.now (string_bytes out.now) (record {
+      streams = streams_in C.Console console.old console.new;
+      was = K.deeds desk.old;
+      now = K.deeds desk.new;
+      status = result;
+    }) }
+{
+    match (
+        draft_text(desk.alloc(), tune),
+        revision_line(desk.alloc(), tune.revision),
+    ) {
+        (Ok(text), Ok(revision)) => {
+            match write_file(desk, file, out, false, text.as_slice(), errors) {
+                0 => print(console, errors, revision.as_slice()),
+                status => status,
+            }
+        }
+        _ => {
+            say(errors, out.as_str(), "there is not memory enough");
+            REFUSED
+        }
+    }
+}
+
+// The `X:` line of a tune, and its text.
+fn draft_text(alloc: Global, tune: &Tune) -> Result<Vec<u8>, AllocError>
+    ensures { IfOk result (λ bytes. bytes.items ≡ written_tune tune.now.number tune.now.text) }
+{
+    let mut bytes = Vec::new(alloc);
+    write!(bytes, "X:{}\n", tune.number).map_err(|_| AllocError)?;
+    bytes.extend_from_slice(tune.text.bytes())?;
+    Ok(bytes)
+}
+
+fn revision_line(alloc: Global, revision: u16) -> Result<Vec<u8>, AllocError>
+    ensures { IfOk result (λ bytes. bytes.items ≡ decimal revision ++ codes "\n") }
+{
+    let mut bytes = Vec::new(alloc);
+    write!(bytes, "{revision}\n").map_err(|_| AllocError)?;
+    Ok(bytes)
+}
