@@ -1,7 +1,7 @@
 #!/usr/bin/env python3
 """Usage: checks/called.py [--reached FILE NAME]
 
-Looks whether the program calls the functions that the pages name as stations of a way through it,
+Looks whether the programs call the functions that the pages name as stations of a way through it,
 or as calls that carry a promise. It prints each that it does not call and ends with 1, or prints
 one line and ends with 0.
 
@@ -21,8 +21,9 @@ which other one. The compiler puts functions into those that call them, and then
 symbol of theirs, or of a generic one for some types alone. What such a function calls, and what
 calls it, is read in the sources, by names; where several functions may be meant, all of them count.
 
-The program is the one that ./tunes has built, and not that script, or the one that the variable
-TUNES names. Where there is no `objdump` it fails, unless the variable LEAVE_OUT has that word.
+The programs are those that ./tunes and ./tunes-desk have built, and not these scripts, or those
+that the variables TUNES and TUNES_DESK name. Where there is no `objdump` it fails, unless the
+variable LEAVE_OUT has that word.
 `--reached` prints which functions are reached from one, as `tune_pages/src/walk.rt read_piece`.
 """
 import collections
@@ -34,14 +35,16 @@ import subprocess
 import sys
 
 ROOT = os.path.dirname(os.path.dirname(os.path.abspath(__file__)))
-BUILT = os.path.join(ROOT, 'crates', 'tunes', 'out', 'tunes')
-PROGRAM = os.path.abspath(os.environ.get('TUNES') or BUILT)
+BUILT = {'TUNES': 'crates/tunes/out/tunes', 'TUNES_DESK': 'crates/tunes_desk/out/tunes_desk'}
+PROGRAMS = [os.path.abspath(os.environ.get(word) or os.path.join(ROOT, path))
+            for word, path in BUILT.items()]
 os.chdir(ROOT)
 KNOWN = 'checks/data/not_called.txt'
 PROOFS, STATIONS, LAYERS = 'docs/PROOFS.md', 'docs/PIPE-TO-PLATTER.md', 'docs/ARCHITECTURE.md'
 
 # What stands in the midst of a way: a file under crates/, and a function.
 MAIN = 'tunes/src/main.rt', 'main'
+DESK = 'tunes_desk/src/main.rt', 'main'
 DRIVE = 'tunes/src/file_drive.rt', 'open'
 OPEN = 'tune_archive/src/opened_archives.rt', 'Archive::open'
 IMPORT = 'tune_store/src/tune_plans.rt', 'import'
@@ -70,7 +73,7 @@ WAYS = {
     },
     LAYERS: {
         'The way of a command': {1: [MAIN]},
-        'The way of an upgrade': {1: [UPGRADED, LIMIT]},
+        'The way of a question of the front end': {1: [DESK]},
         'The way of a music line': {1: [STEPS]},
         'The way of a work': {1: [CHANGE, READ]},
         'The way of an insert in an index': {1: [INSERT, STORE, LOAD]},
@@ -246,11 +249,9 @@ class Sources:
 # THE PROGRAM
 
 def symbol_calls():
-    """For each symbol of the program's code those that its instructions name."""
-    listing = subprocess.run(['objdump', '-d', '--no-show-raw-insn', '--no-addresses', PROGRAM],
-                             stdout=subprocess.PIPE, encoding='utf-8', check=True).stdout
+    """For each symbol of the programs' code those that its instructions name."""
     calls, named = {}, None
-    for line in listing.split('\n'):
+    for line in all_of(listing, PROGRAMS):
         start = line.find('<')
         if start >= 0 and line.endswith('>:'):
             named = calls.setdefault(line[start + 1:-2], set())
@@ -267,6 +268,12 @@ def is_of(one, parts):
     if one.of_trait:
         return bool(re.fullmatch(rf'{one.owner}\w*{one.of_trait}\w*', parts[-2]))
     return parts[-2] == one.owner
+
+
+def listing(program):
+    """The lines of a program's code."""
+    return subprocess.run(['objdump', '-d', '--no-show-raw-insn', '--no-addresses', program],
+                          stdout=subprocess.PIPE, encoding='utf-8', check=True).stdout.split('\n')
 
 
 class Program:
@@ -365,7 +372,7 @@ class Check:
     def __init__(self):
         self.sources = Sources()
         self.program = Program(self.sources)
-        self.run = self.program.reached(self.at(MAIN))
+        self.run = self.program.reached(self.at(MAIN) + self.at(DESK))
         lines = [line.split() for line in read(KNOWN).split('\n')]
         self.known = {(line[1], line[2]): line[0] for line in lines if line and line[0] != '#'}
         self.needed, self.faults, self.count = set(), [], 0
@@ -426,12 +433,13 @@ def main():
         left_out = 'objdump' in os.environ.get('LEAVE_OUT', '').split()
         print('skipped' if left_out else 'FAILED ', 'what the program calls: there is no objdump')
         sys.exit(0 if left_out else 1)
-    if not os.path.exists(PROGRAM):
-        print(f'FAILED  there is no program {PROGRAM}: ./tunes --version builds it')
-        sys.exit(1)
+    for program in PROGRAMS:
+        if not os.path.exists(program):
+            print(f'FAILED  there is no program {program}: ./tunes --version builds it')
+            sys.exit(1)
     check = Check()
     if not check.program.symbols:
-        print(f'FAILED  {PROGRAM} has no symbols of the crates')
+        print(f'FAILED  {PROGRAMS[0]} has no symbols of the crates')
         sys.exit(1)
     if sys.argv[1:2] == ['--reached']:
         for one in sorted(map(repr, check.program.reached(check.at(sys.argv[2:4])))):

@@ -29,6 +29,7 @@ NO_SOURCES = {'.git', 'out', 'data', 'must-fail', '__pycache__'}
 SCRATCH = 'bench/work'
 WIDTH, PROOF_WIDTH = 100, 160
 MOST_LINES = {'README.md': 120, 'docs/ARCHITECTURE.md': 100}
+SCRIPTS = ('build', 'tunes', 'tunes-desk', 'tunes-book', 'test', 'install', 'release', 'LICENSE')
 RECIPE_PAGES = ('README.md', 'docs/USING.md')
 NAME_PAGES = ('docs/PROOFS.md', 'docs/ARCHITECTURE.md', 'docs/GLOSSARY.md', 'docs/DECISIONS.md',
               'docs/PIPE-TO-PLATTER.md', 'docs/RESULTS.md')
@@ -77,8 +78,7 @@ def files():
 # WIDTHS
 
 def is_script(path):
-    scripts = ('build', 'tunes', 'tunes-book', 'test', 'install', 'release', 'LICENSE')
-    return path in scripts or path.startswith(('.ci/', 'completions/'))
+    return path in SCRIPTS or path.startswith(('.ci/', 'completions/'))
 
 
 def contract_lines(lines):
@@ -291,6 +291,7 @@ def known_names(paths):
         for case in re.findall(r'^([\w-]+).*: as written$', read(path), re.M):
             names.update((case, re.sub(r'(-\d+)+$', '', case)))
     names.update(os.listdir(os.path.join(ROOT, 'crates')))
+    names.update(SCRIPTS)
     names.update(re.findall(r'\w+', read('crates.txt')))
     return names
 
