@@ -21,7 +21,7 @@ which other one. The compiler puts functions into those that call them, and then
 symbol of theirs, or of a generic one for some types alone. What such a function calls, and what
 calls it, is read in the sources, by names; where several functions may be meant, all of them count.
 
-The programs are those that ./tunes and ./tunes-desk have built, and not these scripts, or those
+The programs are those that `rt ci` built, and not the script ./tunes, or those
 that the variables TUNES and TUNES_DESK name. Where there is no `objdump` it fails, unless the
 variable LEAVE_OUT has that word.
 `--reached` prints which functions are reached from one, as `tune_pages/src/walk.rt read_piece`.
@@ -140,14 +140,17 @@ class Function:
 
 
 def end_of(lines, first, indent):
-    """The last line of a function: a brace below its head, or a semicolon where it has no body."""
-    has_body = '{' in lines[first]
+    """The last line of a function: a brace below its head, or a semicolon where it has no body.
+    A semicolon within braces is that of a record in a clause."""
+    has_body, depth = '{' in lines[first], 0
     for number in range(first, len(lines)):
         line = lines[number]
+        depth += line.count('{') - line.count('}')
         has_body = has_body or line == indent + '{' \
             or line.startswith(indent + ')') and line.endswith('{')
         one_line = number == first and line.endswith('}')
-        if one_line or line in (indent + '}', indent + '{}') or line.endswith(';') and not has_body:
+        ends = line.endswith(';') and not has_body and depth == 0
+        if one_line or line in (indent + '}', indent + '{}') or ends:
             return number
     raise ValueError(f'{lines[first]} has no end')
 
