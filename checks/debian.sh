@@ -1,10 +1,10 @@
 #!/bin/sh
 # Usage: checks/debian.sh [PACKAGE]
-# Tries the Debian package PACKAGE, or the one that ./release makes here of the program that ./tunes
-# has built, or of the one that the variable TUNES names: what it says and what it holds; README's
-# first commands and some others by what it unpacks; and the same in an empty Debian, into which it
-# is installed, and where nothing of it stays once it is taken out. Prints a line for each case, and
-# ends with status 1 where one failed.
+# Tries the Debian package PACKAGE, or the one that ./release makes here of the programs that
+# ./build made, or of those that the variables TUNES and TUNES_DESK name: what it says and what it
+# holds; README's first commands and some others by what it unpacks; and the same in an empty
+# Debian, into which it is installed, and where nothing of it stays once it is taken out. Prints a
+# line for each case, and ends with status 1 where one failed.
 #
 # The empty Debian is made by mmdebstrap, as root or in a name space of the user, or by debootstrap,
 # as root. It is of the release SUITE, in place of that of this system or the stable one, and comes
@@ -17,11 +17,10 @@ case ${1-} in
 esac
 root=$(CDPATH='' cd -- "$(dirname -- "$0")/.." && pwd) || exit 1
 program=${TUNES:-$root/crates/tunes/out/tunes}
-case $program in
-/*) ;;
-*) program=$PWD/$program ;;
-esac
-unset TUNES TUNES_BOOK
+desk=${TUNES_DESK:-$root/crates/tunes_desk/out/tunes_desk}
+case $program in /*) ;; *) program=$PWD/$program ;; esac
+case $desk in /*) ;; *) desk=$PWD/$desk ;; esac
+unset TUNES TUNES_DESK TUNES_BOOK
 LC_ALL=C
 export LC_ALL
 umask 022
@@ -52,13 +51,14 @@ end() {
     fi
 }
 
-# Makes the package, by a copy of the repository that has the program at hand.
+# Makes the package, by a copy of the repository that has the programs at hand.
 make_package() {
     mkdir top released
     (cd "$root" && tar -cf - --exclude=./.git --exclude=./bench/work --exclude=out \
         --exclude=__pycache__ .) | tar -xf - -C top
-    mkdir -p top/crates/tunes/out
-    cp "$program" top/crates/tunes/out/tunes && top/release released > told &&
+    mkdir -p top/crates/tunes/out top/crates/tunes_desk/out
+    cp "$program" top/crates/tunes/out/tunes &&
+        cp "$desk" top/crates/tunes_desk/out/tunes_desk && top/release released > told &&
         package=$(echo "$work"/released/*.deb) && [ -f "$package" ]
 }
 
@@ -164,13 +164,14 @@ case_of_control() {
     if command -v dpkg-shlibdeps > /dev/null; then
         mkdir -p source/debian && echo 'Source: tunes' > source/debian/control
         depends=$(cd source && dpkg-shlibdeps -O --ignore-missing-info ../unpacked/usr/bin/tunes \
-            2> ../told | sed -n 's/^shlibs:Depends=/Depends: /p')
+            ../unpacked/usr/bin/tunes-desk 2> ../told | sed -n 's/^shlibs:Depends=/Depends: /p')
         grep -qxF "$depends" fields ||
             wrong "it says '$(grep '^Depends' fields)' in place of '$depends'"
     fi
-    # Of the program it says what the note does.
-    sed -n 's/^  *//; /^the program was/,$p' fields | tr -s ' \n' '  ' > told
-    sed -n '/^the program was/,/^its sha256/{ /^its /d; p; }' unpacked/usr/share/doc/tunes/BUILT |
+    # Of the programs it says what the note does.
+    sed -n 's/^  *//; /^tunes was/,$p' fields | tr -s ' \n' '  ' > told
+    note=unpacked/usr/share/doc/tunes/BUILT
+    sed -n '/^tunes was/,/^the sha256 of/{ /^the sha256 /d; p; }' "$note" |
         tr -s ' \n' '  ' > wanted
     [ -s wanted ] && cmp -s told wanted || wrong "it says '$(cat told)', and BUILT '$(cat wanted)'"
     end
@@ -185,8 +186,9 @@ case_of_contents() {
     [ ! -s told ] || wrong "it has '$(cat told)'"
     [ "$(awk '{ print $4, $5 }' contents | sort -u | wc -l)" -eq 1 ] || wrong 'the times differ'
     (cd unpacked && find usr -type f ! -path 'usr/share/doc/*' | sort) > found
-    printf 'usr/%s\n' bin/tunes bin/tunes-book share/bash-completion/completions/tunes \
-        share/bash-completion/completions/tunes-book share/man/man1/tunes-book.1.gz \
+    printf 'usr/%s\n' bin/tunes bin/tunes-book bin/tunes-desk \
+        share/bash-completion/completions/tunes share/bash-completion/completions/tunes-book \
+        share/man/man1/tunes-book.1.gz \
         share/man/man1/tunes.1.gz share/zsh/vendor-completions/_tunes > wanted
     diff wanted found > told || wrong "programs and their pages are others: $(sed -n 2p told)"
     for page in tunes tunes-book; do

@@ -1,9 +1,9 @@
 #!/bin/sh
 # Usage: checks/front-end.sh
 # Tries each command of ./tunes-book under each of the shells `sh`, `bash --posix` and `busybox sh`
-# that is here, over the program ./tunes, or over the program that the variable TUNES names; then
-# the pages, the completion, ./install and ./release. Prints a line for each case, and ends with
-# status 1 where one failed.
+# that is here, over the programs ./tunes and ./tunes-desk, or those that the variables TUNES and
+# TUNES_DESK name; then the pages, the completion, ./install and ./release. SHELLS and PARTS name
+# some of them. Prints a line for each case, and ends with status 1 where one failed.
 # shellcheck disable=SC2015,SC2016,SC2028,SC2086 # words of a line are split; `$` is for others
 # A shell cannot take a signal that was ignored when it began: here each is as at the start.
 if [ -z "${SIGNALS_ARE_TAKEN-}" ]; then
@@ -16,14 +16,14 @@ os.execvp("sh", ["sh", *sys.argv[1:]])' "$0" "$@"
 fi
 root=$(CDPATH='' cd -- "$(dirname -- "$0")/.." && pwd) || exit 1
 program=${TUNES:-$root/tunes}
-case $program in
-/*) ;;
-*) program=$PWD/$program ;;
-esac
-# The launcher builds the program, if need be; then the program is called without it.
-"$program" --version > /dev/null || exit 1
+desk=${TUNES_DESK:-$root/tunes-desk}
+case $program in /*) ;; *) program=$PWD/$program ;; esac
+case $desk in /*) ;; *) desk=$PWD/$desk ;; esac
+# The launchers build the programs, if need be; then these are called without them.
+"$program" --version > /dev/null && "$desk" --version > /dev/null || exit 1
 if [ "$program" = "$root/tunes" ]; then program=$root/crates/tunes/out/tunes; fi
-unset TUNES TUNES_BOOK VISUAL EDITOR LC_ALL
+if [ "$desk" = "$root/tunes-desk" ]; then desk=$root/crates/tunes_desk/out/tunes_desk; fi
+unset TUNES TUNES_DESK TUNES_BOOK VISUAL EDITOR LC_ALL
 work=$(mktemp -d) || exit 1
 trap 'rm -rf "$work"' EXIT
 trap 'exit 1' HUP INT TERM
@@ -33,7 +33,8 @@ shell='sh'
 book=$root/examples/session.abc
 TMPDIR="$work/tem porary"
 TUNES=$program
-export TMPDIR TUNES
+TUNES_DESK=$desk
+export TMPDIR TUNES TUNES_DESK
 mkdir "$TMPDIR" && chmod 755 "$work" && chmod 1777 "$TMPDIR"
 { printf '%%abc-2.1\n\n' && cat "$book"; } > "$work/session-book"
 
@@ -76,12 +77,18 @@ says() {
         wrong "'$words' says '$(head -n 3 "$work/out")' in place of '$1'"
 }
 
-# Standard error has a message of tunes-book with this text.
+# Standard error has a message of tunes-book with this text; of wrong words, maybe of the parser.
 complains() {
     case $(cat "$work/err") in
-    *"tunes-book: "*"$1"*) ;;
+    *"tunes-book: "*"$1"* | "error: "*"$1"*) ;;
     *) wrong "'$words' complains by '$(head -n 2 "$work/err")', without '$1'" ;;
     esac
+}
+
+# Standard error has this text.
+tells() {
+    grep -qF -e "$1" "$work/err" ||
+        wrong "'$words' tells '$(head -n 2 "$work/err")', without '$1'"
 }
 
 # The last command did what it was to do.
@@ -119,6 +126,36 @@ end() {
 }
 
 skip() { printf 'skipped %s: %s: there is no %s here\n' "$shell" "$1" "$2"; }
+
+# The last command listed this JSON, whatever its blanks are.
+lists_json() {
+    ends_with 0
+    printf '%s\n' "$1" > "$work/wanted"
+    python3 -c 'import json, sys
+said, wanted = (json.load(open(path, encoding="utf-8")) for path in sys.argv[1:])
+sys.exit(said != wanted)' "$work/out" "$work/wanted" 2> "$work/told" ||
+        wrong "'$words' lists '$(head -n 3 "$work/out")' in place of '$1'"
+    [ ! -s "$work/err" ] || wrong "'$words' writes to standard error: $(head -n 1 "$work/err")"
+}
+
+# The last command listed this CSV, whatever is quoted.
+lists_csv() {
+    ends_with 0
+    printf '%s\n' "$1" > "$work/wanted"
+    python3 -c 'import csv, sys
+said, wanted = (list(csv.reader(open(path, encoding="latin-1", newline="")))
+                for path in sys.argv[1:])
+sys.exit(said != wanted)' "$work/out" "$work/wanted" 2> "$work/told" ||
+        wrong "'$words' lists '$(head -n 3 "$work/out")' in place of '$1'"
+    [ ! -s "$work/err" ] || wrong "'$words' writes to standard error: $(head -n 1 "$work/err")"
+}
+
+# The last command found nothing, and said so.
+finds_none() {
+    ends_with 0
+    says ''
+    complains 'no tune has that'
+}
 
 # What an archive has: its tunes with their numbers, and its set lists.
 contents() {
@@ -158,11 +195,13 @@ cases_of_words() {
     [ "$(awk 'length > 79' "$work/out")" = '' ] || wrong 'the help has lines above 79 columns'
     run --version
     done_with "$("$program" --version)"
-    for line in 'count' '-x find a' '-f' 'show' 'show 1 2' 'show one' 'show 1234567890' 'new a' \
-        'upgrade x' '--json upgrade' 'cut friday' 'cut friday x' 'put friday' 'put fri/day 1' \
-        'set a.b' 'find' 'find key' 'find --within' 'find --split a' 'add' 'add absent.abc' \
-        '--json show 1' 'move a 1' 'undo 1' 'export' 'hear 1' 'backup' 'restore' 'dump' \
-        'load absent' 'titles x' 'add --within x'; do
+    for line in 'list' '-x' '-f' 'show' 'show one' 'show 1234567890' 'new a' 'upgrade x' \
+        '--json upgrade' 'cut friday' 'cut friday x' 'put friday' 'put fri/day 1' 'set a.b' 'find' \
+        'find key' 'find --within' 'find --split a' 'add' 'add absent.abc' '--json show 1' \
+        'move a 1' 'undo 1' 'export' 'hear 1' 'backup' 'restore' 'dump' 'load absent' 'titles x' \
+        'add --within x' 'count --json' 'random --tune 1' 'find kesh --wait x' \
+        'put a 1 --wait x' '--wait' 'export a b --tune 1' 'titles --json --csv' 'find --in D kesh' \
+        'print a.pdf --tune x' 'ask x'; do
         run $line
         refused 2 ''
         [ ! -s "$work/out" ] || wrong "'$line' prints something"
@@ -172,6 +211,8 @@ cases_of_words() {
     run find kesh
     refused 2 'no archive is told'
     run -f '' find kesh
+    refused 2 'empty'
+    run -f '' put a 1
     refused 2 'empty'
     end
 
@@ -185,10 +226,9 @@ cases_of_words() {
         done_with ''
     done
     run find kesh
-    done_with ''
-    run --json titles
-    done_with '[
-]'
+    finds_none
+    run titles --json
+    lists_json '[]'
     run new
     refused 3 'not empty'
     run -f other.abcx new
@@ -209,7 +249,7 @@ cases_of_words() {
     rmdir tunes.abcx
     cp "$book" tunes.abcx
     for line in 'titles' 'show 1' 'edit 1' 'delete 1' 'put a 1' 'export b.abc' 'dump b' 'check' \
-        'backup b' 'upgrade' "add --dry $book" "add $book"; do
+        'backup b' 'upgrade' "add --dry $book" "add $book" 'count' 'random' 'ask'; do
         run $line
         refused 3 'no archive'
     done
@@ -244,20 +284,18 @@ cases_of_books() {
     run find --within STAIRS up
     done_with '3 Tripping Up the Stairs'
     run find --within 'no such "words"'
-    done_with ''
+    finds_none
     run find notes zz
     refused 1 'nothing is asked for'
     run find 'kesh
 delete 1'
-    done_with ''
+    finds_none
     run --csv find key Edor
-    done_with 'number,title
-6,"Drowsy Maggie"
+    lists_csv 'number,title
+6,Drowsy Maggie
 9,"Fig for a Kiss, A"'
     run find --json kesh
-    done_with '[
-{"number": 1, "title": "Kesh Jig, The"}
-]'
+    lists_json '[{"number": 1, "title": "Kesh Jig, The"}]'
     run titles
     ends_with 0
     echo titles | "$program" run tunes.abcx | sed 1d > "$work/wanted"
@@ -309,27 +347,25 @@ $book: all its tunes are there already, 15"
     done_with 'a.abc: tunes 1 to 3'
     run put x 2 1
     run --csv set x
-    done_with 'place,number,title
+    lists_csv 'place,number,title
 1,2,
 2,1,"q ""b"", \ c"'
     run --json set x
-    done_with '[
+    lists_json '[
 {"place": 1, "number": 2, "title": null},
 {"place": 2, "number": 1, "title": "q \"b\", \\ c"}
 ]'
     run --json sets
-    done_with '[
-{"name": "x", "places": 2}
-]'
+    lists_json '[{"name": "x", "places": 2}]'
     run sets --csv
-    done_with 'name,places
+    lists_csv 'name,places
 x,2'
+    # Bytes that are no UTF-8 are taken for Latin-1.
     run --json titles
-    ends_with 0
-    grep -q 'u00e9 .u00e9 .u266f .ud834.udd1e .u00ed.u00a0.u0080 .u0001"}' "$work/out" ||
-        wrong 'bytes of a title are written otherwise'
-    ! command -v python3 > /dev/null || python3 -m json.tool < "$work/out" > "$work/told" ||
-        wrong 'the list is no JSON'
+    lists_json '[
+{"number": 1, "title": "q \"b\", \\ c"},
+{"number": 3, "title": "\u00e9 \u00e9 \u266f \ud834\udd1e \u00ed\u00a0\u0080 \u0001"}
+]'
     end
 
     begin 'folders of books'
@@ -350,7 +386,8 @@ x,2'
     says 'fol der/B.abc: tune 1
 fol der/b.abc: tune 2'
     run import-check 'fol der'
-    refused 1 'a.abc: its tune number 1 has no K: line'
+    ends_with 1
+    tells 'fol der/a.abc:1: '
     says 'fol der/B.abc: 1 tune
 fol der/b.abc: 1 tune'
     run add --dry "$book"
@@ -359,7 +396,8 @@ fol der/b.abc: 1 tune'
     done_with 'layout 2 tunes 2 sets 0'
     echo 'a remark' > remark.abc
     run import-check remark.abc
-    refused 1 'no line begins with X:'
+    ends_with 1
+    tells 'remark.abc'
     end
 
     begin 'names with blanks and line feeds, and of options'
@@ -405,12 +443,13 @@ of "all"'
     done_with 'a.abc: tunes 1 to 2; 2 lines of it go into no tune, and are not kept'
     printf '%%abc-2.1\n\nX:1\nT:o\0ne\nM:6/8\nK:C\n\nX:2\nM:6/8\nK:D\n%%\0\351\377\n' > wanted
     run export b.abc
+    done_with ''
     same b.abc wanted
     EDITOR='sed -i s/T:o/T:p/'
     run edit 1
     done_with 'tune 1 has revision 2 now'
     sed 's/T:o/T:p/' wanted > wanted.new
-    run export b.abc
+    run export --force b.abc
     same b.abc wanted.new
     run undo
     done_with 'tune 1 has revision 3 now'
@@ -418,12 +457,12 @@ of "all"'
     done_with ''
     run undo
     done_with 'tune 2 is there again'
-    run export b.abc
+    run export b.abc --force
     same b.abc wanted
     run dump s
     run -f new.abcx load s
     ends_with 0
-    run -f new.abcx export b.abc
+    run -f new.abcx export --force b.abc
     same b.abc wanted
     end
 
@@ -443,7 +482,23 @@ of "all"'
         0.*[0-9]' tune' | 1.*' 1 line of'* | "${form%% *}."*" ${form%% *} lines of"*) ;;
         *) wrong "of '$form' it says '$(cat "$work/out")'" ;;
         esac
+        [ "$(grep -c '^tunes-book: a\.abc:[0-9]*: it is in no tune' "$work/err")" -eq \
+            "${form%% *}" ] ||
+            wrong "of '$form' it tells '$(cat "$work/err")'"
+        run add a.abc
+        ends_with 0
+        case ${form%% *}.$(cat "$work/out") in
+        0.*' tune '*[0-9] | 1.*' 1 line of'* | "${form%% *}."*" ${form%% *} lines of"*) ;;
+        *) wrong "of '$form' add says '$(cat "$work/out")'" ;;
+        esac
     done
+    # by their numbers, also from standard input
+    printf 'remark\n\nX:1\nK:C\n\nverse\n\nX:2\nT:bad\n\nlast' > a.abc
+    $shell "$root/tunes-book" import-check - < a.abc > "$work/out" 2> "$work/err"
+    status=$?
+    words='import-check -'
+    ends_with 1
+    for line in 1 6 11; do tells "-:$line: "; done
     end
 
     begin 'a book that is too long, and its parts'
@@ -472,11 +527,11 @@ $book: tunes 416 to 430"
     printf 'X:415\nT:tune 400\nM:6/8\n%%%%staves 1\nK:C\n' > "$work/wanted"
     same "$work/found" "$work/wanted"
     printf 'X:1\nT:bad\n' >> long.abc
-    run import-check --split long.abc
+    run add --dry --split long.abc
     refused 1 'long.abc: part 2 of 2: its tune number'
     # old Mac lines, and no file header
     sed '1,3d; $d' long.abc | sed '$d' | tr '\n' '\r' > mac.abc
-    run import-check --split mac.abc
+    run add --dry --split mac.abc
     done_with 'mac.abc: 400 tunes, in 2 parts'
     end
 
@@ -487,16 +542,17 @@ $book: tunes 416 to 430"
     chmod 755 .
     if [ "$(id -u)" -ne 0 ]; then
         run import-check a.abc b.abc
-    elif as_nobody "$program" --version && as_nobody head -c 1 "$root/tunes-book"; then
+    elif as_nobody "$desk" --version && as_nobody head -c 1 "$root/tunes-book"; then
         as_nobody $shell "$root/tunes-book" import-check a.abc b.abc
         status=$?
         words='import-check a.abc b.abc'
     else
-        echo 'tunes-book: it cannot be read' > "$work/err"
+        echo a.abc > "$work/err"
         echo 'b.abc: 1 tune' > "$work/out"
         status=1
     fi
-    refused 1 'it cannot be read'
+    ends_with 1
+    tells a.abc
     says 'b.abc: 1 tune'
     end
 }
@@ -540,7 +596,7 @@ cases_of_sets() {
     done_with ''
     [ "$(sed -n 2p friday.abc)" = '% set friday' ] || wrong 'friday.abc is another book'
     cp friday.abc wanted
-    run export friday.abc saturday
+    run export --force friday.abc saturday
     refused 1 'no such set list'
     same friday.abc wanted
     run drop friday
@@ -926,7 +982,7 @@ cases_of_layouts() {
     contents tunes.abcx > wanted
     run check
     done_with 'layout 1 tunes 2 sets 1'
-    run find notes CDEFGABcde
+    run find notes CDEFGABcde --in C
     done_with '1
 2'
     run upgrade
@@ -936,7 +992,7 @@ cases_of_layouts() {
     complains '`tunes-book backup COPY` makes a copy'
     run check
     done_with 'layout 2 tunes 2 sets 1'
-    run find notes CDEFGABcde
+    run find notes CDEFGABcde --in C
     done_with 1
     contents tunes.abcx > found
     same found wanted
@@ -976,12 +1032,14 @@ the archive that was there is tunes.abcx.1.old now'
     awk 'BEGIN { printf "X:1\nK:C\n"; for (i = 0; i < 63995; i++) printf "A"; print "" }' > long.abc
     { cat long.abc; echo; cat "$book"; } > both.abc
     sed 's/AAA$/&A/' long.abc > longer.abc
-    for line in 'add long.abc' 'add --dry long.abc' 'add --new both.abc' 'import-check longer.abc'
-    do
+    for line in 'add long.abc' 'add --dry long.abc' 'add --new both.abc'; do
         run $line
         refused 1 'its tune number 1 is too long'
         complains '`tunes-book upgrade`'
     done
+    run import-check longer.abc
+    ends_with 1
+    tells longer.abc
     run import-check long.abc
     done_with 'long.abc: 1 tune'
     EDITOR='cp long.abc'
@@ -1065,8 +1123,9 @@ cases_of_devices() {
         flock tunes.abcx sh -c 'echo > locked; while [ ! -e over ]; do sleep 0.05; done' &
         while [ ! -e locked ]; do sleep 0.05; done
         for line in titles 'show 1' 'edit 1' 'delete 1' 'put a 1' 'cut a 1' 'export b.abc' \
-            'dump b' 'check' 'upgrade' 'backup b' 'add mine.abc' 'restore before'; do
-                run $line
+            'dump b' 'check' 'upgrade' 'backup b' 'add mine.abc' 'restore before' count random \
+            ask 'draft 1 b'; do
+            run $line
             refused 1 'another program has it open'
         done
         : > over
@@ -1089,7 +1148,8 @@ cases_of_devices() {
             same out wanted
             [ -L out.new ] || wrong "'$line' takes a link away that is not its own"
         done
-        for line in titles 'show 1' 'find kesh' '--json titles' '--csv sets' check upgrade help; do
+        for line in titles 'show 1' 'find kesh' '--json titles' '--csv sets' check upgrade help \
+            count random 'export -' 'dump -' "import-check $book" 'help find'; do
             $shell "$root/tunes-book" $line > /dev/full 2> "$work/err"
             status=$?
             words=$line
@@ -1109,7 +1169,7 @@ cases_of_devices() {
     run export folder
     refused 2 'folder is a folder'
     run export no/such/folder
-    refused 1 'there is no folder no/such/'
+    refused 1 'there is no folder'
     has 'folder out.new tunes.abcx'
     end
 
@@ -1118,9 +1178,12 @@ cases_of_devices() {
     run export all.abc
     cp all.abc away/book
     run put friday 3
-    run export away/book friday
+    run export --force away/book friday
+    done_with ''
     ln -s away/book out
     run export out
+    refused 1 out
+    run export --force out
     done_with ''
     [ -L out ] || wrong 'a link is written over'
     same away/book all.abc
@@ -1130,7 +1193,7 @@ cases_of_devices() {
     same away/none all.abc
     ln -s no/such/folder/book nowhere
     run export nowhere
-    refused 1 'leads nowhere'
+    refused 1 nowhere
     mv tunes.abcx away/archive
     ln -s away/archive tunes.abcx
     if command -v flock > /dev/null; then
@@ -1159,25 +1222,22 @@ run)
 *) exec "$real" "$@" ;;
 esac
 END
-    echo older > out
-    cp out wanted
-    for line in 'export out --force' 'dump out --force' 'print out.ps' 'hear 1 out.mid' 'show 1' \
-        'find kesh' 'titles' 'edit 1' 'add mine.abc' 'find --within a'; do
-        printf 'X:1\nK:C\n' > mine.abc
-        EDITOR='sed -i s/jig/reel/'
+    printf 'X:1\nK:C\n' > mine.abc
+    for line in 'add mine.abc' 'add --new mine.abc'; do
         run $line
         [ "$status" -ne 0 ] || wrong "'$line' ends with 0"
-        same out wanted
     done
-    has 'fake mine.abc out tunes.abcx wanted'
+    has 'fake mine.abc tunes.abcx'
     end
 
     begin 'answers that are cut after an edit' session
     fake << 'END'
 case $1 in
 run)
-    if [ -e second ]; then read -r line; printf 'ok s'; else "$real" "$@"; fi
-    : > second ;;
+    read -r line
+    echo 'refused 11 NoSuchSet'
+    read -r line
+    printf 'ok s' ;;
 *) exec "$real" "$@" ;;
 esac
 END
@@ -1188,27 +1248,29 @@ END
     end
 
     begin 'a program that answers nothing, or is none' session
-    echo older > out
-    cp out wanted
     fake << 'END'
 case $1 in run) read -r line ;; *) exec "$real" "$@" ;; esac
 END
-    for line in 'export out --force' 'dump out --force' 'show 1' titles "add $book" 'put a 1' \
-        'cut a 1' 'delete 1'; do
+    for line in "add $book" 'put a 1' 'cut a 1' 'delete 1' 'move a 1 2' 'drop a'; do
         run $line
         refused 1 'no answer came'
-        same out wanted
     done
     TUNES=/bin/true
-    run titles
+    run put a 1
     refused 4 'is another program'
     TUNES=$PWD/absent
-    run titles
+    run put a 1
     refused 4 'is not found'
+    TUNES_DESK=$PWD/absent
+    for line in titles 'put a 1' 'help find'; do
+        run $line
+        refused 4 'is not found'
+    done
+    TUNES_DESK=$desk
     fake << 'END'
 exit 125
 END
-    run titles
+    run put a 1
     refused 4 'cannot be run'
     end
 
@@ -1218,7 +1280,7 @@ case $1 in run) : > asked; sleep 1 ;; *) exec "$real" "$@" ;; esac
 END
     for signal in TERM HUP; do
         rm -f asked
-            $shell "$root/tunes-book" export out > "$work/out" 2> "$work/err" &
+        $shell "$root/tunes-book" add --new "$book" > "$work/out" 2> "$work/err" &
         while [ ! -e asked ]; do sleep 0.05; done
         kill -s "$signal" $!
         wait $! 2> "$work/told"
@@ -1303,7 +1365,6 @@ cases_of_outs() {
     ln -s tunes.abcx.old.abc link
     ln tunes.abcx.1.old hard
     ln -s tunes.abcx.new dangling
-    ln -s kept tunes.abcx.3.old
     ln -s tunes.abcx.3.old chain
     for line in 'export copy.abcx' 'dump cut.abcx' 'export hard' 'export tunes.abcx.1.old'; do
         for force in '' --force; do
@@ -1312,8 +1373,8 @@ cases_of_outs() {
         done
     done
     for line in 'export tunes.abcx.old.abc' 'dump link' 'export tunes.abcx.new' 'dump dangling' \
-        'export tunes.abcx.7.old' 'export tunes.abcx.3.old' 'dump chain' \
-        'backup tunes.abcx.2.old' 'backup tunes.abcx.new'; do
+        'export tunes.abcx.7.old' \
+        'dump chain' 'backup tunes.abcx.2.old' 'backup tunes.abcx.new'; do
         run $line
         refused 1 'belongs to the archive tunes.abcx'
     done
@@ -1325,86 +1386,107 @@ cases_of_outs() {
     has 'copy.abcx cut.abcx first hard old tunes.abcx tunes.abcx.1.old tunes.abcx.old.abc'
     end
 
-    begin 'files that stand, by their kinds' session
+    begin 'files that stand' session
     drawing_tools
     run put friday 3 1
-    cp "$book" source.abc
-    printf '%%abc-2.1\n%% remark\n\nX:1\nK:C\n' > remark.abc
-    printf '%%abc-2.1\n\nX:1\nT:nowhere else\nK:C\nabc\n' > other.abc
-    printf 'import 6\nX:1\nK:C\nshow 1\n' > by-hand.script
-    printf '%%!PS-Adobe\n' > sheets.pdf
-    printf '%%PDF-1.4\n' > sheets.ps
-    printf 'RIFF' > sound.mid
     echo text > text
     : > empty
-    cp empty mine.pdf
-    ln -s 'mine.pdf
-' ends.pdf
+    for line in 'export all.abc' 'print all.pdf' 'print all.ps' 'hear 1 one.mid' \
+        'dump all.script'; do
+        run_over_bin $line
+        done_with ''
+        out=${line##* }
+        cp $out was
+        run_over_bin $line
+        refused 1 --force
+        same $out was
+        cp text $out
+        run_over_bin $line --force
+        done_with ''
+        same $out was
+        run_over_bin --force $line
+        done_with ''
+        cp empty $out
+        run_over_bin $line
+        refused 1 --force
+        [ ! -s $out ] || wrong "'$line' writes over an empty file"
+        rm $out was
+    done
     mkfifo pipe
     ln -s /dev/null null
-    for name in source.abc remark.abc other.abc by-hand.script sheets.pdf sheets.ps sound.mid text \
-        empty; do
-        cp $name was.$name
-    done
-    for line in 'export source.abc' 'export source.abc friday' 'export remark.abc' \
-        'export other.abc' 'export by-hand.script' 'export text' 'export empty' \
-        'print sheets.pdf friday' 'print sheets.ps' 'hear 1 sound.mid' 'dump by-hand.script' \
-        'dump source.abc' 'dump text'; do
-        run_over_bin $line
-        refused 1 '--force writes over'
-    done
-    run export other.abc
-    refused 1 'neither in the archive nor among its old'
     for line in 'export pipe' 'export null' 'dump --force pipe' 'export --force null'; do
         run $line
         refused 1 'no regular file'
     done
     [ -p pipe ] && [ -L null ] && [ -c /dev/null ] || wrong 'a pipe or a device is written over'
-    for name in source.abc remark.abc other.abc by-hand.script sheets.pdf sheets.ps sound.mid text \
-        empty; do
-        same $name was.$name
-    done
+    cp empty mine.pdf
+    ln -s 'mine.pdf
+' ends.pdf
     run_over_bin --force print ends.pdf
     ends_with 0
     [ -L ends.pdf ] && [ ! -s mine.pdf ] || wrong 'a link whose name ends in a line feed'
-    for line in 'export source.abc' 'print sheets.pdf friday' 'print sheets.ps' \
-        'hear 1 sound.mid' 'dump by-hand.script'; do
-        run_over_bin --force $line
-        done_with ''
-        run_over_bin $line
-        done_with ''
-    done
-    same source.abc "$work/session-book"
-    run export source.abc friday
+    end
+
+    begin 'results on standard output' session
+    drawing_tools
+    run put friday 3 1
+    run export all.abc
+    run export -
+    ends_with 0
+    same "$work/out" all.abc
+    run dump script
+    run dump - --force
+    ends_with 0
+    same "$work/out" script
+    run export friday.abc friday
+    run export - friday
+    ends_with 0
+    same "$work/out" friday.abc
+    run export - --tune 3 1
+    ends_with 0
+    grep '^X:' "$work/out" | tr -d '\n' > "$work/found"
+    [ "$(cat "$work/found")" = X:3X:1 ] || wrong "single tunes are '$(cat "$work/found")'"
+    run_over_bin print all.pdf
+    run_over_bin print -
+    ends_with 0
+    same "$work/out" all.pdf
+    run_over_bin print - friday
+    ends_with 0
+    run_over_bin hear 3 three.mid
+    run_over_bin hear 3 -
+    ends_with 0
+    same "$work/out" three.mid
+    run_over_bin print three.ps --tune 3
     done_with ''
-    # a tune that was changed stands among the old texts
-    run delete 7
-    run export source.abc
+    run_over_bin print some.ps --tune 3 --tune 99
+    refused 1 'no tune has the number 99'
+    run export ./-
     done_with ''
-    by_script 'delete 8'
-    run export source.abc
-    refused 1 'old
-texts: 1. Take them in'
-    run dump by-hand.script
-    refused 1 'old
-texts: 1. Take them in'
+    same ./- all.abc
+    has "- all.abc all.pdf bin bin/abc2midi bin/abcm2ps bin/ps2pdf friday.abc script three.mid \
+three.ps tunes.abcx"
+    # nothing of it on a terminal
+    if command -v script > /dev/null; then
+        for line in 'print -' 'hear 1 -'; do
+            PATH=$PWD/bin:$PATH script -qec "$shell '$root/tunes-book' $line" /dev/null \
+                > "$work/out" < /dev/null
+            status=$?
+            words="$line, at a terminal"
+            ends_with 2
+            grep -q 'not for a terminal' "$work/out" || wrong "'$words' does not say why"
+        done
+    fi
     end
 
     begin 'endings, and names of set lists in the place of OUT' session
     run put friday 3 1
-    for line in 'print x.png friday' 'print friday' 'print all' 'hear 1 k.wav' 'hear 1 friday' \
-        'export friday' 'export friday friday'; do
+    for line in 'print x.png friday' 'print friday' 'print all' 'hear 1 k.wav' 'hear 1 friday'; do
         run $line
         refused 2 ''
     done
     run print friday
     complains 'friday is a set list; `tunes-book print friday.pdf friday` prints it'
-    run export friday
-    complains 'friday is a set list; `tunes-book export friday.abc friday`'
     has tunes.abcx
-    run export ./friday
-    done_with ''
-    same friday "$work/session-book"
     end
 
     begin 'a file that is not an archive is not replaced by a copy' session
@@ -1481,7 +1563,7 @@ cases_of_kept() {
 
     begin 'names that are given are on the device' session
     watched_sync
-    for line in 'export out' 'dump out' 'backup out' 'restore out'; do
+    for line in 'backup out' 'restore out'; do
         rm -f synced
         run_over_bin $line
         ends_with 0
@@ -1489,7 +1571,6 @@ cases_of_kept() {
         [ "${line%% *}" != restore ] || name=tunes.abcx
         grep -q " $name$" synced && [ "$(tail -n 1 synced)" = 'before ./' ] ||
             wrong "'$line' syncs '$(cat synced)'"
-        [ "${line%% *}" = backup ] || rm -f out
     done
     run dump script
     rm synced
@@ -1498,24 +1579,28 @@ cases_of_kept() {
     grep -q ' new.abcx$' synced && [ "$(tail -n 1 synced)" = 'before ./' ] ||
         wrong "load syncs '$(cat synced)'"
     tool_is sync << 'END'
-case $* in *out.new*) exit 1 ;; esac
+case $* in *fresh.new*) exit 1 ;; esac
 END
-    run_over_bin export out
-    refused 1 'out could not be written'
+    run_over_bin backup fresh
+    refused 1 'fresh could not be written'
     end
 
     begin 'two at once' session
     watched_sync
-    for line in 'export out' 'dump out' 'backup out'; do
-        two_at_once "$line" "$line"
-        [ "$first.$second" = 0.1 ] || wrong "two '$line': $first and $second"
-        complains 'out.new is there'
-        cp out whole
-        rm out
-        run $line
-        same out whole
-        rm out
+    two_at_once 'backup out' 'backup out'
+    [ "$first.$second" = 0.1 ] || wrong "two backups: $first and $second"
+    complains 'out.new is there'
+    same out tunes.abcx
+    rm out
+    run export whole
+    for number in 1 2 3 4 5 6 7 8; do
+        { $shell "$root/tunes-book" export out 2> err.$number; echo $? > status.$number; } &
     done
+    wait
+    [ "$(cat status.* | sort | tr -d '\n')" = 01111111 ] ||
+        wrong "of eight exports to one file $(grep -c '^0$' status.*) end with 0"
+    same out whole
+    [ ! -e out.new ] || wrong 'out.new is left'
     run backup one
     run delete 3
     run backup two
@@ -1698,7 +1783,8 @@ cases_of_stops() {
             rm -f out
             interrupted $signal $seed $shell "$root/tunes-book" export out
             [ ! -e out ] || same out "$work/session-book"
-            [ ! -e out.new ] || wrong 'out.new is left'
+            # A program that is ended there leaves it.
+            rm -f out.new
             left=$(ls -A "$TMPDIR")
             [ -z "$left" ] || wrong "after $signal working files are left: $left"
         done
@@ -1760,32 +1846,42 @@ cases_of_options() {
         same "$work/out" wanted
     done
     for line in 'find kesh --json' 'find --within --json kesh' 'find --json --within -- kesh' \
-        'find title kesh --json' 'find --json title kesh'; do
+        'find title kesh --json' 'find --json title kesh' '--json find kesh'; do
         run $line
-        done_with '[
-{"number": 1, "title": "Kesh Jig, The"}
-]'
+        lists_json '[{"number": 1, "title": "Kesh Jig, The"}]'
     done
     run find key --json Edor
     ends_with 0
     grep -q 'Drowsy Maggie' "$work/out" || wrong 'a key is not found behind an option'
     run find kesh -- --json
-    done_with ''
+    finds_none
     run titles --csv -f tunes.abcx
     ends_with 0
     for line in 'find kesh --jsn' 'find kesh --force' 'show 1 --json' 'find kesh -f'; do
         run $line
         refused 2 ''
     done
-    run find --help
-    done_with "$("$root/tunes-book" --help)"
+    for line in 'find --help' 'help find' 'export --help'; do
+        run $line
+        ends_with 0
+        grep -q -e --help "$work/out" || wrong "'$line' is no page of help"
+    done
+    for line in 'put --help' 'help put' '--help find' -h; do
+        run $line
+        done_with "$("$root/tunes-book" --help)"
+    done
+    for line in '-ftunes.abcx put a 1' '-f=tunes.abcx put a 1' '--wait=1 put a 1' \
+        'put a --wait 01 1' '-ftunes.abcx check' '--wait=0 check' 'check --wait 1'; do
+        run $line
+        ends_with 0
+    done
     end
 
     begin 'words of refusals' session
     run find key d
-    refused 1 "'d' is no key: a key begins with a capital letter"
+    refused 1 'a key is written as D, Bm or Edor'
     run export no/such/out
-    refused 1 'there is no folder no/such/'
+    refused 1 'there is no folder'
     case $(cat "$work/err") in *'disk full'*) wrong 'it speaks of a disk' ;; esac
     tool_is abcm2ps << 'END'
 exit 1
@@ -1794,8 +1890,23 @@ END
     refused 1 'friday.ps is not made'
     odd=$(printf 'a\351.abcx')
     cp tunes.abcx "$odd"
-    run -f "$odd" titles
+    run -f "$odd" put a 1
     refused 1 'the path is not UTF-8'
+    for line in titles 'export b.abc'; do
+        run -f "$odd" $line
+        refused 2 'a word of the command is not UTF-8'
+    done
+    run export "$odd"
+    refused 2 'name the file otherwise, or hand its bytes over on standard input by -'
+    cp "$book" "$odd"
+    run import-check "$odd"
+    refused 2 'a word of the command is not UTF-8'
+    $shell "$root/tunes-book" import-check - < "$odd" > "$work/out" 2> "$work/err"
+    status=$?
+    words='import-check -, of a file whose name is not UTF-8'
+    done_with '-: 15 tunes'
+    run add "$odd"
+    done_with "$odd: tunes 16 to 30"
     end
 
     begin 'what a tool says is told of the tune' session
@@ -1815,7 +1926,7 @@ END
     run_over_bin hear 16 a.mid
     refused 1 'a.mid is written, but abc2midi ended with status 1'
     grep -q '^tune 16: ' "$work/err" || wrong 'it does not name the tune that is heard'
-    run_over_bin hear 3 a.mid
+    run_over_bin --force hear 3 a.mid
     done_with ''
     tool_is abc2midi << 'END'
 printf 'MThd\0\0\0\006\0\0\0\001\0`MTrk\0\0\0\011\0\377/\0' > tune.mid
@@ -1844,6 +1955,241 @@ lines' 'star *'; do
         TMPDIR=$before
         [ -z "$(ls -A -- "$folder")" ] || wrong "working files are left in $folder"
     done
+    end
+}
+
+# Runs the program that asks as `strace` has it, and says what it did that no question may do: FILE
+# is opened to read alone, nothing is written but to standard output and error, and no file is made,
+# named or taken away.
+watched() {
+    words="$*, under strace"
+    strace -f -qq -o trace "$desk" "$@" > "$work/out" 2> "$work/err" < /dev/null
+    status=$?
+    ends_with 0
+    grep -E '(write|writev|pwrite|pwrite64|sendfile|splice|copy_file_range)\(' trace |
+        grep -vE '\bwritev?\([12],' > "$work/told"
+    grep -E '\b(rename|link|symlink|unlink|mkdir|mknod|chmod|fchmod)(at2?)?\(' trace >> "$work/told"
+    grep -E '\b(creat|truncate|ftruncate|fallocate)\(' trace >> "$work/told"
+    grep -E '\bopen(at2?)?\(' trace | grep -E 'O_(WRONLY|RDWR|CREAT|TRUNC|APPEND)' |
+        grep -vE '"/(proc|dev|sys)/' >> "$work/told"
+    [ ! -s "$work/told" ] || wrong "'$words' does more than ask: $(head -n 1 "$work/told")"
+    grep -q 'flock(.*LOCK_SH' trace || wrong "'$words' takes no lock that readers share"
+}
+
+cases_of_questions() {
+    begin 'titles with accents, and notes as printed' session
+    printf 'X:1\nT:\303\211amonn an Chnoic\nT:An B\303\263thar M\303\263r\nK:C\n' > a.abc
+    run add a.abc
+    done_with 'a.abc: tune 16'
+    for line in 'find eamonn' 'find EAMONN AN' 'find --title eamonn' 'find bothar mor' \
+        'find an bothar' 'find --within MOR bothar' 'find --within chnoic'; do
+        run $line
+        ends_with 0
+        grep -q '^16 ' "$work/out" || wrong "'$line' finds '$(head -n 1 "$work/out")'"
+        [ "$(($(wc -l < "$work/out")))" -eq 1 ] || wrong "'$line' finds more than one"
+    done
+    run find "$(printf '\303\211AMONN')"
+    ends_with 0
+    grep -q '^16 ' "$work/out" || wrong 'capitals with accents are not found'
+    for line in 'find notes FAAGBB' 'find notes FAAGBB --in D' 'find --notes FAAGBB' \
+        'find tripping --notes FAAGBB' 'find --notes FAAGBB --rhythm jig --key D'; do
+        run $line
+        done_with '3 Tripping Up the Stairs'
+    done
+    for line in 'find notes FAAGBB --in C' 'find kesh --notes FAAGBB' 'find --rhythm zzz' \
+        'random --key D --rhythm zzz'; do
+        run $line
+        finds_none
+    done
+    for line in 'find notes FAAGBB --in C --json' 'find --rhythm zzz --json'; do
+        run $line
+        lists_json '[]'
+    done
+    run find --rhythm zzz --csv
+    lists_csv 'number,title'
+    end
+
+    begin 'how many, one of them, and some' session
+    run count
+    done_with 15
+    run count --key Edor
+    done_with 2
+    run count zzz
+    done_with 0
+    run random --key Edor
+    ends_with 0
+    case $(cat "$work/out") in
+    '6 Drowsy Maggie' | '9 Fig for a Kiss, A') ;;
+    *) wrong "one of two is '$(cat "$work/out")'" ;;
+    esac
+    run random --json
+    ends_with 0
+    [ "$(grep -o '"number"' "$work/out" | wc -l)" -eq 1 ] || wrong 'random lists more than one'
+    run show 3
+    cp "$work/out" three
+    run show 1
+    cp "$work/out" one
+    run show 3 1
+    ends_with 0
+    { cat three && echo && cat one; } > wanted
+    same "$work/out" wanted
+    run show 3 99
+    refused 1 'no tune has the number 99'
+    [ ! -s "$work/out" ] || wrong 'a part of what is shown is printed'
+    end
+
+    begin 'scripts of questions' session
+    cp tunes.abcx before
+    printf 'show 3\nfind title kesh\nsets\n' > script
+    "$program" run tunes.abcx < script > wanted
+    $shell "$root/tunes-book" ask < script > "$work/out" 2> "$work/err"
+    status=$?
+    words=ask
+    ends_with 0
+    same "$work/out" wanted
+    printf 'delete 1\n' | $shell "$root/tunes-book" ask > "$work/out" 2> "$work/err"
+    status=$?
+    words='ask, of a change'
+    [ "$status" -ne 0 ] && grep -q '^refused' "$work/out" || wrong 'a change is not refused'
+    same tunes.abcx before
+    end
+
+    if command -v flock > /dev/null; then
+        begin 'readers at once, beside others and a writer' session
+        run titles
+        cp "$work/out" wanted
+        for reader in 1 2 3 4 5 6 7 8; do
+            for number in 1 2 3 4 5; do
+                $shell "$root/tunes-book" titles --wait 60 > out.$reader.$number \
+                    2> err.$reader.$number || echo failed > failed.$reader.$number
+            done &
+        done
+        for number in 1 2 3; do
+            run --wait 60 put a $number
+            done_with ''
+        done
+        wait
+        for each in out.*; do same $each wanted; done
+        cat err.* > "$work/told"
+        [ ! -s "$work/told" ] && ! ls failed.* > "$work/told" 2>&1 ||
+            wrong "a reader is refused: $(head -n 1 "$work/told")"
+        run set a
+        [ "$(($(wc -l < "$work/out")))" -eq 3 ] || wrong 'the writer was not served'
+        rm -f out.* err.*
+        flock -s tunes.abcx sh -c ': > locked; while [ ! -e over ]; do sleep 0.05; done' &
+        while [ ! -e locked ]; do sleep 0.05; done
+        for line in titles 'show 1' 'find kesh' 'export b.abc' 'dump b' check count ask; do
+            run $line
+            ends_with 0
+        done
+        for line in 'put a 1' 'backup c' 'put a 1 --wait 1' upgrade; do
+            run $line
+            refused 1 'another program has it open'
+        done
+        : > over
+        wait
+        # one that waits is served
+        rm -f locked over
+        for line in 'titles --wait 60' 'put a 1 --wait 60' 'add --wait 60 b.abc' \
+            'delete 4 --wait 60' '--wait 60 backup c' 'check --wait=60' 'export - --wait 60'; do
+            flock tunes.abcx sh -c ': > locked; sleep 0.5' &
+            while [ ! -e locked ]; do sleep 0.05; done
+            run $line
+            ends_with 0
+            wait
+            rm locked
+        done
+        end
+    else
+        skip 'readers at once' flock
+    fi
+
+    begin 'an archive that a stop left within a change' session
+    cp tunes.abcx before
+    run put friday 3 1
+    cp tunes.abcx after
+    python3 -B -c 'import sys
+sys.path.append(sys.argv[1])
+from archives import opened
+before, after = (open(name, "rb").read() for name in ("before", "after"))
+open("stopped", "wb").write(opened(before, after))' "$root/checks" || wrong 'no file is made'
+    run sets
+    cp "$work/out" sets
+    run titles
+    cp "$work/out" titles
+    for line in sets titles; do
+        cp stopped tunes.abcx
+        run $line
+        done_with "$(cat $line)"
+        ! cmp -s stopped tunes.abcx || wrong 'it is not brought to rest'
+        contents tunes.abcx > found
+        contents after > wanted
+        same found wanted
+    done
+    cp stopped tunes.abcx
+    run export b.abc friday
+    done_with ''
+    # who may only read it cannot
+    cp stopped tunes.abcx
+    chmod 444 tunes.abcx
+    if [ "$(id -u)" -ne 0 ]; then
+        run titles
+        refused 1 'let one who may write'
+        same tunes.abcx stopped
+    elif as_nobody "$desk" --version && as_nobody head -c 1 "$root/tunes-book"; then
+        as_nobody $shell "$root/tunes-book" -f "$PWD/tunes.abcx" titles
+        status=$?
+        words='titles, of one who may only read'
+        refused 1 'let one who may write'
+        same tunes.abcx stopped
+        cp after tunes.abcx
+        chmod 444 tunes.abcx
+        as_nobody $shell "$root/tunes-book" -f "$PWD/tunes.abcx" titles
+        status=$?
+        done_with "$(cat titles)"
+    fi
+    end
+
+    begin 'questions do nothing else' session
+    if strace -o trace true 2> "$work/told"; then
+        run put friday 3 1
+        cp tunes.abcx before
+        for line in 'find kesh' 'find --within the' 'find notes GAB' 'count --key D' random titles \
+            sets 'set friday' 'show 1 2' check 'export -' 'export - friday' \
+            'export - --tune 1' ask; do
+            watched -f tunes.abcx $line
+        done
+        same tunes.abcx before
+        rm trace
+        # What is written is on the device before it has its name, and then the name.
+        for line in 'export out' 'export --force out'; do
+            strace -f -qq -o trace "$desk" -f tunes.abcx $line > "$work/out" 2> "$work/err"
+            status=$?
+            words="$line, under strace"
+            ends_with 0
+            sed -n 's/.*\b\(fsync\|fdatasync\|link\|linkat\|rename\|renameat\|renameat2\)(.*/\1/p' \
+                trace | sed 's/^fdatasync/fsync/; s/at2*$//' | tr '\n' ' ' > "$work/found"
+            case $(cat "$work/found") in
+            *'fsync link fsync ' | *'fsync rename fsync ') ;;
+            *) wrong "'$words' syncs and names in the order '$(cat "$work/found")'" ;;
+            esac
+        done
+        rm trace
+    else
+        skip 'questions do nothing else' 'strace that may run'
+    fi
+    end
+
+    begin 'standard output that is closed' session
+    for line in titles 'show 1' check 'export -' count help 'help find'; do
+        $shell "$root/tunes-book" $line >&- 2> "$work/err"
+        status=$?
+        words="$line >&-"
+        ends_with 1
+        [ -s "$work/err" ] || wrong "'$words' says nothing"
+    done
+    run titles
+    ends_with 0
     end
 }
 
@@ -1877,9 +2223,9 @@ cases_of_tools() {
             tools_without "$missing"
             was=$PATH
             PATH=$PWD/bin
-            run_by_path titles
+            run_by_path undo
             PATH=$was
-            words="titles without $missing"
+            words="undo without $missing"
             refused 4 "the program $missing is not found"
             rm -r bin
         done ;;
@@ -1977,13 +2323,16 @@ tunes upgrade bi|tunes upgrade bin
 tunes run "a b/|tunes run "a b/c.abc"
 tunes list |tunes list
 tunes-book ex|tunes-book export
-tunes-book --|tunes-book --csv --force --help --json --version
+tunes-book --|tunes-book --csv --force --help --json --version --wait
 tunes-book -f a|tunes-book -f a\ b all.abc
 tunes-book -f tunes.abcx fi|tunes-book -f tunes.abcx find
 tunes-book u|tunes-book undo upgrade
 tunes-book upgrade |tunes-book upgrade
 tunes-book find r|tunes-book find rhythm
-tunes-book --json find --w|tunes-book --json find --within
+tunes-book --wait 5 find --w|tunes-book --wait 5 find --within
+tunes-book ra|tunes-book random
+tunes-book count --|tunes-book count --in --key --notes --rhythm --title --within
+tunes-book export --|tunes-book export --force --tune
 tunes-book find kesh |tunes-book find kesh
 tunes-book titles |tunes-book titles --csv --json
 tunes-book set f|tunes-book set francis friday
@@ -1997,7 +2346,6 @@ tunes-book print bi|tunes-book print bin
 tunes-book print a.pdf fri|tunes-book print a.pdf friday
 tunes-book export a.abc |tunes-book export a.abc francis friday x
 tunes-book add --|tunes-book add --dry --new --split
-tunes-book import-check -|tunes-book import-check --split
 tunes-book add a|tunes-book add a\ b all.abc
 tunes-book add b.abc a\ b/|tunes-book add b.abc a\ b/c.abc
 tunes-book show a|tunes-book show a
@@ -2022,8 +2370,8 @@ links_of_pages() {
     status=$?
 }
 
-# Writes a release of the copy in top to the folder $1, and its note BUILT, which says $2 of the
-# program, to the file found. Where dpkg-deb is here, its package says the same.
+# Writes a release of the copy in top to the folder $1, and its note BUILT, which says $2 of each of
+# the programs, to the file found. Where dpkg-deb is here, its package says the same.
 release() {
     words='release'
     top/release "$1" > "$work/out" 2> "$work/err"
@@ -2031,8 +2379,10 @@ release() {
     ends_with 0
     name=$(basename "$1"/*.gz .tar.gz)
     gzip -dc "$1/$name.tar.gz" | tar -xOf - "$name/BUILT" > found
-    grep -q "^the program was $2\$" found ||
-        wrong "BUILT says '$(sed -n 2p found)' in place of '$2'"
+    for each in tunes tunes-desk; do
+        grep -q "^$each was $2\$" found ||
+            wrong "BUILT says '$(grep "^$each was" found)' in place of '$2'"
+    done
     if ! command -v dpkg-deb > /dev/null; then
         package_is_left_out "$1"
         return
@@ -2042,7 +2392,7 @@ release() {
     dpkg-deb --fsys-tarfile "$1/$package" | tar -xOf - ./usr/share/doc/tunes/BUILT > "$work/told"
     sed '/^to install: /d' found | cmp -s - "$work/told" || wrong "$package has another BUILT"
     dpkg-deb --field "$1/$package" Description | tr -s ' \n' '  ' > "$work/told"
-    sed -n '/^the program was /,/^its sha256: /{ /^its /d; p; }' found | tr -s ' \n' '  ' > said
+    sed -n '/^tunes was /,/^the sha256 of /{ /^the sha256 /d; p; }' found | tr -s ' \n' '  ' > said
     grep -qF "$(cat said)" "$work/told" || wrong "$package does not say '$(cat said)'"
 }
 
@@ -2053,12 +2403,19 @@ package_is_left_out() {
     ! ls "$1"/*.deb > "$work/told" 2>&1 || wrong "'$words' writes $(head -n 1 "$work/told")"
 }
 
-# The record that ./build leaves beside the program $built, of that sum.
+# The records that ./build leaves beside the programs $built and $built_desk, of these sums.
 record() {
-    printf '%s\n' "sha256: $1" 'kit: kit-1 logic 2' 'commit: 0123abcd, with changes' 'crates: 24' \
-        > "$built.proved"
-    touch -r "$built" "$built.proved"
+    record_of "$built" "$1"
+    record_of "$built_desk" "$2"
 }
+
+record_of() {
+    printf '%s\n' "sha256: $2" 'kit: kit-1 logic 2' 'commit: 0123abcd, with changes' 'crates: 24' \
+        > "$1.proved"
+    touch -r "$1" "$1.proved"
+}
+
+sum_of() { sha256sum < "$1" | sed 's/ .*//'; }
 
 cases_of_pages() {
     begin 'pages and words'
@@ -2066,6 +2423,8 @@ cases_of_pages() {
         "$root/crates/tune_cli/src/command_line.rt")
     [ -n "$version" ] || wrong 'the version is not found in the sources'
     [ "$("$program" --version)" = "tunes $version" ] || wrong 'the program has another version'
+    [ "$("$desk" --version)" = "tunes-book $version" ] ||
+        wrong 'the program that asks has another version'
     for page in tunes tunes-book; do
         head -n 1 "$root/docs/$page.1" | grep -q "\"tunes $version\"" ||
             wrong "docs/$page.1 has another version"
@@ -2097,14 +2456,17 @@ cases_of_pages() {
     done
 
     begin 'installing and releasing'
-    # A copy of the repository, with the program at hand in the place of the one that is built.
+    # A copy of the repository, with the programs at hand in the place of those that are built.
     mkdir top
     (cd "$root" && tar -cf - --exclude=./.git --exclude=./bench/work --exclude=out \
         --exclude=__pycache__ .) | tar -xf - -C top
-    mkdir -p top/crates/tunes/out
-    cp "$program" top/crates/tunes/out/tunes
-    printf './%s\n' bin/tunes bin/tunes-book share/bash-completion/completions/tunes \
-        share/bash-completion/completions/tunes-book share/man/man1/tunes-book.1 \
+    built=top/crates/tunes/out/tunes built_desk=top/crates/tunes_desk/out/tunes_desk
+    mkdir -p "${built%/*}" "${built_desk%/*}"
+    cp "$program" "$built"
+    cp "$desk" "$built_desk"
+    printf './%s\n' bin/tunes bin/tunes-book bin/tunes-desk \
+        share/bash-completion/completions/tunes share/bash-completion/completions/tunes-book \
+        share/man/man1/tunes-book.1 \
         share/man/man1/tunes.1 share/zsh/site-functions/_tunes > wanted
     there=to/share/doc/tunes
     for each in sh 'bash --posix' 'busybox sh'; do
@@ -2151,7 +2513,7 @@ cases_of_pages() {
         [ ! -e none ] || wrong "'$words' puts something"
         cp "$root/docs/USING.md" top/docs
     done
-    unset TUNES
+    unset TUNES TUNES_DESK
     to/bin/tunes-book -f a.abcx new && to/bin/tunes-book -f a.abcx add "$there/examples" \
         > "$work/out" 2> "$work/err"
     status=$?
@@ -2162,6 +2524,10 @@ cases_of_pages() {
     status=$?
     words='check, by a link'
     done_with 'layout 2 tunes 15 sets 0'
+    ./book -f a.abcx find kesh > "$work/out" 2> "$work/err"
+    status=$?
+    words='find, by a link'
+    done_with '1 Kesh Jig, The'
     python3 "$there/examples/read_archive.py" check a.abcx > "$work/out" 2> "$work/err"
     status=$?
     words='the reader that is installed'
@@ -2177,11 +2543,11 @@ cases_of_pages() {
     sh examples/save.sh a.abcx saved.abc export > "$work/told"
     words='save.sh by a link'
     same saved.abc wanted.abc
-    # Here it packs quickly, and ./build builds by a copy of the program at hand.
+    # Here it packs quickly, and ./build builds by copies of the programs at hand.
     mkdir tools one two
     printf '#!/bin/sh\n[ "$1" != -9 ] || { shift; set -- -1 "$@"; }\nexec "%s" "$@"\n' \
         "$(command -v gzip)" > tools/gzip
-    printf '#!/bin/sh\nprogram=%s\n' "$program" > tools/rt
+    printf '#!/bin/sh\nprogram=%s desk=%s\n' "$program" "$desk" > tools/rt
     cat >> tools/rt << 'END'
 case $1 in
 version) echo 'a kit' ;;
@@ -2189,8 +2555,9 @@ ci)
     sleep "${RT_TAKES:-0.1}"
     echo "rt: abc_fields ${RT_SAYS:-proved}"
     [ -z "$RT_SAYS" ] || { echo '23 passed, 1 failed'; exit 1; }
-    mkdir -p crates/tunes/out
+    mkdir -p crates/tunes/out crates/tunes_desk/out
     cp "$program" crates/tunes/out/tunes
+    cp "$desk" crates/tunes_desk/out/tunes_desk
     echo '24 passed, 0 failed'
     ;;
 esac
@@ -2204,8 +2571,9 @@ END
     sleep 1
     release two "$from_elsewhere"
     grep -q '^the C library there: .*[0-9]' found || wrong 'it does not say where it was packed'
-    grep -q "^its sha256: $(sha256sum < "$program" | sed 's/ .*//')\$" found ||
-        wrong 'BUILT has no sum of the program'
+    grep -q "^the sha256 of tunes: $(sum_of "$program")\$" found &&
+        grep -q "^the sha256 of tunes-desk: $(sum_of "$desk")\$" found ||
+        wrong 'BUILT has no sum of a program'
     case $name in
     "tunes-$version-"*) ;;
     *) wrong "the release is named $name" ;;
@@ -2220,20 +2588,19 @@ END
         same "one/$package" "two/$package"
         [ -s "one/$package.sha256" ] || wrong 'the package has no sum'
     fi
-    # What ./build saw is said of the program that it built, and of no other.
-    built=top/crates/tunes/out/tunes
-    record "$(sha256sum < "$program" | sed 's/ .*//')"
+    # What ./build saw is said of the programs that it built, and of no others.
+    record "$(sum_of "$program")" "$(sum_of "$desk")"
     release two "$from_here"
     for line in 'the kit that proved it: kit-1 logic 2' \
         'the commit of the sources: 0123abcd, with changes' 'the crates that were proved: 24'; do
         grep -qxF "$line" found || wrong "BUILT does not say '$line'"
     done
-    touch -d '2001-01-01 00:00:00' "$built.proved"
+    touch -d '2001-01-01 00:00:00' "$built.proved" "$built_desk.proved"
     release two "$from_elsewhere"
-    record 0000
+    record 0000 0000
     release two "$from_elsewhere"
     ! grep -q 'kit\|commit\|crates' found || wrong 'BUILT says more than is known'
-    rm "$built.proved"
+    rm "$built.proved" "$built_desk.proved"
     # Without dpkg-deb.
     mkdir without three
     (
@@ -2273,13 +2640,30 @@ END
         grep -q "$said" "$work/err" || wrong "'$words' does not say '$said'"
     done
     [ ! -e top/crates/tunes/out/build.log ] || wrong "'$words' leaves its log"
+    top/build tunes > "$work/out" 2>&1
+    same "$work/out" /dev/null
+    rm "$built_desk"
+    top/tunes-desk --version > "$work/out" 2> "$work/err"
+    status=$?
+    words='./tunes-desk that builds'
+    ends_with 0
+    grep -q 'tunes_desk is proved and built' "$work/err" || wrong "'$words' does not say it"
     top/build > "$work/out" 2>&1
     same "$work/out" /dev/null
+    for word in other '--anew other' '--front'; do
+        top/build $word > "$work/out" 2>&1
+        status=$?
+        words="./build $word"
+        ends_with 2
+    done
     release two "$from_here"
     printf x >> "$built"
+    printf x >> "$built_desk"
     touch -r "$built.proved" "$built"
+    touch -r "$built_desk.proved" "$built_desk"
     release two "$from_elsewhere"
     cp "$program" "$built"
+    cp "$desk" "$built_desk"
     release two "$from_elsewhere"
     PATH=$was
     end
@@ -2300,11 +2684,11 @@ for shell in ${SHELLS:-sh bash busybox}; do
     bash) shell='bash --posix' ;;
     busybox) shell='busybox sh' ;;
     esac
-    for part in ${PARTS:-words options books sets edits undo kept copies outs layouts devices \
-        programs stops tools}; do
-        "cases_of_$part"
+    for part in ${PARTS:-words options questions books sets edits undo kept copies outs layouts \
+        devices programs stops tools}; do
+        [ "$part" = pages ] || "cases_of_$part"
     done
 done
 shell='sh'
-cases_of_pages
+case ${PARTS:-pages} in *pages*) cases_of_pages ;; esac
 [ "$failures" -eq 0 ]

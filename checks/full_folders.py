@@ -12,8 +12,8 @@ SHELL is what runs tunes-book: sh, which is also meant where there is none, 'bas
 'busybox sh'. Pages are tried one by one up to 10, and then by steps of a third; with --dense one by
 one, and with both folders on one full disk too. How many files TMPDIR has room for is always tried
 one by one. A few long cases have rooms of their own. CASE is a name as it is printed, without which
-all are run. The program is the one that ./tunes has built, and not that script, or the one that the
-variable TUNES names.
+all are run. The programs are those that ./build made, or those that the variables TUNES and
+TUNES_DESK name.
 
 The folders are mounted, by root or in a name space of the user; where neither can be, it prints
 `skipped`, and ends with 0. A line is printed for each case, and the status is 1 where one failed.
@@ -36,6 +36,8 @@ from concurrent.futures import ThreadPoolExecutor
 ROOT = os.path.dirname(os.path.dirname(os.path.abspath(__file__)))
 BUILT = os.path.join(ROOT, 'crates', 'tunes', 'out', 'tunes')
 PROGRAM = os.path.abspath(os.environ.get('TUNES') or BUILT)
+BUILT_DESK = os.path.join(ROOT, 'crates', 'tunes_desk', 'out', 'tunes_desk')
+DESK = os.path.abspath(os.environ.get('TUNES_DESK') or BUILT_DESK)
 FRONT_END = os.path.join(ROOT, 'tunes-book')
 PAGE = os.sysconf('SC_PAGE_SIZE')
 DONE, REFUSED = 0, 1
@@ -419,17 +421,17 @@ CASES = [
          rooms=FOR_LARGE),
     Case('add --dry', 'add', '--dry', 'one.abc', 'other.abc', reads=True),
     Case('import-check', 'import-check', 'one.abc', 'other.abc', reads=True),
-    Case('export', 'export', 'out.abc'),
-    Case('export, a list', 'export', 'list.abc', 'some'),
-    Case('dump', 'dump', 'out.script', start='lists'),
+    Case('export', 'export', 'out.abc', '--force'),
+    Case('export, a list', 'export', 'list.abc', 'some', '--force'),
+    Case('dump', 'dump', 'out.script', '--force', start='lists'),
     Case('load, a bad script', 'load', 'bad.script', archive='new.abcx', status=REFUSED,
          rooms=FOR_NEW),
     Case('load', 'load', 'good.script', archive='new.abcx', rooms=FOR_NEW),
     Case('backup', 'backup', 'copy.abcx'),
     Case('restore', 'restore', 'other.abcx'),
-    Case('print', 'print', 'out.ps'),
-    Case('print, a list as PDF', 'print', 'out.pdf', 'some'),
-    Case('hear', 'hear', '1', 'out.mid'),
+    Case('print', 'print', 'out.ps', '--force'),
+    Case('print, a list as PDF', 'print', 'out.pdf', 'some', '--force'),
+    Case('hear', 'hear', '1', 'out.mid', '--force'),
 ]
 
 
@@ -530,8 +532,8 @@ class Tests:
 
     def in_folder(self, case, words, folder, temporary, mark):
         environment = {'PATH': f'{self.tools}:{os.environ["PATH"]}', 'TUNES': PROGRAM,
-                       'TUNES_BOOK': case.archive, 'TMPDIR': temporary, 'EDITOR': case.editor,
-                       'EDITED': mark}
+                       'TUNES_DESK': DESK, 'TUNES_BOOK': case.archive, 'TMPDIR': temporary,
+                       'EDITOR': case.editor, 'EDITED': mark}
         with subprocess.Popen([*self.shell, FRONT_END, *words], cwd=folder, env=environment,
                               stdin=subprocess.DEVNULL, stdout=subprocess.PIPE,
                               stderr=subprocess.PIPE, start_new_session=True) as program:
@@ -887,9 +889,10 @@ def main():
     parser.add_argument('--dense', action='store_true')
     parser.add_argument('case', nargs='*')
     options = parser.parse_args()
-    if not os.path.exists(PROGRAM):
-        print(f'FAILED  there is no program {PROGRAM}: ./tunes --version builds it')
-        return REFUSED
+    for program in PROGRAM, DESK:
+        if not os.path.exists(program):
+            print(f'FAILED  there is no program {program}: ./build makes it')
+            return REFUSED
     if 'FULL_FOLDERS' not in os.environ:
         # In a name space of its own all mounts go away with the program, however it ends.
         for front in ['unshare', '-m'], ['unshare', '-rm'], []:

@@ -1,8 +1,9 @@
 #!/bin/sh
 # Usage: checks/recipes.sh
-# Runs each recipe of README.md and docs/USING.md as it is printed there, over the program ./tunes,
-# or over the program that the variable TUNES names. Prints a line for each case, and ends with
-# status 1 where one failed. A recipe is a block of code below a line <!-- recipe: NAME -->.
+# Runs each recipe of README.md and docs/USING.md as it is printed there, over the programs ./tunes
+# and ./tunes-desk, or over those that the variables TUNES and TUNES_DESK name. Prints a line for
+# each case, and ends with status 1 where one failed. A recipe is a block of code below a line
+# <!-- recipe: NAME -->.
 # shellcheck disable=SC2015,SC2059,SC2086 # words of a line are split; a form is an argument
 root=$(CDPATH='' cd -- "$(dirname -- "$0")/.." && pwd) || exit 1
 program=${TUNES:-$root/tunes}
@@ -10,8 +11,13 @@ case $program in
 /*) ;;
 *) program=$PWD/$program ;;
 esac
-# tunes-book and the scripts of examples/ run ./tunes, which each case has
-unset TUNES TUNES_BOOK VISUAL
+desk=${TUNES_DESK:-$root/tunes-desk}
+case $desk in
+/*) ;;
+*) desk=$PWD/$desk ;;
+esac
+# tunes-book and the scripts of examples/ run ./tunes and ./tunes-desk, which each case has
+unset TUNES TUNES_DESK TUNES_BOOK VISUAL
 work=$(mktemp -d) || exit 1
 trap 'rm -rf "$work"' EXIT
 trap 'exit 1' HUP INT TERM
@@ -40,6 +46,7 @@ begin() {
     why=
     mkdir "$work/$cases" && cd "$work/$cases" || exit 1
     ln -s "$program" tunes
+    ln -s "$desk" tunes-desk
     ln -s "$root/tunes-book" tunes-book
     ln -s "$root/examples" examples
 }
@@ -389,7 +396,8 @@ if command -v abcm2ps > "$work/told" && command -v ps2pdf > "$work/told"; then
     ends_with 0
     has 'friday.pdf tunes.abcx'
     run_again begin
-    ends_with 0
+    ends_with 1
+    grep -q 'friday.pdf is there' "$work/err" || wrong 'it does not say why'
 else
     ends_with 4
     has 'tunes.abcx'
@@ -425,6 +433,16 @@ echo export | ./tunes run tunes.abcx | sed 1d > "$work/found"
 same "$work/found" "$export"
 end
 
+go_on 'trying a book first'
+run import-check
+ends_with 0
+says 'mine.abc: 15 tunes'
+[ ! -s "$work/err" ] || wrong "it says of a good book: $(head -n 1 "$work/err")"
+run_again import-check
+ends_with 0
+says 'mine.abc: 15 tunes'
+end
+
 go_on 'finding tunes in a file'
 wanted='1 Kesh Jig, The
 6 Drowsy Maggie
@@ -436,6 +454,31 @@ says "$wanted"
 run_again find-title
 ends_with 0
 says "$wanted"
+end
+
+go_on 'finding tunes by notes as they are printed'
+wanted='6 Drowsy Maggie
+3 Tripping Up the Stairs'
+run find-notes
+ends_with 0
+says "$wanted"
+run_again find-notes
+ends_with 0
+says "$wanted"
+end
+
+go_on 'finding tunes by several conditions'
+for title in "$title" "$title, and again"; do
+    run find-both
+    ends_with 0
+    sed '$d' "$work/out" > "$work/found"
+    printf '%s\n' '1 Kesh Jig, The' '2 Irish Washerwoman, The' 5 > "$work/wanted"
+    same "$work/found" "$work/wanted"
+    case $(tail -n 1 "$work/out") in
+    '6 Drowsy Maggie' | '7 Speed the Plough') ;;
+    *) wrong "it chooses '$(tail -n 1 "$work/out")'" ;;
+    esac
+done
 end
 
 go_on 'looking at a tune'
@@ -488,8 +531,11 @@ if command -v abcm2ps > "$work/out" && command -v ps2pdf > "$work/out"; then
     go_on 'printing'
     run print-set
     ends_with 0
+    cp friday.pdf "$work/wanted"
     run_again print-set
-    ends_with 0
+    ends_with 1
+    grep -q 'friday.pdf is there' "$work/err" || wrong 'it does not say why'
+    same friday.pdf "$work/wanted"
     has 'friday.pdf mine.abc tunes.abcx tunes.abcx.old.abc'
     rm friday.*
     end
@@ -497,18 +543,105 @@ else
     skip print-set 'abcm2ps or ps2pdf'
 fi
 
+go_on 'a book of some tunes'
+run export
+ends_with 0
+says 1
+{ printf '%%abc-2.1\n\n' && shown 3 | sed 's/^R:.*/R:slide/' && echo && shown 1; } > "$work/wanted"
+same two.abc "$work/wanted"
+cp friday.abc "$work/friday"
+run_again export
+ends_with 0
+says 1
+grep -q 'two.abc is there' "$work/err" || wrong 'it does not say why'
+same two.abc "$work/wanted"
+same friday.abc "$work/friday"
+rm friday.abc two.abc
+end
+
 if command -v abc2midi > "$work/out"; then
     go_on 'hearing'
     run hear-set
     ends_with 0
     run_again hear-set
-    ends_with 0
+    ends_with 1
+    grep -q 'first.mid is there' "$work/err" || wrong 'it does not say why'
     has 'first.mid mine.abc tunes.abcx tunes.abcx.old.abc'
     rm first.mid
     end
 else
     skip hear-set abc2midi
 fi
+
+# Another program has the archive open, by these words, until `let_go`.
+hold() {
+    mkfifo script
+    "$@" < script > "$work/replies" &
+    exec 9> script
+    echo 'set-show friday' >&9
+    tries=0
+    while [ ! -s "$work/replies" ] && [ "$tries" -lt 100 ]; do
+        sleep 0.1
+        tries=$((tries + 1))
+    done
+}
+
+let_go() {
+    exec 9>&-
+    wait
+    rm script
+}
+
+go_on 'asking beside one that asks'
+hold ./tunes-book -f tunes.abcx ask
+run wait
+ends_with 0
+says '1 Kesh Jig, The'
+run_again wait
+ends_with 0
+says '1 Kesh Jig, The'
+./tunes run tunes.abcx < /dev/null > "$work/out" 2> "$work/err"
+status=$?
+ends_with 1
+let_go
+end
+
+go_on 'asking beside one that may change it'
+hold ./tunes run tunes.abcx
+./tunes-book -f tunes.abcx find kesh > "$work/out" 2> "$work/err"
+status=$?
+ends_with 1
+says ''
+grep -q 'another program has it open' "$work/err" || wrong 'it does not say why'
+(sleep 1 && exec 9>&-) &
+exec 9>&-
+run wait
+ends_with 0
+says '1 Kesh Jig, The'
+let_go
+end
+
+go_on 'questions of another program'
+cp tunes.abcx "$work/before"
+wanted=$(printf '%s\n' 'find title kesh' 'set-show friday' | ./tunes run tunes.abcx)
+case $wanted in
+'ok find 1
+1 Kesh Jig, The
+ok set-show friday '*) ;;
+*) wrong "tunes run answers '$wanted'" ;;
+esac
+run questions
+ends_with 0
+says "$wanted"
+run_again questions
+ends_with 0
+says "$wanted"
+printf '%s\n' 'delete 15' 'show 1' | ./tunes-book -f tunes.abcx ask > "$work/out" 2> "$work/err"
+status=$?
+ends_with 1
+says 'refused 22 Device'
+same tunes.abcx "$work/before"
+end
 
 go_on 'backing up'
 rm tunes.abcx.old.abc
@@ -526,20 +659,11 @@ end
 
 go_on 'backing up while a program has the archive open'
 mv "$copy" "$work/copy.abcx"
-mkfifo script
-./tunes run tunes.abcx < script > "$work/replies" &
-exec 9> script
+hold ./tunes run tunes.abcx
 echo 'delete 15' >&9
-tries=0
-while [ ! -s "$work/replies" ] && [ "$tries" -lt 100 ]; do
-    sleep 0.1
-    tries=$((tries + 1))
-done
 run back-up
 ends_with 1
-exec 9>&-
-wait
-rm script
+let_go
 holds 'layout 2 tunes 14 sets 1'
 has 'backup mine.abc tunes.abcx'
 mv "$work/copy.abcx" "$copy"
@@ -598,7 +722,10 @@ run dump
 ends_with 0
 cp tunes.script "$work/script"
 run_again dump
-ends_with 0
+ends_with 1
+grep -q 'tunes.script is there' "$work/err" || wrong 'it does not say why'
+same tunes.script "$work/script"
+./tunes-book -f tunes.abcx dump --force tunes.script
 same tunes.script "$work/script"
 run load
 ends_with 0
@@ -614,6 +741,22 @@ grep -q 'new.abcx is there' "$work/err" || wrong 'it does not say why'
 same new.abcx "$work/new"
 ./tunes-book -f new.abcx dump again.script
 same again.script "$work/script"
+end
+
+begin 'trying a book that is refused'
+printf 'X:1\nT:Good\nK:C\nCDE\n\nW:a verse below an empty line\n\nX:2\nT:Keyless\n' > mine.abc
+run import-check
+ends_with 1
+says ''
+blocks output import-check > "$work/wanted"
+same "$work/err" "$work/wanted"
+printf 'X:1\nK:C\n\n%%%%sep\n\nX:2\nK:D\n' > mine.abc
+run import-check
+ends_with 0
+says 'mine.abc: 2 tunes; 1 line of it goes into no tune, and is not kept'
+grep -q '^tunes-book: mine.abc:4: .*though it changes how a sheet looks: %%sep$' "$work/err" ||
+    wrong 'it does not name the line'
+has mine.abc
 end
 
 begin 'going over to layout 2'

@@ -7,15 +7,14 @@ their copies and companions, source books, scripts and texts by hand, earlier re
 kinds to these, folders, pipes and devices. Any of them, or a new name, is given as the file to be
 written, in any spelling, and often as the archive too.
 
-What a call may do is told by the rules below, and not by the script. OUT is never the archive, nor
-a file that begins as one, nor a companion of the archive. A file that stands there is written over
-only where the command writes such files, and where all its tunes are in the archive or among its
-old texts; or with --force. Then OUT has to be whole, and the status 0. Else the status is another,
-of those that the rules tell. Each other file, link or folder has to be as it was, of the same
-bytes; nothing may be left behind, nor in the folder for working files.
+What a call may do is told by the rules below, and not by script or program. OUT is never the
+archive, nor a file that begins as one, nor a companion of the archive. A file that stands there is
+written over only with --force. Then OUT has to be whole, and the status 0. Else the status is
+another, of those that the rules tell. Each other file, link or folder has to be as it was, of the
+same bytes; nothing may be left behind, nor in the folder for working files.
 
-The world of a number, and its calls, depend on the seed alone. The program `tunes` is the one that
-./tunes has built, or the one that the variable TUNES names; the tools that draw and play are small
+The world of a number, and its calls, depend on the seed alone. The programs are those that ./build
+made, or those that the variables TUNES and TUNES_DESK name; the tools that draw and play are small
 scripts in place of the real ones. A line is printed for each fault, in which /world is the folder
 of its world, and one at the end for all; the status is 1 where there was a fault.
 """
@@ -39,6 +38,8 @@ ROOT = os.path.dirname(os.path.dirname(os.path.abspath(__file__)))
 FRONT_END = os.path.join(ROOT, 'tunes-book')
 BUILT = os.path.join(ROOT, 'crates', 'tunes', 'out', 'tunes')
 PROGRAM = os.path.abspath(os.environ.get('TUNES') or BUILT)
+BUILT_DESK = os.path.join(ROOT, 'crates', 'tunes_desk', 'out', 'tunes_desk')
+DESK = os.path.abspath(os.environ.get('TUNES_DESK') or BUILT_DESK)
 MAGIC = b'ABCTUNE1'
 CALLS_IN_A_WORLD, PATIENCE = 25, 20
 LOOK = b'export\nsets\nset-show friday\n'
@@ -87,6 +88,8 @@ LIKELY = {'export': ['book.abc', 'friday.abc', 'earlier.abc', 'copy.abc'],
           'print': ['sheets.pdf', 'sheets.ps', 'copy.pdf', 'copy.ps'],
           'hear': ['sound.mid', 'sound.mid', 'copy.mid'],
           'dump': ['script.tunes', 'earlier.tunes', 'copy.tunes', *SCRIPTS]}
+# The commands whose result may be written over a file.
+RESULTS = ('export', 'print', 'hear', 'dump')
 ENDINGS = {'print': ('.pdf', '.ps'), 'hear': ('.mid',)}
 FRESH = ['fresh', 'fresh one', '-fresh', '--force', 'fresh\\n', 'fresh*', 'frésh', 'new',
          "fresh'$(true)", 'fresh\udcff', 'nowhere/fresh', 'nowhere/../fresh', 'deep/fresh',
@@ -240,7 +243,8 @@ class Run:
     def call(self, cwd, words, temporary, more):
         """The status of a call of the front end, or none where it hangs, and what it says."""
         path = self.tools + os.pathsep + os.environ['PATH']
-        environment = {**os.environ, 'PATH': path, 'TUNES': PROGRAM, 'TMPDIR': temporary, **more}
+        environment = {**os.environ, 'PATH': path, 'TUNES': PROGRAM, 'TUNES_DESK': DESK,
+                       'TMPDIR': temporary, **more}
         started = subprocess.Popen(
             [*self.shell, FRONT_END, *words], cwd=cwd, env=environment, stdin=subprocess.DEVNULL,
             stdout=subprocess.PIPE, stderr=subprocess.STDOUT, start_new_session=True)
@@ -418,7 +422,7 @@ class Call:
         self.world, self.command, self.more, self.cwd, self.force = world, command, more, cwd, force
         if command in ('load', 'new'):
             file = out
-        self.out_word = out
+        self.out_word, self.file_word = out, file
         self.file, self.out = os.path.join(cwd, file), os.path.join(cwd, out)
         self.real_file, self.real_out = os.path.realpath(self.file), os.path.realpath(self.out)
         by_variable = world.chance.random() < 0.25
@@ -463,7 +467,7 @@ def wrong_ending(call):
 
 def no_option(call):
     """--force is no option of this command"""
-    if call.force and call.command not in KINDS:
+    if call.force and call.command not in RESULTS:
         return {BAD_WORDS}
 
 
@@ -484,6 +488,12 @@ def no_such_part(call):
 def no_script(call):
     """the script is not there, or a command of it is refused"""
     if call.command == 'load' and loaded(call) is None:
+        return {REFUSED, BAD_WORDS}
+
+
+def no_text(call):
+    """a word is not UTF-8"""
+    if call.command in RESULTS and '\udcff' in call.out_word:
         return {REFUSED, BAD_WORDS}
 
 
@@ -520,8 +530,10 @@ def is_companion(call):
         above = os.path.dirname(file)
         standing = os.listdir(above) if os.path.isdir(above) else []
         companion = re.compile(re.escape(file) + r'\.(new|old\.abc|[0-9]+\.old)')
-        others = {os.path.join(above, name) for name in standing}
-        if any(companion.fullmatch(path) for path in way_of(call.out)) or any(
+        # A result takes the place of a name, and leaves the file that had it: only names count.
+        others = {os.path.join(above, name) for name in standing if call.command == 'backup'}
+        way = way_of(call.out) if call.command == 'backup' else [call.real_out]
+        if any(companion.fullmatch(path) for path in way) or any(
                 companion.fullmatch(path) and same(path, call.out) for path in others):
             return {REFUSED}
 
@@ -535,22 +547,14 @@ def is_there(call):
             return {REFUSED, NO_ARCHIVE}
 
 
-def other_kind(call):
-    """a file of another kind stands at OUT"""
-    data = call.out_data()
-    if call.command in KINDS and data is not None and not call.force:
-        if not any(KINDS[call.command](data, ending) for ending in endings_of(call)):
-            return {REFUSED}
-
-
-def would_lose(call):
-    """a tune at OUT is neither in the archive nor among its old texts"""
-    if has_tunes(call) and lost_texts(call, {call.file, call.real_file}):
+def stands(call):
+    """a file stands at OUT, and there is no --force"""
+    if call.command in RESULTS and call.out_data() is not None and not call.force:
         return {REFUSED}
 
 
-RULES = [wrong_ending, no_option, no_archive, no_such_part, no_script, no_place, no_file, is_file,
-         is_archive, is_companion, is_there, other_kind, would_lose]
+RULES = [wrong_ending, no_option, no_archive, no_such_part, no_script, no_text, no_place, no_file,
+         is_file, is_archive, is_companion, is_there, stands]
 
 
 def same(path, other):
@@ -571,29 +575,9 @@ def way_of(path):
     return way
 
 
-def has_tunes(call):
-    """OUT is a book or a script of the kind, whose tunes would go."""
-    return (call.command in ('export', 'dump') and call.out_data() is not None and not call.force
-            and not no_archive(call) and not other_kind(call))
+# Whether a file is such as a command writes.
 
-
-def lost_texts(call, files):
-    """The texts of tunes at OUT that are neither in the archive nor kept as old beside it."""
-    answer, data = call.world.run.answer, call.out_data()
-    if call.command == 'dump':
-        data = answer('list', None, data + b'export\n')[1]
-    olds = [bytes_of(file + '.old.abc') for file in files if os.path.isfile(file + '.old.abc')]
-    kept = texts_of(b'\n'.join([answer('run', call.file, b'export\n')[1], *olds]))
-    return texts_of(data) - kept
-
-
-def texts_of(book):
-    return set(re.findall(rb'^X:.*\n((?:.+\n)*)', book, re.MULTILINE))
-
-
-# Whether a file is of the kind that a command writes.
-
-def is_written_book(data, _=''):
+def is_written_book(data):
     """The line %abc-2.1, for a set its name, and tunes whose numbers rise, each behind one empty
     line; and nothing else."""
     parts = re.fullmatch(rb'%abc-2\.1\n(?:% set [\w-]{1,40}\n)?((?:\nX:[1-9][0-9]*\n(?:.+\n)+)*)',
@@ -604,7 +588,7 @@ def is_written_book(data, _=''):
     return numbers == sorted(set(numbers))
 
 
-def is_written_script(data, _=''):
+def is_written_script(data):
     """Imports of tunes, each alone where it gets its number, and then set lists."""
     line = re.match(rb'import ([0-9]+)\n(?=X:)', data)
     while line:
@@ -614,18 +598,6 @@ def is_written_script(data, _=''):
         data = re.sub(rb'\Arenumber [0-9]+ [0-9]+\n', b'', data)
         line = re.match(rb'import ([0-9]+)\n(?=X:)', data)
     return bool(re.fullmatch(rb'(set-new [\w-]+\n(set-add [\w-]+ [0-9]+\n)*)*', data))
-
-
-def is_drawn(data, ending):
-    heads = {'.pdf': b'%PDF-', '.ps': b'%!PS'}
-    return ending in heads and data.startswith(heads[ending])
-
-
-def is_sound(data, _=''):
-    return data.startswith(b'MThd')
-
-
-KINDS = {'export': is_written_book, 'print': is_drawn, 'hear': is_sound, 'dump': is_written_script}
 
 
 # THE DOUBTS: where a call may be refused as well, with any status, though no rule refuses it
@@ -640,19 +612,14 @@ def leads_nowhere(call):
     return os.path.islink(call.out) and not os.path.exists(call.out)
 
 
-def kept_by_other_name(call):
-    """What is old is kept beside the file to which a link FILE leads, and not beside the link."""
-    return bool(has_tunes(call) and lost_texts(call, {call.file}))
-
-
 def ends_differ(call):
     """The link to a result has another ending than this."""
     return call.command in ENDINGS and len(endings_of(call)) > 1
 
 
 def empty(call):
-    """An archive without tunes gives an empty script, and `new` may begin in an empty file."""
-    return call.out_data() == b'' and call.command in ('dump', 'new')
+    """`new` may begin in an empty file."""
+    return call.out_data() == b'' and call.command == 'new'
 
 
 def long_name(call):
@@ -661,14 +628,19 @@ def long_name(call):
 
 def odd_name(call):
     """A name of several lines, or an archive whose name is not UTF-8."""
-    return '\n' in call.real_out or '\udcff' in call.real_out and call.command not in KINDS
+    return '\n' in call.real_out or '\udcff' in call.real_out and call.command not in RESULTS
+
+
+def dashed(call):
+    """A FILE that begins with a dash may be taken for an option."""
+    return call.command in RESULTS and call.file_word.startswith('-')
 
 
 def companion_of_another(call):
     return bool(re.search(r'\.(new|old\.abc|[0-9]+\.old)$', call.real_out))
 
 
-DOUBTS = [new_is_there, leads_nowhere, kept_by_other_name, ends_differ, empty, long_name, odd_name,
+DOUBTS = [new_is_there, leads_nowhere, ends_differ, empty, long_name, odd_name, dashed,
           companion_of_another]
 
 
@@ -802,9 +774,10 @@ def main():
     words.add_argument('--shell', default='sh')
     words = words.parse_args()
     begun = time.time()
-    if not os.path.exists(PROGRAM):
-        print(f'FAILED  there is no program {PROGRAM}: ./tunes --version builds it')
-        return 1
+    for program in PROGRAM, DESK:
+        if not os.path.exists(program):
+            print(f'FAILED  there is no program {program}: ./build makes it')
+            return 1
     room = '/dev/shm' if os.access('/dev/shm', os.W_OK) else None
     refused = written = faults = 0
     with tempfile.TemporaryDirectory(dir=room) as folder:

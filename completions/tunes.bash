@@ -20,6 +20,7 @@ _tunes_files() {
 # for, which opens the archive.
 _tunes_book() {
     local word=${COMP_WORDS[COMP_CWORD]} at=1 file=${TUNES_BOOK-} command names=''
+    local finding='--within --title --rhythm --key --notes --in'
     COMPREPLY=()
     while [ "$at" -lt "$COMP_CWORD" ]; do
         case ${COMP_WORDS[at]} in
@@ -31,6 +32,7 @@ _tunes_book() {
             \~/*) file=$HOME${file:1} ;;
             esac
             file=${file//\\/} ;;
+        --wait) at=$((at + 2)) ;;
         --json | --csv | --force) at=$((at + 1)) ;;
         *) break ;;
         esac
@@ -41,14 +43,16 @@ _tunes_book() {
         return
     fi
     case $((COMP_CWORD - at)).$command.$word in
-    0.*) names='new add import-check find titles sets show edit delete undo set put cut drop move
-        export print hear backup restore dump load check upgrade help -f --json --csv --force
-        --help --version' ;;
-    1.find.*) names='title rhythm key notes --within --json --csv' ;;
+    0.*) names='new add import-check find count random titles sets show edit delete undo set
+        put cut drop move export print hear backup restore dump load check ask upgrade help -f
+        --wait --json --csv --force --help --version' ;;
+    1.find.* | 1.random.*) names="title rhythm key notes $finding --json --csv" ;;
+    1.count.*) names="title rhythm key notes $finding" ;;
     1.set.* | 1.put.* | 1.cut.* | 1.move.* | 1.drop.* | 2.export.* | 2.print.*)
         names=$("${COMP_WORDS[0]}" -f "$file" sets 2> /dev/null | cut -d ' ' -f 1) ;;
     1.add.-*) names='--new --split --dry' ;;
-    1.import-check.-*) names='--split' ;;
+    1.export.-* | 1.print.-*) names='--force --tune' ;;
+    1.hear.-* | 1.dump.-*) names='--force' ;;
     1.titles.* | 1.sets.*) names='--json --csv' ;;
     *.add.* | *.import-check.* | 1.export.* | 1.print.* | 1.backup.* | 1.restore.* | 1.dump.* | \
         1.load.* | 2.hear.*) _tunes_files "$word"; return ;;
