@@ -4,8 +4,8 @@ use Rattle.std.specs.Fmt.{decimal}
 use Rattle.tune_sets.specs.declared.set_rows.SetRow.{SetRow}
 use Rattle.tune_store.specs.declared.index_rows.IndexRow.{IndexRow}
 use Rattle.tune_scripts.specs.Replies.{places_bytes, rows_bytes, set_rows_bytes}
-use Rattle.desk_lists.specs.declared.form.Form.{Form}
-use Rattle.desk_lists.specs.declared.form.Form.TheVariants.{Rows, Json, Csv}
+use Rattle.desk_terms.specs.declared.form.Form.{Form}
+use Rattle.desk_terms.specs.declared.form.Form.TheVariants.{Rows, Json, Csv}
 use Rattle.desk_lists.specs.JsonLists.{array_bytes, place_objects, set_objects, tune_objects}
 use Rattle.desk_lists.specs.CsvTables.{place_table, set_table, tune_table}
 

@@ -3,8 +3,8 @@ use Rattle.std.specs.Prelude.{ℕ, List, [], ◌∷◌, ◌++◌, codes}
 use Rattle.std.specs.Fmt.{decimal}
 use Rattle.json.specs.Token.{Token, begin_object, end_object, key, string, number}
 use Rattle.tune_scripts.specs.Replies.{title_bytes}
-use Rattle.desk_lists.specs.declared.form.Form.{Form}
-use Rattle.desk_lists.specs.declared.form.Form.TheVariants.{Rows, Json, Csv}
+use Rattle.desk_terms.specs.declared.form.Form.{Form}
+use Rattle.desk_terms.specs.declared.form.Form.TheVariants.{Rows, Json, Csv}
 use Rattle.desk_lists.specs.declared.twins.Alike.{Alike}
 use Rattle.desk_lists.specs.declared.twins.Alike.TheVariants.{Text, Opening}
 use Rattle.desk_lists.specs.declared.twins.TwinRow.{TwinRow}

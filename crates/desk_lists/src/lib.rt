@@ -6,7 +6,6 @@
 
 mod folded_words;
 mod folding;
-mod form;
 mod json_lists;
 mod laws;
 mod list_forms;
@@ -17,7 +16,6 @@ mod twins;
 
 pub use folded_words::{FoldedWords, begins_folded, has_words_folded};
 pub use folding::folded;
-pub use form::Form;
 pub use laws::law_of_words;
 pub use list_forms::{count_line, place_list, set_list, tune_list};
 pub use shown_texts::text_of;

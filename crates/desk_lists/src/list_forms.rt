@@ -3,11 +3,11 @@ ghost use Rattle.std.specs.Prelude.{◌≡◌, IfOk};
 ghost use Rattle.desk_lists.specs.ListForms.{count_bytes, place_list_bytes, set_list_bytes};
 ghost use Rattle.desk_lists.specs.ListForms.{tune_list_bytes};
 
-use crate::form::Form;
 use crate::json_lists::{places_in_json, sets_in_json, tunes_in_json};
 use crate::row_lists::{place_rows, put_number, set_rows, tune_rows};
 use crate::tables::{place_table, set_table, tune_table};
 use abc_fields::ByteText;
+use desk_terms::Form;
 use std::alloc::{AllocError, Global};
 use tune_sets::SetRow;
 use tune_store::IndexRow;

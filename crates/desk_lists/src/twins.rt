@@ -7,10 +7,10 @@ ghost use Rattle.desk_lists.specs.Twins.{alike_bytes, pair_members, twin_fields,
 ghost use Rattle.desk_lists.specs.Twins.{twin_object, twin_objects, twin_row_bytes};
 ghost use Rattle.desk_lists.specs.Twins.{twin_rows_bytes, twin_table};
 
-use crate::form::Form;
 use crate::{json_lists, row_lists, tables};
 use abc_fields::ByteText;
 use csv::Writer;
+use desk_terms::Form;
 use itoa::Buffer;
 use std::alloc::{AllocError, Global};
 

@@ -13,7 +13,8 @@ ghost use Rattle.desk_orders.specs.Inside.OpenedFile.{CountsOf};
 
 use crate::file_opening::{Unopened, open_to_read};
 use abc_fields::ByteText;
-use desk_questions::{Question, tell};
+use desk_questions::tell;
+use desk_terms::Question;
 use tune_archive::{Archive, Counts, TuneStore};
 use tune_desk::Desk;
 use tune_disk::Disk;

@@ -14,7 +14,7 @@ use crate::file_questions::{ask_counts, ask_question, ask_tune};
 use crate::input::read_input;
 use crate::printing::{print, print_counts};
 use crate::reasons::{REFUSED, say, say_unanswered, say_unopened};
-use desk_questions::Question;
+use desk_terms::Question;
 use desk_words::{Order, Target};
 use std::io::Write;
 use tune_cli::{Done, run_on};

@@ -18,8 +18,8 @@ use Rattle.tune_store.specs.declared.tune.Tune.{Tune}
 use Rattle.tune_store.specs.declared.index_rows.IndexRow.{IndexRow}
 use Rattle.desk_questions.specs.Conditions.{gives, asks_nothing, has_no_words, queries_of, is_too_long}
 use Rattle.desk_questions.specs.Told.{found}
-use Rattle.desk_questions.specs.declared.conditions.Condition.{Condition}
-use Rattle.desk_questions.specs.declared.conditions.Condition.TheVariants.{Title, Within, Rhythm, Key, Notes}
+use Rattle.desk_terms.specs.declared.condition.Condition.{Condition}
+use Rattle.desk_terms.specs.declared.condition.Condition.TheVariants.{Title, Within, Rhythm, Key, Notes}
 use Rattle.desk_questions.specs.Inside.SoughtWords.{looks_at_titles}
 use Rattle.abc_fields.specs.Fields.{titles_of}
 use Rattle.desk_questions.specs.Inside.QuestionCalls.{is_among, passes, Adds, has_some_title, has_row_title, AreFoundBySome, AreGiven, AreFound}

@@ -19,7 +19,7 @@ use Rattle.tune_store.specs.Questions.{row_of, titles_from, all_titles, title_ro
 use Rattle.tune_store.specs.declared.tune.Tune.{Tune}
 use Rattle.tune_store.specs.declared.index_rows.IndexRow.{IndexRow}
 use Rattle.desk_questions.specs.Conditions.{gives, has_title}
-use Rattle.desk_questions.specs.declared.conditions.Condition.{Condition}
+use Rattle.desk_terms.specs.declared.condition.Condition.{Condition}
 use Rattle.desk_questions.specs.Inside.QuestionCalls.{is_among, passes, has_some_title, has_row_title}
 
 -- BOOLEANS

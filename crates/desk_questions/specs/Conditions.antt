@@ -10,9 +10,9 @@ use Rattle.tune_queries.specs.declared.queries.Query.TheVariants as query
 use Rattle.tune_titles.specs.Titles.{index_title, sorting_title}
 use Rattle.desk_lists.specs.Folding.{folded_title}
 use Rattle.desk_lists.specs.FoldedWords.{begins, all_stand_in, folded_words}
-use Rattle.desk_questions.specs.declared.conditions.Condition.{Condition}
-use Rattle.desk_questions.specs.declared.conditions.Condition.TheVariants.{Title, Within, Rhythm}
-use Rattle.desk_questions.specs.declared.conditions.Condition.TheVariants.{Key, Notes}
+use Rattle.desk_terms.specs.declared.condition.Condition.{Condition}
+use Rattle.desk_terms.specs.declared.condition.Condition.TheVariants.{Title, Within, Rhythm}
+use Rattle.desk_terms.specs.declared.condition.Condition.TheVariants.{Key, Notes}
 
 -- THE STORE'S OWN QUERIES
 -- the tonics of the fifteen signatures, from seven flats to seven sharps

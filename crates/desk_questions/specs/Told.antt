@@ -13,16 +13,16 @@ use Rattle.tune_store.specs.declared.command.Reply.{Reply}
 use Rattle.tune_store.specs.declared.command.Reply.TheVariants as reply
 use Rattle.tune_store.specs.declared.command.Refusal.{Refusal}
 use Rattle.tune_store.specs.declared.command.Refusal.TheVariants.{Unknown, BadQuery}
-use Rattle.desk_lists.specs.declared.form.Form.{Form}
-use Rattle.desk_lists.specs.declared.form.Form.TheVariants.{Rows}
+use Rattle.desk_terms.specs.declared.form.Form.{Form}
+use Rattle.desk_terms.specs.declared.form.Form.TheVariants.{Rows}
 use Rattle.desk_lists.specs.ListForms.{tune_list_bytes, place_list_bytes, set_list_bytes}
 use Rattle.desk_lists.specs.ListForms.{count_bytes}
 use Rattle.desk_questions.specs.Conditions.{gives, asks_nothing}
-use Rattle.desk_questions.specs.declared.conditions.Condition.{Condition}
-use Rattle.desk_questions.specs.declared.question.Question.{Question}
-use Rattle.desk_questions.specs.declared.question.Question.TheVariants.{Find, Count, Random, Titles}
-use Rattle.desk_questions.specs.declared.question.Question.TheVariants.{Sets, Set, Show, ExportAll}
-use Rattle.desk_questions.specs.declared.question.Question.TheVariants.{ExportSet, ExportTunes}
+use Rattle.desk_terms.specs.declared.condition.Condition.{Condition}
+use Rattle.desk_terms.specs.declared.question.Question.{Question}
+use Rattle.desk_terms.specs.declared.question.Question.TheVariants.{Find, Count, Random, Titles}
+use Rattle.desk_terms.specs.declared.question.Question.TheVariants.{Sets, Set, Show, ExportAll}
+use Rattle.desk_terms.specs.declared.question.Question.TheVariants.{ExportSet, ExportTunes}
 
 -- BY CONDITIONS
 -- the tunes that all of these conditions give, by number

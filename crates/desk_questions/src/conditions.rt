@@ -9,25 +9,11 @@ ghost use Rattle.desk_questions.specs.Inside.SoughtWords.{MakesText, AreMade, Ar
 
 use abc_fields::ByteText;
 use desk_lists::{FoldedWords, text_of};
+use desk_terms::Condition;
 use std::alloc::{AllocError, Global};
 use tune_queries::{Query, QueryText};
 use tune_store::Refusal;
 use tune_titles::sort_title;
-
-/// What a tune is found by.
-#[derive(Debug, PartialEq, Eq, Drop)]
-pub enum Condition {
-    /// One of its titles begins so, articles, capitals and accents aside.
-    Title(String),
-    /// In one of its titles each of these words stands, capitals and accents aside.
-    Within(Vec<String>),
-    /// Its rhythm is this, capitals aside.
-    Rhythm(String),
-    /// It is in the scale of this key.
-    Key(String),
-    /// Its opening: the notes as they are printed in one of the fifteen signatures, or in this key.
-    Notes { notes: String, key: Option<String> },
-}
 
 // The tonics of the fifteen signatures, from seven flats to seven sharps.
 const SIGNATURES: [&[u8]; 15] = [

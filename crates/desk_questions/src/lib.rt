@@ -7,11 +7,8 @@
 mod conditions;
 mod found_numbers;
 mod numbers;
-mod question;
 mod shelf;
 mod store_questions;
 mod told_answers;
 
-pub use conditions::Condition;
-pub use question::Question;
 pub use told_answers::tell;

@@ -13,13 +13,12 @@ ghost use Rattle.desk_questions.specs.Told.{shown_tunes, reply_told};
 ghost use Rattle.desk_questions.specs.Inside.QuestionCalls.{Call, told_by, told_where, AreRowsAt};
 ghost use Rattle.desk_questions.specs.Inside.QuestionCalls.{AreWritten};
 
-use crate::conditions::Condition;
 use crate::found_numbers::found;
 use crate::numbers::chosen;
-use crate::question::Question;
 use crate::store_questions::{ask, tune_of};
 use abc_fields::{ByteText, fields};
-use desk_lists::{Form, count_line, place_list, set_list, tune_list};
+use desk_lists::{count_line, place_list, set_list, tune_list};
+use desk_terms::{Condition, Form, Question};
 use std::alloc::{AllocError, Global};
 use std::io::Write;
 use tune_books::BookWriter;

@@ -7,8 +7,8 @@ use Rattle.std.specs.Option.{option_map_or}
 use Rattle.std.specs.Str.{bytes_eq}
 use Rattle.std.specs.Str.Parse.{digits_value}
 use Rattle.clap.specs.Words.{Text, Row, all_of, first_of}
-use Rattle.desk_lists.specs.declared.form.Form.{Form}
-use Rattle.desk_lists.specs.declared.form.Form.TheVariants.{Rows, Json, Csv}
+use Rattle.desk_terms.specs.declared.form.Form.{Form}
+use Rattle.desk_terms.specs.declared.form.Form.TheVariants.{Rows, Json, Csv}
 use Rattle.desk_words.specs.WordAnswers.{Refusal, and_then, two_forms, no_number, no_name}
 use Rattle.desk_words.specs.WordAnswers.{empty_path}
 

@@ -3,9 +3,9 @@ use Rattle.std.specs.Prelude.{ℕ, Bool, if◌then◌else◌, List, [], ◌∷�
 use Rattle.std.specs.Prelude.{Option, Some, None, Result, Ok, Err, codes, map, string_bytes}
 use Rattle.std.specs.Str.{bytes_eq}
 use Rattle.clap.specs.Words.{Text, Row, first_of}
-use Rattle.desk_lists.specs.declared.form.Form.{Form}
-use Rattle.desk_questions.specs.declared.question.Question.{Question}
-use Rattle.desk_questions.specs.declared.question.Question.TheVariants as question
+use Rattle.desk_terms.specs.declared.form.Form.{Form}
+use Rattle.desk_terms.specs.declared.question.Question.{Question}
+use Rattle.desk_terms.specs.declared.question.Question.TheVariants as question
 use Rattle.desk_words.specs.declared.asked.Order.{Order}
 use Rattle.desk_words.specs.declared.asked.Order.TheVariants as order
 use Rattle.desk_words.specs.declared.asked.Target.{Target}

@@ -5,8 +5,8 @@ use Rattle.std.specs.Prelude.{option_map, option_to_list, string_bytes}
 use Rattle.std.specs.List.{list_any}
 use Rattle.std.specs.Str.{bytes_eq}
 use Rattle.clap.specs.Words.{Text, Row, first_of}
-use Rattle.desk_questions.specs.declared.conditions.Condition.{Condition}
-use Rattle.desk_questions.specs.declared.conditions.Condition.TheVariants as condition
+use Rattle.desk_terms.specs.declared.condition.Condition.{Condition}
+use Rattle.desk_terms.specs.declared.condition.Condition.TheVariants as condition
 use Rattle.desk_words.specs.declared.sought_conditions.SoughtKind.{SoughtKind}
 use Rattle.desk_words.specs.declared.sought_conditions.SoughtKind.TheVariants.{Title, Rhythm, Key}
 use Rattle.desk_words.specs.declared.sought_conditions.SoughtKind.TheVariants.{Notes}

@@ -18,7 +18,7 @@ use crate::order_meanings::order_named;
 use crate::sought_conditions::SoughtKind;
 use clap::error::ErrorKind;
 use clap::{ArgMatches, Error};
-use desk_questions::Question;
+use desk_terms::Question;
 use std::alloc::{AllocError, AllocFailed, Global};
 use std::io;
 

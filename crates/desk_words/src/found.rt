@@ -11,7 +11,7 @@ ghost use Rattle.desk_words.specs.Inside.Sorting.{texts_of};
 
 use crate::asked::OrderFault;
 use clap::ArgMatches;
-use desk_lists::Form;
+use desk_terms::Form;
 use std::alloc::{AllocError, Global};
 
 // The first word that was given for an argument.

@@ -18,7 +18,7 @@ use crate::asked::{Order, OrderFault, Target};
 use crate::found::{first_given, form, given, is_set, name, number, numbers, path, paths, value};
 use crate::sought_conditions::conditions;
 use clap::ArgMatches;
-use desk_questions::{Condition, Question};
+use desk_terms::{Condition, Question};
 use std::alloc::Global;
 
 // The commands.

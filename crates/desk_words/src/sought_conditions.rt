@@ -15,7 +15,7 @@ ghost use Rattle.desk_words.specs.Inside.Sorting.{texts_of};
 use crate::asked::OrderFault;
 use crate::found::{given, is_set, one_line, value};
 use clap::ArgMatches;
-use desk_questions::Condition;
+use desk_terms::Condition;
 use std::alloc::{AllocError, Global};
 
 /// What is named before the words of `find`.

@@ -21,7 +21,7 @@ use Rattle.tune_store.specs.declared.tune_store.TuneStore.{Ghosts}
 use Rattle.desk_questions.specs.Asking.{IsOnlyAsked, IsFault}
 use Rattle.desk_questions.specs.Conditions.{gives, has_title, asks_nothing}
 use Rattle.desk_questions.specs.Told.{found, tunes_at}
-use Rattle.desk_questions.specs.declared.conditions.Condition.{Condition}
+use Rattle.desk_terms.specs.declared.condition.Condition.{Condition}
 
 -- what an accepted answer is at a state, and for what a state is refused
 pub record Meaning (T : Type 0) : Type 1 where

@@ -10,8 +10,8 @@ use Rattle.tune_store.specs.declared.command.Refusal.TheVariants.{OutOfMemory, B
 use Rattle.desk_lists.specs.Folding.{folded_title}
 use Rattle.desk_lists.specs.FoldedWords.{folded_words}
 use Rattle.desk_questions.specs.Conditions.{is_too_long}
-use Rattle.desk_questions.specs.declared.conditions.Condition.{Condition}
-use Rattle.desk_questions.specs.declared.conditions.Condition.TheVariants.{Title, Within}
+use Rattle.desk_terms.specs.declared.condition.Condition.{Condition}
+use Rattle.desk_terms.specs.declared.condition.Condition.TheVariants.{Title, Within}
 
 -- whether titles are looked at, beside the queries
 abbrev pub looks_at_titles : Condition → Bool

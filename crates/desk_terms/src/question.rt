@@ -1,6 +1,6 @@
 // Questions.
-use crate::conditions::Condition;
-use desk_lists::Form;
+use crate::condition::Condition;
+use crate::form::Form;
 
 /// What is asked of a store of tunes.
 #[derive(Debug, PartialEq, Eq, Drop)]
@@ -36,4 +36,9 @@ pub enum Question {
     ExportSet(String),
     /// The written book of the tunes of these numbers, in this order.
     ExportTunes(Vec<u32>),
+    /// The tunes that are there twice: each under the first tune before it that has the same text,
+    /// or else the same opening of twelve notes and the same title.
+    Twins(Form),
+    /// The script that makes the tunes, with their numbers, and the set lists anew.
+    Dump,
 }
