@@ -59,12 +59,14 @@ find_commands = with_rules (codes "find") (list_rules ++ find_rules)
 
 abbrev pub list_commands : List App
 list_commands = with_rules (codes "titles") list_rules ∷ with_rules (codes "sets") list_rules
-    ∷ with_rules (codes "set") (list_rules ++ one_rule (codes "NAME") ∷ []) ∷ []
+    ∷ with_rules (codes "set") (list_rules ++ one_rule (codes "NAME") ∷ [])
+    ∷ with_rules (codes "twins") list_rules ∷ []
 
 abbrev pub tune_commands : List App
 tune_commands = with_rules (codes "show") (many_rule (codes "NUM") ∷ [])
     ∷ with_rules (codes "export")
     (tune_rule ∷ force_rule ∷ out_rule ∷ new_rule (codes "NAME") ∷ [])
+    ∷ with_rules (codes "dump") (force_rule ∷ out_rule ∷ [])
     ∷ with_rules (codes "draft") (one_rule (codes "NUM") ∷ out_rule ∷ []) ∷ []
 
 abbrev pub other_commands : List App

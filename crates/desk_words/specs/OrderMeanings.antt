@@ -28,6 +28,8 @@ pub data Asking : Type 0 where
   exports_all : Asking
   exports_set : Text → Asking
   exports_tunes : List ℕ → Asking
+  lists_twins : Form → Asking
+  dumps : Asking
 
 abbrev pub asking_by : Question → Asking
 asking_by (question.Find conditions form) = finds (map sought_by conditions.items) form
@@ -41,6 +43,8 @@ asking_by (question.Show numbers) = shows numbers.items
 asking_by question.ExportAll = exports_all
 asking_by (question.ExportSet name) = exports_set (string_bytes name)
 asking_by (question.ExportTunes numbers) = exports_tunes numbers.items
+asking_by (question.Twins form) = lists_twins form
+asking_by question.Dump = dumps
 
 -- where a result goes: the path OUT, and whether --force is given
 pub record Place : Type 0 where
@@ -77,9 +81,11 @@ verb_of name = if bytes_eq name (codes "find") then Some verb.Find
     else if bytes_eq name (codes "titles") then Some verb.Titles
     else if bytes_eq name (codes "sets") then Some verb.Sets
     else if bytes_eq name (codes "set") then Some verb.Set
+    else if bytes_eq name (codes "twins") then Some verb.Twins
     else if bytes_eq name (codes "show") then Some verb.Show
     else if bytes_eq name (codes "check") then Some verb.Check
     else if bytes_eq name (codes "export") then Some verb.Export
+    else if bytes_eq name (codes "dump") then Some verb.Dump
     else if bytes_eq name (codes "import-check") then Some verb.ImportCheck
     else if bytes_eq name (codes "place") then Some verb.Place
     else if bytes_eq name (codes "draft") then Some verb.Draft
@@ -154,9 +160,11 @@ meaning_of chance verb.Random rows = telling (chooses_in chance rows)
 meaning_of chance verb.Titles rows = telling (lists_in lists_titles rows)
 meaning_of chance verb.Sets rows = telling (lists_in lists_sets rows)
 meaning_of chance verb.Set rows = telling (set_in rows)
+meaning_of chance verb.Twins rows = telling (lists_in lists_twins rows)
 meaning_of chance verb.Show rows = telling (shows_in rows)
 meaning_of chance verb.Check rows = Ok checks
 meaning_of chance verb.Export rows = writing (exports_in rows) rows
+meaning_of chance verb.Dump rows = writing (Ok dumps) rows
 meaning_of chance verb.ImportCheck rows = books_in rows
 meaning_of chance verb.Place rows = places_in rows
 meaning_of chance verb.Draft rows = drafts_in rows

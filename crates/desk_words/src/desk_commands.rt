@@ -150,6 +150,17 @@ fn set<'a>(alloc: Global) -> Result<Command<'a>, AllocError>
     ))
 }
 
+fn twins<'a>(alloc: Global) -> Result<Command<'a>, AllocError>
+    ensures { IfOk result (λ command. HasApp command (with_rules (codes "twins") list_rules)) }
+{
+    listing(
+        alloc,
+        "twins",
+        "Lists the tunes that are there twice, each under the first one before it with the same \
+         text, or else the same opening of twelve notes and the same title",
+    )
+}
+
 fn show<'a>(alloc: Global) -> Result<Command<'a>, AllocError>
     ensures { IfOk result (λ command.
         HasApp command (with_rules (codes "show") (many_rule (codes "NUM") ∷ []))) }
@@ -201,6 +212,13 @@ fn writing<'a>(alloc: Global, name: &'a str, about: &'a str) -> Result<Command<'
         .about(about)
         .arg(force(alloc))?
         .arg(out(alloc))
+}
+
+fn dump<'a>(alloc: Global) -> Result<Command<'a>, AllocError>
+    ensures { IfOk result (λ command.
+        HasApp command (with_rules (codes "dump") (force_rule ∷ out_rule ∷ []))) }
+{
+    writing(alloc, "dump", "Writes all as a script, which load reads")
 }
 
 fn place<'a>(alloc: Global) -> Result<Command<'a>, AllocError>
@@ -282,10 +300,12 @@ fn with_lists<'a>(alloc: Global, command: Command<'a>) -> Result<Command<'a>, Al
     let titles = titles(alloc)?;
     let sets = sets(alloc)?;
     let set = set(alloc)?;
+    let twins = twins(alloc)?;
     command
         .subcommand(titles)?
         .subcommand(sets)?
-        .subcommand(set)
+        .subcommand(set)?
+        .subcommand(twins)
 }
 
 // The commands on tunes and books.
@@ -294,10 +314,12 @@ fn with_tunes<'a>(alloc: Global, command: Command<'a>) -> Result<Command<'a>, Al
 {
     let show = show(alloc)?;
     let export = export(alloc)?;
+    let dump = dump(alloc)?;
     let draft = draft(alloc)?;
     command
         .subcommand(show)?
         .subcommand(export)?
+        .subcommand(dump)?
         .subcommand(draft)
 }
 

@@ -10,8 +10,8 @@ ghost use Rattle.desk_words.specs.OrderMeanings.{set_in};
 ghost use Rattle.desk_words.specs.OrderMeanings.{shows_in, exports_by, exports_in, place_in};
 ghost use Rattle.desk_words.specs.OrderMeanings.{writing};
 ghost use Rattle.desk_words.specs.OrderMeanings.{drafts_in, meaning_of, meaning_named, telling};
-ghost use Rattle.desk_words.specs.OrderMeanings.{lists_titles, lists_sets, books_in};
-ghost use Rattle.desk_words.specs.OrderMeanings.{places_in};
+ghost use Rattle.desk_words.specs.OrderMeanings.{lists_titles, lists_sets, lists_twins};
+ghost use Rattle.desk_words.specs.OrderMeanings.{books_in, dumps, places_in};
 ghost use Rattle.desk_words.specs.Inside.Sorting.{texts_of};
 
 use crate::asked::{Order, OrderFault, Target};
@@ -30,9 +30,11 @@ pub(crate) enum Verb {
     Titles,
     Sets,
     Set,
+    Twins,
     Show,
     Check,
     Export,
+    Dump,
     ImportCheck,
     Place,
     Draft,
@@ -49,9 +51,11 @@ fn verb_of(name: &str) -> Option<Verb>
         "titles" => Some(Verb::Titles),
         "sets" => Some(Verb::Sets),
         "set" => Some(Verb::Set),
+        "twins" => Some(Verb::Twins),
         "show" => Some(Verb::Show),
         "check" => Some(Verb::Check),
         "export" => Some(Verb::Export),
+        "dump" => Some(Verb::Dump),
         "import-check" => Some(Verb::ImportCheck),
         "place" => Some(Verb::Place),
         "draft" => Some(Verb::Draft),
@@ -119,6 +123,13 @@ fn set(alloc: Global, found: &ArgMatches) -> Result<Question, OrderFault>
     let name = name(alloc, first_given(found, "NAME"))?;
     let form = form(found)?;
     Ok(Question::Set { name, form })
+}
+
+fn twins(found: &ArgMatches) -> Result<Question, OrderFault>
+    ensures { Gives asking_by (lists_in lists_twins (rows_of (found_of found.now))) result }
+{
+    let form = form(found)?;
+    Ok(Question::Twins(form))
 }
 
 fn show(alloc: Global, found: &ArgMatches) -> Result<Question, OrderFault>
@@ -206,6 +217,12 @@ fn export(alloc: Global, found: &ArgMatches) -> Result<Order, OrderFault>
     written(alloc, question, found)
 }
 
+fn dump(alloc: Global, found: &ArgMatches) -> Result<Order, OrderFault>
+    ensures { Gives meaning_by (writing (Ok dumps) (rows_of (found_of found.now))) result }
+{
+    written(alloc, Question::Dump, found)
+}
+
 fn check_books(alloc: Global, found: &ArgMatches) -> Result<Order, OrderFault>
     ensures { Gives meaning_by (books_in (rows_of (found_of found.now))) result }
 {
@@ -240,9 +257,11 @@ fn order_of(alloc: Global, verb: Verb, found: &ArgMatches, chance: u64) -> Resul
         Verb::Titles => told(titles(found)),
         Verb::Sets => told(sets(found)),
         Verb::Set => told(set(alloc, found)),
+        Verb::Twins => told(twins(found)),
         Verb::Show => told(show(alloc, found)),
         Verb::Check => Ok(Order::Check),
         Verb::Export => export(alloc, found),
+        Verb::Dump => dump(alloc, found),
         Verb::ImportCheck => check_books(alloc, found),
         Verb::Place => place(alloc, found),
         Verb::Draft => draft(alloc, found),

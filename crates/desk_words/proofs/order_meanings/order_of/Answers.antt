@@ -1,5 +1,5 @@
 use Rattle.clap.specs.Words.{found_of, rows_of}
-use Rattle.desk_words.specs.OrderMeanings.{chooses_in, counts_in, finds_in, lists_in, lists_sets, lists_titles, set_in, shows_in}
+use Rattle.desk_words.specs.OrderMeanings.{chooses_in, counts_in, finds_in, lists_in, lists_sets, lists_titles, lists_twins, set_in, shows_in}
 use Rattle.desk_words.proofs.order_meanings.order_of.Goals as goal
 
 pub returns-in-Find : goal.returns-in-Find
@@ -31,6 +31,11 @@ pub returns-in-Set : goal.returns-in-Set
 returns-in-Set c =
     let rows = rows_of (found_of c.args.found.now) in
     rw c.in-Set.is (c.told-in-Set.ensures (set_in rows) c.set.ensures)
+
+pub returns-in-Twins : goal.returns-in-Twins
+returns-in-Twins c =
+    let rows = rows_of (found_of c.args.found.now) in
+    rw c.in-Twins.is (c.told-in-Twins.ensures (lists_in lists_twins rows) c.twins.ensures)
 
 pub returns-in-Show : goal.returns-in-Show
 returns-in-Show c =
