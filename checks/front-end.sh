@@ -1857,10 +1857,30 @@ cases_of_options() {
     finds_none
     run titles --csv -f tunes.abcx
     ends_with 0
-    for line in 'find kesh --jsn' 'find kesh --force' 'show 1 --json' 'find kesh -f'; do
+    for line in 'find kesh --jsn' 'find kesh --force' 'show 1 --json' 'find kesh -f' \
+        'find --title' 'export - --tune -1'; do
         run $line
         refused 2 ''
     done
+    # A value is what stands behind its option, also where it looks like one.
+    cp tunes.abcx ./-dash.abcx
+    cp tunes.abcx ./=.abcx
+    cp tunes.abcx ./--
+    for line in '-f -dash.abcx find kesh' 'find kesh -f -dash.abcx' '-f=-dash.abcx find kesh' \
+        '-f =.abcx find kesh' '-f -- find --title kesh'; do
+        run $line
+        ends_with 0
+        same "$work/out" wanted
+    done
+    for line in 'find --title -x' 'find kesh --title --json' '--rhythm -jig find kesh'; do
+        run $line
+        finds_none
+    done
+    for line in '--wait -3 titles' 'titles --wait -3'; do
+        run $line
+        refused 2 "'-3' is no number"
+    done
+    rm ./-dash.abcx ./=.abcx ./--
     for line in 'find --help' 'help find' 'export --help'; do
         run $line
         ends_with 0

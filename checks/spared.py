@@ -631,16 +631,11 @@ def odd_name(call):
     return '\n' in call.real_out or '\udcff' in call.real_out and call.command not in RESULTS
 
 
-def dashed(call):
-    """A FILE that begins with a dash may be taken for an option."""
-    return call.command in RESULTS and call.file_word.startswith('-')
-
-
 def companion_of_another(call):
     return bool(re.search(r'\.(new|old\.abc|[0-9]+\.old)$', call.real_out))
 
 
-DOUBTS = [new_is_there, leads_nowhere, ends_differ, empty, long_name, odd_name, dashed,
+DOUBTS = [new_is_there, leads_nowhere, ends_differ, empty, long_name, odd_name,
           companion_of_another]
 
 

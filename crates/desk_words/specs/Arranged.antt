@@ -1,5 +1,6 @@
 -- The order in which the parser is given the words. Options may stand anywhere before `--`; the
--- parser wants those of the program before the command, and those of the command behind it.
+-- parser wants those of the program before the command, and those of the command behind it. An
+-- option that asks for one value has it in its own word (JoinedValues), unless it stands last.
 use Rattle.std.specs.Prelude.{if◌then◌else◌, List, [], ◌∷◌, ◌++◌}
 use Rattle.std.specs.Prelude.{Option, Some, None, codes, fold, drop, nat_eq, option_to_list}
 use Rattle.std.specs.List.{starts_with}
@@ -93,7 +94,7 @@ put_by_kind word.Dashes sorted text = put_dashes sorted text
 put_by_kind word.TopAsking sorted text = put_top next.TopValue sorted text
 put_by_kind word.Top sorted text = put_top next.Any sorted text
 put_by_kind word.Help sorted text = put_help sorted text
-put_by_kind word.Asking sorted text = put_option next.Value sorted text
+put_by_kind word.Asking sorted text = put_option next.Any sorted text
 put_by_kind word.AskingNumbers sorted text = put_option next.Numbers sorted text
 put_by_kind word.Option sorted text = put_option next.Any sorted text
 put_by_kind word.Plain sorted text = put_plain sorted.command sorted text
@@ -106,10 +107,9 @@ abbrev pub put_number : SortedWords → Text → SortedWords
 put_number sorted text =
     if is_digits text then put_option next.Numbers sorted text else put_any sorted text
 
--- what an option asks for is its value, whatever it is
+-- by what may come
 abbrev pub put_next : Next → SortedWords → Text → SortedWords
 put_next next.TopValue sorted text = put_top next.Any sorted text
-put_next next.Value sorted text = put_option next.Any sorted text
 put_next next.Words sorted text = put_behind sorted.command sorted text
 put_next next.Numbers sorted text = put_number sorted text
 put_next next.Any sorted text = put_any sorted text

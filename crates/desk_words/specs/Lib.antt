@@ -3,6 +3,7 @@ pub mod AskedWords
 pub mod DeskCommands
 pub mod Given
 pub mod Inside
+pub mod JoinedValues
 pub mod OrderMeanings
 pub mod SoughtConditions
 pub mod WordAnswers

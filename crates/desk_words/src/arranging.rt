@@ -12,7 +12,7 @@ use crate::found::{is_digits, put_all};
 use std::alloc::{AllocError, Global};
 
 // What a word is by itself.
-#[derive(Clone, Copy, Debug, PartialEq, Eq)]
+#[derive(Clone, Copy)]
 pub(crate) enum WordKind {
     /// `--`: what follows are no options.
     Dashes,
@@ -33,14 +33,12 @@ pub(crate) enum WordKind {
 }
 
 // What the next word may be.
-#[derive(Clone, Copy, Debug, PartialEq, Eq)]
+#[derive(Clone, Copy)]
 pub(crate) enum Next {
     /// Any word.
     Any,
     /// The value of an option of the program.
     TopValue,
-    /// The value of an option of a command.
-    Value,
     /// A number of `--tune`, or any word.
     Numbers,
     /// No option.
@@ -60,7 +58,7 @@ pub(crate) struct Sorted<'a> {
 }
 
 // What a word is by itself.
-fn kind_of_word(word: &str) -> WordKind
+pub(crate) fn kind_of_word(word: &str) -> WordKind
     ensures { result ≡ kind_of_word word.now }
 {
     match word {
@@ -87,12 +85,18 @@ fn kind_of_option(word: &str) -> WordKind
         "--in" => WordKind::Asking,
         "--tune" => WordKind::AskingNumbers,
         "-" => WordKind::Plain,
-        _ => kind_by_start(word.as_bytes()),
+        _ => kind_by_start(word),
     }
 }
 
 // What a word is by what it begins with.
-fn kind_by_start(word: &[u8]) -> WordKind
+fn kind_by_start(word: &str) -> WordKind
+    ensures { result ≡ kind_by_start word.now }
+{
+    kind_by_bytes(word.as_bytes())
+}
+
+fn kind_by_bytes(word: &[u8]) -> WordKind
     ensures { result ≡ kind_by_start word.now }
 {
     if word.starts_with(b"-f") {
@@ -187,7 +191,7 @@ fn put_any<'a>(sorted: &mut Sorted<'a>, word: &'a str) -> Result<(), AllocError>
         WordKind::TopAsking => put_top(sorted, Next::TopValue, word),
         WordKind::Top => put_top(sorted, Next::Any, word),
         WordKind::Help => put_help(sorted, word),
-        WordKind::Asking => put_option(sorted, Next::Value, word),
+        WordKind::Asking => put_option(sorted, Next::Any, word),
         WordKind::AskingNumbers => put_option(sorted, Next::Numbers, word),
         WordKind::Option => put_option(sorted, Next::Any, word),
         WordKind::Plain => put_plain(sorted, word),
@@ -211,7 +215,6 @@ fn put<'a>(sorted: &mut Sorted<'a>, word: &'a str) -> Result<(), AllocError>
 {
     match sorted.next {
         Next::TopValue => put_top(sorted, Next::Any, word),
-        Next::Value => put_option(sorted, Next::Any, word),
         Next::Words => put_behind(sorted, word),
         Next::Numbers => put_number(sorted, word),
         Next::Any => put_any(sorted, word),

@@ -5,6 +5,7 @@ ghost use Rattle.std.specs.Prelude.{option_map};
 ghost use Rattle.clap.specs.Words.{rows_of, found_of, subcommand_rows_of};
 ghost use Rattle.desk_words.specs.WordAnswers.{Gives, status_of_fault};
 ghost use Rattle.desk_words.specs.Arranged.{arranged};
+ghost use Rattle.desk_words.specs.JoinedValues.{joined_values};
 ghost use Rattle.desk_words.specs.AskedWords.{asked_by, asked_in, asked_of, faults_in, file_by};
 ghost use Rattle.desk_words.specs.AskedWords.{wait_by};
 ghost use Rattle.desk_words.specs.AskedWords.{order_by, FaultFits};
@@ -14,6 +15,7 @@ ghost use Rattle.desk_words.specs.Inside.Sorting.{texts_of};
 use crate::arranging::arranged;
 use crate::desk_commands::command_line;
 use crate::found::{number, value};
+use crate::joining::joined_values;
 use crate::order_meanings::order_named;
 use crate::sought_conditions::SoughtKind;
 use clap::error::ErrorKind;
@@ -184,14 +186,15 @@ fn asked_of(alloc: Global, words: &[&str], chance: u64) -> Result<Words, OrderFa
 /// parse then, where help or the version is asked for, and out of memory; each other error says
 /// why words that parse ask for nothing.
 pub fn words_of(alloc: Global, words: &[String], chance: u64) -> Result<Words, OrderFault>
-    ensures asked { let given = arranged (map string_bytes words.now) in
+    ensures asked { let given = arranged (joined_values (map string_bytes words.now)) in
         IfOk result (λ asked. asked_of chance given ≡ Ok (asked_by asked)) }
-    ensures parsed { let given = arranged (map string_bytes words.now) in
+    ensures parsed { let given = arranged (joined_values (map string_bytes words.now)) in
         IfOk result (λ _. faults_in given ≡ []) }
-    ensures fault { let given = arranged (map string_bytes words.now) in
+    ensures fault { let given = arranged (joined_values (map string_bytes words.now)) in
         IfErr result (FaultFits chance given) }
 {
-    let arranged = arranged(alloc, words)?;
+    let joined = joined_values(alloc, words)?;
+    let arranged = arranged(alloc, joined.as_slice())?;
     asked_of(alloc, arranged.as_slice(), chance)
 }
 

@@ -5,6 +5,7 @@ mod arranging;
 mod asked;
 mod desk_commands;
 mod found;
+mod joining;
 mod order_meanings;
 mod sought_conditions;
 
