@@ -5,7 +5,7 @@ use Rattle.std.specs.Box.{box_value}
 use Rattle.clap.specs.declared.parser.matches.ArgMatches.{ArgMatches}
 use Rattle.clap.specs.declared.parser.matches.SubCommand.{SubCommand}
 use Rattle.clap.specs.declared.parser.matches.ArgMatches.TheViews.{out-ArgMatches, out-SubCommand}
-use Rattle.clap.specs.Words.{App, HasKind, HasMatchesOf, Row, Text, fault_of, found_of, is_simple_and_free, matches_of, rows_of, subcommand_name_of}
+use Rattle.clap.specs.Words.{App, HasKind, HasMatchesOf, Row, Text, fault_of, found_of, is_simple, is_simple_and_free, matches_of, rows_of, subcommand_name_of}
 use Rattle.clap.specs.Words.{subcommand_of, subcommand_rows, subcommand_rows_of}
 use Rattle.desk_words.specs.declared.asked.Words.{Words}
 use Rattle.desk_words.specs.declared.asked.OrderFault.{OrderFault}
@@ -21,7 +21,12 @@ pub record Parses (words : List Text) (m : ArgMatches) : Type 0 where
   pub own : rows_of (found_of m) ≡ matches_of desk_app words
   pub command : subcommand_rows_of m ≡ subcommand_of desk_app words
 
-simple : is_simple_and_free desk_app ≡ true
+simple_and_free : is_simple_and_free desk_app ≡ true
+unfolding desk_app
+simple_and_free = refl
+
+simple : is_simple desk_app ≡ true
+unfolding desk_app
 simple = refl
 
 pub parses : (app : App) (words : List Text) (m : ArgMatches) → app ≡ desk_app → HasMatchesOf app words m
@@ -30,9 +35,9 @@ parses app words m is has fits =
     let Has : App → Type 0 = λ a. HasMatchesOf a words m in
     let Fits : App → Type 0 = λ a. is_simple_and_free a ≡ true → fault_of a words ≡ [] in
     record {
-      parsed = subst Fits is fits simple;
-      own = (subst Has is has refl).0;
-      command = (subst Has is has refl).1;
+      parsed = subst Fits is fits simple_and_free;
+      own = (subst Has is has simple).0;
+      command = (subst Has is has simple).1;
     }
 
 -- what is asked by what was found is what the words ask
@@ -61,7 +66,7 @@ pub fails : (app : App) (words : List Text) (error : _) → app ≡ desk_app →
     → HasKind (faults_in words) error
 fails app words error is kinds =
     let Fails : App → Type 0 = λ a. is_simple_and_free a ≡ true → HasKind (fault_of a words) error in
-    subst Fails is kinds simple
+    subst Fails is kinds simple_and_free
 
 pub always : (r : Result Words OrderFault) (P : Type 0) → P → IfOk r (λ _. P)
 always (Ok asked) P p = p

@@ -90,6 +90,6 @@ abbrev pub with_commands : App → List App → App
 with_commands app commands = fold (λ all command. with_subcommand all command.top) app commands
 
 -- the program's command line
-abbrev pub desk_app : App
+unfoldable pub desk_app : App
 desk_app = with_commands program_alone
     (find_commands ++ (list_commands ++ (tune_commands ++ other_commands)))

@@ -3,7 +3,8 @@ ghost use Rattle.std.specs.Prelude.{◌≡◌, ◌++◌, [], ◌∷◌, codes, f
 ghost use Rattle.clap.specs.Words.{app_of, new_app, new_rule, with_rule};
 ghost use Rattle.clap.specs.declared.builder.command.Command.TheViews.{out-Command as fields_of};
 ghost use Rattle.desk_words.specs.DeskCommands.{flag_rule, option_rule, one_rule, many_rule, more};
-ghost use Rattle.desk_words.specs.DeskCommands.{force_rule, out_rule, tune_rule, list_rules};
+ghost use Rattle.desk_words.specs.DeskCommands.{force_rule, out_rule, tune_rule, file_rule};
+ghost use Rattle.desk_words.specs.DeskCommands.{list_rules};
 ghost use Rattle.desk_words.specs.DeskCommands.{find_rules, with_rules, program_alone, desk_app};
 ghost use Rattle.desk_words.specs.DeskCommands.{with_commands, find_commands, list_commands};
 ghost use Rattle.desk_words.specs.DeskCommands.{tune_commands, other_commands};
@@ -261,17 +262,22 @@ fn ask<'a>(alloc: Global) -> Command<'a>
     Command::new(alloc, "ask").about("Answers the questions of a script of standard input")
 }
 
+fn file<'a>(alloc: Global) -> Arg<'a>
+    ensures { HasRule result file_rule }
+{
+    Arg::new(alloc, "file").short('f').value_name("FILE").help(
+        "The archive; else it is what the variable TUNES_BOOK names",
+    )
+}
+
 // The program, before its commands.
 fn program<'a>(alloc: Global) -> Result<Command<'a>, AllocError>
     ensures { IfOk result (λ command. HasApp command program_alone) }
 {
-    let file = Arg::new(alloc, "file").short('f').value_name("FILE").help(
-        "The archive; else it is what the variable TUNES_BOOK names",
-    );
     Command::new(alloc, "tunes-book")
         .about("Keeps tunes in ABC notation in an archive")
         .version(VERSION)
-        .arg(file)?
+        .arg(file(alloc))?
         .arg(option(
             alloc,
             "wait",

@@ -22,7 +22,7 @@ use desk_terms::{Condition, Question};
 use std::alloc::Global;
 
 // The commands.
-#[derive(Clone, Copy, Debug, PartialEq, Eq)]
+#[derive(Clone, Copy)]
 pub(crate) enum Verb {
     Find,
     Count,

@@ -1,0 +1,12 @@
+use Rattle.std.proofs.lemmas.Result.{IfOk-weaker}
+use Rattle.clap.specs.Words.{new_app}
+use Rattle.desk_words.specs.Inside.Commands.{HasApp}
+use Rattle.desk_words.proofs.CommandLemmas.{app_about, app_with_rule}
+use Rattle.desk_words.proofs.desk_commands.writing.Goals as goal
+
+pub returns : goal.returns
+returns c =
+    let made : HasApp c.new.result (new_app c.args.name.now) = record { app_is = c.new.ensures.app; local = c.new.ensures.local } in
+    let told = app_about _ _ _ _ made c.about.ensures in
+    let with_force = app_with_rule _ _ _ _ _ told c.force.ensures c.in_ok-arg.ensures in
+    IfOk-weaker c.arg-2.result _ _ (λ all adds. app_with_rule _ all _ _ _ with_force c.out.ensures adds) c.arg-2.ensures
