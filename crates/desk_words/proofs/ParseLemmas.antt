@@ -10,7 +10,7 @@ use Rattle.clap.specs.Words.{subcommand_of, subcommand_rows, subcommand_rows_of}
 use Rattle.desk_words.specs.declared.asked.Words.{Words}
 use Rattle.desk_words.specs.declared.asked.OrderFault.{OrderFault}
 use Rattle.desk_words.specs.declared.asked.OrderFault.TheVariants as fault
-use Rattle.desk_words.specs.WordAnswers.{Gives, Refusal, Refuses}
+use Rattle.desk_words.specs.WordAnswers.{Gives, WordRefusal, Refuses}
 use Rattle.desk_words.specs.DeskCommands.{desk_app}
 use Rattle.desk_words.specs.AskedWords.{Asked, FaultFits, asked_by, asked_in, asked_of, faults_in, order_by}
 use Rattle.desk_words.specs.OrderMeanings.{meaning_named}
@@ -45,7 +45,7 @@ pub same_asked : (chance : _) (words : List Text) (m : ArgMatches) → Parses wo
     → asked_in chance (rows_of (found_of m)) (subcommand_rows_of m) ≡ asked_of chance words
 same_asked chance words m p = ap₂ (asked_in chance) p.own p.command
 
-pub asks : (wanted given : Result Asked Refusal) (r : Result Words OrderFault) → wanted ≡ given → Gives asked_by wanted r
+pub asks : (wanted given : Result Asked WordRefusal) (r : Result Words OrderFault) → wanted ≡ given → Gives asked_by wanted r
     → IfOk r (λ asked. given ≡ Ok (asked_by asked))
 asks wanted given (Ok asked) same gives = sym same ∙ gives
 asks wanted given (Err fault) same gives = tt
@@ -54,11 +54,11 @@ refused : (chance : _) (words : List Text) (fault : OrderFault) → faults_in wo
 refused chance words (fault.Clap error) none refuses = inl refuses
 refused chance words _ none refuses = (none, refuses)
 
-pub fits : (chance : _) (words : List Text) (wanted : Result Asked Refusal) (r : Result Words OrderFault) → faults_in words ≡ []
+pub fits : (chance : _) (words : List Text) (wanted : Result Asked WordRefusal) (r : Result Words OrderFault) → faults_in words ≡ []
     → wanted ≡ asked_of chance words → Gives asked_by wanted r → IfErr r (FaultFits chance words)
 fits chance words wanted (Ok asked) none same gives = tt
 fits chance words wanted (Err fault) none same gives =
-    let Says : Result Asked Refusal → Type 0 = λ given. Refuses given fault in
+    let Says : Result Asked WordRefusal → Type 0 = λ given. Refuses given fault in
     refused chance words fault none (subst Says same gives)
 
 -- what does not parse fails as it is to

@@ -6,7 +6,7 @@ use Rattle.clap.specs.Words.{subcommand_of}
 use Rattle.desk_words.specs.declared.asked.Words.{Words}
 use Rattle.desk_words.specs.declared.asked.OrderFault.{OrderFault}
 use Rattle.desk_words.specs.declared.asked.OrderFault.TheVariants.{Clap}
-use Rattle.desk_words.specs.WordAnswers.{Refusal, Refuses, and_then, empty_file, missing}
+use Rattle.desk_words.specs.WordAnswers.{WordRefusal, Refuses, and_then, empty_file, missing}
 use Rattle.desk_words.specs.DeskCommands.{desk_app}
 use Rattle.desk_words.specs.Given.{number_in}
 use Rattle.desk_words.specs.OrderMeanings.{OrderMeaning, meaning_by, meaning_named}
@@ -25,22 +25,22 @@ asked_by words = record {
 }
 
 -- FILE is not empty
-abbrev pub file_by : Option Text → Result (Option Text) Refusal
+abbrev pub file_by : Option Text → Result (Option Text) WordRefusal
 file_by None = Ok None
 file_by (Some []) = Err empty_file
 file_by (Some (byte ∷ bytes)) = Ok (Some (byte ∷ bytes))
 
 -- SECONDS, or none
-abbrev pub wait_by : Option Text → Result ℕ Refusal
+abbrev pub wait_by : Option Text → Result ℕ WordRefusal
 wait_by None = Ok 0
 wait_by (Some word) = number_in word
 
-abbrev pub order_by : ℕ → Option (Text × List Row) → Result OrderMeaning Refusal
+abbrev pub order_by : ℕ → Option (Text × List Row) → Result OrderMeaning WordRefusal
 order_by chance None = Err missing
 order_by chance (Some command) = meaning_named chance command.0 command.1
 
 -- what is asked by what the parser found: for the program's own arguments, and for its command's
-abbrev pub asked_in : ℕ → List Row → Option (Text × List Row) → Result Asked Refusal
+abbrev pub asked_in : ℕ → List Row → Option (Text × List Row) → Result Asked WordRefusal
 asked_in chance rows command =
     and_then (file_by (first_of (codes "file") rows))
     (λ file. and_then (wait_by (first_of (codes "wait") rows))
@@ -48,7 +48,7 @@ asked_in chance rows command =
     (λ order. Ok (record { file = file; wait = wait; order = order }))))
 
 -- what words ask for that the parser takes
-abbrev pub asked_of : ℕ → List Text → Result Asked Refusal
+abbrev pub asked_of : ℕ → List Text → Result Asked WordRefusal
 asked_of chance words = asked_in chance (matches_of desk_app words) (subcommand_of desk_app words)
 
 -- the kinds of error in the words, help and version among them; none where they parse

@@ -9,7 +9,7 @@ use Rattle.std.specs.Str.Parse.{digits_value}
 use Rattle.clap.specs.Words.{Text, Row, all_of, first_of}
 use Rattle.desk_terms.specs.declared.form.Form.{Form}
 use Rattle.desk_terms.specs.declared.form.Form.TheVariants.{Rows, Json, Csv}
-use Rattle.desk_words.specs.WordAnswers.{Refusal, and_then, two_forms, no_number, no_name}
+use Rattle.desk_words.specs.WordAnswers.{WordRefusal, and_then, two_forms, no_number, no_name}
 use Rattle.desk_words.specs.WordAnswers.{empty_path}
 
 -- the words that were given for an argument
@@ -26,13 +26,13 @@ is_set id rows =
     option_map_or (λ word. bytes_eq word (codes "true")) (first_of id rows) false
 
 -- a list as JSON, or as CSV, or else as rows
-abbrev pub form_by : Bool → Bool → Result Form Refusal
+abbrev pub form_by : Bool → Bool → Result Form WordRefusal
 form_by true true = Err two_forms
 form_by true false = Ok Json
 form_by false true = Ok Csv
 form_by false false = Ok Rows
 
-abbrev pub form_in : List Row → Result Form Refusal
+abbrev pub form_in : List Row → Result Form WordRefusal
 form_in rows = form_by (is_set (codes "json") rows) (is_set (codes "csv") rows)
 
 abbrev pub is_digit : ℕ → Bool
@@ -48,29 +48,29 @@ number_written word = if not (is_digits word) then None
     else if nat_lt 9 (length word) then None
     else Some (digits_value 10 word)
 
-abbrev pub number_by : Option ℕ → Text → Result ℕ Refusal
+abbrev pub number_by : Option ℕ → Text → Result ℕ WordRefusal
 number_by None word = Err (no_number word)
 number_by (Some number) word = Ok number
 
-abbrev pub number_in : Text → Result ℕ Refusal
+abbrev pub number_in : Text → Result ℕ WordRefusal
 number_in word = number_by (number_written word) word
 
 -- each word is read in turn
-abbrev pub each_in : {A : Type 0} → (Text → Result A Refusal) → List Text
-    → Result (List A) Refusal
+abbrev pub each_in : {A : Type 0} → (Text → Result A WordRefusal) → List Text
+    → Result (List A) WordRefusal
 each_in read [] = Ok []
 each_in read (word ∷ words) = and_then (read word)
     (λ value. and_then (each_in read words) (λ values. Ok (value ∷ values)))
 
-abbrev pub numbers_in : List Text → Result (List ℕ) Refusal
+abbrev pub numbers_in : List Text → Result (List ℕ) WordRefusal
 numbers_in words = each_in number_in words
 
 -- a path is not empty
-abbrev pub path_in : Text → Result Text Refusal
+abbrev pub path_in : Text → Result Text WordRefusal
 path_in [] = Err empty_path
 path_in (byte ∷ bytes) = Ok (byte ∷ bytes)
 
-abbrev pub paths_in : List Text → Result (List Text) Refusal
+abbrev pub paths_in : List Text → Result (List Text) WordRefusal
 paths_in words = each_in path_in words
 
 -- letters, digits, - (45) and _ (95)
@@ -82,7 +82,7 @@ abbrev pub is_name : Text → Bool
 is_name word = not (length word == 0) && list_all is_name_byte word
 
 -- the name of a set list
-abbrev pub name_in : Text → Result Text Refusal
+abbrev pub name_in : Text → Result Text WordRefusal
 name_in word = if is_name word then Ok word else Err (no_name word)
 
 -- a line feed (10) and a carriage return (13) become a blank (32)

@@ -11,16 +11,17 @@ use Rattle.desk_words.specs.declared.asked.Order.TheVariants as order
 use Rattle.desk_words.specs.declared.asked.Target.{Target}
 use Rattle.desk_words.specs.declared.order_meanings.Verb.{Verb}
 use Rattle.desk_words.specs.declared.order_meanings.Verb.TheVariants as verb
-use Rattle.desk_words.specs.WordAnswers.{Refusal, and_then, missing, nothing_asked, name_and_tunes}
+use Rattle.desk_words.specs.WordAnswers.{WordRefusal, and_then, missing, nothing_asked}
+use Rattle.desk_words.specs.WordAnswers.{name_and_tunes}
 use Rattle.desk_words.specs.Given.{given, first_given, is_set, form_in, number_in, numbers_in}
 use Rattle.desk_words.specs.Given.{path_in, paths_in, name_in}
-use Rattle.desk_words.specs.SoughtConditions.{Sought, sought_by, sought_in}
+use Rattle.desk_words.specs.SoughtConditions.{ConditionMeaning, sought_by, sought_in}
 
 -- a question, by the bytes of its texts
 pub data Asking : Type 0 where
-  finds : List Sought → Form → Asking
-  counts : List Sought → Asking
-  chooses : List Sought → ℕ → Form → Asking
+  finds : List ConditionMeaning → Form → Asking
+  counts : List ConditionMeaning → Asking
+  chooses : List ConditionMeaning → ℕ → Form → Asking
   lists_titles : Form → Asking
   lists_sets : Form → Asking
   lists_set : Text → Form → Asking
@@ -93,67 +94,67 @@ verb_of name = if bytes_eq name (codes "find") then Some verb.Find
     else None
 
 -- `find` asks for something
-abbrev pub some_sought : List Sought → Result (List Sought) Refusal
+abbrev pub some_sought : List ConditionMeaning → Result (List ConditionMeaning) WordRefusal
 some_sought [] = Err nothing_asked
 some_sought (sought ∷ rest) = Ok (sought ∷ rest)
 
-abbrev pub finds_in : List Row → Result Asking Refusal
+abbrev pub finds_in : List Row → Result Asking WordRefusal
 finds_in rows = and_then (and_then (sought_in rows) some_sought)
     (λ sought. and_then (form_in rows) (λ form. Ok (finds sought form)))
 
-abbrev pub counts_in : List Row → Result Asking Refusal
+abbrev pub counts_in : List Row → Result Asking WordRefusal
 counts_in rows = and_then (sought_in rows) (λ sought. Ok (counts sought))
 
-abbrev pub chooses_in : ℕ → List Row → Result Asking Refusal
+abbrev pub chooses_in : ℕ → List Row → Result Asking WordRefusal
 chooses_in chance rows = and_then (sought_in rows)
     (λ sought. and_then (form_in rows) (λ form. Ok (chooses sought chance form)))
 
-abbrev pub lists_in : (Form → Asking) → List Row → Result Asking Refusal
+abbrev pub lists_in : (Form → Asking) → List Row → Result Asking WordRefusal
 lists_in asking rows = and_then (form_in rows) (λ form. Ok (asking form))
 
-abbrev pub set_in : List Row → Result Asking Refusal
+abbrev pub set_in : List Row → Result Asking WordRefusal
 set_in rows = and_then (name_in (first_given (codes "NAME") rows))
     (λ name. and_then (form_in rows) (λ form. Ok (lists_set name form)))
 
-abbrev pub shows_in : List Row → Result Asking Refusal
+abbrev pub shows_in : List Row → Result Asking WordRefusal
 shows_in rows = and_then (numbers_in (given (codes "NUM") rows)) (λ numbers. Ok (shows numbers))
 
 -- NAME, the numbers of --tune, or all
-abbrev pub exports_by : Option Text → List Text → Result Asking Refusal
+abbrev pub exports_by : Option Text → List Text → Result Asking WordRefusal
 exports_by (Some name) (tune ∷ tunes) = Err name_and_tunes
 exports_by (Some name) [] = and_then (name_in name) (λ text. Ok (exports_set text))
 exports_by None (tune ∷ tunes) =
     and_then (numbers_in (tune ∷ tunes)) (λ numbers. Ok (exports_tunes numbers))
 exports_by None [] = Ok exports_all
 
-abbrev pub exports_in : List Row → Result Asking Refusal
+abbrev pub exports_in : List Row → Result Asking WordRefusal
 exports_in rows = exports_by (first_of (codes "NAME") rows) (given (codes "tune") rows)
 
-abbrev pub place_in : List Row → Result Place Refusal
+abbrev pub place_in : List Row → Result Place WordRefusal
 place_in rows = and_then (path_in (first_given (codes "OUT") rows))
     (λ out. Ok (record { out = out; force = is_set (codes "force") rows }))
 
-abbrev pub telling : Result Asking Refusal → Result OrderMeaning Refusal
+abbrev pub telling : Result Asking WordRefusal → Result OrderMeaning WordRefusal
 telling asked = and_then asked (λ asking. Ok (tells asking))
 
-abbrev pub writing : Result Asking Refusal → List Row → Result OrderMeaning Refusal
+abbrev pub writing : Result Asking WordRefusal → List Row → Result OrderMeaning WordRefusal
 writing asked rows =
     and_then asked (λ asking. and_then (place_in rows) (λ place. Ok (writes asking place)))
 
-abbrev pub drafts_in : List Row → Result OrderMeaning Refusal
+abbrev pub drafts_in : List Row → Result OrderMeaning WordRefusal
 drafts_in rows = and_then (number_in (first_given (codes "NUM") rows))
     (λ number. and_then (path_in (first_given (codes "OUT") rows))
     (λ out. Ok (drafts number out)))
 
-abbrev pub books_in : List Row → Result OrderMeaning Refusal
+abbrev pub books_in : List Row → Result OrderMeaning WordRefusal
 books_in rows =
     and_then (paths_in (given (codes "BOOK") rows)) (λ books. Ok (checks_books books))
 
-abbrev pub places_in : List Row → Result OrderMeaning Refusal
+abbrev pub places_in : List Row → Result OrderMeaning WordRefusal
 places_in rows = and_then (place_in rows) (λ place. Ok (places place))
 
 -- what a command asks for, by what was found for its arguments
-abbrev pub meaning_of : ℕ → Verb → List Row → Result OrderMeaning Refusal
+abbrev pub meaning_of : ℕ → Verb → List Row → Result OrderMeaning WordRefusal
 meaning_of chance verb.Find rows = telling (finds_in rows)
 meaning_of chance verb.Count rows = telling (counts_in rows)
 meaning_of chance verb.Random rows = telling (chooses_in chance rows)
@@ -170,10 +171,10 @@ meaning_of chance verb.Place rows = places_in rows
 meaning_of chance verb.Draft rows = drafts_in rows
 meaning_of chance verb.Ask rows = Ok asks
 
-abbrev pub meaning_by_verb : ℕ → Option Verb → List Row → Result OrderMeaning Refusal
+abbrev pub meaning_by_verb : ℕ → Option Verb → List Row → Result OrderMeaning WordRefusal
 meaning_by_verb chance None rows = Err missing
 meaning_by_verb chance (Some verb) rows = meaning_of chance verb rows
 
 -- the same, by the name of the command
-abbrev pub meaning_named : ℕ → Text → List Row → Result OrderMeaning Refusal
+abbrev pub meaning_named : ℕ → Text → List Row → Result OrderMeaning WordRefusal
 meaning_named chance name rows = meaning_by_verb chance (verb_of name) rows

@@ -10,26 +10,27 @@ use Rattle.desk_words.specs.declared.asked.OrderFault.{OrderFault}
 use Rattle.desk_words.specs.declared.asked.OrderFault.TheVariants as fault
 
 -- why words that parse ask for nothing
-pub data Refusal : Type 0 where
-  missing : Refusal
-  nothing_asked : Refusal
-  kind_alone : SoughtKind → Refusal
-  within_alone : Refusal
-  key_alone : Refusal
-  two_forms : Refusal
-  name_and_tunes : Refusal
-  no_number : Text → Refusal
-  no_name : Text → Refusal
-  empty_file : Refusal
-  empty_path : Refusal
+pub data WordRefusal : Type 0 where
+  missing : WordRefusal
+  nothing_asked : WordRefusal
+  kind_alone : SoughtKind → WordRefusal
+  within_alone : WordRefusal
+  key_alone : WordRefusal
+  two_forms : WordRefusal
+  name_and_tunes : WordRefusal
+  no_number : Text → WordRefusal
+  no_name : Text → WordRefusal
+  empty_file : WordRefusal
+  empty_path : WordRefusal
 
 -- the second is asked with the value of the first, where that has one
-abbrev pub and_then : {A B : Type 0} → Result A Refusal → (A → Result B Refusal) → Result B Refusal
+abbrev pub and_then : {A B : Type 0} → Result A WordRefusal → (A → Result B WordRefusal)
+    → Result B WordRefusal
 and_then (Ok value) next = next value
 and_then (Err refusal) next = Err refusal
 
 -- the refusal that a fault tells; none where the fault is the parser's
-abbrev pub refusal_of : OrderFault → Option Refusal
+abbrev pub refusal_of : OrderFault → Option WordRefusal
 refusal_of (fault.Clap error) = None
 refusal_of fault.Missing = Some missing
 refusal_of fault.NothingAsked = Some nothing_asked
@@ -49,12 +50,12 @@ IsOutOfMemory (fault.Clap error) = kind_of error ≡ OutOfMemory
 IsOutOfMemory _ = ⊥
 
 -- The fault is the refusal that is wanted, or out of memory.
-abbrev pub Refuses : {B : Type 0} → Result B Refusal → OrderFault → Type 0
+abbrev pub Refuses : {B : Type 0} → Result B WordRefusal → OrderFault → Type 0
 Refuses wanted fault =
     MatchOption (refusal_of fault) (IsOutOfMemory fault) (λ refusal. wanted ≡ Err refusal)
 
 -- A call gives the value that is wanted, or refuses as is wanted, or runs out of memory.
-abbrev pub Gives : {A B : Type 0} → (A → B) → Result B Refusal → Result A OrderFault → Type 0
+abbrev pub Gives : {A B : Type 0} → (A → B) → Result B WordRefusal → Result A OrderFault → Type 0
 Gives view wanted (Ok value) = wanted ≡ Ok (view value)
 Gives view wanted (Err fault) = Refuses wanted fault
 
