@@ -1,5 +1,7 @@
--- Commands and arguments by what the parser reads of them: with one setting more, one argument more and one command more.
-use Rattle.std.proofs.Common.{◌≡◌, ap, ◌∙◌, refl, Bool, true, false, ◌||◌, Bor, ℕ}
+-- Commands and arguments by what the parser reads of them: with one setting more, one argument more, one command more and
+-- several more.
+use Rattle.std.proofs.Common.{◌≡◌, ap, ◌∙◌, refl, sym, Bool, true, false, ◌||◌, Bor, List, ◌++◌, ℕ}
+use Rattle.std.proofs.lemmas.List.Sums.{fold-append}
 use Rattle.std.specs.Prelude.{IsSomeAnd, Option, Some, None}
 use Rattle.clap.specs.declared.builder.action.ArgAction.{ArgAction}
 use Rattle.clap.specs.declared.builder.arg.Arg.{Arg}
@@ -9,7 +11,7 @@ use Rattle.clap.specs.declared.builder.texts.Texts.TheVariants.{One}
 use Rattle.clap.specs.declared.builder.range.ValueRange.{ValueRange}
 use Rattle.clap.specs.Lexer.{usize_max}
 use Rattle.clap.specs.Simple.{Shape, app_of_fields, on_top}
-use Rattle.desk_words.specs.DeskCommands.{more, needed}
+use Rattle.desk_words.specs.DeskCommands.{more, needed, with_commands}
 use Rattle.clap.specs.Words.{AddsArg, AddsSubcommand, App, Rule, Text, app_of, rule_of, shape_of, with_rule, with_subcommand}
 use Rattle.desk_words.specs.Inside.Commands.{HasApp, HasRule}
 
@@ -78,6 +80,13 @@ neither false false p q = refl
 neither true b p q = cc
 neither false true p q = cc
 
+pub app_long_about : (old new : Command) (app : App) (text : Bor Text) → HasApp old app
+    → out-Command new ≡ record (out-Command old) { long_about = Some text } → HasApp new app
+app_long_about old new app text has e = record {
+  app_is = ap app_of_fields e ∙ has.app_is;
+  local = ap (λ fields. fields.has_globals) e ∙ has.local;
+}
+
 pub app_version : (old new : Command) (app : App) (text : Bor Text) → HasApp old app
     → out-Command new ≡ record (out-Command old) { version = Some text } → HasApp new (on_top (λ shape. record shape { has_version = true }) app)
 app_version old new app text has e = record {
@@ -98,3 +107,6 @@ app_with_command old new command app more of_old is adds =
     adds.shape is.local
     ∙ ap (λ a. with_subcommand a (shape_of command)) of_old
     ∙ ap (λ (a : App). with_subcommand app a.top) is.app_is
+
+pub more_commands : (app : App) (first rest : List App) → with_commands (with_commands app first) rest ≡ with_commands app (first ++ rest)
+more_commands app first rest = sym (fold-append (λ (all : App) (command : App). with_subcommand all command.top) app first rest)

@@ -154,12 +154,11 @@ fn set<'a>(alloc: Global) -> Result<Command<'a>, AllocError>
 fn twins<'a>(alloc: Global) -> Result<Command<'a>, AllocError>
     ensures { IfOk result (λ command. HasApp command (with_rules (codes "twins") list_rules)) }
 {
-    listing(
-        alloc,
-        "twins",
+    let listing = listing(alloc, "twins", "Lists the tunes that are there twice")?;
+    Ok(listing.long_about(
         "Lists the tunes that are there twice, each under the first one before it with the same \
          text, or else the same opening of twelve notes and the same title",
-    )
+    ))
 }
 
 fn show<'a>(alloc: Global) -> Result<Command<'a>, AllocError>
