@@ -1996,6 +1996,35 @@ watched() {
     grep -q 'flock(.*LOCK_SH' trace || wrong "'$words' takes no lock that readers share"
 }
 
+# A book of sixteen tunes. The second has the text of the first, and the third begins as it does,
+# higher. Of the next four one has another twelfth note, one another title, and two have none. Three
+# have no note, three are short, and the last three are like some before them.
+twice() {
+    first='GABc dedB cdef|gag\n\n'
+    third='X:1\nT:THE K\0303\0211SH JIG\nR:jig\nK:D\ndefg abaf gabc'\''|d\n\n'
+    printf '%b' "X:1\nT:The Kesh Jig\nK:G\n$first" "X:7\nT:The Kesh Jig\nK:G\n$first" "$third" \
+        'X:1\nT:The Kesh Jig\nK:G\nGABc dedB cdeg|gag\n\n' "X:1\nT:Another\nK:G\n$first" \
+        "X:1\nK:G\n$first" 'X:1\nK:G\nGABc dedB cdef|ggg\n\n' 'X:1\nT:Silent\nK:C\n\n' \
+        'X:1\nT:Silent\nR:jig\nK:C\n\n' 'X:1\nT:Silent\nK:C\n\n' 'X:1\nT:Short\nK:C\nCDE\n\n' \
+        'X:1\nT:short\nK:D\nDEF\n\n' 'X:1\nT:Short\nK:C\nCDEF\n\n' "$third" \
+        'X:1\nT:kesh jig, the\nK:G\nGABc dedB cdef|aaa\n\n' "X:1\nK:G\n$first"
+}
+
+# Those of them that are there twice, where so many tunes stand before them.
+twins_from() {
+    while read -r number twin rest; do
+        printf '%b\n' "$(($1 + number)) $(($1 + twin)) $rest"
+    done << 'END'
+2 1 text Kesh Jig, The
+3 1 opening K\0303\0211SH JIG, THE
+10 8 text Silent
+12 11 opening short
+14 3 text K\0303\0211SH JIG, THE
+15 1 opening kesh jig, the
+16 6 text
+END
+}
+
 cases_of_questions() {
     begin 'titles with accents, and notes as printed' session
     printf 'X:1\nT:\303\211amonn an Chnoic\nT:An B\303\263thar M\303\263r\nK:C\n' > a.abc
@@ -2056,6 +2085,67 @@ cases_of_questions() {
     run show 3 99
     refused 1 'no tune has the number 99'
     [ ! -s "$work/out" ] || wrong 'a part of what is shown is printed'
+    end
+
+    begin 'tunes that are there twice'
+    run new
+    run twins
+    done_with ''
+    run twins --json
+    lists_json '[]'
+    run twins --csv
+    lists_csv 'number,twin,alike,title'
+    twice > a.abc
+    run add a.abc
+    run twins
+    done_with "$(twins_from 0)"
+    run --json twins
+    lists_json '[{"number":2,"twin":1,"alike":"text","title":"Kesh Jig, The"},
+        {"number":3,"twin":1,"alike":"opening","title":"K\u00c9SH JIG, THE"},
+        {"number":10,"twin":8,"alike":"text","title":"Silent"},
+        {"number":12,"twin":11,"alike":"opening","title":"short"},
+        {"number":14,"twin":3,"alike":"text","title":"K\u00c9SH JIG, THE"},
+        {"number":15,"twin":1,"alike":"opening","title":"kesh jig, the"},
+        {"number":16,"twin":6,"alike":"text","title":null}]'
+    run twins --csv
+    lists_csv "$(printf '%b' 'number,twin,alike,title\n2,1,text,"Kesh Jig, The"\n' \
+        '3,1,opening,"K\0303\0211SH JIG, THE"\n10,8,text,Silent\n12,11,opening,short\n' \
+        '14,3,text,"K\0303\0211SH JIG, THE"\n15,1,opening,"kesh jig, the"\n16,6,text,')"
+    # without the first of them the next one is told first
+    run delete 1
+    run delete 6
+    run delete 8
+    run twins
+    done_with "$(printf '%b' '3 2 opening K\0303\0211SH JIG, THE\n12 11 opening short\n' \
+        '14 3 text K\0303\0211SH JIG, THE\n15 2 opening kesh jig, the')"
+    run twins 1
+    refused 2 ''
+    end
+
+    begin 'tunes that are there twice, in layout 1' one
+    run twins
+    done_with ''
+    twice > a.abc
+    run add a.abc
+    done_with 'a.abc: tunes 3 to 18'
+    run twins
+    done_with "$(twins_from 2)"
+    run upgrade
+    run twins
+    done_with "$(twins_from 2)"
+    end
+
+    begin 'a book that is there twice' session
+    run twins
+    done_with ''
+    run add "$book"
+    run twins
+    ends_with 0
+    cut -d ' ' -f 1-3 "$work/out" > found
+    for number in 1 2 3 4 5 6 7 8 9 10 11 12 13 14 15; do
+        echo "$((number + 15)) $number text"
+    done > wanted
+    same found wanted
     end
 
     begin 'scripts of questions' session

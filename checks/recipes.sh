@@ -481,6 +481,24 @@ for title in "$title" "$title, and again"; do
 done
 end
 
+go_on 'tunes that are there twice'
+run twins
+ends_with 0
+says ''
+cp tunes.abcx once.abcx
+./tunes-book -f tunes.abcx add mine.abc > "$work/out" 2> "$work/err"
+run_again twins
+ends_with 0
+[ "$(head -n 1 "$work/out")" = '16 1 text Kesh Jig, The' ] ||
+    wrong "it says '$(head -n 1 "$work/out")' of tune 16"
+cut -d ' ' -f 1-3 "$work/out" > "$work/found"
+for number in 1 2 3 4 5 6 7 8 9 10 11 12 13 14 15; do
+    echo "$((number + 15)) $number text"
+done > "$work/wanted"
+same "$work/found" "$work/wanted"
+mv once.abcx tunes.abcx
+end
+
 go_on 'looking at a tune'
 shown 3 > "$work/tune"
 run show

@@ -1,4 +1,4 @@
--- Lists of tunes that are alike, in each form.
+-- Lists of tunes that are there twice, in each form.
 use Rattle.std.specs.Prelude.{ℕ, List, [], ◌∷◌, ◌++◌, codes}
 use Rattle.std.specs.Fmt.{decimal}
 use Rattle.json.specs.Token.{Token, begin_object, end_object, key, string, number}
@@ -16,7 +16,8 @@ alike_bytes Text = codes "text"
 alike_bytes Opening = codes "opening"
 
 -- ROWS
--- both numbers, in what the two are alike, and the title of the first where it has one
+-- the number of the later tune and that of its twin, in what they are alike, and the title of the
+-- later tune where it has one
 abbrev pub twin_row_bytes : TwinRow → List ℕ
 twin_row_bytes row =
     decimal row.number ++ codes " " ++ decimal row.twin ++ codes " " ++ alike_bytes row.alike

@@ -1,7 +1,7 @@
 // Words that are looked for in titles.
 ghost use Rattle.std.specs.Prelude.{◌≡◌, ◌∷◌, [], IfOk, map, string_bytes};
 ghost use Rattle.desk_lists.specs.Folding.{folded_bytes, folded_title};
-ghost use Rattle.desk_lists.specs.FoldedWords.{all_begin, all_stand_in, begins};
+ghost use Rattle.desk_lists.specs.FoldedWords.{all_begin, all_stand_in};
 ghost use Rattle.desk_lists.specs.FoldedWords.{folded_words, stands_in};
 
 use crate::folding::folded;
@@ -64,8 +64,9 @@ impl FoldedWords {
     }
 }
 
-// The title as text, folded.
-fn fold_title(alloc: Global, title: &[u8]) -> Result<String, AllocError>
+/// The title, whose bytes need not be UTF-8, without accents and capitals. Its only error is out of
+/// memory.
+pub fn fold_title(alloc: Global, title: &[u8]) -> Result<String, AllocError>
     ensures { IfOk result (λ folded. string_bytes folded ≡ folded_title title.now) }
 {
     let text = text_of(alloc, title)?;
@@ -101,24 +102,4 @@ fn stands_in(word: &[u8], text: &[u8]) -> bool
     ensures { result ≡ stands_in word.now text.now }
 {
     memmem::find(text, word).is_some()
-}
-
-/// Whether the title begins with these words, accents and capitals aside. Its only error is out of
-/// memory.
-pub fn begins_folded(alloc: Global, title: &[u8], words: &[u8]) -> Result<bool, AllocError>
-    ensures { IfOk result (λ begin. begin
-        ≡ begins (folded_title words.now) (folded_title title.now)) }
-{
-    let words = fold_title(alloc, words)?;
-    let title = fold_title(alloc, title)?;
-    Ok(title.as_bytes().starts_with(words.as_bytes()))
-}
-
-/// Whether each of these words stands somewhere in the title, accents and capitals aside. Its only
-/// error is out of memory.
-pub fn has_words_folded(alloc: Global, title: &[u8], words: &[String]) -> Result<bool, AllocError>
-    ensures { IfOk result (λ stand. stand
-        ≡ all_stand_in (folded_words words.now) (folded_title title.now)) }
-{
-    FoldedWords::of_words(alloc, words)?.stand_in(alloc, title)
 }

@@ -14,7 +14,7 @@ mod shown_texts;
 mod tables;
 mod twins;
 
-pub use folded_words::{FoldedWords, begins_folded, has_words_folded};
+pub use folded_words::{FoldedWords, fold_title};
 pub use folding::folded;
 pub use laws::law_of_words;
 pub use list_forms::{count_line, place_list, set_list, tune_list};

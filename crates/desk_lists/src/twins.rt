@@ -1,4 +1,4 @@
-// Lists of tunes that are alike.
+// Lists of tunes that are there twice.
 ghost use Rattle.std.specs.Prelude.{◌≡◌, ◌++◌, IfOk, OnOk};
 ghost use Rattle.desk_lists.specs.JsonLists.{array_bytes};
 ghost use Rattle.desk_lists.specs.CsvTables.{record_bytes};
@@ -14,12 +14,12 @@ use desk_terms::Form;
 use itoa::Buffer;
 use std::alloc::{AllocError, Global};
 
-/// In what two tunes are alike.
+/// In what a tune is like its twin.
 #[derive(Clone, Copy, Debug, PartialEq, Eq)]
 pub enum Alike {
-    /// In their texts.
+    /// They have the same text.
     Text,
-    /// In how they begin.
+    /// They begin alike, and have the same title.
     Opening,
 }
 
@@ -35,21 +35,21 @@ impl Alike {
     }
 }
 
-/// Two tunes that are alike.
+/// A tune that is there twice: the later of the two, which one might delete.
 #[derive(Debug, Drop)]
 pub struct TwinRow {
-    /// The number of one.
+    /// The number of the later tune.
     pub number: u32,
-    /// The number of the other.
+    /// The number of its twin, the first tune that it is like.
     pub twin: u32,
-    /// In what they are alike.
+    /// In what it is like its twin.
     pub alike: Alike,
-    /// The title of the one.
+    /// The first title of the later tune, as an index shows it.
     pub title: Option<ByteText>,
 }
 
-/// A list of tunes that are alike: the numbers of two, in what they are alike, and the title of the
-/// first. Its only error is out of memory.
+/// A list of tunes that are there twice: the number of each, that of its twin, in what they are
+/// alike, and the title of the tune, not that of its twin. Its only error is out of memory.
 pub fn twin_list(alloc: Global, rows: &[TwinRow], form: Form) -> Result<ByteText, AllocError>
     ensures { IfOk result (λ list. list ≡ twin_list_bytes form rows.now) }
 {

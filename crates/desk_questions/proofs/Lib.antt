@@ -5,3 +5,5 @@ pub mod TuneLemmas
 pub mod FoundLemmas
 pub mod RowLemmas
 pub mod ReplyLemmas
+pub mod TwinLemmas
+pub mod SeenLemmas

@@ -1,2 +1,3 @@
 pub mod QuestionCalls
 pub mod SoughtWords
+pub mod SeenTunes

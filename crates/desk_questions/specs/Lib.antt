@@ -1,4 +1,5 @@
 pub mod Asking
 pub mod Conditions
 pub mod Inside
+pub mod SameTunes
 pub mod Told

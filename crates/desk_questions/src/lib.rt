@@ -7,8 +7,11 @@
 mod conditions;
 mod found_numbers;
 mod numbers;
+mod same_tunes;
 mod shelf;
 mod store_questions;
 mod told_answers;
+mod told_rows;
+mod told_twins;
 
 pub use told_answers::tell;

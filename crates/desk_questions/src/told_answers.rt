@@ -4,7 +4,7 @@ ghost use Rattle.std.specs.Prelude.{MatchResult, codes, drop, string_bytes};
 ghost use Rattle.tune_books.specs.WrittenBooks.{written_tune};
 ghost use Rattle.tune_store.specs.Answers.{asks};
 ghost use Rattle.tune_store.specs.Labels.{labels_of};
-ghost use Rattle.tune_store.specs.Questions.{row_of, exported};
+ghost use Rattle.tune_store.specs.Questions.{exported};
 ghost use Rattle.tune_store.specs.Step.{step};
 ghost use Rattle.desk_lists.specs.ListForms.{count_bytes, tune_list_bytes};
 ghost use Rattle.desk_questions.specs.Asking.{IsOnlyAsked, IsToldOrFault};
@@ -16,14 +16,15 @@ ghost use Rattle.desk_questions.specs.Inside.QuestionCalls.{AreWritten};
 use crate::found_numbers::found;
 use crate::numbers::chosen;
 use crate::store_questions::{ask, tune_of};
-use abc_fields::{ByteText, fields};
+use crate::told_rows::row_of;
+use crate::told_twins::twins;
+use abc_fields::ByteText;
 use desk_lists::{count_line, place_list, set_list, tune_list};
 use desk_terms::{Condition, Form, Question};
 use std::alloc::{AllocError, Global};
 use std::io::Write;
 use tune_books::BookWriter;
 use tune_store::{Catalog, Command, IndexRow, Refusal, Reply, Tune, TuneStore};
-use tune_titles::index_title;
 
 /// Asks a store, and tells the answer in bytes, as `specs/Told.antt` defines them of what the store
 /// stands for.
@@ -78,6 +79,7 @@ fn answer<S: TuneStore + Catalog>(
             plain(alloc, store, &Command::ExportSet(name), Form::Rows)
         }
         Question::ExportTunes(numbers) => export(alloc, store, numbers.as_slice()),
+        Question::Twins(form) => twins(alloc, store, *form),
     }
 }
 
@@ -185,20 +187,6 @@ fn rows_at<S: TuneStore>(
         rows.push(row_of(alloc, &tune)?)?;
     }
     Ok(rows)
-}
-
-// The row of a tune: its number, and its first title.
-fn row_of(alloc: Global, tune: &Tune) -> Result<IndexRow, AllocError>
-    ensures { IfOk result (λ row. row ≡ row_of tune.now) }
-{
-    let title = match fields(&tune.text).titles.as_slice() {
-        [] => None,
-        [first, ..] => Some(index_title(alloc, first)?),
-    };
-    Ok(IndexRow {
-        number: tune.number,
-        title,
-    })
 }
 
 // Writes the tunes of these numbers, each after an empty line and its number.

@@ -1,0 +1,41 @@
+use Rattle.std.proofs.Common.{rules, refl, arith}
+use Rattle.desk_questions.proofs.CallLemmas.{goes_none, goes_on, good_of, call_ok, call_err, call_no_memory}
+use Rattle.desk_questions.proofs.RowLemmas.{refused_at}
+use Rattle.desk_questions.proofs.SeenLemmas.{seen_none, seen_next, seen_all}
+use Rattle.desk_questions.proofs.told_twins.twins_at.Goals as goal
+
+pub loop-number-init : goal.loop-number-init
+loop-number-init g c = record {
+  goes = goes_none g.S.TuneStore _;
+  seen = λ is_open honest. seen_none _ _ c.new-seen.ensures;
+}
+
+pub returns-in_err-tune : goal.returns-in_err-tune
+returns-in_err-tune g c =
+    let k = g.S.TuneStore in
+    call_err k _ _ _ _ _ _ _ c.loop-number.invariant.goes c.in_err-tune.ensures
+    (λ is_open honest refused.
+    let was = c.loop-number.invariant.seen is_open (c.in_err-tune.ensures.asked.was_honest honest) in
+    refused_at c.args.numbers.now c.loop-number.number-index _ (k.state c.args.store.now) was.tunes _ (omega arith) refl was.at refused) (search rules)
+
+pub returns-in_err-add : goal.returns-in_err-add
+returns-in_err-add g c =
+    let k = g.S.TuneStore in call_no_memory k _ _ _ _ (goes_on k _ _ _ _ _ c.loop-number.invariant.goes c.in_ok-tune.ensures) (search rules)
+
+pub loop-number-preserved : goal.loop-number-preserved
+loop-number-preserved g c =
+    let k = g.S.TuneStore in
+    let was = c.loop-number.invariant in
+    record {
+      goes = goes_on k _ _ _ _ _ was.goes c.in_ok-tune.ensures;
+      seen = λ is_open honest. seen_next c.args.numbers.now c.loop-number.number-index _ _ _ _ _ (omega arith) refl
+          (was.seen is_open (c.in_ok-tune.ensures.asked.was_honest honest))
+          (good_of k _ _ _ _ _ was.goes c.in_ok-tune.ensures is_open honest) (λ tunes have. c.in_ok-add.ensures tunes have);
+    }
+
+pub returns : goal.returns
+returns g c =
+    let k = g.S.TuneStore in
+    call_ok k _ _ _ _ c.loop-number.invariant.goes
+    (λ is_open honest. seen_all c.args.numbers.now c.loop-number.number-index _ _ _ (omega arith) (c.loop-number.invariant.seen is_open honest)
+    c.into_rows.ensures)
