@@ -1,2 +1,3 @@
+pub mod DumpCalls
 pub mod QuestionCalls
 pub mod SoughtWords

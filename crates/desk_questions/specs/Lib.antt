@@ -1,4 +1,5 @@
 pub mod Asking
 pub mod Conditions
+pub mod Dumps
 pub mod Inside
 pub mod Told

@@ -18,11 +18,13 @@ use Rattle.desk_terms.specs.declared.form.Form.TheVariants.{Rows}
 use Rattle.desk_lists.specs.ListForms.{tune_list_bytes, place_list_bytes, set_list_bytes}
 use Rattle.desk_lists.specs.ListForms.{count_bytes}
 use Rattle.desk_questions.specs.Conditions.{gives, asks_nothing}
+use Rattle.desk_questions.specs.Dumps.{dump_commands, script_bytes}
 use Rattle.desk_terms.specs.declared.condition.Condition.{Condition}
 use Rattle.desk_terms.specs.declared.question.Question.{Question}
 use Rattle.desk_terms.specs.declared.question.Question.TheVariants.{Find, Count, Random, Titles}
 use Rattle.desk_terms.specs.declared.question.Question.TheVariants.{Sets, Set, Show, ExportAll}
 use Rattle.desk_terms.specs.declared.question.Question.TheVariants.{ExportSet, ExportTunes}
+use Rattle.desk_terms.specs.declared.question.Question.TheVariants.{Dump}
 
 -- BY CONDITIONS
 -- the tunes that all of these conditions give, by number
@@ -93,3 +95,4 @@ told ExportAll state = as_told (reply_told Rows) (step state command.ExportAll).
 told (ExportSet name) state =
     as_told (reply_told Rows) (step state (command.ExportSet (string_bytes name))).1
 told (ExportTunes numbers) state = as_told exported (tunes_at numbers.items state.tunes)
+told Dump state = Ok (script_bytes (dump_commands state))

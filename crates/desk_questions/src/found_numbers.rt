@@ -8,13 +8,12 @@ ghost use Rattle.desk_questions.specs.Conditions.{asks_nothing};
 ghost use Rattle.desk_questions.specs.Inside.QuestionCalls.{has_row_title, AreFoundBySome};
 ghost use Rattle.desk_questions.specs.Inside.SoughtWords.{words_of};
 
-use crate::conditions::{
-    Condition, has_no_words, has_title, looks_at_titles, queries_of, words_of,
-};
+use crate::conditions::{has_no_words, has_title, looks_at_titles, queries_of, words_of};
 use crate::numbers::{add_numbers, in_both};
 use crate::shelf::all_numbers;
 use crate::store_questions::ask;
 use desk_lists::FoldedWords;
+use desk_terms::Condition;
 use std::alloc::{AllocError, Global};
 use tune_queries::Query;
 use tune_store::{Catalog, Command, IndexRow, Refusal, Reply, TuneStore};

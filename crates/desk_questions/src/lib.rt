@@ -5,10 +5,14 @@
 #![tactic(auto)]
 
 mod conditions;
+mod dumps;
 mod found_numbers;
+mod laws;
 mod numbers;
 mod shelf;
 mod store_questions;
 mod told_answers;
+mod written;
 
+pub use laws::law_of_dumps;
 pub use told_answers::tell;
