@@ -951,6 +951,65 @@ tunes.abcx.old.abc wanted"
     contents by-hand.abcx > found
     same found wanted
     end
+
+    begin 'dumps of odd tunes'
+    run new
+    # lines that end in CR LF, bytes that are no UTF-8, and a number as the text of a tune
+    printf 'X:7\r\nT:Caf\351\r\nK:D\r\nabc\r\n\r\nX:8\r\nT:\377\376\r\nK:G\r\n' > odd.abc
+    printf 'X:1\nT:import 3\nK:C\nabc\n%%X:2\n\n%%abc-2.1\nX:2\nT:B\nK:C\n' > more.abc
+    run add odd.abc more.abc
+    ends_with 0
+    dumps_again 'layout 2 tunes 4 sets 0'
+    # one tune, of the number 1, of another, and of the greatest
+    by_script 'delete 2' 'delete 3' 'delete 4'
+    dumps_again 'layout 2 tunes 1 sets 0'
+    by_script 'renumber 1 2'
+    dumps_again 'layout 2 tunes 1 sets 0'
+    by_script 'renumber 2 999999' 'set-new only' 'set-add only 999999' 'set-add only 999999'
+    dumps_again 'layout 2 tunes 1 sets 1'
+    # a gap behind each tune, and tunes in a row behind a gap
+    by_script 'renumber 999999 1'
+    run add odd.abc more.abc odd.abc
+    by_script 'renumber 2 10' 'renumber 3 20' 'renumber 7 30' 'renumber 6 29' 'set-new none' \
+        'set-new A' 'set-add A 30' 'set-add A 1' 'set-add A 30'
+    dumps_again 'layout 2 tunes 7 sets 3'
+    end
+
+    begin 'dumps of layout 1' one
+    by_script 'renumber 2 9'
+    dumps_again 'layout 2 tunes 2 sets 1'
+    end
+
+    begin 'dumps of many bytes'
+    run new
+    # 41 tunes of 60,000 bytes: more than two books of 1,000,000
+    awk 'BEGIN {
+        for (line = 1; line < 600; line++) body = body sprintf("%099d|\n", line)
+        for (tune = 1; tune <= 41; tune++) print "X:" tune "\nT:Tune " tune "\nK:C\n" body
+    }' > long.abc
+    run add long.abc
+    ends_with 0
+    dumps_again 'layout 2 tunes 41 sets 0'
+    [ "$(grep -c '^import ' a.script)" -eq 3 ] || wrong 'the books are cut elsewhere'
+    [ "$(sed -n 's/^import //p' a.script | sort -n | tail -n 1)" -lt 1064100 ] ||
+        wrong 'a book is too long'
+    by_script 'renumber 20 100'
+    dumps_again 'layout 2 tunes 41 sets 0'
+    end
+}
+
+# The archive that its dump makes holds so much, and the same, and has the same dump.
+dumps_again() {
+    rm -f a.script b.script again.abcx
+    run dump a.script
+    done_with ''
+    run -f again.abcx load a.script
+    done_with "$1"
+    contents tunes.abcx > wanted
+    contents again.abcx > found
+    same found wanted
+    run -f again.abcx dump b.script
+    same b.script a.script
 }
 
 # Runs ./tunes-book at a terminal, where the first word is answered to what it asks.

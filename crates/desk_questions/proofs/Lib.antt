@@ -2,6 +2,8 @@ pub mod CallLemmas
 pub mod AskLemmas
 pub mod NumberLemmas
 pub mod TuneLemmas
+pub mod DumpLemmas
+pub mod DumpLaw
 pub mod FoundLemmas
 pub mod RowLemmas
 pub mod ReplyLemmas

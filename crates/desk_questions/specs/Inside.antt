@@ -1,3 +1,4 @@
+pub mod DumpCalls
 pub mod QuestionCalls
 pub mod SoughtWords
 pub mod SeenTunes

@@ -1,5 +1,6 @@
 pub mod Asking
 pub mod Conditions
+pub mod Dumps
 pub mod Inside
 pub mod SameTunes
 pub mod Told

@@ -20,12 +20,13 @@ use Rattle.desk_lists.specs.ListForms.{count_bytes}
 use Rattle.desk_lists.specs.Twins.{twin_list_bytes}
 use Rattle.desk_questions.specs.Conditions.{gives, asks_nothing}
 use Rattle.desk_questions.specs.SameTunes.{twins}
+use Rattle.desk_questions.specs.Dumps.{dump_commands, script_bytes}
 use Rattle.desk_terms.specs.declared.condition.Condition.{Condition}
 use Rattle.desk_terms.specs.declared.question.Question.{Question}
 use Rattle.desk_terms.specs.declared.question.Question.TheVariants.{Find, Count, Random, Titles}
 use Rattle.desk_terms.specs.declared.question.Question.TheVariants.{Sets, Set, Show, ExportAll}
 use Rattle.desk_terms.specs.declared.question.Question.TheVariants.{ExportSet, ExportTunes}
-use Rattle.desk_terms.specs.declared.question.Question.TheVariants.{Twins}
+use Rattle.desk_terms.specs.declared.question.Question.TheVariants.{Twins, Dump}
 
 -- BY CONDITIONS
 -- the tunes that all of these conditions give, by number
@@ -97,3 +98,4 @@ told (ExportSet name) state =
     as_told (reply_told Rows) (step state (command.ExportSet (string_bytes name))).1
 told (ExportTunes numbers) state = as_told exported (tunes_at numbers.items state.tunes)
 told (Twins form) state = Ok (twin_list_bytes form (twins state.tunes))
+told Dump state = Ok (script_bytes (dump_commands state))

@@ -5,7 +5,9 @@
 #![tactic(auto)]
 
 mod conditions;
+mod dumps;
 mod found_numbers;
+mod laws;
 mod numbers;
 mod same_tunes;
 mod shelf;
@@ -13,5 +15,7 @@ mod store_questions;
 mod told_answers;
 mod told_rows;
 mod told_twins;
+mod written;
 
+pub use laws::law_of_dumps;
 pub use told_answers::tell;

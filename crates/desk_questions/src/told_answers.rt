@@ -1,7 +1,6 @@
 // Tells what is asked.
-ghost use Rattle.std.specs.Prelude.{◌≡◌, ◌++◌, true, false, map, length, Ok, Err, IfOk, OnOk};
-ghost use Rattle.std.specs.Prelude.{MatchResult, codes, drop, string_bytes};
-ghost use Rattle.tune_books.specs.WrittenBooks.{written_tune};
+ghost use Rattle.std.specs.Prelude.{◌≡◌, true, false, map, length, Ok, Err, IfOk};
+ghost use Rattle.std.specs.Prelude.{MatchResult, drop, string_bytes};
 ghost use Rattle.tune_store.specs.Answers.{asks};
 ghost use Rattle.tune_store.specs.Labels.{labels_of};
 ghost use Rattle.tune_store.specs.Questions.{exported};
@@ -13,16 +12,17 @@ ghost use Rattle.desk_questions.specs.Told.{shown_tunes, reply_told};
 ghost use Rattle.desk_questions.specs.Inside.QuestionCalls.{Call, told_by, told_where, AreRowsAt};
 ghost use Rattle.desk_questions.specs.Inside.QuestionCalls.{AreWritten};
 
+use crate::dumps::dump;
 use crate::found_numbers::found;
 use crate::numbers::chosen;
 use crate::store_questions::{ask, tune_of};
 use crate::told_rows::row_of;
 use crate::told_twins::twins;
+use crate::written::write_tune;
 use abc_fields::ByteText;
 use desk_lists::{count_line, place_list, set_list, tune_list};
 use desk_terms::{Condition, Form, Question};
 use std::alloc::{AllocError, Global};
-use std::io::Write;
 use tune_books::BookWriter;
 use tune_store::{Catalog, Command, IndexRow, Refusal, Reply, Tune, TuneStore};
 
@@ -80,6 +80,7 @@ fn answer<S: TuneStore + Catalog>(
         }
         Question::ExportTunes(numbers) => export(alloc, store, numbers.as_slice()),
         Question::Twins(form) => twins(alloc, store, *form),
+        Question::Dump => dump(alloc, store),
     }
 }
 
@@ -204,16 +205,6 @@ fn write_tunes<S: TuneStore>(
         let tune = tune_of(store, *number)?;
         write_tune(bytes, &tune)?;
     }
-    Ok(())
-}
-
-// Writes a tune after an empty line and its number.
-fn write_tune(bytes: &mut Vec<u8>, tune: &Tune) -> Result<(), AllocError>
-    ensures { OnOk result (bytes.new.items ≡ bytes.old.items
-        ++ (codes "\n" ++ written_tune tune.now.number tune.now.text)) }
-{
-    write!(bytes, "\nX:{}\n", tune.number).map_err(|_| AllocError)?;
-    bytes.extend_from_slice(tune.text.bytes())?;
     Ok(())
 }
 
