@@ -1,5 +1,5 @@
-//! What a person may ask of an archive: questions, what tunes are found by, and in which form a list
-//! is told. What they mean is defined where they are answered, in `desk_questions`.
+//! What a person may ask of an archive: questions, what tunes are found by, and in which form a
+//! list is told. What they mean is defined where they are answered, in `desk_questions`.
 #![tactic(auto)]
 
 mod condition;
