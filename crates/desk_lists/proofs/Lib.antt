@@ -1,3 +1,4 @@
+pub mod AsciiLemmas
 pub mod TextLemmas
 pub mod WordLemmas
 pub mod AppendLemmas

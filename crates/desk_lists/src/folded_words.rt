@@ -69,8 +69,13 @@ impl FoldedWords {
 pub fn fold_title(alloc: Global, title: &[u8]) -> Result<String, AllocError>
     ensures { IfOk result (λ folded. string_bytes folded ≡ folded_title title.now) }
 {
-    let text = text_of(alloc, title)?;
-    folded(alloc, text.as_str())
+    match std::str::from_utf8(title) {
+        Ok(text) => folded(alloc, text),
+        Err(_) => {
+            let text = text_of(alloc, title)?;
+            folded(alloc, text.as_str())
+        }
+    }
 }
 
 // Whether each of the words stands in the text.

@@ -12,6 +12,10 @@ use unicode_normalization::to_nfd;
 pub fn folded(alloc: Global, text: &str) -> Result<String, AllocError>
     ensures { IfOk result (λ folded. string_bytes folded ≡ folded_bytes text.now) }
 {
+    // ASCII has no marks, and most titles are of it.
+    if text.is_ascii() {
+        return text.to_ascii_lowercase(alloc);
+    }
     let apart = to_nfd(alloc, text)?;
     let bare = without_marks(alloc, apart.as_str())?;
     default_case_fold_str(alloc, bare.as_str())

@@ -3,7 +3,13 @@ use Rattle.std.proofs.lemmas.Str.{encodes_same, encodes-chars}
 use Rattle.caseless.specs.Caseless.{default_case_fold}
 use Rattle.unicode_normalization.specs.Forms.{nfd}
 use Rattle.desk_lists.specs.Folding.{without_marks}
+use Rattle.desk_lists.proofs.AsciiLemmas.{folded-IsAscii}
 use Rattle.desk_lists.proofs.folding.folded.Goals as goal
+
+pub returns-then-is_ascii : goal.returns-then-is_ascii
+returns-then-is_ascii c =
+    subst (λ bytes. IfOk c.to_ascii_lowercase.result (λ t. string_bytes t ≡ bytes)) (folded-IsAscii c.args.text.now c.if-is_ascii.ensures.cases)
+    c.to_ascii_lowercase.ensures.ok
 
 pub returns : goal.returns
 returns c =
