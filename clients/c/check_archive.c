@@ -617,8 +617,15 @@ static void test_calls(void)
     ENDS(TUNES_DONE, tunes_show(archive, 1, &reply));
     CHECK(reply.kind == TUNES_SHOW && reply.number == 1 && reply.revision == 1);
     CHECK(has_text(&reply.text, SHOWN));
-    ENDS(TUNES_DONE, tunes_replace(archive, 2, 1, "X:1\nT:A\nK:D\nddef|\n", 18, &reply));
+    /* what a reply has goes into the next command, and the reply to that over it */
+    ENDS(TUNES_DONE, tunes_replace(archive, 2, 1, reply.text.start, reply.text.length, &reply));
     CHECK(reply.kind == TUNES_REPLACE && reply.number == 2 && reply.revision == 2);
+    ENDS(TUNES_DONE, tunes_replace(archive, 2, 2, "X:1\nT:A\nK:D\nddef|\n", 18, &reply));
+    CHECK(reply.kind == TUNES_REPLACE && reply.number == 2 && reply.revision == 3);
+    ENDS(TUNES_DONE, tunes_find(archive, "title", "a", &reply));
+    CHECK(reply.count == 1);
+    ENDS(TUNES_DONE, tunes_find(archive, "title", reply.rows[0].text.start, &reply));
+    CHECK(reply.count == 1 && has_text(&reply.rows[0].text, "A"));
     ENDS(TUNES_DONE, tunes_renumber(archive, 3, 30, &reply));
     CHECK(reply.kind == TUNES_RENUMBER && reply.number == 3 && reply.last == 30);
     ENDS(TUNES_DONE, tunes_find(archive, "title", "kesh", &reply));

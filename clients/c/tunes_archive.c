@@ -111,6 +111,21 @@ static void empty(struct tunes_reply *reply)
     *reply = kept;
 }
 
+/* Takes the memory of a reply out of it where one of these bytes stands in it: they are to be sent,
+ * and the next reply would be read over them. The caller frees it. */
+static void *set_aside(struct tunes_reply *reply, const void *one, const void *other)
+{
+    uintptr_t begin = (uintptr_t)reply->bytes, end = begin + reply->room;
+    int is_in = ((uintptr_t)one >= begin && (uintptr_t)one < end) ||
+                ((uintptr_t)other >= begin && (uintptr_t)other < end);
+    if (reply->bytes == NULL || !is_in)
+        return NULL;
+    void *aside = reply->bytes;
+    reply->bytes = NULL;
+    reply->room = 0;
+    return aside;
+}
+
 void tunes_reply_free(struct tunes_reply *reply)
 {
     if (reply == NULL)
@@ -452,7 +467,8 @@ static enum tunes_end unopened(struct tunes_archive *archive, struct tunes_reply
     if (strstr(why, "another program has it") != NULL)
         return say(archive, TUNES_BUSY,
                    "%s: another program has it open; wait until that ends", archive->path);
-    if (refusal == 0 && archive->status == 3)
+    int says = strstr(why, "is no archive") != NULL || strstr(why, "is damaged") != NULL;
+    if (refusal == 0 && (archive->status == 3 || (archive->status == -1 && says)))
         return no_archive(archive, reply, strstr(why, "no archive") != NULL ? 40 : 41);
     if (archive->status >= 125 && archive->status <= 127)
         return say(archive, TUNES_NO_PROGRAM, "the program cannot be run: %s", why);
@@ -1056,19 +1072,23 @@ static enum tunes_end carry_out(struct tunes_archive *archive, const struct requ
                                 const struct asked *asked, struct tunes_reply *reply)
 {
     enum tunes_use use = asked->shape == NULL ? TUNES_ASK : asked->shape->use;
-    enum tunes_end end = open_for(archive, use, reply);
-    if (end != TUNES_DONE)
-        return end;
+    void *aside = set_aside(reply, request->line, request->book);
     struct outgoing outgoing = { .count = 0 };
     add_part(&outgoing, request->line, request->length);
     add_part(&outgoing, "\n", 1);
     add_part(&outgoing, request->book, request->size);
+    enum tunes_end end = open_for(archive, use, reply);
+    if (end != TUNES_DONE) {
+        free(aside);
+        return end;
+    }
     archive->lines++;
     end = exchange(archive, &outgoing, reply, *asked, reply_deadline(archive));
     /* what is answered before it was taken whole is no answer to it, but where the device failed */
     if (end == TUNES_DONE && outgoing.first < outgoing.count && reply->refusal.number != 22)
         end = TUNES_NONSENSE;
     end = end == TUNES_DONE ? judge(archive, reply) : exchange_failed(archive, reply, end);
+    free(aside);
     archive->last_end = now();
     return end;
 }
@@ -1301,16 +1321,17 @@ enum tunes_end tunes_find_printed(struct tunes_archive *archive, const char *not
 {
     static const char *const keys[] = { "Cb", "Gb", "Db", "Ab", "Eb", "Bb", "F", "C",
                                         "G",  "D",  "A",  "E",  "B",  "F#", "C#" };
+    enum tunes_end end = TUNES_DONE;
     begin(archive, reply);
     if (has_break(notes))
         return bad_word(archive, "a query has a line break");
-    for (size_t number = 0; number < sizeof keys / sizeof keys[0]; number++) {
-        enum tunes_end end = find_in_key(archive, keys[number], notes, reply);
-        if (end != TUNES_DONE)
-            return end;
-    }
-    merge(reply);
-    return TUNES_DONE;
+    void *aside = set_aside(reply, notes, NULL);
+    for (size_t at = 0; end == TUNES_DONE && at < sizeof keys / sizeof keys[0]; at++)
+        end = find_in_key(archive, keys[at], notes, reply);
+    free(aside);
+    if (end == TUNES_DONE)
+        merge(reply);
+    return end;
 }
 
 enum tunes_end tunes_titles(struct tunes_archive *archive, struct tunes_reply *reply)
@@ -1519,12 +1540,14 @@ static enum tunes_end run_in_time(struct tunes_archive *archive, char *const wor
     begin(archive, reply);
     if (archive->failed)
         return open_for(archive, TUNES_ASK, reply);
-    for (;;) {
-        enum tunes_end end = run_once(archive, words, script, size, reply);
-        if (end != TUNES_BUSY || is_late(deadline))
-            return end;
+    void *aside = set_aside(reply, script, NULL);
+    enum tunes_end end = run_once(archive, words, script, size, reply);
+    while (end == TUNES_BUSY && !is_late(deadline)) {
         sleep_until(now() + PAUSE);
+        end = run_once(archive, words, script, size, reply);
     }
+    free(aside);
+    return end;
 }
 
 enum tunes_end tunes_archive_script(struct tunes_archive *archive, enum tunes_use use,

@@ -10,7 +10,8 @@
  * A reply (`struct tunes_reply`) is the caller's. Each call that takes one empties it, and fills it
  * with one reply of the archive; all its pointers lead into memory of the reply itself, and hold
  * until the next call with it, or `tunes_reply_free`. One reply may serve all calls: it keeps its
- * memory.
+ * memory. What a reply has may be handed to a call that fills the same reply, as a text that
+ * `tunes_show` gave to `tunes_replace`.
  *
  *     struct tunes_archive *archive;
  *     struct tunes_reply reply = TUNES_REPLY_NONE;
@@ -29,6 +30,8 @@
  * Signals: SIGPIPE is never raised by a call, and what the process does with signals is not
  * touched. A call goes on where a signal interrupts it. SIGCHLD may be ignored, or a handler may
  * take the status of each child: what is lost then is that status in a message.
+ *
+ * After 900,000 lines a program is let go of and started anew, since it reads 1,000,000 at most.
  *
  * The lines, replies and refusals are those of docs/SCRIPTS.md; docs/PLAYERS.md tells how a program
  * goes on after each end of a call. C11 and POSIX.1-2008, no library besides that of C. */
