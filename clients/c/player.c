@@ -17,51 +17,72 @@
 #include <stdlib.h>
 #include <string.h>
 
-static void print_rows(const struct tunes_reply *reply)
+/* A tune's number, and its title where it has one: that may have any bytes. */
+static void print_row(const struct tunes_row *row)
 {
-    for (size_t at = 0; at < reply->count; at++) {
-        const struct tunes_row *row = &reply->rows[at];
-        if (row->place != 0)
-            printf("%lu ", row->place);
-        printf("%lu", row->number);
-        if (row->text.start != NULL) {
-            putchar(' ');
-            fwrite(row->text.start, 1, row->text.length, stdout);
-        }
-        putchar('\n');
+    printf("%lu", row->number);
+    if (row->text.start != NULL) {
+        putchar(' ');
+        fwrite(row->text.start, 1, row->text.length, stdout);
     }
+    putchar('\n');
 }
 
-static enum tunes_end answer(struct tunes_archive *archive, const char *command, const char *word,
-                             struct tunes_reply *reply)
+static enum tunes_end find(struct tunes_archive *archive, const char *notes)
 {
-    char *end;
-    if (strcmp(command, "find") == 0)
-        return tunes_find_printed(archive, word, reply);
-    if (strcmp(command, "set") == 0)
-        return tunes_set_show(archive, word, reply);
-    unsigned long number = strtoul(word, &end, 10);
-    if (strcmp(command, "show") == 0 && *word >= '0' && *word <= '9' && *end == '\0')
-        return tunes_show(archive, number, reply);
-    return TUNES_BAD_WORD;
+    struct tunes_reply reply = TUNES_REPLY_NONE;
+    enum tunes_end end = tunes_find_printed(archive, notes, &reply);
+    for (size_t at = 0; at < reply.count; at++)
+        print_row(&reply.rows[at]);
+    tunes_reply_free(&reply);
+    return end;
+}
+
+static enum tunes_end show(struct tunes_archive *archive, unsigned long number)
+{
+    struct tunes_reply reply = TUNES_REPLY_NONE;
+    enum tunes_end end = tunes_show(archive, number, &reply);
+    if (end == TUNES_DONE)
+        fwrite(reply.text.start, 1, reply.text.length, stdout);
+    tunes_reply_free(&reply);
+    return end;
+}
+
+static enum tunes_end list_set(struct tunes_archive *archive, const char *name)
+{
+    struct tunes_reply reply = TUNES_REPLY_NONE;
+    enum tunes_end end = tunes_set_show(archive, name, &reply);
+    for (size_t at = 0; at < reply.count; at++) {
+        printf("%lu ", reply.rows[at].place);
+        print_row(&reply.rows[at]);
+    }
+    tunes_reply_free(&reply);
+    return end;
+}
+
+static int is_number(const char *word)
+{
+    size_t digits = strspn(word, "0123456789");
+    return digits > 0 && digits < 10 && word[digits] == '\0';
 }
 
 int main(int count, char **words)
 {
     struct tunes_options options = { .wait_seconds = 10 };
-    struct tunes_reply reply = TUNES_REPLY_NONE;
     struct tunes_archive *archive = NULL;
-    if (count != 4 || tunes_archive_open(words[1], &options, &archive) != TUNES_DONE) {
+    const char *command = count == 4 ? words[2] : "";
+    int finds = strcmp(command, "find") == 0, lists = strcmp(command, "set") == 0;
+    int shows = strcmp(command, "show") == 0 && is_number(words[3]);
+    if (!(finds || lists || shows) ||
+        tunes_archive_open(words[1], &options, &archive) != TUNES_DONE) {
         fputs("Usage: player FILE find NOTES | show NUMBER | set NAME\n", stderr);
         return 2;
     }
-    enum tunes_end end = answer(archive, words[2], words[3], &reply);
+    enum tunes_end end = finds   ? find(archive, words[3])
+                         : lists ? list_set(archive, words[3])
+                                 : show(archive, strtoul(words[3], NULL, 10));
     if (end != TUNES_DONE)
         fprintf(stderr, "player: %s\n", tunes_archive_message(archive));
-    print_rows(&reply);
-    if (reply.text.start != NULL)
-        fwrite(reply.text.start, 1, reply.text.length, stdout);
     tunes_archive_close(archive);
-    tunes_reply_free(&reply);
-    return end == TUNES_BAD_WORD ? 2 : end != TUNES_DONE || fflush(stdout) != 0;
+    return end != TUNES_DONE || fflush(stdout) != 0;
 }
