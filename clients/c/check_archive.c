@@ -463,6 +463,34 @@ static void test_left(void)
     tunes_reply_free(&reply);
 }
 
+/* Fifteen answers, for which the buffer has to grow, and move; and fewer of them. */
+static void test_fifteen(void)
+{
+    struct tunes_reply reply = TUNES_REPLY_NONE;
+    begin_case("fifteen answers as one, and fewer");
+    set_fake(NULL, "ok find 1\\n20\\n",
+             "title=$(head -c 60000 /dev/zero | tr '\\0' x); number=15; while [ $number -gt 1 ]; do "
+             "read -r line; printf 'ok find 2\\n%d %s%d\\n20\\n' $number $title $number; "
+             "number=$((number - 1)); done; exec cat > /dev/null");
+    struct tunes_archive *archive = fake_handle(0, 0);
+    ENDS(TUNES_DONE, tunes_find_printed(archive, "GAB", &reply));
+    CHECK(reply.kind == TUNES_FIND && reply.count == 15);
+    for (size_t at = 0; at < 14 && at < reply.count; at++) {
+        const struct tunes_row *row = &reply.rows[at];
+        CHECK(row->number == at + 2 && row->place == 0 && row->text.start[0] == 'x');
+        CHECK(strtoul(row->text.start + 60000, NULL, 10) == at + 2);
+    }
+    CHECK(reply.count == 15 && reply.rows[14].number == 20 && reply.rows[14].text.start == NULL);
+    tunes_archive_close(archive);
+    set_fake(NULL, "ok find 1\\n20\\n", "read -r line; printf 'ok find 1\\n20\\n'; exit 0");
+    archive = fake_handle(0, 0);
+    ENDS(TUNES_BROKEN_OFF, tunes_find_printed(archive, "GAB", &reply));
+    CHECK(reply.kind == TUNES_NOTHING && reply.count == 0 && reply.rows == NULL);
+    tunes_archive_close(archive);
+    tunes_reply_free(&reply);
+    end_case();
+}
+
 static void test_idle(void)
 {
     struct tunes_reply reply = TUNES_REPLY_NONE;
@@ -1464,6 +1492,7 @@ static const struct part parts[] = {
     { "nonsense", test_nonsense },
     { "ends", test_ends },
     { "left", test_left },
+    { "fifteen", test_fifteen },
     { "idle", test_idle },
     { "no-program", test_no_program },
     { "no-descriptor", test_no_descriptor },

@@ -896,8 +896,26 @@ static long long reply_deadline(const struct tunes_archive *archive)
 
 /* OPENINGS */
 
+/* What an opening came to, by how it was answered: TUNES_DONE, and the program goes on. */
+static enum tunes_end judge_opening(struct tunes_archive *archive, enum tunes_end end,
+                                    struct tunes_reply *reply)
+{
+    if (end != TUNES_DONE && end != TUNES_BROKEN_OFF)
+        return exchange_failed(archive, reply, end);
+    unsigned refusal = end == TUNES_DONE ? reply->refusal.number : 0;
+    int is_of_opening = refusal == 21 || refusal == 22 || (refusal >= 40 && refusal <= 42);
+    if (refusal == 4)
+        return TUNES_DONE;
+    if (end == TUNES_DONE && !is_of_opening)
+        return exchange_failed(archive, reply, TUNES_NONSENSE);
+    end_program(archive, GRACE);
+    if (end != TUNES_DONE)
+        empty(reply);
+    return unopened(archive, reply, refusal);
+}
+
 /* Starts the program of a use, and asks it for a tune that no archive has: it answers once it has
- * the file open. */
+ * the file open. The reply is of use only where the end is not TUNES_DONE. */
 static enum tunes_end open_once(struct tunes_archive *archive, enum tunes_use use,
                                 struct tunes_reply *reply)
 {
@@ -916,20 +934,11 @@ static enum tunes_end open_once(struct tunes_archive *archive, enum tunes_use us
     long long deadline = reply_deadline(archive);
     if (deadline != NEVER && use == TUNES_ASK)
         deadline += (long long)archive->wait_seconds * 1000;
-    end = exchange(archive, &outgoing, reply, nothing, deadline);
-    if (end != TUNES_DONE && end != TUNES_BROKEN_OFF)
-        return exchange_failed(archive, reply, end);
-    unsigned refusal = end == TUNES_DONE ? reply->refusal.number : 0;
-    if (refusal == 4) {
+    empty(reply);
+    end = judge_opening(archive, exchange(archive, &outgoing, reply, nothing, deadline), reply);
+    if (end == TUNES_DONE)
         empty(reply);
-        return TUNES_DONE;
-    }
-    if (end == TUNES_DONE && refusal != 21 && refusal != 22 && (refusal < 40 || refusal > 42))
-        return exchange_failed(archive, reply, TUNES_NONSENSE);
-    end_program(archive, GRACE);
-    if (end != TUNES_DONE)
-        empty(reply);
-    return unopened(archive, reply, refusal);
+    return end;
 }
 
 /* The same, and tries again while another program has the file. `tunes-desk` waits by itself. */
@@ -1067,29 +1076,34 @@ static enum tunes_end judge(struct tunes_archive *archive, struct tunes_reply *r
                carried->length == 0 ? "" : carried->start, tunes_refusal_words(number));
 }
 
-/* Carries out a line whose form is checked, and reads its reply behind what the buffer has. */
-static enum tunes_end carry_out(struct tunes_archive *archive, const struct request *request,
-                                const struct asked *asked, struct tunes_reply *reply)
+/* Asks the program that has the file a line whose form is checked, and reads its reply behind what
+ * the buffer has. */
+static enum tunes_end talk(struct tunes_archive *archive, const struct request *request,
+                           const struct asked *asked, struct tunes_reply *reply)
 {
-    enum tunes_use use = asked->shape == NULL ? TUNES_ASK : asked->shape->use;
-    void *aside = set_aside(reply, request->line, request->book);
     struct outgoing outgoing = { .count = 0 };
     add_part(&outgoing, request->line, request->length);
     add_part(&outgoing, "\n", 1);
     add_part(&outgoing, request->book, request->size);
-    enum tunes_end end = open_for(archive, use, reply);
-    if (end != TUNES_DONE) {
-        free(aside);
-        return end;
-    }
     archive->lines++;
-    end = exchange(archive, &outgoing, reply, *asked, reply_deadline(archive));
+    enum tunes_end end = exchange(archive, &outgoing, reply, *asked, reply_deadline(archive));
     /* what is answered before it was taken whole is no answer to it, but where the device failed */
     if (end == TUNES_DONE && outgoing.first < outgoing.count && reply->refusal.number != 22)
         end = TUNES_NONSENSE;
     end = end == TUNES_DONE ? judge(archive, reply) : exchange_failed(archive, reply, end);
-    free(aside);
     archive->last_end = now();
+    return end;
+}
+
+static enum tunes_end carry_out(struct tunes_archive *archive, const struct request *request,
+                                const struct asked *asked, struct tunes_reply *reply)
+{
+    void *aside = set_aside(reply, request->line, request->book);
+    enum tunes_use use = asked->shape == NULL ? TUNES_ASK : asked->shape->use;
+    enum tunes_end end = open_for(archive, use, reply);
+    if (end == TUNES_DONE)
+        end = talk(archive, request, asked, reply);
+    free(aside);
     return end;
 }
 
@@ -1281,8 +1295,13 @@ static int by_number(const void *one, const void *other)
 static enum tunes_end find_in_key(struct tunes_archive *archive, const char *key,
                                   const char *notes, struct tunes_reply *reply)
 {
+    static const struct tunes_text find = { "find", 4 };
+    char line[LINE_BYTES + 2];
     size_t from = reply->count;
-    enum tunes_end end = command_of(archive, NULL, 0, reply, "find notes [K:%s]%s", key, notes);
+    int length = snprintf(line, sizeof line, "find notes [K:%s]%s", key, notes);
+    struct request request = { line, (size_t)length, NULL, 0 };
+    struct asked asked = { shape_of(&find), NULL, 0 };
+    enum tunes_end end = talk(archive, &request, &asked, reply);
     if (end != TUNES_DONE) {
         reply->count = 0;
         reply->rows = NULL;
@@ -1321,11 +1340,13 @@ enum tunes_end tunes_find_printed(struct tunes_archive *archive, const char *not
 {
     static const char *const keys[] = { "Cb", "Gb", "Db", "Ab", "Eb", "Bb", "F", "C",
                                         "G",  "D",  "A",  "E",  "B",  "F#", "C#" };
-    enum tunes_end end = TUNES_DONE;
     begin(archive, reply);
     if (has_break(notes))
         return bad_word(archive, "a query has a line break");
+    if (strlen(notes) > LINE_BYTES - 16)
+        return bad_word(archive, "the line has more than 4,096 bytes");
     void *aside = set_aside(reply, notes, NULL);
+    enum tunes_end end = open_for(archive, TUNES_ASK, reply);
     for (size_t at = 0; end == TUNES_DONE && at < sizeof keys / sizeof keys[0]; at++)
         end = find_in_key(archive, keys[at], notes, reply);
     free(aside);
