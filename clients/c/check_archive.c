@@ -470,7 +470,8 @@ static void test_fifteen(void)
     begin_case("fifteen answers as one, and fewer");
     set_fake(NULL, "ok find 1\\n20\\n",
              "title=$(head -c 60000 /dev/zero | tr '\\0' x); number=15; "
-             "while [ $number -gt 1 ]; do read -r line; printf 'ok find 2\\n%d %s%d\\n20\\n' $number $title $number; "
+             "while [ $number -gt 1 ]; do read -r line; "
+             "printf 'ok find 2\\n%d %s%d\\n20\\n' $number $title $number; "
              "number=$((number - 1)); done; exec cat > /dev/null");
     struct tunes_archive *archive = fake_handle(0, 0);
     ENDS(TUNES_DONE, tunes_find_printed(archive, "GAB", &reply));
