@@ -102,7 +102,7 @@ same() {
     cmp -s found wanted || wrong "the player answers '$(head -n 1 found)' to $*"
 }
 same find 'E2BE dEBE' find notes 'E2BE dEBE'
-same find 'G3' find notes 'G3 GAB'
+same find 'G3 GAB' find notes 'G3 GAB'
 same find 'FAA GBB' find notes 'FAA GBB'
 same show 3 show 3
 same set friday set friday

@@ -58,7 +58,7 @@ static void note_sent(const char *word)
         if (strcmp(sent[at], word) == 0)
             return;
     if (sent_count < 64)
-        snprintf(sent[sent_count++], sizeof sent[0], "%s", word);
+        snprintf(sent[sent_count++], sizeof sent[0], "%.23s", word);
 }
 
 /* A refusal that is wanted, by its number. */
@@ -1415,7 +1415,7 @@ static void compare(const char *name, const char *how, const char *bytes, size_t
     if (length == wanted_length && (length == 0 || memcmp(bytes, wanted, length) == 0))
         return;
     char what[200];
-    snprintf(what, sizeof what, "%s %s has other replies", name, how);
+    snprintf(what, sizeof what, "%.150s %.20s has other replies", name, how);
     fault_at(__LINE__, what);
 }
 
