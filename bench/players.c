@@ -1,8 +1,8 @@
 /* Asks an archive as a player does, over the client in C, and prints how many milliseconds by the
  * clock each part took: players FILE TUNES. A part is one opening; 1,000 tunes by number; 1,000
  * finds by title, 1,000 by opening notes and 1,000 by notes as they are printed, which find a tune
- * or a few; all titles; a book of all; a letting go; an opening to change it, and 200 changes of set
- * lists. bench/players.sh makes the archive. */
+ * or a few; all titles; a book of all; a letting go; an opening to change it; and 200 changes of
+ * set lists. bench/players.sh makes the archive. */
 #define _POSIX_C_SOURCE 200809L
 
 #include "../clients/c/tunes_archive.h"
