@@ -15,10 +15,16 @@ the figure is:
   bytes count; a name `N x NAME` stands for N blocks of this size.
 - `stack`: crates (`box: NAME | PLACE | ROW | JOB`) and who uses whom (`edge: UPPER | LOWER |
   PROMISES`; a fourth cell says how far down the line they stand, in hundredths).
+- `states`: states in columns and rows (`state: NAME | COLUMN | ROW | WHAT IT IS`; one with `end` as
+  a fifth cell is an end), and ways between them (`way: FROM | TO | WHAT LEADS THERE`; a fourth cell
+  says how far aside the arrow goes, in pixels, and a fifth how far along it the words stand, in
+  hundredths). Words go to another line at ` / `.
 
 It is also wrong where a block does not begin where the one before it ends, where bytes of a block
 do not stand in docs/FILE-FORMAT.md, where a crate that is no test and no bench has no box, where
-an edge is not in crates.txt, and where a promise of an edge is not in docs/PROOFS.md.
+an edge is not in crates.txt, and where a promise of an edge is not in docs/PROOFS.md; where no way
+leads to a state but the first, or none from one that is no end, and where a state has no row in a
+table of docs/PLAYERS.md.
 """
 import glob
 import os
@@ -237,7 +243,85 @@ def draw_stack(title, rows, path):
     return drawing
 
 
-KINDS = {'line': draw_line, 'blocks': draw_blocks, 'stack': draw_stack}
+# STATES
+
+STATE_WIDTH, STATE_HEIGHT, COLUMN_STEP, ROW_STEP = 190, 54, 380, 130
+
+
+def check_states(path, states, ways):
+    for name in [end for way in ways for end in way[:2] if end not in states]:
+        fault(path, f'no state {name}')
+    reached, left = {way[1] for way in ways}, {way[0] for way in ways}
+    for number, (name, state) in enumerate(states.items()):
+        if number > 0 and name not in reached:
+            fault(path, f'no way leads to {name}')
+        if (name in left) == (state[3:] == ['end']):
+            fault(path, f'{name} is an end with a way from it, or no end without one')
+        if f'| {name} |' not in read('docs/PLAYERS.md'):
+            fault(path, f'{name} has no row in docs/PLAYERS.md')
+
+
+def border(x, y, across, down, off_x, off_y):
+    """Where a line leaves the box of a state, of which it goes from a point beside the middle."""
+    parts = [(side / 2 * (1 if way > 0 else -1) - off) / way
+             for side, way, off in ((STATE_WIDTH, across, off_x), (STATE_HEIGHT, down, off_y))
+             if abs(way) > 0.001]
+    part = min(parts)
+    return round(x + off_x + across * part, 1), round(y + off_y + down * part, 1)
+
+
+def draw_way(drawing, begin, end, words, aside, along):
+    """An arrow from a state to another, and its words."""
+    across, down = end[0] - begin[0], end[1] - begin[1]
+    long = (across ** 2 + down ** 2) ** 0.5
+    over, up = -down / long, across / long
+    x, y = border(*begin, across, down, over * aside, up * aside)
+    to_x, to_y = border(*end, -across, -down, over * aside, up * aside)
+    drawing.line(x, y, to_x, to_y, '#777777')
+    back_x, back_y = to_x - up * 9, to_y + over * 9
+    drawing.shapes.append(
+        f'<polygon points="{to_x:g},{to_y:g} {back_x + over * 4:.1f},{back_y + up * 4:.1f} '
+        f'{back_x - over * 4:.1f},{back_y - up * 4:.1f}" fill="#777777"/>')
+    lines = words.split(' / ')
+    wide = 8 + 6.1 * max(len(line) for line in lines)
+    at_x, at_y = round(x + (to_x - x) * along, 1), round(y + (to_y - y) * along, 1)
+    top = at_y - 7.5 * len(lines)
+    drawing.box(round(at_x - wide / 2, 1), top, round(wide, 1), 15 * len(lines), PAPER, 'none')
+    for number, line in enumerate(lines):
+        drawing.text(at_x, top + 11.5 + 15 * number, line, 11, 'middle')
+
+
+def draw_states(title, rows, path):
+    states, ways, notes = {}, [], []
+    for word, cells in rows:
+        if word == 'state':
+            states[cells[0]] = cells[1:]
+        elif word == 'way':
+            ways.append([shown(cell) for cell in cells])
+        elif word == 'note':
+            notes.append(cells[0])
+    check_states(path, states, ways)
+    middles = {name: (125 + COLUMN_STEP * float(column), 75 + ROW_STEP * float(row))
+               for name, (column, row, *_) in states.items()}
+    drawing = Drawing(round(max(x for x, _ in middles.values()) + 125), title)
+    drawing.text(16, 24, title, 15, weight='bold')
+    for begin, end, words, *more in ways:
+        if begin in middles and end in middles:
+            aside, along = [float(cell) for cell in more] + [0, 50][len(more):]
+            draw_way(drawing, middles[begin], middles[end], words, aside, along / 100)
+    for name, (x, y) in middles.items():
+        color = '#f6e3b4' if states[name][3:] == ['end'] else '#eef3f8'
+        drawing.box(x - STATE_WIDTH / 2, y - STATE_HEIGHT / 2, STATE_WIDTH, STATE_HEIGHT, color)
+        drawing.text(x, y - 4, name, 13, 'middle', weight='bold')
+        drawing.text(x, y + 14, shown(states[name][2]), 11, 'middle')
+    y = drawing.height + 14
+    for note in notes:
+        drawing.text(16, y, note, 12)
+        y += 18
+    return drawing
+
+
+KINDS = {'line': draw_line, 'blocks': draw_blocks, 'stack': draw_stack, 'states': draw_states}
 
 
 def main():

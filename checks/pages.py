@@ -30,7 +30,7 @@ SCRATCH = 'bench/work'
 WIDTH, PROOF_WIDTH = 100, 160
 MOST_LINES = {'README.md': 120, 'docs/ARCHITECTURE.md': 100}
 SCRIPTS = ('build', 'tunes', 'tunes-desk', 'tunes-book', 'test', 'install', 'release', 'LICENSE')
-RECIPE_PAGES = ('README.md', 'docs/USING.md')
+RECIPE_PAGES = ('README.md', 'docs/USING.md', 'docs/PLAYERS.md')
 NAME_PAGES = ('docs/PROOFS.md', 'docs/ARCHITECTURE.md', 'docs/GLOSSARY.md', 'docs/DECISIONS.md',
               'docs/PIPE-TO-PLATTER.md', 'docs/RESULTS.md')
 PATH = re.compile(r'(crates|docs|bench|checks|examples|completions)/[\w./*-]*')

@@ -1,9 +1,9 @@
 #!/bin/sh
 # Usage: checks/recipes.sh
-# Runs each recipe of README.md and docs/USING.md as it is printed there, over the programs ./tunes
-# and ./tunes-desk, or over those that the variables TUNES and TUNES_DESK name. Prints a line for
-# each case, and ends with status 1 where one failed. A recipe is a block of code below a line
-# <!-- recipe: NAME -->.
+# Runs each recipe of README.md, docs/USING.md and docs/PLAYERS.md as it is printed there, over the
+# programs ./tunes and ./tunes-desk, or over those that the variables TUNES and TUNES_DESK name.
+# Prints a line for each case, and ends with status 1 where one failed. A recipe is a block of code
+# below a line <!-- recipe: NAME -->.
 # shellcheck disable=SC2015,SC2059,SC2086 # words of a line are split; a form is an argument
 root=$(CDPATH='' cd -- "$(dirname -- "$0")/.." && pwd) || exit 1
 program=${TUNES:-$root/tunes}
@@ -27,7 +27,7 @@ ran=' '
 
 # The blocks of code below the marks that begin with these words; `name` ends at a comma or a space.
 blocks() {
-    for page in "$root/README.md" "$root/docs/USING.md"; do
+    for page in "$root/README.md" "$root/docs/USING.md" "$root/docs/PLAYERS.md"; do
         awk -v mark="<!-- $1: $2" '
             /^```/ && inside { exit }
             inside { print }
@@ -49,6 +49,7 @@ begin() {
     ln -s "$desk" tunes-desk
     ln -s "$root/tunes-book" tunes-book
     ln -s "$root/examples" examples
+    ln -s "$root/clients" clients
 }
 
 # Keeps what is wrong in this case; the first counts.
@@ -939,6 +940,57 @@ ends_with 1
 has ''
 end
 
+# PLAYERS
+
+begin 'lines and replies of a player'
+./tunes make tunes.abcx > "$work/out"
+./tunes-book -f tunes.abcx add "$book" > "$work/out"
+./tunes-book -f tunes.abcx put friday 3 1 > "$work/out"
+blocks output player-lines > "$work/wanted"
+run player-lines
+ends_with 0
+same "$work/out" "$work/wanted"
+run_again player-lines
+ends_with 0
+same "$work/out" "$work/wanted"
+end
+
+go_on 'the versions of the programs, and the layout'
+run player-versions
+ends_with 0
+sed 's/[0-9]*\.[0-9]*\.[0-9]*$/VERSION/' "$work/out" > "$work/found"
+printf '%s\n' 'tunes VERSION' 'tunes-desk VERSION' 'layout 2 tunes 15 sets 1' > "$work/wanted"
+same "$work/found" "$work/wanted"
+[ "$(sed 's/.* //; 2q' "$work/out" | uniq | wc -l)" -eq 1 ] || wrong 'the programs differ'
+end
+
+# What the players print: the tunes of some notes, a tune, and a set list.
+{ echo '3 Tripping Up the Stairs' && shown 3 &&
+    printf '%s\n' '1 3 Tripping Up the Stairs' '2 1 Kesh Jig, The'; } > "$work/played"
+
+if command -v cc > "$work/out"; then
+    go_on 'a player in C'
+    run player-c
+    ends_with 0
+    same "$work/out" "$work/played"
+    run_again player-c
+    ends_with 0
+    same "$work/out" "$work/played"
+    end
+else
+    skip player-c cc
+fi
+
+if command -v python3 > "$work/out" && [ -d clients/python ]; then
+    go_on 'a player in Python'
+    run player-python
+    ends_with 0
+    same "$work/out" "$work/played"
+    end
+else
+    skip player-python 'python3, or no clients/python'
+fi
+
 # FILES THAT CANNOT BE USED
 
 # The last run was answered 22, and a line of standard error names the file.
@@ -1210,7 +1262,8 @@ else
 fi
 
 # Each recipe that the pages print was run.
-names=$(sed -n 's/^<!-- recipe: \([a-z-]*\).*/\1/p' "$root/README.md" "$root/docs/USING.md")
+names=$(sed -n 's/^<!-- recipe: \([a-z-]*\).*/\1/p' "$root/README.md" "$root/docs/USING.md" \
+    "$root/docs/PLAYERS.md")
 for name in $names; do
     case $ran in
     *" $name "*) ;;
