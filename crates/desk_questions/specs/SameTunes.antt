@@ -28,10 +28,12 @@ titled_opening (step ∷ steps) None = None
 titled_opening (step ∷ steps) (Some title) =
     Some (record { steps = step ∷ steps; title = folded_title title })
 
+-- that of a tune, if it has one
 abbrev pub opening_of : Tune → Option TitledOpening
 opening_of tune = titled_opening (incipit_of 12 (tune_notes tune.text)) (row_of tune).title
 
 -- WHICH TUNES ARE ALIKE
+-- the same text, byte for byte
 abbrev pub same_text : Tune → Tune → Bool
 same_text tune other = bytes_eq tune.text other.text
 
@@ -42,6 +44,7 @@ are_same (Some opening) None = false
 are_same (Some opening) (Some other) =
     pointwise int_eq opening.steps other.steps && bytes_eq opening.title other.title
 
+-- of two tunes
 abbrev pub same_opening : Tune → Tune → Bool
 same_opening tune other = are_same (opening_of tune) (opening_of other)
 
