@@ -111,6 +111,17 @@ class InFolder(unittest.TestCase):
         self.addCleanup(archive.close)
         return archive
 
+    def brief(self, reply, then='cat > /dev/null', **options):
+        """An archive over a fake program that starts fast: what it writes to the first line."""
+        path = self.at('brief')
+        with open(path, 'w', encoding='ascii') as file:
+            file.write("#!/bin/sh\nread -r x\nprintf 'refused 11 NoSuchSet\\n'\nread -r x\n"
+                       f"printf '{''.join(f'%c{byte:03o}' % 92 for byte in reply)}'\n{then}\n")
+        os.chmod(path, 0o755)
+        archive = Archive(self.path, programs=Programs(path, path), **options)
+        self.addCleanup(archive.close)
+        return archive
+
     def script(self, body):
         """A Python program of its own, over the client and the built programs."""
         text = (f'import os, signal, sys, time\nsys.path[:0] = [{CLIENT!r}]\n'

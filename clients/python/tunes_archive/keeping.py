@@ -13,12 +13,13 @@ import weakref
 from contextlib import contextmanager
 from typing import Callable, Iterator, List, Optional, Sequence, Tuple, TypeVar, Union
 
+from . import runs
 from .errors import ArchiveFault, Closed, Device, InUse, Refused
 from .opening import PROBE, PROBED, folder_for, is_in_use, path_word, why_unopened
 from .programs import Path, Programs
 from .replies import NoReply, Source, Taker
 from .results import ScriptRun
-from .runs import GRACE, Ended, Run, Slow, ends_run
+from .runs import Ended, Run, Slow, ends_run
 from .texts import label_of
 
 T = TypeVar('T')
@@ -128,7 +129,7 @@ class Keeper:
         """Ends a run that goes no further. After a 22 this takes no more calls."""
         self._run = None
         try:
-            run.finish(patience=GRACE)
+            run.finish(patience=runs.GRACE)
         except Slow:
             pass
         finally:
@@ -163,8 +164,8 @@ class Keeper:
             raise ArchiveFault('the program ended, and let go of the file within the block',
                                'leave the block; ' + LOOK)
         if self._lines + lines > MOST_LINES:
-            raise ArchiveFault(f'a block has {MOST_LINES:,} commands, and no more',
-                               'leave it, and begin another one')
+            raise ArchiveFault(f'a run has {MOST_LINES:,} lines, and no more',
+                               'leave the block, and begin another one')
 
     def _open(self, use: Use) -> Run:
         deadline = time.monotonic() + self._wait
@@ -210,7 +211,7 @@ class Keeper:
             opened = line == b'refused %d NoSuchSet' % PROBED
             if opened:
                 return run, None
-            status, rest = run.finish(patience=GRACE)
+            status, rest = run.finish(patience=runs.GRACE)
             output = rest if line is None else b'%b\n%b' % (line, rest)
             return None, why_unopened(output, run.errors, self.path, status)
         except BaseException as error:
@@ -291,7 +292,7 @@ class Keeper:
     def abandon(self) -> None:
         """Lets go of the file where nobody can call any more. Whatever a thread still does ends
         with this process, and the pipes to a program with it."""
-        if self._lock.acquire(timeout=GRACE):
+        if self._lock.acquire(timeout=runs.GRACE):
             try:
                 self._leave()
             finally:
@@ -351,7 +352,8 @@ class Keeper:
             else:
                 if self._use is not use:
                     self._leave()
-                self._run_for(use, 0)
+                # A run that goes on has lines enough for a block.
+                self._run_for(use, MOST_LINES // 2)
             self._blocks.append(use)
         finally:
             self._within = False
