@@ -12,6 +12,7 @@ FILE is an archive. Without a command, commands are read from standard input, on
 
 Status: 0 done; 1 refused, or not printed; 2 wrong words.
 """
+import io
 import os
 import shlex
 import shutil
@@ -145,5 +146,6 @@ def main(words: List[str]) -> int:
 
 
 if __name__ == '__main__':
-    sys.stdout.reconfigure(errors='replace')  # type: ignore[union-attr]
+    if isinstance(sys.stdout, io.TextIOWrapper):
+        sys.stdout.reconfigure(errors='replace')
     sys.exit(main(sys.argv[1:]))

@@ -97,6 +97,12 @@ class InFolder(unittest.TestCase):
             os.kill(number, signal.SIGKILL)
         self.assertEqual(left, [])
 
+    def kill_all(self):
+        """Kills the programs over the folder, and waits until they are gone."""
+        for number, _ in self.left():
+            os.kill(number, signal.SIGKILL)
+        self.assertNoneLeft()
+
     def fake(self, body, name='fake'):
         """Programs that are this one: Python, with `line()` and `say(BYTES)`."""
         path = self.at(name)

@@ -1,6 +1,5 @@
 """Programs that do what `tunes` does not: fakes in its place."""
 import os
-import signal
 import time
 import unittest
 from unittest import mock
@@ -122,13 +121,11 @@ class Replies(InFolder):
     def test_a_program_that_is_killed_while_nobody_asks(self):
         archive = self.faked('while True:\n    line()\n    say(b"ok sets 0\\n")', hold=600)
         self.assertEqual(archive.sets(), [])
-        for number, _ in self.left():
-            os.kill(number, signal.SIGKILL)
+        self.kill_all()
         self.assertEqual(archive.sets(), [])
         with archive.reading():
             self.assertEqual(archive.sets(), [])
-            for number, _ in self.left():
-                os.kill(number, signal.SIGKILL)
+            self.kill_all()
             for _ in range(2):
                 with self.assertRaises(ArchiveFault):
                     archive.sets()
@@ -205,7 +202,8 @@ class Opening(InFolder):
         self.assertIs(type(self.unopened(b'refused 21 OutOfMemory\n', [], 1, False)), OutOfMemory)
         self.assertIs(type(self.unopened(b'', [b'there is not memory enough; end'], 1)),
                       OutOfMemory)
-        fault = self.unopened(b'refused 22 Device\n', [b'Input/output error (os error 5)'], 1, False)
+        fault = self.unopened(b'refused 22 Device\n', [b'Input/output error (os error 5)'], 1,
+                              False)
         self.assertIs(type(fault), Device)
         self.assertIn('Input/output error', str(fault))
         self.assertIs(type(self.unopened(b'', [b'the device failed; look at the disk'], 1)), Device)
@@ -372,7 +370,8 @@ class Words(unittest.TestCase):
             words = ['7' if form == errors.NUMBER else 'friday' for form in errors.CARRIED[number]]
             refused = errors.refusal_of(number, words)
             self.assertIs(type(refused), kind)
-            self.assertEqual(refused.reply, ' '.join(['refused', str(number), kind.__name__] + words))
+            self.assertEqual(refused.reply,
+                             ' '.join(['refused', str(number), kind.__name__] + words))
             self.assertIn(refused.reply, str(refused))
             self.assertIsInstance(refused, Refused)
             again = pickle.loads(pickle.dumps(refused))

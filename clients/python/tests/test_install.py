@@ -2,6 +2,7 @@
 import ast
 import glob
 import importlib
+import importlib.util
 import os
 import re
 import shutil
@@ -33,8 +34,8 @@ class Sources(unittest.TestCase):
                 ast.parse(file.read(), path, feature_version=(3, 9))
 
     def test_one_version(self):
-        told = re.search(r'^version = "(.*)"$', read('clients', 'python', 'pyproject.toml').decode(),
-                         re.M)[1]
+        page = read('clients', 'python', 'pyproject.toml').decode()
+        told = re.search(r'^version = "(.*)"$', page, re.M)[1]
         self.assertEqual(told, tunes_archive.__version__)
         self.assertTrue(told.startswith(tunes_archive.programs.WANTED + '.'))
 

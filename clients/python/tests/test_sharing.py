@@ -1,5 +1,4 @@
 """Several clients on one file: those that ask, and the one that changes."""
-import os
 import subprocess
 import threading
 import time
@@ -197,13 +196,11 @@ class Sharing(InFolder):
     def test_a_killed_change(self):
         client = self.open(hold=600)
         client.set_new('a')
-        number, _ = self.left()[0]
-        os.kill(number, 9)
+        self.kill_all()
         client.set_new('b')
         with client.changing():
             client.set_new('c')
-            number, _ = self.left()[0]
-            os.kill(number, 9)
+            self.kill_all()
             self.assertRaises(ArchiveFault, lambda: client.set_new('d'))
         self.assertEqual([row.name for row in client.sets()], ['a', 'b', 'c'])
 

@@ -84,7 +84,8 @@ class NoTune(Refused):
 class BadTune(Refused):
     number = 2
     reason = 'a tune of the book has no K: line, or is too long'
-    what_to_do = 'give it a line K:none, or cut it in two; layout 2 takes longer tunes than layout 1'
+    what_to_do = ('give it a line K:none, or cut it in two; layout 2 takes longer tunes than '
+                  'layout 1')
 
     def __init__(self, place: int, why: str) -> None:
         super().__init__(place, why)
@@ -202,8 +203,8 @@ class BadNumber(Refused):
 class BadQuery(Refused):
     number = 18
     reason = 'nothing is asked for'
-    what_to_do = ('a title or a rhythm has a byte, a key is written as D, Bm or Edor, and notes are '
-                  'two or more')
+    what_to_do = ('a title or a rhythm has a byte, a key is written as D, Bm or Edor, and notes '
+                  'are two or more')
 
 
 class BookTooLong(Refused):
@@ -226,10 +227,10 @@ class Device(Refused):
 
     number = 22
     reason = 'the device failed, and what was asked was done or not'
-    what_to_do = ('look at the disk; let the system give up its cached pages of the file, as by `dd '
-                  'if=FILE iflag=nocache count=0`; only then open the archive anew, by '
-                  'Archive.reopen(), and look whether the command took place: docs/USING.md, "The '
-                  'file cannot be used"')
+    what_to_do = ('look at the disk; let the system give up its cached pages of the file, as by '
+                  '`dd if=FILE iflag=nocache count=0`; only then open the archive anew, by '
+                  'Archive.reopen(), and look whether the command took place: docs/USING.md, '
+                  '"The file cannot be used"')
 
     def __init__(self, cause: str = '') -> None:
         super().__init__()

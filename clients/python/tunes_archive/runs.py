@@ -6,8 +6,10 @@ where it is let go of, and where this process ends, in whatever way.
 import os
 import select
 import signal
+import socket
 import subprocess
-from typing import List, Optional, Sequence, Tuple, TypeVar, Union
+from contextlib import contextmanager
+from typing import Iterator, List, Optional, Sequence, Tuple, TypeVar, Union
 
 from .errors import NoProgram, Refused
 from .replies import NoReply, Taker, outcome_of
@@ -45,19 +47,27 @@ class Run:
         self.errors = b''
         self._output_ended = False
         self._errors_ended = False
-        name = os.fsencode(os.path.basename(program))
-        try:
-            # A signal that a terminal sends to a group of programs is for this process alone.
-            self._process = subprocess.Popen(
-                [name, *words], executable=program, cwd=folder, bufsize=0, stdin=subprocess.PIPE,
-                stdout=subprocess.PIPE, stderr=subprocess.PIPE, start_new_session=True)
-        except OSError as error:
-            raise NoProgram(f'the program {program} could not be started: {error}') from error
-        assert self._process.stdin and self._process.stdout and self._process.stderr
-        self._input, self._output = self._process.stdin, self._process.stdout
-        self._told = self._process.stderr
+        with low_descriptors():
+            self._input, given = socket.socketpair()
+            with given:
+                self._process = self._started(program, words, folder, given)
+        assert self._process.stdout and self._process.stderr
+        self._output, self._told = self._process.stdout, self._process.stderr
         for stream in (self._input, self._output, self._told):
             os.set_blocking(stream.fileno(), False)
+
+    def _started(self, program: str, words: Sequence[bytes], folder: Optional[bytes],
+                 given: socket.socket) -> 'subprocess.Popen[bytes]':
+        """A program that was started, in a session of its own: a signal that a terminal sends to a
+        group of programs is for this process alone."""
+        name = os.fsencode(os.path.basename(program))
+        try:
+            return subprocess.Popen([name, *words], executable=program, cwd=folder, bufsize=0,
+                                    stdin=given, stdout=subprocess.PIPE, stderr=subprocess.PIPE,
+                                    start_new_session=True)
+        except OSError as error:
+            self._input.close()
+            raise NoProgram(f'the program {program} could not be started: {error}') from error
 
     # ASKING
 
@@ -160,10 +170,12 @@ class Run:
 
     def _write_script(self) -> None:
         try:
-            written = os.write(self._input.fileno(), self._script[:PIECE])
+            # Where it reads no more there is an error, and never a signal: what this process does
+            # at a signal is its own.
+            written = self._input.send(self._script[:PIECE], socket.MSG_NOSIGNAL)
         except BlockingIOError:
             return
-        except BrokenPipeError:
+        except (BrokenPipeError, ConnectionResetError):
             # It reads no more. What it wrote before that is still to be read.
             written = len(self._script)
         self._script = self._script[written:]
@@ -176,7 +188,7 @@ class Run:
             self._patience = patience
         self._script = memoryview(script)
         while not (self._output_ended and self._errors_ended):
-            if not self._script and not self._input.closed:
+            if not self._script:
                 self._input.close()
             self._turn()
         return self.end(), bytes(self._replies[self._at:])
@@ -216,6 +228,18 @@ class Run:
         except (ProcessLookupError, PermissionError):
             self._process.kill()
         self._process.wait()
+
+
+@contextmanager
+def low_descriptors() -> Iterator[None]:
+    """Has the descriptors 0, 1 and 2 taken. Where one of them is closed, what this process prints
+    would else be written to a program."""
+    taken = [os.open(os.devnull, os.O_RDONLY) for _ in range(3)]
+    try:
+        yield
+    finally:
+        for descriptor in taken:
+            os.close(descriptor)
 
 
 def read_piece(descriptor: int) -> Optional[bytes]:
