@@ -5,7 +5,7 @@ import subprocess
 import sys
 import unittest
 
-from support import KESH, ONE, PATIENCE, ROOT, InFolder, program, programs, read
+from support import CLIENT, KESH, ONE, PATIENCE, ROOT, InFolder, program, programs, read
 
 from tunes_archive import (Archive, ArchiveFull, BadName, BadNumber, BadQuery, BadTune,
                            BookTooLong, Counts, Damaged, Device, Imported, InSet, NoSuchPlace,
@@ -249,6 +249,35 @@ class Refusals(InFolder):
         for call in (lambda: self.open().sets(), lambda: self.open().set_new('a')):
             self.assertRaises(Unopened, call)
 
+    @unittest.skipUnless(os.getuid() == 0, 'only root can be somebody else')
+    def test_of_rights(self):
+        self.make(KESH)
+        os.chmod(self.folder, 0o755)
+        for mode, asks in ((0o444, True), (0o000, False)):
+            os.chmod(self.path, mode)
+            ended = subprocess.run(
+                [sys.executable, '-B', '-c', f'''
+import os, sys
+sys.path[:0] = [{CLIENT!r}]
+from tunes_archive import *
+programs = Programs({program('TUNES')!r}, {program('TUNES_DESK')!r})
+os.setgid(65534)
+os.setuid(65534)
+archive = Archive({self.path!r}, programs=programs)
+try:
+    print(len(archive.titles()))
+except Unopened as fault:
+    print('asking', fault)
+try:
+    archive.set_new('a')
+except Unopened as fault:
+    print('changing', fault)
+'''], stdout=subprocess.PIPE, check=True)
+            asked, changed = ended.stdout.decode().splitlines()
+            self.assertIn('ermission', changed)
+            self.assertTrue(changed.startswith('changing '))
+            self.assertTrue(asked == '2' if asks else asked.startswith('asking '), asked)
+
     def test_of_a_full_disk(self):
         self.make(KESH)
         # a file may have no more bytes than it has: a write past them fails, as on a full disk
@@ -318,6 +347,15 @@ class Paths(InFolder):
         for options in ({'hold': -1}, {'wait': -1}, {'hold': float('nan')}, {'patience': -1}):
             with self.subTest(options=options), self.assertRaises(ValueError):
                 Archive(self.path, programs=programs(), **options)
+
+    def test_very_long_times(self):
+        for seconds in (1e300, float('inf'), 10 ** 11):
+            archive = self.open(hold=seconds, wait=seconds, patience=seconds)
+            self.assertRaises(Unopened, archive.sets)
+        self.make()
+        for seconds in (1e300, float('inf'), 10 ** 11, 1e-9):
+            with self.open(hold=seconds, wait=seconds, patience=max(1, seconds)) as archive:
+                self.assertEqual(archive.sets(), [])
 
     def test_closed(self):
         archive = self.make()

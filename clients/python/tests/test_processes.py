@@ -148,6 +148,47 @@ time.sleep(600)''')
         self.assertNoneLeft(0)
         process.kill()
 
+    def test_a_signal_for_broken_pipes(self):
+        # it would end the program, as it does many that set it so
+        process = self.begin(f'''
+signal.signal(signal.SIGPIPE, signal.SIG_DFL)
+block = archive.changing()
+block.__enter__()
+archive.set_new("a")
+{self.SAY}
+sys.stdin.readline()
+for _ in range(3):
+    try:
+        archive.import_book(b"X:1\\nK:C\\nC\\n" * 100000)
+    except ArchiveFault:
+        continue
+    sys.exit(7)
+block.__exit__(None, None, None)
+assert archive.sets()[0].name == "a"
+''')
+        self.kill_all()
+        process.stdin.write(b'\n')
+        process.stdin.flush()
+        self.assertEqual(process.wait(PATIENCE), 0)
+
+    def test_standard_streams_that_are_closed(self):
+        # nothing that is printed comes to a program in their place
+        process = self.script('''
+for descriptor in range(3):
+    os.close(descriptor)
+archive.set_new("a")
+for descriptor in range(3):
+    try:
+        os.write(descriptor, b"set-drop a\\n")
+        os._exit(7)
+    except OSError:
+        pass
+os._exit(0 if [row.name for row in archive.sets()] == ["a"] else 8)
+''')
+        self.addCleanup(process.stdout.close)
+        self.addCleanup(process.stdin.close)
+        self.assertEqual(process.wait(PATIENCE), 0)
+
     def test_a_group_is_interrupted(self):
         # as a terminal does: the program is in no group with its child
         process = subprocess.Popen(

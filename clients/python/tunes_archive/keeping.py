@@ -315,7 +315,7 @@ class Keeper:
             while self._run is not None:
                 left = self._end - time.monotonic()
                 if left > 0:
-                    self._left.wait(left)
+                    self._left.wait(min(left, threading.TIMEOUT_MAX))
                 else:
                     self._leave()
             self._watched = False

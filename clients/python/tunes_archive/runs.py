@@ -19,6 +19,8 @@ T = TypeVar('T')
 PIECE = 65_536
 LONGEST_REPLY_LINE = 1_048_576
 MOST_ERRORS = 65_536
+# From so many seconds on it is waited without end.
+MOST_PATIENCE = 1_000_000.0
 # How many seconds a program has to end by itself, before it is killed.
 GRACE = 5.0
 
@@ -145,7 +147,8 @@ class Run:
             poll.register(self._told, select.POLLIN)
         if self._script:
             poll.register(self._input, select.POLLOUT)
-        ready = poll.poll(None if self._patience is None else max(1, int(self._patience * 1000)))
+        patience = MOST_PATIENCE if self._patience is None else self._patience
+        ready = poll.poll(None if patience >= MOST_PATIENCE else max(1, int(patience * 1000)))
         if not ready:
             raise Slow()
         for descriptor, _ in ready:
