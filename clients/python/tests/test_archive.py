@@ -288,7 +288,7 @@ except Unopened as fault:
                        f'exec "{program("TUNES")}" "$@"\n')
         os.chmod(path, 0o755)
         archive = Archive(self.path, programs=Programs(path, programs().tunes_desk))
-        self.addCleanup(archive.close)
+        self.archives.append(archive)
         for _ in range(2):
             with self.assertRaises(Device) as raised:
                 archive.import_book(SESSION * 20)
