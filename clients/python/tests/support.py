@@ -138,7 +138,7 @@ class InFolder(unittest.TestCase):
                 f'programs = Programs({program("TUNES")!r}, {program("TUNES_DESK")!r})\n'
                 f'archive = Archive({self.path!r}, programs=programs, hold=600)\n{body}\n')
         return subprocess.Popen([sys.executable, '-B', '-c', text], stdin=subprocess.PIPE,
-                                stdout=subprocess.PIPE)
+                                stdout=subprocess.PIPE, stderr=subprocess.DEVNULL)
 
 
 FAKE = r'''
