@@ -8,6 +8,7 @@ import sys
 import threading
 import time
 import unittest
+from unittest import mock
 
 from support import CLIENT, KESH, PATIENCE, InFolder, programs
 
@@ -41,7 +42,8 @@ class Ends(InFolder):
         for begin in (self.OPEN, self.CHANGE):
             for end in ('', 'archive.close()', 'del archive', 'sys.exit(3)', 'raise KeyError()',
                         'os._exit(0)', 'os.abort()', 'os.kill(os.getpid(), signal.SIGKILL)',
-                        'os.execvp("true", ["true"])'):
+                        'os.execvp("true", ["true"])',
+                        'import atexit; atexit.register(archive.titles)'):
                 with self.subTest(end=end):
                     process = self.begin(begin.replace('"a"', repr(f'a{id(end)}')) + end)
                     process.wait(PATIENCE)
@@ -252,6 +254,14 @@ class Within(InFolder):
                 archive.set_new('a')
                 archive.set_drop('a')
         self.assertEqual(descriptors(), before)
+
+    def test_where_no_thread_can_be_made(self):
+        archive = self.open(hold=600)
+        with mock.patch.object(threading.Thread, 'start', side_effect=RuntimeError):
+            self.assertEqual(archive.sets(), [])
+            self.assertEqual(self.left(), [])
+        self.assertEqual(archive.sets(), [])
+        self.assertEqual(len(self.left()), 1)
 
     def test_a_call_within_a_call(self):
         # a signal comes while a reply is waited for
