@@ -16,12 +16,13 @@ returns-in-Tell-clause-files g c = order_is g.D.Disk (string_bytes c.args.file.n
 }) c.in-Tell.is c.tell.ensures
 
 pub returns-in-Write-clause-files : goal.returns-in-Write-clause-files
-returns-in-Write-clause-files g c = order_is g.D.Disk (string_bytes c.args.file.now) c.args.order.now (order.Write c.in-Write.question c.in-Write.target) (record {
-  streams = streams_in g.C.Console c.args.console.now c.write.new.console;
-  was = g.K.Desk.deeds c.args.desk.now;
-  now = g.K.Desk.deeds c.write.new.desk;
-  status = c.write.result;
-}) c.in-Write.is c.write.ensures
+returns-in-Write-clause-files g c =
+    order_is g.D.Disk (string_bytes c.args.file.now) c.args.order.now (order.Write c.in-Write.question c.in-Write.target) (record {
+      streams = streams_in g.C.Console c.args.console.now c.write.new.console;
+      was = g.K.Desk.deeds c.args.desk.now;
+      now = g.K.Desk.deeds c.write.new.desk;
+      status = c.write.result;
+    }) c.in-Write.is c.write.ensures
 
 pub returns-in-Check-clause-files : goal.returns-in-Check-clause-files
 returns-in-Check-clause-files g c = order_is g.D.Disk (string_bytes c.args.file.now) c.args.order.now (order.Check) (record {
