@@ -1,2 +1,5 @@
+pub mod BookLemmas
+pub mod FileLemmas
 pub mod OrderLemmas
+pub mod ScriptLemmas
 pub mod VisitLemmas

@@ -20,7 +20,7 @@ quiet_none was = ([], sym (append-nil was), tt)
 pub quiet_one : {D : Type 0} (was now : List (DeskDeed D)) (deed : DeskDeed D) → now ≡ was ++ deed ∷ [] → ChangesNothing deed → IsQuiet was now
 quiet_one was now deed h quiet = (deed ∷ [], h, (quiet, tt))
 
-all_both : {X : Type 0} (P : X → Type 0) (xs ys : List X) → AllByRecursion P xs → AllByRecursion P ys → AllByRecursion P (xs ++ ys)
+pub all_both : {X : Type 0} (P : X → Type 0) (xs ys : List X) → AllByRecursion P xs → AllByRecursion P ys → AllByRecursion P (xs ++ ys)
 all_both P [] ys a b = b
 all_both P (x ∷ xs) ys a b = (a.0, all_both P xs ys a.1 b)
 

@@ -1,7 +1,7 @@
 -- What is done for an order.
 use Rattle.std.specs.Prelude.{◌≡◌, ◌≢◌, ◌⊎◌, ℕ, Bool, true, false, List, [], ◌∷◌, ◌++◌, codes}
-use Rattle.std.specs.Prelude.{if◌then◌else◌, Option, Some, Result, Ok, Err, string_bytes, ⊤}
-use Rattle.std.specs.Prelude.{decimal, MatchResult}
+use Rattle.std.specs.Prelude.{if◌then◌else◌, Option, Some, None, Result, Ok, Err, String, ⊤}
+use Rattle.std.specs.Prelude.{decimal, MatchResult, string_bytes}
 use Rattle.std.specs.List.{AllByRecursion}
 use Rattle.std.specs.Str.{bytes_eq}
 use Rattle.tune_disk.specs.declared.disk.Disk as disk
@@ -14,7 +14,7 @@ use Rattle.tune_cli.specs.FileActs.{RunsOn}
 use Rattle.tune_cli.specs.ProgramLines.{counts_bytes}
 use Rattle.tune_cli.specs.declared.file_actions.Done.{Done}
 use Rattle.tune_desk.specs.DeskDeeds.{DeskDeed, opened, closed, ChangesNothing}
-use Rattle.tune_desk.specs.Results.{Places, SparesFiles, Writes}
+use Rattle.tune_desk.specs.Results.{Places, places_of, SparesFiles, Writes}
 use Rattle.tune_desk.specs.Refusals.{Refuses}
 use Rattle.tune_desk.specs.declared.desk.DeskFault.{DeskFault}
 use Rattle.tune_desk.specs.declared.refusals.ResultFault.{ResultFault}
@@ -22,8 +22,10 @@ use Rattle.desk_questions.specs.Told.{told}
 use Rattle.desk_words.specs.declared.asked.Order.{Order}
 use Rattle.desk_words.specs.declared.asked.Order.TheVariants as order
 use Rattle.desk_words.specs.declared.asked.Target.{Target}
+use Rattle.desk_orders.specs.CheckedBooks.{Stage, TellsPaths}
 use Rattle.desk_orders.specs.FileAnswers.{Did, IsAsked, IsUnasked}
 use Rattle.desk_orders.specs.Printing.{WritesOut, Prints, WritesNothing, IsSilent, ReadsAll}
+use Rattle.desk_orders.specs.ScriptVisits.{AsksScript}
 use Rattle.desk_orders.specs.Visits.{visit, failed_visit}
 
 -- One call: what was read and written, what was done with files, and the status.
@@ -32,6 +34,21 @@ pub record Scene (D : Type 0) : Type 0 where
   pub was : List (DeskDeed D)
   pub now : List (DeskDeed D)
   pub status : ℕ
+
+-- how far it was at its beginning, and at its end
+abbrev pub stage_before : {D : Type 0} → Scene D → Stage D
+stage_before scene = record {
+  deeds = scene.was;
+  input = scene.streams.input.was;
+  output = scene.streams.output.was;
+}
+
+abbrev pub stage_after : {D : Type 0} → Scene D → Stage D
+stage_after scene = record {
+  deeds = scene.now;
+  input = scene.streams.input.now;
+  output = scene.streams.output.now;
+}
 
 -- QUESTIONS
 -- FILE was not asked, or it refused to tell: nothing was printed, and the status says so.
@@ -117,15 +134,17 @@ PlacesInput file target scene = ((bytes : List ℕ) × ReadsAll scene.streams by
 abbrev pub IsQuiet : {D : Type 0} → List (DeskDeed D) → List (DeskDeed D) → Type 0
 IsQuiet was now = Did was now (AllByRecursion ChangesNothing)
 
--- Books were read.
-abbrev pub ChecksBooks : {D : Type 0} → Scene D → Type 0
-ChecksBooks scene = IsQuiet scene.was scene.now
+-- Books were read, and told one after another.
+abbrev pub ChecksBooks : {A D : Type 0} → List (String A) → Scene D → Type 0
+ChecksBooks books scene = IsQuiet scene.was scene.now
+    × TellsPaths books (stage_before scene) (stage_after scene) scene.status
 
 -- A script was run on FILE, opened to read alone; or FILE was not opened.
 abbrev pub RunsOnce : {D : Type 0} → disk.Ghosts D → List ℕ → Scene D → Type 0
 RunsOnce {D} disks file scene = ((old : D) × (done : Done D)
     × (scene.now ≡ scene.was ++ visit file Read old done.disk)
-    × RunsOn disks scene.streams old done × (scene.status ≡ done.status))
+    × RunsOn disks scene.streams old done × AsksScript disks scene.streams old done
+    × (scene.status ≡ done.status))
     ⊎ ((fault : DeskFault) × (scene.now ≡ scene.was ++ failed_visit file Read fault)
     × IsSilent scene.streams × (scene.status ≢ 0))
 
@@ -135,6 +154,14 @@ RunsOnFile {D} disks file scene = ((mid : List (DeskDeed D))
     × Did scene.was mid (IsUnasked disks file)
     × RunsOnce disks file (record scene { was = mid }))
     ⊎ IsRefused disks file scene
+
+-- THE FILES OF AN ORDER: FILE, where its result goes if it writes one to a file, and whether a file
+-- there may be written over. `SparesFiles` says what an order may do with its files.
+abbrev pub files_of : List ℕ → Order → Places
+files_of file (order.Write question target) = places_to file target
+files_of file (order.Draft number out) = places_of file (Some (string_bytes out)) false
+files_of file (order.Place target) = places_to file target
+files_of file order = places_of file None false
 
 -- THE THEOREM OF THE FRONT END: what an order does with FILE, with other files, with standard
 -- input and output, and its status.
@@ -148,5 +175,5 @@ CarriesOut disks file order.Check scene =
 CarriesOut disks file (order.Draft number out) scene =
     Drafts disks file number (string_bytes out) scene
 CarriesOut disks file (order.Place target) scene = PlacesInput file target scene
-CarriesOut disks file (order.CheckBooks books) scene = ChecksBooks scene
+CarriesOut disks file (order.CheckBooks books) scene = ChecksBooks books.items scene
 CarriesOut disks file order.Ask scene = RunsOnFile disks file scene

@@ -2,9 +2,10 @@
 ghost use Rattle.std.specs.Prelude.{◌≡◌, Ok, string_bytes};
 ghost use Rattle.tune_cli.specs.ProgramLines.{counts_bytes};
 ghost use Rattle.tune_scripts.specs.Streams.{streams_in};
+ghost use Rattle.tune_desk.specs.Results.{SparesFiles};
 ghost use Rattle.desk_questions.specs.Told.{told};
 ghost use Rattle.desk_orders.specs.Orders.{CarriesOut, Tells, WritesAnswer, Drafts, PlacesInput};
-ghost use Rattle.desk_orders.specs.Orders.{RunsOnce, RunsOnFile, Scene};
+ghost use Rattle.desk_orders.specs.Orders.{RunsOnce, RunsOnFile, Scene, files_of};
 
 use crate::books::check_books;
 use crate::deliveries::deliver;
@@ -24,6 +25,9 @@ use tune_scripts::Console;
 
 /// Carries out an order of the front end, and gives the status: 0 done; 1 refused, or a device
 /// failed; 2 wrong words; 3 no archive, or a damaged one. What is wrong is said to `errors`.
+///
+/// `does` says for each order what it does with FILE, with a result, and with standard input and
+/// output; `files` says for all of them which files a call may change, and in which order.
 pub fn carry_out<C: Console, E: Write, D: Disk, K: AllocGlobal + Desk<Disk = D>>(
     desk: &mut K,
     file: &String,
@@ -31,7 +35,9 @@ pub fn carry_out<C: Console, E: Write, D: Disk, K: AllocGlobal + Desk<Disk = D>>
     console: &mut C,
     errors: &mut E,
 ) -> u8
-    ensures { CarriesOut D.Disk (string_bytes file.now) order.now (record {
+    ensures files { SparesFiles (files_of (string_bytes file.now) order.now)
+        (K.deeds desk.old) (K.deeds desk.new) }
+    ensures does { CarriesOut D.Disk (string_bytes file.now) order.now (record {
       streams = streams_in C.Console console.old console.new;
       was = K.deeds desk.old;
       now = K.deeds desk.new;
