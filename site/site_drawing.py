@@ -1,6 +1,5 @@
 """Draws tunes by abcm2ps, and plays them by abc2midi, so that nothing but music comes of them."""
 import hashlib
-import html
 import json
 import os
 import re
@@ -10,8 +9,8 @@ import signal
 import subprocess
 import sys
 import tempfile
-from typing import Dict, Iterator, List, NoReturn, Tuple
-from xml.parsers import expat
+from functools import lru_cache
+from typing import Dict, Iterator, List, NoReturn, Optional, Tuple
 
 from site_book import Tune
 from site_words import CAUGHT, NO_TOOL, Stopped, read_file, say, write_file
@@ -36,11 +35,14 @@ FORMAT = '%%rightmargin 0\n%%leftmargin 0\n%%topmargin 0\n%%botmargin 0\n%%topsp
 WIDTHS = {'music': FORMAT + '%%pagewidth 15cm\n',
           'narrow': FORMAT + '%%pagewidth 9.6cm\n%%continueall 1\n'}
 PROCESSOR_SECONDS, SECONDS = 5, 60
+# So many tunes are drawn by one run of a program, where none of them asks for anything of its own;
+# where that run is not clean, each is drawn alone.
+TOGETHER = 20
 DRAW = f'''ulimit -t {PROCESSOR_SECONDS}; ulimit -v 2000000
 for each in music narrow; do
     abcm2ps -S -q +F -g -O - $each.abc > $each.svg 2> $each.said || echo $each $?
 done
-[ ! -f sound.abc ] || abc2midi sound.abc -o sound.mid > /dev/null 2>&1 || rm -f sound.mid
+[ ! -f sound.abc ] || abc2midi sound.abc > /dev/null 2>&1 || echo sound $?
 '''
 
 
@@ -77,84 +79,69 @@ class Unfit(Exception):
     """Why a drawing does not go into a page."""
 
 
-NUMBERS = r'[-+\d.,eE\s]*'
-WORD = r'[\w#-]+'
-# Elements of a drawing, and what their attributes may say. All else makes it unfit.
-ELEMENTS = frozenset('g defs use path circle ellipse rect line polyline polygon text tspan'.split())
-PLAIN = {name: re.compile(form) for names, form in (
-    ('x y dx dy cx cy r rx ry x1 y1 x2 y2 width height points stroke-width font-size', NUMBERS),
-    ('d', r'[MmLlHhVvCcSsQqTtAaZz\d.,+\s-]*'),
+WORD, NUMBERS = r'[\w#-]+', r'[-+\d.,eE\s]*'
+# Elements of a drawing, and what their attributes may say. All else makes it unfit: a script, a
+# picture or a link has no place among them. No value has a bracket but those of transforms.
+ELEMENTS = 'g|defs|use|path|circle|ellipse|rect|line|polyline|polygon|text|tspan'
+ATTRIBUTES = '|'.join(f'(?:{names})="{form}"' for names, form in (
+    ('x|y|dx|dy|cx|cy|r|rx|ry|x1|y1|x2|y2|width|height|points|stroke-width|font-size', NUMBERS),
+    ('d', r'[MmLlHhVvCcSsQqTtAaZz\d.,+\s-]*'), ('xlink:href', '#' + WORD),
+    ('class|font-family|stroke-dasharray', r'[\w\s,.-]*'),
+    ('id|fill|stroke|color|stroke-linecap|stroke-linejoin|text-anchor|font-weight|font-style', WORD),
     ('transform', r'(?:(?:translate|scale|rotate|matrix|skewX|skewY)\([-+\d.,\s]*\)\s*)*'),
-    ('id fill stroke color stroke-linecap stroke-linejoin text-anchor font-weight font-style', WORD),
-    ('class font-family stroke-dasharray', r'[\w\s,.-]*'),
-    ('style', r"(?:[a-z-]+:[-\w\s.,#']+;?\s*)*"), ('xlink:href href', '#' + WORD)) for name
-    in names.split()}
-HUNDREDTHS = re.compile(r'(\.\d)\d+')
-ENDING = re.compile(r'\.0(?!\d)')
-SIZE = re.compile(r'(\d+)(?:\.\d+)?px')
+    ('style', r"(?:[a-z-]+:[-\w\s.,#']+;?\s*)*")))
+TAG = re.compile(rf'<(?:/({ELEMENTS})|({ELEMENTS})(?:\s+(?:{ATTRIBUTES}))*\s*(/?))>', re.ASCII)
+TEXT = re.compile(r'(?:[^<>&\x00-\x08\x0b-\x1f]|&(?:amp|lt|gt|quot|apos|#\d+);)*')
+TOKEN = re.compile('<[^>]*>|[^<]+')
+COMMENT = re.compile('<!--.*?-->', re.DOTALL)
+FRONT = re.compile(r'\s*<svg\s[^<>]*\swidth="(\d+)[\d.]*px" height="(\d+)[\d.]*px"[^<>]*>\s*'
+                   r'<style type="text/css">[^<]*</style>\s*<title>[^<]*</title>')
+HUNDREDTHS = re.compile(r'\.0\d*|(?<=\.\d)\d+')
 STYLE = '.fill{fill:currentColor}.stroke{stroke:currentColor;fill:none}' \
     'text{white-space:pre;fill:currentColor}'
 
 
 class Drawing:
-    """Writes a drawing anew, in few bytes, from what it is allowed to hold."""
+    """Writes a drawing anew, in few bytes, where it holds nothing but what it may."""
 
     def __init__(self, svg: bytes) -> None:
-        self.pieces: List[str] = []
-        self.hidden = self.depth = 0
-        self.size = (0, 0)
-        parser = expat.ParserCreate()
-        parser.buffer_text = True
-        parser.StartElementHandler, parser.EndElementHandler = self.begin, self.end
-        parser.CharacterDataHandler = self.say
-        parser.EntityDeclHandler = parser.ProcessingInstructionHandler = self.refuse
-        try:
-            parser.Parse(svg, True)
-        except expat.ExpatError as error:
-            raise Unfit(f'it is no drawing: {error}') from error
+        text = COMMENT.sub('', svg.decode('utf-8', 'replace'))
+        front = FRONT.match(text)
+        body, behind, rest = text[front.end():].rpartition('</svg>') if front else ('', '', '')
+        if not behind or rest.strip():
+            raise Unfit('it is no drawing')
+        self.size = int(front[1]) + 1, int(front[2]) + 1
+        self.open: List[str] = []
+        pieces = ''.join(map(self.piece, TOKEN.findall(body)))
+        if self.open:
+            raise Unfit('it is cut')
         width, height = self.size
         self.text = f'<svg xmlns="http://www.w3.org/2000/svg" width="{width}" height="{height}" ' \
-            f'viewBox="0 0 {width} {height}"><style>{STYLE}</style>{"".join(self.pieces)}</svg>\n'
+            f'viewBox="0 0 {width} {height}"><style>{STYLE}</style>{pieces}</svg>\n'
 
-    def refuse(self, *what: object) -> None:
-        raise Unfit('it has what no drawing of music has')
-
-    def begin(self, name: str, attributes: Dict[str, str]) -> None:
-        self.depth += 1
-        if self.depth == 1:
-            found = [SIZE.fullmatch(attributes.get(side, '')) for side in ('width', 'height')]
-            if name != 'svg' or not all(found):
-                raise Unfit('it has no size')
-            self.size = int(found[0][1]) + 1, int(found[1][1]) + 1
-        elif name in ('title', 'style'):
-            self.hidden += 1
-        elif name not in ELEMENTS:
-            raise Unfit(f'it has an element {name[:20]}')
-        else:
-            self.pieces.append(f'<{name}{"".join(map(plain, attributes.items()))}>')
-
-    def end(self, name: str) -> None:
-        self.depth -= 1
-        if name in ('title', 'style'):
-            self.hidden -= 1
-        elif self.depth and self.pieces[-1].startswith(f'<{name}'):
-            self.pieces[-1] = self.pieces[-1][:-1] + '/>'
-        elif self.depth:
-            self.pieces.append(f'</{name}>')
-
-    def say(self, text: str) -> None:
-        if not self.hidden and text.strip():
-            self.pieces.append(html.escape(text, quote=False))
+    def piece(self, token: str) -> str:
+        kept, begun, ended = piece_of(token)
+        if begun:
+            self.open.append(begun)
+        elif ended and (not self.open or self.open.pop() != ended):
+            raise Unfit('its elements do not stand within each other')
+        return kept
 
 
-def plain(attribute: Tuple[str, str]) -> str:
-    name, value = attribute
-    form = PLAIN.get(name)
-    if form is None or not form.fullmatch(value) or 'url' in value:
-        raise Unfit(f'it has an attribute {name[:20]}')
-    if name in ('d', 'x', 'y', 'cx', 'cy'):
-        value = ENDING.sub('', HUNDREDTHS.sub(r'\1', ' '.join(value.split())))
-    return f' {name.replace("xlink:", "")}="{value}"'
+@lru_cache(maxsize=1 << 15)
+def piece_of(token: str) -> Tuple[str, str, str]:
+    """A tag or a text in few bytes, and which element it begins or ends."""
+    if not token.startswith('<'):
+        if not TEXT.fullmatch(token):
+            raise Unfit('it has signs that no text has')
+        return ('' if token.isspace() else token), '', ''
+    tag = TAG.fullmatch(token)
+    if not tag:
+        raise Unfit('it has what no drawing of music has: ' + ' '.join(token.split())[:40])
+    kept = ' '.join(token.split()).replace('xlink:href', 'href').replace(' "', '"')
+    if 'transform' not in kept and 'style' not in kept:
+        kept = HUNDREDTHS.sub('', kept)
+    return kept, '' if tag[3] else tag[2] or '', tag[1] or ''
 
 
 def is_sound_file(data: bytes) -> bool:
@@ -167,29 +154,65 @@ def is_sound_file(data: bytes) -> bool:
 
 # BY SEVERAL PROCESSES
 
+Drawn = Dict[str, object]
+
+
+def has_wishes(tune: Tune) -> bool:
+    """Whether a tune tells a program anything but its music."""
+    return re.search(rb'^(?:%%|[ImU]:)|\[\s*I\s*:', tune.text, re.M) is not None
+
+
 class Drawer:
     """Draws tunes in a folder of its own, of which the results go to a site."""
 
     def __init__(self, work: str, site: str, has_sound: bool) -> None:
         self.work, self.site, self.has_sound = work, site, has_sound
 
-    def draw(self, tune: Tune) -> Dict[str, object]:
-        """What there is of a tune: the sizes of drawings, a sound, or why there is none."""
+    def draw_share(self, tunes: List[Tune]) -> Iterator[Tuple[int, Drawn]]:
+        """What there is of each tune: the sizes of drawings, a sound, or why there is none."""
+        plain_ones = [tune for tune in tunes if not has_wishes(tune)]
+        groups = [plain_ones[at:at + TOGETHER] for at in range(0, len(plain_ones), TOGETHER)]
+        groups += [[tune] for tune in tunes if has_wishes(tune)]
+        while groups:
+            group = groups.pop()
+            found = self.draw(group)
+            if found is None:
+                groups += [[tune] for tune in group]
+            else:
+                yield from zip((tune.number for tune in group), found)
+
+    def draw(self, tunes: List[Tune]) -> Optional[List[Drawn]]:
+        """The results of a run, or None, where several tunes were drawn and it is not clean."""
         place = tempfile.mkdtemp(dir=self.work)
         try:
-            for name, front in WIDTHS.items():
-                lines = ''.join(line + '\n' for line in drawn_lines(tune.text))
-                write_file(os.path.join(place, name + '.abc'), f'{front}X:1\n{lines}'.encode())
-            if self.has_sound:
-                lines = ''.join(line + '\n' for line in drawn_lines(tune.text, True))
-                write_file(os.path.join(place, 'sound.abc'), f'X:1\n{lines}'.encode())
-            return self.results(tune.number, place, self.run(place))
+            fronts = {**WIDTHS, 'sound': ''} if self.has_sound else WIDTHS
+            for name, front in fronts.items():
+                book = front + '\n'.join(
+                    f'X:{tune.number}\n' + ''.join(
+                        line + '\n' for line in drawn_lines(tune.text, name == 'sound'))
+                    for tune in tunes)
+                write_file(os.path.join(place, name + '.abc'), book.encode())
+            told = self.run(place)
+            drawings = {name: read_file(os.path.join(place, name + '.svg')) for name in WIDTHS}
+            said = read_file(os.path.join(place, 'music.said')).decode('utf-8', 'replace')
+            if len(tunes) == 1:
+                return [self.results(tunes[0], place, drawings, told, said)]
+            if told or said:
+                return None
+            apart = {name: re.findall(rb'<svg .*?</svg>', svg, re.S)
+                     for name, svg in drawings.items()}
+            numbers = [tune.number for tune in tunes]
+            if any(list(map(number_of, svgs)) != numbers for svgs in apart.values()):
+                return None
+            return [self.results(tune, place, {name: svgs[at] for name, svgs in apart.items()})
+                    for at, tune in enumerate(tunes)]
         except Unfit as unfit:
-            return {'fault': str(unfit)}
+            return [{'fault': str(unfit)}] if len(tunes) == 1 else None
         finally:
             shutil.rmtree(place, ignore_errors=True)
 
     def run(self, place: str) -> str:
+        """Draws and plays what is in a folder, and tells which program failed, how."""
         tools = subprocess.Popen(['sh', '-c', DRAW], cwd=place, stdin=subprocess.DEVNULL,
                                  stdout=subprocess.PIPE, stderr=subprocess.DEVNULL,
                                  start_new_session=True)
@@ -202,33 +225,41 @@ class Drawer:
                 os.killpg(tools.pid, signal.SIGKILL)
                 tools.communicate()
 
-    def results(self, number: int, place: str, told: str) -> Dict[str, object]:
-        sound = read_file(os.path.join(place, 'sound.mid'))
-        found: Dict[str, object] = {'sound': is_sound_file(sound)}
-        if found['sound']:
-            write_file(os.path.join(self.site, 'sound', f'{number}.mid'), sound)
+    def results(self, tune: Tune, place: str, drawings: Dict[str, bytes], told: str = '',
+                said: str = '') -> Drawn:
+        """Puts what was made of a tune into the site."""
+        sound = read_file(os.path.join(place, f'sound{tune.number}.mid'))
+        found: Drawn = {'sound': is_sound_file(sound)}
+        texts = {}
         try:
-            for name in WIDTHS:
-                svg = read_file(os.path.join(place, name + '.svg'))
+            for name, svg in drawings.items():
                 if not svg:
                     status = re.search(rf'^{name} (\d+)', told, re.M)
                     raise Unfit(f'abcm2ps made no drawing (status {status[1]})' if status else
                                 'there is no music in it to be drawn')
                 drawing = Drawing(svg)
-                write_file(os.path.join(self.site, name, f'{number}.svg'), drawing.text.encode())
-                found[name] = drawing.size
+                texts[name], found[name] = drawing.text, drawing.size
         except Unfit as unfit:
-            found['fault'] = str(unfit)
-        said = read_file(os.path.join(place, 'music.said')).decode('utf-8', 'replace')
+            texts, found['fault'] = {}, str(unfit)
+        for name, text in texts.items():
+            write_file(os.path.join(self.site, name, f'{tune.number}.svg'), text.encode())
+        if found['sound']:
+            write_file(os.path.join(self.site, 'sound', f'{tune.number}.mid'), sound)
         remarks = re.findall(r'error: (.*)', said)
         if remarks:
             found['remarks'] = list(dict.fromkeys(label_of(line.encode()) for line in remarks))[:5]
         return found
 
 
-def draw_all(tunes: List[Tune], drawer: Drawer) -> Dict[int, Dict[str, object]]:
+def number_of(svg: bytes) -> int:
+    """The number of the tune that a drawing says it is of."""
+    found = re.search(rb'<title>[^<(]*\((\d+)\) tune ', svg)
+    return int(found[1]) if found else 0
+
+
+def draw_all(tunes: List[Tune], drawer: Drawer) -> Dict[int, Drawn]:
     """Draws by several processes at once, each of which has its share, and tells of each tune."""
-    found: Dict[int, Dict[str, object]] = {}
+    found: Dict[int, Drawn] = {}
     count = min(os.cpu_count() or 1, len(tunes))
     ready = selectors.DefaultSelector()
     workers = {}
@@ -268,8 +299,8 @@ def work_through(tunes: List[Tune], drawer: Drawer, writer: int) -> NoReturn:
         signal.signal(number, signal.SIG_DFL)
     status = 1
     try:
-        for tune in tunes:
-            told = json.dumps([tune.number, drawer.draw(tune)]).encode() + b'\n'
+        for found in drawer.draw_share(tunes):
+            told = json.dumps(found).encode() + b'\n'
             while told:
                 told = told[os.write(writer, told):]
         status = 0
