@@ -10,7 +10,27 @@ import read_archive
 import search_keys
 import tunes_archive
 from site_words import NO_ARCHIVE, Stopped
-from tunes_archive import label_of
+
+# BYTES AS TEXT
+
+CONTROLS = re.compile('[\x00-\x1f\x7f-\x9f]')
+
+
+def text_of(data: bytes) -> str:
+    """Bytes as text; what is no UTF-8 is read as Latin-1, as in docs/ABC-PROFILE.md, "Queries"."""
+    try:
+        return data.decode('utf-8')
+    except UnicodeDecodeError:
+        text = data.decode('utf-8', 'surrogateescape')
+        return re.sub('[\udc80-\udcff]', lambda byte: chr(ord(byte[0]) - 0xDC00), text)
+
+
+def label_of(data: bytes) -> str:
+    """The same as people see it, where control characters stand as U+FFFD."""
+    return CONTROLS.sub('\N{REPLACEMENT CHARACTER}', text_of(data))
+
+
+# WHAT THE ARCHIVE HOLDS
 
 MODES = ('major', 'Dorian', 'Phrygian', 'Lydian', 'Mixolydian', 'minor', 'Locrian')
 SIGNS = {' ': '', '#': '♯', 'b': '♭'}
@@ -161,12 +181,6 @@ LETTERS = ''.join(chr(code) for code in range(33, 126) if chr(code) not in '"\\~
 
 def letters_of(steps: Iterable[int]) -> str:
     return ''.join(LETTERS[step + 45] if -45 <= step < 45 else f'~{step};' for step in steps)
-
-
-def text_of(title: bytes) -> str:
-    """Bytes as text; what is no UTF-8 is read as Latin-1, as in docs/ABC-PROFILE.md, "Queries"."""
-    decoded = title.decode('utf-8', 'surrogateescape')
-    return re.sub('[\udc80-\udcff]', lambda byte: chr(ord(byte[0]) - 0xDC00), decoded)
 
 
 def is_utf8(data: bytes) -> bool:

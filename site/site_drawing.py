@@ -12,9 +12,8 @@ import tempfile
 from functools import lru_cache
 from typing import Dict, Iterator, List, NoReturn, Optional, Tuple
 
-from site_book import Tune
+from site_book import Tune, label_of
 from site_words import CAUGHT, NO_TOOL, Stopped, read_file, say, write_file
-from tunes_archive import label_of
 
 # WHAT IS GIVEN TO THE PROGRAMS
 

@@ -5,8 +5,7 @@ import string
 from dataclasses import dataclass
 from typing import Dict, Iterator, List, Optional, Tuple
 
-from site_book import Book, Tune, key_name, text_of
-from tunes_archive import label_of
+from site_book import Book, Tune, key_name, label_of, text_of
 
 PARTS = os.path.dirname(os.path.realpath(__file__))
 MOST_ROWS, MOST_LIKE = 1500, 30
