@@ -82,8 +82,9 @@
     // THE STAVE
 
     const SVG = "http://www.w3.org/2000/svg";
-    const NOTES = ["C", "D", "E", "F", "G", "A", "B", "c", "d", "e", "f", "g", "a"];
-    const SIGNS = [["♯", "^", "Sharp before the next note"], ["♭", "_", "Flat before the next note"],
+    const NOTES = ["D", "E", "F", "G", "A", "B", "c", "d", "e", "f", "g"];
+    const SIGNS = [["♯", "^", "Sharp before the next note"],
+                   ["♭", "_", "Flat before the next note"],
                    ["♮", "=", "Natural before the next note"], ["|", "|", "Bar"]];
     const SPACE = 8, BOTTOM = 56;
 
@@ -98,8 +99,7 @@
     function drawNote(to, place) {
         const picture = draw(to, "svg", {viewBox: "0 0 24 72", "aria-hidden": "true",
                                          preserveAspectRatio: "none"});
-        const y = BOTTOM - (place - 2) * SPACE / 2;
-        if (place === 0 || place === 12) draw(picture, "path", {d: `M4 ${y}h16`});
+        const y = BOTTOM - (place - 1) * SPACE / 2;
         draw(picture, "ellipse", {cx: 12, cy: y, rx: 5, ry: 3.6,
                                   transform: `rotate(-20 12 ${y})`});
     }
@@ -133,7 +133,8 @@
     // THE PAGE
 
     for (const rhythm of tunes.rhythms) {
-        if (rhythm !== "" && rhythm[0] !== "\n") add(part("rhythms"), "option", "", {value: rhythm});
+        if (rhythm === "" || rhythm[0] === "\n") continue;
+        add(part("rhythms"), "option", "", {value: rhythm});
     }
     for (const scale of tunes.scales) {
         if (scale) add(part("keys"), "option", "", {value: keyText(scale)});

@@ -22,7 +22,8 @@ from site_words import CAUGHT, NO_TOOL, Stopped, read_file, say, write_file
 DIRECTIVES = frozenset(
     'abc2pscompat autoclef bstemdown cancelkey combinevoices contbarnb dblrepbar decoerr dynalign '
     'dynamic flatbeams gchord gchordbox graceslurs graceword gracespace hyphencont keywarn '
-    'linebreak measurebox measurefirst measurenb ornament partsbox percmap pos propagate-accidentals '
+    'linebreak measurebox measurefirst measurenb ornament partsbox percmap pos '
+    'propagate-accidentals '
     'rbdbstop repbra score setbarnb setdefl shiftunison slurheight squarebreve staffnonote staves '
     'stem straightflags tieheight timewarn transpose tuplets vocal voicecolor volume '
     'writeout-accidentals'.split())
@@ -86,7 +87,8 @@ ATTRIBUTES = '|'.join(f'(?:{names})="{form}"' for names, form in (
     ('x|y|dx|dy|cx|cy|r|rx|ry|x1|y1|x2|y2|width|height|points|stroke-width|font-size', NUMBERS),
     ('d', r'[MmLlHhVvCcSsQqTtAaZz\d.,+\s-]*'), ('xlink:href', '#' + WORD),
     ('class|font-family|stroke-dasharray', r'[\w\s,.-]*'),
-    ('id|fill|stroke|color|stroke-linecap|stroke-linejoin|text-anchor|font-weight|font-style', WORD),
+    ('id|fill|stroke|color|stroke-linecap|stroke-linejoin|text-anchor|font-weight|font-style',
+     WORD),
     ('transform', r'(?:(?:translate|scale|rotate|matrix|skewX|skewY)\([-+\d.,\s]*\)\s*)*'),
     ('style', r"(?:[a-z-]+:[-\w\s.,#']+;?\s*)*")))
 TAG = re.compile(rf'<(?:/({ELEMENTS})|({ELEMENTS})(?:\s+(?:{ATTRIBUTES}))*\s*(/?))>', re.ASCII)

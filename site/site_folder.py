@@ -42,7 +42,8 @@ def foreign(path: str) -> Iterator[str]:
         if entry.name in FOLDERS and entry.is_dir(follow_symlinks=False):
             form = re.compile(rf'\d+\.{FOLDERS[entry.name]}', re.ASCII)
             yield from (inner.path for inner in os.scandir(entry.path)
-                        if not form.fullmatch(inner.name) or not inner.is_file(follow_symlinks=False))
+                        if not form.fullmatch(inner.name)
+                        or not inner.is_file(follow_symlinks=False))
         elif not OWN_FILE.fullmatch(entry.name) or not entry.is_file(follow_symlinks=False):
             yield entry.path
 

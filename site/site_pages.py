@@ -54,10 +54,11 @@ class Pages:
             files[name] = f'set-{name}.html' if count == 1 else f'set-{name}.{count}.html'
         return files
 
-    def whole(self, title: str, body: str, here: str = '', base: str = '', scripts: str = '') -> str:
-        links = ''.join(
-            f'<li><a href="{base}{name}.html"{" aria-current=page" * (name == here)}>{word}</a></li>'
-            for name, word in LISTS)
+    def whole(self, title: str, body: str, here: str = '', base: str = '',
+              scripts: str = '') -> str:
+        current = {here: ' aria-current="page"'}
+        links = ''.join(f'<li><a href="{base}{name}.html"{current.get(name, "")}>{word}</a></li>'
+                        for name, word in LISTS)
         tags = ''.join(f'<script src="{base}{name}.js"></script>' for name in scripts.split())
         return self.page.substitute(title=shown(title), site=shown(self.book.name), base=base,
                                     links=links, body=body, scripts=tags)
@@ -84,7 +85,7 @@ class Pages:
         sections: List[Section] = []
         for title, number in self.book.titles:
             first = title[:1].lower()
-            short = first.upper().decode() if b'a' <= first <= b'z' else '#' if first < b'a' else 'Á'
+            short = '#' if first < b'a' else first.upper().decode() if first <= b'z' else 'Á'
             if not sections or sections[-1].short != short:
                 name = {'#': 'Figures and signs', 'Á': 'Other letters'}.get(short, short)
                 sections.append(Section(name, short, []))
@@ -107,7 +108,8 @@ class Pages:
         return [Section(label_of(tunes[0].rhythm) or 'Without a rhythm',
                         label_of(tunes[0].rhythm) or '–',
                         [self.row(tune, kind=key_name(tune.scale)) for tune in tunes])
-                for rhythm, tunes in sorted(groups.items(), key=lambda group: (not group[0], group))]
+                for rhythm,
+                tunes in sorted(groups.items(), key=lambda group: (not group[0], group))]
 
     def by_key(self) -> List[Section]:
         groups: Dict[str, List[Tune]] = {}
@@ -144,14 +146,14 @@ class Pages:
             lists = ''.join(f'<section class="part {kind}"><{level} id="{name}">'
                             f'{shown(section.name)}</{level}>\n<ul class="tunes">\n'
                             f'{"".join(rows)}</ul></section>\n' for name, section, rows in parts)
-            more = f'<p class="more"><a href="{self.file_of(file, count + 1)}">Next page</a></p>\n' \
-                if count < len(pages) else ''
+            behind = f'<a href="{self.file_of(file, count + 1)}">Next page</a>'
+            more = f'<p class="more">{behind}</p>\n' if count < len(pages) else ''
             body = f'{first}{"<h2>All titles</h2>" if is_index else ""}' \
                 f'{bar}{lists or "<p>There are none.</p>"}{more}'
             here = file if count == 1 else ''
+            named = self.book.name if here and is_index else f'{title} – {self.book.name}'
             yield self.file_of(file, count), self.whole(
-                self.book.name if here and is_index else f'{title} – {self.book.name}', body, here,
-                scripts=scripts if count == 1 else '')
+                named, body, here, scripts=scripts if count == 1 else '')
 
     def file_of(self, file: str, count: int) -> str:
         return f'{file}.html' if count == 1 else f'{file}-{count}.html'
@@ -174,8 +176,8 @@ class Pages:
                                        'metre ' + tune.metre if tune.metre else '')))
         width, height = drawn['music']
         remarks = ''.join(f'<li>{shown(str(line))}</li>' for line in drawn.get('remarks', ()))
-        remarks = remarks and f'<details><summary>What abcm2ps remarks</summary><ul>{remarks}</ul>' \
-            '</details>\n'
+        remarks = remarks and '<details><summary>What abcm2ps remarks</summary>' \
+            f'<ul>{remarks}</ul></details>\n'
         return f'<picture><source media="(max-width: 34rem)" ' \
             f'srcset="{base}narrow/{tune.number}.svg"><img class="music" ' \
             f'src="{base}music/{tune.number}.svg" width="{width}" height="{height}" ' \
@@ -193,7 +195,8 @@ class Pages:
         number = tune.number
         text = '\n'.join('\t'.join(map(label_of, line.split(b'\t')))
                          for line in tune.text.split(b'\n'))
-        others = ''.join(f'<p class="also">{shown(label_of(title))}</p>\n' for title in tune.titles[1:])
+        others = ''.join(f'<p class="also">{shown(label_of(title))}</p>\n'
+                         for title in tune.titles[1:])
         sound = f'<li><a href="../sound/{number}.mid" download>Sound (MIDI)</a></li>' \
             if self.drawn[number].get('sound') else ''
         body = f'<article><h1>{shown(tune.label)}</h1>\n{others}{self.facts(tune)}' \
