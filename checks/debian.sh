@@ -157,7 +157,8 @@ case_of_control() {
     version=$(unpacked/usr/bin/tunes --version)
     printf '%s\n' 'Package: tunes' "Version: ${version#tunes }" \
         "Architecture: $(dpkg --print-architecture)" \
-        'Recommends: abcm2ps, abcmidi, ghostscript, python3' 'Section: sound' 'Priority: optional' > wanted
+        'Recommends: abcm2ps, abcmidi, ghostscript, python3' 'Section: sound' \
+        'Priority: optional' > wanted
     while read -r line; do
         grep -qxF "$line" fields || wrong "no line '$line'"
     done < wanted

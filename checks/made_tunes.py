@@ -4,12 +4,14 @@ from typing import List
 
 FIRST = ('The', 'An', 'A', 'Old', 'Merry', 'Bothán', 'Séamus', 'Märta’s', 'Grandfather’s', 'Lady',
          'Paddy', 'Miss', 'Sean', 'Captain', 'Éilís', 'Øystein', 'Straße', 'Long', 'Farewell to')
-SECOND = ('Kesh', 'Banshee', 'Cúilín', 'Fiddler', 'Ó Dálaigh', 'Blackbird', 'Mór', 'Müller', 'Rakes',
-          'Connaught', 'Smuggler', 'İstanbul', 'Köln', 'Wren', 'Lark', 'Ceathrú', 'Groß', 'Ålesund')
+SECOND = ('Kesh', 'Banshee', 'Cúilín', 'Fiddler', 'Ó Dálaigh', 'Blackbird', 'Mór', 'Müller',
+          'Rakes', 'Connaught', 'Smuggler', 'İstanbul', 'Köln', 'Wren', 'Lark', 'Ceathrú', 'Groß',
+          'Ålesund')
 THIRD = ('Jig', 'Reel', 'Waltz', 'Polka', 'Hornpipe', 'in the Morning', 'of Mallow', 'No. 2', 'Set',
          'Fancy', 'Delight', 'an Bhóthair', 'på Fjellet', '', 'Air', 'Rambles', 'Return')
-RHYTHMS = {'jig': '6/8', 'reel': '4/4', 'Reel': 'C|', 'waltz': '3/4', 'polka': '2/4', 'slip jig': '9/8',
-           'hornpipe': '4/4', 'march': '4/4', 'air': '3/4', 'strathspey': '4/4', 'slåttar': '3/4'}
+RHYTHMS = {'jig': '6/8', 'reel': '4/4', 'Reel': 'C|', 'waltz': '3/4', 'polka': '2/4',
+           'slip jig': '9/8', 'hornpipe': '4/4', 'march': '4/4', 'air': '3/4',
+           'strathspey': '4/4', 'slåttar': '3/4'}
 KEYS = ('G', 'D', 'A', 'Em', 'Edor', 'Amix', 'Bm', 'C', 'F', 'Dmix', 'Ador', 'Gm', 'Bb', 'F#m',
         'E minor', 'D mixolydian', 'Ephr', 'none', 'HP', 'Aaeolian', 'Clyd', 'G ^c', 'Ab')
 LETTERS = 'CDEFGABcdefgab'

@@ -539,7 +539,8 @@ def check_in_browser(options, browser, file, folder):
                 if browser.run('document.documentElement.scrollWidth') > 320:
                     return f'{name} is {browser.run("document.documentElement.scrollWidth")} wide'
                 small = browser.run('''Array.from(
-                    document.querySelectorAll("input, button, select"), e => e.getBoundingClientRect()).filter(
+                    document.querySelectorAll("input, button, select"),
+                    e => e.getBoundingClientRect()).filter(
                         r => r.width && (r.width < 24 || r.height < 24)).length''')
                 if small:
                     return f'{name}: {small} fields are too small'

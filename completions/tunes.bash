@@ -44,8 +44,8 @@ _tunes_book() {
     fi
     case $((COMP_CWORD - at)).$command.$word in
     0.*) names='new add import-check find count random titles sets show edit delete undo set
-        put cut drop move export print hear site backup restore dump load check ask upgrade help -f
-        --wait --json --csv --force --help --version' ;;
+        put cut drop move export print hear site backup restore dump load check ask upgrade
+        help -f --wait --json --csv --force --help --version' ;;
     1.find.* | 1.random.*) names="title rhythm key notes $finding --json --csv" ;;
     1.count.*) names="title rhythm key notes $finding" ;;
     1.set.* | 1.put.* | 1.cut.* | 1.move.* | 1.drop.* | 2.export.* | 2.print.* | 2.site.*)

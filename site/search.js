@@ -143,6 +143,8 @@
         add(part("in"), "option", key.replace("#", "♯").replace(/(.)b/, "$1♭"), {value: key});
     }
     stave();
+    // A telephone writes no capital by itself: it would be a lower note.
+    part("notes").autocapitalize = "off";
     part("search").hidden = false;
     part("search").addEventListener("input", search);
     part("search").addEventListener("submit", event => event.preventDefault());

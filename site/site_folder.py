@@ -129,7 +129,7 @@ class Site:
 
     def keep(self, name: str, size: Optional[int] = None) -> bool:
         """Takes over a file of the old folder, if it is there with that size."""
-        old, new = os.path.join(self.path, name), os.path.join(self.new, name)
+        old, new = f'{self.path}/{name}', f'{self.new}/{name}'
         try:
             if size is not None and os.lstat(old).st_size != size:
                 return False
@@ -144,7 +144,7 @@ class Site:
         return True
 
     def write(self, name: str, data: bytes) -> None:
-        write_file(os.path.join(self.new, name), data)
+        write_file(f'{self.new}/{name}', data)
 
     def finish(self, state: Dict[str, object]) -> None:
         """Gives the new folder its name, and takes the old one away."""
