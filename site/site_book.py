@@ -4,6 +4,7 @@ import json
 import os
 import re
 from dataclasses import dataclass, field
+from functools import cached_property
 from typing import Dict, Iterable, List, Optional, Tuple
 
 import read_archive
@@ -14,6 +15,7 @@ from site_words import NO_ARCHIVE, Stopped
 # BYTES AS TEXT
 
 CONTROLS = re.compile('[\x00-\x1f\x7f-\x9f]')
+BUT_LINES = re.compile('[\x00-\x08\x0b-\x1f\x7f-\x9f]')
 
 
 def text_of(data: bytes) -> str:
@@ -28,6 +30,15 @@ def text_of(data: bytes) -> str:
 def label_of(data: bytes) -> str:
     """The same as people see it, where control characters stand as U+FFFD."""
     return CONTROLS.sub('\N{REPLACEMENT CHARACTER}', text_of(data))
+
+
+def lines_of(data: bytes) -> str:
+    """The same of lines, each of which is read by itself."""
+    try:
+        text = data.decode('utf-8')
+    except UnicodeDecodeError:
+        text = '\n'.join(map(text_of, data.split(b'\n')))
+    return BUT_LINES.sub('\N{REPLACEMENT CHARACTER}', text)
 
 
 # WHAT THE ARCHIVE HOLDS
@@ -51,11 +62,11 @@ class Tune:
     origin: str = ''
     sets: List[str] = field(default_factory=list)
 
-    @property
+    @cached_property
     def label(self) -> str:
         return label_of(self.titles[0]) if self.titles else f'Tune {self.number}'
 
-    @property
+    @cached_property
     def kind(self) -> str:
         """Its rhythm and its key, in short."""
         return ', '.join(filter(None, (label_of(self.rhythm), key_name(self.scale))))
@@ -86,8 +97,10 @@ class Book:
 
 @dataclass
 class Keys:
-    """The keys that tunes have in the indexes of rhythms, scales and openings, by number."""
+    """What tunes have in the indexes of rhythms, scales and openings, and their revisions, by number.
+    """
     notes: int
+    revisions: Dict[int, int]
     rhythms: Dict[int, bytes]
     scales: Dict[int, bytes]
     incipits: Dict[int, bytes]
@@ -101,8 +114,14 @@ def indexes(path: str) -> Keys:
         found = []
         with pages.noting():
             root = pages.image(0, 'the root')
-            version, _, _, *firsts = (read_archive.number(root, 4 * place) for place in range(6))
+            version, numbers, _, *firsts = (read_archive.number(root, 4 * place)
+                                            for place in range(6))
             layout = read_archive.LAYOUTS[version]
+            index = read_archive.Index(pages, numbers, 'numbers', layout.key, layout.tunes)
+            # The first two bytes of a tune are its revision.
+            found.append({read_archive.number(key): read_archive.number(
+                pages.image(first, 'a tune'), read_archive.LINK_HEAD, 2)
+                          for key, first, _ in index.entries})
             for what, first in zip(('rhythms', 'scales', 'incipits'), firsts):
                 width = layout.incipit_key if what == 'incipits' else layout.key
                 index = read_archive.Index(pages, first, what, width, layout.tunes)
@@ -125,26 +144,36 @@ def index_title(title: bytes) -> bytes:
     return article[1] + b', ' + title[:article.start(1)].rstrip(b' \t')
 
 
-def field_of(text: bytes, letter: bytes) -> str:
-    """The first value of a field of the header that is not empty."""
-    header = (b'\n' + text).partition(b'\nK:')[0].split(b'\n')
-    values = (search_keys.value_of(line) for line in header if line.startswith(letter + b':'))
-    return label_of(next(filter(None, values), b''))
+def fields_of(text: bytes, letters: bytes) -> List[str]:
+    """The first value of each of these fields of the header that is not empty."""
+    values: Dict[int, str] = {}
+    for line in (b'\n' + text).partition(b'\nK:')[0].split(b'\n'):
+        if line[1:2] == b':' and line[0] in letters and not values.get(line[0]):
+            values[line[0]] = label_of(search_keys.value_of(line))
+    return [values.get(letter, '') for letter in letters]
 
 
-def tune_of(given: 'tunes_archive.Tune', titles: List[bytes], keys: Keys) -> Tune:
+def tune_of(number: int, text: bytes, titles: List[bytes], keys: Keys) -> Tune:
     """A tune, whose texts have to say what the indexes say."""
-    number, text = given.number, given.text
     own, rhythm, _ = search_keys.fields_of(text)
     places = {index_title(title): place for place, title in reversed(list(enumerate(own)))}
     key = keys.rhythms.get(number, b'')
     if sorted(map(index_title, own)) != sorted(titles) or rhythm.lower()[:32].ljust(
             32 if rhythm else 0, b'\0') != key:
         raise Stopped(f'tune {number} is not as the indexes say; `tunes-book check` looks at them')
-    return Tune(number, given.revision, text, sorted(titles, key=lambda title: places[title]),
-                rhythm, keys.scales.get(number, b'').rstrip(b'\0').decode('ascii'),
-                steps_of(keys.incipits.get(number, b'')), field_of(text, b'M'),
-                field_of(text, b'C'), field_of(text, b'O'))
+    return Tune(number, keys.revisions[number], text,
+                sorted(titles, key=lambda title: places[title]), rhythm,
+                keys.scales.get(number, b'').rstrip(b'\0').decode('ascii'),
+                steps_of(keys.incipits.get(number, b'')), *fields_of(text, b'MCO'))
+
+
+def texts_in(export: bytes) -> Dict[int, bytes]:
+    """The texts of a written book, by number: an empty line stands before each tune alone."""
+    texts = {}
+    for piece in export.rstrip(b'\n').split(b'\n\nX:')[1:]:
+        number, _, text = piece.partition(b'\n')
+        texts[int(number)] = text + b'\n'
+    return texts
 
 
 def read_book(path: str, name: Optional[str], wait: float) -> Book:
@@ -155,15 +184,15 @@ def read_book(path: str, name: Optional[str], wait: float) -> Book:
         if name is not None:
             sets = [given for given in sets if given.name == name] or [archive.set_show(name)]
             numbers = sorted({place.row.number for place in sets[0].places})
+            texts = {number: archive.show(number).text for number in numbers}
         else:
-            export = b'\n' + archive.export()
-            numbers = [int(number) for number in re.findall(rb'\nX:([0-9]+)\n', export)]
-        titles: Dict[int, List[bytes]] = {number: [] for number in numbers}
+            texts = texts_in(archive.export())
+        titles: Dict[int, List[bytes]] = {number: [] for number in texts}
         rows = [row for row in rows if row.number in titles]
         for row in rows:
             titles[row.number].append(row.title_bytes or b'')
         keys = indexes(path)
-        tunes = {number: tune_of(archive.show(number), titles[number], keys) for number in numbers}
+    tunes = {number: tune_of(number, text, titles[number], keys) for number, text in texts.items()}
     for given in sets:
         for number in dict.fromkeys(place.row.number for place in given.places):
             tunes[number].sets.append(given.name)

@@ -29,8 +29,9 @@ def is_made_here(path: str) -> bool:
         bad(f'{path} is there, and is no folder; name another one')
     names = os.listdir(path)
     mark = os.path.join(path, MARK)
+    # A loss of power may leave a mark without its bytes.
     if names and (os.path.islink(mark) or not os.path.isfile(mark) or not (
-            read_file(mark).startswith(FORMAT_LINE) or read_file(mark) == b'')):
+            read_file(mark).startswith(FORMAT_LINE) or not read_file(mark).strip(b'\0'))):
         bad(f'{path} is a folder that this command did not make; name another one')
     for own in foreign(path):
         bad(f'{own} is in a folder of this command, which did not make it; move it away')
@@ -70,7 +71,9 @@ def exchanged(first: str, second: str) -> bool:
 
 def settle(path: str) -> None:
     """Has the device write all files of a folder."""
-    if subprocess.run(['sync', '-f', path], stderr=subprocess.DEVNULL, check=False).returncode:
+    try:
+        subprocess.run(['sync', '-f', path], stderr=subprocess.DEVNULL, check=True)
+    except (OSError, subprocess.CalledProcessError):
         os.sync()
 
 

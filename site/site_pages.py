@@ -1,11 +1,12 @@
 """The pages of a site, as HTML. Each text of a tune goes through `shown`."""
 import html
 import os
+import re
 import string
 from dataclasses import dataclass
 from typing import Dict, Iterator, List, Optional, Tuple
 
-from site_book import Book, Tune, key_name, label_of, text_of
+from site_book import Book, Tune, key_name, label_of, lines_of, text_of
 
 PARTS = os.path.dirname(os.path.realpath(__file__))
 MOST_ROWS, MOST_LIKE = 1500, 30
@@ -17,8 +18,11 @@ def template(name: str) -> string.Template:
         return string.Template(file.read())
 
 
+MARKED = re.compile('[&<>"\']')
+
+
 def shown(text: str) -> str:
-    return html.escape(text)
+    return html.escape(text) if MARKED.search(text) else text
 
 
 def counted(count: int, what: str) -> str:
@@ -187,14 +191,12 @@ class Pages:
         told = (('Number', str(tune.number)), ('Rhythm', label_of(tune.rhythm)),
                 ('Key', key_name(tune.scale)), ('Metre', tune.metre),
                 ('Composer', tune.composer), ('Origin', tune.origin))
-        return '<dl class="facts">' + ''.join(
-            f'<div><dt>{name}</dt><dd>{shown(word)}</dd></div>' for name, word in told if word
-        ) + '</dl>\n'
+        return '<ul class="facts">' + ''.join(
+            f'<li><small>{name}</small> {shown(word)}</li>' for name, word in told if word
+        ) + '</ul>\n'
 
     def tune(self, tune: Tune) -> str:
         number = tune.number
-        text = '\n'.join('\t'.join(map(label_of, line.split(b'\t')))
-                         for line in tune.text.split(b'\n'))
         others = ''.join(f'<p class="also">{shown(label_of(title))}</p>\n'
                          for title in tune.titles[1:])
         sound = f'<li><a href="../sound/{number}.mid" download>Sound (MIDI)</a></li>' \
@@ -203,7 +205,7 @@ class Pages:
             f'{self.music(tune, "../")}<ul class="files">{sound}' \
             f'<li><a href="../abc/{number}.abc" download>Book (ABC)</a></li></ul>\n' \
             f'{self.like(tune)}<h2 id="abc">ABC</h2>\n<pre tabindex="0" aria-labelledby="abc">' \
-            f'<code>X:{number}\n{shown(text)}</code></pre>\n</article>\n'
+            f'<code>X:{number}\n{shown(lines_of(tune.text))}</code></pre>\n</article>\n'
         return self.whole(f'{tune.label} – {self.book.name}', body, '', '../', 'copy')
 
     def like(self, tune: Tune) -> str:
