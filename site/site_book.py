@@ -97,8 +97,7 @@ class Book:
 
 @dataclass
 class Keys:
-    """What tunes have in the indexes of rhythms, scales and openings, and their revisions, by number.
-    """
+    """What tunes have in the indexes of rhythms, scales and openings, and revisions, by number."""
     notes: int
     revisions: Dict[int, int]
     rhythms: Dict[int, bytes]
