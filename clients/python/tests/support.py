@@ -52,17 +52,20 @@ class InFolder(unittest.TestCase):
         self.folder = tempfile.mkdtemp(prefix='tunes-client-', dir=room())
         self.addCleanup(shutil.rmtree, self.folder, ignore_errors=True)
         self.path = self.at('tunes.abcx')
+        self.archives = []
 
     def at(self, name):
         return os.path.join(self.folder, name)
 
     def tearDown(self):
+        for archive in self.archives:
+            archive.close()
         self.assertNoneLeft()
 
     def make(self, book=b'', path=None, **options):
         """An archive with the tunes of a book."""
         archive = Archive.make(path or self.path, programs=programs(), **options)
-        self.addCleanup(archive.close)
+        self.archives.append(archive)
         if book:
             archive.import_book(book)
             archive.let_go()
@@ -70,7 +73,7 @@ class InFolder(unittest.TestCase):
 
     def open(self, **options):
         archive = Archive(self.path, programs=programs(), **options)
-        self.addCleanup(archive.close)
+        self.archives.append(archive)
         return archive
 
     def left(self):
@@ -114,7 +117,7 @@ class InFolder(unittest.TestCase):
     def faked(self, body, **options):
         """An archive over a fake program, which has answered that the file is open."""
         archive = Archive(self.path, programs=self.fake('probed()\n' + body), **options)
-        self.addCleanup(archive.close)
+        self.archives.append(archive)
         return archive
 
     def brief(self, reply, then='cat > /dev/null', **options):
@@ -125,7 +128,7 @@ class InFolder(unittest.TestCase):
                        f"printf '{''.join(f'%c{byte:03o}' % 92 for byte in reply)}'\n{then}\n")
         os.chmod(path, 0o755)
         archive = Archive(self.path, programs=Programs(path, path), **options)
-        self.addCleanup(archive.close)
+        self.archives.append(archive)
         return archive
 
     def script(self, body):
@@ -135,7 +138,7 @@ class InFolder(unittest.TestCase):
                 f'programs = Programs({program("TUNES")!r}, {program("TUNES_DESK")!r})\n'
                 f'archive = Archive({self.path!r}, programs=programs, hold=600)\n{body}\n')
         return subprocess.Popen([sys.executable, '-B', '-c', text], stdin=subprocess.PIPE,
-                                stdout=subprocess.PIPE)
+                                stdout=subprocess.PIPE, stderr=subprocess.DEVNULL)
 
 
 FAKE = r'''

@@ -268,11 +268,16 @@ try:
     print(len(archive.titles()))
 except Unopened as fault:
     print('asking', fault)
+except NoProgram:
+    print('left out')
+    sys.exit()
 try:
     archive.set_new('a')
 except Unopened as fault:
     print('changing', fault)
 '''], stdout=subprocess.PIPE, check=True)
+            if ended.stdout == b'left out\n':
+                self.skipTest('nobody but root may run the programs where they are')
             asked, changed = ended.stdout.decode().splitlines()
             self.assertIn('ermission', changed)
             self.assertTrue(changed.startswith('changing '))
@@ -288,7 +293,7 @@ except Unopened as fault:
                        f'exec "{program("TUNES")}" "$@"\n')
         os.chmod(path, 0o755)
         archive = Archive(self.path, programs=Programs(path, programs().tunes_desk))
-        self.addCleanup(archive.close)
+        self.archives.append(archive)
         for _ in range(2):
             with self.assertRaises(Device) as raised:
                 archive.import_book(SESSION * 20)

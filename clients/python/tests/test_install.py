@@ -126,6 +126,19 @@ class Installed(InFolder):
                 self.assertEqual(printed.returncode, 1)
         self.assertEqual(self.run_example(python, 'none', 'sets', **more).returncode, 1)
 
+    def test_what_the_page_shows(self):
+        with self.make(read('examples', 'session.abc')) as archive:
+            page = read('clients', 'python', 'README.md').decode()
+            block = page.partition('```python\n')[2].partition('```')[0]
+            ended = subprocess.run(
+                [sys.executable, '-B', '-c', block], stdout=subprocess.PIPE, check=True,
+                cwd=self.folder, env={**os.environ, 'PYTHONPATH': CLIENT,
+                                      'TUNES': program('TUNES'),
+                                      'TUNES_DESK': program('TUNES_DESK')})
+            self.assertEqual(ended.stdout, b'6 Drowsy Maggie\n')
+            self.assertEqual(archive.show(3).revision, 2)
+            self.assertTrue(archive.show(3).text.endswith(b'\n% checked\n'))
+
     def test_without_an_install(self):
         self.look(sys.executable, PYTHONPATH=CLIENT)
 

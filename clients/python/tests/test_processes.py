@@ -1,12 +1,14 @@
 """No program is left behind, however the Python program ends; forks, signals and garbage."""
 import gc
 import os
+import random
 import signal
 import subprocess
 import sys
 import threading
 import time
 import unittest
+from unittest import mock
 
 from support import CLIENT, KESH, PATIENCE, InFolder, programs
 
@@ -40,10 +42,9 @@ class Ends(InFolder):
         for begin in (self.OPEN, self.CHANGE):
             for end in ('', 'archive.close()', 'del archive', 'sys.exit(3)', 'raise KeyError()',
                         'os._exit(0)', 'os.abort()', 'os.kill(os.getpid(), signal.SIGKILL)',
-                        'os.execvp("true", ["true"])', 'signal.signal(13, signal.SIG_DFL)',
-                        'archive.path = archive'):
+                        'os.execvp("true", ["true"])',
+                        'import atexit; atexit.register(archive.titles)'):
                 with self.subTest(end=end):
-                    self.path = self.at('tunes.abcx')
                     process = self.begin(begin.replace('"a"', repr(f'a{id(end)}')) + end)
                     process.wait(PATIENCE)
                     self.assertNoneLeft(5)
@@ -65,12 +66,15 @@ class Ends(InFolder):
     def test_is_killed_within_an_import(self):
         # each time somewhere else in a book of 3 MB, or in what is made of it
         for count in range(8):
-            process = self.begin(self.SAY + 'archive.import_book(b"X:1\\nK:C\\nCDEF\\n" * 200000)')
+            process = self.begin(f'''
+tune = b"X:1\\nK:C\\n" + b"CDEFGABc " * 80 + b"\\n"
+{self.SAY}
+archive.import_book(tune * 4000)''')
             time.sleep(0.02 * count)
             process.kill()
             process.wait(PATIENCE)
             self.assertNoneLeft()
-        self.assertIn(self.open(wait=PATIENCE).check().tunes % 200_000, (2,))
+        self.assertEqual(self.open(wait=PATIENCE).check().tunes % 4_000, 2)
 
     def test_is_killed_while_it_waits(self):
         with self.open(hold=600) as other, other.changing():
@@ -104,39 +108,43 @@ class Ends(InFolder):
     def test_interrupts_at_any_moment(self):
         process = self.begin(f'''
 archive = Archive({self.path!r}, programs=programs, hold=0.005, wait=60)
-archive.set_new('list')
+archive.set_new("list")
+inside, caught, done = False, 0, 0
+
+def interrupt(*_):
+    global inside
+    if inside:
+        inside = False
+        raise KeyboardInterrupt
+
+signal.signal(signal.SIGINT, interrupt)
 {self.SAY}
-done, caught = 0, 0
-while True:
+while caught < 60:
     try:
-        if sys.stdin.closed or done >= 150 and caught >= 60:
-            break
+        inside = True
         if done % 3 == 0:
-            archive.set_add('list', 1)
-            archive.set_cut('list', 1)
+            place = archive.set_add("list", 1)
+            archive.set_cut("list", place)
         elif done % 3 == 1:
-            assert archive.find_title('kesh')[0].number == 1
+            assert archive.find_title("kesh")[0].number == 1
         else:
             with archive.reading():
                 assert len(archive.titles()) == 2
-        done += 1
+        inside = False
     except KeyboardInterrupt:
         caught += 1
-signal.signal(signal.SIGINT, signal.SIG_IGN)
+    done += 1
 archive.let_go()
 assert archive.show(1).number == 1
 archive.let_go()
-sys.stdout.write('done\\n')
+sys.stdout.write("done\\n")
 sys.stdout.flush()
 time.sleep(600)''')
         ended = threading.Event()
 
         def interrupt():
-            pause = 0.001
-            while not ended.is_set():
+            while not ended.wait(random.choice((0.001, 0.003, 0.01, 0.03, 0.1))):
                 process.send_signal(signal.SIGINT)
-                pause = pause * 1.3 if pause < 0.02 else 0.001
-                time.sleep(pause)
 
         thread = threading.Thread(target=interrupt)
         thread.start()
@@ -246,6 +254,14 @@ class Within(InFolder):
                 archive.set_new('a')
                 archive.set_drop('a')
         self.assertEqual(descriptors(), before)
+
+    def test_where_no_thread_can_be_made(self):
+        archive = self.open(hold=600)
+        with mock.patch.object(threading.Thread, 'start', side_effect=RuntimeError):
+            self.assertEqual(archive.sets(), [])
+            self.assertEqual(self.left(), [])
+        self.assertEqual(archive.sets(), [])
+        self.assertEqual(len(self.left()), 1)
 
     def test_a_call_within_a_call(self):
         # a signal comes while a reply is waited for

@@ -26,24 +26,28 @@ def cases():
 
 
 def commands_of(script):
-    """The commands of a script, each with its book; None where one is longer than a line."""
-    at = 0
+    """The commands of a script, each with its book, and whether it ends behind the last of them."""
+    found, front, at = [], b'', 0
     while at < len(script):
         end = script.find(b'\n', at)
         end = len(script) if end < 0 else end + 1
-        line, at = script[at:end], end
-        words = line.strip(b' \t\r\n').replace(b'\t', b' ').split()
-        if len(line.rstrip(b'\n')) > 4096:
-            return
+        line, at = front + script[at:end], end
+        words = line.replace(b'\t', b' ').split()
         book = b''
-        if words and words[-1].isdigit() and len(words[-1]) < 10 and (
-                (words[0] == b'import' and len(words) == 2)
-                or (words[0] == b'replace' and len(words) == 4
-                    and all(word.isdigit() and len(word) < 10 for word in words[1:]))):
+        if has_book(words):
             book = script[at:at + int(words[-1])]
-            at += len(book)
+            at += int(words[-1])
         if words:
-            yield words, line + book
+            found.append((words, line + book))
+        front = b'' if words else line
+    return found, at == len(script) and script.endswith(b'\n') and not front
+
+
+def has_book(words):
+    """Whether a book follows these words."""
+    numbers = words[1:]
+    return (words[:1], len(numbers)) in (([b'import'], 1), ([b'replace'], 3)) and all(
+        word.isdigit() and len(word) < 10 for word in numbers)
 
 
 class Written:
@@ -122,11 +126,10 @@ class WorkedScripts(InFolder):
         count = 0
         archive = self.open()
         for case, layout, script, told, ends in cases():
-            commands = list(commands_of(script))
-            asked = []
+            (commands, _), asked = commands_of(script), []
             while commands and commands[-1][0][0] in QUESTIONS:
                 asked.insert(0, commands.pop()[1])
-            if not ends or not asked or b'\n' not in asked[-1]:
+            if not ends or not asked or not script.endswith(b'\n'):
                 continue
             with self.subTest(case=case, layout=layout):
                 self.begin(layout)
@@ -142,14 +145,16 @@ class WorkedScripts(InFolder):
         # each reply is read by the client as the type that it is, and nothing of it is left
         count = 0
         for case, layout, script, told, ends in cases():
-            if not ends or not script.endswith(b'\n'):
+            # One that ends within a line or a book goes on as long as nobody closes it.
+            commands, whole = commands_of(script)
+            if not ends or not whole:
                 continue
             with self.subTest(case=case, layout=layout):
                 self.begin(layout)
                 run = Run(programs().tunes, [b'run', os.fsencode(self.path)], None, 60)
                 try:
                     came = b''
-                    for words, command in commands_of(script):
+                    for words, command in commands:
                         taker = Written(words)
                         outcome, = run.exchange(command, [taker])
                         came += taker.bytes

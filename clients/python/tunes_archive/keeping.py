@@ -90,7 +90,7 @@ class Keeper:
                 self._lines += len(takers)
                 if self._use is use:
                     self._end = time.monotonic() + self._hold
-                if self._hold == 0 and not self._blocks:
+                if not self._blocks and not self._is_held():
                     self._leave()
             finally:
                 self._within = False
@@ -304,11 +304,21 @@ class Keeper:
             run.end()
             self._left.notify_all()
 
+    def _is_held(self) -> bool:
+        """Whether the file stays open behind a call: something lets go of it in time then."""
+        return self._watched or self._hold == math.inf
+
     def _watch(self) -> None:
-        """Has a thread let go of the file in time."""
+        """Has a thread let go of the file in time, where there can be one."""
         if not self._watched and 0 < self._hold < math.inf:
+            thread = threading.Thread(target=self._let_go_in_time, daemon=True,
+                                      name='tunes_archive')
+            try:
+                thread.start()
+            except RuntimeError:
+                # There are too many, or this process is about to end.
+                return
             self._watched = True
-            threading.Thread(target=self._let_go_in_time, daemon=True, name='tunes_archive').start()
 
     def _let_go_in_time(self) -> None:
         with self._lock:

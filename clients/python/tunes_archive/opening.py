@@ -22,7 +22,8 @@ MEND = 'let one who may write to it open it once, as by `tunes-book check`'
 _IN_USE = (b'another program has it',
            b'a stop left it within a change, and another program has it')
 _MISSING = (b'there is no such file', b'No such file', b'Not a directory', b'entity not found')
-_NO_FILE = (b'not a regular file', b'it is no regular file', b'Is a directory')
+_NO_FILE = (b'not a regular file', b'it is no regular file', b'Is a directory',
+            b'File name too long', b'Too many levels of symbolic links')
 _RIGHTS = (b'Permission denied', b'permission denied', b'Operation not permitted',
            b'Read-only file system')
 
