@@ -144,7 +144,7 @@ class Pages:
                       for place, section in zip(places, sections))
         is_index = file == 'index'
         kind, level = ('letter', 'h3') if is_index else ('name', 'h2')
-        bar = f'<nav class="{kind}s" aria-label="Parts of the list"><ul>{bar}</ul></nav>\n'
+        bar = bar and f'<nav class="{kind}s" aria-label="Parts of the list"><ul>{bar}</ul></nav>\n'
         for count, parts in enumerate(pages, 1):
             first = head if count == 1 else f'<h1>{title}, page {count}</h1>\n'
             lists = ''.join(f'<section class="part {kind}"><{level} id="{name}">'
