@@ -100,6 +100,13 @@ if command -v python3 > told; then
     python3 -B "$doc/examples/read_archive.py" check tunes.abcx > told 2>&1
     grep -q '15 tunes' told || echo "read_archive.py prints '$(tail -n 1 told)'"
 fi
+if ! command -v python3 > told; then
+    wanted='tunes-book: the program python3 is not found; install it, or put it on PATH'
+    prints tunes-book site pages
+elif command -v abcm2ps > told; then
+    wanted='pages: 15 tunes, 0 set lists; 15 tunes drawn'
+    prints tunes-book site pages
+fi
 cd / && rm -rf "$work"
 END
     cat > try/inside << 'END'
@@ -149,8 +156,9 @@ case_of_control() {
     dpkg-deb --field "$package" > fields
     version=$(unpacked/usr/bin/tunes --version)
     printf '%s\n' 'Package: tunes' "Version: ${version#tunes }" \
-        "Architecture: $(dpkg --print-architecture)" 'Recommends: abcm2ps, abcmidi, ghostscript' \
-        'Suggests: python3' 'Section: sound' 'Priority: optional' > wanted
+        "Architecture: $(dpkg --print-architecture)" \
+        'Recommends: abcm2ps, abcmidi, ghostscript, python3' 'Section: sound' \
+        'Priority: optional' > wanted
     while read -r line; do
         grep -qxF "$line" fields || wrong "no line '$line'"
     done < wanted
@@ -185,8 +193,9 @@ case_of_contents() {
         $6 !~ /^\.\/(usr\/.*)?$/ { print; exit }' contents > told
     [ ! -s told ] || wrong "it has '$(cat told)'"
     [ "$(awk '{ print $4, $5 }' contents | sort -u | wc -l)" -eq 1 ] || wrong 'the times differ'
-    (cd unpacked && find usr -type f ! -path 'usr/share/doc/*' | sort) > found
-    printf 'usr/%s\n' bin/tunes bin/tunes-book bin/tunes-desk \
+    (cd unpacked && find usr -type f ! -path 'usr/share/doc/*' ! -path 'usr/share/tunes/*' |
+        sort) > found
+    printf 'usr/%s\n' bin/tunes bin/tunes-book bin/tunes-desk bin/tunes-site \
         share/bash-completion/completions/tunes share/bash-completion/completions/tunes-book \
         share/man/man1/tunes-book.1.gz \
         share/man/man1/tunes.1.gz share/zsh/vendor-completions/_tunes > wanted
@@ -195,6 +204,10 @@ case_of_contents() {
         gzip -dc "unpacked/usr/share/man/man1/$page.1.gz" | cmp -s - "$root/docs/$page.1" ||
             wrong "$page.1 is another"
     done
+    (cd "$root" && ls site/*.* && cd clients/python && ls tunes_archive/*.*
+        echo read_archive.py; echo search_keys.py) | sort > wanted
+    (cd unpacked/usr/share/tunes && find . -type f | sed 's|^\./||' | sort) > found
+    diff wanted found > told || wrong "what tunes-site reads is other: $(sed -n 2p told)"
     doc=unpacked/usr/share/doc/tunes
     for page in copyright README.md docs/USING.md examples/read_archive.py; do
         [ -f "$doc/$page" ] || wrong "it has no $page"

@@ -2633,7 +2633,7 @@ cases_of_pages() {
     mkdir -p "${built%/*}" "${built_desk%/*}"
     cp "$program" "$built"
     cp "$desk" "$built_desk"
-    printf './%s\n' bin/tunes bin/tunes-book bin/tunes-desk \
+    printf './%s\n' bin/tunes bin/tunes-book bin/tunes-desk bin/tunes-site \
         share/bash-completion/completions/tunes share/bash-completion/completions/tunes-book \
         share/man/man1/tunes-book.1 \
         share/man/man1/tunes.1 share/zsh/site-functions/_tunes > wanted
@@ -2645,8 +2645,13 @@ cases_of_pages() {
         status=$?
         words="install under $each"
         done_with ''
-        (cd to && find . ! -type d ! -path './share/doc/tunes/*' | LC_ALL=C sort) > found
+        (cd to && find . ! -type d ! -path './share/doc/tunes/*' ! -path './share/tunes/*' |
+            LC_ALL=C sort) > found
         same found wanted
+        for part in site clients/python/tunes_archive; do
+            diff -r top/$part to/share/tunes/${part##*/} > "$work/told" ||
+                wrong "what tunes-site reads differs: $(head -n 1 "$work/told")"
+        done
         diff -r top "$there" | grep -v '^Only in top' > "$work/told" &&
             wrong "the pages differ, after '$words': $(head -n 1 "$work/told")"
         (cd "$there" && find . -type f ! -perm 644) > found

@@ -29,7 +29,8 @@ NO_SOURCES = {'.git', 'out', 'data', 'must-fail', '__pycache__'}
 SCRATCH = 'bench/work'
 WIDTH, PROOF_WIDTH = 100, 160
 MOST_LINES = {'README.md': 120, 'docs/ARCHITECTURE.md': 100}
-SCRIPTS = ('build', 'tunes', 'tunes-desk', 'tunes-book', 'test', 'install', 'release', 'LICENSE')
+SCRIPTS = ('build', 'tunes', 'tunes-desk', 'tunes-book', 'tunes-site', 'test', 'install', 'release',
+           'LICENSE')
 RECIPE_PAGES = ('README.md', 'docs/USING.md', 'docs/PLAYERS.md')
 NAME_PAGES = ('docs/PROOFS.md', 'docs/ARCHITECTURE.md', 'docs/GLOSSARY.md', 'docs/DECISIONS.md',
               'docs/PIPE-TO-PLATTER.md', 'docs/RESULTS.md')

@@ -592,6 +592,21 @@ else
     skip hear-set abc2midi
 fi
 
+if command -v abcm2ps > "$work/out" && command -v python3 > "$work/out"; then
+    go_on 'pages for the web'
+    run site
+    ends_with 0
+    grep -q '^pages: 15 tunes, 1 set list; 15 tunes drawn$' "$work/out" || wrong 'it says another'
+    run_again site
+    ends_with 0
+    grep -q '^pages: 15 tunes, 1 set list; 0 tunes drawn$' "$work/out" || wrong 'it draws again'
+    has 'friday-pages mine.abc pages tunes.abcx tunes.abcx.old.abc'
+    rm -r pages friday-pages
+    end
+else
+    skip site 'abcm2ps or python3'
+fi
+
 # Another program has the archive open, by these words, until `let_go`.
 hold() {
     mkfifo script

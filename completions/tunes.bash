@@ -44,18 +44,18 @@ _tunes_book() {
     fi
     case $((COMP_CWORD - at)).$command.$word in
     0.*) names='new add import-check find count random titles twins sets show edit delete undo
-        set put cut drop move export print hear backup restore dump load check ask upgrade help
-        -f --wait --json --csv --force --help --version' ;;
+        set put cut drop move export print hear site backup restore dump load check ask upgrade
+        help -f --wait --json --csv --force --help --version' ;;
     1.find.* | 1.random.*) names="title rhythm key notes $finding --json --csv" ;;
     1.count.*) names="title rhythm key notes $finding" ;;
-    1.set.* | 1.put.* | 1.cut.* | 1.move.* | 1.drop.* | 2.export.* | 2.print.*)
+    1.set.* | 1.put.* | 1.cut.* | 1.move.* | 1.drop.* | 2.export.* | 2.print.* | 2.site.*)
         names=$("${COMP_WORDS[0]}" -f "$file" sets 2> /dev/null | cut -d ' ' -f 1) ;;
     1.add.-*) names='--new --split --dry' ;;
     1.export.-* | 1.print.-*) names='--force --tune' ;;
     1.hear.-* | 1.dump.-*) names='--force' ;;
     1.titles.* | 1.twins.* | 1.sets.*) names='--json --csv' ;;
     *.add.* | *.import-check.* | 1.export.* | 1.print.* | 1.backup.* | 1.restore.* | 1.dump.* | \
-        1.load.* | 2.hear.*) _tunes_files "$word"; return ;;
+        1.load.* | 1.site.* | 2.hear.*) _tunes_files "$word"; return ;;
     esac
     mapfile -t COMPREPLY < <(compgen -W "$names" -- "$word")
 }
