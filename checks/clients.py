@@ -14,6 +14,7 @@ A PART is the name of a file of tests without `test_` and `.py`, or `c`; without
 A line is printed for each file of tests, and what failed; what is left out is told with its reason.
 The status is 1 where something failed.
 """
+import faulthandler
 import io
 import os
 import subprocess
@@ -26,6 +27,8 @@ ROOT = os.path.dirname(os.path.dirname(os.path.abspath(__file__)))
 TESTS = os.path.join(ROOT, 'clients', 'python', 'tests')
 IN_C = os.path.join(ROOT, 'clients', 'c', 'check.sh')
 OLDEST = (3, 9)
+# How many seconds the tests of a file may take; after that all end, and what they were at is told.
+MOST = 300
 
 
 def parts():
@@ -37,8 +40,10 @@ def parts():
 def passes(part):
     """Whether the tests of a file pass; prints what does not."""
     begun, told = time.monotonic(), io.StringIO()
+    faulthandler.dump_traceback_later(MOST, exit=True)
     suite = unittest.defaultTestLoader.loadTestsFromName('test_' + part)
     result = unittest.TextTestRunner(stream=told, verbosity=0).run(suite)
+    faulthandler.cancel_dump_traceback_later()
     for test, why in result.skipped:
         print(f'left out  {part}: {test.id()}: {why}')
     if result.wasSuccessful():

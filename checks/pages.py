@@ -35,7 +35,7 @@ RECIPE_PAGES = ('README.md', 'docs/USING.md', 'docs/PLAYERS.md')
 NAME_PAGES = ('docs/PROOFS.md', 'docs/ARCHITECTURE.md', 'docs/GLOSSARY.md', 'docs/DECISIONS.md',
               'docs/PIPE-TO-PLATTER.md', 'docs/RESULTS.md')
 PATH = re.compile(r'(crates|docs|bench|checks|examples|completions)/[\w./*-]*')
-EXAMPLE = re.compile(r'\bexamples/\w[\w.-]*\w')
+EXAMPLE = re.compile(r'(?<![/\w])\bexamples/\w[\w.-]*\w')
 FILE_NAME = re.compile(r'\w+\.(rt|antt)')
 NAME = re.compile(r'[A-Za-z]\w*(::[A-Za-z]\w*)*|[a-z0-9]+(-[a-z0-9]+)+')
 LINK = re.compile(r'\[([^\]]*)\]\(([^()\s]+)\)')

@@ -100,6 +100,13 @@ class InFolder(unittest.TestCase):
             os.kill(number, signal.SIGKILL)
         self.assertEqual(left, [])
 
+    def assertLeft(self, count, within=PATIENCE):
+        """So many programs are over the folder, once those that are about to end have ended."""
+        end = time.monotonic() + within
+        while len(self.left()) > count and time.monotonic() < end:
+            time.sleep(0.01)
+        self.assertEqual(len(self.left()), count)
+
     def kill_all(self):
         """Kills the programs over the folder, and waits until they are gone."""
         for number, _ in self.left():

@@ -1,4 +1,5 @@
 """No program is left behind, however the Python program ends; forks, signals and garbage."""
+import _thread
 import gc
 import os
 import random
@@ -58,7 +59,7 @@ class Ends(InFolder):
                     process = self.begin(
                         'import resource\nresource.setrlimit(resource.RLIMIT_CORE, (0, 0))\n'
                         + body.replace('"a"', repr(f'a{number}')) + 'time.sleep(600)')
-                    self.assertEqual(len(self.left()), 1)
+                    self.assertLeft(1)
                     process.send_signal(number)
                     process.wait(PATIENCE)
                     self.assertNoneLeft(5)
@@ -89,7 +90,7 @@ archive.import_book(tune * 4000)''')
                 end = time.monotonic() + 5
                 while len(self.left()) > 1 and time.monotonic() < end:
                     time.sleep(0.01)
-                self.assertEqual(len(self.left()), 1)
+                self.assertLeft(1)
 
     def test_is_killed_before_it_reads_a_reply(self):
         # a reply that fits in no pipe
@@ -100,7 +101,7 @@ archive.import_book(tune * 4000)''')
             'os.set_blocking(run._input.fileno(), True)\n'
             'os.write(run._input.fileno(), b"show 3\\n" * 100)\n' + self.SAY + 'time.sleep(600)')
         time.sleep(0.2)
-        self.assertEqual(len(self.left()), 1)
+        self.assertLeft(1)
         process.kill()
         process.wait(PATIENCE)
         self.assertNoneLeft(5)
@@ -229,20 +230,19 @@ class Within(InFolder):
         self.make(KESH).close()
 
     def test_garbage(self):
+        before = _thread._count()
         archive = Archive(self.path, programs=programs(), hold=600)
         archive.sets()
-        self.assertEqual(len(self.left()), 1)
+        self.assertLeft(1)
         del archive
         gc.collect()
         self.assertEqual(self.left(), [])
         # also where a thread waits to let go of the file
-        threads = [thread.name for thread in threading.enumerate()]
         self.assertNoneLeft(0)
         end = time.monotonic() + PATIENCE
-        while 'tunes_archive' in threads and time.monotonic() < end:
+        while _thread._count() > before and time.monotonic() < end:
             time.sleep(0.01)
-            threads = [thread.name for thread in threading.enumerate()]
-        self.assertNotIn('tunes_archive', threads)
+        self.assertLessEqual(_thread._count(), before)
 
     def test_descriptors(self):
         def descriptors():
@@ -257,11 +257,11 @@ class Within(InFolder):
 
     def test_where_no_thread_can_be_made(self):
         archive = self.open(hold=600)
-        with mock.patch.object(threading.Thread, 'start', side_effect=RuntimeError):
+        with mock.patch.object(_thread, 'start_new_thread', side_effect=RuntimeError):
             self.assertEqual(archive.sets(), [])
             self.assertEqual(self.left(), [])
         self.assertEqual(archive.sets(), [])
-        self.assertEqual(len(self.left()), 1)
+        self.assertLeft(1)
 
     def test_a_call_within_a_call(self):
         # a signal comes while a reply is waited for
@@ -328,7 +328,7 @@ class Within(InFolder):
         archive.find_title('kesh')
         self.assertEqual(self.forked(lambda: archive.find_title('kesh')), found)
         self.assertEqual(archive.find_title('kesh'), [KESH_ROW])
-        self.assertEqual(len(self.left()), 1)
+        self.assertLeft(1)
         # a process that goes on keeps no program of this one
         end, begin = os.pipe()
         number = os.fork()

@@ -22,7 +22,7 @@ class Sharing(InFolder):
         clients = [self.open(hold=600, wait=0) for _ in range(5)]
         for client in clients:
             self.assertEqual(client.find_title('kesh'), [KESH_ROW])
-        self.assertEqual(len(self.left()), 5)
+        self.assertLeft(5)
         for client in clients:
             with client.reading():
                 self.assertEqual(client.check().tunes, 2)
@@ -85,14 +85,14 @@ class Sharing(InFolder):
     def test_it_is_let_go_of_in_time(self):
         client = self.open(hold=0.3)
         client.sets()
-        self.assertEqual(len(self.left()), 1)
+        self.assertLeft(1)
         self.assertNoneLeft()
         # it is used in the meantime, and then not
         begun = time.monotonic()
         while time.monotonic() - begun < 1:
             client.sets()
             time.sleep(0.01)
-        self.assertEqual(len(self.left()), 1)
+        self.assertLeft(1)
         client.set_new('friday')
         self.assertNoneLeft()
         # questions behind a change do not keep others out
@@ -118,9 +118,9 @@ class Sharing(InFolder):
         for block in (client.reading, client.changing):
             with block():
                 client.sets()
-                self.assertEqual(len(self.left()), 1)
+                self.assertLeft(1)
                 client.sets()
-                self.assertEqual(len(self.left()), 1)
+                self.assertLeft(1)
             self.assertEqual(self.left(), [])
 
     def test_blocks(self):

@@ -4,6 +4,7 @@ A keeper has one run at most: of `tunes-desk ask`, which reads beside others tha
 `tunes run`, which has the file alone. Calls of several threads come one after another. A thread
 lets go of a run that was not used for a while; it is in no call.
 """
+import _thread
 import enum
 import math
 import os
@@ -11,7 +12,8 @@ import threading
 import time
 import weakref
 from contextlib import contextmanager
-from typing import Callable, Iterator, List, Optional, Sequence, Tuple, TypeVar, Union
+from typing import (
+    Callable, ContextManager, Iterator, List, Optional, Sequence, Tuple, TypeVar, Union)
 
 from . import runs
 from .errors import ArchiveFault, Closed, Device, InUse, Refused
@@ -65,7 +67,9 @@ class Keeper:
     def _unlock(self) -> None:
         """No call is made, no block is entered, and no thread watches."""
         self._lock = threading.RLock()
-        self._left = threading.Condition(self._lock)
+        # It is free once the run was let go of, for the thread that watches.
+        self._left = _thread.allocate_lock()
+        self._left.acquire()
         self._watched = False
         self._within = False
         self._blocks: List[Use] = []
@@ -302,33 +306,36 @@ class Keeper:
         run, self._run = self._run, None
         if run is not None:
             run.end()
-            self._left.notify_all()
+            if self._watched and self._left.locked():
+                self._left.release()
 
     def _is_held(self) -> bool:
         """Whether the file stays open behind a call: something lets go of it in time then."""
         return self._watched or self._hold == math.inf
 
     def _watch(self) -> None:
-        """Has a thread let go of the file in time, where there can be one."""
+        """Has a thread let go of the file in time, where there can be one. A signal that raises
+        while `threading.Thread` starts one may leave its locks taken, so this is a plain one."""
         if not self._watched and 0 < self._hold < math.inf:
-            thread = threading.Thread(target=self._let_go_in_time, daemon=True,
-                                      name='tunes_archive')
+            started = False
             try:
-                thread.start()
+                _thread.start_new_thread(self._let_go_in_time, (self._lock, self._left))
+                started = True
             except RuntimeError:
                 # There are too many, or this process is about to end.
-                return
-            self._watched = True
+                pass
+            finally:
+                self._watched = started
 
-    def _let_go_in_time(self) -> None:
-        with self._lock:
-            while self._run is not None:
-                left = self._end - time.monotonic()
-                if left > 0:
-                    self._left.wait(min(left, threading.TIMEOUT_MAX))
-                else:
+    def _let_go_in_time(self, lock: ContextManager[object], left: '_thread.LockType') -> None:
+        while True:
+            with lock:
+                seconds_left = self._end - time.monotonic()
+                if self._run is None or seconds_left <= 0:
                     self._leave()
-            self._watched = False
+                    self._watched = False
+                    return
+            left.acquire(timeout=min(seconds_left, threading.TIMEOUT_MAX))
 
     def forget(self) -> None:
         """Lets go of a run that belongs to the process of which this one was forked."""
