@@ -590,13 +590,14 @@ def is_written_book(data):
 
 def is_written_script(data):
     """Imports of tunes, each alone where it gets its number, and then set lists."""
-    line = re.match(rb'import ([0-9]+)\n(?=X:)', data)
+    book = re.compile(rb'import ([0-9]+)\n(?=%abc-2\.1\n\nX:)')
+    line = book.match(data)
     while line:
         tunes, data = data[line.end():], data[line.end() + int(line[1]):]
         if len(tunes) < int(line[1]):
             return False
         data = re.sub(rb'\Arenumber [0-9]+ [0-9]+\n', b'', data)
-        line = re.match(rb'import ([0-9]+)\n(?=X:)', data)
+        line = book.match(data)
     return bool(re.fullmatch(rb'(set-new [\w-]+\n(set-add [\w-]+ [0-9]+\n)*)*', data))
 
 

@@ -21,7 +21,7 @@ from .opening import PROBE, PROBED, folder_for, is_in_use, path_word, why_unopen
 from .programs import Path, Programs
 from .replies import NoReply, Source, Taker
 from .results import ScriptRun
-from .runs import Ended, Run, Slow, ends_run
+from .runs import Ended, Run, Slow, ends_run, unbroken
 from .texts import label_of
 
 T = TypeVar('T')
@@ -208,22 +208,26 @@ class Keeper:
 
     def _try_open(self, use: Use) -> Tuple[Optional[Run], Optional[Exception]]:
         """A run over the open file; or why there is none."""
-        run = self._start(use)
+        run: Optional[Run] = None
         opened = False
         try:
+            with unbroken():
+                run = self._start(use)
             line = first_line(run)
-            opened = line == b'refused %d NoSuchSet' % PROBED
-            if opened:
+            if line == b'refused %d NoSuchSet' % PROBED:
+                self._run = run
+                opened = True
                 return run, None
             status, rest = run.finish(patience=runs.GRACE)
             output = rest if line is None else b'%b\n%b' % (line, rest)
             return None, why_unopened(output, run.errors, self.path, status)
         except BaseException as error:
             opened = False
-            raise_fault(error, run)
+            if run is not None:
+                raise_fault(error, run)
             raise
         finally:
-            if not opened:
+            if run is not None and not opened:
                 run.end()
 
     # RUNS OF THEIR OWN
@@ -260,14 +264,18 @@ class Keeper:
     def _run_to_end(self, start: Callable[[], Run], script: bytes) -> ScriptRun:
         deadline = time.monotonic() + self._wait
         while True:
-            run = start()
+            run: Optional[Run] = None
             try:
+                with unbroken():
+                    run = start()
                 status, output = run.finish(script)
             except BaseException as error:
-                raise_fault(error, run)
+                if run is not None:
+                    raise_fault(error, run)
                 raise
             finally:
-                run.end()
+                if run is not None:
+                    run.end()
             if not is_in_use(output, run.errors, self.path):
                 return ScriptRun(status, output, run.errors)
             self._wait_or_raise(why_unopened(output, run.errors, self.path, status), deadline)
@@ -303,11 +311,12 @@ class Keeper:
                 self._lock.release()
 
     def _leave(self) -> None:
-        run, self._run = self._run, None
-        if run is not None:
-            run.end()
-            if self._watched and self._left.locked():
-                self._left.release()
+        with unbroken():
+            run, self._run = self._run, None
+            if run is not None:
+                run.end()
+                if self._watched and self._left.locked():
+                    self._left.release()
 
     def _is_held(self) -> bool:
         """Whether the file stays open behind a call: something lets go of it in time then."""
@@ -319,8 +328,9 @@ class Keeper:
         if not self._watched and 0 < self._hold < math.inf:
             started = False
             try:
-                _thread.start_new_thread(self._let_go_in_time, (self._lock, self._left))
-                started = True
+                with unbroken():
+                    _thread.start_new_thread(self._let_go_in_time, (self._lock, self._left))
+                    started = True
             except RuntimeError:
                 # There are too many, or this process is about to end.
                 pass

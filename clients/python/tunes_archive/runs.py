@@ -119,8 +119,9 @@ class Run:
 
     def is_idle(self) -> bool:
         """Whether it goes on, and has written nothing that nobody asked for."""
-        if self._at < len(self._replies) or self._process.poll() is not None:
-            return False
+        with unbroken():
+            if self._at < len(self._replies) or self._process.poll() is not None:
+                return False
         poll = select.poll()
         poll.register(self._output, select.POLLIN)
         return not poll.poll(0)
@@ -198,14 +199,15 @@ class Run:
 
     def end(self) -> int:
         """Lets the program end, and gives its status. One that does not end is killed."""
-        try:
-            self._close()
+        with unbroken():
+            try:
+                self._close()
+                return self._process.wait(GRACE)
+            except subprocess.TimeoutExpired:
+                pass
+            finally:
+                self._kill()
             return self._process.wait(GRACE)
-        except subprocess.TimeoutExpired:
-            pass
-        finally:
-            self._kill()
-        return self._process.wait()
 
     def forget(self) -> None:
         """Lets go of a program that another process has started, which this one came of."""
@@ -230,7 +232,18 @@ class Run:
             os.killpg(self._process.pid, signal.SIGKILL)
         except (ProcessLookupError, PermissionError):
             self._process.kill()
-        self._process.wait()
+        self._process.wait(GRACE)
+
+
+@contextmanager
+def unbroken() -> Iterator[None]:
+    """Has an interrupt by SIGINT wait. Half a start, or half an end, would leave a program behind."""
+    before = signal.pthread_sigmask(signal.SIG_BLOCK, [])
+    try:
+        signal.pthread_sigmask(signal.SIG_BLOCK, [signal.SIGINT])
+        yield
+    finally:
+        signal.pthread_sigmask(signal.SIG_SETMASK, before)
 
 
 @contextmanager
