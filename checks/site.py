@@ -12,6 +12,7 @@ each case, and the status is 1 where a case failed.
 """
 import argparse
 import contextlib
+import html
 import html.parser
 import json
 import os
@@ -93,6 +94,16 @@ def listed(file, *words):
     if told.returncode != 0:
         raise AssertionError(f'{words}: {told.stderr[:300]!r}')
     return json.loads(told.stdout)
+
+
+def first_titles(file, count):
+    """The first title of each tune, by the rows of set lists that have them all."""
+    rows = []
+    for first in range(1, count + 1, 100):
+        numbers = range(first, min(first + 100, count + 1))
+        book('-f', file, 'put', f'from-{first}', *map(str, numbers))
+        rows += listed(file, 'set', f'from-{first}')
+    return {row['number']: row['title'] for row in rows}
 
 
 def site_of(file, name, *words, **options):
@@ -727,7 +738,7 @@ def check_hostile(browser):
         known = set('A ARTICLE BODY BUTTON CODE DETAILS H1 H2 HEADER IMG LI '
                     'MAIN NAV P PICTURE '
                     'PRE SCRIPT SOURCE SUMMARY UL SMALL'.split())
-        rows = {row['number']: row['title'] for row in listed(file, 'find')}
+        rows = first_titles(file, len(bodies))
         for number, body in enumerate(bodies, 1):
             browser.show(address(folder, f'tune/{number}'))
             told = browser.run('''({h1: document.querySelector("h1").textContent,
@@ -851,9 +862,14 @@ def whole(folder):
     state = json.loads(told)
     for name, wanted in state['pages'].items():
         with open(os.path.join(folder, name), 'rb') as page:
-            if hashlib.blake2b(page.read(), digest_size=12).hexdigest() != wanted:
+            # The sum of what a page of a tune is made of stands before that of the page.
+            if hashlib.blake2b(page.read(), digest_size=12).hexdigest() != wanted.split()[-1]:
                 return f'{name} is another'
     for number, drawn in state['tunes'].items():
+        with open(os.path.join(folder, 'abc', number + '.abc'), encoding='utf-8') as given, \
+                open(os.path.join(folder, 'tune', number + '.html'), encoding='utf-8') as page:
+            if html.escape(given.read()) not in page.read():
+                return f'the book of {number} is not the text of its page'
         if 'fault' not in drawn and not os.path.getsize(os.path.join(folder, 'music',
                                                                      number + '.svg')):
             return f'the drawing of {number} is empty'
@@ -1009,7 +1025,7 @@ def check_index(browser):
             data = text.encode()
             titles, rhythm, key = fields_of(data)
             key = Key(key)
-            tunes[number] = Tune(number, 1, data, titles, rhythm, key.scale.decode(),
+            tunes[number] = Tune(number, data, titles, rhythm, key.scale.decode(),
                                  tuple(steps_of(data, key, 12)))
         told = search_index(Book('many', 12, tunes, [], [])).encode()
         if len(told) > 2_000_000:

@@ -192,9 +192,9 @@ class Index:
         # Whether no entry is missed by a fault.
         self.is_whole = len(pages.faults) == known
         for before, after in zip(self.entries, self.entries[1:]):
-            rises = before[:2] < after[:2]
-            at = self.at(after)
-            pages.note_unless(rises, f"the entries {at} do not rise at {shown(after[0])}")
+            if before[:2] >= after[:2]:
+                at = self.at(after)
+                pages.faults.append(f"the entries {at} do not rise at {shown(after[0])}")
 
     def read_leaf(self, pages: Pages, page: int, width: int) -> None:
         self.leaves += 1

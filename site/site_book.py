@@ -3,9 +3,10 @@ import hashlib
 import json
 import os
 import re
+import struct
 from dataclasses import dataclass, field
-from functools import cached_property
-from typing import Dict, Iterable, List, Optional, Tuple
+from functools import lru_cache
+from typing import Dict, List, Optional, Tuple
 
 import read_archive
 import search_keys
@@ -27,6 +28,7 @@ def text_of(data: bytes) -> str:
         return re.sub('[\udc80-\udcff]', lambda byte: chr(ord(byte[0]) - 0xDC00), text)
 
 
+@lru_cache(maxsize=None)
 def label_of(data: bytes) -> str:
     """The same as people see it, where control characters stand as U+FFFD."""
     return CONTROLS.sub('\N{REPLACEMENT CHARACTER}', text_of(data))
@@ -51,31 +53,41 @@ SIGNS = {' ': '', '#': '♯', 'b': '♭'}
 class Tune:
     """A tune, and what its page and the search say of it."""
     number: int
-    revision: int
     text: bytes
     titles: List[bytes]
     rhythm: bytes
     scale: str
     steps: Tuple[int, ...]
-    metre: str = ''
-    composer: str = ''
-    origin: str = ''
+    metre: bytes = b''
+    composer: bytes = b''
+    origin: bytes = b''
     sets: List[str] = field(default_factory=list)
 
-    @cached_property
+    @property
     def label(self) -> str:
         return label_of(self.titles[0]) if self.titles else f'Tune {self.number}'
 
-    @cached_property
+    @property
     def kind(self) -> str:
         """Its rhythm and its key, in short."""
-        return ', '.join(filter(None, (label_of(self.rhythm), key_name(self.scale))))
+        return kind_of(self.rhythm, self.scale)
 
     @property
     def sum(self) -> str:
-        return hashlib.sha256(self.text).hexdigest()[:32]
+        """Two tunes of one number that have the same are drawn and shown in the same way."""
+        return sum_of(self.scale.encode() + b'\n' + self.text)
 
 
+def sum_of(data: bytes) -> str:
+    return hashlib.blake2b(data, digest_size=12).hexdigest()
+
+
+@lru_cache(maxsize=None)
+def kind_of(rhythm: bytes, scale: str) -> str:
+    return ', '.join(filter(None, (label_of(rhythm), key_name(scale))))
+
+
+@lru_cache(maxsize=None)
 def key_name(scale: str) -> str:
     return f'{scale[0]}{SIGNS[scale[1]]} {MODES[int(scale[2])]}' if scale else ''
 
@@ -97,9 +109,8 @@ class Book:
 
 @dataclass
 class Keys:
-    """What tunes have in the indexes of rhythms, scales and openings, and revisions, by number."""
+    """What tunes have in the indexes of rhythms, scales and openings, by number."""
     notes: int
-    revisions: Dict[int, int]
     rhythms: Dict[int, bytes]
     scales: Dict[int, bytes]
     incipits: Dict[int, bytes]
@@ -113,14 +124,8 @@ def indexes(path: str) -> Keys:
         found = []
         with pages.noting():
             root = pages.image(0, 'the root')
-            version, numbers, _, *firsts = (read_archive.number(root, 4 * place)
-                                            for place in range(6))
+            version, _, _, *firsts = (read_archive.number(root, 4 * place) for place in range(6))
             layout = read_archive.LAYOUTS[version]
-            index = read_archive.Index(pages, numbers, 'numbers', layout.key, layout.tunes)
-            # The first two bytes of a tune are its revision.
-            found.append({read_archive.number(key): read_archive.number(
-                pages.image(first, 'a tune'), read_archive.LINK_HEAD, 2)
-                          for key, first, _ in index.entries})
             for what, first in zip(('rhythms', 'scales', 'incipits'), firsts):
                 width = layout.incipit_key if what == 'incipits' else layout.key
                 index = read_archive.Index(pages, first, what, width, layout.tunes)
@@ -132,8 +137,7 @@ def indexes(path: str) -> Keys:
 
 def steps_of(key: bytes) -> Tuple[int, ...]:
     """The steps of a key of the index of incipits."""
-    steps = (int.from_bytes(key[at:at + 4], 'big') for at in range(0, len(key), 4))
-    return tuple(step - 2 ** 31 for step in steps if step)
+    return tuple([step - 2 ** 31 for step in struct.unpack(f'>{len(key) // 4}I', key) if step])
 
 
 def index_title(title: bytes) -> bytes:
@@ -143,27 +147,32 @@ def index_title(title: bytes) -> bytes:
     return article[1] + b', ' + title[:article.start(1)].rstrip(b' \t')
 
 
-def fields_of(text: bytes, letters: bytes) -> List[str]:
-    """The first value of each of these fields of the header that is not empty."""
-    values: Dict[int, str] = {}
-    for line in (b'\n' + text).partition(b'\nK:')[0].split(b'\n'):
-        if line[1:2] == b':' and line[0] in letters and not values.get(line[0]):
-            values[line[0]] = label_of(search_keys.value_of(line))
-    return [values.get(letter, '') for letter in letters]
+HEADER_LINE = re.compile(rb'\n([TRMCO]:.*)')
+value_of = lru_cache(maxsize=None)(search_keys.value_of)
+
+
+def header_of(text: bytes) -> Dict[int, List[bytes]]:
+    """The values in the header that are not empty, by the letters of their fields."""
+    values: Dict[int, List[bytes]] = {}
+    for line in HEADER_LINE.findall((b'\n' + text).partition(b'\nK:')[0]):
+        value = value_of(line)
+        if value:
+            values.setdefault(line[0], []).append(value)
+    return values
 
 
 def tune_of(number: int, text: bytes, titles: List[bytes], keys: Keys) -> Tune:
     """A tune, whose texts have to say what the indexes say."""
-    own, rhythm, _ = search_keys.fields_of(text)
-    places = {index_title(title): place for place, title in reversed(list(enumerate(own)))}
+    header = header_of(text)
+    own = list(map(index_title, header.get(ord('T'), ())[:search_keys.MOST_TITLES]))
+    rhythm, *others = [header.get(letter, (b'',))[0] for letter in b'RMCO']
     key = keys.rhythms.get(number, b'')
-    if sorted(map(index_title, own)) != sorted(titles) or rhythm.lower()[:32].ljust(
+    if sorted(own) != sorted(titles) or rhythm.lower()[:32].ljust(
             32 if rhythm else 0, b'\0') != key:
         raise Stopped(f'tune {number} is not as the indexes say; `tunes-book check` looks at them')
-    return Tune(number, keys.revisions[number], text,
-                sorted(titles, key=lambda title: places[title]), rhythm,
+    return Tune(number, text, sorted(titles, key=own.index), rhythm,
                 keys.scales.get(number, b'').rstrip(b'\0').decode('ascii'),
-                steps_of(keys.incipits.get(number, b'')), *fields_of(text, b'MCO'))
+                steps_of(keys.incipits.get(number, b'')), *others)
 
 
 def texts_in(export: bytes) -> Dict[int, bytes]:
@@ -207,10 +216,12 @@ def read_book(path: str, name: Optional[str], wait: float) -> Book:
 LETTERS = ''.join(chr(code) for code in range(33, 126) if chr(code) not in '"\\~')[:90]
 
 
-def letters_of(steps: Iterable[int]) -> str:
-    return ''.join(LETTERS[step + 45] if -45 <= step < 45 else f'~{step};' for step in steps)
+@lru_cache(maxsize=None)
+def letter_of(step: int) -> str:
+    return LETTERS[step + 45] if -45 <= step < 45 else f'~{step};'
 
 
+@lru_cache(maxsize=None)
 def is_utf8(data: bytes) -> bool:
     try:
         data.decode('utf-8')
@@ -246,11 +257,12 @@ def search_index(book: Book) -> str:
     scales, of_scale = pairs_of([tune.scale for tune in tunes])
     bytes_of = {place: [search_keys.sorting_title(title).decode('latin-1') for title in tune.titles]
                 for place, tune in enumerate(tunes)
-                if not all(is_utf8(title) for title in tune.titles)}
+                if not all(map(is_utf8, tune.titles))}
     index = {
         'format': 1, 'notes': book.notes, 'numbers': runs_of(list(book.tunes)),
         'titles': '\n'.join('\r'.join(map(text_of, tune.titles)) for tune in tunes),
         'bytes': bytes_of, 'rhythms': rhythms, 'ofRhythm': of_rhythm, 'scales': scales,
-        'ofScale': of_scale, 'openings': ' '.join(letters_of(tune.steps) for tune in tunes)}
+        'ofScale': of_scale,
+        'openings': ' '.join(''.join(map(letter_of, tune.steps)) for tune in tunes)}
     told = json.dumps(index, ensure_ascii=False, separators=(',', ':'))
     return f'"use strict";\nconst tunesIndex = {told};\n'

@@ -1,4 +1,5 @@
 """The folder of a site, which is made anew as a whole, or stays as it was."""
+import contextlib
 import ctypes
 import errno
 import fcntl
@@ -8,7 +9,7 @@ import re
 import shutil
 import signal
 import subprocess
-from typing import Dict, Iterator, Optional
+from typing import Dict, Iterator
 
 from site_words import CAUGHT, Stopped, bad, read_file, write_file
 
@@ -41,19 +42,28 @@ def is_made_here(path: str) -> bool:
 def foreign(path: str) -> Iterator[str]:
     for entry in os.scandir(path):
         if entry.name in FOLDERS and entry.is_dir(follow_symlinks=False):
-            form = re.compile(rf'\d+\.{FOLDERS[entry.name]}', re.ASCII)
+            is_own = re.compile(rf'\d+\.{FOLDERS[entry.name]}', re.ASCII).fullmatch
             yield from (inner.path for inner in os.scandir(entry.path)
-                        if not form.fullmatch(inner.name)
+                        if not is_own(inner.name)
                         or not inner.is_file(follow_symlinks=False))
         elif not OWN_FILE.fullmatch(entry.name) or not entry.is_file(follow_symlinks=False):
             yield entry.path
+
+
+def opened(path: str) -> int:
+    return os.open(path, os.O_RDONLY | os.O_DIRECTORY | os.O_NOFOLLOW)
 
 
 def remove(path: str) -> None:
     """Takes a folder of this command away; what says whose it is goes last."""
     is_made_here(path)
     for name in FOLDERS:
-        shutil.rmtree(os.path.join(path, name), ignore_errors=True)
+        with contextlib.suppress(OSError):
+            place = opened(os.path.join(path, name))
+            for each in os.listdir(place):
+                os.unlink(each, dir_fd=place)
+            os.close(place)
+            os.rmdir(os.path.join(path, name))
     for name in sorted(os.listdir(path), key=MARK.__eq__):
         os.unlink(os.path.join(path, name))
     os.rmdir(path)
@@ -99,7 +109,8 @@ class Site:
         elif stands[2]:
             # A run broke off between two names.
             os.rename(self.old, self.path)
-        self.was = os.stat(self.path) if os.path.lexists(self.path) else None
+        self.folder = opened(self.path) if os.path.lexists(self.path) else -1
+        self.was = os.fstat(self.folder) if self.folder >= 0 else None
         self.state = self.read_state()
         try:
             os.mkdir(self.new)
@@ -111,7 +122,7 @@ class Site:
             os.mkdir(os.path.join(self.new, name))
 
     def take(self, path: str) -> None:
-        self.lock = os.open(path, os.O_RDONLY | os.O_DIRECTORY)
+        self.lock = opened(path)
         try:
             fcntl.flock(self.lock, fcntl.LOCK_EX | fcntl.LOCK_NB)
         except BlockingIOError:
@@ -130,20 +141,20 @@ class Site:
         except ValueError:
             return {}
 
-    def keep(self, name: str, size: Optional[int] = None) -> bool:
-        """Takes over a file of the old folder, if it is there with that size."""
-        old, new = f'{self.path}/{name}', f'{self.new}/{name}'
+    def keep(self, name: str) -> bool:
+        """Takes over a file of the old folder, if it is there."""
+        if self.was is None:
+            return False
         try:
-            if size is not None and os.lstat(old).st_size != size:
-                return False
-            os.link(old, new, follow_symlinks=False)
+            os.link(name, name, src_dir_fd=self.folder, dst_dir_fd=self.lock,
+                    follow_symlinks=False)
         except FileNotFoundError:
             return False
         except OSError as error:
             if error.errno not in (errno.EPERM, errno.ENOTSUP, errno.EMLINK, errno.EXDEV,
                                    errno.ENOSYS):
                 raise
-            shutil.copyfile(old, new)
+            shutil.copyfile(f'{self.path}/{name}', f'{self.new}/{name}')
         return True
 
     def write(self, name: str, data: bytes) -> None:

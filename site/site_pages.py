@@ -4,9 +4,12 @@ import os
 import re
 import string
 from dataclasses import dataclass
+from functools import lru_cache
 from typing import Dict, Iterator, List, Optional, Tuple
 
-from site_book import Book, Tune, key_name, label_of, lines_of, text_of
+import search_keys
+from site_book import Book, Tune, key_name, label_of, lines_of, sum_of, text_of
+from site_words import read_file
 
 PARTS = os.path.dirname(os.path.realpath(__file__))
 MOST_ROWS, MOST_LIKE = 1500, 30
@@ -18,11 +21,23 @@ def template(name: str) -> string.Template:
         return string.Template(file.read())
 
 
+def code_files() -> List[str]:
+    """The files that say how a page is made."""
+    return [search_keys.__file__, *(os.path.join(PARTS, name) for name in sorted(
+        os.listdir(PARTS)) if name.endswith(('.py', '.html')))]
+
+
 MARKED = re.compile('[&<>"\']')
 
 
+@lru_cache(maxsize=None)
 def shown(text: str) -> str:
     return html.escape(text) if MARKED.search(text) else text
+
+
+@lru_cache(maxsize=None)
+def small(text: str) -> str:
+    return f' <small>{shown(text)}</small>' if text else ''
 
 
 def counted(count: int, what: str) -> str:
@@ -48,6 +63,11 @@ class Pages:
         for tune in self.in_order:
             self.alike.setdefault(tune.steps, []).append(tune)
         self.set_files = self.name_sets()
+        # What all pages of tunes are made of, and what those of one opening have of each other.
+        self.of_all = sum_of(repr((book.name, list(map(read_file, code_files())))).encode())
+        self.openings = {steps: sum_of(repr([(tune.number, drawn[tune.number]['is'])
+                                             for tune in tunes]).encode())
+                         for steps, tunes in self.alike.items() if steps and len(tunes) > 1}
 
     def name_sets(self) -> Dict[str, str]:
         """The pages of set lists: names that differ by capitals alone are one on some systems."""
@@ -67,23 +87,19 @@ class Pages:
         return self.page.substitute(title=shown(title), site=shown(self.book.name), base=base,
                                     links=links, body=body, scripts=tags)
 
-    def all(self) -> Iterator[Tuple[str, str]]:
+    def lists(self) -> Iterator[Tuple[str, str]]:
         yield from self.titles()
         yield from self.groups('rhythms', 'Rhythms', self.by_rhythm())
         yield from self.groups('keys', 'Keys', self.by_key())
         yield 'sets.html', self.sets()
         for name, numbers in self.book.sets:
             yield self.set_files[name], self.set_list(name, numbers)
-        for tune in self.in_order:
-            yield f'tune/{tune.number}.html', self.tune(tune)
 
     # LISTS
 
     def row(self, tune: Tune, label: Optional[str] = None, kind: Optional[str] = None) -> str:
-        kind = tune.kind if kind is None else kind
-        kind = f' <small>{shown(kind)}</small>' if kind else ''
-        link = f'<a href="tune/{tune.number}.html">{shown(label or tune.label)}</a>'
-        return f'<li>{link}{kind}</li>\n'
+        return f'<li><a href="tune/{tune.number}.html">{shown(label or tune.label)}</a>' \
+            f'{small(tune.kind if kind is None else kind)}</li>\n'
 
     def titles(self) -> Iterator[Tuple[str, str]]:
         sections: List[Section] = []
@@ -177,7 +193,7 @@ class Pages:
         if 'fault' in drawn:
             return f'<p class="fault">Its music is not drawn: {shown(str(drawn["fault"]))}.</p>\n'
         told = ', '.join(filter(None, ('Music of ' + tune.label, key_name(tune.scale),
-                                       'metre ' + tune.metre if tune.metre else '')))
+                                       'metre ' + label_of(tune.metre) if tune.metre else '')))
         width, height = drawn['music']
         remarks = ''.join(f'<li>{shown(str(line))}</li>' for line in drawn.get('remarks', ()))
         remarks = remarks and '<details><summary>What abcm2ps remarks</summary>' \
@@ -189,11 +205,17 @@ class Pages:
 
     def facts(self, tune: Tune) -> str:
         told = (('Number', str(tune.number)), ('Rhythm', label_of(tune.rhythm)),
-                ('Key', key_name(tune.scale)), ('Metre', tune.metre),
-                ('Composer', tune.composer), ('Origin', tune.origin))
+                ('Key', key_name(tune.scale)), ('Metre', label_of(tune.metre)),
+                ('Composer', label_of(tune.composer)), ('Origin', label_of(tune.origin)))
         return '<ul class="facts">' + ''.join(
             f'<li><small>{name}</small> {shown(word)}</li>' for name, word in told if word
         ) + '</ul>\n'
+
+    def inputs(self, tune: Tune) -> str:
+        """A sum of all that the page of a tune is made of."""
+        return sum_of(repr((self.of_all, tune.number, self.drawn[tune.number],
+                            self.openings.get(tune.steps),
+                            [self.set_files[name] for name in tune.sets])).encode())
 
     def tune(self, tune: Tune) -> str:
         number = tune.number
