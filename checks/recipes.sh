@@ -81,7 +81,7 @@ same() {
 
 # The folder has these files, and no others.
 has() {
-    there=$(find . ! -name . ! -type l | sed 's|^\./||' | LC_ALL=C sort | tr '\n' ' ')
+    there=$(find . ! -name . -prune ! -type l | sed 's|^\./||' | LC_ALL=C sort | tr '\n' ' ')
     [ "$there" = "${1:+$1 }" ] || wrong "the files are '$there' in place of '$1'"
 }
 

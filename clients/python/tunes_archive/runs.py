@@ -237,7 +237,7 @@ class Run:
 
 @contextmanager
 def unbroken() -> Iterator[None]:
-    """Has an interrupt by SIGINT wait. Half a start, or half an end, would leave a program behind."""
+    """Has an interrupt by SIGINT wait: half a start or half an end would leave a program behind."""
     before = signal.pthread_sigmask(signal.SIG_BLOCK, [])
     try:
         signal.pthread_sigmask(signal.SIG_BLOCK, [signal.SIGINT])
