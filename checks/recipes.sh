@@ -81,7 +81,8 @@ same() {
 
 # The folder has these files, and no others.
 has() {
-    there=$(find . ! -name . -prune ! -type l | sed 's|^\./||' | LC_ALL=C sort | tr '\n' ' ')
+    there=$(find . ! -name . ! -type l ! -path '*pages/*' | sed 's|^\./||' | LC_ALL=C sort |
+        tr '\n' ' ')
     [ "$there" = "${1:+$1 }" ] || wrong "the files are '$there' in place of '$1'"
 }
 
@@ -974,7 +975,7 @@ go_on 'the versions of the programs, and the layout'
 run player-versions
 ends_with 0
 sed 's/[0-9]*\.[0-9]*\.[0-9]*$/VERSION/' "$work/out" > "$work/found"
-printf '%s\n' 'tunes VERSION' 'tunes-desk VERSION' 'layout 2 tunes 15 sets 1' > "$work/wanted"
+printf '%s\n' 'tunes VERSION' 'tunes-book VERSION' 'layout 2 tunes 15 sets 1' > "$work/wanted"
 same "$work/found" "$work/wanted"
 [ "$(sed 's/.* //; 2q' "$work/out" | uniq | wc -l)" -eq 1 ] || wrong 'the programs differ'
 end
@@ -1000,6 +1001,10 @@ if command -v python3 > "$work/out" && [ -d clients/python ]; then
     go_on 'a player in Python'
     run player-python
     ends_with 0
+    # In columns: the number of a tune has six, a place three.
+    { echo '     3  Tripping Up the Stairs' && shown 3 &&
+        printf '%s\n' '  1.       3  Tripping Up the Stairs' '  2.       1  Kesh Jig, The'; } \
+        > "$work/played"
     same "$work/out" "$work/played"
     end
 else
