@@ -610,6 +610,8 @@ fi
 
 # Another program has the archive open, by these words, until `let_go`.
 hold() {
+    # The loop waits for the first reply, and not for one that is left from before.
+    rm -f "$work/replies"
     mkfifo script
     "$@" < script > "$work/replies" &
     exec 9> script
