@@ -1,0 +1,101 @@
+// Orders that change tunes or set lists of FILE.
+use crate::entries::entry_of;
+use crate::words::{Unchanged, say_unchanged};
+use desk_scenes::{DONE, Unopened, keep_entry, open_once};
+use desk_terms::Change;
+use std::io::Write;
+use tune_archive::Archive;
+use tune_changes::{Turn, bring_about, planned};
+use tune_desk::Desk;
+use tune_disk::{Access, Disk};
+use tune_undo::Kind;
+
+/// Changes what FILE holds, and gives the status: 0 done; 1 refused, or a device failed; 3 no
+/// archive, or a damaged one. What is wrong is said to `errors`.
+pub fn change<E: Write, D: Disk, K: AllocGlobal + Desk<Disk = D>>(
+    desk: &mut K,
+    file: &String,
+    change: &Change,
+    errors: &mut E,
+) -> u8
+{
+    let done = change_file(desk, file, change);
+    match done {
+        Ok(()) => DONE,
+        Err(why) => say_unchanged(errors, file.as_str(), subject(change), &why),
+    }
+}
+
+fn change_file<D: Disk, K: AllocGlobal + Desk<Disk = D>>(
+    desk: &mut K,
+    file: &String,
+    change: &Change,
+) -> Result<(), Unchanged>
+{
+    match open_once(desk, file, Access::Change) {
+        Err(why) => Err(Unchanged::Unopened(why)),
+        Ok(mut archive) => {
+            // For the proof.
+            archive.law_of_sets();
+            let done = change_archive(desk, file, &mut archive, change);
+            desk.close(file, archive.into_disk());
+            done
+        }
+    }
+}
+
+// Looks first; then keeps what the turns take away, and brings them about.
+fn change_archive<D: Disk, K: AllocGlobal + Desk<Disk = D>>(
+    desk: &mut K,
+    file: &String,
+    archive: &mut Archive<D>,
+    change: &Change,
+) -> Result<(), Unchanged>
+{
+    match planned(desk.alloc(), archive, change) {
+        Ok(turns) => carry(desk, file, archive, kind_of(change), turns.as_slice()),
+        Err(refusal) => Err(Unchanged::Refused(refusal)),
+    }
+}
+
+/// Keeps an entry of these turns, and brings them about.
+pub(crate) fn carry<D: Disk, K: AllocGlobal + Desk<Disk = D>>(
+    desk: &mut K,
+    file: &String,
+    archive: &mut Archive<D>,
+    kind: Kind,
+    turns: &[Turn],
+) -> Result<(), Unchanged>
+{
+    let Ok(entry) = entry_of(desk.alloc(), kind, turns) else {
+        return Err(Unchanged::Refused(Refusal::OutOfMemory));
+    };
+    match keep_entry(desk, file, &entry) {
+        Ok(()) => match bring_about(desk.alloc(), archive, turns) {
+            Ok(()) => Ok(()),
+            Err(refusal) => Err(Unchanged::Refused(refusal)),
+        },
+        Err(why) => Err(Unchanged::Unkept(why)),
+    }
+}
+
+fn kind_of(change: &Change) -> Kind {
+    match change {
+        Change::Delete(_) => Kind::Delete,
+        Change::Put { .. } => Kind::Put,
+        Change::Cut { .. } => Kind::Cut,
+        Change::Move { .. } => Kind::Move,
+        Change::Drop(_) => Kind::Drop,
+    }
+}
+
+// What a refusal is about.
+fn subject(change: &Change) -> &str {
+    match change {
+        Change::Delete(_) => "delete",
+        Change::Put { name, numbers: _ } => name.as_str(),
+        Change::Cut { name, places: _ } => name.as_str(),
+        Change::Move { name, place: _, to: _ } => name.as_str(),
+        Change::Drop(name) => name.as_str(),
+    }
+}
