@@ -5,9 +5,11 @@
 mod changes;
 mod entries;
 mod replacing;
+mod change_lists;
 mod undoing;
+mod undone;
 mod words;
 
 pub use changes::change;
-pub use replacing::replace;
+pub use replacing::{Replaced, replace};
 pub use undoing::undo;

@@ -1,16 +1,17 @@
 // The order that takes changes back.
+use crate::change_lists::list_changes;
+use crate::undone::{aims_of, greatest_number, stray_of, taken_by, tell_undone};
 use crate::words::{NotUndone, say_not_undone};
-use desk_scenes::{DONE, REFUSED, keep_entry, keep_mark, open_once, print, say};
-use desk_terms::{Form, Undoing};
-use std::alloc::{AllocError, Global};
+use desk_scenes::{keep_entry, keep_mark, open_once, print};
+use desk_terms::Undoing;
 use std::io::Write;
 use tune_archive::Archive;
-use tune_changes::{Standing, greatest_number, judged, stray_of, take_back, taken_texts};
+use tune_changes::{Verdict, judged, take_back};
 use tune_desk::{Desk, DeskFault};
 use tune_disk::{Access, Disk};
 use tune_scripts::Console;
-use tune_store::{Command, Refusal, TuneStore};
-use tune_undo::{Entry, Kind, Mark, Step, standing_steps};
+use tune_store::{Command, TuneStore};
+use tune_undo::{Entry, Kind, Mark, Part, Undoable, undoable_entries};
 
 /// Takes the last changes of FILE back, or lists those that can be, and gives the status. What was
 /// taken back is printed.
@@ -25,7 +26,7 @@ pub fn undo<C: Console, E: Write, D: Disk, K: AllocGlobal + Desk<Disk = D>>(
     match undoing {
         Undoing::Last => undo_some(desk, file, 1, console, errors),
         Undoing::To(count) => undo_some(desk, file, *count, console, errors),
-        Undoing::List(form) => list_steps(desk, file, *form, console, errors),
+        Undoing::List(form) => list_changes(desk, file, *form, console, errors),
     }
 }
 
@@ -71,23 +72,23 @@ fn undo_in_archive<D: Disk, K: AllocGlobal + Desk<Disk = D>>(
     told: &mut Vec<u8>,
 ) -> Result<(), NotUndone>
 {
-    let steps = read_steps(desk, file)?;
-    let mut left = steps.len();
+    let changes = read_changes(desk, file)?;
+    let mut left = changes.len();
     for _ in 0..count {
-        left = undo_last(desk, file, archive, &steps.as_slice()[..left], told)?;
+        left = undo_last(desk, file, archive, &changes.as_slice()[..left], told)?;
     }
     Ok(())
 }
 
 // The entries of the book of old texts that are not undone.
-fn read_steps<K: AllocGlobal + Desk>(desk: &mut K, file: &String) -> Result<Vec<Step>, NotUndone>
+pub(crate) fn read_changes<K: AllocGlobal + Desk>(desk: &mut K, file: &String) -> Result<Vec<Undoable>, NotUndone>
 {
     let Ok(old) = format!(in desk.alloc(); "{file}.old.abc") else {
         return Err(NotUndone::OutOfMemory);
     };
     match desk.read(desk.alloc(), &old) {
-        Ok(book) => match standing_steps(desk.alloc(), book.as_slice()) {
-            Ok(steps) => Ok(steps),
+        Ok(book) => match undoable_entries(desk.alloc(), book.as_slice()) {
+            Ok(changes) => Ok(changes),
             Err(_) => Err(NotUndone::OutOfMemory),
         },
         Err(DeskFault::Missing) => Err(NotUndone::NoBook),
@@ -100,14 +101,14 @@ fn undo_last<D: Disk, K: AllocGlobal + Desk<Disk = D>>(
     desk: &mut K,
     file: &String,
     archive: &mut Archive<D>,
-    steps: &[Step],
+    changes: &[Undoable],
     told: &mut Vec<u8>,
 ) -> Result<usize, NotUndone>
 {
-    let mut left = steps.len();
-    for _ in 0..steps.len() {
-        let first = first_of(&steps[..left]);
-        let took_place = undo_change(desk, file, archive, &steps[first..left], told)?;
+    let mut left = changes.len();
+    for _ in 0..changes.len() {
+        let first = first_of(&changes[..left]);
+        let took_place = undo_change(desk, file, archive, &changes[first..left], told)?;
         left = first;
         if took_place {
             return Ok(left);
@@ -117,11 +118,11 @@ fn undo_last<D: Disk, K: AllocGlobal + Desk<Disk = D>>(
 }
 
 // Where the change begins whose last entry is the last of these.
-fn first_of(steps: &[Step]) -> usize {
-    let mut first = steps.len();
-    for _ in 0..steps.len() {
+pub(crate) fn first_of(changes: &[Undoable]) -> usize {
+    let mut first = changes.len();
+    for _ in 0..changes.len() {
         first -= 1;
-        if steps[first].entry.kind != Kind::AddMore {
+        if changes[first].entry.kind != Kind::AddMore {
             return first;
         }
     }
@@ -134,20 +135,90 @@ fn undo_change<D: Disk, K: AllocGlobal + Desk<Disk = D>>(
     desk: &mut K,
     file: &String,
     archive: &mut Archive<D>,
-    steps: &[Step],
+    changes: &[Undoable],
     told: &mut Vec<u8>,
 ) -> Result<bool, NotUndone>
 {
-    for step in steps {
-        if let Standing::Changed(place) = judged(desk.alloc(), archive, &step.entry)? {
-            return Err(changed(&step.entry, place));
+    for change in changes {
+        if let Verdict::Changed(place) = judged(desk.alloc(), archive, &change.entry)? {
+            return Err(changed_part(&change.entry, place));
         }
     }
     let mut took_place = false;
-    for step in steps.iter().rev() {
-        if undo_step(desk, file, archive, step, told)? {
+    for change in changes.iter().rev() {
+        if undo_entry(desk, file, archive, change, told)? {
             took_place = true;
         }
     }
     Ok(took_place)
+}
+
+// Takes back what one entry says. Whether there was something to be taken back.
+fn undo_entry<D: Disk, K: AllocGlobal + Desk<Disk = D>>(
+    desk: &mut K,
+    file: &String,
+    archive: &mut Archive<D>,
+    change: &Undoable,
+    told: &mut Vec<u8>,
+) -> Result<bool, NotUndone>
+{
+    let standing = judged(desk.alloc(), archive, &change.entry)?;
+    if standing == Verdict::Before && change.begun.is_none() {
+        keep_mark(desk, file, Mark::Undone)?;
+        return Ok(false);
+    }
+    keep_taken(desk, file, archive, &change.entry)?;
+    begin_undoing(desk, file, archive, change)?;
+    let aims = aims_of(desk.alloc(), &change.entry)?;
+    take_back(desk.alloc(), archive, aims.as_slice())?;
+    keep_mark(desk, file, Mark::Undone)?;
+    tell_undone(archive, &change.entry, told)?;
+    Ok(true)
+}
+
+// Keeps the texts that are taken away by it.
+fn keep_taken<D: Disk, K: AllocGlobal + Desk<Disk = D>>(
+    desk: &mut K,
+    file: &String,
+    archive: &mut Archive<D>,
+    entry: &Entry,
+) -> Result<(), NotUndone>
+{
+    let kept = taken_by(desk.alloc(), archive, entry)?;
+    if !kept.parts.is_empty() {
+        keep_entry(desk, file, &kept)?;
+    }
+    Ok(())
+}
+
+// Marks that an undoing begins; where one was begun before, and a stop left a tune that had come
+// back without its number, this gets it.
+fn begin_undoing<D: Disk, K: AllocGlobal + Desk<Disk = D>>(
+    desk: &mut K,
+    file: &String,
+    archive: &mut Archive<D>,
+    change: &Undoable,
+) -> Result<(), NotUndone>
+{
+    match change.begun {
+        None => keep_mark(desk, file, Mark::Undoing(greatest_number(archive)))?,
+        Some(greatest) => {
+            if let Some(stray) = stray_of(archive, &change.entry, greatest)? {
+                archive.apply(&Command::Renumber {
+                    number: stray.number,
+                    to: stray.to,
+                })?;
+            }
+        }
+    }
+    Ok(())
+}
+
+// The part of an entry that was changed since.
+fn changed_part(entry: &Entry, place: usize) -> NotUndone {
+    match entry.parts.as_slice().get(place) {
+        Some(Part::Tune { number, .. }) => NotUndone::ChangedTune(*number),
+        Some(Part::Set { name, .. }) => NotUndone::ChangedSet(*name),
+        None => NotUndone::NothingLeft,
+    }
 }
