@@ -12,74 +12,27 @@ use Rattle.tune_desk.proofs.SpareLemmas.{spares_none, spares_reading, spares_bot
 use Rattle.desk_words.specs.declared.asked.Order.{Order}
 use Rattle.desk_words.specs.declared.asked.Order.TheVariants as order
 use Rattle.desk_words.specs.declared.asked.Target.{Target}
-use Rattle.desk_orders.specs.FileAnswers.{Did, IsVisited, IsAsked, IsUnasked}
-use Rattle.desk_orders.specs.Orders.{Scene, CarriesOut, Tells, WritesAnswer, DeliversRead, Drafts, WritesDraft, PlacesInput, RunsOnce, RunsOnFile, IsQuiet}
+use Rattle.desk_scenes.specs.FileAnswers.{Did, IsVisited, IsAsked, IsUnasked}
+use Rattle.desk_scenes.specs.Scenes.{Scene, IsQuiet}
+use Rattle.desk_orders.specs.Orders.{CarriesOut, Tells, WritesAnswer, DeliversRead, Drafts, WritesDraft, PlacesInput, RunsOnce, RunsOnFile}
 use Rattle.desk_orders.specs.Orders.{IsRefused, files_of, places_to}
-use Rattle.desk_orders.specs.Visits.{Visits, Mends, Comes, ComesToNothing, visit, failed_visit, spared, failed}
-use Rattle.desk_orders.proofs.OrderLemmas.{all_both}
+use Rattle.desk_scenes.specs.Visits.{Visits, Mends, Comes, ComesToNothing, visit, failed_visit, spared, failed}
+use Rattle.desk_scenes.proofs.FileLemmas.{asked_spares, unasked_spares, spares_since, quiet_spares}
 
 module _ {D : Type 0} (disks : disk.Ghosts D) (places : Places) where
-  -- VISITS
-  visits_read : (access : Access) (deeds : List (DeskDeed D)) → Visits disks places.file access deeds → AllByRecursion (IsReading places) deeds
-  visits_read Read _ (spared old new spares) = (refl, (refl, tt))
-  visits_read Read _ (failed fault) = (refl, tt)
-  visits_read Change _ (spared old new spares) = (refl, (refl, tt))
-  visits_read Change _ (failed fault) = (refl, tt)
-
-  reads_by : (deeds parts : List (DeskDeed D)) → deeds ≡ parts → AllByRecursion (IsReading places) parts → AllByRecursion (IsReading places) deeds
-  reads_by deeds parts e h = subst (AllByRecursion (IsReading places)) (sym e) h
-
-  mends_read : (deeds : List (DeskDeed D)) → Mends disks places.file deeds → AllByRecursion (IsReading places) deeds
-  mends_read deeds (tried, mended, first, second, e) =
-      reads_by deeds (tried ++ mended) e (all_both (IsReading places) tried mended (visits_read Read tried first) (visits_read Change mended second))
-
-  comes_read : (deeds : List (DeskDeed D)) → Comes disks places.file deeds → AllByRecursion (IsReading places) deeds
-  comes_read deeds (inl none) = reads_by deeds [] none tt
-  comes_read deeds (inr mends) = mends_read deeds mends
-
-  nothing_reads : (deeds : List (DeskDeed D)) → ComesToNothing disks places.file deeds → AllByRecursion (IsReading places) deeds
-  nothing_reads deeds (inl mends) = mends_read deeds mends
-  nothing_reads deeds (inr (before, tried, comes, visits, e)) =
-      reads_by deeds (before ++ tried) e (all_both (IsReading places) before tried (comes_read before comes) (visits_read Read tried visits))
-
-  visited_reads : (deeds : List (DeskDeed D)) → IsVisited disks places.file deeds → AllByRecursion (IsReading places) deeds
-  visited_reads deeds h =
-      reads_by deeds (h.before ++ visit places.file Read h.old h.new) h.are
-      (all_both (IsReading places) h.before (visit places.file Read h.old h.new) (comes_read h.before h.comes) (refl, (refl, tt)))
-
-  unasked_reads : (deeds : List (DeskDeed D)) → IsUnasked disks places.file deeds → AllByRecursion (IsReading places) deeds
-  unasked_reads deeds (inl nothing) = nothing_reads deeds nothing
-  unasked_reads deeds (inr visited) = visited_reads deeds visited
-
-  -- what was done since is reading
-  spares_since : (was now since : List (DeskDeed D)) → now ≡ was ++ since → AllByRecursion (IsReading places) since → SparesFiles places was now
-  spares_since was now since e h = subst (SparesFiles places was) (sym e) (spares_reading places was since h)
-
-  spares_same : (was now : List (DeskDeed D)) → now ≡ was → SparesFiles places was now
-  spares_same was now e = subst (SparesFiles places was) (sym e) (spares_none places was)
-
-  asked_spares : (Told : State → Type 0) (was now : List (DeskDeed D)) → Did was now (IsAsked disks places.file Told) → SparesFiles places was now
-  asked_spares Told was now did = spares_since was now did.0 did.1 (visited_reads did.0 did.2.visited)
-
-  unasked_spares : (was now : List (DeskDeed D)) → Did was now (IsUnasked disks places.file) → SparesFiles places was now
-  unasked_spares was now did = spares_since was now did.0 did.1 (unasked_reads did.0 did.2)
-
   -- ORDERS
   tells_spares : (Told : State → List ℕ → Type 0) (scene : Scene D) → Tells disks places.file Told scene → SparesFiles places scene.was scene.now
-  tells_spares Told scene (inl (bytes, did, prints)) = asked_spares (λ state. Told state bytes) scene.was scene.now did
-  tells_spares Told scene (inr refused) = unasked_spares scene.was scene.now refused.0
+  tells_spares Told scene (inl (bytes, did, prints)) = asked_spares disks places (λ state. Told state bytes) scene.was scene.now did
+  tells_spares Told scene (inr refused) = unasked_spares disks places scene.was scene.now refused.0
 
   once_spares : (scene : Scene D) → RunsOnce disks places.file scene → SparesFiles places scene.was scene.now
-  once_spares scene (inl (old, done, e, ran, asks, status)) = spares_since scene.was scene.now (visit places.file Read old done.disk) e (refl, (refl, tt))
-  once_spares scene (inr (fault, e, silent, status)) = spares_since scene.was scene.now (failed_visit places.file Read fault) e (refl, tt)
+  once_spares scene (inl (old, done, e, ran, asks, status)) = spares_since disks places scene.was scene.now (visit places.file Read old done.disk) e (refl, (refl, tt))
+  once_spares scene (inr (fault, e, silent, status)) = spares_since disks places scene.was scene.now (failed_visit places.file Read fault) e (refl, tt)
 
   runs_spares : (scene : Scene D) → RunsOnFile disks places.file scene → SparesFiles places scene.was scene.now
   runs_spares scene (inl (mid, did, once)) =
-      spares_both places scene.was mid scene.now (unasked_spares scene.was mid did) (once_spares (record scene { was = mid }) once)
-  runs_spares scene (inr refused) = unasked_spares scene.was scene.now refused.0
-
-  pub quiet_spares : (was now : List (DeskDeed D)) → IsQuiet was now → SparesFiles places was now
-  quiet_spares was now did = spares_since was now did.0 did.1 (quiet_all places did.0 did.2)
+      spares_both places scene.was mid scene.now (unasked_spares disks places scene.was mid did) (once_spares (record scene { was = mid }) once)
+  runs_spares scene (inr refused) = unasked_spares disks places scene.was scene.now refused.0
 
 delivered : {D : Type 0} (file : List ℕ) (target : Target) (bytes : List ℕ) (scene : Scene D) → DeliversRead file target bytes scene
     → SparesFiles (places_to file target) scene.was scene.now

@@ -2,4 +2,3 @@ pub mod BookLemmas
 pub mod FileLemmas
 pub mod OrderLemmas
 pub mod ScriptLemmas
-pub mod VisitLemmas

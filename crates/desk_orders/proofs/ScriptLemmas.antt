@@ -18,9 +18,9 @@ use Rattle.tune_cli.specs.FileActs.{RunsOn}
 use Rattle.tune_cli.specs.Headline.{File, HoldsThroughout, IsDone, IsRefused, DoesOn}
 use Rattle.tune_cli.specs.declared.command_line.Action.TheVariants as action
 use Rattle.tune_cli.specs.declared.file_actions.Done.{Done}
-use Rattle.desk_questions.proofs.AskLemmas.{question_stays}
+use Rattle.tune_asking.proofs.AskLemmas.{question_stays}
 use Rattle.desk_orders.specs.ScriptVisits.{LeaveAll, RunsOrRefuses, AsksScript}
-use Rattle.desk_orders.specs.Visits.{IsSpared}
+use Rattle.desk_scenes.specs.Visits.{IsSpared}
 
 -- ONE COMMAND
 is_true : (b : Bool) → not b ≡ false → b ≡ true

@@ -15,7 +15,7 @@ use Rattle.tune_desk.specs.DeskDeeds.{DeskDeed, looked, read, listed}
 use Rattle.tune_desk.specs.declared.desk.DeskFault.{DeskFault}
 use Rattle.tune_desk.specs.declared.desk.Standing.{Standing}
 use Rattle.tune_desk.specs.declared.desk.Standing.TheVariants as standing
-use Rattle.desk_orders.specs.Printing.{Prints, IsSilent, ReadsAll, WritesNothing}
+use Rattle.desk_scenes.specs.Printing.{Prints, IsSilent, ReadsAll, WritesNothing}
 
 -- ONE BOOK
 -- the texts of its tunes, or why an import refuses it

@@ -23,17 +23,10 @@ use Rattle.desk_words.specs.declared.asked.Order.{Order}
 use Rattle.desk_words.specs.declared.asked.Order.TheVariants as order
 use Rattle.desk_words.specs.declared.asked.Target.{Target}
 use Rattle.desk_orders.specs.CheckedBooks.{Stage, TellsPaths}
-use Rattle.desk_orders.specs.FileAnswers.{Did, IsAsked, IsUnasked}
-use Rattle.desk_orders.specs.Printing.{WritesOut, Prints, WritesNothing, IsSilent, ReadsAll}
+use Rattle.desk_scenes.specs.FileAnswers.{Did, IsAsked, IsUnasked}
+use Rattle.desk_scenes.specs.Printing.{WritesOut, Prints, WritesNothing, IsSilent, ReadsAll}
 use Rattle.desk_orders.specs.ScriptVisits.{AsksScript}
-use Rattle.desk_orders.specs.Visits.{visit, failed_visit}
-
--- One call: what was read and written, what was done with files, and the status.
-pub record Scene (D : Type 0) : Type 0 where
-  pub streams : Streams
-  pub was : List (DeskDeed D)
-  pub now : List (DeskDeed D)
-  pub status : ℕ
+use Rattle.desk_scenes.specs.Visits.{visit, failed_visit}
 
 -- how far it was at its beginning, and at its end
 abbrev pub stage_before : {D : Type 0} → Scene D → Stage D
@@ -65,14 +58,6 @@ Tells disks file Told scene = ((bytes : List ℕ)
     ⊎ IsRefused disks file scene
 
 -- RESULTS
--- A result was written to OUT, and the status is 0; or it was refused, and the status says so.
-pub record WritesResult {D : Type 0} (places : Places) (bytes : List ℕ)
-    (was now : List (DeskDeed D))
-    (status : ℕ) : Type 0 where
-  pub spares : SparesFiles places was now
-  pub answer : ((status ≡ 0) × Writes places bytes was now)
-      ⊎ ((status ≢ 0) × (fault : ResultFault) × Refuses places fault was now)
-
 -- the files of an order whose result goes to a target
 abbrev pub places_to : List ℕ → Target → Places
 places_to file target =
@@ -129,10 +114,6 @@ abbrev pub PlacesInput : {D : Type 0} → List ℕ → Target → Scene D → Ty
 PlacesInput file target scene = ((bytes : List ℕ) × ReadsAll scene.streams bytes
     × DeliversRead file target bytes scene)
     ⊎ ((scene.now ≡ scene.was) × WritesNothing scene.streams × (scene.status ≢ 0))
-
--- Nothing was done with files but to look at them and to read them.
-abbrev pub IsQuiet : {D : Type 0} → List (DeskDeed D) → List (DeskDeed D) → Type 0
-IsQuiet was now = Did was now (AllByRecursion ChangesNothing)
 
 -- Books were read, and told one after another.
 abbrev pub ChecksBooks : {A D : Type 0} → List (String A) → Scene D → Type 0

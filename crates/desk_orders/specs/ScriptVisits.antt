@@ -8,7 +8,7 @@ use Rattle.tune_scripts.specs.Timelines.{Timeline}
 use Rattle.tune_cli.specs.Headline.{File, HoldsThroughout, IsRefused, Says}
 use Rattle.tune_cli.specs.declared.command_line.Action.TheVariants as action
 use Rattle.tune_cli.specs.declared.file_actions.Done.{Done}
-use Rattle.desk_orders.specs.Visits.{IsSpared}
+use Rattle.desk_scenes.specs.Visits.{IsSpared}
 
 -- each command was a question, or it was refused, and not because the device failed
 abbrev pub LeaveAll : Timeline → Type 0

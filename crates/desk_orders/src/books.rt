@@ -9,12 +9,10 @@ ghost use Rattle.desk_orders.specs.CheckedBooks.{EachInTurn, TellsBook, TellsFil
 ghost use Rattle.desk_orders.specs.CheckedBooks.{TellsInput, TellsName, TellsOneOf, TellsPath};
 ghost use Rattle.desk_orders.specs.CheckedBooks.{TellsPaths, is_book_name, lost_told, stage_of};
 ghost use Rattle.desk_orders.specs.CheckedBooks.{taken_line};
-ghost use Rattle.desk_orders.specs.Orders.{IsQuiet};
+ghost use Rattle.desk_scenes.specs.Scenes.{IsQuiet};
 
-use crate::input::read_input;
-use crate::printing::print;
-use crate::reasons::{BAD_WORDS, DONE, REFUSED, desk_reason, say};
 use abc_fields::{BookFault, ByteText, TuneFault};
+use desk_scenes::{BAD_WORDS, DONE, REFUSED, desk_reason, print, read_input, say};
 use std::alloc::{AllocError, Global};
 use std::io::Write;
 use told_books::{DroppedLine, ToldBook, told_book};

@@ -2,10 +2,10 @@
 ghost use Rattle.std.specs.Prelude.{◌≡◌, Some, string_bytes};
 ghost use Rattle.tune_scripts.specs.Streams.{streams_in};
 ghost use Rattle.tune_desk.specs.Results.{places_of};
-ghost use Rattle.desk_orders.specs.Orders.{Delivers, WritesResult};
+ghost use Rattle.desk_scenes.specs.Scenes.{WritesResult};
+ghost use Rattle.desk_orders.specs.Orders.{Delivers};
 
-use crate::printing::print;
-use crate::reasons::{DONE, say_unwritten};
+use desk_scenes::{print, write_file};
 use desk_words::Target;
 use std::io::Write;
 use tune_desk::{Desk, write_result};
@@ -32,24 +32,5 @@ pub(crate) fn deliver<C: Console, E: Write, K: AllocGlobal + Desk>(
         print(console, errors, bytes)
     } else {
         write_file(desk, file, &target.out, target.force, bytes, errors)
-    }
-}
-
-/// Writes a result to a file, and gives the status.
-pub(crate) fn write_file<E: Write, K: AllocGlobal + Desk>(
-    desk: &mut K,
-    file: &String,
-    out: &String,
-    force: bool,
-    bytes: &[u8],
-    errors: &mut E,
-) -> u8
-    ensures { let out_path = Some (string_bytes out.now) in
-        WritesResult (places_of (string_bytes file.now) out_path force) bytes.now
-        (K.deeds desk.old) (K.deeds desk.new) result }
-{
-    match write_result(desk.alloc(), desk, file, out, force, bytes) {
-        Ok(()) => DONE,
-        Err(fault) => say_unwritten(errors, file.as_str(), out.as_str(), &fault),
     }
 }

@@ -4,9 +4,7 @@ ghost use Rattle.tune_books.specs.WrittenBooks.{written_tune};
 ghost use Rattle.tune_scripts.specs.Streams.{streams_in};
 ghost use Rattle.desk_orders.specs.Orders.{WritesDraft};
 
-use crate::deliveries::write_file;
-use crate::printing::print;
-use crate::reasons::{REFUSED, say};
+use desk_scenes::{REFUSED, print, say, write_file};
 use std::alloc::{AllocError, Global};
 use std::io::Write;
 use tune_desk::Desk;

@@ -6,28 +6,19 @@ ghost use Rattle.tune_archive.specs.AsStore.{store_on};
 ghost use Rattle.tune_archive.specs.Shelf.{state_of};
 ghost use Rattle.tune_store.specs.Step.{step};
 ghost use Rattle.tune_store.specs.declared.command.Command.TheVariants as command;
-ghost use Rattle.desk_questions.specs.Asking as asking;
+ghost use Rattle.tune_asking.specs.Asking as asking;
 ghost use Rattle.desk_questions.specs.Told.{told};
-ghost use Rattle.desk_orders.specs.FileAnswers.{Did, IsAsked, IsUnasked};
-ghost use Rattle.desk_orders.specs.Inside.OpenedFile.{CountsOf};
+ghost use Rattle.desk_scenes.specs.FileAnswers.{Did, IsAsked, IsUnasked};
+ghost use Rattle.desk_scenes.specs.OpenedFile.{CountsOf};
 
-use crate::file_opening::{Unopened, open_to_read};
 use abc_fields::ByteText;
 use desk_questions::tell;
+use desk_scenes::{Unanswered, Unopened, open_to_read};
 use desk_terms::Question;
 use tune_archive::{Archive, Counts, TuneStore};
 use tune_desk::Desk;
 use tune_disk::Disk;
 use tune_store::{Command, Refusal, Reply, Tune};
-
-/// Why a question is not answered.
-#[derive(Clone, Copy, Debug, PartialEq, Eq)]
-pub(crate) enum Unanswered {
-    /// FILE was not opened.
-    Unopened(Unopened),
-    /// It was refused.
-    Refused(Refusal),
-}
 
 /// What FILE tells to a question, in bytes.
 pub(crate) fn ask_question<D: Disk, K: AllocGlobal + Desk<Disk = D>>(

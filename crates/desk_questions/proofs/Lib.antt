@@ -1,5 +1,3 @@
-pub mod CallLemmas
-pub mod AskLemmas
 pub mod NumberLemmas
 pub mod TuneLemmas
 pub mod DumpLemmas

@@ -14,7 +14,7 @@ use Rattle.tune_store.specs.declared.command.Reply.{Reply}
 use Rattle.tune_store.specs.declared.command.Reply.TheVariants.{Shown, Found, Titled}
 use Rattle.tune_store.specs.declared.command.Refusal.{Refusal}
 use Rattle.tune_store.specs.declared.command.Refusal.TheVariants.{BadQuery}
-use Rattle.desk_questions.specs.Inside.QuestionCalls.{tune_or, tune_told}
+use Rattle.tune_asking.specs.Calls.{tune_or, tune_told}
 
 -- SHOW
 pub shown_ok : (number : ℕ) (there : Option Tune) (reply : Reply) → shown number there ≡ Ok reply

@@ -1,4 +1,3 @@
-pub mod Asking
 pub mod Conditions
 pub mod Dumps
 pub mod Inside

@@ -7,14 +7,14 @@ ghost use Rattle.tune_store.specs.declared.command.Command.TheVariants.{SetNew, 
 ghost use Rattle.desk_questions.specs.Dumps.{book_of, imported, set_commands};
 ghost use Rattle.desk_questions.specs.Dumps.{dump_commands, command_bytes};
 ghost use Rattle.desk_questions.specs.Dumps.{script_bytes};
-ghost use Rattle.desk_questions.specs.Inside.QuestionCalls.{Call, told_by, told_where};
+ghost use Rattle.tune_asking.specs.Calls.{Call, told_by, told_where};
 ghost use Rattle.desk_questions.specs.Inside.DumpCalls.{GoesOn, places_told};
 ghost use Rattle.desk_questions.specs.Inside.DumpCalls.{tunes_dumped, set_dumped};
 ghost use Rattle.desk_questions.specs.Inside.DumpCalls.{each_dumped, sets_dumped};
 
-use crate::shelf::all_numbers;
-use crate::store_questions::{ask, tune_of};
-use crate::written::write_tune;
+use tune_asking::all_numbers;
+use tune_asking::{ask, tune_of};
+use tune_asking::write_tune;
 use abc_fields::ByteText;
 use std::alloc::{AllocError, Global};
 use std::io::Write;

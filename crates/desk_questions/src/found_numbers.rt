@@ -1,6 +1,7 @@
 // The tunes that conditions give.
 ghost use Rattle.std.specs.Prelude.{◌≡◌, ◌++◌, map, filter, true, IfOk, OnOk};
-ghost use Rattle.desk_questions.specs.Inside.QuestionCalls.{Call, added_by_query, added_by_title};
+ghost use Rattle.tune_asking.specs.Calls.{Call};
+ghost use Rattle.desk_questions.specs.Inside.QuestionCalls.{added_by_query, added_by_title};
 ghost use Rattle.desk_questions.specs.Inside.QuestionCalls.{AreGiven, AreFound, RefusesNothing};
 ghost use Rattle.std.specs.List.{list_any};
 ghost use Rattle.tune_queries.specs.Queries.{is_bad};
@@ -10,8 +11,8 @@ ghost use Rattle.desk_questions.specs.Inside.SoughtWords.{words_of};
 
 use crate::conditions::{has_no_words, has_title, looks_at_titles, queries_of, words_of};
 use crate::numbers::{add_numbers, in_both};
-use crate::shelf::all_numbers;
-use crate::store_questions::ask;
+use tune_asking::all_numbers;
+use tune_asking::ask;
 use desk_lists::FoldedWords;
 use desk_terms::Condition;
 use std::alloc::{AllocError, Global};

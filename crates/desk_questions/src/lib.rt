@@ -10,12 +10,9 @@ mod found_numbers;
 mod laws;
 mod numbers;
 mod same_tunes;
-mod shelf;
-mod store_questions;
 mod told_answers;
 mod told_rows;
 mod told_twins;
-mod written;
 
 pub use laws::law_of_dumps;
 pub use told_answers::tell;

@@ -3,12 +3,12 @@ ghost use Rattle.std.specs.Prelude.{◌≡◌, Ok, Err};
 ghost use Rattle.desk_lists.specs.Twins.{twin_list_bytes};
 ghost use Rattle.desk_questions.specs.SameTunes.{twins};
 ghost use Rattle.desk_questions.specs.Told.{tunes_at};
-ghost use Rattle.desk_questions.specs.Inside.QuestionCalls.{Call, told_where};
+ghost use Rattle.tune_asking.specs.Calls.{Call, told_where};
 ghost use Rattle.desk_questions.specs.Inside.SeenTunes.{AreTwinsAt};
 
 use crate::same_tunes::SeenTunes;
-use crate::shelf::all_numbers;
-use crate::store_questions::tune_of;
+use tune_asking::all_numbers;
+use tune_asking::tune_of;
 use abc_fields::ByteText;
 use desk_lists::{TwinRow, twin_list};
 use desk_terms::Form;

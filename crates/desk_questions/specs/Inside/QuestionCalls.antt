@@ -18,34 +18,10 @@ use Rattle.tune_store.specs.declared.index_rows.IndexRow.{IndexRow}
 use Rattle.tune_store.specs.declared.command.Refusal.{Refusal}
 use Rattle.tune_store.specs.declared.command.Refusal.TheVariants.{Device, Unknown, BadQuery}
 use Rattle.tune_store.specs.declared.tune_store.TuneStore.{Ghosts}
-use Rattle.desk_questions.specs.Asking.{IsOnlyAsked, IsFault}
+use Rattle.tune_asking.specs.Asking.{IsOnlyAsked, IsFault}
 use Rattle.desk_questions.specs.Conditions.{gives, has_title, asks_nothing}
 use Rattle.desk_questions.specs.Told.{found, tunes_at}
 use Rattle.desk_terms.specs.declared.condition.Condition.{Condition}
-
--- what an accepted answer is at a state, and for what a state is refused
-pub record Meaning (T : Type 0) : Type 1 where
-  pub good : State → T → Type 0
-  pub refused : State → Refusal → Type 0
-
--- Questions were asked, from `old` to `new`; an open store is closed only by a failure of its
--- device; and the answer means this of its state, or is a fault.
-pub record Call {S T : Type 0} (kept : Ghosts S) (old new : S) (meaning : Meaning T)
-    (result : Result T Refusal) : Type 0 where
-  pub asked : IsOnlyAsked kept old new
-  pub stays : kept.closed old ≡ false
-      → MatchResult result (λ _. kept.closed new ≡ false)
-      (λ refusal. kept.closed new ≡ true → refusal ≡ Device)
-  pub answer : kept.closed old ≡ false → kept.honest new
-      → MatchResult result (meaning.good (kept.state old))
-      (λ refusal. meaning.refused (kept.state old) refusal ⊎ IsFault refusal)
-
--- an answer is what is told of the state
-abbrev pub told_by : {T : Type 0} → (State → Result T Refusal) → Meaning T
-told_by told = record {
-  good = λ state value. told state ≡ Ok value;
-  refused = λ state refusal. told state ≡ Err refusal;
-}
 
 -- NUMBERS
 -- whether a number is among these
@@ -106,15 +82,6 @@ pub record AreFound (conditions : List Condition) (labels : List Label) (state :
   pub are : labels ≡ labels_of state.tunes
       → numbers ≡ map (λ tune. tune.number) (found conditions state)
 
--- BY NUMBERS
-abbrev pub tune_or : ℕ → Option Tune → Result Tune Refusal
-tune_or number None = Err (Unknown number)
-tune_or number (Some tune) = Ok tune
-
--- the tune of a number
-abbrev pub tune_told : ℕ → State → Result Tune Refusal
-tune_told number state = tune_or number (tune_at number state.tunes)
-
 -- the rows of the tunes of these numbers
 pub record AreRowsAt (numbers : List ℕ) (state : State) (rows : List IndexRow) : Type 0 where
   pub tunes : List Tune
@@ -132,10 +99,3 @@ pub record AreWritten (numbers : List ℕ) (old new : List ℕ) (state : State) 
 abbrev pub RefusesNothing : List Condition → Refusal → Type 0
 RefusesNothing conditions refusal =
     (list_any asks_nothing conditions ≡ true) × (refusal ≡ BadQuery)
-
--- what is told of the state, where these labels are those of its tunes
-abbrev pub told_where : {T : Type 0} → List Label → (State → Result T Refusal) → Meaning T
-told_where labels told = record {
-  good = λ state value. labels ≡ labels_of state.tunes → told state ≡ Ok value;
-  refused = λ state refusal. labels ≡ labels_of state.tunes → told state ≡ Err refusal;
-}

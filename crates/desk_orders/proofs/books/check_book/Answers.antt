@@ -2,7 +2,7 @@ use Rattle.std.proofs.Common.{◌∙◌, inl, ap, subst, max, count_by}
 use Rattle.tune_scripts.specs.Streams.{streams_in}
 use Rattle.told_books.specs.Fates.{is_dropped}
 use Rattle.told_books.specs.ToldTunes.{book_fault, fault_of}
-use Rattle.desk_orders.specs.Printing.{Prints}
+use Rattle.desk_scenes.specs.Printing.{Prints}
 use Rattle.desk_orders.proofs.BookLemmas.{told_line, tunes_told_of}
 use Rattle.desk_orders.proofs.books.check_book.Goals as goal
 

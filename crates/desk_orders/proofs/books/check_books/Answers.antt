@@ -1,7 +1,7 @@
 use Rattle.std.proofs.Common.{string_bytes, subst, sym, take, ◌+◌}
 use Rattle.desk_orders.specs.CheckedBooks.{EachInTurn, TellsPath, stage_of}
 use Rattle.desk_orders.proofs.BookLemmas.{next_in_turn}
-use Rattle.desk_orders.proofs.OrderLemmas.{quiet_both}
+use Rattle.desk_scenes.proofs.QuietLemmas.{quiet_both}
 use Rattle.desk_orders.proofs.books.check_books.Goals as goal
 
 pub loop-path-preserved : goal.loop-path-preserved

@@ -1,6 +1,6 @@
 use Rattle.std.proofs.Common.{string_bytes, take}
 use Rattle.desk_orders.specs.CheckedBooks.{EachInTurn, TellsName, stage_of}
-use Rattle.desk_orders.specs.Orders.{IsQuiet}
+use Rattle.desk_scenes.specs.Scenes.{IsQuiet}
 use Rattle.desk_orders.proofs.books.check_names.Given as goal
 
 -- no file was changed so far, and the first names were gone through

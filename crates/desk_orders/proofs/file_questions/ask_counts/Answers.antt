@@ -1,6 +1,6 @@
 use Rattle.std.proofs.Common.{string_bytes}
-use Rattle.desk_orders.specs.Inside.OpenedFile.{CountsOf}
-use Rattle.desk_orders.proofs.VisitLemmas.{is_asked, spares_closed, held_closed}
+use Rattle.desk_scenes.specs.OpenedFile.{CountsOf}
+use Rattle.desk_scenes.proofs.VisitLemmas.{is_asked, spares_closed, held_closed}
 use Rattle.desk_orders.proofs.file_questions.ask_counts.Goals as goal
 
 pub returns-in-Ok-counts : goal.returns-in-Ok-counts

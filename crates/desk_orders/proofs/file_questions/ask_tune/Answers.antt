@@ -1,6 +1,6 @@
 use Rattle.std.proofs.Common.{string_bytes, ◌≡◌, Some, inr}
 use Rattle.tune_store.specs.State.{tune_at}
-use Rattle.desk_orders.proofs.VisitLemmas.{is_asked, is_visited, spares_asked, held_asked}
+use Rattle.desk_scenes.proofs.VisitLemmas.{is_asked, is_visited, spares_asked, held_asked}
 use Rattle.desk_orders.proofs.file_questions.ask_tune.Goals as goal
 
 pub returns-in-Ok-answer : goal.returns-in-Ok-answer

@@ -5,7 +5,7 @@ use Rattle.tune_archive.specs.AsStore.{store_on}
 use Rattle.tune_archive.specs.Shelf.{state_of}
 use Rattle.tune_store.specs.Step.{step}
 use Rattle.tune_store.specs.declared.command.Command.TheVariants as command
-use Rattle.desk_orders.proofs.VisitLemmas.{only_asked, answered_if}
+use Rattle.desk_scenes.proofs.VisitLemmas.{only_asked, answered_if}
 use Rattle.desk_orders.proofs.file_questions.shown.Goals as goal
 
 pub returns-clause-asked : goal.returns-clause-asked

@@ -1,5 +1,5 @@
 use Rattle.std.proofs.Common.{◌∙◌, ap, Ok}
-use Rattle.desk_orders.proofs.VisitLemmas.{shown_is}
+use Rattle.desk_scenes.proofs.VisitLemmas.{shown_is}
 use Rattle.tune_archive.specs.Shelf.{state_of}
 use Rattle.desk_orders.proofs.file_questions.shown_tune.Goals as goal
 

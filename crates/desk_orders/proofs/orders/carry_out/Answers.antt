@@ -4,7 +4,8 @@ use Rattle.tune_scripts.specs.Streams.{streams_in}
 use Rattle.tune_desk.specs.Results.{SparesFiles, places_of}
 use Rattle.desk_words.specs.declared.asked.Order.TheVariants as order
 use Rattle.desk_orders.specs.Orders.{files_of}
-use Rattle.desk_orders.proofs.FileLemmas.{order_is, quiet_spares}
+use Rattle.desk_orders.proofs.FileLemmas.{order_is}
+use Rattle.desk_scenes.proofs.FileLemmas.{quiet_spares}
 use Rattle.desk_orders.proofs.orders.carry_out.Goals as goal
 
 pub returns-in-Tell-clause-files : goal.returns-in-Tell-clause-files

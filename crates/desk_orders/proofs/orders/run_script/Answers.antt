@@ -1,7 +1,7 @@
 use Rattle.std.proofs.Common.{inl, refl}
 use Rattle.tune_cli.proofs.HeadlineLemmas.{runs_done}
 use Rattle.desk_orders.proofs.ScriptLemmas.{asks_script}
-use Rattle.desk_orders.proofs.VisitLemmas.{two_deeds}
+use Rattle.desk_scenes.proofs.VisitLemmas.{two_deeds}
 use Rattle.desk_orders.proofs.orders.run_script.Goals as goal
 
 pub returns-in-Ok : goal.returns-in-Ok

@@ -1,6 +1,6 @@
 use Rattle.std.proofs.Common.{inl, subst}
 use Rattle.tune_scripts.specs.Streams.{streams_in}
-use Rattle.desk_orders.specs.Printing.{Prints}
+use Rattle.desk_scenes.specs.Printing.{Prints}
 use Rattle.desk_orders.proofs.orders.tell.Goals as goal
 
 pub returns-in-Ok : goal.returns-in-Ok

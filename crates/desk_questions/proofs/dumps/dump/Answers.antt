@@ -1,5 +1,5 @@
 use Rattle.std.proofs.Common.{◌≡◌, [], Ok, rules, sym, ap, ◌∙◌}
-use Rattle.desk_questions.proofs.CallLemmas.{goes_none, goes_on, good_of, call_ok, call_err}
+use Rattle.tune_asking.proofs.CallLemmas.{goes_none, goes_on, good_of, call_ok, call_err}
 use Rattle.desk_questions.proofs.DumpLemmas.{never_missing, dumped_whole}
 use Rattle.desk_questions.proofs.dumps.dump.Goals as goal
 

@@ -1,6 +1,6 @@
 use Rattle.std.proofs.Common.{rules, sym, ap, arith, append-nil}
 use Rattle.tune_sets.specs.declared.set_rows.SetRow.{SetRow}
-use Rattle.desk_questions.proofs.CallLemmas.{goes_none, goes_on, good_of, call_ok, call_err}
+use Rattle.tune_asking.proofs.CallLemmas.{goes_none, goes_on, good_of, call_ok, call_err}
 use Rattle.desk_questions.proofs.DumpLemmas.{sets_more, sets_all, set_there}
 use Rattle.desk_questions.proofs.dumps.dump_each.Goals as goal
 

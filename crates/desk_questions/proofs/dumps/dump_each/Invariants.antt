@@ -1,7 +1,7 @@
 use Rattle.std.proofs.Common.{◌≡◌, ◌++◌, false}
 use Rattle.tune_sets.specs.Calls.{rows_of}
 use Rattle.desk_questions.specs.Dumps.{script_bytes}
-use Rattle.desk_questions.proofs.CallLemmas.{Goes}
+use Rattle.tune_asking.proofs.CallLemmas.{Goes}
 use Rattle.desk_questions.proofs.DumpLemmas.{some_sets}
 use Rattle.desk_questions.proofs.dumps.dump_each.Given as goal
 

@@ -1,5 +1,5 @@
 use Rattle.std.proofs.Common.{rules}
-use Rattle.desk_questions.proofs.CallLemmas.{goes_none, goes_on, good_of, call_ok, call_err, call_no_memory}
+use Rattle.tune_asking.proofs.CallLemmas.{goes_none, goes_on, good_of, call_ok, call_err, call_no_memory}
 use Rattle.desk_questions.proofs.DumpLemmas.{no_set_told, set_written}
 use Rattle.desk_questions.proofs.dumps.dump_set.Goals as goal
 

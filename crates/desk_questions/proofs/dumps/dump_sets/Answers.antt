@@ -1,5 +1,5 @@
 use Rattle.std.proofs.Common.{rules, refl, ◌∙◌}
-use Rattle.desk_questions.proofs.CallLemmas.{goes_none, goes_on, good_of, call_err, call_same}
+use Rattle.tune_asking.proofs.CallLemmas.{goes_none, goes_on, good_of, call_err, call_same}
 use Rattle.desk_questions.proofs.DumpLemmas.{all_rows}
 use Rattle.desk_questions.proofs.dumps.dump_sets.Goals as goal
 

@@ -1,5 +1,5 @@
 use Rattle.std.proofs.Common.{rules, refl, arith}
-use Rattle.desk_questions.proofs.CallLemmas.{goes_none, goes_on, good_of, call_ok, call_err, call_no_memory}
+use Rattle.tune_asking.proofs.CallLemmas.{goes_none, goes_on, good_of, call_ok, call_err, call_no_memory}
 use Rattle.desk_questions.proofs.RowLemmas.{refused_at}
 use Rattle.desk_questions.proofs.DumpLemmas.{begun_none, begun_more, begun_all}
 use Rattle.desk_questions.proofs.dumps.dump_tunes.Goals as goal

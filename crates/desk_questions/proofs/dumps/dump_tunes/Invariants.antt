@@ -1,5 +1,5 @@
 use Rattle.std.proofs.Common.{◌≡◌, false, take}
-use Rattle.desk_questions.proofs.CallLemmas.{Goes}
+use Rattle.tune_asking.proofs.CallLemmas.{Goes}
 use Rattle.desk_questions.proofs.DumpLemmas.{IsBegun}
 use Rattle.desk_questions.proofs.dumps.dump_tunes.Given as goal
 

@@ -1,5 +1,5 @@
 use Rattle.std.proofs.Common.{rules, refl, ◌∙◌}
-use Rattle.desk_questions.proofs.CallLemmas.{goes_none, goes_on, good_of, call_ok, call_err, call_no_memory, call_refused}
+use Rattle.tune_asking.proofs.CallLemmas.{goes_none, goes_on, good_of, call_ok, call_err, call_no_memory, call_refused}
 use Rattle.desk_questions.proofs.DumpLemmas.{show_is, show_other, show_refused}
 use Rattle.desk_questions.proofs.dumps.places.Goals as goal
 

@@ -4,7 +4,7 @@ use Rattle.tune_store.specs.Questions.{titled}
 use Rattle.tune_store.specs.declared.index_rows.IndexRow.{IndexRow}
 use Rattle.desk_questions.specs.Inside.QuestionCalls.{has_row_title, has_some_title}
 use Rattle.desk_questions.specs.Inside.SoughtWords.{looks_at_titles}
-use Rattle.desk_questions.proofs.CallLemmas.{goes_none, goes_on, good_of, call_ok, call_err, call_no_memory}
+use Rattle.tune_asking.proofs.CallLemmas.{goes_none, goes_on, good_of, call_ok, call_err, call_no_memory}
 use Rattle.desk_questions.proofs.ReplyLemmas.{titles_given, titled_ok, same_titles}
 use Rattle.desk_questions.proofs.FoundLemmas.{adds_titled, adds_none, no_titles}
 use Rattle.desk_questions.proofs.found_numbers.add_by_title.Goals as goal

@@ -3,7 +3,7 @@ use Rattle.tune_queries.specs.Queries.{matches}
 use Rattle.tune_store.specs.Limits.{notes_of}
 use Rattle.tune_store.specs.Questions.{found}
 use Rattle.tune_store.specs.declared.index_rows.IndexRow.{IndexRow}
-use Rattle.desk_questions.proofs.CallLemmas.{goes_none, goes_on, good_of, call_ok, call_err, call_no_memory}
+use Rattle.tune_asking.proofs.CallLemmas.{goes_none, goes_on, good_of, call_ok, call_err, call_no_memory}
 use Rattle.desk_questions.proofs.ReplyLemmas.{found_ok, found_refused, same_rows}
 use Rattle.desk_questions.proofs.FoundLemmas.{adds_found}
 use Rattle.desk_questions.proofs.found_numbers.add_found.Goals as goal

@@ -1,6 +1,6 @@
 use Rattle.std.proofs.Common.{◌≡◌, false, take}
 use Rattle.desk_questions.specs.Inside.QuestionCalls.{AreFound}
-use Rattle.desk_questions.proofs.CallLemmas.{Goes}
+use Rattle.tune_asking.proofs.CallLemmas.{Goes}
 use Rattle.desk_questions.proofs.found_numbers.found.Given as goal
 
 abbrev pub invariant-loop-condition : goal.invariant-loop-condition

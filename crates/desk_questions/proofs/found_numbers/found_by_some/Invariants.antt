@@ -1,7 +1,7 @@
 use Rattle.std.proofs.Common.{◌≡◌, ◌++◌, false}
 use Rattle.std.specs.Vec.Iter.{into_iter_items}
 use Rattle.desk_questions.specs.Inside.QuestionCalls.{AreFoundBySome}
-use Rattle.desk_questions.proofs.CallLemmas.{Goes}
+use Rattle.tune_asking.proofs.CallLemmas.{Goes}
 use Rattle.desk_questions.proofs.found_numbers.found_by_some.Given as goal
 
 abbrev pub invariant-loop-query : goal.invariant-loop-query

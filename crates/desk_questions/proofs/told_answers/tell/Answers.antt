@@ -1,8 +1,8 @@
 use Rattle.std.proofs.Common.{◌≡◌, ◌≤◌, ◌<◌, ◌++◌, [], ◌∷◌, Ok, Err, true, false, map, take, drop, length, rules, refl, sym, ap, ◌∙◌, subst, arith, append-nil}
 use Rattle.std.proofs.Common.{append_assoc, codes, inl, inr}
-use Rattle.desk_questions.proofs.CallLemmas.{goes_none, goes_on, good_of, call_ok, call_err, call_no_memory, call_refused, call_refused_by, call_same}
+use Rattle.tune_asking.proofs.CallLemmas.{goes_none, goes_on, good_of, call_ok, call_err, call_no_memory, call_refused, call_refused_by, call_same}
 use Rattle.std.specs.Prelude.{MatchResult}
-use Rattle.desk_questions.proofs.CallLemmas.{told_at}
+use Rattle.tune_asking.proofs.CallLemmas.{told_at}
 use Rattle.desk_questions.proofs.told_answers.tell.Goals as goal
 
 pub returns-clause-told : goal.returns-clause-told

@@ -1,6 +1,6 @@
 use Rattle.std.proofs.Common.{Ok, rules, sym, ap, ◌∙◌}
 use Rattle.desk_lists.specs.Twins.{twin_list_bytes}
-use Rattle.desk_questions.proofs.CallLemmas.{goes_none, goes_on, good_of, call_ok, call_err, call_no_memory}
+use Rattle.tune_asking.proofs.CallLemmas.{goes_none, goes_on, good_of, call_ok, call_err, call_no_memory}
 use Rattle.desk_questions.proofs.TwinLemmas.{all_at, all_twins, never_unknown}
 use Rattle.desk_questions.proofs.told_twins.twins.Goals as goal
 

@@ -1,5 +1,5 @@
 use Rattle.std.proofs.Common.{rules, refl, arith}
-use Rattle.desk_questions.proofs.CallLemmas.{goes_none, goes_on, good_of, call_ok, call_err, call_no_memory}
+use Rattle.tune_asking.proofs.CallLemmas.{goes_none, goes_on, good_of, call_ok, call_err, call_no_memory}
 use Rattle.desk_questions.proofs.RowLemmas.{refused_at}
 use Rattle.desk_questions.proofs.SeenLemmas.{seen_none, seen_next, seen_all}
 use Rattle.desk_questions.proofs.told_twins.twins_at.Goals as goal

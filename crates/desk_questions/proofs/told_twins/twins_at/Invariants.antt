@@ -1,6 +1,6 @@
 use Rattle.std.proofs.Common.{◌≡◌, false, take}
 use Rattle.desk_questions.specs.Inside.SeenTunes.{AreSeen}
-use Rattle.desk_questions.proofs.CallLemmas.{Goes}
+use Rattle.tune_asking.proofs.CallLemmas.{Goes}
 use Rattle.desk_questions.proofs.told_twins.twins_at.Given as goal
 
 abbrev pub invariant-loop-number : goal.invariant-loop-number

@@ -1,0 +1,3 @@
+pub mod FileLemmas
+pub mod QuietLemmas
+pub mod VisitLemmas

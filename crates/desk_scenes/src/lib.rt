@@ -1,0 +1,19 @@
+//! What every order of the front end does alike: it opens FILE and closes it, prints, writes a
+//! result to a file, and says in words what is wrong.
+#![tactic(auto)]
+
+mod file_opening;
+mod input;
+mod printing;
+mod reasons;
+mod result_files;
+mod unanswered;
+
+pub use file_opening::{Unopened, bring_to_rest, open_once, open_to_read};
+pub use input::read_input;
+pub use printing::{print, print_counts};
+pub use reasons::{
+    BAD_WORDS, DONE, REFUSED, desk_reason, say, say_unanswered, say_unopened, say_unwritten,
+};
+pub use result_files::write_file;
+pub use unanswered::Unanswered;
