@@ -4,7 +4,6 @@
 
 mod file_opening;
 mod input;
-mod kept_entries;
 mod printing;
 mod progress;
 mod reasons;
@@ -13,7 +12,6 @@ mod unanswered;
 
 pub use file_opening::{Unopened, bring_to_rest, open_once, open_to_read};
 pub use input::read_input;
-pub use kept_entries::{Unkept, keep_entry, keep_mark};
 pub use printing::{print, print_counts};
 pub use progress::Progress;
 pub use reasons::{

@@ -2,11 +2,10 @@
 ghost use Rattle.std.specs.Prelude.{◌≢◌};
 
 use crate::file_opening::Unopened;
-use crate::kept_entries::Unkept;
 use crate::unanswered::Unanswered;
 use abc_fields::TuneFault;
 use std::io::Write;
-use tune_desk::{DeskFault, ResultFault, ResultRefusal};
+use tune_desk::{DeskFault, OldTextsFault, ResultFault, ResultRefusal};
 use tune_journal::OpenFault;
 use tune_sets::SetName;
 use tune_store::Refusal;
@@ -229,13 +228,13 @@ fn change_reason(fault: DeskFault) -> &'static str {
 }
 
 /// Says why an entry was not kept beside FILE, so that nothing is changed.
-pub fn say_unkept<E: Write>(errors: &mut E, file: &str, why: Unkept) {
+pub fn say_unkept<E: Write>(errors: &mut E, file: &str, why: OldTextsFault) {
     let reason = match why {
-        Unkept::NotFile => "it is no regular file",
-        Unkept::Archive | Unkept::NotOldTexts => "it is no book of old texts; move it away",
-        Unkept::Unasked(_) => "it cannot be looked at",
-        Unkept::NotGrown(_) => "is the disk full, or the file closed to you?",
-        Unkept::OutOfMemory => NO_MEMORY,
+        OldTextsFault::NotFile => "it is no regular file",
+        OldTextsFault::Archive | OldTextsFault::NotOldTexts => "it is no book of old texts; move it away",
+        OldTextsFault::Unasked(_) => "it cannot be looked at",
+        OldTextsFault::NotGrown(_) => "is the disk full, or the file closed to you?",
+        OldTextsFault::OutOfMemory => NO_MEMORY,
     };
     let _ = write!(
         errors,
