@@ -1,13 +1,22 @@
 // Orders that change tunes or set lists of FILE.
+ghost use Rattle.std.specs.Prelude.{◌≡◌, ◌⊎◌, None, false, MatchResult, Ok, Err, string_bytes};
+ghost use Rattle.tune_archive.specs.Shelf.{state_of};
+ghost use Rattle.tune_changes.specs.Planning.{planned_by};
+ghost use Rattle.tune_desk.specs.Results.{SparesFiles, places_of};
+ghost use Rattle.desk_changes.specs.ChangedFiles.{BringsAbout, ChangesBy, ChangesFile, LeavesAll};
+ghost use Rattle.desk_changes.specs.ChangedFiles.{Course, IsHeld};
+ghost use Rattle.desk_changes.specs.Kinds.{kind_of};
+
 use crate::entries::entry_of;
 use crate::words::{Unchanged, say_unchanged};
-use desk_scenes::{DONE, Unopened, keep_entry, open_once};
+use desk_scenes::{DONE, keep_entry, open_once};
 use desk_terms::Change;
 use std::io::Write;
 use tune_archive::Archive;
 use tune_changes::{Turn, bring_about, planned};
 use tune_desk::Desk;
 use tune_disk::{Access, Disk};
+use tune_store::Refusal;
 use tune_undo::Kind;
 
 /// Changes what FILE holds, and gives the status: 0 done; 1 refused, or a device failed; 3 no
@@ -18,6 +27,11 @@ pub fn change<E: Write, D: Disk, K: AllocGlobal + Desk<Disk = D>>(
     change: &Change,
     errors: &mut E,
 ) -> u8
+    ensures files { SparesFiles (places_of (string_bytes file.now) None false)
+        (K.deeds desk.old) (K.deeds desk.new) }
+    ensures changes { ChangesFile D.Disk (string_bytes file.now) (kind_of change.now)
+        (λ state turns. planned_by change.now state ≡ Ok turns)
+        (K.deeds desk.old) (K.deeds desk.new) result }
 {
     let done = change_file(desk, file, change);
     match done {

@@ -1,5 +1,7 @@
 // Entries of the book of old texts, of turns.
 ghost use Rattle.std.specs.Prelude.{◌≡◌, IfOk};
+ghost use Rattle.tune_undo.specs.Entries.{entry_value};
+ghost use Rattle.desk_changes.specs.EntriesOfTurns.{entry_of, part_of};
 
 use std::alloc::{AllocError, Global};
 use tune_changes::Turn;
@@ -8,6 +10,7 @@ use tune_undo::{After, Entry, Kind, Part, Sum};
 
 /// The entry of these turns. The error is out of memory.
 pub(crate) fn entry_of(alloc: Global, kind: Kind, turns: &[Turn]) -> Result<Entry, AllocError>
+    ensures { IfOk result (λ entry. entry_value entry ≡ entry_of kind turns.now) }
 {
     let mut parts = Vec::with_capacity(alloc, turns.len())?;
     for turn in turns {
@@ -17,6 +20,7 @@ pub(crate) fn entry_of(alloc: Global, kind: Kind, turns: &[Turn]) -> Result<Entr
 }
 
 fn part_of(alloc: Global, turn: &Turn) -> Result<Part, AllocError>
+    ensures { IfOk result (λ part. part ≡ part_of turn.now) }
 {
     match turn {
         Turn::Tune { number, was, is } => Ok(Part::Tune {

@@ -1,10 +1,10 @@
 // Why nothing was changed, in words.
 ghost use Rattle.std.specs.Prelude.{◌≢◌};
 
-use desk_scenes::{REFUSED, Unkept, Unopened, say_refusal, say_unkept, say_unopened_to_change};
+use desk_scenes::{REFUSED, Unopened, say_refusal, say_unkept, say_unopened_to_change};
 use std::alloc::AllocError;
 use std::io::Write;
-use tune_desk::DeskFault;
+use tune_desk::{DeskFault, OldTextsFault};
 use tune_sets::SetName;
 use tune_store::Refusal;
 
@@ -16,7 +16,7 @@ pub(crate) enum Unchanged {
     /// The archive refused it.
     Refused(Refusal),
     /// Its entry was not kept.
-    Unkept(Unkept),
+    Unkept(OldTextsFault),
 }
 
 /// Says why, and gives the status: 3 where there is no archive that can be read, and else 1.
@@ -59,7 +59,7 @@ pub(crate) enum NotUndone {
     /// The archive refused it.
     Refused(Refusal),
     /// An entry or a mark was not kept.
-    Unkept(Unkept),
+    Unkept(OldTextsFault),
     /// There was no memory.
     OutOfMemory,
 }
@@ -70,8 +70,8 @@ impl From<Refusal> for NotUndone {
     }
 }
 
-impl From<Unkept> for NotUndone {
-    fn from(why: Unkept) -> NotUndone {
+impl From<OldTextsFault> for NotUndone {
+    fn from(why: OldTextsFault) -> NotUndone {
         NotUndone::Unkept(why)
     }
 }
