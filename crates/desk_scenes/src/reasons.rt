@@ -26,12 +26,7 @@ pub fn say<E: Write>(errors: &mut E, what: &str, reason: &str) {
 
 /// Says why a question on FILE, about `what`, is not answered, and gives the status: 3 where there
 /// is no archive that can be read, and else 1.
-pub fn say_unanswered<E: Write>(
-    errors: &mut E,
-    file: &str,
-    what: &str,
-    why: &Unanswered,
-) -> u8
+pub fn say_unanswered<E: Write>(errors: &mut E, file: &str, what: &str, why: &Unanswered) -> u8
     ensures { result ≢ 0 }
 {
     match why {
@@ -171,9 +166,7 @@ fn plain_reason(refusal: &Refusal) -> &'static str {
         Refusal::NoTune => "there is no tune in it: no line begins with X:",
         Refusal::NotOne { .. } => "it has more tunes than one",
         Refusal::Stale { .. } => "it was replaced meanwhile",
-        Refusal::Worn => {
-            "it was replaced 9,998 times, and no more; add it as a new tune"
-        }
+        Refusal::Worn => { "it was replaced 9,998 times, and no more; add it as a new tune" }
         Refusal::Taken { .. } => "another tune has the number",
         Refusal::ArchiveFull => {
             "the archive would have too many tunes; make a second one, or, where\n\
@@ -231,7 +224,8 @@ fn change_reason(fault: DeskFault) -> &'static str {
 pub fn say_unkept<E: Write>(errors: &mut E, file: &str, why: OldTextsFault) {
     let reason = match why {
         OldTextsFault::NotFile => "it is no regular file",
-        OldTextsFault::Archive | OldTextsFault::NotOldTexts => "it is no book of old texts; move it away",
+        OldTextsFault::Archive | OldTextsFault::NotOldTexts =>
+            "it is no book of old texts; move it away",
         OldTextsFault::Unasked(_) => "it cannot be looked at",
         OldTextsFault::NotGrown(_) => "is the disk full, or the file closed to you?",
         OldTextsFault::OutOfMemory => NO_MEMORY,
@@ -245,12 +239,7 @@ pub fn say_unkept<E: Write>(errors: &mut E, file: &str, why: OldTextsFault) {
 }
 
 /// Says why a result is not written to OUT, and gives the status: 2 for a folder, and else 1.
-pub fn say_unwritten<E: Write>(
-    errors: &mut E,
-    file: &str,
-    out: &str,
-    fault: &ResultFault,
-) -> u8
+pub fn say_unwritten<E: Write>(errors: &mut E, file: &str, out: &str, fault: &ResultFault) -> u8
     ensures { result ≢ 0 }
 {
     let target = match &fault.target {

@@ -118,11 +118,7 @@ fn spare_archive<K: Desk>(desk: &mut K, old: &String) -> Result<(), OldTextsFaul
 }
 
 // That it begins as a book of old texts, or has no more than a front of that.
-fn spare_unknown<K: Desk>(
-    alloc: Global,
-    desk: &mut K,
-    old: &String,
-) -> Result<(), OldTextsFault>
+fn spare_unknown<K: Desk>(alloc: Global, desk: &mut K, old: &String) -> Result<(), OldTextsFault>
     ensures { Asks KnowsNothing (K.deeds desk.old) (K.deeds desk.new) }
 {
     match desk.begins(old, OLD_TEXTS_HEAD) {
