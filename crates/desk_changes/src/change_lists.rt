@@ -1,5 +1,5 @@
 // A list of the changes that can be taken back.
-use crate::undoing::{first_of, read_changes};
+use crate::taking_back::{first_of, read_changes};
 use crate::words::{NotUndone, say_not_undone};
 use desk_scenes::print;
 use desk_terms::Form;

@@ -2,14 +2,14 @@
 //! an entry of the book of old texts; and the order that undoes them.
 #![tactic(auto)]
 
-mod changes;
+mod altering;
 mod entries;
 mod replacing;
 mod change_lists;
-mod undoing;
+mod taking_back;
 mod undone;
 mod words;
 
-pub use changes::change;
+pub use altering::alter;
 pub use replacing::{Replaced, replace};
-pub use undoing::undo;
+pub use taking_back::undo;

@@ -1,5 +1,5 @@
 // The order that puts another text in the place of a tune.
-use crate::changes::carry;
+use crate::altering::carry;
 use crate::words::{Unchanged, say_unchanged};
 use abc_fields::{BookFault, ByteText, TuneText, split_book};
 use desk_scenes::{REFUSED, desk_reason, open_once, print, read_input, say, say_refusal};

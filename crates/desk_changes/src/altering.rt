@@ -10,7 +10,7 @@ ghost use Rattle.desk_changes.specs.Kinds.{kind_of};
 use crate::entries::entry_of;
 use crate::words::{Unchanged, say_unchanged};
 use desk_scenes::{DONE, keep_entry, open_once};
-use desk_terms::Change;
+use desk_terms::Alteration;
 use std::io::Write;
 use tune_archive::Archive;
 use tune_changes::{Turn, bring_about, planned};
@@ -21,10 +21,10 @@ use tune_undo::Kind;
 
 /// Changes what FILE holds, and gives the status: 0 done; 1 refused, or a device failed; 3 no
 /// archive, or a damaged one. What is wrong is said to `errors`.
-pub fn change<E: Write, D: Disk, K: AllocGlobal + Desk<Disk = D>>(
+pub fn alter<E: Write, D: Disk, K: AllocGlobal + Desk<Disk = D>>(
     desk: &mut K,
     file: &String,
-    change: &Change,
+    change: &Alteration,
     errors: &mut E,
 ) -> u8
     ensures files { SparesFiles (places_of (string_bytes file.now) None false)
@@ -33,17 +33,17 @@ pub fn change<E: Write, D: Disk, K: AllocGlobal + Desk<Disk = D>>(
         (λ state turns. planned_by change.now state ≡ Ok turns)
         (K.deeds desk.old) (K.deeds desk.new) result }
 {
-    let done = change_file(desk, file, change);
+    let done = alter_file(desk, file, change);
     match done {
         Ok(()) => DONE,
         Err(why) => say_unchanged(errors, file.as_str(), subject(change), &why),
     }
 }
 
-fn change_file<D: Disk, K: AllocGlobal + Desk<Disk = D>>(
+fn alter_file<D: Disk, K: AllocGlobal + Desk<Disk = D>>(
     desk: &mut K,
     file: &String,
-    change: &Change,
+    change: &Alteration,
 ) -> Result<(), Unchanged>
 {
     match open_once(desk, file, Access::Change) {
@@ -51,7 +51,7 @@ fn change_file<D: Disk, K: AllocGlobal + Desk<Disk = D>>(
         Ok(mut archive) => {
             // For the proof.
             archive.law_of_sets();
-            let done = change_archive(desk, file, &mut archive, change);
+            let done = alter_archive(desk, file, &mut archive, change);
             desk.close(file, archive.into_disk());
             done
         }
@@ -59,11 +59,11 @@ fn change_file<D: Disk, K: AllocGlobal + Desk<Disk = D>>(
 }
 
 // Looks first; then keeps what the turns take away, and brings them about.
-fn change_archive<D: Disk, K: AllocGlobal + Desk<Disk = D>>(
+fn alter_archive<D: Disk, K: AllocGlobal + Desk<Disk = D>>(
     desk: &mut K,
     file: &String,
     archive: &mut Archive<D>,
-    change: &Change,
+    change: &Alteration,
 ) -> Result<(), Unchanged>
 {
     match planned(desk.alloc(), archive, change) {
@@ -93,23 +93,23 @@ pub(crate) fn carry<D: Disk, K: AllocGlobal + Desk<Disk = D>>(
     }
 }
 
-fn kind_of(change: &Change) -> Kind {
+fn kind_of(change: &Alteration) -> Kind {
     match change {
-        Change::Delete(_) => Kind::Delete,
-        Change::Put { .. } => Kind::Put,
-        Change::Cut { .. } => Kind::Cut,
-        Change::Move { .. } => Kind::Move,
-        Change::Drop(_) => Kind::Drop,
+        Alteration::Delete(_) => Kind::Delete,
+        Alteration::Put { .. } => Kind::Put,
+        Alteration::Cut { .. } => Kind::Cut,
+        Alteration::Move { .. } => Kind::Move,
+        Alteration::Drop(_) => Kind::Drop,
     }
 }
 
 // What a refusal is about.
-fn subject(change: &Change) -> &str {
+fn subject(change: &Alteration) -> &str {
     match change {
-        Change::Delete(_) => "delete",
-        Change::Put { name, numbers: _ } => name.as_str(),
-        Change::Cut { name, places: _ } => name.as_str(),
-        Change::Move { name, place: _, to: _ } => name.as_str(),
-        Change::Drop(name) => name.as_str(),
+        Alteration::Delete(_) => "delete",
+        Alteration::Put { name, numbers: _ } => name.as_str(),
+        Alteration::Cut { name, places: _ } => name.as_str(),
+        Alteration::Move { name, place: _, to: _ } => name.as_str(),
+        Alteration::Drop(name) => name.as_str(),
     }
 }
