@@ -1,0 +1,3 @@
+pub mod CarryLemmas
+pub mod LookLemmas
+pub mod BringingLemmas
