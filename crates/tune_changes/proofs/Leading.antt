@@ -1,5 +1,5 @@
 -- Commands, one after another.
-use Rattle.std.proofs.Common.{◌≡◌, List, [], ◌∷◌, ◌++◌, Ok, refl, sym, ap, ◌∙◌, subst, is_ok, true}
+use Rattle.std.proofs.Common.{◌≡◌, List, [], ◌∷◌, ◌++◌, take, drop, ℕ, zero, suc, Ok, refl, sym, ap, ◌∙◌, subst, is_ok, true}
 use Rattle.tune_store.specs.State.{State, IsState}
 use Rattle.tune_store.specs.Step.{step}
 use Rattle.tune_store.specs.TuneSteps.{Outcome}
@@ -52,3 +52,10 @@ leads_after old new commands leads = (leads.0, refl)
 pub after_keeps : (commands : List Command) (state : State) → IsState state → IsState (after_commands commands state)
 after_keeps [] state is = is
 after_keeps (command ∷ commands) state is = after_keeps commands (step state command).0 (step_keeps_limits state command is)
+
+-- what is left of commands leads on to the same
+pub leads_left : (old new : State) (commands : List Command) (count : ℕ) → LeadsTo old commands new
+    → LeadsTo (after_commands (take count commands) old) (drop count commands) new
+leads_left old new commands zero leads = leads
+leads_left old new [] (suc count) leads = leads
+leads_left old new (command ∷ commands) (suc count) leads = leads_left (step old command).0 new commands count (leads.0.1, leads.1)

@@ -25,7 +25,7 @@ use Rattle.tune_changes.specs.Bringing.{tune_commands, set_commands, brought, br
 use Rattle.tune_changes.specs.Commands.{after_commands, LeadsTo}
 use Rattle.tune_changes.specs.States.{anew, all_anew, face, tune_with, put_numbers, with_content}
 use Rattle.tune_changes.specs.Undoing.{CanGoIn, CanBeReplaced, CanBeText, CanBePlaces, CanBeMade, CanBeNumbers, CanBe, CanComeBack, BringsAbout}
-use Rattle.tune_changes.specs.Undoing.{brought_about, taken_back, replacements_in, replacements, LeavesRevisions, TakesBack, NotBegun}
+use Rattle.tune_changes.specs.Undoing.{brought_about, taken_back, replacements_in, replacements, LeavesRevisions, TakesBack, NotBegun, CanGoBack, StandsAfter}
 use Rattle.tune_changes.proofs.Leading.{leads_on, leads_none, leads_with, leads_after, after_keeps, after_append}
 use Rattle.tune_changes.proofs.TuneLists.{found_above, all_without, all_inserted, all_found, found_anew, greatest_anew}
 use Rattle.tune_changes.proofs.SetListLemmas.{found_name, all_found_set, length_without_set}
@@ -281,34 +281,33 @@ back_more turn turns state =
     ∙ each_more (map aim_back (reverse turns)) (aim_back turn) state
 
 -- where the turns taken back lead, and what is left of revisions there
-record Undone (times : ℕ) (turns : List Turn) (new old : State) : Type 0 where
+record Undone (times : ℕ) (turns : List Turn) (now old : State) : Type 0 where
   back : State
-  leads : LeadsTo new (taken_back turns new) back
+  leads : LeadsTo now (taken_back turns now) back
   alike : face back ≡ face old
   leaves : LeavesRevisions times back
 
-undone : (times : ℕ) (turns : List Turn) (old new : State) → IsState old → BringsAbout turns old new → LeavesRevisions (times + replacements turns) new
-    → Undone times turns new old
-undone times [] old new is same leaves = record {
-  back = new;
-  leads = leads_none new new refl;
-  alike = ap face (sym same);
-  leaves = leaves_less times (times + 0) new (omega arith) leaves;
+undone : (times : ℕ) (turns : List Turn) (old new now : State) → IsState old → BringsAbout turns old new → IsState now → face now ≡ face new
+    → LeavesRevisions (times + replacements turns) now → Undone times turns now old
+undone times [] old new now is same within alike leaves = record {
+  back = now;
+  leads = leads_none now now refl;
+  alike = alike ∙ ap face (sym same);
+  leaves = leaves_less times (times + 0) now (omega arith) leaves;
 }
-undone times (turn ∷ turns) old new is about leaves =
-    let subject = turn.subject in
+undone times (turn ∷ turns) old new now is about within alike leaves =
     let commands = brought turn.subject turn.is old in
     let mid = after_commands commands old in
     let here = replacements_in turn.subject turn.was turn.is in
     let is_mid = after_keeps commands old is in
-    let later = undone (times + here) turns mid new is_mid about.1
-    (leaves_less (times + here + replacements turns) (times + (here + replacements turns)) new (omega arith) leaves) in
+    let later = undone (times + here) turns mid new now is_mid about.1 within alike
+    (leaves_less (times + here + replacements turns) (times + (here + replacements turns)) now (omega arith) leaves) in
     let x = later.back in
-    let reached : after_commands (taken_back turns new) new ≡ x = later.leads.1 in
-    let is_x : IsState x = subst IsState reached (after_keeps (taken_back turns new) new (about_keeps turns mid new is_mid about.1)) in
+    let reached : after_commands (taken_back turns now) now ≡ x = later.leads.1 in
+    let is_x : IsState x = subst IsState reached (after_keeps (taken_back turns now) now within) in
     let was : content turn.subject old ≡ turn.was = about.0.was in
     let faced : face x ≡ plain turn.subject turn.is (face old) =
-    later.alike ∙ ap face ((brings old turn.subject turn.is is about.0.can).1) ∙ face_with turn.subject turn.is old in
+    later.alike ∙ ap face (brings old turn.subject turn.is is about.0.can).1 ∙ face_with turn.subject turn.is old in
     let are : content turn.subject x ≡ turn.is =
     sym (content_face turn.subject x) ∙ ap (content turn.subject) faced ∙ content_plain turn.subject turn.is old is in
     let leaves_then : LeavesRevisions (times + replacements_in turn.subject (content turn.subject old) turn.is) x =
@@ -320,8 +319,8 @@ undone times (turn ∷ turns) old new is about leaves =
     let last : LeadsTo x (brought turn.subject turn.was x) y = brings x turn.subject turn.was is_x can in
     record {
       back = y;
-      leads = leads_with new y _ _ (back_more turn turns new)
-          (leads_on new x y (taken_back turns new) (brought turn.subject turn.was (after_commands (taken_back turns new) new)) later.leads
+      leads = leads_with now y _ _ (back_more turn turns now)
+          (leads_on now x y (taken_back turns now) (brought turn.subject turn.was (after_commands (taken_back turns now) now)) later.leads
           (subst (λ (s : State). LeadsTo x (brought turn.subject turn.was s) y) (sym reached) last));
       alike = face_with turn.subject turn.was x ∙ ap (plain turn.subject turn.was) faced
           ∙ ap (λ (some : Option (List ℕ)). plain turn.subject some (plain turn.subject turn.is (face old))) (sym was)
@@ -329,10 +328,10 @@ undone times (turn ∷ turns) old new is about leaves =
       leaves = leaves_back x turn.subject times turn.was turn.is are later.leaves;
     }
 
-pub takes_back : (old new : State) (turns : List Turn) → IsState old → BringsAbout turns old new → LeavesRevisions (replacements turns) new
-    → TakesBack turns new old
-takes_back old new turns is about leaves =
-    let it = undone 0 turns old new is about (leaves_less (0 + replacements turns) (replacements turns) new (omega arith) leaves) in
+pub takes_back : (old now : State) (turns : List Turn) → IsState old → CanGoBack turns now → StandsAfter turns old now → TakesBack turns now old
+takes_back old now turns is can stands =
+    let leaves = leaves_less (0 + replacements turns) (replacements turns) now (omega arith) can.leaves in
+    let it = undone 0 turns old stands.new now is stands.about can.within stands.alike leaves in
     (it.back, it.leads, it.alike)
 
 -- TURNS THAT WERE NOT BEGUN
@@ -350,8 +349,8 @@ taken_front state (turn ∷ turns) others each =
     ∙ ap (λ (later : List Command). later ++ brought turn.subject turn.was (after_commands later state)) (taken_front state turns others each)
     ∙ sym (back_more turn turns state)
 
-pub takes_stopped : (old new : State) (turns others : List Turn) → IsState old → BringsAbout turns old new → LeavesRevisions (replacements turns) new
-    → AllByRecursion (NotBegun new) others → TakesBack (turns ++ others) new old
-takes_stopped old new turns others is about leaves each =
-    let back = takes_back old new turns is about leaves in
-    (back.0, leads_with new back.0 (taken_back (turns ++ others) new) (taken_back turns new) (taken_front new turns others each) back.1, back.2)
+pub takes_stopped : (old now : State) (turns others : List Turn) → IsState old → CanGoBack turns now → StandsAfter turns old now
+    → AllByRecursion (NotBegun now) others → TakesBack (turns ++ others) now old
+takes_stopped old now turns others is can stands each =
+    let back = takes_back old now turns is can stands in
+    (back.0, leads_with now back.0 (taken_back (turns ++ others) now) (taken_back turns now) (taken_front now turns others each) back.1, back.2)

@@ -1,5 +1,5 @@
 -- A turn on a set list that stopped within is taken back.
-use Rattle.std.proofs.Common.{◌≡◌, ℕ, zero, suc, ◌+◌, ◌-◌, ◌≤◌, leb, List, [], ◌∷◌, ◌++◌, length, take, drop, map, replicate}
+use Rattle.std.proofs.Common.{◌≡◌, ℕ, zero, suc, ◌+◌, ◌-◌, leb, List, [], ◌∷◌, ◌++◌, length, take, drop, map, replicate}
 use Rattle.std.proofs.Common.{Option, Some, None, refl, sym, ap, ◌∙◌, subst, inl, inr, option_map, append_assoc, append-nil}
 use Rattle.std.specs.List.{AllByRecursion, remove}
 use Rattle.std.specs.Str.{bytes_eq}
@@ -21,9 +21,9 @@ use Rattle.tune_changes.specs.Turns.{Subject, Turn, content, numbers_at}
 use Rattle.tune_changes.specs.Turns.Subject.{SetOf}
 use Rattle.tune_changes.specs.Bringing.{common_front, cut_behind, relaid, set_commands, brought}
 use Rattle.tune_changes.specs.Commands.{after_commands, LeadsTo}
-use Rattle.tune_changes.specs.States.{put_numbers, all_anew}
-use Rattle.tune_changes.specs.Undoing.{CanBeNumbers, taken_back, replacements, LeavesRevisions, TakesBack, StopsWithin}
-use Rattle.tune_changes.proofs.Leading.{leads_on, leads_to, leads_with, after_append, after_keeps}
+use Rattle.tune_changes.specs.States.{put_numbers, all_anew, with_content, AreAlike, AreAlikeBut}
+use Rattle.tune_changes.specs.Undoing.{CanBeNumbers, taken_back, TakesBack, CanGoBack, StandsAfter, StandsWithin}
+use Rattle.tune_changes.proofs.Leading.{leads_on, leads_with, after_append, after_keeps}
 use Rattle.tune_changes.proofs.SetListLemmas.{none_without, set_out_already, set_in_and_out}
 use Rattle.tune_changes.proofs.SetBrought.{set_brings}
 use Rattle.tune_changes.proofs.Faces.{numbers_over, numbers_own}
@@ -157,29 +157,52 @@ set_on name None (Some new) = (refl, adds_on name new)
 set_on name (Some old) None = (refl, tt)
 set_on name (Some old) (Some new) = relaid_on name old new
 
+-- A STOP WITHIN THEM
+pub set_stopped : (state : State) (name : List ℕ) (to : Option (List ℕ)) (count : ℕ) → IsState state
+    → AreAlikeBut (SetOf name) (after_commands (take count (brought (SetOf name) to state)) state) state
+set_stopped state name to count is =
+    let commands = take count (brought (SetOf name) to state) in
+    let now = after_commands commands state in
+    let same = after_same name commands state is (all_taken (OnSet name) count _ (set_on name (numbers_at name state) to)) in
+    ap (λ layout. record { layout = layout; tunes = all_anew now.tunes; sets = without name now.sets }) same.laid
+    ∙ ap (λ (ts : List Tune). record { layout = state.layout; tunes = all_anew ts; sets = without name now.sets }) same.tunes
+    ∙ ap (λ (ss : List TuneSet). record { layout = state.layout; tunes = all_anew state.tunes; sets = ss }) same.others
+
 -- A SET LIST RETURNS
-can_return : (name : List ℕ) (mid x : State) (was : Option TuneSet) (now : Option TuneSet) → IsState mid → SameBut name mid x → set_at name mid.sets ≡ was
-    → set_at name x.sets ≡ now
-    → CanBeNumbers name (option_map (λ (s : TuneSet). s.numbers) now) (option_map (λ (s : TuneSet). s.numbers) was) x
-can_return name mid x None None is same had has = tt
-can_return name mid x None (Some now) is same had has = tt
-can_return name mid x (Some set) (Some now) is same had has = places_again x mid name set is had (ap all_anew same.tunes)
-can_return name mid x (Some set) None is same had has = (
-  made_again x mid name set is had (sym (set_out_already name x.sets has) ∙ same.others),
-  places_again x mid name set is had (ap all_anew same.tunes),
+-- what is the same of two states but for a set list
+others_of : (name : List ℕ) (x y : State) → AreAlikeBut (SetOf name) x y → without name x.sets ≡ without name y.sets
+others_of name x y same = ap (λ (s : State). s.sets) same
+
+faces_of : (name : List ℕ) (x y : State) → AreAlikeBut (SetOf name) x y → all_anew x.tunes ≡ all_anew y.tunes
+faces_of name x y same = ap (λ (s : State). s.tunes) same
+
+laid_of : (name : List ℕ) (x y : State) → AreAlikeBut (SetOf name) x y → x.layout ≡ y.layout
+laid_of name x y same = ap (λ (s : State). s.layout) same
+
+can_return : (name : List ℕ) (new now : State) (was has : Option TuneSet) → IsState new → AreAlikeBut (SetOf name) now new → set_at name new.sets ≡ was
+    → set_at name now.sets ≡ has
+    → CanBeNumbers name (option_map (λ (s : TuneSet). s.numbers) has) (option_map (λ (s : TuneSet). s.numbers) was) now
+can_return name new now None None is same e h = tt
+can_return name new now None (Some other) is same e h = tt
+can_return name new now (Some set) (Some other) is same e h = places_again now new name set is e (faces_of name now new same)
+can_return name new now (Some set) None is same e h = (
+  made_again now new name set is e (sym (set_out_already name now.sets h) ∙ others_of name now new same),
+  places_again now new name set is e (faces_of name now new same),
 )
 
-set_returns : (name : List ℕ) (mid x : State) → IsState mid → IsState x → SameBut name mid x
-    → LeadsTo x (brought (SetOf name) (numbers_at name mid) x) mid
-set_returns name mid x is is_x same =
-    let sets : put_numbers name (numbers_at name mid) x.sets ≡ mid.sets =
-    numbers_over name (numbers_at name mid) x.sets mid.sets same.others ∙ numbers_own name (set_at name mid.sets) mid is refl in
-    let whole : record x { sets = put_numbers name (numbers_at name mid) x.sets } ≡ mid =
-    ap (λ (ss : List TuneSet). record x { sets = ss }) sets
-    ∙ ap (λ (ts : List Tune). record { layout = x.layout; tunes = ts; sets = mid.sets }) same.tunes
-    ∙ ap (λ layout. record { layout = layout; tunes = mid.tunes; sets = mid.sets }) same.laid in
-    leads_to x _ mid (brought (SetOf name) (numbers_at name mid) x) whole
-    (set_brings x name (numbers_at name mid) is_x (can_return name mid x (set_at name mid.sets) (set_at name x.sets) is same refl refl))
+set_returns : (name : List ℕ) (new now : State) → IsState new → IsState now → AreAlikeBut (SetOf name) now new
+    → LeadsTo now (brought (SetOf name) (numbers_at name new) now) (with_content (SetOf name) (numbers_at name new) now)
+set_returns name new now is within same =
+    set_brings now name (numbers_at name new) within (can_return name new now (set_at name new.sets) (set_at name now.sets) is same refl refl)
+
+set_returned : (name : List ℕ) (new now : State) → IsState new → AreAlikeBut (SetOf name) now new
+    → AreAlike (with_content (SetOf name) (numbers_at name new) now) new
+set_returned name new now is same =
+    let sets : put_numbers name (numbers_at name new) now.sets ≡ new.sets =
+    numbers_over name (numbers_at name new) now.sets new.sets (others_of name now new same) ∙ numbers_own name (set_at name new.sets) new is refl in
+    ap (λ (ss : List TuneSet). record { layout = now.layout; tunes = all_anew now.tunes; sets = ss }) sets
+    ∙ ap (λ (ts : List Tune). record { layout = now.layout; tunes = ts; sets = new.sets }) (faces_of name now new same)
+    ∙ ap (λ layout. record { layout = layout; tunes = all_anew new.tunes; sets = new.sets }) (laid_of name now new same)
 
 -- ONE AFTER ANOTHER
 taken_append : (state : State) (turns more : List Turn)
@@ -194,31 +217,24 @@ taken_append state (turn ∷ turns) more =
     ∙ append_assoc first rest (brought turn.subject turn.was (after_commands rest (after_commands first state)))
     ∙ ap (λ (some : List Command). first ++ some) (sym (back_more turn turns (after_commands first state)))
 
-pub takes_within : (old new : State) (turns others : List Turn) (turn : Turn) → IsState old → StopsWithin turns turn others old new
-    → LeavesRevisions (replacements turns) new → TakesBack (turns ++ turn ∷ others) new old
-takes_within old new turns others turn is stops leaves =
-    let name = stops.name in
-    let mid = stops.mid in
-    let commands = take stops.count (brought (SetOf name) turn.is mid) in
-    let is_mid = about_keeps turns old mid is stops.about in
-    let reached : after_commands commands mid ≡ new =
-    ap (λ (s : Subject). after_commands (take stops.count (brought s turn.is mid)) mid) (sym stops.on) ∙ sym stops.stopped in
-    let same : SameBut name mid new =
-    subst (SameBut name mid) reached
-    (after_same name commands mid is_mid (all_taken (OnSet name) stops.count _ (set_on name (numbers_at name mid) turn.is))) in
-    let is_new : IsState new = subst IsState reached (after_keeps commands mid is_mid) in
-    let was : numbers_at name mid ≡ turn.was = ap (λ (s : Subject). content s mid) (sym stops.on) ∙ stops.was in
-    let one : taken_back (turn ∷ others) new ≡ brought (SetOf name) (numbers_at name mid) new =
-    back_more turn others new
-    ∙ ap (λ (later : List Command). later ++ brought turn.subject turn.was (after_commands later new)) (none_taken new others stops.rest)
-    ∙ ap (λ (s : Subject). brought s turn.was new) stops.on ∙ ap (λ (some : Option (List ℕ)). brought (SetOf name) some new) (sym was) in
-    let first : LeadsTo new (taken_back (turn ∷ others) new) mid = leads_with new mid _ _ one (set_returns name mid new is_mid is_new same) in
-    let leaves_mid : LeavesRevisions (replacements turns) mid = record {
-      new = leaves.new;
-      each = subst (λ (ts : List Tune). AllByRecursion (λ (t : Tune). t.revision + replacements turns ≤ 9999) ts) same.tunes leaves.each;
-    } in
-    let back = takes_back old mid turns is stops.about leaves_mid in
-    let whole : taken_back (turns ++ turn ∷ others) new ≡ taken_back (turn ∷ others) new ++ taken_back turns mid =
-    taken_append new turns (turn ∷ others)
-    ∙ ap (λ (s : State). taken_back (turn ∷ others) new ++ taken_back turns s) (first.1) in
-    (back.0, leads_with new back.0 _ _ whole (leads_on new mid back.0 (taken_back (turn ∷ others) new) (taken_back turns mid) first back.1), back.2)
+pub takes_within : (old now : State) (turns others : List Turn) (turn : Turn) → IsState old → CanGoBack turns now
+    → StandsWithin turns turn others old now → TakesBack (turns ++ turn ∷ others) now old
+takes_within old now turns others turn is can stands =
+    let name = stands.name in
+    let new = stands.new in
+    let is_new = about_keeps turns old new is stands.about in
+    let same : AreAlikeBut (SetOf name) now new = subst (λ (s : Subject). AreAlikeBut s now new) stands.on stands.alike in
+    let was : numbers_at name new ≡ turn.was = ap (λ (s : Subject). content s new) (sym stands.on) ∙ stands.was in
+    let mid = with_content (SetOf name) (numbers_at name new) now in
+    let one : taken_back (turn ∷ others) now ≡ brought (SetOf name) (numbers_at name new) now =
+    back_more turn others now
+    ∙ ap (λ (later : List Command). later ++ brought turn.subject turn.was (after_commands later now)) (none_taken now others stands.rest)
+    ∙ ap (λ (s : Subject). brought s turn.was now) stands.on ∙ ap (λ (some : Option (List ℕ)). brought (SetOf name) some now) (sym was) in
+    let first : LeadsTo now (taken_back (turn ∷ others) now) mid = leads_with now mid _ _ one (set_returns name new now is_new can.within same) in
+    let is_mid : IsState mid = subst IsState first.1 (after_keeps (taken_back (turn ∷ others) now) now can.within) in
+    let can_mid : CanGoBack turns mid = record { within = is_mid; leaves = record { new = can.leaves.new; each = can.leaves.each } } in
+    let after_mid : StandsAfter turns old mid = record { new = new; about = stands.about; alike = set_returned name new now is_new same } in
+    let back = takes_back old mid turns is can_mid after_mid in
+    let whole : taken_back (turns ++ turn ∷ others) now ≡ taken_back (turn ∷ others) now ++ taken_back turns mid =
+    taken_append now turns (turn ∷ others) ∙ ap (λ (s : State). taken_back (turn ∷ others) now ++ taken_back turns s) first.1 in
+    (back.0, leads_with now back.0 _ _ whole (leads_on now mid back.0 (taken_back (turn ∷ others) now) (taken_back turns mid) first back.1), back.2)

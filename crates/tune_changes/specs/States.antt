@@ -52,3 +52,8 @@ with_content (TuneOf number) to state =
     record state { tunes = put_text number to state.tunes }
 with_content (SetOf name) to state =
     record state { sets = put_numbers name to state.sets }
+
+-- two states are the same but for a subject, and for revisions
+abbrev pub AreAlikeBut : Subject → State → State → Type 0
+AreAlikeBut subject old new =
+    AreAlike (with_content subject None old) (with_content subject None new)

@@ -1,5 +1,5 @@
 -- Turns brought about, one after another, and taken back.
-use Rattle.std.specs.Prelude.{◌≡◌, ◌≢◌, ℕ, ◌+◌, ◌<◌, ◌≤◌, List, [], ◌∷◌, length, map, reverse, take}
+use Rattle.std.specs.Prelude.{◌≡◌, ◌≢◌, ℕ, ◌+◌, ◌<◌, ◌≤◌, List, [], ◌∷◌, length, map, reverse}
 use Rattle.std.specs.Prelude.{Option, None, Some, IsTrue, ⊤}
 use Rattle.std.specs.List.{AllByRecursion}
 use Rattle.abc_fields.specs.Tunes.{IsTextWithin}
@@ -8,7 +8,7 @@ use Rattle.tune_sets.specs.Names.{is_good_name}
 use Rattle.tune_sets.specs.Sets.{holder}
 use Rattle.tune_store.specs.Limits.{longest_text, most_tunes, greatest_number}
 use Rattle.tune_store.specs.Limits.{greatest_revision}
-use Rattle.tune_store.specs.State.{State, tune_at, greatest, AreHeld}
+use Rattle.tune_store.specs.State.{State, tune_at, greatest, AreHeld, IsState}
 use Rattle.tune_store.specs.TuneSteps.{is_number}
 use Rattle.tune_store.specs.declared.tune.Tune.{Tune}
 use Rattle.tune_store.specs.declared.command.Command.{Command}
@@ -16,7 +16,7 @@ use Rattle.tune_changes.specs.Turns.{Subject, Turn, content, numbers_at, aim_of,
 use Rattle.tune_changes.specs.Turns.Subject.{TuneOf, SetOf}
 use Rattle.tune_changes.specs.Commands.{after_commands, LeadsTo}
 use Rattle.tune_changes.specs.Bringing.{brought, brought_each}
-use Rattle.tune_changes.specs.States.{AreAlike}
+use Rattle.tune_changes.specs.States.{AreAlike, AreAlikeBut}
 
 -- WHAT A SUBJECT CAN BE
 -- a new tune of this number and text can go into a state
@@ -105,22 +105,33 @@ pub record LeavesRevisions (times : ℕ) (state : State) : Type 0 where
 
 -- the turns taken back from a state lead to one that is alike another, and no command is refused
 abbrev pub TakesBack : List Turn → State → State → Type 0
-TakesBack turns new old =
-    (back : State) × LeadsTo new (taken_back turns new) back × AreAlike back old
+TakesBack turns now old =
+    (back : State) × LeadsTo now (taken_back turns now) back × AreAlike back old
 
--- a turn was not begun: its subject is what it was
+-- WHERE TURNS CAN BE TAKEN BACK
+-- the state of now can be gone on from: it is within the limits, and no tune is worn
+pub record CanGoBack (turns : List Turn) (now : State) : Type 0 where
+  pub within : IsState now
+  pub leaves : LeavesRevisions (replacements turns) now
+
+-- turns were brought about, and the state of now is the one that they led to, but for revisions
+pub record StandsAfter (turns : List Turn) (old now : State) : Type 0 where
+  pub new : State
+  pub about : BringsAbout turns old new
+  pub alike : AreAlike now new
+
+-- a turn was not begun, or was taken back: its subject is what it was
 abbrev pub NotBegun : State → Turn → Type 0
-NotBegun state turn = content turn.subject state ≡ turn.was
+NotBegun now turn = content turn.subject now ≡ turn.was
 
--- Turns were brought about, and the next one, on a set list, was stopped after some of its commands;
--- the others were not begun.
-pub record StopsWithin (turns : List Turn) (turn : Turn) (others : List Turn) (old new : State)
+-- Turns were brought about, and the next one is on a set list, which may be anything now, as where
+-- a stop came within its commands; all else is as it was before it. The others were not begun.
+pub record StandsWithin (turns : List Turn) (turn : Turn) (others : List Turn) (old now : State)
     : Type 0 where
-  pub mid : State
-  pub about : BringsAbout turns old mid
+  pub new : State
+  pub about : BringsAbout turns old new
   pub name : List ℕ
   pub on : turn.subject ≡ SetOf name
-  pub was : content turn.subject mid ≡ turn.was
-  pub count : ℕ
-  pub stopped : new ≡ after_commands (take count (brought turn.subject turn.is mid)) mid
-  pub rest : AllByRecursion (NotBegun new) others
+  pub was : content turn.subject new ≡ turn.was
+  pub alike : AreAlikeBut turn.subject now new
+  pub rest : AllByRecursion (NotBegun now) others
