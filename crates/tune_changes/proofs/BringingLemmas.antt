@@ -4,7 +4,7 @@ use Rattle.std.proofs.Common.{refl, sym, ap, ◌∙◌, subst, inl, inr, ◌⊎�
 use Rattle.std.specs.Prelude.{◌==◌, Result, Ok, Err, is_some, nat_lt}
 use Rattle.std.specs.Str.{bytes_eq}
 use Rattle.std.proofs.lemmas.Bool.{eq-eqb, ne_eqb}
-use Rattle.std.proofs.lemmas.List.{drop_more, drop_all, take_more, append-nil, append_assoc}
+use Rattle.std.proofs.lemmas.List.{drop_more, drop_all, take_more, reverse-append}
 use Rattle.tune_store.specs.State.{State, greatest}
 use Rattle.tune_store.specs.declared.command.Command.{Command}
 use Rattle.tune_store.specs.declared.command.Command.TheVariants.{Import, Delete, Renumber, SetAdd, SetCut, SetDrop}
@@ -18,11 +18,10 @@ use Rattle.tune_store.specs.Limits.{greatest_number, longest_text, most_tunes}
 use Rattle.tune_store.specs.Step.{step}
 use Rattle.tune_store.specs.TuneSteps.{TunesOutcome, import_book, with_texts}
 use Rattle.abc_fields.specs.Books.{Texts, book_answer}
-use Rattle.tune_changes.specs.Aims.{aimed_back, brought_about, content_of, subject_of, turn_of}
-use Rattle.tune_changes.specs.Bringing.{brought, common_front, cut_behind, relaid, renumbered, set_commands, tune_commands}
+use Rattle.tune_changes.specs.Aims.{aim_for, aimed_back, brought_about, turn_of}
+use Rattle.tune_changes.specs.Bringing.{brought, brought_each, common_front, cut_behind, relaid, renumbered, set_commands, tune_commands}
 use Rattle.tune_changes.specs.Commands.{after_commands}
-use Rattle.tune_changes.proofs.CarryLemmas.{after_more}
-use Rattle.tune_changes.specs.declared.turns.Aim.{Aim}
+use Rattle.tune_changes.specs.declared.turns.Aim as told_aim
 use Rattle.tune_changes.specs.declared.turns.Turn as told
 
 -- LISTS
@@ -146,19 +145,10 @@ about_next turns i turn state l at =
 
 -- AIMS
 -- the last of them first
-back_split : (a b : List Aim) (state : State) → aimed_back (a ++ b) state ≡ aimed_back b state ++ aimed_back a (after_commands (aimed_back b state) state)
-back_split [] b state = sym (append-nil (aimed_back b state))
-back_split (aim ∷ a) b state =
-    let its : List Command → List Command = λ later. later ++ brought (subject_of aim) (content_of aim) (after_commands later state) in
-    let rest = aimed_back a (after_commands (aimed_back b state) state) in
-    ap its (back_split a b state)
-    ∙ ap (λ (there : State). (aimed_back b state ++ rest) ++ brought (subject_of aim) (content_of aim) there) (after_more (aimed_back b state) rest state)
-    ∙ append_assoc (aimed_back b state) rest (brought (subject_of aim) (content_of aim) (after_commands rest (after_commands (aimed_back b state) state)))
-
-pub back_next : (aims : List Aim) (i : ℕ) (aim : Aim) (state : State) → i < length aims → aim ≡ get_or aims i aim
+pub back_next : (aims : List told_aim.Aim) (i : ℕ) (aim : told_aim.Aim) (state : State) → i < length aims → aim ≡ get_or aims i aim
     → aimed_back (take (i + 1) aims) state
-    ≡ brought (subject_of aim) (content_of aim) state
-    ++ aimed_back (take i aims) (after_commands (brought (subject_of aim) (content_of aim) state) state)
+    ≡ brought (aim_for aim).subject (aim_for aim).to state
+    ++ aimed_back (take i aims) (after_commands (brought (aim_for aim).subject (aim_for aim).to state) state)
 back_next aims i aim state l at =
-    ap (λ some. aimed_back some state) (take_more aims i aim l ∙ ap (λ (a : Aim). take i aims ++ a ∷ []) (sym at))
-    ∙ back_split (take i aims) (aim ∷ []) state
+    ap (λ some. aimed_back some state) (take_more aims i aim l ∙ ap (λ (a : told_aim.Aim). take i aims ++ a ∷ []) (sym at))
+    ∙ ap (λ some. brought_each (map aim_for some) state) (reverse-append (take i aims) (aim ∷ []))

@@ -1,13 +1,12 @@
--- What tunes and set lists are to become, by the turns and the aims of the code.
-use Rattle.std.specs.Prelude.{ℕ, List, [], ◌∷◌, ◌++◌, map, Option}
+-- What tunes and set lists are to be, by the turns and the aims of the code.
+use Rattle.std.specs.Prelude.{List, map, reverse}
 use Rattle.tune_store.specs.State.{State}
 use Rattle.tune_store.specs.declared.command.Command.{Command}
-use Rattle.tune_changes.specs.Bringing.{brought}
-use Rattle.tune_changes.specs.Commands.{after_commands}
-use Rattle.tune_changes.specs.Turns.{Subject, Turn}
+use Rattle.tune_changes.specs.Bringing.{brought_each}
+use Rattle.tune_changes.specs.Turns.{Turn, Aim}
 use Rattle.tune_changes.specs.Turns.Subject.{TuneOf, SetOf}
 use Rattle.tune_changes.specs.Undoing
-use Rattle.tune_changes.specs.declared.turns.Aim.{Aim}
+use Rattle.tune_changes.specs.declared.turns.Aim as told_aim
 use Rattle.tune_changes.specs.declared.turns.Aim.TheVariants as aim
 use Rattle.tune_changes.specs.declared.turns.Turn as told
 use Rattle.tune_changes.specs.declared.turns.Turn.TheVariants as turn
@@ -22,19 +21,11 @@ turn_of (turn.Set name was is) = record { subject = SetOf name; was = was; is = 
 abbrev pub brought_about : List told.Turn → State → List Command
 brought_about turns state = Undoing.brought_about (map turn_of turns) state
 
--- of what an aim is, and what it is to become
-abbrev pub subject_of : Aim → Subject
-subject_of (aim.Tune number text) = TuneOf number
-subject_of (aim.Set name numbers) = SetOf name
+-- an aim of the code
+abbrev pub aim_for : told_aim.Aim → Aim
+aim_for (aim.Tune number text) = record { subject = TuneOf number; to = text }
+aim_for (aim.Set name numbers) = record { subject = SetOf name; to = numbers }
 
-abbrev pub content_of : Aim → Option (List ℕ)
-content_of (aim.Tune number text) = text
-content_of (aim.Set name numbers) = numbers
-
--- the commands that bring each subject to its aim, the last aim first, each from how its subject
--- stands then
-abbrev pub aimed_back : List Aim → State → List Command
-aimed_back [] state = []
-aimed_back (aim ∷ aims) state =
-    let later = aimed_back aims state in
-    later ++ brought (subject_of aim) (content_of aim) (after_commands later state)
+-- the commands that bring each subject to its aim, the last aim first
+abbrev pub aimed_back : List told_aim.Aim → State → List Command
+aimed_back aims state = brought_each (map aim_for (reverse aims)) state

@@ -1,5 +1,5 @@
 // Brings tunes and set lists from how they stand to what they are to be.
-ghost use Rattle.tune_changes.specs.Aims.{aimed_back, brought_about, content_of, subject_of, turn_of};
+ghost use Rattle.tune_changes.specs.Aims.{aim_for, aimed_back, brought_about, turn_of};
 ghost use Rattle.tune_changes.specs.Bringing.{brought};
 ghost use Rattle.tune_changes.specs.Carrying.{Carries};
 
@@ -79,8 +79,8 @@ fn bring_turn<S: TuneStore>(alloc: Global, store: &mut S, turn: &Turn) -> Result
 
 // Brings a subject to its aim.
 fn bring_aim<S: TuneStore>(alloc: Global, store: &mut S, aim: &Aim) -> Result<(), Refusal>
-    ensures { Carries S.TuneStore store.old store.new (brought (subject_of aim.now)
-        (content_of aim.now) (S.TuneStore.state store.old)) result }
+    ensures { Carries S.TuneStore store.old store.new (brought (aim_for aim.now).subject
+        (aim_for aim.now).to (S.TuneStore.state store.old)) result }
 {
     match aim {
         Aim::Tune { number, text: None } => take_tune(store, *number),

@@ -4,10 +4,12 @@
 
 mod bringing;
 mod carrying;
+mod laws;
 mod looking;
 mod set_bringing;
 mod tune_bringing;
 mod turns;
 
 pub use bringing::{bring_about, take_back};
+pub use laws::{law_of_bringing, law_of_undo};
 pub use turns::{Aim, Turn};
