@@ -1,3 +1,3 @@
 pub mod ChangedFiles
 pub mod EntriesOfTurns
-pub mod Kinds
+pub mod Inside

@@ -2,14 +2,6 @@
 //! an entry of the book of old texts; and the order that undoes them.
 #![tactic(auto)]
 
-mod altering;
 mod entries;
-mod replacing;
-mod change_lists;
-mod taking_back;
-mod undone;
+mod turning;
 mod words;
-
-pub use altering::alter;
-pub use replacing::{Replaced, replace};
-pub use taking_back::undo;

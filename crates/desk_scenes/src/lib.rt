@@ -4,6 +4,7 @@
 
 mod file_opening;
 mod input;
+mod kept_entries;
 mod printing;
 mod progress;
 mod reasons;
@@ -12,6 +13,7 @@ mod unanswered;
 
 pub use file_opening::{Unopened, bring_to_rest, open_once, open_to_read};
 pub use input::read_input;
+pub use kept_entries::{keep_entry, keep_mark};
 pub use printing::{print, print_counts};
 pub use progress::Progress;
 pub use reasons::{
