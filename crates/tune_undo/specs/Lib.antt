@@ -1,0 +1,5 @@
+pub mod Sums
+pub mod Entries
+pub mod EntryBytes
+pub mod OldTexts
+pub mod Inside
