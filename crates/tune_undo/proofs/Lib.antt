@@ -4,3 +4,4 @@ pub mod WordLaws
 pub mod LineLaws
 pub mod PartLaws
 pub mod ItemLaws
+pub mod StepLaws

@@ -1,6 +1,6 @@
 -- Lines that are written are read, and lines that are read were written so.
 use Rattle.std.proofs.Common.{◌≡◌, ◌≢◌, ℕ, zero, suc, ◌+◌, ◌-◌, ◌/◌, ◌%◌, ◌^◌, ◌<◌, ◌≤◌, Bool, true, false, cond, List, [], ◌∷◌, ◌++◌, length}
-use Rattle.std.proofs.Common.{◌⊎◌, inl, inr, refl, ap, sym, subst, ◌∙◌, arith, append_assoc, length-append}
+use Rattle.std.proofs.Common.{◌⊎◌, inl, inr, refl, ap, sym, subst, ◌∙◌, arith, append_assoc, append-nil, length-append}
 use Rattle.std.specs.Prelude.{◌==◌, Option, None, Some, codes, decimal, IfSome}
 use Rattle.std.proofs.lemmas.Bool.{and_parts, true≢false}
 use Rattle.std.proofs.lemmas.Option.{none-some, same_Some}
@@ -260,3 +260,131 @@ mark_line_takes bytes r e =
         | inr w ↦ inr (ap (λ t. codes "% tunes-book " ++ (t ++ codes "\n")) w.0, w.1)
       ];
     })
+
+-- THE FIRST LINE OF AN ENTRY OF BEFORE
+free_mid : (a b : List ℕ) → Free space (a ++ (space ∷ b)) → ⊥
+free_mid [] b free = free.0 refl
+free_mid (byte ∷ a) b free = free_mid a b free.1
+
+no_number : (o : Option ℕ) → ((n : ℕ) → o ≡ Some n → ⊥) → o ≡ None
+no_number None none = refl
+no_number (Some n) none = absurd (none n refl)
+
+number_spaced : (a b : List ℕ) → number_of (a ++ (space ∷ b)) ≡ None
+number_spaced a b = no_number (number_of (a ++ (space ∷ b))) (λ n e.
+    let word = number_takes (a ++ (space ∷ b)) n e in
+    free_mid a b (subst (Free space) (sym word.1) (decimal_free space n (omega arith) word.0)))
+
+-- two numbers of 32 bits
+abbrev pub AreTwo : ℕ × ℕ → Type 0
+AreTwo made = (made.0 < 2 ^ 32) × (made.1 < 2 ^ 32)
+
+old_len_again : (len : ℕ) (made : Option (ℕ × ℕ)) → len < 2 ^ 32 → IfSome made AreTwo → old_len_of (decimal len ++ made_bytes made) ≡ Some len
+old_len_again len None short small =
+    ap old_len_of (append-nil (decimal len)) ∙ ap (λ o. or_first o (first_of_three (decimal len))) (number_again len short)
+old_len_again len (Some made) short small =
+    let last : List ℕ = decimal made.1 in
+    let rest : List ℕ = decimal made.0 ++ (space ∷ last) in
+    let word : List ℕ = decimal len ++ (space ∷ rest) in
+    ap (λ o. or_first o (first_of_three word)) (number_spaced (decimal len) rest)
+    ∙ (bind_is (number_at space word) _ (len, rest) (number_at_again space len rest (omega arith) short)
+    ∙ bind_is (number_at space rest) _ (made.0, last) (number_at_again space made.0 last (omega arith) small.0)
+    ∙ bind_is (number_of last) _ made.1 (number_again made.1 small.1))
+
+or_cases : (o other : Option ℕ) (len : ℕ) → or_first o other ≡ Some len → (o ≡ Some len) ⊎ (other ≡ Some len)
+or_cases None other len e = inr e
+or_cases (Some n) other len e = inl e
+
+-- a length that was read, and what stands behind it
+pub record LenRead (word : List ℕ) (len : ℕ) : Type 0 where
+  pub made : Option (ℕ × ℕ)
+  pub small : IfSome made AreTwo
+  pub short : len < 2 ^ 32
+  pub whole : word ≡ decimal len ++ made_bytes made
+
+old_len_takes : (word : List ℕ) (len : ℕ) → old_len_of word ≡ Some len → LenRead word len
+old_len_takes word len e = elim (or_cases (number_of word) (first_of_three word) len e) [
+  | inl n ↦
+      let number = number_takes word len n in
+      record { made = None; small = tt; short = number.0; whole = number.1 ∙ sym (append-nil (decimal len)) }
+  | inr t ↦
+      let first = bind_some (number_at space word) _ len t in
+      let sum = bind_some (number_at space first.0.1) _ len first.2 in
+      let size = bind_some (number_of sum.0.1) _ len sum.2 in
+      let a = number_at_takes space word first.0 first.1 in
+      let b = number_at_takes space first.0.1 sum.0 sum.1 in
+      let c = number_takes sum.0.1 size.0 size.1 in
+      let P : ℕ → Type 0 = LenRead word in
+      subst P (same_Some _ _ size.2) (record {
+        made = Some (sum.0.0, size.0);
+        small = (b.0, c.0);
+        short = a.0;
+        whole = a.1 ∙ ap (λ t. decimal first.0.0 ++ (space ∷ t)) (b.1 ∙ ap (λ t. decimal sum.0.0 ++ (space ∷ t)) c.1);
+      })
+]
+
+-- the bytes of that line, before what follows
+abbrev pub old_line : Kind → ℕ → ℕ → List ℕ → List ℕ → List ℕ
+old_line k number revision lens rest =
+    codes "% tunes-book " ++ (kind_word k ++ (space ∷ (decimal number ++ (space ∷ (decimal revision ++ (space ∷ (lens ++ (line_feed ∷ rest))))))))
+
+made_free : (len : ℕ) (made : Option (ℕ × ℕ)) → len < 2 ^ 32 → IfSome made AreTwo → Free line_feed (decimal len ++ made_bytes made)
+made_free len None short small = free-append line_feed (decimal len) [] (decimal_free line_feed len (omega arith) short) tt
+made_free len (Some made) short small =
+    free-append line_feed (decimal len) (made_bytes (Some made)) (decimal_free line_feed len (omega arith) short) (
+      (λ e. omega arith),
+      free-append line_feed (decimal made.0) (space ∷ decimal made.1) (decimal_free line_feed made.0 (omega arith) small.0)
+          ((λ e. omega arith), decimal_free line_feed made.1 (omega arith) small.1),
+    )
+
+pub old_line_again : (k : Kind) (number revision len : ℕ) (made : Option (ℕ × ℕ)) (rest : List ℕ) → number < 2 ^ 32 → revision < 2 ^ 32 → len < 2 ^ 32
+    → IfSome made AreTwo → old_line_at (old_line k number revision (decimal len ++ made_bytes made) rest)
+    ≡ Some (record { kind = k; number = number; revision = revision; len = len }, rest)
+old_line_again k number revision len made rest small low short two =
+    let lens : List ℕ = decimal len ++ made_bytes made in
+    let end : List ℕ = lens ++ (line_feed ∷ rest) in
+    let middle : List ℕ = decimal revision ++ (space ∷ end) in
+    let front : List ℕ = decimal number ++ (space ∷ middle) in
+    bind_is (field_at space (kind_word k ++ (space ∷ front))) _ (kind_word k, front) (field_again space (kind_word k) front (kind_free k))
+    ∙ bind_is (kind_of (kind_word k)) _ k (kind_again k)
+    ∙ bind_is (number_at space front) _ (number, middle) (number_at_again space number middle (omega arith) small)
+    ∙ bind_is (number_at space middle) _ (revision, end) (number_at_again space revision end (omega arith) low)
+    ∙ bind_is (field_at line_feed end) _ (lens, rest) (field_again line_feed lens rest (made_free len made short two))
+    ∙ bind_is (old_len_of lens) _ len (old_len_again len made short two)
+
+pub record OldLineRead (bytes : List ℕ) (line : OldLine) (rest : List ℕ) : Type 0 where
+  pub made : Option (ℕ × ℕ)
+  pub small : IfSome made AreTwo
+  pub number : line.number < 2 ^ 32
+  pub whole : old_line line.kind line.number line.revision (decimal line.len ++ made_bytes made) rest ≡ bytes
+
+pub old_line_takes : (bytes : List ℕ) (r : OldLine × List ℕ) → old_line_at bytes ≡ Some r → OldLineRead bytes r.0 r.1
+old_line_takes bytes r e =
+    let front = bind_some (after (codes "% tunes-book ") bytes) _ r e in
+    let word = bind_some (field_at space front.0) _ r front.2 in
+    let k = bind_some (kind_of word.0.0) _ r word.2 in
+    let number = bind_some (number_at space word.0.1) _ r k.2 in
+    let revision = bind_some (number_at space number.0.1) _ r number.2 in
+    let lens = bind_some (field_at line_feed revision.0.1) _ r revision.2 in
+    let len = bind_some (old_len_of lens.0.0) _ r lens.2 in
+    let n = number_at_takes space word.0.1 number.0 number.1 in
+    let v = number_at_takes space number.0.1 revision.0 revision.1 in
+    let l = old_len_takes lens.0.0 len.0 len.1 in
+    let P : OldLine × List ℕ → Type 0 = λ s. OldLineRead bytes s.0 s.1 in
+    let end : revision.0.1 ≡ (decimal len.0 ++ made_bytes l.made) ++ (line_feed ∷ lens.0.1) =
+    (field_takes line_feed revision.0.1 lens.0 lens.1).0 ∙ ap (λ t. t ++ (line_feed ∷ lens.0.1)) l.whole in
+    let middle : number.0.1 ≡ decimal revision.0.0 ++ (space ∷ ((decimal len.0 ++ made_bytes l.made) ++ (line_feed ∷ lens.0.1))) =
+    v.1 ∙ ap (λ t. decimal revision.0.0 ++ (space ∷ t)) end in
+    subst P (same_Some _ _ len.2) (record {
+      made = l.made;
+      small = l.small;
+      number = n.0;
+      whole = sym (after_takes (codes "% tunes-book ") bytes front.0 front.1
+          ∙ ap (λ t. codes "% tunes-book " ++ t) ((field_takes space front.0 word.0 word.1).0
+          ∙ (λ i. kind_takes word.0.0 k.0 k.1 i ++ (space ∷ n.1 i))
+          ∙ ap (λ t. kind_word k.0 ++ (space ∷ (decimal number.0.0 ++ (space ∷ t)))) middle));
+    })
+
+pub old_parts : (old : OldEntry) (rest : List ℕ) → old_bytes old ++ rest
+    ≡ old_line old.kind old.number old.revision (decimal (length (book_tune old.number old.text)) ++ made_bytes old.made) (book_tune old.number old.text ++ rest)
+old_parts old rest = simp append_assoc

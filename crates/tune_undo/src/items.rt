@@ -5,7 +5,7 @@ ghost use Rattle.tune_undo.specs.EntryBytes.{IsEntry, entry_bytes};
 ghost use Rattle.tune_undo.specs.OldTexts.{OldEntry, IsOld, old_bytes, entry_of_old, Item, Begins};
 ghost use Rattle.tune_undo.specs.OldTexts.{IsMarkWritten};
 ghost use Rattle.tune_undo.specs.Inside.Lines.{after_old_of, text_len_of};
-ghost use Rattle.tune_undo.specs.Inside.Found.{found_value};
+ghost use Rattle.tune_undo.specs.Inside.Found.{found_value, OldRead};
 ghost use Rattle.tune_undo.specs.declared.entries.Mark.{Mark};
 
 use crate::entries::{After, Entry, Kind, Mark, Part};
@@ -51,9 +51,8 @@ fn entry(alloc: Global, bytes: &[u8]) -> Result<Option<Entry>, AllocError>
 
 // The entry that begins here, in the form of before.
 fn old_entry(alloc: Global, bytes: &[u8]) -> Result<Option<Entry>, AllocError>
-    ensures found { IfOk result (λ read. IfSome read (λ e. (old : OldEntry) × IsOld old
-        × (entry_of_old old ≡ entry_value e)
-        × ((rest : List ℕ) × (old_bytes old ++ rest ≡ bytes.now)))) }
+    ensures found { IfOk result (λ read. IfSome read (λ e.
+        OldRead bytes.now (entry_value e))) }
     ensures none { IfOk result (λ read. IfNone read ((old : OldEntry) (rest : List ℕ)
         → IsOld old → old_bytes old ++ rest ≢ bytes.now)) }
 {
@@ -66,9 +65,10 @@ fn old_entry(alloc: Global, bytes: &[u8]) -> Result<Option<Entry>, AllocError>
     let Some(len) = text_len(line.len as usize, rest) else {
         return Ok(None);
     };
-    let Some((text, _)) = text_at(alloc, line.number, len, rest)? else {
+    let Some(found) = text_at(alloc, line.number, len, rest)? else {
         return Ok(None);
     };
+    let (text, _) = found;
     let part = Part::Tune {
         number: line.number,
         was: Some(text),

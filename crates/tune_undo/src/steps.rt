@@ -3,8 +3,8 @@ ghost use Rattle.std.specs.Prelude.{◌≡◌, ◌<◌, List, length, map, IfOk,
 ghost use Rattle.std.specs.Option.{option_map};
 ghost use Rattle.tune_undo.specs.Entries.{step_value, entry_value};
 ghost use Rattle.tune_undo.specs.OldTexts.{Item, Entered, Top, Stands, IsLog, standing};
-ghost use Rattle.tune_undo.specs.OldTexts.{after_item, without_last, begun_last};
-ghost use Rattle.tune_undo.specs.Inside.Found.{found_value, place_of, IsLaterLog};
+ghost use Rattle.tune_undo.specs.OldTexts.{after_item, after_mark, without_last, begun_last};
+ghost use Rattle.tune_undo.specs.Inside.Found.{found_value, place_of, IsLaterLog, after_found};
 
 use crate::entries::{Entry, Kind, Mark, Step};
 use crate::items::{Found, found_at};
@@ -22,9 +22,8 @@ pub fn standing_steps(alloc: Global, book: &[u8]) -> Result<Vec<Step>, AllocErro
     let mut rest = book;
     let mut top = true;
     while !rest.is_empty() {
-        if let Some(found) = found_if(alloc, top, rest)? {
-            take_in(&mut steps, found)?;
-        }
+        let found = found_if(alloc, top, rest)?;
+        take_in(&mut steps, found)?;
         (top, rest) = next_line(rest);
     }
     Ok(steps)
@@ -34,11 +33,11 @@ pub fn standing_steps(alloc: Global, book: &[u8]) -> Result<Vec<Step>, AllocErro
 fn found_if(alloc: Global, top: bool, bytes: &[u8]) -> Result<Option<Found>, AllocError>
     ensures { IfOk result (λ read. Stands (place_of top) bytes.now (option_map found_value read)) }
 {
-    if top {
-        found_at(alloc, bytes)
-    } else {
-        Ok(None)
+    if !top {
+        return Ok(None);
     }
+    let found = found_at(alloc, bytes)?;
+    Ok(found)
 }
 
 // What follows the first line, and whether that is empty.
@@ -54,24 +53,15 @@ fn next_line(bytes: &[u8]) -> (bool, &[u8])
 }
 
 // The steps after what was found.
-fn take_in(steps: &mut Vec<Step>, found: Found) -> Result<(), AllocError>
+fn take_in(steps: &mut Vec<Step>, found: Option<Found>) -> Result<(), AllocError>
     ensures { OnOk result (map step_value steps.new.items
-        ≡ after_item (map step_value steps.old.items) (found_value found)) }
+        ≡ after_found (map step_value steps.old.items) (option_map found_value found)) }
 {
     match found {
-        Found::Entry(entry) => put_step(steps, entry),
-        Found::Mark(Mark::Undoing(greatest)) => begin_last(steps, greatest),
-        Found::Mark(Mark::NotDone) | Found::Mark(Mark::Undone) => {
-            drop_last(steps);
-            Ok(())
-        }
+        None => Ok(()),
+        Some(Found::Entry(entry)) => put_step(steps, entry),
+        Some(Found::Mark(mark)) => note(steps, mark),
     }
-}
-
-fn drop_last(steps: &mut Vec<Step>)
-    ensures { map step_value steps.new.items ≡ without_last (map step_value steps.old.items) }
-{
-    steps.pop();
 }
 
 fn put_step(steps: &mut Vec<Step>, entry: Entry) -> Result<(), AllocError>
@@ -84,17 +74,35 @@ fn put_step(steps: &mut Vec<Step>, entry: Entry) -> Result<(), AllocError>
     Ok(())
 }
 
+fn note(steps: &mut Vec<Step>, mark: Mark) -> Result<(), AllocError>
+    ensures { OnOk result (map step_value steps.new.items
+        ≡ after_mark (map step_value steps.old.items) mark) }
+{
+    match mark {
+        Mark::NotDone | Mark::Undone => {
+            drop_last(steps);
+            Ok(())
+        }
+        Mark::Undoing(greatest) => begin_last(steps, greatest),
+    }
+}
+
+fn drop_last(steps: &mut Vec<Step>)
+    ensures { map step_value steps.new.items ≡ without_last (map step_value steps.old.items) }
+{
+    steps.pop();
+}
+
 // The undoing of the last step is begun.
 fn begin_last(steps: &mut Vec<Step>, greatest: u32) -> Result<(), AllocError>
     ensures { OnOk result (map step_value steps.new.items
         ≡ begun_last greatest (map step_value steps.old.items)) }
 {
-    if let Some(step) = steps.pop() {
-        let begun = Some(greatest);
-        steps.push(Step {
-            entry: step.entry,
-            begun,
-        })?;
-    }
+    let Some(step) = steps.pop() else {
+        return Ok(());
+    };
+    let Step { entry, .. } = step;
+    let begun = Some(greatest);
+    steps.push(Step { entry, begun })?;
     Ok(())
 }
