@@ -71,7 +71,7 @@ entry_whole bytes line found front back parts read whole size are same count =
     )
 
 -- ENTRIES OF BEFORE
-old_short : (old : OldEntry) → IsOld old → length (book_tune old.number old.text) < 2 ^ 32
+pub old_short : (old : OldEntry) → IsOld old → length (book_tune old.number old.text) < 2 ^ 32
 old_short old is =
     let digits : length (decimal old.number) ≤ 10 = length-decimal-le 10 old.number (omega arith) (omega (arith, is.number)) (omega (arith, is.number)) in
     omega (arith, is.text.fits, length-append (decimal old.number) (line_feed ∷ old.text), digits)

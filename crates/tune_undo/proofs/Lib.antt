@@ -5,3 +5,5 @@ pub mod LineLaws
 pub mod PartLaws
 pub mod ItemLaws
 pub mod StepLaws
+pub mod QuietLaws
+pub mod EndLaws

@@ -37,7 +37,7 @@ digits_free (byte ∷ sum) =
     let each = λ (k : ℕ). free_index line_feed lower_digits k (free_test line_feed lower_digits refl) (λ e. omega arith) in
     (each (byte / 16), (each (byte % 16), digits_free sum))
 
-after_free : (is : After) → IsAfter is → Free line_feed (after_word is)
+pub after_free : (is : After) → IsAfter is → Free line_feed (after_word is)
 after_free Nothing good = free_test line_feed (codes "none") refl
 after_free (Text sum) good = digits_free sum
 after_free (Revision revision) good =
@@ -52,7 +52,7 @@ numbers_free (number ∷ numbers) are = (
       (numbers_free numbers are.1),
 )
 
-list_free : (list : Option (List ℕ)) → IfSome list AreNumbers → Free line_feed (list_bytes list)
+pub list_free : (list : Option (List ℕ)) → IfSome list AreNumbers → Free line_feed (list_bytes list)
 list_free None are = free_test line_feed (codes " none") refl
 list_free (Some numbers) are = numbers_free numbers are
 
@@ -65,7 +65,7 @@ name_bytes_free (byte ∷ name) good =
 name_free : (name : List ℕ) → is_good_name name ≡ true → Free space name
 name_free name good = name_bytes_free name (and_parts _ _ good).1
 
-kind_free : (k : Kind) → Free space (kind_word k)
+pub kind_free : (k : Kind) → Free space (kind_word k)
 kind_free kind.Delete = free_test space (codes "delete") refl
 kind_free kind.Replace = free_test space (codes "replace") refl
 kind_free kind.Put = free_test space (codes "put") refl
@@ -76,7 +76,7 @@ kind_free kind.Add = free_test space (codes "add") refl
 kind_free kind.AddMore = free_test space (codes "add-more") refl
 kind_free kind.Kept = free_test space (codes "kept") refl
 
-mark_free : (mark : Mark) → IsMark mark → Free line_feed (mark_word mark)
+pub mark_free : (mark : Mark) → IsMark mark → Free line_feed (mark_word mark)
 mark_free NotDone good = free_test line_feed (codes "not done") refl
 mark_free Undone good = free_test line_feed (codes "undone") refl
 mark_free (Undoing greatest) good =
@@ -328,7 +328,7 @@ abbrev pub old_line : Kind → ℕ → ℕ → List ℕ → List ℕ → List �
 old_line k number revision lens rest =
     codes "% tunes-book " ++ (kind_word k ++ (space ∷ (decimal number ++ (space ∷ (decimal revision ++ (space ∷ (lens ++ (line_feed ∷ rest))))))))
 
-made_free : (len : ℕ) (made : Option (ℕ × ℕ)) → len < 2 ^ 32 → IfSome made AreTwo → Free line_feed (decimal len ++ made_bytes made)
+pub made_free : (len : ℕ) (made : Option (ℕ × ℕ)) → len < 2 ^ 32 → IfSome made AreTwo → Free line_feed (decimal len ++ made_bytes made)
 made_free len None short small = free-append line_feed (decimal len) [] (decimal_free line_feed len (omega arith) short) tt
 made_free len (Some made) short small =
     free-append line_feed (decimal len) (made_bytes (Some made)) (decimal_free line_feed len (omega arith) short) (

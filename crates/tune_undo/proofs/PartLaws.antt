@@ -198,7 +198,7 @@ text_whole number other text front later rest bytes read same whole is =
     ∙ ap (λ t. codes "X:" ++ (decimal other ++ (line_feed ∷ (t ++ later)))) is
     ∙ ap (λ t. codes "X:" ++ (decimal other ++ (line_feed ∷ t))) (sym whole) ∙ (number_line_takes bytes (other, rest) read).1
 
-len_small : (was : Option (List ℕ)) → IfSome was (λ text. IsTextWithin longest_tune text) → IfSome (option_map length was) (λ n. n < 2 ^ 32)
+pub len_small : (was : Option (List ℕ)) → IfSome was (λ text. IsTextWithin longest_tune text) → IfSome (option_map length was) (λ n. n < 2 ^ 32)
 len_small None is = tt
 len_small (Some text) is = omega (arith, is.fits)
 

@@ -6,6 +6,7 @@
 mod entries;
 mod fields;
 mod items;
+mod laws;
 mod part_lines;
 mod parts;
 mod steps;
@@ -13,6 +14,7 @@ mod sums;
 mod writing;
 
 pub use entries::{After, Entry, Kind, Mark, Part, Step};
+pub use laws::law_of_old_texts;
 pub use steps::standing_steps;
 pub use sums::Sum;
-pub use writing::{written_entry, written_mark};
+pub use writing::{joined, written_entry, written_mark};

@@ -5,6 +5,7 @@ ghost use Rattle.tune_undo.specs.EntryBytes.{kind_word, after_word, book_tune, t
 ghost use Rattle.tune_undo.specs.EntryBytes.{old_text, numbers_bytes, set_line, part_bytes};
 ghost use Rattle.tune_undo.specs.EntryBytes.{parts_bytes, entry_bytes, mark_bytes};
 ghost use Rattle.tune_undo.specs.Entries.{entry_value};
+ghost use Rattle.tune_undo.specs.OldTextLaws.{before_piece};
 
 use crate::entries::{After, Entry, Kind, Mark, Part};
 use abc_fields::TuneText;
@@ -41,6 +42,21 @@ pub fn written_mark(alloc: Global, mark: Mark) -> Result<Vec<u8>, AllocError>
         Mark::Undone => bytes.extend_from_slice(b"% tunes-book undone\n")?,
         Mark::Undoing(greatest) => put_undoing(&mut bytes, greatest as usize)?,
     }
+    Ok(bytes)
+}
+
+/// The bytes that go to the end of a book of old texts: an entry or a mark, after an empty line, and
+/// before that the end of the last line, where it has none. `ended` says that the book is empty or
+/// ends in a line feed. The error is out of memory.
+pub fn joined(alloc: Global, ended: bool, piece: &[u8]) -> Result<Vec<u8>, AllocError>
+    ensures { IfOk result (λ bytes. bytes.items ≡ before_piece ended ++ piece.now) }
+{
+    let mut bytes = Vec::new(alloc);
+    if !ended {
+        bytes.push(b'\n')?;
+    }
+    bytes.push(b'\n')?;
+    bytes.extend_from_slice(piece)?;
     Ok(bytes)
 }
 
