@@ -20,12 +20,7 @@ pub(crate) enum Unchanged {
 }
 
 /// Says why, and gives the status: 3 where there is no archive that can be read, and else 1.
-pub(crate) fn say_unchanged<E: Write>(
-    errors: &mut E,
-    file: &str,
-    what: &str,
-    why: &Unchanged,
-) -> u8
+pub(crate) fn say_unchanged<E: Write>(errors: &mut E, file: &str, what: &str, why: &Unchanged) -> u8
     ensures { result ≢ 0 }
 {
     match why {
