@@ -1,3 +1,4 @@
 pub mod ChangedFiles
 pub mod EntriesOfTurns
 pub mod Inside
+pub mod Works
