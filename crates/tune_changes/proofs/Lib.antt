@@ -9,3 +9,4 @@ pub mod Within
 pub mod CarryLemmas
 pub mod LookLemmas
 pub mod BringingLemmas
+pub mod PlanLemmas

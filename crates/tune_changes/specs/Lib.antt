@@ -5,4 +5,5 @@ pub mod States
 pub mod Undoing
 pub mod Aims
 pub mod Carrying
+pub mod Planning
 pub mod Inside

@@ -6,10 +6,13 @@ mod bringing;
 mod carrying;
 mod laws;
 mod looking;
+mod planning;
 mod set_bringing;
+mod set_plans;
 mod tune_bringing;
 mod turns;
 
 pub use bringing::{bring_about, take_back};
 pub use laws::{law_of_bringing, law_of_undo};
+pub use planning::{planned, planned_replace};
 pub use turns::{Aim, Turn};
