@@ -1,1 +1,2 @@
+pub mod AlteringLemmas
 pub mod WorkLemmas

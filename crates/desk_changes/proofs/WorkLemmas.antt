@@ -46,7 +46,7 @@ module _ {D : Type 0} (disks : disk.Ghosts D) where
 
   module _ (file : List ℕ) where
     -- a course of these ends
-    pub course_of : Shelf D → Shelf D → List (DeskDeed D) → List (DeskDeed D) → Course D
+    abbrev pub course_of : Shelf D → Shelf D → List (DeskDeed D) → List (DeskDeed D) → Course D
     course_of start finish was now = record { start = start; finish = finish; was = was; now = now }
 
     pub beside_none : (here : Shelf D) (was : List (DeskDeed D)) → WorksBeside disks file (course_of here here was was)

@@ -2,6 +2,9 @@
 //! an entry of the book of old texts; and the order that undoes them.
 #![tactic(auto)]
 
+mod altering;
 mod entries;
 mod turning;
 mod words;
+
+pub use altering::alter;

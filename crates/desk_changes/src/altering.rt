@@ -1,0 +1,113 @@
+// Orders that change tunes or set lists of FILE.
+ghost use Rattle.std.specs.Prelude.{◌≡◌, None, false, Ok, string_bytes};
+ghost use Rattle.tune_pages.specs.Kept.{HonestAt};
+ghost use Rattle.tune_archive.specs.Shelf.{state_of};
+ghost use Rattle.tune_changes.specs.Planning.{planned_by};
+ghost use Rattle.tune_desk.specs.Results.{SparesFiles, places_of};
+ghost use Rattle.desk_changes.specs.ChangedFiles.{ChangesFile};
+ghost use Rattle.desk_changes.specs.Inside.Turning.{Alters, AltersFile};
+ghost use Rattle.desk_changes.specs.Kinds.{kind_of};
+
+use crate::turning::carry;
+use crate::words::{Unchanged, say_unchanged};
+use desk_scenes::{DONE, open_once};
+use desk_terms::Change;
+use std::io::Write;
+use tune_archive::Archive;
+use tune_changes::planned;
+use tune_desk::Desk;
+use tune_disk::{Access, Disk};
+use tune_undo::Kind;
+
+/// Changes what FILE holds, and gives the status: 0 done; 1 refused, or a device failed; 3 no
+/// archive, or a damaged one. What is wrong is said to `errors`.
+pub fn alter<E: Write, D: Disk, K: AllocGlobal + Desk<Disk = D>>(
+    desk: &mut K,
+    file: &String,
+    change: &Change,
+    errors: &mut E,
+) -> u8
+    ensures files { SparesFiles (places_of (string_bytes file.now) None false)
+        (K.deeds desk.old) (K.deeds desk.new) }
+    ensures changes { ChangesFile D.Disk (string_bytes file.now) (kind_of change.now)
+        (λ state turns. planned_by change.now state ≡ Ok turns)
+        (K.deeds desk.old) (K.deeds desk.new) result }
+{
+    let done = alter_file(desk, file, change);
+    match done {
+        Ok(()) => DONE,
+        Err(why) => say_unchanged(errors, file.as_str(), subject(change), &why),
+    }
+}
+
+fn alter_file<D: Disk, K: AllocGlobal + Desk<Disk = D>>(
+    desk: &mut K,
+    file: &String,
+    change: &Change,
+) -> Result<(), Unchanged>
+    ensures files { SparesFiles (places_of (string_bytes file.now) None false)
+        (K.deeds desk.old) (K.deeds desk.new) }
+    ensures alters { AltersFile D.Disk (string_bytes file.now) (kind_of change.now)
+        (λ state turns. planned_by change.now state ≡ Ok turns) result
+        (K.deeds desk.old) (K.deeds desk.new) }
+{
+    match open_once(desk, file, Access::Change) {
+        Err(why) => Err(Unchanged::Unopened(why)),
+        Ok(mut archive) => {
+            // For the proof.
+            archive.law_of_sets();
+            let done = alter_archive(desk, file, &mut archive, change);
+            desk.close(file, archive.into_disk());
+            done
+        }
+    }
+}
+
+// Looks first; then keeps what the turns take away, and brings them about.
+fn alter_archive<D: Disk, K: AllocGlobal + Desk<Disk = D>>(
+    desk: &mut K,
+    file: &String,
+    archive: &mut Archive<D>,
+    change: &Change,
+) -> Result<(), Unchanged>
+    ensures files { SparesFiles (places_of (string_bytes file.now) None false)
+        (K.deeds desk.old) (K.deeds desk.new) }
+    ensures alters { archive.old.closed ≡ false
+        → (HonestAt D.honest archive.old.pages.disk
+        → archive.old.contents.sets ≡ (state_of D.state archive.old).sets)
+        → Alters D.Disk (string_bytes file.now) (kind_of change.now)
+        (λ state turns. planned_by change.now state ≡ Ok turns) result (record {
+          start = archive.old;
+          finish = archive.new;
+          was = K.deeds desk.old;
+          now = K.deeds desk.new;
+        }) }
+{
+    match planned(desk.alloc(), archive, change) {
+        Ok(turns) => carry(desk, file, archive, kind_of(change), turns.as_slice()),
+        Err(refusal) => Err(Unchanged::Refused(refusal)),
+    }
+}
+
+fn kind_of(change: &Change) -> Kind
+    ensures { result ≡ kind_of change.now }
+{
+    match change {
+        Change::Delete(_) => Kind::Delete,
+        Change::Put { .. } => Kind::Put,
+        Change::Cut { .. } => Kind::Cut,
+        Change::Move { .. } => Kind::Move,
+        Change::Drop(_) => Kind::Drop,
+    }
+}
+
+// What a refusal is about.
+fn subject(change: &Change) -> &str {
+    match change {
+        Change::Delete(_) => "delete",
+        Change::Put { name, numbers: _ } => name.as_str(),
+        Change::Cut { name, places: _ } => name.as_str(),
+        Change::Move { name, place: _, to: _ } => name.as_str(),
+        Change::Drop(name) => name.as_str(),
+    }
+}
