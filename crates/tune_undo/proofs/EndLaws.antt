@@ -38,7 +38,7 @@ apart [] (d ∷ b) x y free other e = other.0 (sym (ap (λ t. slice_index t 0) e
 apart (c ∷ a) [] x y free other e = free.0 (ap (λ t. slice_index t 0) e)
 apart (c ∷ a) (d ∷ b) x y free other e = apart a b x y free.1 other.1 (ap (drop 1) e)
 
-entry_not_old : (e : EntryValue) (rest : List ℕ) (old : OldEntry) (more : List ℕ) → IsEntry e → IsOld old → old_bytes old ++ more ≡ entry_bytes e ++ rest → ⊥
+pub entry_not_old : (e : EntryValue) (rest : List ℕ) (old : OldEntry) (more : List ℕ) → IsEntry e → IsOld old → old_bytes old ++ more ≡ entry_bytes e ++ rest → ⊥
 entry_not_old e rest old more is good same =
     let read = old_line_takes (entry_bytes e ++ rest) _ (old_again old more (entry_bytes e ++ rest) good same) in
     let few = is.count in
@@ -51,7 +51,7 @@ entry_not_old e rest old more is good same =
     apart (decimal (length (parts_bytes e.parts))) (decimal old.revision) _ _ (decimal_free space (length (parts_bytes e.parts)) (omega arith) short)
     (decimal_free line_feed old.revision (omega arith) (omega arith)) (sym numbers.1)
 
-mark_of_kind : (k : Kind) (more : List ℕ) → mark_of (kind_word k ++ (space ∷ more)) ≡ None
+pub mark_of_kind : (k : Kind) (more : List ℕ) → mark_of (kind_word k ++ (space ∷ more)) ≡ None
 mark_of_kind kind.Delete more = refl
 mark_of_kind kind.Replace more = refl
 mark_of_kind kind.Put more = refl
@@ -62,7 +62,7 @@ mark_of_kind kind.Add more = refl
 mark_of_kind kind.AddMore more = refl
 mark_of_kind kind.Kept more = refl
 
-entry_no_mark : (e : EntryValue) (rest : List ℕ) → IsEntry e → mark_line_at (entry_bytes e ++ rest) ≡ None
+pub entry_no_mark : (e : EntryValue) (rest : List ℕ) → IsEntry e → mark_line_at (entry_bytes e ++ rest) ≡ None
 entry_no_mark e rest is =
     let few = is.count in
     let short = is.size in
