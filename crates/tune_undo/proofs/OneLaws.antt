@@ -1,6 +1,6 @@
 -- A book of old texts has one log.
-use Rattle.std.proofs.Common.{◌≡◌, ℕ, ◌+◌, ◌^◌, ◌<◌, List, [], ◌∷◌, ◌++◌, length, drop}
-use Rattle.std.proofs.Common.{inl, inr, refl, ap, sym, subst, ◌∙◌, arith, append_assoc, length-append}
+use Rattle.std.proofs.Common.{◌≡◌, ℕ, List, [], ◌∷◌, ◌++◌, length}
+use Rattle.std.proofs.Common.{inl, inr, refl, ap, sym, ◌∙◌, arith, append_assoc}
 use Rattle.std.specs.Prelude.{Option, None, Some, codes, decimal}
 use Rattle.std.specs.Option.{option_to_list}
 use Rattle.std.proofs.lemmas.Option.{none-some, same_Some}
@@ -8,10 +8,9 @@ use Rattle.std.proofs.lemmas.List.{append_cancel_left}
 use Rattle.abc_fields.specs.Bytes.{space, line_feed}
 use Rattle.tune_undo.specs.Entries.{EntryValue}
 use Rattle.tune_undo.specs.EntryBytes.{kind_word, parts_bytes, book_tune, IsEntry, entry_bytes}
-use Rattle.tune_undo.specs.OldTexts.{OldEntry, IsOld, made_bytes, old_bytes, after_old, entry_of_old, IsWritten, Begins, Item, Entered, Marked, Place, Top, Start, Within, next, Stands, IsLog}
-use Rattle.tune_undo.specs.Inside.Reading.{◌>>=◌, field_at, mark_of}
+use Rattle.tune_undo.specs.OldTexts.{OldEntry, IsOld, made_bytes, old_bytes, after_old, entry_of_old, IsWritten, Item, Entered, Marked, Place, Top, Start, Within, next, Stands, IsLog}
+use Rattle.tune_undo.specs.Inside.Reading.{◌>>=◌, field_at}
 use Rattle.tune_undo.specs.Inside.Lines.{mark_line_at}
-use Rattle.tune_undo.specs.declared.entries.Kind.{Kind}
 use Rattle.tune_undo.specs.declared.entries.Part.TheVariants.{Tune}
 use Rattle.tune_undo.specs.declared.entries.Mark.{Mark}
 use Rattle.tune_undo.proofs.FieldLaws.{bind_is, Free, free-append, field_again, decimal_free}
