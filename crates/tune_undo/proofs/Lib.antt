@@ -8,3 +8,4 @@ pub mod StepLaws
 pub mod QuietLaws
 pub mod EndLaws
 pub mod OneLaws
+pub mod ReadyLaws
