@@ -1,10 +1,10 @@
 -- What is put at the end of a book of old texts is read there, and nothing else changes.
-use Rattle.std.proofs.Common.{◌≡◌, ◌≢◌, ℕ, zero, suc, ◌+◌, ◌-◌, ◌<◌, ◌≤◌, ◌^◌, Bool, true, false, cond, List, [], ◌∷◌, ◌++◌, length, take, drop}
-use Rattle.std.proofs.Common.{◌⊎◌, inl, inr, refl, ap, sym, subst, ◌∙◌, arith, append_assoc, append-nil, length-append}
-use Rattle.std.specs.Prelude.{◌==◌, ◌||◌, nat_eq, Option, None, Some, codes, decimal, slice_index, ⊤}
+use Rattle.std.proofs.Common.{◌≡◌, ◌≢◌, ℕ, ◌<◌, ◌≤◌, Bool, true, false, List, [], ◌∷◌, ◌++◌, length, take, drop}
+use Rattle.std.proofs.Common.{inl, inr, refl, ap, sym, subst, ◌∙◌, arith, append_assoc, append-nil, length-append}
+use Rattle.std.specs.Prelude.{◌==◌, nat_eq, Option, None, Some, codes, decimal, slice_index, ⊤}
 use Rattle.std.specs.Option.{option_to_list}
 use Rattle.std.specs.List.{starts_with}
-use Rattle.std.proofs.lemmas.Bool.{true≢false, eqb-true, cond-true, cond-false, or_cases, cases_Bool, cases_lt}
+use Rattle.std.proofs.lemmas.Bool.{true≢false, cond-true, or_cases, cases_lt}
 use Rattle.std.proofs.lemmas.Bool.Decides.{Decides-eqb}
 use Rattle.std.proofs.lemmas.Option.{none-some, same_Some}
 use Rattle.std.proofs.lemmas.List.{append_cancel_left, take_at, take-append-le, take-append-drop}
@@ -12,7 +12,7 @@ use Rattle.std.proofs.lemmas.Slice.Eq.{starts_is}
 use Rattle.abc_fields.specs.Bytes.{space, line_feed}
 use Rattle.tune_undo.specs.Entries.{EntryValue, StepValue}
 use Rattle.tune_undo.specs.EntryBytes.{kind_word, IsMark, parts_bytes, IsEntry, entry_bytes, mark_bytes}
-use Rattle.tune_undo.specs.OldTexts.{OldEntry, IsOld, made_bytes, old_bytes, IsMarkWritten, IsWritten, Begins, Item, Entered, Marked, Place, Top, Start, Within, after_feed, next, Stands, IsLog, standing, standing_after, after_item}
+use Rattle.tune_undo.specs.OldTexts.{OldEntry, IsOld, old_bytes, IsWritten, Begins, Item, Entered, Marked, Place, Top, Start, Within, after_feed, next, Stands, IsLog, standing, standing_after, after_item}
 use Rattle.tune_undo.specs.OldTextLaws.{is_ended, before_piece, made_ready, IsPiece, AddsItem, AddsNothing}
 use Rattle.tune_undo.specs.Inside.Reading.{◌>>=◌, field_at, mark_of}
 use Rattle.tune_undo.specs.Inside.Lines.{first_line_at, old_line_at, mark_line_at}
@@ -20,11 +20,11 @@ use Rattle.tune_undo.specs.declared.entries.Kind.{Kind}
 use Rattle.tune_undo.specs.declared.entries.Kind.TheVariants as kind
 use Rattle.tune_undo.specs.declared.entries.Mark.{Mark}
 use Rattle.tune_undo.specs.declared.entries.Mark.TheVariants.{NotDone, Undone, Undoing}
-use Rattle.tune_undo.proofs.FieldLaws.{bind_is, Free, free_test, free-append, field_again, decimal_free}
-use Rattle.tune_undo.proofs.LineLaws.{first_line, entry_parts, old_line, old_line_takes, kind_free, mark_line_again, mark_written_again}
+use Rattle.tune_undo.proofs.FieldLaws.{bind_is, Free, free-append, field_again, decimal_free}
+use Rattle.tune_undo.proofs.LineLaws.{first_line, entry_parts, old_line_takes, kind_free, mark_line_again, mark_written_again}
 use Rattle.tune_undo.proofs.PartLaws.{cut, parts_same}
 use Rattle.tune_undo.proofs.ItemLaws.{entry_again, old_again}
-use Rattle.tune_undo.proofs.QuietLaws.{is_part_front, Quiet, QuietItem, place_after, place_after-append, quiet_at, item_quiet, kind_feedless}
+use Rattle.tune_undo.proofs.QuietLaws.{is_part_front, Quiet, place_after, place_after-append, quiet_at, item_quiet, kind_feedless}
 
 -- AN ENTRY IS NOTHING ELSE
 token_same : (a b x y : List ℕ) → Free space a → Free space b → a ++ (space ∷ x) ≡ b ++ (space ∷ y) → (a ≡ b) × (x ≡ y)
@@ -38,7 +38,7 @@ apart [] (d ∷ b) x y free other e = other.0 (sym (ap (λ t. slice_index t 0) e
 apart (c ∷ a) [] x y free other e = free.0 (ap (λ t. slice_index t 0) e)
 apart (c ∷ a) (d ∷ b) x y free other e = apart a b x y free.1 other.1 (ap (drop 1) e)
 
-entry_not_old : (e : EntryValue) (rest : List ℕ) (old : OldEntry) (more : List ℕ) → IsEntry e → IsOld old → old_bytes old ++ more ≡ entry_bytes e ++ rest → ⊥
+pub entry_not_old : (e : EntryValue) (rest : List ℕ) (old : OldEntry) (more : List ℕ) → IsEntry e → IsOld old → old_bytes old ++ more ≡ entry_bytes e ++ rest → ⊥
 entry_not_old e rest old more is good same =
     let read = old_line_takes (entry_bytes e ++ rest) _ (old_again old more (entry_bytes e ++ rest) good same) in
     let few = is.count in
@@ -51,7 +51,7 @@ entry_not_old e rest old more is good same =
     apart (decimal (length (parts_bytes e.parts))) (decimal old.revision) _ _ (decimal_free space (length (parts_bytes e.parts)) (omega arith) short)
     (decimal_free line_feed old.revision (omega arith) (omega arith)) (sym numbers.1)
 
-mark_of_kind : (k : Kind) (more : List ℕ) → mark_of (kind_word k ++ (space ∷ more)) ≡ None
+pub mark_of_kind : (k : Kind) (more : List ℕ) → mark_of (kind_word k ++ (space ∷ more)) ≡ None
 mark_of_kind kind.Delete more = refl
 mark_of_kind kind.Replace more = refl
 mark_of_kind kind.Put more = refl
@@ -62,7 +62,7 @@ mark_of_kind kind.Add more = refl
 mark_of_kind kind.AddMore more = refl
 mark_of_kind kind.Kept more = refl
 
-entry_no_mark : (e : EntryValue) (rest : List ℕ) → IsEntry e → mark_line_at (entry_bytes e ++ rest) ≡ None
+pub entry_no_mark : (e : EntryValue) (rest : List ℕ) → IsEntry e → mark_line_at (entry_bytes e ++ rest) ≡ None
 entry_no_mark e rest is =
     let few = is.count in
     let short = is.size in

@@ -1,9 +1,9 @@
 -- The bytes of an entry or a mark tell it.
 use Rattle.std.proofs.Common.{◌≡◌, ℕ, ◌+◌, ◌-◌, ◌^◌, ◌<◌, ◌≤◌, List, [], ◌∷◌, ◌++◌, length, take}
-use Rattle.std.proofs.Common.{◌⊎◌, inl, inr, refl, ap, sym, subst, ◌∙◌, arith, append_assoc, length-append}
-use Rattle.std.specs.Prelude.{Option, None, Some}
+use Rattle.std.proofs.Common.{inl, inr, refl, ap, sym, ◌∙◌, arith, length-append}
+use Rattle.std.specs.Prelude.{None, Some}
 use Rattle.std.specs.List.{AllByRecursion}
-use Rattle.std.specs.Prelude.{nat_lt, codes, decimal}
+use Rattle.std.specs.Prelude.{nat_lt, decimal}
 use Rattle.std.proofs.lemmas.Bool.{lt-ltb, le-ltb, ltb-true, ltb-false, and_from, and_parts, cond-true, cond-false}
 use Rattle.std.proofs.lemmas.Option.{none-some, same_Some, cond_some}
 use Rattle.std.proofs.lemmas.Fmt.{length-decimal-le}
@@ -13,7 +13,7 @@ use Rattle.abc_fields.specs.Tunes.{IsTextWithin}
 use Rattle.std.proofs.lemmas.List.{take_at}
 use Rattle.tune_undo.specs.Entries.{EntryValue, IsPart}
 use Rattle.tune_undo.specs.EntryBytes.{IsEntry, entry_bytes, parts_bytes, book_tune}
-use Rattle.tune_undo.specs.OldTexts.{OldEntry, IsOld, made_bytes, old_bytes, is_old_kind, after_old, entry_of_old, Item, Entered, Marked, Begins}
+use Rattle.tune_undo.specs.OldTexts.{OldEntry, IsOld, made_bytes, old_bytes, after_old, Item, Entered, Marked, Begins}
 use Rattle.tune_undo.specs.Inside.Found.{OldRead}
 use Rattle.tune_undo.specs.Inside.Lines.{first_line_at, number_line_at, old_line_at, mark_line_at, after_old_of, len_after, text_len_of}
 use Rattle.tune_undo.specs.declared.part_lines.OldLine.{OldLine}

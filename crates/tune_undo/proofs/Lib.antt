@@ -7,3 +7,5 @@ pub mod ItemLaws
 pub mod StepLaws
 pub mod QuietLaws
 pub mod EndLaws
+pub mod OneLaws
+pub mod ReadyLaws

@@ -1,17 +1,17 @@
 -- Lines that are written are read, and lines that are read were written so.
-use Rattle.std.proofs.Common.{◌≡◌, ◌≢◌, ℕ, zero, suc, ◌+◌, ◌-◌, ◌/◌, ◌%◌, ◌^◌, ◌<◌, ◌≤◌, Bool, true, false, cond, List, [], ◌∷◌, ◌++◌, length}
+use Rattle.std.proofs.Common.{◌≡◌, ℕ, ◌/◌, ◌%◌, ◌^◌, ◌<◌, ◌≤◌, true, List, [], ◌∷◌, ◌++◌, length}
 use Rattle.std.proofs.Common.{◌⊎◌, inl, inr, refl, ap, sym, subst, ◌∙◌, arith, append_assoc, append-nil, length-append}
-use Rattle.std.specs.Prelude.{◌==◌, Option, None, Some, codes, decimal, IfSome}
+use Rattle.std.specs.Prelude.{Option, None, Some, codes, decimal, IfSome}
 use Rattle.std.proofs.lemmas.Bool.{and_parts, true≢false}
-use Rattle.std.proofs.lemmas.Option.{none-some, same_Some}
-use Rattle.hex.specs.Hex.{encode_lower, encode_with, lower_digits}
+use Rattle.std.proofs.lemmas.Option.{same_Some}
+use Rattle.hex.specs.Hex.{encode_with, lower_digits}
 use Rattle.abc_fields.specs.Bytes.{space, line_feed}
 use Rattle.std.specs.List.{list_all}
 use Rattle.tune_sets.specs.Names.{is_name_byte, is_good_name}
 use Rattle.tune_undo.specs.Entries.{EntryValue, IsAfter, AreNumbers}
 use Rattle.tune_undo.specs.EntryBytes.{after_word, length_word, kind_word, mark_word, IsMark, tune_line, numbers_bytes, list_bytes, set_line, parts_bytes, entry_bytes, mark_bytes, book_tune}
-use Rattle.tune_undo.specs.OldTexts.{OldEntry, IsOld, made_bytes, old_bytes, is_old_kind, IsMarkWritten}
-use Rattle.tune_undo.specs.Inside.Reading.{◌>>=◌, after, field_at, number_of, number_at, length_of, after_of, kind_of, mark_of}
+use Rattle.tune_undo.specs.OldTexts.{OldEntry, made_bytes, old_bytes, IsMarkWritten}
+use Rattle.tune_undo.specs.Inside.Reading.{after, field_at, number_of, number_at, length_of, after_of, kind_of, mark_of}
 use Rattle.tune_undo.specs.Inside.Lines.{tune_line_at, number_line_at, set_line_at, first_line_at, mark_line_at, old_line_at, old_len_of, or_first, first_of_three}
 use Rattle.tune_undo.specs.declared.part_lines.TuneLine.{TuneLine}
 use Rattle.tune_undo.specs.declared.part_lines.FirstLine.{FirstLine}

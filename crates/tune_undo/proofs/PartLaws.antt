@@ -1,20 +1,19 @@
 -- The bytes of a part tell the part.
-use Rattle.std.proofs.Common.{◌≡◌, ◌≢◌, ℕ, zero, suc, ◌+◌, ◌^◌, ◌<◌, ◌≤◌, Bool, true, false, List, [], ◌∷◌, ◌++◌, length, take, drop}
-use Rattle.std.proofs.Common.{◌⊎◌, inl, inr, refl, ap, sym, subst, ◌∙◌, arith, append_assoc, append-nil, length-append}
+use Rattle.std.proofs.Common.{◌≡◌, ℕ, zero, suc, ◌^◌, ◌<◌, ◌≤◌, true, false, List, [], ◌∷◌, ◌++◌, length, take, drop}
+use Rattle.std.proofs.Common.{inl, inr, refl, ap, sym, subst, ◌∙◌, arith, append_assoc, append-nil, length-append}
 use Rattle.std.specs.Prelude.{◌==◌, Option, None, Some, codes, decimal, slice_index, IfSome, IfNone}
 use Rattle.std.specs.Option.{option_map}
 use Rattle.std.specs.List.{AllByRecursion}
 use Rattle.std.proofs.lemmas.Bool.{ne_eqb, cond-true, cond-false, false_from_ne_true, cases_Bool}
 use Rattle.std.proofs.lemmas.Option.{none-some, same_Some}
 use Rattle.std.proofs.lemmas.List.{append_cancel_left, take_at, drop_at}
-use Rattle.std.proofs.lemmas.Fmt.{decimal_injective}
 use Rattle.abc_fields.specs.Bytes.{space, line_feed}
 use Rattle.abc_fields.specs.Limits.{longest_tune}
 use Rattle.abc_fields.specs.Tunes.{IsTextWithin}
 use Rattle.tune_sets.specs.Names.{is_good_name}
-use Rattle.tune_undo.specs.Entries.{AreNumbers, IsPart, IsAfter}
+use Rattle.tune_undo.specs.Entries.{AreNumbers, IsPart}
 use Rattle.tune_undo.specs.EntryBytes.{tune_line, book_tune, old_text, numbers_bytes, list_bytes, set_line, part_bytes, parts_bytes}
-use Rattle.tune_undo.specs.Inside.Reading.{◌>>=◌, after, number_of}
+use Rattle.tune_undo.specs.Inside.Reading.{after, number_of}
 use Rattle.tune_undo.specs.Inside.Lines.{tune_line_at, number_line_at, set_line_at, word_of, next_number}
 use Rattle.tune_undo.specs.declared.part_lines.TuneLine.{TuneLine}
 use Rattle.tune_undo.specs.declared.entries.After.{After}

@@ -1,27 +1,26 @@
 -- Within an entry or a mark no other one begins.
-use Rattle.std.proofs.Common.{◌≡◌, ◌≢◌, ℕ, zero, suc, ◌+◌, ◌-◌, ◌<◌, ◌≤◌, ◌^◌, Bool, true, false, cond, List, [], ◌∷◌, ◌++◌, length, take, drop}
-use Rattle.std.proofs.Common.{◌⊎◌, inl, inr, refl, ap, sym, subst, ◌∙◌, arith, append_assoc, append-nil, length-append}
-use Rattle.std.specs.Prelude.{◌==◌, ◌||◌, not, nat_eq, Option, None, Some, codes, decimal, slice_index, IfSome, ⊤}
+use Rattle.std.proofs.Common.{◌≡◌, ◌≢◌, ℕ, ◌<◌, ◌^◌, Bool, true, List, [], ◌∷◌, ◌++◌, length}
+use Rattle.std.proofs.Common.{inl, inr, refl, ap, sym, subst, ◌∙◌, arith, append_assoc, append-nil}
+use Rattle.std.specs.Prelude.{◌==◌, ◌||◌, not, nat_eq, Option, None, Some, codes, decimal, IfSome, ⊤}
 use Rattle.std.specs.Option.{option_map}
 use Rattle.std.specs.List.{AllByRecursion, starts_with, list_all}
 use Rattle.std.proofs.lemmas.Bool.{true≢false, ne_eqb, cond-false, and_parts}
 use Rattle.abc_fields.specs.Bytes.{space, line_feed}
 use Rattle.abc_fields.specs.Limits.{longest_tune}
 use Rattle.abc_fields.specs.Lines.{ends_line, has_no_ending}
-use Rattle.abc_fields.specs.Tunes.{IsTuneLine, IsTuneText, IsTextWithin, joined, ends_tune}
+use Rattle.abc_fields.specs.Tunes.{IsTuneLine, IsTextWithin, joined}
 use Rattle.tune_sets.specs.Names.{is_name_byte, is_good_name}
 use Rattle.tune_undo.specs.Entries.{EntryValue, IsPart, IsAfter, AreNumbers}
-use Rattle.tune_undo.specs.EntryBytes.{after_word, length_word, kind_word, mark_word, IsMark, tune_line, book_tune, old_text, numbers_bytes, list_bytes, set_line, part_bytes, parts_bytes, IsEntry, entry_bytes, mark_bytes}
-use Rattle.tune_undo.specs.OldTexts.{OldEntry, IsOld, made_bytes, old_bytes, IsMarkWritten, IsWritten, Item, Entered, Marked, Place, Top, Start, Within, after_feed, next}
+use Rattle.tune_undo.specs.EntryBytes.{after_word, length_word, kind_word, mark_word, IsMark, tune_line, book_tune, old_text, list_bytes, set_line, part_bytes, parts_bytes, IsEntry, entry_bytes, mark_bytes}
+use Rattle.tune_undo.specs.OldTexts.{OldEntry, IsOld, made_bytes, old_bytes, IsWritten, Item, Entered, Marked, Place, Top, Start, Within, next}
 use Rattle.tune_undo.specs.declared.entries.Kind.{Kind}
 use Rattle.tune_undo.specs.declared.entries.Kind.TheVariants as kind
 use Rattle.tune_undo.specs.declared.entries.After.{After}
 use Rattle.tune_undo.specs.declared.entries.Part.{Part}
 use Rattle.tune_undo.specs.declared.entries.Part.TheVariants.{Tune, Set}
 use Rattle.tune_undo.specs.declared.entries.Mark.{Mark}
-use Rattle.tune_undo.specs.declared.entries.Mark.TheVariants.{NotDone, Undone, Undoing}
-use Rattle.tune_undo.proofs.FieldLaws.{Free, free_test, free-append, decimal_free}
-use Rattle.tune_undo.proofs.LineLaws.{tune_line_parts, set_line_parts, entry_parts, first_line, old_line, old_parts, after_free, list_free, mark_free, made_free}
+use Rattle.tune_undo.proofs.FieldLaws.{Free, free_test, decimal_free}
+use Rattle.tune_undo.proofs.LineLaws.{tune_line_parts, set_line_parts, old_line, old_parts, after_free, list_free, mark_free, made_free}
 use Rattle.tune_undo.proofs.ItemLaws.{old_short}
 use Rattle.tune_undo.proofs.PartLaws.{len_small, set_parts, book_tune_parts}
 

@@ -1,13 +1,13 @@
 -- The walk over a book of old texts, and the steps that it keeps.
-use Rattle.std.proofs.Common.{◌≡◌, ℕ, zero, suc, ◌+◌, ◌-◌, ◌<◌, ◌≤◌, Bool, true, false, cond, List, [], ◌∷◌, ◌++◌, length, take, drop}
+use Rattle.std.proofs.Common.{◌≡◌, ℕ, zero, suc, ◌-◌, ◌<◌, ◌≤◌, Bool, true, false, cond, List, [], ◌∷◌, ◌++◌, length, take, drop}
 use Rattle.std.proofs.Common.{refl, ap, sym, subst, ◌∙◌, arith, append-nil}
 use Rattle.std.specs.Prelude.{◌==◌, Option, None, Some, slice_index, map}
 use Rattle.std.specs.Option.{option_to_list}
-use Rattle.std.proofs.lemmas.Bool.{eqb-true, ne_eqb, cond-true, cond-false, false_from_ne_true}
+use Rattle.std.proofs.lemmas.Bool.{ne_eqb, cond-true, cond-false, false_from_ne_true}
 use Rattle.std.proofs.lemmas.List.{map_push, take-map, length-map, nil_from_length}
 use Rattle.abc_fields.specs.Bytes.{line_feed}
-use Rattle.tune_undo.specs.Entries.{StepValue, step_value, EntryValue}
-use Rattle.tune_undo.specs.OldTexts.{Item, Entered, Marked, Place, Top, Start, Within, after_feed, next, Stands, IsLog, without_last, begun_last, after_item, standing_after}
+use Rattle.tune_undo.specs.Entries.{StepValue, step_value}
+use Rattle.tune_undo.specs.OldTexts.{Item, Place, Top, Start, Within, after_feed, next, Stands, IsLog, without_last, begun_last, standing_after}
 use Rattle.tune_undo.specs.Inside.Found.{place_of, IsLaterLog, after_found}
 use Rattle.tune_undo.specs.declared.entries.Step.{Step}
 

@@ -1,22 +1,17 @@
 -- Words that are written are read, and words that are read were written so.
-use Rattle.std.proofs.Common.{◌≡◌, ◌≢◌, ℕ, zero, suc, ◌+◌, ◌*◌, ◌^◌, ◌<◌, ◌≤◌, Bool, true, false, cond, List, [], ◌∷◌, ◌++◌, length}
-use Rattle.std.proofs.Common.{◌⊎◌, inl, inr, refl, ap, sym, subst, ◌∙◌, arith, lit<}
-use Rattle.std.specs.Prelude.{◌==◌, Option, None, Some, Result, Ok, Err, codes, decimal, IfSome}
-use Rattle.std.specs.List.{list_all}
+use Rattle.std.proofs.Common.{◌≡◌, ℕ, ◌^◌, ◌<◌, ◌≤◌, false, cond, List, ◌++◌, length}
+use Rattle.std.proofs.Common.{◌⊎◌, inl, inr, refl, ap, sym, subst, ◌∙◌, arith}
+use Rattle.std.specs.Prelude.{◌==◌, Option, None, Some, codes, decimal, IfSome}
 use Rattle.std.specs.Str.{bytes_eq}
 use Rattle.std.specs.Str.Parse.{AllDigits}
-use Rattle.std.proofs.lemmas.Bool.{eqb-true, eqb-false, eq-eqb, ne_eqb, ltb-true, lt-ltb, and_parts, and_from, cond-true, cond-false, false_from_ne_true}
-use Rattle.std.proofs.lemmas.Option.{none-some, same_Some, cond_some}
+use Rattle.std.proofs.lemmas.Bool.{eqb-true, eq-eqb, ne_eqb, cond-true, cond-false, false_from_ne_true}
+use Rattle.std.proofs.lemmas.Option.{none-some, same_Some}
 use Rattle.std.proofs.lemmas.Fmt.{decimal_is_IsNumeral, length-decimal-le}
-use Rattle.std.proofs.lemmas.Slice.Eq.{bytes_eq-Decides}
-use Rattle.hex.specs.Hex.{encode_lower, lower_digits, decode_sized, IsBytes}
-use Rattle.hex.specs.declared.error.FromHexError.{FromHexError}
-use Rattle.hex.proofs.HexLemmas.{length-encode_with, decode_sized-encode_lower}
-use Rattle.tune_undo.specs.Sums.{IsSum}
+use Rattle.hex.specs.Hex.{encode_lower, decode_sized}
 use Rattle.tune_undo.specs.Entries.{IsAfter}
 use Rattle.tune_undo.specs.EntryBytes.{after_word, length_word, kind_word, mark_word, IsMark}
 use Rattle.tune_undo.specs.Inside.Reading.{◌>>=◌, after, number_of, length_of, after_of, kind_of, mark_of}
-use Rattle.tune_undo.specs.Inside.SumWords.{is_byte, sum_from, sum_of}
+use Rattle.tune_undo.specs.Inside.SumWords.{sum_of}
 use Rattle.tune_undo.specs.declared.entries.Kind.{Kind}
 use Rattle.tune_undo.specs.declared.entries.Kind.TheVariants as kind
 use Rattle.tune_undo.specs.declared.entries.After.{After}

@@ -1,11 +1,9 @@
 -- What is put at the end of a book of old texts is read there, and nothing else changes.
-use Rattle.std.specs.Prelude.{◌≡◌, ℕ, ◌<◌, List, [], ◌∷◌, ◌++◌, length, codes, Bool, true, false}
+use Rattle.std.specs.Prelude.{◌≡◌, ℕ, List, [], ◌∷◌, ◌++◌, codes, Bool, true}
 use Rattle.std.specs.Prelude.{◌==◌, if◌then◌else◌}
 use Rattle.abc_fields.specs.Bytes.{line_feed}
-use Rattle.tune_undo.specs.Entries.{EntryValue}
 use Rattle.tune_undo.specs.EntryBytes.{IsEntry, entry_bytes, IsMark, mark_bytes}
 use Rattle.tune_undo.specs.OldTexts.{Item, Entered, Marked, Top, IsLog, standing, after_item}
-use Rattle.tune_undo.specs.declared.entries.Mark.{Mark}
 
 -- whether the last line is ended: there is none, or its line feed is there
 abbrev pub is_ended : List ℕ → Bool

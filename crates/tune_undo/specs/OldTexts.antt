@@ -1,12 +1,14 @@
 -- Which entries and marks a book of old texts has, and which entries are not undone.
 use Rattle.std.specs.Prelude.{◌≡◌, ℕ, ◌+◌, ◌^◌, ◌<◌, List, [], ◌∷◌, ◌++◌, length, codes, decimal}
-use Rattle.std.specs.Prelude.{◌⊎◌, ◌==◌, Bool, true, false, if◌then◌else◌, Option, None, Some, IfSome}
+use Rattle.std.specs.Prelude.{◌⊎◌, ◌==◌, Bool, true, false, if◌then◌else◌}
+use Rattle.std.specs.Prelude.{Option, None, Some, IfSome}
 use Rattle.std.specs.Option.{option_to_list}
 use Rattle.abc_fields.specs.Bytes.{line_feed}
 use Rattle.abc_fields.specs.Limits.{longest_tune}
 use Rattle.abc_fields.specs.Tunes.{IsTextWithin}
 use Rattle.tune_undo.specs.Entries.{EntryValue, StepValue}
-use Rattle.tune_undo.specs.EntryBytes.{kind_word, book_tune, entry_bytes, mark_bytes, IsMark, IsEntry}
+use Rattle.tune_undo.specs.EntryBytes.{kind_word, book_tune, IsEntry, entry_bytes}
+use Rattle.tune_undo.specs.EntryBytes.{IsMark, mark_bytes}
 use Rattle.tune_undo.specs.declared.entries.Kind.{Kind}
 use Rattle.tune_undo.specs.declared.entries.Kind.TheVariants as kind
 use Rattle.tune_undo.specs.declared.entries.After.{After}

@@ -17,4 +17,4 @@ pub use entries::{After, Entry, Kind, Mark, Part, Step};
 pub use laws::law_of_old_texts;
 pub use steps::standing_steps;
 pub use sums::Sum;
-pub use writing::{joined, written_entry, written_mark};
+pub use writing::{is_ended, joined, make_ready, written_entry, written_mark};

@@ -5,7 +5,7 @@ ghost use Rattle.tune_undo.specs.EntryBytes.{kind_word, after_word, book_tune, t
 ghost use Rattle.tune_undo.specs.EntryBytes.{old_text, numbers_bytes, set_line, part_bytes};
 ghost use Rattle.tune_undo.specs.EntryBytes.{parts_bytes, entry_bytes, mark_bytes};
 ghost use Rattle.tune_undo.specs.Entries.{entry_value};
-ghost use Rattle.tune_undo.specs.OldTextLaws.{before_piece};
+ghost use Rattle.tune_undo.specs.OldTextLaws.{is_ended, before_piece, made_ready};
 
 use crate::entries::{After, Entry, Kind, Mark, Part};
 use abc_fields::TuneText;
@@ -45,9 +45,35 @@ pub fn written_mark(alloc: Global, mark: Mark) -> Result<Vec<u8>, AllocError>
     Ok(bytes)
 }
 
-/// The bytes that go to the end of a book of old texts: an entry or a mark, after an empty line, and
-/// before that the end of the last line, where it has none. `ended` says that the book is empty or
-/// ends in a line feed. The error is out of memory.
+/// Whether the last line of a book is ended: the book is empty, or ends in a line feed.
+pub fn is_ended(book: &[u8]) -> bool
+    ensures { result ≡ is_ended book.now }
+{
+    match book.last() {
+        None => true,
+        Some(byte) => *byte == b'\n',
+    }
+}
+
+/// Makes a book ready for an entry or a mark: its last line is ended, and an empty line put after
+/// it. So it is to be read, too, since the same bytes come to its end before what is put there. The
+/// error is out of memory.
+pub fn make_ready(book: &mut Vec<u8>) -> Result<(), AllocError>
+    ensures { OnOk result (book.new.items ≡ made_ready book.old.items) }
+{
+    let ended = is_ended(book.as_slice());
+    book.extend_from_slice(before_piece(ended))
+}
+
+fn before_piece(ended: bool) -> &'static [u8]
+    ensures { result.now ≡ before_piece ended }
+{
+    if ended { b"\n" } else { b"\n\n" }
+}
+
+/// The bytes that go to the end of a book of old texts: an entry or a mark, after an empty line,
+/// and before that the end of the last line, where it has none. `ended` says that the book is empty
+/// or ends in a line feed. The error is out of memory.
 pub fn joined(alloc: Global, ended: bool, piece: &[u8]) -> Result<Vec<u8>, AllocError>
     ensures { IfOk result (λ bytes. bytes.items ≡ before_piece ended ++ piece.now) }
 {

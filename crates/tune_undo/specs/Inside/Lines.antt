@@ -103,7 +103,8 @@ old_line_at bytes = do
 -- what a tune is after a change of before
 abbrev pub after_old_of : Kind → ℕ → Option After
 after_old_of kind revision =
-    if nat_lt (revision + 1) (2 ^ 32) && is_old_kind kind then Some (after_old kind revision) else None
+    if nat_lt (revision + 1) (2 ^ 32) && is_old_kind kind then Some (after_old kind revision)
+    else None
 
 abbrev pub len_after : ℕ → ℕ → Option ℕ
 len_after len line = if nat_lt len line then None else Some (len - line)

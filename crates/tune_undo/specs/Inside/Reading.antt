@@ -1,9 +1,8 @@
 -- How the fields of a line are read. Laws beside the proofs say that what is written is read, and
 -- that what is read was written so.
-use Rattle.std.specs.Prelude.{◌≡◌, ℕ, ◌+◌, ◌^◌, List, [], ◌∷◌, length, drop, codes, decimal, nat_lt}
-use Rattle.std.specs.Prelude.{Bool, ◌&&◌, ◌==◌, nat_eq, if◌then◌else◌, Option, None, Some}
+use Rattle.std.specs.Prelude.{◌≡◌, ℕ, ◌^◌, List, [], ◌∷◌, length, drop, codes, decimal, nat_lt}
+use Rattle.std.specs.Prelude.{◌&&◌, ◌==◌, nat_eq, if◌then◌else◌, Option, None, Some}
 use Rattle.std.specs.List.{starts_with}
-use Rattle.std.specs.Option.{option_map}
 use Rattle.std.specs.Str.{bytes_eq}
 use Rattle.std.specs.Str.Parse.{digits_value}
 use Rattle.tune_undo.specs.Inside.SumWords.{sum_of}

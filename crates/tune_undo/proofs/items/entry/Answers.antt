@@ -1,7 +1,5 @@
-use Rattle.std.proofs.Common.{◌≡◌, ◌≤◌, sym, ◌∙◌, ap, length, take, arith}
+use Rattle.std.proofs.Common.{sym, ◌∙◌, ap, length, arith}
 use Rattle.std.proofs.lemmas.Option.{none-some}
-use Rattle.tune_undo.specs.Entries.{EntryValue}
-use Rattle.tune_undo.specs.EntryBytes.{parts_bytes}
 use Rattle.tune_undo.proofs.PartLaws.{parts_same}
 use Rattle.tune_undo.proofs.ItemLaws.{entry_again, entry_front, entry_whole}
 use Rattle.tune_undo.proofs.items.entry.Goals as goal

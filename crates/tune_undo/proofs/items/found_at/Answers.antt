@@ -1,4 +1,3 @@
-use Rattle.std.proofs.Common.{◌≡◌}
 use Rattle.tune_undo.specs.Entries.{entry_value}
 use Rattle.tune_undo.proofs.ItemLaws.{entry_begins, old_begins, mark_begins, none_begins}
 use Rattle.tune_undo.proofs.items.found_at.Goals as goal

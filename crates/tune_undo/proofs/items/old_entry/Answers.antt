@@ -1,7 +1,6 @@
-use Rattle.std.proofs.Common.{◌≡◌, ◌++◌, ◌∷◌, [], List, length, ap, sym, subst, ◌∙◌, arith}
+use Rattle.std.proofs.Common.{◌≡◌, ◌++◌, ◌∷◌, [], List, ap, sym, subst, ◌∙◌}
 use Rattle.std.specs.Prelude.{Some}
 use Rattle.std.proofs.lemmas.Option.{none-some, same_Some}
-use Rattle.tune_undo.specs.Entries.{EntryValue}
 use Rattle.tune_undo.specs.EntryBytes.{book_tune}
 use Rattle.tune_undo.specs.Inside.Lines.{after_old_of, text_len_of}
 use Rattle.tune_undo.specs.Inside.Found.{OldRead}

@@ -1,3 +1,4 @@
+use Rattle.tune_undo.proofs.OneLaws.{one_log}
 use Rattle.tune_undo.proofs.EndLaws.{adds_item, adds_nothing}
 use Rattle.tune_undo.proofs.laws.law_of_old_texts.Goals as goal
 
@@ -6,3 +7,6 @@ returns-clause-adds c = adds_item
 
 pub returns-clause-cut : goal.returns-clause-cut
 returns-clause-cut c = adds_nothing
+
+pub returns-clause-one : goal.returns-clause-one
+returns-clause-one c = one_log

@@ -1,4 +1,4 @@
-use Rattle.std.proofs.Common.{◌≡◌, ◌<◌, length, arith}
+use Rattle.std.proofs.Common.{◌<◌, length, arith}
 use Rattle.std.proofs.lemmas.Bool.Decides.{nat_tests}
 use Rattle.tune_undo.proofs.PartLaws.{parts_more, are_parts-append, parts_stop}
 use Rattle.tune_undo.proofs.parts.parts.Goals as goal

@@ -1,4 +1,4 @@
-use Rattle.std.proofs.Common.{◌≡◌, ◌++◌, sym, ◌∙◌}
+use Rattle.std.proofs.Common.{◌++◌, sym, ◌∙◌}
 use Rattle.std.specs.Prelude.{codes}
 use Rattle.std.proofs.lemmas.Option.{none-some}
 use Rattle.tune_undo.proofs.LineLaws.{tune_line_takes}

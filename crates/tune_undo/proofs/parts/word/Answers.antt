@@ -1,5 +1,4 @@
-use Rattle.std.proofs.Common.{◌≡◌, length, take, drop, ap, ◌∙◌}
-use Rattle.tune_undo.specs.Inside.Lines.{word_of}
+use Rattle.std.proofs.Common.{take, drop, ap, ◌∙◌}
 use Rattle.tune_undo.proofs.PartLaws.{word_front}
 use Rattle.tune_undo.proofs.parts.word.Goals as goal
 

@@ -1,4 +1,4 @@
-use Rattle.std.proofs.Common.{◌≡◌, Some, length, refl, arith}
+use Rattle.std.proofs.Common.{Some, refl, arith}
 use Rattle.tune_undo.specs.declared.entries.Step.{Step}
 use Rattle.tune_undo.proofs.StepLaws.{begun_none, begun_more}
 use Rattle.tune_undo.proofs.steps.begin_last.Goals as goal

@@ -1,4 +1,4 @@
-use Rattle.std.proofs.Common.{◌≡◌, length, sym, arith}
+use Rattle.std.proofs.Common.{arith}
 use Rattle.tune_undo.proofs.StepLaws.{dropped}
 use Rattle.tune_undo.proofs.steps.drop_last.Goals as goal
 

@@ -1,4 +1,4 @@
-use Rattle.std.proofs.Common.{◌≡◌, ap, sym, ◌∙◌}
+use Rattle.std.proofs.Common.{ap, sym, ◌∙◌}
 use Rattle.std.specs.Str.{bytes_eq}
 use Rattle.tune_undo.proofs.SumLaws.{sum_read}
 use Rattle.tune_undo.proofs.sums.sum_of.Goals as goal
