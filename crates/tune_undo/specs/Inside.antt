@@ -1,0 +1,4 @@
+pub mod SumWords
+pub mod Reading
+pub mod Lines
+pub mod Found

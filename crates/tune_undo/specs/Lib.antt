@@ -1,0 +1,6 @@
+pub mod Sums
+pub mod Entries
+pub mod EntryBytes
+pub mod OldTexts
+pub mod OldTextLaws
+pub mod Inside
