@@ -120,10 +120,11 @@ imported_by false false tunes more first last reply e = cc
 imported_as : (layout : Layout) (tunes : List Tune) (book : Texts) (reply : Reply) → (import_book layout tunes book).1 ≡ Ok reply
     → (last : ℕ) × (reply ≡ Imported (greatest tunes + 1) last)
 imported_as layout tunes (Err why) reply e = absurd cc
-imported_as layout tunes (Ok texts) reply e =
-    (greatest tunes + length texts,
-    imported_by (nat_lt (most_tunes layout) (length tunes + length texts)) (nat_lt greatest_number (greatest tunes + length texts)) tunes
-    (with_texts tunes texts) (greatest tunes + 1) (greatest tunes + length texts) reply e)
+imported_as layout tunes (Ok texts) reply e = (
+  greatest tunes + length texts,
+  imported_by (nat_lt (most_tunes layout) (length tunes + length texts)) (nat_lt greatest_number (greatest tunes + length texts)) tunes
+      (with_texts tunes texts) (greatest tunes + 1) (greatest tunes + length texts) reply e,
+)
 
 pub imported_first : (state : State) (book : List ℕ) (first last : ℕ) (reply : Reply) → (step state (Import book)).1 ≡ Ok reply
     → reply ≡ Imported first last → greatest state.tunes + 1 ≡ first

@@ -351,8 +351,11 @@ module _ {S : Type 0} (k : Ghosts S) where
         leads = (tt, refl);
         last = record { command = command; answer = Err refusal } ∷ [];
         just = one_change command (Err refusal) is;
-        ends = (refl, subst (λ (shut : Bool). Answers (record { state = k.state old; closed = shut }) command (Err refusal) (standing_of k new)) is_open
-            (answers h));
+        ends = (
+          refl,
+          subst (λ (shut : Bool). Answers (record { state = k.state old; closed = shut }) command (Err refusal) (standing_of k new)) is_open
+              (answers h),
+        );
       };
     };
   }

@@ -10,3 +10,4 @@ pub mod CarryLemmas
 pub mod LookLemmas
 pub mod BringingLemmas
 pub mod PlanLemmas
+pub mod JudgingLemmas

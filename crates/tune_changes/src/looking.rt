@@ -12,10 +12,7 @@ use tune_sets::{NumberList, SetName};
 use tune_store::{Command, IndexRow, Refusal, Reply, RowList, Tune, TuneStore};
 
 // The tune of a number, where there is one.
-pub(crate) fn tune_if_any<S: TuneStore>(
-    store: &mut S,
-    number: u32,
-) -> Result<Option<Tune>, Refusal>
+pub(crate) fn tune_if_any<S: TuneStore>(store: &mut S, number: u32) -> Result<Option<Tune>, Refusal>
     ensures { Call S.TuneStore store.old store.new
         (told_by (λ state. Ok (tune_at number state.tunes))) result }
 {

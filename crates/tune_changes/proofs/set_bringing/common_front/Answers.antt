@@ -14,4 +14,3 @@ returns-clause-front c =
     let ends : (length c.args.old.now ≤ c.loop-place.place) ⊎ (length c.args.new.now ≤ c.loop-place.place) = elim
     (cases_lt c.loop-place.place (length c.args.old.now)) [ inl below ↦ inr (omega arith) | inr above ↦ inl above ] in
     omega (arith, c.loop-place.invariant, front_ends c.args.old.now c.args.new.now c.loop-place.place ends)
-
