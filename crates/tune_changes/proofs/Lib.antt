@@ -4,5 +4,6 @@ pub mod SetListLemmas
 pub mod TuneBrought
 pub mod SetBrought
 pub mod Faces
+pub mod Accepted
 pub mod Undone
 pub mod Within

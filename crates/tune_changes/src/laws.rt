@@ -1,26 +1,41 @@
 // What holds of turns that are brought about, and taken back.
-ghost use Rattle.std.specs.Prelude.{◌≡◌, ℕ, List, ◌∷◌, ◌++◌, take, drop, Option};
+ghost use Rattle.std.specs.Prelude.{◌≡◌, ◌≢◌, ℕ, List, ◌∷◌, ◌++◌, take, drop, Option};
 ghost use Rattle.std.specs.List.{AllByRecursion};
 ghost use Rattle.tune_store.specs.State.{State, IsState};
-ghost use Rattle.tune_changes.specs.Turns.{Subject, Turn};
+ghost use Rattle.tune_changes.specs.Turns.{Subject, Turn, Aim, content};
 ghost use Rattle.tune_changes.specs.Turns.Subject.{SetOf};
-ghost use Rattle.tune_changes.specs.Commands.{after_commands, LeadsTo};
-ghost use Rattle.tune_changes.specs.Bringing.{brought};
-ghost use Rattle.tune_changes.specs.States.{with_content, AreAlikeBut};
-ghost use Rattle.tune_changes.specs.Undoing.{CanBe, BringsAbout, brought_about, TakesBack};
+ghost use Rattle.tune_changes.specs.Commands.{after_commands, AreAccepted, LeadsTo};
+ghost use Rattle.tune_changes.specs.Bringing.{brought, brought_each};
+ghost use Rattle.tune_changes.specs.States.{with_content, with_each, AreAlikeBut};
+ghost use Rattle.tune_changes.specs.Undoing.{IsGiven, CanBe, BringsAbout, brought_about, TakesBack};
 ghost use Rattle.tune_changes.specs.Undoing.{CanGoBack, StandsAfter, NotBegun, StandsWithin};
 
-/// The law of bringing: in a state within the limits, where a subject can be brought to a text, to
-/// numbers, or out.
+/// The law of bringing: in a state within the limits subjects are brought to what they are to be, a
+/// tune to a text, a set list to numbers, or either out.
 ///
-/// - `brings`: the commands that bring it are accepted, each of them, and make just that: the tune
-///   or the set list is this, and all else is as it was.
-/// - `resumed`: after a stop within them the rest of them lead there too.
+/// - `brings`: where that can be, the commands that bring it are accepted, each of them, and make
+///   just that: the tune or the set list is this, and all else is as it was.
+/// - `only`: they are accepted only where that can be.
+/// - `each`: so commands that bring subjects, one after another, and are accepted, make just that.
+/// - `its`, `others`: then the subject is what it was to be, and each other one is what it was.
+/// - `resumed`: after a stop within the commands for a subject the rest of them lead there too.
 /// - `stopped`: a stop within the commands for a set list leaves all but that set list as it was.
 pub fn law_of_bringing()
     ensures brings { (state : State) (subject : Subject) (to : Option (List ℕ))
         → IsState state → CanBe subject to state
         → LeadsTo state (brought subject to state) (with_content subject to state) }
+    ensures only { (state : State) (subject : Subject) (to : Option (List ℕ))
+        → IsState state → IsGiven subject to → AreAccepted (brought subject to state) state
+        → CanBe subject to state }
+    ensures each { (aims : List Aim) (state : State)
+        → IsState state → AllByRecursion (λ aim. IsGiven aim.subject aim.to) aims
+        → AreAccepted (brought_each aims state) state
+        → after_commands (brought_each aims state) state ≡ with_each aims state }
+    ensures its { (state : State) (subject : Subject) (to : Option (List ℕ))
+        → IsState state → content subject (with_content subject to state) ≡ to }
+    ensures others { (state : State) (subject other : Subject) (to : Option (List ℕ))
+        → subject ≢ other
+        → content other (with_content subject to state) ≡ content other state }
     ensures resumed { (state : State) (subject : Subject) (to : Option (List ℕ)) (count : ℕ)
         → IsState state → CanBe subject to state
         → let commands = brought subject to state in
