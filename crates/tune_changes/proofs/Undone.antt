@@ -25,7 +25,8 @@ use Rattle.tune_changes.specs.Turns.Subject.{TuneOf, SetOf}
 use Rattle.tune_changes.specs.Bringing.{tune_commands, set_commands, brought, brought_each}
 use Rattle.tune_changes.specs.Commands.{after_commands, AreAccepted, LeadsTo}
 use Rattle.tune_changes.specs.States.{anew, all_anew, face, tune_with, put_numbers, with_content, with_each}
-use Rattle.tune_changes.specs.Undoing.{CanGoIn, CanBeReplaced, CanBeText, CanBePlaces, CanBeMade, CanBeNumbers, CanBe, CanComeBack, BringsAbout, IsBroughtAbout, IsGiven}
+use Rattle.tune_changes.specs.Undoing.{CanGoIn, CanBeReplaced, CanBeText, CanBePlaces, CanBeMade, CanBeNumbers, CanBe}
+use Rattle.tune_changes.specs.Undoing.{IsGiven, CanComeBack, IsBroughtAbout, BringsAbout}
 use Rattle.tune_changes.specs.Undoing.{brought_about, taken_back, replacements_in, replacements, LeavesRevisions, TakesBack, NotBegun, CanGoBack, StandsAfter}
 use Rattle.tune_changes.proofs.Leading.{leads_on, leads_none, leads_with, leads_after, after_keeps, after_append}
 use Rattle.tune_changes.proofs.TuneLists.{found_above, all_without, all_inserted, all_found, found_anew, greatest_anew}

@@ -115,7 +115,8 @@ TakesBack turns now old =
     (back : State) × LeadsTo now (taken_back turns now) back × AreAlike back old
 
 -- WHERE TURNS CAN BE TAKEN BACK
--- the state of now can be gone on from: it is within the limits, and no tune is worn
+-- turns can be taken back from the state of now: it is within the limits, and revisions are left for
+-- the texts that are put back
 pub record CanGoBack (turns : List Turn) (now : State) : Type 0 where
   pub within : IsState now
   pub leaves : LeavesRevisions (replacements turns) now

@@ -48,15 +48,18 @@ pub fn law_of_bringing()
 {}
 
 /// The law of undo. It speaks of turns that were brought about from a state within the limits, one
-/// after another: each was recorded from the state as it stood. Taken back, the last turn first,
-/// they lead to that state again, but for the revisions of tunes, and no command is refused. They
-/// are taken back from a state within the limits whose revisions leave room for the texts that are
-/// to be replaced.
+/// after another: each was recorded from the state as it stood, and its commands were accepted. A
+/// tune that is taken out leaves a number above all others, by which it can come back.
 ///
-/// - `about`: the commands by which they are brought about are accepted, each of them.
-/// - `back`: it is, but for revisions, the one that they led to.
-/// - `stopped`: the same where turns behind them were recorded, but not begun.
-/// - `within`: the same where the next turn was on a set list, and that is anything now.
+/// - `about`: all of their commands, in a row, lead to the state that they bring about.
+/// - `back`: from there, or from any state that is alike but for the revisions of tunes, they are
+///   taken back, the last turn first: that leads to the state of before, but for revisions, and no
+///   command is refused. The state that they are taken back from is within the limits, and its
+///   revisions leave room for the texts that are put back.
+/// - `stopped`: so too where more turns were recorded behind them, but not begun, or were taken
+///   back already.
+/// - `within`: so too where the next turn is on a set list, and that is anything now, as after a
+///   stop within the commands that bring it about or take it back.
 pub fn law_of_undo()
     ensures about { (old new : State) (turns : List Turn)
         → IsState old → BringsAbout turns old new
