@@ -4,6 +4,7 @@ pub mod SetListLemmas
 pub mod TuneBrought
 pub mod SetBrought
 pub mod Faces
+pub mod Accepted
 pub mod Undone
 pub mod Within
 pub mod CarryLemmas
