@@ -1,15 +1,17 @@
 -- States but for the revisions of their tunes.
 use Rattle.std.proofs.Common.{◌≡◌, ℕ, List, [], Option, Some, None, refl, sym, ap, ◌∙◌, inl, inr}
 use Rattle.std.proofs.Common.{option_map}
+use Rattle.std.proofs.Common.{◌≢◌, ◌∷◌, cond, eqb, ltb}
 use Rattle.std.specs.Str.{bytes_eq}
-use Rattle.std.proofs.lemmas.Bool.{cases_Bool}
+use Rattle.std.proofs.lemmas.Bool.{cases_Bool, ne_eqb}
 use Rattle.std.proofs.lemmas.Slice.Eq.{bytes_eq-Decides}
 use Rattle.tune_sets.specs.Sets.{set_at, inserted as set_inserted, without as without_set}
 use Rattle.tune_sets.specs.declared.set_lists.TuneSet.{TuneSet}
+use Rattle.tune_sets.proofs.PlaceLemmas.{set_at-inserted_other, set_at-without_other}
 use Rattle.tune_store.specs.State.{State, RisesFrom, tune_at, IsState}
 use Rattle.tune_store.specs.TuneSteps.{inserted, without}
 use Rattle.tune_store.specs.declared.tune.Tune.{Tune}
-use Rattle.tune_store.proofs.PlaceLemmas.{tune_at-number, tune_at-without_same}
+use Rattle.tune_store.proofs.PlaceLemmas.{tune_at-number, tune_at-without_same, tune_at-without_other}
 use Rattle.tune_changes.specs.Turns.{Subject, text_at, numbers_at, content}
 use Rattle.tune_changes.specs.Turns.Subject.{TuneOf, SetOf}
 use Rattle.tune_changes.specs.States.{anew, all_anew, face, tune_with, put_text, put_numbers, with_content}
@@ -141,3 +143,43 @@ plain_back (TuneOf number) to state is =
     ap (λ (ts : List Tune). record { layout = state.layout; tunes = ts; sets = state.sets }) (text_back number to state is)
 plain_back (SetOf name) to state is =
     ap (λ (ss : List TuneSet). record { layout = state.layout; tunes = all_anew state.tunes; sets = ss }) (numbers_back name to state is)
+
+-- ALL ELSE IS AS IT WAS
+text_in : (number : ℕ) (new : Tune) (tunes : List Tune) → new.number ≢ number → tune_at number (inserted new tunes) ≡ tune_at number tunes
+text_in number new [] apart = rw (ne_eqb new.number number apart) refl
+text_in number new (tune ∷ tunes) apart = elim (cases_Bool (ltb new.number tune.number)) [
+  | inl before ↦ rw (before, ne_eqb new.number number apart) refl
+  | inr behind ↦ rw behind (ap (λ (found : Option Tune). cond (eqb tune.number number) (Some tune) found) (text_in number new tunes apart))
+]
+
+number_with : (number : ℕ) (found : Option Tune) (text : List ℕ) (tunes : List Tune) → tune_at number tunes ≡ found
+    → (tune_with number found text).number ≡ number
+number_with number None text tunes e = refl
+number_with number (Some tune) text tunes e =
+    let its = tune_at-number number tunes tune e in
+    elim (cases_Bool (bytes_eq tune.text text)) [ inl same ↦ rw same its | inr other ↦ rw other its ]
+
+other_text : (number other : ℕ) (to : Option (List ℕ)) (tunes : List Tune) → number ≢ other → tune_at other (put_text number to tunes) ≡ tune_at other tunes
+other_text number other None tunes apart = tune_at-without_other other number tunes apart
+other_text number other (Some text) tunes apart =
+    let new = tune_with number (tune_at number tunes) text in
+    let its = number_with number (tune_at number tunes) text tunes refl in
+    text_in other new (without number tunes) (λ e. apart (sym its ∙ e)) ∙ tune_at-without_other other number tunes apart
+
+other_numbers : (name other : List ℕ) (to : Option (List ℕ)) (sets : List TuneSet) → name ≢ other → set_at other (put_numbers name to sets) ≡ set_at other sets
+other_numbers name other None sets apart = set_at-without_other name other sets (λ e. apart (sym e))
+other_numbers name other (Some numbers) sets apart =
+    set_at-inserted_other other (named name numbers) (without_set name sets) (λ e. apart (sym e)) ∙ set_at-without_other name other sets (λ e. apart (sym e))
+
+pub others_stay : (state : State) (subject other : Subject) (to : Option (List ℕ)) → subject ≢ other
+    → content other (with_content subject to state) ≡ content other state
+others_stay state (TuneOf number) (TuneOf other) to apart =
+    ap (λ (found : Option Tune). option_map (λ (t : Tune). t.text) found) (other_text number other to state.tunes (λ e. apart (ap TuneOf e)))
+others_stay state (TuneOf number) (SetOf name) to apart = refl
+others_stay state (SetOf name) (TuneOf number) to apart = refl
+others_stay state (SetOf name) (SetOf other) to apart =
+    ap (λ (found : Option TuneSet). option_map (λ (s : TuneSet). s.numbers) found) (other_numbers name other to state.sets (λ e. apart (ap SetOf e)))
+
+pub its_content : (state : State) (subject : Subject) (to : Option (List ℕ)) → IsState state → content subject (with_content subject to state) ≡ to
+its_content state subject to is =
+    sym (content_face subject (with_content subject to state)) ∙ ap (content subject) (face_with subject to state) ∙ content_plain subject to state is

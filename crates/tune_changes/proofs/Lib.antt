@@ -4,9 +4,11 @@ pub mod SetListLemmas
 pub mod TuneBrought
 pub mod SetBrought
 pub mod Faces
+pub mod Accepted
 pub mod Undone
 pub mod Within
 pub mod CarryLemmas
 pub mod LookLemmas
 pub mod BringingLemmas
 pub mod PlanLemmas
+pub mod JudgingLemmas

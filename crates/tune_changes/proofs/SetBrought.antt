@@ -32,18 +32,18 @@ abbrev pub listed : State → List TuneSet → State
 listed state sets = record state { sets = sets }
 
 -- a state with these set lists, and one more
-abbrev holding : State → List ℕ → List TuneSet → List ℕ → State
+abbrev pub holding : State → List ℕ → List TuneSet → List ℕ → State
 holding state name base numbers = listed state (inserted (named name numbers) base)
 
 -- ONE COMMAND
-new_gives : (state : State) (name : List ℕ) (base : List TuneSet) → set_at name base ≡ None → is_good_name name ≡ true → length base < most_sets
+pub new_gives : (state : State) (name : List ℕ) (base : List TuneSet) → set_at name base ≡ None → is_good_name name ≡ true → length base < most_sets
     → step (listed state base) (SetNew name) ≡ (holding state name base [], Ok (SetMade name))
 new_gives state name base none good room =
     let few : leb most_sets (length base) ≡ false = lt-leb most_sets (length base) room in
     let made : create_set name base ≡ (inserted (empty_set name) base, Ok tt) = rw (good, none, few) refl in
     ap (sets_step (λ done. SetMade name) (listed state base)) made
 
-add_gives : (state : State) (name : List ℕ) (base : List TuneSet) (numbers : List ℕ) (number : ℕ) → set_at name base ≡ None
+pub add_gives : (state : State) (name : List ℕ) (base : List TuneSet) (numbers : List ℕ) (number : ℕ) → set_at name base ≡ None
     → length numbers < most_places → is_some (tune_at number state.tunes) ≡ true
     → step (holding state name base numbers) (SetAdd name number) ≡ (holding state name base (numbers ++ number ∷ []), Ok (SetAdded name (length numbers + 1)))
 add_gives state name base numbers number none room held = by (tune_at number state.tunes) refl
@@ -121,7 +121,7 @@ remove_last [] n within = absurd (omega arith)
 remove_last (number ∷ numbers) zero within = refl
 remove_last (number ∷ numbers) (suc n) within = ap (λ (some : List ℕ). number ∷ some) (remove_last numbers n (omega arith))
 
-cut_behind_leads : (state : State) (name : List ℕ) (base : List TuneSet) (numbers : List ℕ) (kept more : ℕ) → set_at name base ≡ None
+pub cut_behind_leads : (state : State) (name : List ℕ) (base : List TuneSet) (numbers : List ℕ) (kept more : ℕ) → set_at name base ≡ None
     → kept + more ≤ length numbers
     → LeadsTo (holding state name base (take (kept + more) numbers)) (cut_behind name kept more) (holding state name base (take kept numbers))
 cut_behind_leads state name base numbers kept zero none within =
@@ -138,7 +138,7 @@ cut_behind_leads state name base numbers kept (suc more) none within =
     (cut_behind_leads state name base numbers kept more none (omega arith)))
 
 -- THE COMMON FRONT
-front_same : (old new : List ℕ) → take (common_front old new) old ≡ take (common_front old new) new
+pub front_same : (old new : List ℕ) → take (common_front old new) old ≡ take (common_front old new) new
 front_same [] new = refl
 front_same (number ∷ old) [] = refl
 front_same (number ∷ old) (other ∷ new) = elim (cases_Bool (eqb number other)) [
@@ -148,7 +148,7 @@ front_same (number ∷ old) (other ∷ new) = elim (cases_Bool (eqb number other
   | inr differ ↦ rw differ refl
 ]
 
-front_within : (old new : List ℕ) → common_front old new ≤ length old
+pub front_within : (old new : List ℕ) → common_front old new ≤ length old
 front_within [] new = omega arith
 front_within (number ∷ old) [] = omega arith
 front_within (number ∷ old) (other ∷ new) = elim (cases_Bool (eqb number other)) [
@@ -156,7 +156,7 @@ front_within (number ∷ old) (other ∷ new) = elim (cases_Bool (eqb number oth
   | inr differ ↦ rw differ (omega arith)
 ]
 
-front_within_new : (old new : List ℕ) → common_front old new ≤ length new
+pub front_within_new : (old new : List ℕ) → common_front old new ≤ length new
 front_within_new [] new = omega arith
 front_within_new (number ∷ old) [] = omega arith
 front_within_new (number ∷ old) (other ∷ new) = elim (cases_Bool (eqb number other)) [
@@ -169,7 +169,7 @@ front_whole [] = refl
 front_whole (number ∷ numbers) = rw (eq-eqb number number refl) (ap (λ n. suc n) (front_whole numbers))
 
 -- NUMBERS TO OTHER ONES
-held_drop : (tunes : List Tune) (n : ℕ) (numbers : List ℕ) → AreHeld tunes numbers → AreHeld tunes (drop n numbers)
+pub held_drop : (tunes : List Tune) (n : ℕ) (numbers : List ℕ) → AreHeld tunes numbers → AreHeld tunes (drop n numbers)
 held_drop tunes zero numbers held = held
 held_drop tunes (suc n) [] held = tt
 held_drop tunes (suc n) (number ∷ numbers) held = held_drop tunes n numbers held.1
@@ -270,7 +270,8 @@ into state name new None is e can =
     let few = can.1.few in
     let to = holding state name base new in
     leads_from state (listed state base) to (SetNew name ∷ map (SetAdd name) new) (ap (listed state) same)
-    (leads_by (listed state base) (holding state name base []) to (SetNew name) (SetMade name) (map (SetAdd name) new) (new_gives state name base none can.0.good room)
+    (leads_by (listed state base) (holding state name base []) to (SetNew name) (SetMade name) (map (SetAdd name) new)
+    (new_gives state name base none can.0.good room)
     (adds_lead state name base [] new none (omega arith) can.1.held))
 into state name new (Some set) is e can =
     let its = found_name name state.sets set e in

@@ -120,7 +120,7 @@ renumber_gives state number text is none good apart =
     let sets : renumbered_sets from number state.sets ≡ state.sets =
     unheld_renumbered from number state.sets (unnamed from tunes state.sets is.named (none_above from tunes (omega arith))) in
     renumber_moves (tuned state all) from number had parts.0 parts.1 has free
-    ∙ ap (λ (some : List Tune). (record { layout = state.layout; tunes = some; sets = renumbered_sets from number state.sets }, Ok (Renumbered from number))) whole
+    ∙ ap (λ (some : List Tune). (tuned (record state { sets = renumbered_sets from number state.sets }) some, Ok (Renumbered from number))) whole
     ∙ ap (λ (lists : List TuneSet). (
       record {
         layout = state.layout;

@@ -86,7 +86,8 @@ with_tune_is low new tune (first ∷ tunes) rises found = elim (cases_Bool (eqb 
 ]
 
 -- what is found where a tune was put in
-pub found_in : (number : ℕ) (new : Tune) (tunes : List Tune) → new.number ≡ number → tune_at number tunes ≡ None → tune_at number (inserted new tunes) ≡ Some new
+pub found_in : (number : ℕ) (new : Tune) (tunes : List Tune) → new.number ≡ number → tune_at number tunes ≡ None
+    → tune_at number (inserted new tunes) ≡ Some new
 found_in number new [] own none = rw (eq-eqb new.number number own) refl
 found_in number new (tune ∷ tunes) own none = elim (cases_Bool (eqb tune.number number)) [
   | inl same ↦ let taken = rw same at none in cc
@@ -113,7 +114,8 @@ without_last [] tune above = rw (eq-eqb tune.number tune.number refl) refl
 without_last (first ∷ tunes) tune above =
     rw (ne_eqb first.number tune.number (λ e. absurd (omega arith))) (ap (λ (rest : List Tune). first ∷ rest) (without_last tunes tune (omega arith)))
 
-pub free_still : (number : ℕ) (tunes : List Tune) (tune : Tune) → tune_at number tunes ≡ None → tune.number ≢ number → tune_at number (tunes ++ tune ∷ []) ≡ None
+pub free_still : (number : ℕ) (tunes : List Tune) (tune : Tune) → tune_at number tunes ≡ None → tune.number ≢ number
+    → tune_at number (tunes ++ tune ∷ []) ≡ None
 free_still number [] tune none apart = rw (ne_eqb tune.number number apart) refl
 free_still number (first ∷ tunes) tune none apart = elim (cases_Bool (eqb first.number number)) [
   | inl same ↦ let taken = rw same at none in cc

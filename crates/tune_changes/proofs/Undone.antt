@@ -14,6 +14,7 @@ use Rattle.tune_store.specs.Limits.{longest_text, most_tunes, greatest_number, g
 use Rattle.tune_store.specs.State.{State, tune_at, greatest, AreHeld, IsTune, IsState}
 use Rattle.tune_store.specs.TuneSteps.{inserted, without, is_number}
 use Rattle.tune_store.specs.declared.tune.Tune.{Tune}
+use Rattle.tune_store.specs.Step.{step}
 use Rattle.tune_store.specs.declared.command.Command.{Command}
 use Rattle.tune_store.proofs.MoveLemmas.{length-without_one, number_within}
 use Rattle.tune_store.proofs.NamedLemmas.{held_at}
@@ -22,15 +23,17 @@ use Rattle.tune_store.proofs.StateLemmas.{greatest-without}
 use Rattle.tune_changes.specs.Turns.{Subject, Turn, Aim, aim_back, content, numbers_at}
 use Rattle.tune_changes.specs.Turns.Subject.{TuneOf, SetOf}
 use Rattle.tune_changes.specs.Bringing.{tune_commands, set_commands, brought, brought_each}
-use Rattle.tune_changes.specs.Commands.{after_commands, LeadsTo}
-use Rattle.tune_changes.specs.States.{anew, all_anew, face, tune_with, put_numbers, with_content}
-use Rattle.tune_changes.specs.Undoing.{CanGoIn, CanBeReplaced, CanBeText, CanBePlaces, CanBeMade, CanBeNumbers, CanBe, CanComeBack, BringsAbout}
+use Rattle.tune_changes.specs.Commands.{after_commands, AreAccepted, LeadsTo}
+use Rattle.tune_changes.specs.States.{anew, all_anew, face, tune_with, put_numbers, with_content, with_each}
+use Rattle.tune_changes.specs.Undoing.{CanGoIn, CanBeReplaced, CanBeText, CanBePlaces, CanBeMade, CanBeNumbers, CanBe}
+use Rattle.tune_changes.specs.Undoing.{IsGiven, CanComeBack, IsBroughtAbout, BringsAbout}
 use Rattle.tune_changes.specs.Undoing.{brought_about, taken_back, replacements_in, replacements, LeavesRevisions, TakesBack, NotBegun, CanGoBack, StandsAfter}
 use Rattle.tune_changes.proofs.Leading.{leads_on, leads_none, leads_with, leads_after, after_keeps, after_append}
 use Rattle.tune_changes.proofs.TuneLists.{found_above, all_without, all_inserted, all_found, found_anew, greatest_anew}
 use Rattle.tune_changes.proofs.SetListLemmas.{found_name, all_found_set, length_without_set}
 use Rattle.tune_changes.proofs.TuneBrought.{unnamed, tune_brings}
 use Rattle.tune_changes.proofs.SetBrought.{relaid_same, set_brings}
+use Rattle.tune_changes.proofs.Accepted.{only, accepted_behind}
 use Rattle.tune_changes.proofs.Faces.{plain, plain_text, content_face, face_with, content_plain, plain_back}
 
 -- A SUBJECT IS BROUGHT
@@ -245,7 +248,27 @@ leaves_back x (TuneOf number) times was to are leaves = put_leaves x number time
 leaves_back x (SetOf name) times was to are leaves =
     let less = leaves_less times (times + replacements_in (SetOf name) was to) x (omega arith) leaves in record { new = less.new; each = less.each }
 
+-- AIMS
+accepted_front : (some more : List Command) (state : State) → AreAccepted (some ++ more) state → AreAccepted some state
+accepted_front [] more state accepted = tt
+accepted_front (command ∷ some) more state accepted = (accepted.0, accepted_front some more (step state command).0 accepted.1)
+
+pub each_made : (aims : List Aim) (state : State) → IsState state → AllByRecursion (λ (aim : Aim). IsGiven aim.subject aim.to) aims
+    → AreAccepted (brought_each aims state) state → after_commands (brought_each aims state) state ≡ with_each aims state
+each_made [] state is given accepted = refl
+each_made (aim ∷ aims) state is given accepted =
+    let commands = brought aim.subject aim.to state in
+    let next = after_commands commands state in
+    let rest = brought_each aims next in
+    let can = only state aim.subject aim.to is given.0 (accepted_front commands rest state accepted) in
+    let first : next ≡ with_content aim.subject aim.to state = (brings state aim.subject aim.to is can).1 in
+    after_append commands rest state
+    ∙ each_made aims next (after_keeps commands state is) given.1 (accepted_behind commands rest state accepted) ∙ ap (with_each aims) first
+
 -- TURNS
+can_turn : (turn : Turn) (state : State) → IsState state → IsBroughtAbout turn state → CanBe turn.subject turn.is state
+can_turn turn state is about = only state turn.subject turn.is is about.given about.accepted
+
 pub about_keeps : (turns : List Turn) (old new : State) → IsState old → BringsAbout turns old new → IsState new
 about_keeps [] old new is same = subst IsState same is
 about_keeps (turn ∷ turns) old new is about =
@@ -256,7 +279,7 @@ pub about_leads : (turns : List Turn) (old new : State) → IsState old → Brin
 about_leads [] old new is same = leads_none old new same
 about_leads (turn ∷ turns) old new is about =
     let commands = brought turn.subject turn.is old in
-    let first = brings old turn.subject turn.is is about.0.can in
+    let first = brings old turn.subject turn.is is (can_turn turn old is about.0) in
     leads_on old (after_commands commands old) new commands (brought_about turns (after_commands commands old)) (leads_after old _ commands first)
     (about_leads turns (after_commands commands old) new (after_keeps commands old is) about.1)
 
@@ -307,7 +330,7 @@ undone times (turn ∷ turns) old new now is about within alike leaves =
     let is_x : IsState x = subst IsState reached (after_keeps (taken_back turns now) now within) in
     let was : content turn.subject old ≡ turn.was = about.0.was in
     let faced : face x ≡ plain turn.subject turn.is (face old) =
-    later.alike ∙ ap face (brings old turn.subject turn.is is about.0.can).1 ∙ face_with turn.subject turn.is old in
+    later.alike ∙ ap face (brings old turn.subject turn.is is (can_turn turn old is about.0)).1 ∙ face_with turn.subject turn.is old in
     let are : content turn.subject x ≡ turn.is =
     sym (content_face turn.subject x) ∙ ap (content turn.subject) faced ∙ content_plain turn.subject turn.is old is in
     let leaves_then : LeavesRevisions (times + replacements_in turn.subject (content turn.subject old) turn.is) x =

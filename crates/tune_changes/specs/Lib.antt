@@ -6,4 +6,5 @@ pub mod Undoing
 pub mod Aims
 pub mod Carrying
 pub mod Planning
+pub mod Judging
 pub mod Inside

@@ -1,5 +1,5 @@
 -- States that differ in revisions alone, and a state in which a subject is another.
-use Rattle.std.specs.Prelude.{◌≡◌, ℕ, List, map, Option, None, Some}
+use Rattle.std.specs.Prelude.{◌≡◌, ℕ, List, [], ◌∷◌, map, Option, None, Some}
 use Rattle.std.specs.Prelude.{if◌then◌else◌}
 use Rattle.std.specs.Str.{bytes_eq}
 use Rattle.tune_sets.specs.Sets.{inserted as set_inserted, without as without_set}
@@ -7,7 +7,7 @@ use Rattle.tune_sets.specs.declared.set_lists.TuneSet.{TuneSet}
 use Rattle.tune_store.specs.State.{State, tune_at}
 use Rattle.tune_store.specs.TuneSteps.{inserted, without, revised}
 use Rattle.tune_store.specs.declared.tune.Tune.{Tune}
-use Rattle.tune_changes.specs.Turns.{Subject}
+use Rattle.tune_changes.specs.Turns.{Subject, Aim}
 use Rattle.tune_changes.specs.Turns.Subject.{TuneOf, SetOf}
 
 -- REVISIONS LEFT OUT
@@ -52,6 +52,11 @@ with_content (TuneOf number) to state =
     record state { tunes = put_text number to state.tunes }
 with_content (SetOf name) to state =
     record state { sets = put_numbers name to state.sets }
+
+-- a state in which subjects are so, one after another
+abbrev pub with_each : List Aim → State → State
+with_each [] state = state
+with_each (aim ∷ aims) state = with_each aims (with_content aim.subject aim.to state)
 
 -- two states are the same but for a subject, and for revisions
 abbrev pub AreAlikeBut : Subject → State → State → Type 0

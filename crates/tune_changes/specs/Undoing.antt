@@ -1,8 +1,8 @@
 -- Turns brought about, one after another, and taken back.
-use Rattle.std.specs.Prelude.{◌≡◌, ◌≢◌, ℕ, ◌+◌, ◌<◌, ◌≤◌, List, [], ◌∷◌, length, map, reverse}
+use Rattle.std.specs.Prelude.{◌≡◌, ◌≢◌, ℕ, ◌+◌, ◌^◌, ◌<◌, ◌≤◌, List, [], ◌∷◌, length, map, reverse}
 use Rattle.std.specs.Prelude.{Option, None, Some, IsTrue, ⊤}
 use Rattle.std.specs.List.{AllByRecursion}
-use Rattle.abc_fields.specs.Tunes.{IsTextWithin}
+use Rattle.abc_fields.specs.Tunes.{IsTuneText, IsTextWithin}
 use Rattle.tune_sets.specs.Limits.{most_places, most_sets}
 use Rattle.tune_sets.specs.Names.{is_good_name}
 use Rattle.tune_sets.specs.Sets.{holder}
@@ -14,11 +14,16 @@ use Rattle.tune_store.specs.declared.tune.Tune.{Tune}
 use Rattle.tune_store.specs.declared.command.Command.{Command}
 use Rattle.tune_changes.specs.Turns.{Subject, Turn, content, numbers_at, aim_of, aim_back}
 use Rattle.tune_changes.specs.Turns.Subject.{TuneOf, SetOf}
-use Rattle.tune_changes.specs.Commands.{after_commands, LeadsTo}
+use Rattle.tune_changes.specs.Commands.{after_commands, AreAccepted, LeadsTo}
 use Rattle.tune_changes.specs.Bringing.{brought, brought_each}
 use Rattle.tune_changes.specs.States.{AreAlike, AreAlikeBut}
 
 -- WHAT A SUBJECT CAN BE
+-- a tune has a number of 32 bits, and the text of a tune
+abbrev pub IsGiven : Subject → Option (List ℕ) → Type 0
+IsGiven (TuneOf number) (Some text) = (number < 2 ^ 32) × IsTuneText text
+IsGiven subject to = ⊤
+
 -- a new tune of this number and text can go into a state
 pub record CanGoIn (number : ℕ) (text : List ℕ) (state : State) : Type 0 where
   pub named : IsTrue (is_number number)
@@ -66,16 +71,17 @@ abbrev pub CanComeBack : Subject → Option (List ℕ) → State → Type 0
 CanComeBack (TuneOf number) None state = greatest state.tunes < greatest_number
 CanComeBack subject to state = ⊤
 
--- a turn can be brought about in a state, and was recorded from it
-pub record CanTurn (turn : Turn) (state : State) : Type 0 where
+-- a turn was recorded from a state, and its commands are accepted there
+pub record IsBroughtAbout (turn : Turn) (state : State) : Type 0 where
+  pub given : IsGiven turn.subject turn.is
   pub was : content turn.subject state ≡ turn.was
-  pub can : CanBe turn.subject turn.is state
+  pub accepted : AreAccepted (brought turn.subject turn.is state) state
   pub back : CanComeBack turn.subject turn.is state
 
 -- turns are brought about, the first one first, and lead from one state to another
 abbrev pub BringsAbout : List Turn → State → State → Type 0
 BringsAbout [] old new = old ≡ new
-BringsAbout (turn ∷ turns) old new = CanTurn turn old
+BringsAbout (turn ∷ turns) old new = IsBroughtAbout turn old
     × BringsAbout turns (after_commands (brought turn.subject turn.is old) old) new
 
 -- the commands by which they are
@@ -109,7 +115,8 @@ TakesBack turns now old =
     (back : State) × LeadsTo now (taken_back turns now) back × AreAlike back old
 
 -- WHERE TURNS CAN BE TAKEN BACK
--- the state of now can be gone on from: it is within the limits, and no tune is worn
+-- turns can be taken back from the state of now: it is within the limits, and revisions are left for
+-- the texts that are put back
 pub record CanGoBack (turns : List Turn) (now : State) : Type 0 where
   pub within : IsState now
   pub leaves : LeavesRevisions (replacements turns) now

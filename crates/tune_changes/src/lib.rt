@@ -4,6 +4,7 @@
 
 mod bringing;
 mod carrying;
+mod judging;
 mod laws;
 mod looking;
 mod planning;
@@ -13,6 +14,7 @@ mod tune_bringing;
 mod turns;
 
 pub use bringing::{bring_about, take_back};
+pub use judging::{PartVerdict, Verdict, judged, set_verdict, tune_verdict};
 pub use laws::{law_of_bringing, law_of_undo};
 pub use planning::{planned, planned_replace};
 pub use turns::{Aim, Turn};

@@ -43,14 +43,18 @@ pub fn planned<S: TuneStore + Catalog>(
             tunes_put(alloc, store, name.as_bytes(), numbers.as_slice())
         }
         Change::Cut { name, places } => {
-            alone(alloc, places_cut(alloc, store.sets(), name.as_bytes(), places.as_slice()))
+            alone(
+                alloc,
+                places_cut(alloc, store.sets(), name.as_bytes(), places.as_slice()),
+            )
         }
         Change::Move { name, place, to } => {
-            alone(alloc, place_moved(alloc, store.sets(), name.as_bytes(), *place, *to))
+            alone(
+                alloc,
+                place_moved(alloc, store.sets(), name.as_bytes(), *place, *to),
+            )
         }
-        Change::Drop(name) => {
-            alone(alloc, set_gone(alloc, store.sets(), name.as_bytes()))
-        }
+        Change::Drop(name) => { alone(alloc, set_gone(alloc, store.sets(), name.as_bytes())) }
     }
 }
 

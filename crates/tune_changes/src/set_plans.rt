@@ -33,12 +33,7 @@ pub(crate) fn numbers_put(
 }
 
 // A set list is made of these numbers.
-fn set_made(
-    alloc: Global,
-    sets: &SetLists,
-    name: SetName,
-    numbers: &[u32],
-) -> Result<Turn, Refusal>
+fn set_made(alloc: Global, sets: &SetLists, name: SetName, numbers: &[u32]) -> Result<Turn, Refusal>
     ensures { IsToldOrFault (numbers_put name numbers.now sets.now None) result }
 {
     if numbers.len() > MOST_PLACES {
