@@ -87,6 +87,20 @@ app_long_about old new app text has e = record {
   local = ap (λ fields. fields.has_globals) e ∙ has.local;
 }
 
+pub app_usage : (old new : Command) (app : App) (text : Bor Text) → HasApp old app
+    → out-Command new ≡ record (out-Command old) { usage_str = Some text } → HasApp new app
+app_usage old new app text has e = record {
+  app_is = ap app_of_fields e ∙ has.app_is;
+  local = ap (λ fields. fields.has_globals) e ∙ has.local;
+}
+
+pub app_help : (old new : Command) (app : App) (text : Bor Text) → HasApp old app
+    → out-Command new ≡ record (out-Command old) { help_str = Some text } → HasApp new app
+app_help old new app text has e = record {
+  app_is = ap app_of_fields e ∙ has.app_is;
+  local = ap (λ fields. fields.has_globals) e ∙ has.local;
+}
+
 pub app_version : (old new : Command) (app : App) (text : Bor Text) → HasApp old app
     → out-Command new ≡ record (out-Command old) { version = Some text } → HasApp new (on_top (λ shape. record shape { has_version = true }) app)
 app_version old new app text has e = record {
@@ -108,5 +122,10 @@ app_with_command old new command app more of_old is adds =
     ∙ ap (λ a. with_subcommand a (shape_of command)) of_old
     ∙ ap (λ (a : App). with_subcommand app a.top) is.app_is
 
-pub more_commands : (app : App) (first rest : List App) → with_commands (with_commands app first) rest ≡ with_commands app (first ++ rest)
+more_commands : (app : App) (first rest : List App) → with_commands (with_commands app first) rest ≡ with_commands app (first ++ rest)
 more_commands app first rest = sym (fold-append (λ (all : App) (command : App). with_subcommand all command.top) app first rest)
+
+pub then_commands : (old new : Command) (app : App) (first rest : List App) → app_of old ≡ with_commands app first
+    → app_of new ≡ with_commands (app_of old) rest → app_of new ≡ with_commands app (first ++ rest)
+then_commands old new app first rest before adds =
+    adds ∙ ap (λ (all : App). with_commands all rest) before ∙ more_commands app first rest

@@ -13,7 +13,7 @@ use Rattle.desk_words.specs.declared.asked.OrderFault.TheVariants as fault
 use Rattle.desk_words.specs.WordAnswers.{Gives, WordRefusal, Refuses}
 use Rattle.desk_words.specs.DeskCommands.{desk_app}
 use Rattle.desk_words.specs.AskedWords.{Asked, FaultFits, asked_by, asked_in, asked_of, faults_in, order_by}
-use Rattle.desk_words.specs.OrderMeanings.{meaning_named}
+use Rattle.desk_words.specs.NamedMeanings.{meaning_named}
 
 -- the matches are those of the words
 pub record Parses (words : List Text) (m : ArgMatches) : Type 0 where

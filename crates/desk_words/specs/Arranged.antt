@@ -26,6 +26,9 @@ kind_of_option text = if bytes_eq text (codes "--title") then word.Asking
     else if bytes_eq text (codes "--key") then word.Asking
     else if bytes_eq text (codes "--notes") then word.Asking
     else if bytes_eq text (codes "--in") then word.Asking
+    else if bytes_eq text (codes "--revision") then word.Asking
+    else if bytes_eq text (codes "--to") then word.Asking
+    else if bytes_eq text (codes "--keep") then word.Asking
     else if bytes_eq text (codes "--tune") then word.AskingNumbers
     else if bytes_eq text (codes "-") then word.Plain
     else kind_by_start text

@@ -9,7 +9,8 @@ use Rattle.desk_words.specs.declared.asked.OrderFault.TheVariants.{Clap}
 use Rattle.desk_words.specs.WordAnswers.{WordRefusal, Refuses, and_then, empty_file, missing}
 use Rattle.desk_words.specs.DeskCommands.{desk_app}
 use Rattle.desk_words.specs.Given.{number_in}
-use Rattle.desk_words.specs.OrderMeanings.{OrderMeaning, meaning_by, meaning_named}
+use Rattle.desk_words.specs.NamedMeanings.{meaning_named}
+use Rattle.desk_words.specs.OrderMeanings.{OrderMeaning, meaning_by}
 
 -- what is asked, by the bytes of its texts
 pub record Asked : Type 0 where

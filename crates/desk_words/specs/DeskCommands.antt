@@ -29,6 +29,10 @@ one_rule name = needed (new_rule name)
 abbrev pub many_rule : Text → Rule
 many_rule name = more (needed (new_rule name))
 
+-- words that may be given
+abbrev pub several_rule : Text → Rule
+several_rule name = more (new_rule name)
+
 abbrev pub with_rules : Text → List Rule → App
 with_rules name rules = fold with_rule (new_app name) rules
 
@@ -40,7 +44,7 @@ list_rules = flag_rule (codes "json") ∷ flag_rule (codes "csv") ∷ []
 abbrev pub find_rules : List Rule
 find_rules = flag_rule (codes "within") ∷ option_rule (codes "title") ∷ option_rule (codes "rhythm")
     ∷ option_rule (codes "key") ∷ option_rule (codes "notes") ∷ option_rule (codes "in")
-    ∷ more (new_rule (codes "WORDS")) ∷ []
+    ∷ several_rule (codes "WORDS") ∷ []
 
 abbrev pub force_rule : Rule
 force_rule = flag_rule (codes "force")
@@ -70,9 +74,44 @@ tune_commands = with_rules (codes "show") (many_rule (codes "NUM") ∷ [])
     ∷ with_rules (codes "draft") (one_rule (codes "NUM") ∷ out_rule ∷ []) ∷ []
 
 abbrev pub other_commands : List App
-other_commands = new_app (codes "check")
+other_commands = with_rules (codes "check") (new_rule (codes "COPY") ∷ [])
     ∷ with_rules (codes "import-check") (many_rule (codes "BOOK") ∷ [])
     ∷ with_rules (codes "place") (force_rule ∷ out_rule ∷ []) ∷ new_app (codes "ask") ∷ []
+
+-- the options of `add`, and its books
+abbrev pub add_rules : List Rule
+add_rules = flag_rule (codes "new") ∷ flag_rule (codes "split") ∷ flag_rule (codes "dry")
+    ∷ flag_rule (codes "good") ∷ flag_rule (codes "show-lost") ∷ flag_rule (codes "carry")
+    ∷ several_rule (codes "BOOK") ∷ []
+
+-- the commands that change tunes, that change set lists, and on copies and layouts
+abbrev pub change_commands : List App
+change_commands = new_app (codes "new") ∷ with_rules (codes "add") add_rules
+    ∷ with_rules (codes "delete") (many_rule (codes "NUM") ∷ [])
+    ∷ with_rules (codes "replace")
+    (option_rule (codes "revision") ∷ one_rule (codes "NUM") ∷ one_rule (codes "BOOK") ∷ [])
+    ∷ with_rules (codes "undo")
+    (list_rules ++ flag_rule (codes "list") ∷ option_rule (codes "to") ∷ []) ∷ []
+
+abbrev pub place_commands : List App
+place_commands = with_rules (codes "put")
+    (new_rule (codes "NAME") ∷ several_rule (codes "NUM") ∷ [])
+    ∷ with_rules (codes "cut") (one_rule (codes "NAME") ∷ many_rule (codes "PLACE") ∷ [])
+    ∷ with_rules (codes "move")
+    (one_rule (codes "NAME") ∷ one_rule (codes "PLACE") ∷ one_rule (codes "TO") ∷ [])
+    ∷ with_rules (codes "drop") (one_rule (codes "NAME") ∷ []) ∷ []
+
+abbrev pub copy_commands : List App
+copy_commands = with_rules (codes "backup")
+    (option_rule (codes "keep") ∷ one_rule (codes "COPY") ∷ [])
+    ∷ with_rules (codes "restore") (force_rule ∷ one_rule (codes "COPY") ∷ [])
+    ∷ with_rules (codes "load") (one_rule (codes "SCRIPT") ∷ []) ∷ new_app (codes "upgrade") ∷ []
+
+-- Commands that another program carries out: this one has their pages of help alone, and knows
+-- their names where a word is close to one.
+abbrev pub told_commands : List App
+told_commands = new_app (codes "edit") ∷ new_app (codes "print") ∷ new_app (codes "hear")
+    ∷ new_app (codes "site") ∷ []
 
 -- -f FILE
 abbrev pub file_rule : Rule
@@ -92,4 +131,5 @@ with_commands app commands = fold (λ all command. with_subcommand all command.t
 -- the program's command line
 unfoldable pub desk_app : App
 desk_app = with_commands program_alone
-    (find_commands ++ (list_commands ++ (tune_commands ++ other_commands)))
+    (((((((find_commands ++ list_commands) ++ tune_commands) ++ other_commands)
+    ++ change_commands) ++ place_commands) ++ copy_commands) ++ told_commands)

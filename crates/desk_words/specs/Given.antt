@@ -55,6 +55,11 @@ number_by (Some number) word = Ok number
 abbrev pub number_in : Text → Result ℕ WordRefusal
 number_in word = number_by (number_written word) word
 
+-- the number of an option that may be given
+abbrev pub number_of : Option Text → Result (Option ℕ) WordRefusal
+number_of None = Ok None
+number_of (Some word) = and_then (number_in word) (λ number. Ok (Some number))
+
 -- each word is read in turn
 abbrev pub each_in : {A : Type 0} → (Text → Result A WordRefusal) → List Text
     → Result (List A) WordRefusal

@@ -1,9 +1,11 @@
 pub mod Arranged
 pub mod AskedWords
+pub mod ChangeMeanings
 pub mod DeskCommands
 pub mod Given
 pub mod Inside
 pub mod JoinedValues
+pub mod NamedMeanings
 pub mod OrderMeanings
 pub mod SoughtConditions
 pub mod WordAnswers

@@ -1,9 +1,13 @@
--- What a command asks for.
+-- What words may ask for; and what a command asks for that asks, or writes a result.
 use Rattle.std.specs.Prelude.{ℕ, Bool, if◌then◌else◌, List, [], ◌∷◌}
 use Rattle.std.specs.Prelude.{Option, Some, None, Result, Ok, Err, codes, map, string_bytes}
 use Rattle.std.specs.Str.{bytes_eq}
 use Rattle.clap.specs.Words.{Text, Row, first_of}
+use Rattle.desk_terms.specs.declared.adding.Adding.{Adding}
+use Rattle.desk_terms.specs.declared.change.Change.{Change}
+use Rattle.desk_terms.specs.declared.change.Change.TheVariants as change
 use Rattle.desk_terms.specs.declared.form.Form.{Form}
+use Rattle.desk_terms.specs.declared.undoing.Undoing.{Undoing}
 use Rattle.desk_terms.specs.declared.question.Question.{Question}
 use Rattle.desk_terms.specs.declared.question.Question.TheVariants as question
 use Rattle.desk_words.specs.declared.asked.Order.{Order}
@@ -11,7 +15,7 @@ use Rattle.desk_words.specs.declared.asked.Order.TheVariants as order
 use Rattle.desk_words.specs.declared.asked.Target.{Target}
 use Rattle.desk_words.specs.declared.order_meanings.Verb.{Verb}
 use Rattle.desk_words.specs.declared.order_meanings.Verb.TheVariants as verb
-use Rattle.desk_words.specs.WordAnswers.{WordRefusal, and_then, missing, nothing_asked}
+use Rattle.desk_words.specs.WordAnswers.{WordRefusal, and_then, nothing_asked}
 use Rattle.desk_words.specs.WordAnswers.{name_and_tunes}
 use Rattle.desk_words.specs.Given.{given, first_given, is_set, form_in, number_in, numbers_in}
 use Rattle.desk_words.specs.Given.{path_in, paths_in, name_in}
@@ -55,26 +59,61 @@ pub record Place : Type 0 where
 abbrev pub place_by : Target → Place
 place_by target = record { out = string_bytes target.out; force = target.force }
 
+-- a change, by the bytes of its texts
+pub data ChangeMeaning : Type 0 where
+  deletes : List ℕ → ChangeMeaning
+  puts : Text → List ℕ → ChangeMeaning
+  cuts : Text → List ℕ → ChangeMeaning
+  moves : Text → ℕ → ℕ → ChangeMeaning
+  drops : Text → ChangeMeaning
+
+abbrev pub change_by : Change → ChangeMeaning
+change_by (change.Delete numbers) = deletes numbers.items
+change_by (change.Put name numbers) = puts (string_bytes name) numbers.items
+change_by (change.Cut name places) = cuts (string_bytes name) places.items
+change_by (change.Move name place to) = moves (string_bytes name) place to
+change_by (change.Drop name) = drops (string_bytes name)
+
 -- an order, by the bytes of its texts
 pub data OrderMeaning : Type 0 where
   tells : Asking → OrderMeaning
   writes : Asking → Place → OrderMeaning
   checks : OrderMeaning
+  checks_copy : Text → OrderMeaning
   drafts : ℕ → Text → OrderMeaning
   places : Place → OrderMeaning
   checks_books : List Text → OrderMeaning
   asks : OrderMeaning
+  makes : OrderMeaning
+  adds : List Text → Adding → OrderMeaning
+  changes : ChangeMeaning → OrderMeaning
+  replaces : ℕ → Option ℕ → Text → OrderMeaning
+  undoes : Undoing → OrderMeaning
+  backs_up : Text → Option ℕ → OrderMeaning
+  restores : Text → Bool → OrderMeaning
+  loads : Text → OrderMeaning
+  upgrades : OrderMeaning
 
 abbrev pub meaning_by : Order → OrderMeaning
 meaning_by (order.Tell asked) = tells (asking_by asked)
 meaning_by (order.Write asked target) = writes (asking_by asked) (place_by target)
 meaning_by order.Check = checks
+meaning_by (order.CheckCopy copy) = checks_copy (string_bytes copy)
 meaning_by (order.Draft number out) = drafts number (string_bytes out)
 meaning_by (order.Place target) = places (place_by target)
 meaning_by (order.CheckBooks books) = checks_books (map string_bytes books.items)
 meaning_by order.Ask = asks
+meaning_by order.Make = makes
+meaning_by (order.Add books how) = adds (map string_bytes books.items) how
+meaning_by (order.Change changed) = changes (change_by changed)
+meaning_by (order.Replace number revision book) = replaces number revision (string_bytes book)
+meaning_by (order.Undo undoing) = undoes undoing
+meaning_by (order.Backup copy keep) = backs_up (string_bytes copy) keep
+meaning_by (order.Restore copy force) = restores (string_bytes copy) force
+meaning_by (order.Load script) = loads (string_bytes script)
+meaning_by order.Upgrade = upgrades
 
--- the commands, by name
+-- the commands that ask or write a result, by name
 abbrev pub verb_of : Text → Option Verb
 verb_of name = if bytes_eq name (codes "find") then Some verb.Find
     else if bytes_eq name (codes "count") then Some verb.Count
@@ -153,7 +192,15 @@ books_in rows =
 abbrev pub places_in : List Row → Result OrderMeaning WordRefusal
 places_in rows = and_then (place_in rows) (λ place. Ok (places place))
 
--- what a command asks for, by what was found for its arguments
+-- FILE is checked, or COPY
+abbrev pub checks_by : Option Text → Result OrderMeaning WordRefusal
+checks_by None = Ok checks
+checks_by (Some word) = and_then (path_in word) (λ copy. Ok (checks_copy copy))
+
+abbrev pub checks_in : List Row → Result OrderMeaning WordRefusal
+checks_in rows = checks_by (first_of (codes "COPY") rows)
+
+-- what such a command asks for, by what was found for its arguments
 abbrev pub meaning_of : ℕ → Verb → List Row → Result OrderMeaning WordRefusal
 meaning_of chance verb.Find rows = telling (finds_in rows)
 meaning_of chance verb.Count rows = telling (counts_in rows)
@@ -163,18 +210,10 @@ meaning_of chance verb.Sets rows = telling (lists_in lists_sets rows)
 meaning_of chance verb.Set rows = telling (set_in rows)
 meaning_of chance verb.Twins rows = telling (lists_in lists_twins rows)
 meaning_of chance verb.Show rows = telling (shows_in rows)
-meaning_of chance verb.Check rows = Ok checks
+meaning_of chance verb.Check rows = checks_in rows
 meaning_of chance verb.Export rows = writing (exports_in rows) rows
 meaning_of chance verb.Dump rows = writing (Ok dumps) rows
 meaning_of chance verb.ImportCheck rows = books_in rows
 meaning_of chance verb.Place rows = places_in rows
 meaning_of chance verb.Draft rows = drafts_in rows
 meaning_of chance verb.Ask rows = Ok asks
-
-abbrev pub meaning_by_verb : ℕ → Option Verb → List Row → Result OrderMeaning WordRefusal
-meaning_by_verb chance None rows = Err missing
-meaning_by_verb chance (Some verb) rows = meaning_of chance verb rows
-
--- the same, by the name of the command
-abbrev pub meaning_named : ℕ → Text → List Row → Result OrderMeaning WordRefusal
-meaning_named chance name rows = meaning_by_verb chance (verb_of name) rows

@@ -18,6 +18,11 @@ pub data WordRefusal : Type 0 where
   key_alone : WordRefusal
   two_forms : WordRefusal
   name_and_tunes : WordRefusal
+  no_books : WordRefusal
+  new_and_split : WordRefusal
+  put_alone : WordRefusal
+  list_and_to : WordRefusal
+  form_alone : WordRefusal
   no_number : Text → WordRefusal
   no_name : Text → WordRefusal
   empty_file : WordRefusal
@@ -39,6 +44,11 @@ refusal_of fault.WithinAlone = Some within_alone
 refusal_of fault.KeyAlone = Some key_alone
 refusal_of fault.TwoForms = Some two_forms
 refusal_of fault.NameAndTunes = Some name_and_tunes
+refusal_of fault.NoBooks = Some no_books
+refusal_of fault.NewAndSplit = Some new_and_split
+refusal_of fault.PutAlone = Some put_alone
+refusal_of fault.ListAndTo = Some list_and_to
+refusal_of fault.FormAlone = Some form_alone
 refusal_of (fault.NoNumber word) = Some (no_number (string_bytes word))
 refusal_of (fault.NoName word) = Some (no_name (string_bytes word))
 refusal_of fault.EmptyFile = Some empty_file

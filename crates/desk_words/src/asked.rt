@@ -20,7 +20,7 @@ use crate::order_meanings::order_named;
 use crate::sought_conditions::SoughtKind;
 use clap::error::ErrorKind;
 use clap::{ArgMatches, Error};
-use desk_terms::Question;
+use desk_terms::{Adding, Change, Question, Undoing};
 use std::alloc::{AllocError, AllocFailed, Global};
 use std::io;
 
@@ -42,11 +42,19 @@ pub enum Order {
     /// Answer a question, on standard output.
     Tell(Question),
     /// Write what answers a question to a file.
-    Write { question: Question, target: Target },
+    Write {
+        question: Question,
+        target: Target,
+    },
     /// Open the archive, and tell how much it holds.
     Check,
+    /// Open a copy of an archive, and tell how much it holds.
+    CheckCopy(String),
     /// Write a tune to a new file, and print its revision.
-    Draft { number: u32, out: String },
+    Draft {
+        number: u32,
+        out: String,
+    },
     /// Write standard input to a file, by the rule of all results.
     Place(Target),
     /// Tell what of books would be taken in. `-` is standard input, and a folder stands for its
@@ -54,6 +62,38 @@ pub enum Order {
     CheckBooks(Vec<String>),
     /// Answer a script of questions, from standard input.
     Ask,
+    /// Make an empty archive.
+    Make,
+    /// Take in books. `-` is standard input, and a folder stands for its books.
+    Add {
+        books: Vec<String>,
+        how: Adding,
+    },
+    /// Change tunes or a set list.
+    Change(Change),
+    /// Put the tune of a book in the place of a tune, if that has this revision, where one is given.
+    /// `-` is standard input.
+    Replace {
+        number: u32,
+        revision: Option<u32>,
+        book: String,
+    },
+    /// Take changes back, or list them.
+    Undo(Undoing),
+    /// Copy the archive, and keep so many copies, where a number is given.
+    Backup {
+        copy: String,
+        keep: Option<u32>,
+    },
+    /// Put a copy in the place of the archive; by `force` also where that is none.
+    Restore {
+        copy: String,
+        force: bool,
+    },
+    /// Make the archive by a script.
+    Load(String),
+    /// Bring the archive to layout 2.
+    Upgrade,
 }
 
 /// The order, and the archive that it is for.
@@ -73,7 +113,7 @@ pub enum OrderFault {
     /// The words do not parse, help or the version was asked for, or out of memory: the error tells
     /// which, and has a text to print.
     Clap(Error),
-    /// They parse, and have no command.
+    /// They parse, and have no command that this program carries out.
     Missing,
     /// `find` has no words, and no option that says what tunes are found by.
     NothingAsked,
@@ -87,6 +127,16 @@ pub enum OrderFault {
     TwoForms,
     /// A set list and `--tune` are both given.
     NameAndTunes,
+    /// `add` has no books.
+    NoBooks,
+    /// Both `--new` and `--split` are given.
+    NewAndSplit,
+    /// `put` lacks a name or numbers.
+    PutAlone,
+    /// Both `--list` and `--to` are given.
+    ListAndTo,
+    /// `--json` or `--csv` is given without `--list`.
+    FormAlone,
     /// This is no number of one to nine digits.
     NoNumber(String),
     /// This is no name of a set list.
@@ -207,33 +257,46 @@ fn kind_text(kind: SoughtKind) -> &'static str {
     }
 }
 
+fn tell<T: Eprint>(rt: &T, text: &str) -> io::Result<()> {
+    eprintln!(rt; "tunes-book: {text}")
+}
+
+// Tells it, and where the commands are listed.
+fn tell_with_list<T: Eprint>(rt: &T, text: &str) -> io::Result<()> {
+    eprintln!(rt; "tunes-book: {text}; `tunes-book --help` lists the commands")
+}
+
+fn tell_kind<T: Eprint>(rt: &T, kind: SoughtKind) -> io::Result<()> {
+    let kind = kind_text(kind);
+    eprintln!(rt;
+        "tunes-book: find {kind} asks for words; for a title {kind}, say find title {kind}"
+    )
+}
+
 // Tells a fault that is not the parser's.
 fn say<T: Eprint>(rt: &T, fault: &OrderFault) -> io::Result<()> {
-    let lists = "`tunes-book --help` lists the commands";
     match fault {
         OrderFault::Clap(_) => Ok(()),
-        OrderFault::Missing => eprintln!(rt; "tunes-book: no command is given; {lists}"),
-        OrderFault::NothingAsked => eprintln!(rt; "tunes-book: find asks for words; {lists}"),
-        OrderFault::KindAlone(kind) => {
-            let kind = kind_text(*kind);
-            eprintln!(rt;
-                "tunes-book: find {kind} asks for words; for a title {kind}, say find title {kind}"
-            )
-        }
-        OrderFault::WithinAlone => eprintln!(rt; "tunes-book: --within asks for words"),
-        OrderFault::KeyAlone => eprintln!(rt; "tunes-book: --in is for notes, and none are given"),
-        OrderFault::TwoForms => {
-            eprintln!(rt; "tunes-book: --json and --csv are both given; say one of them")
-        }
+        OrderFault::Missing => tell_with_list(rt, "no command is given"),
+        OrderFault::NothingAsked => tell_with_list(rt, "find asks for words"),
+        OrderFault::KindAlone(kind) => tell_kind(rt, *kind),
+        OrderFault::WithinAlone => tell(rt, "--within asks for words"),
+        OrderFault::KeyAlone => tell(rt, "--in is for notes, and none are given"),
+        OrderFault::TwoForms => tell(rt, "--json and --csv are both given; say one of them"),
         OrderFault::NameAndTunes => {
-            eprintln!(rt; "tunes-book: a set list and --tune are both given; say one of them")
+            tell(rt, "a set list and --tune are both given; say one of them")
         }
+        OrderFault::NoBooks => tell_with_list(rt, "add asks for books"),
+        OrderFault::NewAndSplit => tell(rt, "add takes --new or --split, not both"),
+        OrderFault::PutAlone => tell_with_list(rt, "put asks for a name and numbers"),
+        OrderFault::ListAndTo => tell(rt, "undo takes --list or --to, not both"),
+        OrderFault::FormAlone => tell(rt, "--json and --csv are for undo --list"),
         OrderFault::NoNumber(word) => eprintln!(rt; "tunes-book: '{word}' is no number"),
         OrderFault::NoName(word) => {
             eprintln!(rt; "tunes-book: '{word}' is no name of a set list")
         }
-        OrderFault::EmptyFile => eprintln!(rt; "tunes-book: the FILE of -f is empty"),
-        OrderFault::EmptyPath => eprintln!(rt; "tunes-book: a path is empty"),
+        OrderFault::EmptyFile => tell(rt, "the FILE of -f is empty"),
+        OrderFault::EmptyPath => tell(rt, "a path is empty"),
     }
 }
 

@@ -2,7 +2,8 @@
 ghost use Rattle.std.specs.Prelude.{◌≡◌, ◌++◌, [], ◌∷◌, codes, false, fold, IfOk};
 ghost use Rattle.clap.specs.Words.{app_of, new_app, new_rule, with_rule};
 ghost use Rattle.clap.specs.declared.builder.command.Command.TheViews.{out-Command as fields_of};
-ghost use Rattle.desk_words.specs.DeskCommands.{flag_rule, option_rule, one_rule, many_rule, more};
+ghost use Rattle.desk_words.specs.DeskCommands.{flag_rule, option_rule, one_rule, many_rule};
+ghost use Rattle.desk_words.specs.DeskCommands.{several_rule};
 ghost use Rattle.desk_words.specs.DeskCommands.{force_rule, out_rule, tune_rule, file_rule};
 ghost use Rattle.desk_words.specs.DeskCommands.{list_rules};
 ghost use Rattle.desk_words.specs.DeskCommands.{find_rules, with_rules, program_alone, desk_app};
@@ -11,11 +12,13 @@ ghost use Rattle.desk_words.specs.DeskCommands.{tune_commands, other_commands};
 ghost use Rattle.desk_words.specs.Inside.Commands.{HasApp, HasRule};
 
 use crate::asked::VERSION;
+use crate::change_commands::{with_changes, with_copies, with_places, with_told};
+use crate::usage::USAGE;
 use clap::{Arg, ArgAction, Command};
 use std::alloc::{AllocError, Global};
 
 // An option without a value.
-fn flag<'a>(alloc: Global, name: &'a str, help: &'a str) -> Arg<'a>
+pub(crate) fn flag<'a>(alloc: Global, name: &'a str, help: &'a str) -> Arg<'a>
     ensures { HasRule result (flag_rule name.now) }
 {
     Arg::new(alloc, name)
@@ -25,7 +28,7 @@ fn flag<'a>(alloc: Global, name: &'a str, help: &'a str) -> Arg<'a>
 }
 
 // An option with a value.
-fn option<'a>(alloc: Global, name: &'a str, value: &'a str, help: &'a str) -> Arg<'a>
+pub(crate) fn option<'a>(alloc: Global, name: &'a str, value: &'a str, help: &'a str) -> Arg<'a>
     ensures { HasRule result (option_rule name.now) }
 {
     Arg::new(alloc, name)
@@ -35,14 +38,14 @@ fn option<'a>(alloc: Global, name: &'a str, value: &'a str, help: &'a str) -> Ar
 }
 
 // A word that has to be given.
-fn one<'a>(alloc: Global, name: &'a str, help: &'a str) -> Arg<'a>
+pub(crate) fn one<'a>(alloc: Global, name: &'a str, help: &'a str) -> Arg<'a>
     ensures { HasRule result (one_rule name.now) }
 {
     Arg::new(alloc, name).help(help).required(true)
 }
 
 // Words of which one has to be given.
-fn many<'a>(alloc: Global, name: &'a str, help: &'a str) -> Arg<'a>
+pub(crate) fn many<'a>(alloc: Global, name: &'a str, help: &'a str) -> Arg<'a>
     ensures { HasRule result (many_rule name.now) }
 {
     Arg::new(alloc, name)
@@ -51,7 +54,7 @@ fn many<'a>(alloc: Global, name: &'a str, help: &'a str) -> Arg<'a>
         .num_args(1..)
 }
 
-fn force<'a>(alloc: Global) -> Arg<'a>
+pub(crate) fn force<'a>(alloc: Global) -> Arg<'a>
     ensures { HasRule result force_rule }
 {
     flag(
@@ -68,7 +71,11 @@ fn out<'a>(alloc: Global) -> Arg<'a>
 }
 
 // A command that lists.
-fn listing<'a>(alloc: Global, name: &'a str, about: &'a str) -> Result<Command<'a>, AllocError>
+pub(crate) fn listing<'a>(
+    alloc: Global,
+    name: &'a str,
+    about: &'a str,
+) -> Result<Command<'a>, AllocError>
     ensures { IfOk result (λ command. HasApp command (with_rules name.now list_rules)) }
 {
     Command::new(alloc, name)
@@ -77,12 +84,21 @@ fn listing<'a>(alloc: Global, name: &'a str, about: &'a str) -> Result<Command<'
         .arg(flag(alloc, "csv", "Lists as comma-separated values"))
 }
 
-fn words<'a>(alloc: Global) -> Arg<'a>
-    ensures { HasRule result (more (new_rule (codes "WORDS"))) }
+// Words that may be given.
+pub(crate) fn several<'a>(alloc: Global, name: &'a str, help: &'a str) -> Arg<'a>
+    ensures { HasRule result (several_rule name.now) }
 {
-    Arg::new(alloc, "WORDS")
-        .help("A KIND and words, or words of a title; KIND is title, rhythm, key or notes")
-        .num_args(1..)
+    Arg::new(alloc, name).help(help).num_args(1..)
+}
+
+fn words<'a>(alloc: Global) -> Arg<'a>
+    ensures { HasRule result (several_rule (codes "WORDS")) }
+{
+    several(
+        alloc,
+        "WORDS",
+        "A KIND and words, or words of a title; KIND is title, rhythm, key or notes",
+    )
 }
 
 // A command with what tunes are found by.
@@ -170,10 +186,13 @@ fn show<'a>(alloc: Global) -> Result<Command<'a>, AllocError>
         .arg(many(alloc, "NUM", "The number of a tune"))
 }
 
-fn check<'a>(alloc: Global) -> Command<'a>
-    ensures { HasApp result (new_app (codes "check")) }
+fn check<'a>(alloc: Global) -> Result<Command<'a>, AllocError>
+    ensures { IfOk result (λ command.
+        HasApp command (with_rules (codes "check") (new_rule (codes "COPY") ∷ []))) }
 {
-    Command::new(alloc, "check").about("Opens the archive, and tells how much it holds")
+    Command::new(alloc, "check")
+        .about("Opens the archive or a copy, and tells how much it holds")
+        .arg(word(alloc, "COPY", "The path of a copy"))
 }
 
 fn tune<'a>(alloc: Global) -> Arg<'a>
@@ -185,7 +204,7 @@ fn tune<'a>(alloc: Global) -> Arg<'a>
 }
 
 // A word that may be given.
-fn word<'a>(alloc: Global, name: &'a str, help: &'a str) -> Arg<'a>
+pub(crate) fn word<'a>(alloc: Global, name: &'a str, help: &'a str) -> Arg<'a>
     ensures { HasRule result (new_rule name.now) }
 {
     Arg::new(alloc, name).help(help)
@@ -274,7 +293,7 @@ fn program<'a>(alloc: Global) -> Result<Command<'a>, AllocError>
     ensures { IfOk result (λ command. HasApp command program_alone) }
 {
     Command::new(alloc, "tunes-book")
-        .about("Keeps tunes in ABC notation in an archive")
+        .override_help(USAGE)
         .version(VERSION)
         .arg(file(alloc))?
         .arg(option(
@@ -333,7 +352,7 @@ fn with_others<'a>(alloc: Global, command: Command<'a>) -> Result<Command<'a>, A
     ensures { IfOk result (λ all.
         app_of all ≡ with_commands (app_of command.entry) other_commands) }
 {
-    let check = check(alloc);
+    let check = check(alloc)?;
     let import_check = import_check(alloc)?;
     let place = place(alloc)?;
     let ask = ask(alloc);
@@ -352,5 +371,9 @@ pub(crate) fn command_line<'a>(alloc: Global) -> Result<Command<'a>, AllocError>
     let finds = with_finds(alloc, program)?;
     let lists = with_lists(alloc, finds)?;
     let tunes = with_tunes(alloc, lists)?;
-    with_others(alloc, tunes)
+    let others = with_others(alloc, tunes)?;
+    let changes = with_changes(alloc, others)?;
+    let places = with_places(alloc, changes)?;
+    let copies = with_copies(alloc, places)?;
+    with_told(alloc, copies)
 }

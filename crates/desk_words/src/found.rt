@@ -6,7 +6,7 @@ ghost use Rattle.desk_words.specs.WordAnswers.{Gives};
 ghost use Rattle.desk_words.specs.Given.{given, first_given, is_set, form_by, form_in, is_digits};
 ghost use Rattle.desk_words.specs.Given.{number_in, numbers_in, path_in, paths_in, name_in};
 ghost use Rattle.desk_words.specs.Given.{is_name, is_digit, is_name_byte, one_line, blank_for};
-ghost use Rattle.desk_words.specs.Given.{number_written};
+ghost use Rattle.desk_words.specs.Given.{number_of, number_written};
 ghost use Rattle.desk_words.specs.Inside.Sorting.{texts_of};
 
 use crate::asked::OrderFault;
@@ -139,6 +139,20 @@ pub(crate) fn number(alloc: Global, word: &str) -> Result<u32, OrderFault>
         None => {
             let word = String::from_str(alloc, word)?;
             Err(OrderFault::NoNumber(word))
+        }
+    }
+}
+
+// The number of an option that may be given.
+pub(crate) fn number_of(alloc: Global, word: Option<&str>) -> Result<Option<u32>, OrderFault>
+    ensures { Gives (λ number. number)
+        (number_of (option_map (λ word. word.now) word.entry)) result }
+{
+    match word {
+        None => Ok(None),
+        Some(word) => {
+            let number = number(alloc, word)?;
+            Ok(Some(number))
         }
     }
 }

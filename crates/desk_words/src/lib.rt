@@ -3,11 +3,14 @@
 
 mod arranging;
 mod asked;
+mod change_commands;
+mod change_meanings;
 mod desk_commands;
 mod found;
 mod joining;
 mod order_meanings;
 mod sought_conditions;
+mod usage;
 
 pub use asked::{Order, OrderFault, Target, VERSION, Words, report, words_of};
 pub use sought_conditions::SoughtKind;

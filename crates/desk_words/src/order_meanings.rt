@@ -9,19 +9,21 @@ ghost use Rattle.desk_words.specs.OrderMeanings.{some_sought, counts_in, chooses
 ghost use Rattle.desk_words.specs.OrderMeanings.{set_in};
 ghost use Rattle.desk_words.specs.OrderMeanings.{shows_in, exports_by, exports_in, place_in};
 ghost use Rattle.desk_words.specs.OrderMeanings.{writing};
-ghost use Rattle.desk_words.specs.OrderMeanings.{drafts_in, meaning_of, meaning_named, telling};
+ghost use Rattle.desk_words.specs.OrderMeanings.{checks_by, checks_in, drafts_in, meaning_of, telling};
 ghost use Rattle.desk_words.specs.OrderMeanings.{lists_titles, lists_sets, lists_twins};
 ghost use Rattle.desk_words.specs.OrderMeanings.{books_in, dumps, places_in};
+ghost use Rattle.desk_words.specs.NamedMeanings.{meaning_named};
 ghost use Rattle.desk_words.specs.Inside.Sorting.{texts_of};
 
 use crate::asked::{Order, OrderFault, Target};
+use crate::change_meanings::change_named;
 use crate::found::{first_given, form, given, is_set, name, number, numbers, path, paths, value};
 use crate::sought_conditions::conditions;
 use clap::ArgMatches;
 use desk_terms::{Condition, Question};
 use std::alloc::Global;
 
-// The commands.
+// The commands that ask, or write a result.
 #[derive(Clone, Copy)]
 pub(crate) enum Verb {
     Find,
@@ -231,6 +233,25 @@ fn check_books(alloc: Global, found: &ArgMatches) -> Result<Order, OrderFault>
     Ok(Order::CheckBooks(books))
 }
 
+// What is checked, by COPY.
+fn check_by(alloc: Global, word: Option<&str>) -> Result<Order, OrderFault>
+    ensures { Gives meaning_by (checks_by (option_map (λ word. word.now) word.entry)) result }
+{
+    match word {
+        None => Ok(Order::Check),
+        Some(word) => {
+            let copy = path(alloc, word)?;
+            Ok(Order::CheckCopy(copy))
+        }
+    }
+}
+
+fn check(alloc: Global, found: &ArgMatches) -> Result<Order, OrderFault>
+    ensures { Gives meaning_by (checks_in (rows_of (found_of found.now))) result }
+{
+    check_by(alloc, value(found, "COPY"))
+}
+
 fn place(alloc: Global, found: &ArgMatches) -> Result<Order, OrderFault>
     ensures { Gives meaning_by (places_in (rows_of (found_of found.now))) result }
 {
@@ -259,7 +280,7 @@ fn order_of(alloc: Global, verb: Verb, found: &ArgMatches, chance: u64) -> Resul
         Verb::Set => told(set(alloc, found)),
         Verb::Twins => told(twins(found)),
         Verb::Show => told(show(alloc, found)),
-        Verb::Check => Ok(Order::Check),
+        Verb::Check => check(alloc, found),
         Verb::Export => export(alloc, found),
         Verb::Dump => dump(alloc, found),
         Verb::ImportCheck => check_books(alloc, found),
@@ -281,6 +302,6 @@ pub(crate) fn order_named(
 {
     match verb_of(name) {
         Some(verb) => order_of(alloc, verb, found, chance),
-        None => Err(OrderFault::Missing),
+        None => change_named(alloc, name, found),
     }
 }

@@ -1,24 +1,37 @@
-use Rattle.std.proofs.Common.{◌≡◌, ap, ◌∙◌, ◌++◌}
+use Rattle.std.proofs.Common.{ap, ◌∙◌, ◌++◌, List}
 use Rattle.std.proofs.lemmas.Result.{IfOk-weaker}
-use Rattle.clap.specs.Words.{App, app_of}
-use Rattle.desk_words.specs.DeskCommands.{desk_app, find_commands, list_commands, other_commands, program_alone, tune_commands, with_commands}
-use Rattle.desk_words.proofs.CommandLemmas.{more_commands}
+use Rattle.clap.specs.Words.{App}
+use Rattle.desk_words.specs.DeskCommands.{change_commands, copy_commands, desk_app, find_commands, list_commands, other_commands, place_commands}
+use Rattle.desk_words.specs.DeskCommands.{program_alone, told_commands, tune_commands, with_commands}
+use Rattle.desk_words.proofs.CommandLemmas.{then_commands}
 use Rattle.desk_words.proofs.desk_commands.command_line.Goals as goal
+
+abbrev to_lists : List App
+to_lists = find_commands ++ list_commands
+
+abbrev to_tunes : List App
+to_tunes = to_lists ++ tune_commands
+
+abbrev to_others : List App
+to_others = to_tunes ++ other_commands
+
+abbrev to_changes : List App
+to_changes = to_others ++ change_commands
+
+abbrev to_places : List App
+to_places = to_changes ++ place_commands
+
+abbrev to_copies : List App
+to_copies = to_places ++ copy_commands
 
 pub returns : goal.returns
 unfolding desk_app
 returns c =
-    let finding = with_commands program_alone find_commands in
-    let listing = with_commands finding list_commands in
-    let finds : app_of c.in_ok-finds.finds ≡ finding =
-    c.in_ok-finds.ensures ∙ ap (λ (app : App). with_commands app find_commands) c.in_ok-program.ensures.app_is in
-    let lists : app_of c.in_ok-lists.lists ≡ listing = c.in_ok-lists.ensures ∙ ap (λ (app : App). with_commands app list_commands) finds in
-    let tunes : app_of c.in_ok-tunes.tunes ≡ with_commands listing tune_commands =
-    c.in_ok-tunes.ensures ∙ ap (λ (app : App). with_commands app tune_commands) lists in
-    let whole : with_commands (app_of c.in_ok-tunes.tunes) other_commands
-    ≡ with_commands program_alone (find_commands ++ (list_commands ++ (tune_commands ++ other_commands))) =
-    ap (λ (app : App). with_commands app other_commands) tunes
-    ∙ more_commands listing tune_commands other_commands
-    ∙ more_commands finding list_commands (tune_commands ++ other_commands)
-    ∙ more_commands program_alone find_commands (list_commands ++ (tune_commands ++ other_commands)) in
-    IfOk-weaker c.with_others.result _ _ (λ all is. is ∙ whole) c.with_others.ensures
+    let finds = c.in_ok-finds.ensures ∙ ap (λ (app : App). with_commands app find_commands) c.in_ok-program.ensures.app_is in
+    let lists = then_commands _ _ program_alone find_commands list_commands finds c.in_ok-lists.ensures in
+    let tunes = then_commands _ _ program_alone to_lists tune_commands lists c.in_ok-tunes.ensures in
+    let others = then_commands _ _ program_alone to_tunes other_commands tunes c.in_ok-others.ensures in
+    let changes = then_commands _ _ program_alone to_others change_commands others c.in_ok-changes.ensures in
+    let places = then_commands _ _ program_alone to_changes place_commands changes c.in_ok-places.ensures in
+    let copies = then_commands _ _ program_alone to_places copy_commands places c.in_ok-copies.ensures in
+    IfOk-weaker c.with_told.result _ _ (λ all adds. then_commands _ all program_alone to_copies told_commands copies adds) c.with_told.ensures
