@@ -11,7 +11,7 @@ ghost use Rattle.desk_changes.specs.Kinds.{kind_of};
 use crate::turning::carry;
 use crate::words::{Unchanged, say_unchanged};
 use desk_scenes::{DONE, open_once};
-use desk_terms::Change;
+use desk_terms::Alteration;
 use std::io::Write;
 use tune_archive::Archive;
 use tune_changes::planned;
@@ -24,7 +24,7 @@ use tune_undo::Kind;
 pub fn alter<E: Write, D: Disk, K: AllocGlobal + Desk<Disk = D>>(
     desk: &mut K,
     file: &String,
-    change: &Change,
+    change: &Alteration,
     errors: &mut E,
 ) -> u8
     ensures files { SparesFiles (places_of (string_bytes file.now) None false)
@@ -43,7 +43,7 @@ pub fn alter<E: Write, D: Disk, K: AllocGlobal + Desk<Disk = D>>(
 fn alter_file<D: Disk, K: AllocGlobal + Desk<Disk = D>>(
     desk: &mut K,
     file: &String,
-    change: &Change,
+    change: &Alteration,
 ) -> Result<(), Unchanged>
     ensures files { SparesFiles (places_of (string_bytes file.now) None false)
         (K.deeds desk.old) (K.deeds desk.new) }
@@ -68,7 +68,7 @@ fn alter_archive<D: Disk, K: AllocGlobal + Desk<Disk = D>>(
     desk: &mut K,
     file: &String,
     archive: &mut Archive<D>,
-    change: &Change,
+    change: &Alteration,
 ) -> Result<(), Unchanged>
     ensures files { SparesFiles (places_of (string_bytes file.now) None false)
         (K.deeds desk.old) (K.deeds desk.new) }
@@ -89,25 +89,29 @@ fn alter_archive<D: Disk, K: AllocGlobal + Desk<Disk = D>>(
     }
 }
 
-fn kind_of(change: &Change) -> Kind
+fn kind_of(change: &Alteration) -> Kind
     ensures { result ≡ kind_of change.now }
 {
     match change {
-        Change::Delete(_) => Kind::Delete,
-        Change::Put { .. } => Kind::Put,
-        Change::Cut { .. } => Kind::Cut,
-        Change::Move { .. } => Kind::Move,
-        Change::Drop(_) => Kind::Drop,
+        Alteration::Delete(_) => Kind::Delete,
+        Alteration::Put { .. } => Kind::Put,
+        Alteration::Cut { .. } => Kind::Cut,
+        Alteration::Move { .. } => Kind::Move,
+        Alteration::Drop(_) => Kind::Drop,
     }
 }
 
 // What a refusal is about.
-fn subject(change: &Change) -> &str {
+fn subject(change: &Alteration) -> &str {
     match change {
-        Change::Delete(_) => "delete",
-        Change::Put { name, numbers: _ } => name.as_str(),
-        Change::Cut { name, places: _ } => name.as_str(),
-        Change::Move { name, place: _, to: _ } => name.as_str(),
-        Change::Drop(name) => name.as_str(),
+        Alteration::Delete(_) => "delete",
+        Alteration::Put { name, numbers: _ } => name.as_str(),
+        Alteration::Cut { name, places: _ } => name.as_str(),
+        Alteration::Move {
+            name,
+            place: _,
+            to: _,
+        } => name.as_str(),
+        Alteration::Drop(name) => name.as_str(),
     }
 }

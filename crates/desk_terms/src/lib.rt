@@ -4,14 +4,14 @@
 #![tactic(auto)]
 
 mod adding;
-mod change;
+mod alteration;
 mod condition;
 mod form;
 mod question;
 mod undoing;
 
 pub use adding::Adding;
-pub use change::Change;
+pub use alteration::Alteration;
 pub use condition::Condition;
 pub use form::Form;
 pub use question::Question;

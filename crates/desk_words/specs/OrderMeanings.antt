@@ -4,8 +4,8 @@ use Rattle.std.specs.Prelude.{Option, Some, None, Result, Ok, Err, codes, map, s
 use Rattle.std.specs.Str.{bytes_eq}
 use Rattle.clap.specs.Words.{Text, Row, first_of}
 use Rattle.desk_terms.specs.declared.adding.Adding.{Adding}
-use Rattle.desk_terms.specs.declared.change.Change.{Change}
-use Rattle.desk_terms.specs.declared.change.Change.TheVariants as change
+use Rattle.desk_terms.specs.declared.alteration.Alteration.{Alteration}
+use Rattle.desk_terms.specs.declared.alteration.Alteration.TheVariants as change
 use Rattle.desk_terms.specs.declared.form.Form.{Form}
 use Rattle.desk_terms.specs.declared.undoing.Undoing.{Undoing}
 use Rattle.desk_terms.specs.declared.question.Question.{Question}
@@ -67,7 +67,7 @@ pub data ChangeMeaning : Type 0 where
   moves : Text → ℕ → ℕ → ChangeMeaning
   drops : Text → ChangeMeaning
 
-abbrev pub change_by : Change → ChangeMeaning
+abbrev pub change_by : Alteration → ChangeMeaning
 change_by (change.Delete numbers) = deletes numbers.items
 change_by (change.Put name numbers) = puts (string_bytes name) numbers.items
 change_by (change.Cut name places) = cuts (string_bytes name) places.items
@@ -105,7 +105,7 @@ meaning_by (order.CheckBooks books) = checks_books (map string_bytes books.items
 meaning_by order.Ask = asks
 meaning_by order.Make = makes
 meaning_by (order.Add books how) = adds (map string_bytes books.items) how
-meaning_by (order.Change changed) = changes (change_by changed)
+meaning_by (order.Alter changed) = changes (change_by changed)
 meaning_by (order.Replace number revision book) = replaces number revision (string_bytes book)
 meaning_by (order.Undo undoing) = undoes undoing
 meaning_by (order.Backup copy keep) = backs_up (string_bytes copy) keep

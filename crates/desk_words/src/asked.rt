@@ -20,7 +20,7 @@ use crate::order_meanings::order_named;
 use crate::sought_conditions::SoughtKind;
 use clap::error::ErrorKind;
 use clap::{ArgMatches, Error};
-use desk_terms::{Adding, Change, Question, Undoing};
+use desk_terms::{Adding, Alteration, Question, Undoing};
 use std::alloc::{AllocError, AllocFailed, Global};
 use std::io;
 
@@ -70,7 +70,7 @@ pub enum Order {
         how: Adding,
     },
     /// Change tunes or a set list.
-    Change(Change),
+    Alter(Alteration),
     /// Put the tune of a book in the place of a tune, if that has this revision, where one is given.
     /// `-` is standard input.
     Replace {

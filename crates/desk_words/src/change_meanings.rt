@@ -16,7 +16,7 @@ use crate::found::{
     first_given, form, given, is_set, name, number, number_of, numbers, path, paths, value,
 };
 use clap::ArgMatches;
-use desk_terms::{Adding, Change, Form, Undoing};
+use desk_terms::{Adding, Alteration, Form, Undoing};
 use std::alloc::Global;
 
 // The commands that change an archive, or make one or a copy of it.
@@ -105,7 +105,7 @@ fn delete(alloc: Global, found: &ArgMatches) -> Result<Order, OrderFault>
 {
     let words = given(alloc, found, "NUM")?;
     let numbers = numbers(alloc, words.as_slice())?;
-    Ok(Order::Change(Change::Delete(numbers)))
+    Ok(Order::Alter(Alteration::Delete(numbers)))
 }
 
 // What is put, by NAME and the words of NUM.
@@ -117,7 +117,7 @@ fn put_by(alloc: Global, word: &str, words: &[&str]) -> Result<Order, OrderFault
         [_, ..] => {
             let name = name(alloc, word)?;
             let numbers = numbers(alloc, words)?;
-            Ok(Order::Change(Change::Put { name, numbers }))
+            Ok(Order::Alter(Alteration::Put { name, numbers }))
         }
     }
 }
@@ -135,7 +135,7 @@ fn cut(alloc: Global, found: &ArgMatches) -> Result<Order, OrderFault>
     let name = name(alloc, first_given(found, "NAME"))?;
     let words = given(alloc, found, "PLACE")?;
     let places = numbers(alloc, words.as_slice())?;
-    Ok(Order::Change(Change::Cut { name, places }))
+    Ok(Order::Alter(Alteration::Cut { name, places }))
 }
 
 fn move_place(alloc: Global, found: &ArgMatches) -> Result<Order, OrderFault>
@@ -144,14 +144,14 @@ fn move_place(alloc: Global, found: &ArgMatches) -> Result<Order, OrderFault>
     let name = name(alloc, first_given(found, "NAME"))?;
     let place = number(alloc, first_given(found, "PLACE"))?;
     let to = number(alloc, first_given(found, "TO"))?;
-    Ok(Order::Change(Change::Move { name, place, to }))
+    Ok(Order::Alter(Alteration::Move { name, place, to }))
 }
 
 fn drop_list(alloc: Global, found: &ArgMatches) -> Result<Order, OrderFault>
     ensures { Gives meaning_by (drops_in (rows_of (found_of found.now))) result }
 {
     let name = name(alloc, first_given(found, "NAME"))?;
-    Ok(Order::Change(Change::Drop(name)))
+    Ok(Order::Alter(Alteration::Drop(name)))
 }
 
 fn replace(alloc: Global, found: &ArgMatches) -> Result<Order, OrderFault>

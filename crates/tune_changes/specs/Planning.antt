@@ -18,8 +18,8 @@ use Rattle.tune_store.specs.declared.command.Refusal.TheVariants.{Unknown, InSet
 use Rattle.tune_store.specs.declared.command.Refusal.TheVariants.{SetsFull, NoSuchSet, NoSuchPlace}
 use Rattle.tune_store.specs.declared.command.Refusal.TheVariants.{Stale, Worn}
 use Rattle.tune_asking.specs.Calls.{Meaning}
-use Rattle.desk_terms.specs.declared.change.Change.{Change}
-use Rattle.desk_terms.specs.declared.change.Change.TheVariants.{Delete, Put, Cut, Move, Drop}
+use Rattle.desk_terms.specs.declared.alteration.Alteration.{Alteration}
+use Rattle.desk_terms.specs.declared.alteration.Alteration.TheVariants.{Delete, Put, Cut, Move, Drop}
 use Rattle.tune_changes.specs.Turns.{numbers_at}
 use Rattle.tune_changes.specs.declared.turns.Turn.{Turn}
 use Rattle.tune_changes.specs.declared.turns.Turn.TheVariants as turn
@@ -123,7 +123,7 @@ set_gone name None = Err NoSuchSet
 set_gone name (Some old) = Ok (turn.Set name (Some old) None)
 
 -- EVERY CHANGE
-abbrev pub planned_by : Change → State → Result (List Turn) Refusal
+abbrev pub planned_by : Alteration → State → Result (List Turn) Refusal
 planned_by (Delete numbers) state = tunes_gone [] numbers.items state
 planned_by (Put name numbers) state = alone (tunes_put (string_bytes name) numbers.items state)
 planned_by (Cut name places) state =

@@ -14,7 +14,7 @@ ghost use Rattle.tune_changes.specs.Inside.Plans.{IsPlannedOrFault, all_gone, ar
 use crate::set_plans::{holders, numbers_put, place_moved, places_cut, set_gone};
 use crate::turns::Turn;
 use abc_fields::TuneText;
-use desk_terms::Change;
+use desk_terms::Alteration;
 use std::alloc::Global;
 use tune_asking::tune_of;
 use tune_sets::SetName;
@@ -32,29 +32,29 @@ use tune_store::{Catalog, GREATEST_REVISION, Refusal, Tune, TuneStore};
 pub fn planned<S: TuneStore + Catalog>(
     alloc: Global,
     store: &mut S,
-    change: &Change,
+    change: &Alteration,
 ) -> Result<Vec<Turn>, Refusal>
     ensures { Call S.TuneStore store.old store.new
         (planned_when (S.Catalog.sets store.old) (planned_by change.now)) result }
 {
     match change {
-        Change::Delete(numbers) => tunes_gone(alloc, store, numbers.as_slice()),
-        Change::Put { name, numbers } => {
+        Alteration::Delete(numbers) => tunes_gone(alloc, store, numbers.as_slice()),
+        Alteration::Put { name, numbers } => {
             tunes_put(alloc, store, name.as_bytes(), numbers.as_slice())
         }
-        Change::Cut { name, places } => {
+        Alteration::Cut { name, places } => {
             alone(
                 alloc,
                 places_cut(alloc, store.sets(), name.as_bytes(), places.as_slice()),
             )
         }
-        Change::Move { name, place, to } => {
+        Alteration::Move { name, place, to } => {
             alone(
                 alloc,
                 place_moved(alloc, store.sets(), name.as_bytes(), *place, *to),
             )
         }
-        Change::Drop(name) => { alone(alloc, set_gone(alloc, store.sets(), name.as_bytes())) }
+        Alteration::Drop(name) => { alone(alloc, set_gone(alloc, store.sets(), name.as_bytes())) }
     }
 }
 

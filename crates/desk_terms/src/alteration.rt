@@ -2,7 +2,7 @@
 
 /// What is to be changed in a store of tunes.
 #[derive(Debug, PartialEq, Eq, Drop)]
-pub enum Change {
+pub enum Alteration {
     /// The tunes of these numbers go.
     Delete(Vec<u32>),
     /// The tunes of these numbers go to the end of the set list of this name, which is made where
