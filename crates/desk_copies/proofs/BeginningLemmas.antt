@@ -2,7 +2,7 @@
 use Rattle.std.proofs.Common.{◌≡◌, ℕ, List, [], ◌∷◌, ◌++◌, Bool, true, false, refl, ap, ◌∙◌, inr, Result, Ok, Err, MatchResult}
 use Rattle.std.proofs.lemmas.List.{append_assoc}
 use Rattle.std.specs.List.{AllByRecursion}
-use Rattle.tune_desk.specs.ArchiveFiles.{FileLeads, IsBegunArchive, MakesArchive, MakesIt, MakesNone, NamesNone, PutsArchive}
+use Rattle.tune_desk.specs.ArchiveFiles.{IsBegunArchive, MakesArchive, MakesIt, MakesNone, NamesNone, PutsArchive}
 use Rattle.tune_desk.specs.BegunResults.{NamesNew, Outcome, naming_of}
 use Rattle.tune_desk.specs.DeskDeeds.{DeskDeed, Answer, ChangesNothing, followed, created, closed, removed}
 use Rattle.tune_desk.specs.Results.{EachAfter, new_of}

@@ -5,8 +5,9 @@ ghost use Rattle.tune_desk.specs.DeskDeeds.{DeskDeed};
 ghost use Rattle.tune_desk.specs.Results.{new_of};
 ghost use Rattle.desk_copies.specs.Inside.Beginnings.{IsFollowed, BeginsFile};
 
-use tune_desk::{BegunResult, Desk, DeskFault, ResultFault, ResultPlace, ResultRefusal};
-use tune_desk::{Standing, finish_result};
+use tune_desk::{
+    BegunResult, Desk, DeskFault, ResultFault, ResultPlace, ResultRefusal, Standing, finish_result,
+};
 use tune_disk::Disk;
 
 /// Begins an archive where FILE leads: makes TARGET.new, as a disk. A file that stands at TARGET is
@@ -132,11 +133,7 @@ pub(crate) fn put_archive<D: Disk, K: Desk<Disk = D>>(
 }
 
 /// Closes the disk of TARGET.new, and takes it away.
-pub(crate) fn leave_archive<D: Disk, K: Desk<Disk = D>>(
-    desk: &mut K,
-    place: &ResultPlace,
-    disk: D,
-)
+pub(crate) fn leave_archive<D: Disk, K: Desk<Disk = D>>(desk: &mut K, place: &ResultPlace, disk: D)
     requires { string_bytes place.now.new ≡ new_of (string_bytes place.now.target) }
     ensures { (file : List ℕ) (was : List (DeskDeed D))
         → IsBegunArchive file (string_bytes place.now.target) was (K.deeds desk.old)

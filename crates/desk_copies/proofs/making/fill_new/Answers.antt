@@ -1,4 +1,4 @@
-use Rattle.std.proofs.Common.{◌≡◌, inl, sym, subst}
+use Rattle.std.proofs.Common.{sym, subst}
 use Rattle.tune_disk.specs.Stops.{LeavesOnly}
 use Rattle.tune_pages.specs.Kept.{HonestAt}
 use Rattle.tune_store.specs.State.{State}
