@@ -1,13 +1,17 @@
 -- Orders that make an archive: one deed after another.
-use Rattle.std.proofs.Common.{◌≡◌, ℕ, List, [], ◌∷◌, ◌++◌, refl, ap, sym, ◌∙◌, subst, Ok}
+use Rattle.std.proofs.Common.{◌≡◌, ℕ, List, [], ◌∷◌, ◌++◌, Bool, true, false, refl, ap, sym, ◌∙◌, subst, inl, inr, Ok, Err, MatchResult}
 use Rattle.std.proofs.lemmas.List.{append_assoc, append-nil}
 use Rattle.std.specs.List.{AllByRecursion}
 use Rattle.tune_disk.specs.declared.file.Access.TheVariants.{Read, Change}
-use Rattle.tune_desk.specs.ArchiveFiles.{MakesArchive, MakesIt, FileLeads, IsHeld, IsPutAside}
-use Rattle.tune_desk.specs.DeskDeeds.{DeskDeed, ChangesNothing, looked, compared, tested, followed, read, listed, made, named, named_over, removed, opened}
+use Rattle.tune_desk.specs.ArchiveFiles.{MakesArchive, MakesIt, FileLeads, IsHeld, IsPutAside, IsBegunArchive, MakesNone, NamesNone}
+use Rattle.tune_desk.specs.BegunResults.{NamesNew, AfterNaming, Outcome, naming_of, refusal_of_removal}
+use Rattle.tune_desk.specs.DeskDeeds.{DeskDeed, Answer, ChangesNothing, looked, compared, tested, followed, read, listed, made, named, named_over, removed, opened}
 use Rattle.tune_desk.specs.DeskDeeds.{closed, grown, created, linked, shared}
-use Rattle.tune_desk.specs.Results.{EachAfter}
-use Rattle.tune_desk.proofs.DeedLists.{covers_rest}
+use Rattle.tune_desk.specs.Results.{EachAfter, Leaves, new_of}
+use Rattle.tune_desk.specs.declared.desk.DeskFault.{DeskFault}
+use Rattle.tune_desk.proofs.BegunLemmas.{own_more, quiet_leaves}
+use Rattle.tune_desk.proofs.DeedLists.{covers_front, covers_rest, All-append}
+use Rattle.tune_desk.proofs.ResultLemmas.{naming_leaves}
 use Rattle.tune_desk.proofs.SpareLemmas.{each_append, each_after, each_of_all, own_after}
 
 -- what changes nothing makes no archive
@@ -101,3 +105,100 @@ makes_one_more file was mid now deed h e fits = record {
   history = e ∙ ap (λ l. l ++ deed ∷ []) h.history ∙ append_assoc was h.since (deed ∷ []);
   each = each_append (MakesIt file) [] h.since (deed ∷ []) h.each (fits, tt);
 }
+
+-- AN ARCHIVE THAT IS BEGUN
+pub quiet_unnamed : {D : Type 0} (deed : DeskDeed D) → ChangesNothing deed → NamesNone deed
+quiet_unnamed (looked path answer) h = tt
+quiet_unnamed (compared path other answer) h = tt
+quiet_unnamed (tested path bytes answer) h = tt
+quiet_unnamed (followed path answer) h = tt
+quiet_unnamed (read path answer) h = tt
+quiet_unnamed (listed path answer) h = tt
+quiet_unnamed (made path bytes answer) h = tt
+quiet_unnamed (named from to answer) h = absurd (cc)
+quiet_unnamed (named_over from to answer) h = absurd (cc)
+quiet_unnamed (removed path answer) h = tt
+quiet_unnamed (opened path access answer) h = tt
+quiet_unnamed (closed path disk) h = tt
+quiet_unnamed (grown path bytes answer) h = tt
+quiet_unnamed (created path answer) h = tt
+quiet_unnamed (linked from to answer) h = tt
+quiet_unnamed (shared path like answer) h = tt
+
+module _ {D : Type 0} (file target : List ℕ) (was mid : List (DeskDeed D)) (h : IsBegunArchive file target was mid) where
+  far : (now more : List (DeskDeed D)) → now ≡ mid ++ more → now ≡ was ++ (h.since ++ more)
+  far now more e = e ∙ ap (λ l. l ++ more) h.history ∙ append_assoc was h.since more
+
+  begun_makes : (now : List (DeskDeed D)) (deed : DeskDeed D) → now ≡ mid ++ deed ∷ [] → MakesIt file h.since deed → MakesArchive file was now
+  begun_makes now deed e fits = record {
+    since = h.since ++ deed ∷ [];
+    history = far now (deed ∷ []) e;
+    each = each_append (MakesIt file) [] h.since (deed ∷ []) h.each (fits, tt);
+  }
+
+  begun_none : (now : List (DeskDeed D)) (deed : DeskDeed D) → now ≡ mid ++ deed ∷ [] → MakesIt file h.since deed → NamesNone deed → MakesNone file was now
+  begun_none now deed e fits none = record {
+    since = h.since ++ deed ∷ [];
+    history = far now (deed ∷ []) e;
+    each = each_append (MakesIt file) [] h.since (deed ∷ []) h.each (fits, tt);
+    unnamed = All-append NamesNone h.since (deed ∷ []) h.unnamed (none, tt);
+  }
+
+  pub archive_then : (now : List (DeskDeed D)) (deed : DeskDeed D) → now ≡ mid ++ deed ∷ [] → MakesIt file h.since deed → NamesNone deed
+      → Leaves (new_of target) deed → IsBegunArchive file target was now
+  archive_then now deed e fits none leaves = record {
+    since = h.since ++ deed ∷ [];
+    history = far now (deed ∷ []) e;
+    each = each_append (MakesIt file) [] h.since (deed ∷ []) h.each (fits, tt);
+    unnamed = All-append NamesNone h.since (deed ∷ []) h.unnamed (none, tt);
+    leads = (covers_front h.since (deed ∷ [])).each (followed file (Ok target)) h.leads;
+    own = own_more (new_of target) h.since (deed ∷ []) h.own (leaves, tt);
+  }
+
+  -- a question, or the closing of a disk
+  pub archive_quiet : (now : List (DeskDeed D)) (deed : DeskDeed D) → now ≡ mid ++ deed ∷ [] → ChangesNothing deed → IsBegunArchive file target was now
+  archive_quiet now deed e quiet =
+      archive_then now deed e (quiet_makes file h.since deed quiet) (quiet_unnamed deed quiet) (quiet_leaves (new_of target) deed quiet)
+
+  pub archive_shared : (now : List (DeskDeed D)) (like : List ℕ) (answer : Answer) → now ≡ mid ++ shared (new_of target) like answer ∷ []
+      → IsBegunArchive file target was now
+  archive_shared now like answer e = archive_then now (shared (new_of target) like answer) e (target, h.leads, refl, h.own) tt tt
+
+  pub archive_removed : (now : List (DeskDeed D)) (answer : Answer) → now ≡ mid ++ removed (new_of target) answer ∷ [] → MakesNone file was now
+  archive_removed now answer e = begun_none now (removed (new_of target) answer) e (target, h.leads, refl, h.own) tt
+
+  naming_makes : (over : Bool) (answer : Answer) → (over ≡ true → IsHeld target h.since × IsPutAside target h.since)
+      → MakesIt file h.since (naming_of target over answer)
+  naming_makes true answer may = let m = may refl in (h.leads, refl, h.own, m.0, m.1)
+  naming_makes false answer may = (h.leads, refl, h.own)
+
+naming_none : (D : Type 0) (target : List ℕ) (over : Bool) (fault : DeskFault) → NamesNone {D = D} (naming_of target over (Err fault))
+naming_none D target true fault = refl
+naming_none D target false fault = refl
+
+-- TARGET.new is named, or taken away
+pub finished_archive : {D : Type 0} (file target : List ℕ) (over : Bool) (was mid now : List (DeskDeed D)) (outcome : Outcome)
+    (h : IsBegunArchive file target was mid) → (over ≡ true → IsHeld target h.since × IsPutAside target h.since)
+    → NamesNew target over outcome mid now
+    → MatchResult outcome (λ _. MakesArchive file was now × (now ≡ mid ++ naming_of target over (Ok tt) ∷ [])) (λ _. MakesNone file was now)
+finished_archive {D} file target over was mid now outcome h may names = by names.answer names.after
+  where
+    Comes : Outcome → Type 0
+    Comes out = MatchResult out (λ _. MakesArchive file was now × (now ≡ mid ++ naming_of target over (Ok tt) ∷ [])) (λ _. MakesNone file was now)
+
+    removed_by : (fault : DeskFault) (answer : Answer) → MakesNone file was now → Comes (refusal_of_removal fault answer)
+    removed_by fault (Ok done) none = none
+    removed_by fault (Err left) none = none
+
+    by : (answer : Answer) → AfterNaming target answer outcome (mid ++ naming_of target over answer ∷ []) now → Comes outcome
+    by (Ok done) after = subst Comes (sym after.0)
+        (begun_makes file target was mid h now (naming_of target over (Ok done)) after.1 (naming_makes file target was mid h over (Ok done) may), after.1)
+    by (Err fault) (inl after) = subst Comes (sym after.1)
+        (begun_none file target was mid h now (naming_of target over (Err fault)) after.2 (naming_makes file target was mid h over (Err fault) may)
+        (naming_none D target over fault))
+    by (Err fault) (inr after) =
+        subst Comes (sym after.1.told) (removed_by fault after.1.answer
+        (archive_removed file target was (mid ++ naming_of target over (Err fault) ∷ [])
+        (archive_then file target was mid h (mid ++ naming_of target over (Err fault) ∷ []) (naming_of target over (Err fault)) refl
+        (naming_makes file target was mid h over (Err fault) may) (naming_none D target over fault) (naming_leaves D target over fault after.0)) now
+        after.1.answer after.1.history))

@@ -87,8 +87,10 @@ module _ {D : Type 0} {some all : List (DeskDeed D)} (more : Covers some all) wh
   cause-more places target NoFolder h = (h.0, h.1, more.each _ h.2)
   cause-more places target (Unasked fault) h = (h.0, h.1, more.each _ h.2)
   cause-more places target OutOfMemory h = tt
-  cause-more places target NewStands h = (h.0, more.each _ h.1)
-  cause-more places target (NotMade fault) h = (h.0, more.each _ h.1)
+  cause-more places target NewStands (inl h) = inl (h.0, more.each _ h.1)
+  cause-more places target NewStands (inr h) = inr (more.each _ h)
+  cause-more places target (NotMade fault) (inl h) = inl (h.0, more.each _ h.1)
+  cause-more places target (NotMade fault) (inr h) = inr (more.each _ h)
   cause-more places target (NotNamed fault) h = ((h.0.0, h.0.1, more.each _ h.0.2), more.each _ h.1)
   cause-more places target (Left fault) h = more.each _ h
   cause-more places target Unkept h = (h.0, h.1, more.each _ h.2)

@@ -1,6 +1,8 @@
 pub mod ArchiveLemmas
 mod AskLemmas
-mod DeedLists
+mod BeginLemmas
+pub mod BegunLemmas
+pub mod DeedLists
 mod NameLemmas
 mod OldTextsLemmas
 mod PutLemmas

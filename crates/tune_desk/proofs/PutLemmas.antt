@@ -2,7 +2,8 @@
 use Rattle.std.proofs.Common.{◌≡◌, ◌≢◌, ℕ, List, [], ◌∷◌, ◌++◌, Bool, refl, ap, ◌∙◌, inl, inr, Ok, Err}
 use Rattle.std.proofs.lemmas.List.{append_assoc}
 use Rattle.tune_desk.specs.DeskDeeds.{DeskDeed, Answer, made, removed}
-use Rattle.tune_desk.specs.Inside.Puts.{PutsIt, AfterMaking, AfterNaming, Outcome, naming_of, refusal_of_making, refusal_of_removal}
+use Rattle.tune_desk.specs.BegunResults.{AfterNaming, Outcome, naming_of, refusal_of_removal}
+use Rattle.tune_desk.specs.Inside.Puts.{PutsIt, AfterMaking, refusal_of_making}
 use Rattle.tune_desk.specs.Results.{new_of}
 use Rattle.tune_desk.specs.declared.desk.DeskFault.{DeskFault}
 use Rattle.tune_desk.specs.declared.desk.DeskFault.TheVariants as desk

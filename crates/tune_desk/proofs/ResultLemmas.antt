@@ -7,7 +7,8 @@ use Rattle.tune_desk.specs.DeskDeeds.{DeskDeed, Answer, ChangesNothing, looked, 
 use Rattle.tune_desk.specs.DeskDeeds.{read, listed, made, named, named_over, removed, opened, closed}
 use Rattle.tune_desk.specs.DeskDeeds.{grown, created, linked, shared}
 use Rattle.tune_desk.specs.Inside.Asks.{MayBeWritten}
-use Rattle.tune_desk.specs.Inside.Puts.{Outcome, WritesTo, naming_of, refusal_of_making, refusal_of_removal}
+use Rattle.tune_desk.specs.BegunResults.{Outcome, naming_of, refusal_of_removal}
+use Rattle.tune_desk.specs.Inside.Puts.{WritesTo, refusal_of_making}
 use Rattle.tune_desk.specs.Refusals.{Refuses, HasCause, DoneBefore, NamesNothing, LeadsNowhere}
 use Rattle.tune_desk.specs.Results.{Places, LeadsTo, KeepsTo, ComesInOrder, EachAfter, SparesFiles, IsOwn, Leaves, Names, Writes, new_of}
 use Rattle.tune_desk.specs.declared.desk.DeskFault.{DeskFault}
@@ -37,17 +38,17 @@ cleared-more places target over front rest h = record {
   };
 }
 
-naming_keeps : {D : Type 0} (places : Places) (target : List ℕ) (over : Bool) (answer : Answer) (before : List (DeskDeed D)) → Cleared places target over before
+pub naming_keeps : {D : Type 0} (places : Places) (target : List ℕ) (over : Bool) (answer : Answer) (before : List (DeskDeed D)) → Cleared places target over before
     → KeepsTo places before (naming_of target over answer)
 naming_keeps places target true answer before h = (h.leads, refl)
 naming_keeps places target false answer before h = (h.leads, refl)
 
-naming_comes : {D : Type 0} (places : Places) (target : List ℕ) (over : Bool) (answer : Answer) (before : List (DeskDeed D)) → Cleared places target over before
+pub naming_comes : {D : Type 0} (places : Places) (target : List ℕ) (over : Bool) (answer : Answer) (before : List (DeskDeed D)) → Cleared places target over before
     → IsOwn (new_of target) before → ComesInOrder places before (naming_of target over answer)
 naming_comes places target true answer before h own = (own, h.may.spares, h.may.replaces refl)
 naming_comes places target false answer before h own = (own, h.may.spares)
 
-naming_leaves : (D : Type 0) (target : List ℕ) (over : Bool) (fault : DeskFault) → fault ≢ desk.Unkept
+pub naming_leaves : (D : Type 0) (target : List ℕ) (over : Bool) (fault : DeskFault) → fault ≢ desk.Unkept
     → Leaves {D = D} (new_of target) (naming_of target over (Err fault))
 naming_leaves D target true fault h = h
 naming_leaves D target false fault h = h
@@ -170,13 +171,13 @@ quiet_done Unkept deed h = tt
 module _ (D : Type 0) (places : Places) (target : List ℕ) (over : Bool) (bytes : List ℕ) where
   made_story : (fault : DeskFault) → AllByRecursion (DoneBefore {D = D} (refusal_of_making fault)) (made (new_of target) bytes (Err fault) ∷ [])
       × HasCause {D = D} places target (refusal_of_making fault) (made (new_of target) bytes (Err fault) ∷ [])
-  made_story desk.Taken = ((tt, tt), (bytes, first_of_one _ []))
-  made_story desk.Missing = ((tt, tt), (bytes, first_of_one _ []))
-  made_story desk.NotFile = ((tt, tt), (bytes, first_of_one _ []))
-  made_story desk.Busy = ((tt, tt), (bytes, first_of_one _ []))
-  made_story desk.Unkept = ((tt, tt), (bytes, first_of_one _ []))
-  made_story desk.OutOfMemory = ((tt, tt), (bytes, first_of_one _ []))
-  made_story desk.Device = ((tt, tt), (bytes, first_of_one _ []))
+  made_story desk.Taken = ((tt, tt), inl (bytes, first_of_one _ []))
+  made_story desk.Missing = ((tt, tt), inl (bytes, first_of_one _ []))
+  made_story desk.NotFile = ((tt, tt), inl (bytes, first_of_one _ []))
+  made_story desk.Busy = ((tt, tt), inl (bytes, first_of_one _ []))
+  made_story desk.Unkept = ((tt, tt), inl (bytes, first_of_one _ []))
+  made_story desk.OutOfMemory = ((tt, tt), inl (bytes, first_of_one _ []))
+  made_story desk.Device = ((tt, tt), inl (bytes, first_of_one _ []))
 
   second : (a b : DeskDeed D) (more : List (DeskDeed D)) → Contains (a ∷ b ∷ more) b
   second a b more = (covers_rest (a ∷ []) (b ∷ more)).each b (first_of_one b more)
@@ -219,10 +220,10 @@ module _ {D : Type 0} (places : Places) (target : List ℕ) (out : List ℕ) (wa
   leads_at : (rest : List (DeskDeed D)) → LeadsTo places target (followed out (Ok target) ∷ rest)
   leads_at rest = record { out = out; asked = asked_out; answered = first_of_one (followed out (Ok target)) rest }
 
-  history_of : (rest : List (DeskDeed D)) → now ≡ mid ++ rest → now ≡ was ++ followed out (Ok target) ∷ rest
+  pub history_of : (rest : List (DeskDeed D)) → now ≡ mid ++ rest → now ≡ was ++ followed out (Ok target) ∷ rest
   history_of rest k = k ∙ ap (λ l. l ++ rest) e ∙ append_assoc was (followed out (Ok target) ∷ []) rest
 
-  quiet_spares : (rest : List (DeskDeed D)) → now ≡ mid ++ rest → AllByRecursion ChangesNothing rest → SparesFiles places was now
+  pub quiet_spares : (rest : List (DeskDeed D)) → now ≡ mid ++ rest → AllByRecursion ChangesNothing rest → SparesFiles places was now
   quiet_spares rest k quiet = record {
     since = followed out (Ok target) ∷ rest;
     history = history_of rest k;
@@ -238,7 +239,7 @@ module _ {D : Type 0} (places : Places) (target : List ℕ) (out : List ℕ) (wa
     );
   }
 
-  cleared_at : (over : Bool) (rest : List (DeskDeed D)) → MayBeWritten places target over rest → Cleared places target over (followed out (Ok target) ∷ rest)
+  pub cleared_at : (over : Bool) (rest : List (DeskDeed D)) → MayBeWritten places target over rest → Cleared places target over (followed out (Ok target) ∷ rest)
   cleared_at over rest may = record {
     leads = leads_at rest;
     may = record {
@@ -269,7 +270,7 @@ module _ {D : Type 0} (places : Places) (target : List ℕ) (out : List ℕ) (wa
     );
   }
 
-  asked_history : (asked deeds between : List (DeskDeed D)) → between ≡ mid ++ asked → now ≡ between ++ deeds → now ≡ mid ++ (asked ++ deeds)
+  pub asked_history : (asked deeds between : List (DeskDeed D)) → between ≡ mid ++ asked → now ≡ between ++ deeds → now ≡ mid ++ (asked ++ deeds)
   asked_history asked deeds between k l = l ∙ ap (λ x. x ++ deeds) k ∙ append_assoc mid asked deeds
 
   pub spares_result : (bytes : List ℕ) (outcome : Outcome) → WritesTo places target bytes outcome mid now → SparesFiles places was now
@@ -302,7 +303,7 @@ module _ {D : Type 0} (places : Places) (target : List ℕ) (out : List ℕ) (wa
       let done = done_of target h.over bytes outcome h.mid now h.puts in
       written_by h.over bytes outcome h.asks.since done.0 is (asked_history h.asks.since done.0 h.mid h.asks.history done.1) h.asks.changes_nothing done.2
 
-  refused_quiet : (fault : ResultFault) (rest : List (DeskDeed D)) → MatchOption fault.target ⊥ (λ name. string_bytes name ≡ target) → now ≡ mid ++ rest
+  pub refused_quiet : (fault : ResultFault) (rest : List (DeskDeed D)) → MatchOption fault.target ⊥ (λ name. string_bytes name ≡ target) → now ≡ mid ++ rest
       → AllByRecursion ChangesNothing rest → HasCause places target fault.why rest → Refuses places fault was now
   refused_quiet fault rest same k quiet cause = record {
     since = followed out (Ok target) ∷ rest;
@@ -313,7 +314,7 @@ module _ {D : Type 0} (places : Places) (target : List ℕ) (out : List ℕ) (wa
         (leads_at rest, cause-more (covers_rest (followed out (Ok target) ∷ []) rest) places target fault.why cause);
   }
 
-  refused_by : (fault : ResultFault) (asked deeds : List (DeskDeed D)) → MatchOption fault.target ⊥ (λ name. string_bytes name ≡ target)
+  pub refused_by : (fault : ResultFault) (asked deeds : List (DeskDeed D)) → MatchOption fault.target ⊥ (λ name. string_bytes name ≡ target)
       → now ≡ mid ++ (asked ++ deeds)
       → AllByRecursion ChangesNothing asked → AllByRecursion (DoneBefore fault.why) deeds → HasCause places target fault.why deeds
       → Refuses places fault was now

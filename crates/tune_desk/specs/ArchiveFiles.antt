@@ -1,11 +1,12 @@
 -- THE THEOREM ON FILES of the orders that put an archive where FILE leads: a new one, where nothing
 -- stands, or a copy, in the place of what stands there. Of the deeds of one call, each is judged by
 -- those that came before it.
-use Rattle.std.specs.Prelude.{◌≡◌, ◌≢◌, ℕ, List, [], ◌∷◌, ◌++◌, Ok}
+use Rattle.std.specs.Prelude.{◌≡◌, ◌≢◌, ℕ, Bool, List, [], ◌∷◌, ◌++◌, Ok, IsErr}
+use Rattle.tune_desk.specs.BegunResults.{naming_of}
 use Rattle.std.specs.List.{AllByRecursion, Contains}
 use Rattle.tune_disk.specs.declared.file.Access.TheVariants.{Change}
 use Rattle.tune_desk.specs.DeskDeeds.{DeskDeed, followed, made, named, named_over, removed, opened}
-use Rattle.tune_desk.specs.DeskDeeds.{closed, grown, created, linked, shared}
+use Rattle.tune_desk.specs.DeskDeeds.{closed, grown, created, linked, shared, ChangesNothing}
 use Rattle.tune_desk.specs.KeptNames.{IsNumbered}
 use Rattle.tune_desk.specs.Results.{EachAfter, IsOwn, Leaves, new_of}
 
@@ -66,3 +67,40 @@ pub record MakesArchive {D : Type 0} (file : List ℕ) (was now : List (DeskDeed
   pub since : List (DeskDeed D)
   pub history : now ≡ was ++ since
   pub each : EachAfter (MakesIt file) [] since
+
+-- A deed gave no file a name that the device kept.
+abbrev pub NamesNone : {D : Type 0} → DeskDeed D → Type 0
+NamesNone (named from to answer) = IsErr answer
+NamesNone (named_over from to answer) = IsErr answer
+NamesNone deed = Unit {0}
+
+-- TARGET.new was made where FILE leads, and is the order's own, and no file got a name. What was
+-- done so far makes an archive, or none.
+pub record IsBegunArchive {D : Type 0} (file target : List ℕ) (was now : List (DeskDeed D)) : Type 0
+  where
+    pub since : List (DeskDeed D)
+    pub history : now ≡ was ++ since
+    pub each : EachAfter (MakesIt file) [] since
+    pub unnamed : AllByRecursion NamesNone since
+    pub leads : FileLeads file target since
+    pub own : IsOwn (new_of target) since
+
+-- An archive was put where FILE leads: TARGET.new was made, closed as this disk, and named TARGET.
+-- After that nothing was changed.
+pub record PutsArchive {D : Type 0} (file : List ℕ) (disk : D) (was now : List (DeskDeed D))
+    : Type 0 where
+  pub target : List ℕ
+  pub over : Bool
+  pub mid : List (DeskDeed D)
+  pub rest : List (DeskDeed D)
+  pub begun : IsBegunArchive file target was mid
+  pub history : now
+      ≡ mid ++ closed (new_of target) disk ∷ naming_of target over (Ok tt) ∷ rest
+  pub quiet : AllByRecursion ChangesNothing rest
+
+-- No archive was put where FILE leads.
+pub record MakesNone {D : Type 0} (file : List ℕ) (was now : List (DeskDeed D)) : Type 0 where
+  pub since : List (DeskDeed D)
+  pub history : now ≡ was ++ since
+  pub each : EachAfter (MakesIt file) [] since
+  pub unnamed : AllByRecursion NamesNone since

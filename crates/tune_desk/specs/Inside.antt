@@ -1,3 +1,4 @@
 pub mod Asks
+pub mod Begins
 pub mod Growths
 pub mod Puts

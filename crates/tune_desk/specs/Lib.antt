@@ -1,4 +1,5 @@
 pub mod ArchiveFiles
+pub mod BegunResults
 pub mod DeskDeeds
 pub mod DeskLog
 pub mod Inside

@@ -3,7 +3,7 @@ use Rattle.std.specs.Prelude.{◌≡◌, ◌≢◌, ◌⊎◌, ℕ, true, false,
 use Rattle.std.specs.Prelude.{Option, Some, None, Ok, Err, IsErr, MatchOption, string_bytes}
 use Rattle.std.specs.List.{AllByRecursion, Contains}
 use Rattle.tune_desk.specs.DeskDeeds.{DeskDeed, Answer, looked, compared, tested, followed, made}
-use Rattle.tune_desk.specs.DeskDeeds.{named}
+use Rattle.tune_desk.specs.DeskDeeds.{named, created}
 use Rattle.tune_desk.specs.DeskDeeds.{named_over, removed, ChangesNothing}
 use Rattle.tune_desk.specs.KeptNames.{folder_of, IsNamesake, IsKeptName}
 use Rattle.tune_desk.specs.Results.{Places, LeadsTo, Names, new_of, archive_head}
@@ -42,11 +42,13 @@ pub record IsBeside {D : Type 0} (HasName : List ℕ → List ℕ → Type 0) (p
 abbrev pub HasFault : {D : Type 0} → DeskFault → List (DeskDeed D) → Type 0
 HasFault {D} fault since = (deed : DeskDeed D) × (fault_of deed ≡ Some fault) × Contains since deed
 
--- TARGET.new was to be made, and to be named TARGET; and this was the answer.
-abbrev pub WasMade : {D : Type 0} → List ℕ → Answer → List (DeskDeed D) → Type 0
-WasMade target answer since =
-    (bytes : List ℕ) × Contains since (made (new_of target) bytes answer)
+-- TARGET.new was to be made, of bytes or as a disk, and this was the fault.
+abbrev pub WasUnmade : {D : Type 0} → List ℕ → DeskFault → List (DeskDeed D) → Type 0
+WasUnmade target fault since =
+    ((bytes : List ℕ) × Contains since (made (new_of target) bytes (Err fault)))
+    ⊎ Contains since (created (new_of target) (Err fault))
 
+-- It was to be named TARGET, and this was the answer.
 abbrev pub WasNamed : {D : Type 0} → List ℕ → Answer → List (DeskDeed D) → Type 0
 WasNamed {D} target answer since =
     (naming : DeskDeed D) × Names target answer naming × Contains since naming
@@ -67,8 +69,8 @@ HasCause places target NoFolder since = (found : Standing) × (found ≢ standin
     × Contains since (looked (folder_of target) (Ok found))
 HasCause places target (Unasked fault) since = HasFault fault since
 HasCause places target OutOfMemory since = Unit {0}
-HasCause places target NewStands since = WasMade target (Err desk.Taken) since
-HasCause places target (NotMade fault) since = WasMade target (Err fault) since
+HasCause places target NewStands since = WasUnmade target desk.Taken since
+HasCause places target (NotMade fault) since = WasUnmade target fault since
 HasCause places target (NotNamed fault) since = WasNamed target (Err fault) since
     × Contains since (removed (new_of target) (Ok tt))
 HasCause places target (Left fault) since =

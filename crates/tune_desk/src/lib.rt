@@ -2,6 +2,7 @@
 //! rule by which a result is written to a file.
 #![tactic(auto)]
 
+mod begun_results;
 mod desk;
 mod desk_log;
 mod kept_names;
@@ -11,6 +12,7 @@ mod refusals;
 mod result_checks;
 mod results;
 
+pub use begun_results::{BegunResult, ResultPlace, begin_result, finish_result};
 pub use desk::{Desk, DeskFault, Standing};
 pub use desk_log::DeskLog;
 pub use old_texts::{OldTextsFault, grow_old_texts};

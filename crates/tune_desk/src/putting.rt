@@ -1,6 +1,7 @@
 // A result is put in its place: made beside it, and then named.
 ghost use Rattle.std.specs.Prelude.{◌≡◌, string_bytes};
-ghost use Rattle.tune_desk.specs.Inside.Puts.{PutsIt, NamesNew, TakesAway};
+ghost use Rattle.tune_desk.specs.BegunResults.{NamesNew, TakesAway};
+ghost use Rattle.tune_desk.specs.Inside.Puts.{PutsIt};
 ghost use Rattle.tune_desk.specs.Results.{new_of};
 
 use crate::{Desk, DeskFault, ResultRefusal};
@@ -26,7 +27,7 @@ pub(crate) fn put<K: Desk>(
 }
 
 // Names TARGET.new, or else takes it away.
-fn name_new<K: Desk>(
+pub(crate) fn name_new<K: Desk>(
     desk: &mut K,
     new: &String,
     target: &String,

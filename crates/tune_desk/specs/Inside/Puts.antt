@@ -1,7 +1,7 @@
 -- What is done to put a result in its place.
-use Rattle.std.specs.Prelude.{◌≡◌, ◌≢◌, ◌⊎◌, ℕ, Bool, true, false, List, [], ◌∷◌, ◌++◌}
-use Rattle.std.specs.Prelude.{Result, Ok, Err}
-use Rattle.tune_desk.specs.DeskDeeds.{DeskDeed, Answer, made, named, named_over, removed}
+use Rattle.std.specs.Prelude.{◌≡◌, ◌⊎◌, ℕ, Bool, List, [], ◌∷◌, ◌++◌, Ok, Err}
+use Rattle.tune_desk.specs.BegunResults.{NamesNew, Outcome}
+use Rattle.tune_desk.specs.DeskDeeds.{DeskDeed, Answer, made}
 use Rattle.tune_desk.specs.Inside.Asks.{Asks, MayBeWritten}
 use Rattle.tune_desk.specs.Refusals.{HasCause}
 use Rattle.tune_desk.specs.Results.{Places, new_of}
@@ -9,44 +9,12 @@ use Rattle.tune_desk.specs.declared.desk.DeskFault.{DeskFault}
 use Rattle.tune_desk.specs.declared.desk.DeskFault.TheVariants as desk
 use Rattle.tune_desk.specs.declared.refusals.ResultRefusal.{ResultRefusal}
 use Rattle.tune_desk.specs.declared.refusals.ResultRefusal.TheVariants.{NewStands, NotMade}
-use Rattle.tune_desk.specs.declared.refusals.ResultRefusal.TheVariants.{NotNamed, Left, Unkept}
 
 -- what is to be put: where, whether over what stands there, and which bytes
 pub record Putting : Type 0 where
   pub target : List ℕ
   pub over : Bool
   pub bytes : List ℕ
-
-abbrev pub naming_of : {D : Type 0} → List ℕ → Bool → Answer → DeskDeed D
-naming_of target true answer = named_over (new_of target) target answer
-naming_of target false answer = named (new_of target) target answer
-
-abbrev pub Outcome : Type 0
-Outcome = Result (Unit {0}) ResultRefusal
-
--- TARGET.new was not named, and is taken away
-abbrev pub refusal_of_removal : DeskFault → Answer → Outcome
-refusal_of_removal fault (Ok done) = Err (NotNamed fault)
-refusal_of_removal fault (Err left) = Err (Left left)
-
-pub record TakesAway {D : Type 0} (path : List ℕ) (fault : DeskFault) (outcome : Outcome)
-    (was now : List (DeskDeed D)) : Type 0 where
-  pub answer : Answer
-  pub history : now ≡ was ++ removed path answer ∷ []
-  pub told : outcome ≡ refusal_of_removal fault answer
-
--- TARGET.new is named: with this answer, and what comes of it
-abbrev pub AfterNaming : {D : Type 0} → List ℕ → Answer → Outcome → List (DeskDeed D)
-    → List (DeskDeed D) → Type 0
-AfterNaming target (Ok done) outcome was now = (outcome ≡ Ok tt) × (now ≡ was)
-AfterNaming target (Err fault) outcome was now =
-    ((fault ≡ desk.Unkept) × (outcome ≡ Err Unkept) × (now ≡ was))
-    ⊎ ((fault ≢ desk.Unkept) × TakesAway (new_of target) fault outcome was now)
-
-pub record NamesNew {D : Type 0} (target : List ℕ) (over : Bool) (outcome : Outcome)
-    (was now : List (DeskDeed D)) : Type 0 where
-  pub answer : Answer
-  pub after : AfterNaming target answer outcome (was ++ naming_of target over answer ∷ []) now
 
 -- TARGET.new is made, and then named
 abbrev pub refusal_of_making : DeskFault → ResultRefusal

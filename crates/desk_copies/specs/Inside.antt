@@ -1,0 +1,4 @@
+pub mod Asked
+pub mod Beginnings
+pub mod Checks
+pub mod Holding
