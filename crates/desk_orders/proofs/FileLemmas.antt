@@ -15,7 +15,10 @@ use Rattle.desk_words.specs.declared.asked.Target.{Target}
 use Rattle.desk_scenes.specs.FileAnswers.{Did, IsVisited, IsAsked, IsUnasked}
 use Rattle.desk_scenes.specs.Scenes.{Scene, IsQuiet}
 use Rattle.desk_orders.specs.Orders.{CarriesOut, Tells, WritesAnswer, DeliversRead, Drafts, WritesDraft, PlacesInput, RunsOnce, RunsOnFile}
-use Rattle.desk_orders.specs.Orders.{IsRefused, files_of, places_to}
+use Rattle.tune_desk.specs.ArchiveFiles.{MakesArchive, MakesNone}
+use Rattle.desk_copies.specs.Made.{MakesEmpty}
+use Rattle.desk_copies.specs.Restored.{Restores}
+use Rattle.desk_orders.specs.Orders.{IsRefused, KeepsFiles, files_of, places_to}
 use Rattle.desk_scenes.specs.Visits.{Visits, Mends, Comes, ComesToNothing, visit, failed_visit, spared, failed}
 use Rattle.desk_scenes.proofs.FileLemmas.{asked_spares, unasked_spares, spares_since, quiet_spares}
 
@@ -40,7 +43,7 @@ delivered file target bytes scene (inl (dash, same, written)) =
     subst (SparesFiles (places_to file target) scene.was) (sym same) (spares_none (places_to file target) scene.was)
 delivered file target bytes scene (inr (other, nothing, result)) = result.spares
 
-writes_spares : {D : Type 0} (disks : disk.Ghosts D) (file : List ℕ) (Told : State → List ℕ → Type 0) (target : Target) (scene : Scene D)
+pub writes_spares : {D : Type 0} (disks : disk.Ghosts D) (file : List ℕ) (Told : State → List ℕ → Type 0) (target : Target) (scene : Scene D)
     → WritesAnswer disks file Told target scene → SparesFiles (places_to file target) scene.was scene.now
 writes_spares disks file Told target scene (inl (bytes, mid, did, delivers)) =
     let places = places_to file target in
@@ -54,7 +57,7 @@ drafted file out tune scene (inl written) = written.result.spares
 drafted file out tune scene (inr (same, silent, status)) =
     subst (SparesFiles (places_of file (Some out) false) scene.was) (sym same) (spares_none (places_of file (Some out) false) scene.was)
 
-drafts_spares : {D : Type 0} (disks : disk.Ghosts D) (file : List ℕ) (number : ℕ) (out : List ℕ) (scene : Scene D)
+pub drafts_spares : {D : Type 0} (disks : disk.Ghosts D) (file : List ℕ) (number : ℕ) (out : List ℕ) (scene : Scene D)
     → Drafts disks file number out scene → SparesFiles (places_of file (Some out) false) scene.was scene.now
 drafts_spares disks file number out scene (inl (tune, mid, did, writes)) =
     let places = places_of file (Some out) false in
@@ -63,23 +66,40 @@ drafts_spares disks file number out scene (inl (tune, mid, did, writes)) =
 drafts_spares disks file number out scene (inr refused) =
     unasked_spares disks (places_of file (Some out) false) scene.was scene.now refused.0
 
-places_spares : {D : Type 0} (file : List ℕ) (target : Target) (scene : Scene D) → PlacesInput file target scene
+pub places_spares : {D : Type 0} (file : List ℕ) (target : Target) (scene : Scene D) → PlacesInput file target scene
     → SparesFiles (places_to file target) scene.was scene.now
 places_spares file target scene (inl (bytes, reads, delivers)) = delivered file target bytes scene delivers
 places_spares file target scene (inr (same, nothing, status)) =
     subst (SparesFiles (places_to file target) scene.was) (sym same) (spares_none (places_to file target) scene.was)
 
-pub order_spares : {D : Type 0} (disks : disk.Ghosts D) (file : List ℕ) (asked : Order) (scene : Scene D) → CarriesOut disks file asked scene
-    → SparesFiles (files_of file asked) scene.was scene.now
-order_spares disks file (order.Tell question) scene h = tells_spares disks (places_of file None false) _ scene h
-order_spares disks file (order.Write question target) scene h = writes_spares disks file _ target scene h
-order_spares disks file order.Check scene h = tells_spares disks (places_of file None false) _ scene h
-order_spares disks file (order.Draft number out) scene h = drafts_spares disks file number (string_bytes out) scene h
-order_spares disks file (order.Place target) scene h = places_spares file target scene h
-order_spares disks file (order.CheckBooks books) scene h = quiet_spares disks (places_of file None false) scene.was scene.now h.0
-order_spares disks file order.Ask scene h = runs_spares disks (places_of file None false) scene h
+-- FILES, BY ORDER
+-- where the order is known to be this one
+pub kept_by : {D : Type 0} (file : List ℕ) (asked by : Order) (was now : List (DeskDeed D)) → asked ≡ by → KeepsFiles file by was now
+    → KeepsFiles file asked was now
+kept_by file asked by was now e h = subst (λ o. KeepsFiles file o was now) (sym e) h
 
--- the same where the order is known to be this one
-pub order_is : {D : Type 0} (disks : disk.Ghosts D) (file : List ℕ) (asked by : Order) (scene : Scene D) → asked ≡ by → CarriesOut disks file by scene
-    → SparesFiles (files_of file asked) scene.was scene.now
-order_is disks file asked by scene e h = subst (λ o. SparesFiles (files_of file o) scene.was scene.now) (sym e) (order_spares disks file by scene h)
+pub told_keeps : {D : Type 0} (disks : disk.Ghosts D) (file : List ℕ) (Told : State → List ℕ → Type 0) (scene : Scene D) → Tells disks file Told scene
+    → SparesFiles (places_of file None false) scene.was scene.now
+told_keeps disks file Told scene h = tells_spares disks (places_of file None false) Told scene h
+
+pub asked_keeps : {D : Type 0} (disks : disk.Ghosts D) (file : List ℕ) (scene : Scene D) → RunsOnFile disks file scene
+    → SparesFiles (places_of file None false) scene.was scene.now
+asked_keeps disks file scene h = runs_spares disks (places_of file None false) scene h
+
+-- an archive was put where FILE leads, or none
+pub none_keeps : {D : Type 0} (file : List ℕ) (was now : List (DeskDeed D)) → MakesNone file was now → MakesArchive file was now
+none_keeps file was now h = record { since = h.since; history = h.history; each = h.each }
+
+pub empty_keeps : {D : Type 0} (disks : disk.Ghosts D) (file : List ℕ) (was now : List (DeskDeed D)) (status : ℕ) → MakesEmpty disks file was now status
+    → MakesArchive file was now
+empty_keeps disks file was now status (inl made) = made.1.makes
+empty_keeps disks file was now status (inr none) = none_keeps file was now none.1
+
+pub restored_keeps : {D : Type 0} (disks : disk.Ghosts D) (file copy : List ℕ) (scene : Scene D) → Restores disks file copy scene
+    → MakesArchive file scene.was scene.now
+restored_keeps disks file copy scene (inl restored) = restored.1.makes
+restored_keeps disks file copy scene (inr none) = none_keeps file scene.was scene.now none.0
+
+-- nothing was done
+pub left_keeps : {D : Type 0} (file : List ℕ) (was : List (DeskDeed D)) → SparesFiles (places_of file None false) was was
+left_keeps file was = spares_none (places_of file None false) was

@@ -14,11 +14,18 @@ use Rattle.tune_cli.specs.FileActs.{RunsOn}
 use Rattle.tune_cli.specs.ProgramLines.{counts_bytes}
 use Rattle.tune_cli.specs.declared.file_actions.Done.{Done}
 use Rattle.tune_desk.specs.DeskDeeds.{DeskDeed, opened, closed, ChangesNothing}
+use Rattle.tune_desk.specs.ArchiveFiles.{MakesArchive}
 use Rattle.tune_desk.specs.Results.{Places, places_of, SparesFiles, Writes}
 use Rattle.tune_desk.specs.Refusals.{Refuses}
 use Rattle.tune_desk.specs.declared.desk.DeskFault.{DeskFault}
 use Rattle.tune_desk.specs.declared.refusals.ResultFault.{ResultFault}
 use Rattle.desk_questions.specs.Told.{told}
+use Rattle.desk_terms.specs.declared.alteration.Alteration.{Alteration}
+use Rattle.tune_changes.specs.Planning.{planned_by}
+use Rattle.desk_changes.specs.ChangedFiles.{ChangesFile}
+use Rattle.desk_changes.specs.Kinds.{kind_of}
+use Rattle.desk_copies.specs.Made.{MakesEmpty}
+use Rattle.desk_copies.specs.Restored.{Restores}
 use Rattle.desk_words.specs.declared.asked.Order.{Order}
 use Rattle.desk_words.specs.declared.asked.Order.TheVariants as order
 use Rattle.desk_words.specs.declared.asked.Target.{Target}
@@ -144,6 +151,26 @@ files_of file (order.Draft number out) = places_of file (Some (string_bytes out)
 files_of file (order.Place target) = places_to file target
 files_of file order = places_of file None false
 
+-- WHAT AN ORDER MAY DO WITH FILES: one that puts an archive where FILE leads makes it there; every
+-- other one spares files.
+abbrev pub KeepsFiles : {D : Type 0} → List ℕ → Order → List (DeskDeed D) → List (DeskDeed D)
+    → Type 0
+KeepsFiles file order.Make was now = MakesArchive file was now
+KeepsFiles file (order.Restore copy force) was now = MakesArchive file was now
+KeepsFiles file other was now = SparesFiles (files_of file other) was now
+
+-- CHANGES
+-- The turns that a change means, of the state that FILE held, were brought about; or the status
+-- says that they were not.
+abbrev pub AltersFile : {D : Type 0} → disk.Ghosts D → List ℕ → Alteration → Scene D → Type 0
+AltersFile disks file change scene = IsSilent scene.streams
+    × ChangesFile disks file (kind_of change) (λ state turns. planned_by change state ≡ Ok turns)
+    scene.was scene.now scene.status
+
+-- An order that the script carries out: nothing was done, and the status says so.
+abbrev pub IsLeft : {D : Type 0} → Scene D → Type 0
+IsLeft scene = (scene.now ≡ scene.was) × (IsSilent scene.streams × (scene.status ≢ 0))
+
 -- THE THEOREM OF THE FRONT END: what an order does with FILE, with other files, with standard
 -- input and output, and its status.
 abbrev pub CarriesOut : {D : Type 0} → disk.Ghosts D → List ℕ → Order → Scene D → Type 0
@@ -158,3 +185,9 @@ CarriesOut disks file (order.Draft number out) scene =
 CarriesOut disks file (order.Place target) scene = PlacesInput file target scene
 CarriesOut disks file (order.CheckBooks books) scene = ChecksBooks books.items scene
 CarriesOut disks file order.Ask scene = RunsOnFile disks file scene
+CarriesOut disks file order.Make scene =
+    IsSilent scene.streams × MakesEmpty disks file scene.was scene.now scene.status
+CarriesOut disks file (order.Restore copy force) scene =
+    Restores disks file (string_bytes copy) scene
+CarriesOut disks file (order.Alter change) scene = AltersFile disks file change scene
+CarriesOut disks file other scene = IsLeft scene

@@ -1,20 +1,21 @@
 // What is done for an order.
-ghost use Rattle.std.specs.Prelude.{◌≡◌, Ok, string_bytes};
+ghost use Rattle.std.specs.Prelude.{◌≡◌, ◌≢◌, Ok, string_bytes};
 ghost use Rattle.tune_cli.specs.ProgramLines.{counts_bytes};
 ghost use Rattle.tune_scripts.specs.Streams.{streams_in};
-ghost use Rattle.tune_desk.specs.Results.{SparesFiles};
 ghost use Rattle.desk_questions.specs.Told.{told};
 ghost use Rattle.desk_orders.specs.Orders.{CarriesOut, Tells, WritesAnswer, Drafts, PlacesInput};
 ghost use Rattle.desk_scenes.specs.Scenes.{Scene};
-ghost use Rattle.desk_orders.specs.Orders.{RunsOnce, RunsOnFile, files_of};
+ghost use Rattle.desk_orders.specs.Orders.{RunsOnce, RunsOnFile, KeepsFiles};
 
 use crate::books::check_books;
 use crate::deliveries::deliver;
 use crate::drafts::write_draft;
 use crate::file_questions::{ask_counts, ask_question, ask_tune};
+use desk_changes::alter;
+use desk_copies::{make, restore};
 use desk_scenes::{
-    REFUSED, Unopened, bring_to_rest, print, print_counts, read_input, say, say_unanswered,
-    say_unopened,
+    BAD_WORDS, REFUSED, Unopened, bring_to_rest, print, print_counts, read_input, say,
+    say_unanswered, say_unopened,
 };
 use desk_terms::Question;
 use desk_words::{Order, Target};
@@ -36,7 +37,7 @@ pub fn carry_out<C: Console, E: Write, D: Disk, K: AllocGlobal + Desk<Disk = D>>
     console: &mut C,
     errors: &mut E,
 ) -> u8
-    ensures files { SparesFiles (files_of (string_bytes file.now) order.now)
+    ensures files { KeepsFiles (string_bytes file.now) order.now
         (K.deeds desk.old) (K.deeds desk.new) }
     ensures does { CarriesOut D.Disk (string_bytes file.now) order.now (record {
       streams = streams_in C.Console console.old console.new;
@@ -53,7 +54,33 @@ pub fn carry_out<C: Console, E: Write, D: Disk, K: AllocGlobal + Desk<Disk = D>>
         Order::Place(target) => place(desk, file, target, console, errors),
         Order::CheckBooks(paths) => check_books(desk, paths.as_slice(), console, errors),
         Order::Ask => ask(desk, file, console, errors),
+        Order::Make => make(desk, file, errors),
+        Order::Restore { copy, force } => restore(desk, file, copy, *force, console, errors),
+        Order::Alter(change) => alter(desk, file, change, errors),
+        Order::CheckCopy(_) => leave(errors),
+        Order::Add { books: _, how: _ } => leave(errors),
+        Order::Replace {
+            number: _,
+            revision: _,
+            book: _,
+        } => leave(errors),
+        Order::Undo(_) => leave(errors),
+        Order::Backup { copy: _, keep: _ } => leave(errors),
+        Order::Load(_) => leave(errors),
+        Order::Upgrade => leave(errors),
     }
+}
+
+// Says that the script carries this order out.
+fn leave<E: Write>(errors: &mut E) -> u8
+    ensures { result ≢ 0 }
+{
+    say(
+        errors,
+        "this command",
+        "it is carried out by the script; call `tunes-book`",
+    );
+    BAD_WORDS
 }
 
 // Prints what FILE tells to a question.

@@ -1,58 +1,73 @@
-use Rattle.std.proofs.Common.{string_bytes, subst, sym}
-use Rattle.std.specs.Prelude.{None, false}
+use Rattle.std.proofs.Common.{◌≡◌, string_bytes, refl}
+use Rattle.std.specs.Prelude.{Ok, None, false}
+use Rattle.tune_cli.specs.ProgramLines.{counts_bytes}
 use Rattle.tune_scripts.specs.Streams.{streams_in}
-use Rattle.tune_desk.specs.Results.{SparesFiles, places_of}
+use Rattle.tune_desk.specs.Results.{places_of}
+use Rattle.desk_questions.specs.Told.{told}
 use Rattle.desk_words.specs.declared.asked.Order.TheVariants as order
-use Rattle.desk_orders.specs.Orders.{files_of}
-use Rattle.desk_orders.proofs.FileLemmas.{order_is}
 use Rattle.desk_scenes.proofs.FileLemmas.{quiet_spares}
+use Rattle.desk_orders.proofs.FileLemmas.{kept_by, told_keeps, asked_keeps, empty_keeps, restored_keeps, writes_spares, drafts_spares, places_spares}
 use Rattle.desk_orders.proofs.orders.carry_out.Goals as goal
 
 pub returns-in-Tell-clause-files : goal.returns-in-Tell-clause-files
-returns-in-Tell-clause-files g c = order_is g.D.Disk (string_bytes c.args.file.now) c.args.order.now (order.Tell c.in-Tell.question) (record {
+returns-in-Tell-clause-files g c = kept_by (string_bytes c.args.file.now) c.args.order.now (order.Tell c.in-Tell.question) (g.K.Desk.deeds c.args.desk.now) (g.K.Desk.deeds c.tell.new.desk) c.in-Tell.is
+    (told_keeps g.D.Disk (string_bytes c.args.file.now) (λ state bytes. told c.in-Tell.question state ≡ Ok bytes) (record {
   streams = streams_in g.C.Console c.args.console.now c.tell.new.console;
   was = g.K.Desk.deeds c.args.desk.now;
   now = g.K.Desk.deeds c.tell.new.desk;
   status = c.tell.result;
-}) c.in-Tell.is c.tell.ensures
+}) c.tell.ensures)
 
 pub returns-in-Write-clause-files : goal.returns-in-Write-clause-files
-returns-in-Write-clause-files g c =
-    order_is g.D.Disk (string_bytes c.args.file.now) c.args.order.now (order.Write c.in-Write.question c.in-Write.target) (record {
-      streams = streams_in g.C.Console c.args.console.now c.write.new.console;
-      was = g.K.Desk.deeds c.args.desk.now;
-      now = g.K.Desk.deeds c.write.new.desk;
-      status = c.write.result;
-    }) c.in-Write.is c.write.ensures
+returns-in-Write-clause-files g c = kept_by (string_bytes c.args.file.now) c.args.order.now (order.Write c.in-Write.question c.in-Write.target) (g.K.Desk.deeds c.args.desk.now) (g.K.Desk.deeds c.write.new.desk) c.in-Write.is
+    (writes_spares g.D.Disk (string_bytes c.args.file.now) (λ state bytes. told c.in-Write.question state ≡ Ok bytes) c.in-Write.target (record {
+  streams = streams_in g.C.Console c.args.console.now c.write.new.console;
+  was = g.K.Desk.deeds c.args.desk.now;
+  now = g.K.Desk.deeds c.write.new.desk;
+  status = c.write.result;
+}) c.write.ensures)
 
 pub returns-in-Check-clause-files : goal.returns-in-Check-clause-files
-returns-in-Check-clause-files g c = order_is g.D.Disk (string_bytes c.args.file.now) c.args.order.now (order.Check) (record {
+returns-in-Check-clause-files g c = kept_by (string_bytes c.args.file.now) c.args.order.now order.Check (g.K.Desk.deeds c.args.desk.now) (g.K.Desk.deeds c.check.new.desk) c.in-Check.is
+    (told_keeps g.D.Disk (string_bytes c.args.file.now) (λ state bytes. bytes ≡ counts_bytes state) (record {
   streams = streams_in g.C.Console c.args.console.now c.check.new.console;
   was = g.K.Desk.deeds c.args.desk.now;
   now = g.K.Desk.deeds c.check.new.desk;
   status = c.check.result;
-}) c.in-Check.is c.check.ensures
+}) c.check.ensures)
 
 pub returns-in-Draft-clause-files : goal.returns-in-Draft-clause-files
-returns-in-Draft-clause-files g c = order_is g.D.Disk (string_bytes c.args.file.now) c.args.order.now (order.Draft c.in-Draft.number c.in-Draft.out) (record {
+returns-in-Draft-clause-files g c = kept_by (string_bytes c.args.file.now) c.args.order.now (order.Draft c.in-Draft.number c.in-Draft.out) (g.K.Desk.deeds c.args.desk.now) (g.K.Desk.deeds c.draft.new.desk) c.in-Draft.is
+    (drafts_spares g.D.Disk (string_bytes c.args.file.now) c.in-Draft.number (string_bytes c.in-Draft.out) (record {
   streams = streams_in g.C.Console c.args.console.now c.draft.new.console;
   was = g.K.Desk.deeds c.args.desk.now;
   now = g.K.Desk.deeds c.draft.new.desk;
   status = c.draft.result;
-}) c.in-Draft.is c.draft.ensures
+}) c.draft.ensures)
 
 pub returns-in-Ask-clause-files : goal.returns-in-Ask-clause-files
-returns-in-Ask-clause-files g c = order_is g.D.Disk (string_bytes c.args.file.now) c.args.order.now (order.Ask) (record {
+returns-in-Ask-clause-files g c = kept_by (string_bytes c.args.file.now) c.args.order.now order.Ask (g.K.Desk.deeds c.args.desk.now) (g.K.Desk.deeds c.ask.new.desk) c.in-Ask.is
+    (asked_keeps g.D.Disk (string_bytes c.args.file.now) (record {
   streams = streams_in g.C.Console c.args.console.now c.ask.new.console;
   was = g.K.Desk.deeds c.args.desk.now;
   now = g.K.Desk.deeds c.ask.new.desk;
   status = c.ask.result;
-}) c.in-Ask.is c.ask.ensures
+}) c.ask.ensures)
 
 pub returns-in-CheckBooks-clause-files : goal.returns-in-CheckBooks-clause-files
-returns-in-CheckBooks-clause-files g c =
-    let file = string_bytes c.args.file.now in
-    let was = g.K.Desk.deeds c.args.desk.now in
-    let now = g.K.Desk.deeds c.check_books.new.desk in
-    subst (λ o. SparesFiles (files_of file o) was now) (sym c.in-CheckBooks.is)
-    (quiet_spares g.D.Disk (places_of file None false) was now c.check_books.ensures.quiet)
+returns-in-CheckBooks-clause-files g c = kept_by (string_bytes c.args.file.now) c.args.order.now (order.CheckBooks c.in-CheckBooks.paths) (g.K.Desk.deeds c.args.desk.now) (g.K.Desk.deeds c.check_books.new.desk) c.in-CheckBooks.is
+    (quiet_spares g.D.Disk (places_of (string_bytes c.args.file.now) None false) _ _ c.check_books.ensures.quiet)
+
+pub returns-in-Make-clause-files : goal.returns-in-Make-clause-files
+returns-in-Make-clause-files g c = kept_by (string_bytes c.args.file.now) c.args.order.now order.Make (g.K.Desk.deeds c.args.desk.now) (g.K.Desk.deeds c.make.new.desk) c.in-Make.is
+    (empty_keeps g.D.Disk (string_bytes c.args.file.now) _ _ c.make.result c.make.ensures)
+
+pub returns-in-Restore-clause-files : goal.returns-in-Restore-clause-files
+returns-in-Restore-clause-files g c = kept_by (string_bytes c.args.file.now) c.args.order.now (order.Restore c.in-Restore.copy c.in-Restore.force) (g.K.Desk.deeds c.args.desk.now) (g.K.Desk.deeds c.restore.new.desk) c.in-Restore.is
+    (restored_keeps g.D.Disk (string_bytes c.args.file.now) (string_bytes c.in-Restore.copy) (record {
+  streams = streams_in g.C.Console c.args.console.now c.restore.new.console;
+  was = g.K.Desk.deeds c.args.desk.now;
+  now = g.K.Desk.deeds c.restore.new.desk;
+  status = c.restore.result;
+}) c.restore.ensures)
+
