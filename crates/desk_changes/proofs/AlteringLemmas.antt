@@ -14,11 +14,11 @@ use Rattle.tune_desk.specs.Results.{SparesFiles, IsReading, places_of}
 use Rattle.tune_desk.proofs.SpareLemmas.{spares_one_more, spares_both, spares_none}
 use Rattle.tune_store.specs.State.{State}
 use Rattle.tune_store.specs.declared.command.Refusal.{Refusal}
-use Rattle.tune_undo.specs.declared.entries.Kind.{Kind}
+use Rattle.tune_undo.specs.declared.old_entries.EntryKind.{EntryKind}
 use Rattle.desk_scenes.specs.FileAnswers.{Did}
 use Rattle.desk_scenes.specs.OpenedFile.{Opens}
 use Rattle.desk_scenes.specs.Visits.{Visits}
-use Rattle.desk_changes.specs.ChangedFiles.{Course, BringsAbout, ChangesBy, ChangesFile, LeavesAll, IsHeld}
+use Rattle.desk_changes.specs.ChangedFiles.{Passage, BringsAbout, ChangesBy, LeavesAll, IsChangedWithin}
 use Rattle.desk_changes.specs.Inside.Turning.{Turns, Alters, AltersFile}
 
 -- nothing was kept
@@ -26,7 +26,7 @@ pub grows_none : {D : Type 0} (file : List ℕ) (was : List (DeskDeed D)) → Gr
 grows_none file was =
     record { asked = []; tried = []; history = sym (append-nil was); changes_nothing = tt; failed = inl refl }
 
-module _ {D : Type 0} (disks : disk.Ghosts D) (file : List ℕ) (kind : Kind) (Means : State → List Turn → Type 0) where
+module _ {D : Type 0} (disks : disk.Ghosts D) (file : List ℕ) (kind : EntryKind) (Means : State → List Turn → Type 0) where
   -- a look that was refused
   pub look_refused : {A : Type 0} (start finish : Shelf D) (was : List (DeskDeed D)) (why : A) → IsOnlyAsked (store_on disks) start finish
       → Alters disks file kind Means (Err why) (record { start = start; finish = finish; was = was; now = was })
@@ -46,9 +46,9 @@ module _ {D : Type 0} (disks : disk.Ghosts D) (file : List ℕ) (kind : Kind) (M
       inr (refusal, record { turns = turns; mid = mid; looked = asked; means = means; brings = brings })
 
   -- FILE around it
-  pub held : (Does : Course D → Type 0) (start finish : Shelf D) (was began ended now : List (DeskDeed D)) (new : D)
+  pub held : (Does : Passage D → Type 0) (start finish : Shelf D) (was began ended now : List (DeskDeed D)) (new : D)
       → Opens disks file Change start was began → finish.pages.disk ≡ Some new → now ≡ ended ++ closed file new ∷ []
-      → Does (record { start = start; finish = finish; was = began; now = ended }) → IsHeld disks file Does was now
+      → Does (record { start = start; finish = finish; was = began; now = ended }) → IsChangedWithin disks file Does was now
   held Does start finish was began ended now new opens became close does = record {
     old = opens.old;
     new = new;
@@ -70,16 +70,6 @@ module _ {D : Type 0} (disks : disk.Ghosts D) (file : List ℕ) (kind : Kind) (M
       inr (inl (held (LeavesAll disks file) start finish was began ended now new opens became close left))
   alters_file start finish was began ended now new (Err why) opens became close (inr (refusal, changes)) =
       inr (inr (refusal, held (ChangesBy disks file kind Means (Err refusal)) start finish was began ended now new opens became close changes))
-
-  -- and the status
-  pub changes_file : {A : Type 0} (was now : List (DeskDeed D)) (result : Result (Unit {0}) A) (status : ℕ)
-      → AltersFile disks file kind Means result was now
-      → ((result ≡ Ok tt) × (status ≡ 0)) ⊎ (((why : A) × (result ≡ Err why)) × (status ≢ 0))
-      → ChangesFile disks file kind Means was now status
-  changes_file was now (Ok done) status alters (inl ends) = inl (ends.1, alters)
-  changes_file was now (Err why) status alters (inr ends) = inr (ends.1, alters)
-  changes_file was now (Ok done) status alters (inr ends) = absurd (let e = ends.0.1 in cc)
-  changes_file was now (Err why) status alters (inl ends) = absurd (let e = ends.0 in cc)
 
 -- FILES
 -- opening FILE to change, and closing it, spares files

@@ -12,7 +12,7 @@ use Rattle.tune_store.specs.declared.command.Refusal.{Refusal}
 use Rattle.tune_desk.specs.DeskDeeds.{DeskDeed}
 use Rattle.tune_desk.specs.Results.{SparesFiles, places_of}
 use Rattle.tune_desk.proofs.SpareLemmas.{spares_both, spares_none}
-use Rattle.desk_changes.specs.ChangedFiles.{Course}
+use Rattle.desk_changes.specs.ChangedFiles.{Passage}
 use Rattle.desk_changes.specs.Works.{Works, WorksBeside}
 
 module _ {D : Type 0} (disks : disk.Ghosts D) where
@@ -46,7 +46,7 @@ module _ {D : Type 0} (disks : disk.Ghosts D) where
 
   module _ (file : List ℕ) where
     -- a course of these ends
-    abbrev pub course_of : Shelf D → Shelf D → List (DeskDeed D) → List (DeskDeed D) → Course D
+    abbrev pub course_of : Shelf D → Shelf D → List (DeskDeed D) → List (DeskDeed D) → Passage D
     course_of start finish was now = record { start = start; finish = finish; was = was; now = now }
 
     pub beside_none : (here : Shelf D) (was : List (DeskDeed D)) → WorksBeside disks file (course_of here here was was)

@@ -4,11 +4,11 @@ use Rattle.sha2.specs.Sha256.{sha256}
 use Rattle.tune_changes.specs.declared.turns.Turn.{Turn}
 use Rattle.tune_changes.specs.declared.turns.Turn.TheVariants as turn
 use Rattle.tune_undo.specs.Entries.{EntryValue}
-use Rattle.tune_undo.specs.declared.entries.After.{After}
-use Rattle.tune_undo.specs.declared.entries.After.TheVariants.{Nothing, Text}
-use Rattle.tune_undo.specs.declared.entries.Kind.{Kind}
-use Rattle.tune_undo.specs.declared.entries.Part.{Part}
-use Rattle.tune_undo.specs.declared.entries.Part.TheVariants.{Tune, Set}
+use Rattle.tune_undo.specs.declared.old_entries.After.{After}
+use Rattle.tune_undo.specs.declared.old_entries.After.TheVariants.{Nothing, Text}
+use Rattle.tune_undo.specs.declared.old_entries.EntryKind.{EntryKind}
+use Rattle.tune_undo.specs.declared.old_entries.Part.{Part}
+use Rattle.tune_undo.specs.declared.old_entries.Part.TheVariants.{Tune, Set}
 
 -- a text that is to be, by its sum
 abbrev pub after_of : Option (List ℕ) → After
@@ -19,5 +19,5 @@ abbrev pub part_of : Turn → Part
 part_of (turn.Tune number was is) = Tune number was (after_of is)
 part_of (turn.Set name was is) = Set name was is
 
-abbrev pub entry_of : Kind → List Turn → EntryValue
+abbrev pub entry_of : EntryKind → List Turn → EntryValue
 entry_of kind turns = record { kind = kind; parts = map part_of turns }

@@ -6,13 +6,13 @@ use Rattle.tune_disk.specs.declared.disk.Disk as disk
 use Rattle.tune_disk.specs.declared.file.Access.TheVariants.{Change}
 use Rattle.tune_changes.specs.declared.turns.Aim.{Aim}
 use Rattle.tune_changes.specs.declared.turns.Aim.TheVariants as aim
-use Rattle.tune_undo.specs.declared.entries.Part.{Part}
-use Rattle.tune_undo.specs.declared.entries.Part.TheVariants.{Tune, Set}
+use Rattle.tune_undo.specs.declared.old_entries.Part.{Part}
+use Rattle.tune_undo.specs.declared.old_entries.Part.TheVariants.{Tune, Set}
 use Rattle.tune_desk.specs.DeskDeeds.{DeskDeed}
 use Rattle.desk_scenes.specs.FileAnswers.{Did}
 use Rattle.desk_scenes.specs.Scenes.{IsQuiet}
 use Rattle.desk_scenes.specs.Visits.{Visits}
-use Rattle.desk_changes.specs.ChangedFiles.{IsHeld}
+use Rattle.desk_changes.specs.ChangedFiles.{IsChangedWithin}
 use Rattle.desk_changes.specs.Works.{WorksBeside}
 
 -- each tune and set list to what it was
@@ -28,7 +28,7 @@ aims_by parts = map aim_by parts
 abbrev pub UndoesFile : {D : Type 0} → disk.Ghosts D → List ℕ → List (DeskDeed D)
     → List (DeskDeed D) → Type 0
 UndoesFile disks file was now = Did was now (Visits disks file Change)
-    ⊎ IsHeld disks file (WorksBeside disks file) was now
+    ⊎ IsChangedWithin disks file (WorksBeside disks file) was now
 
 -- Changes are listed, and nothing is done with files but to read; or they are taken back.
 abbrev pub Undoes : {D : Type 0} → disk.Ghosts D → List ℕ → Undoing → List (DeskDeed D)

@@ -6,7 +6,7 @@ use Rattle.tune_scripts.specs.Carried.{Carried, CarriesOut}
 use Rattle.tune_archive.specs.AsStore.{store_on}
 use Rattle.tune_archive.specs.Shelf.{Shelf}
 use Rattle.tune_desk.specs.Results.{SparesFiles, places_of}
-use Rattle.desk_changes.specs.ChangedFiles.{Course}
+use Rattle.desk_changes.specs.ChangedFiles.{Passage}
 
 -- The archive became another one by commands of the store, one after another, each by one call.
 pub record Works {D : Type 0} (disks : disk.Ghosts D) (start finish : Shelf D) : Type 0 where
@@ -18,7 +18,7 @@ pub record Works {D : Type 0} (disks : disk.Ghosts D) (start finish : Shelf D) :
       → (carried : List (Carried (Shelf D))) × CarriesOut (store_on disks) start carried finish
 
 -- And beside FILE the book of old texts grew at most.
-pub record WorksBeside {D : Type 0} (disks : disk.Ghosts D) (file : List ℕ) (course : Course D)
+pub record WorksBeside {D : Type 0} (disks : disk.Ghosts D) (file : List ℕ) (course : Passage D)
     : Type 0 where
   pub works : Works disks course.start course.finish
   pub spares : SparesFiles (places_of file None false) course.was course.now

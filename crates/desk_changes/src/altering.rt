@@ -17,7 +17,7 @@ use tune_archive::Archive;
 use tune_changes::planned;
 use tune_desk::Desk;
 use tune_disk::{Access, Disk};
-use tune_undo::Kind;
+use tune_undo::EntryKind;
 
 /// Changes what FILE holds, and gives the status: 0 done; 1 refused, or a device failed; 3 no
 /// archive, or a damaged one. What is wrong is said to `errors`.
@@ -30,8 +30,11 @@ pub fn alter<E: Write, D: Disk, K: AllocGlobal + Desk<Disk = D>>(
     ensures files { SparesFiles (places_of (string_bytes file.now) None false)
         (K.deeds desk.old) (K.deeds desk.new) }
     ensures changes { ChangesFile D.Disk (string_bytes file.now) (kind_of change.now)
-        (λ state turns. planned_by change.now state ≡ Ok turns)
-        (K.deeds desk.old) (K.deeds desk.new) result }
+        (λ state turns. planned_by change.now state ≡ Ok turns) (record {
+          was = K.deeds desk.old;
+          now = K.deeds desk.new;
+          status = result;
+        }) }
 {
     let done = alter_file(desk, file, change);
     match done {
@@ -89,15 +92,15 @@ fn alter_archive<D: Disk, K: AllocGlobal + Desk<Disk = D>>(
     }
 }
 
-fn kind_of(change: &Alteration) -> Kind
+fn kind_of(change: &Alteration) -> EntryKind
     ensures { result ≡ kind_of change.now }
 {
     match change {
-        Alteration::Delete(_) => Kind::Delete,
-        Alteration::Put { .. } => Kind::Put,
-        Alteration::Cut { .. } => Kind::Cut,
-        Alteration::Move { .. } => Kind::Move,
-        Alteration::Drop(_) => Kind::Drop,
+        Alteration::Delete(_) => EntryKind::Delete,
+        Alteration::Put { .. } => EntryKind::Put,
+        Alteration::Cut { .. } => EntryKind::Cut,
+        Alteration::Move { .. } => EntryKind::Move,
+        Alteration::Drop(_) => EntryKind::Drop,
     }
 }
 

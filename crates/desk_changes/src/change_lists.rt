@@ -7,7 +7,7 @@ use std::alloc::{AllocError, Global};
 use std::io::Write;
 use tune_desk::Desk;
 use tune_scripts::Console;
-use tune_undo::{Entry, Kind, Part, Step};
+use tune_undo::{Entry, EntryKind, Part, Step};
 
 /// Lists the changes that can be taken back, the last one first, and gives the status. FILE itself
 /// is not opened.
@@ -17,8 +17,7 @@ pub(crate) fn list_changes<C: Console, E: Write, K: AllocGlobal + Desk>(
     form: Form,
     console: &mut C,
     errors: &mut E,
-) -> u8
-{
+) -> u8 {
     match change_list(desk, file, form) {
         Ok(bytes) => print(console, errors, bytes.as_slice()),
         Err(why) => say_not_undone(errors, file.as_str(), &why),
@@ -29,8 +28,7 @@ fn change_list<K: AllocGlobal + Desk>(
     desk: &mut K,
     file: &String,
     form: Form,
-) -> Result<Vec<u8>, NotUndone>
-{
+) -> Result<Vec<u8>, NotUndone> {
     let changes = match read_changes(desk, file) {
         Ok(changes) => changes,
         Err(NotUndone::NoBook) => Vec::new(desk.alloc()),
@@ -65,7 +63,12 @@ fn list_bytes(alloc: Global, changes: &[Step], form: Form) -> Result<Vec<u8>, Al
 }
 
 // The row of a change, whose entries these are.
-fn put_row(bytes: &mut Vec<u8>, number: u64, changes: &[Step], form: Form) -> Result<(), AllocError> {
+fn put_row(
+    bytes: &mut Vec<u8>,
+    number: u64,
+    changes: &[Step],
+    form: Form,
+) -> Result<(), AllocError> {
     let (before, between, after): (&[u8], &[u8], &[u8]) = match form {
         Form::Rows => (b" ", b" ", b"\n"),
         Form::Csv => (b",", b",", b"\n"),
@@ -87,14 +90,14 @@ fn put_row(bytes: &mut Vec<u8>, number: u64, changes: &[Step], form: Form) -> Re
 fn kind_of(changes: &[Step]) -> &'static str {
     match changes.first() {
         Some(change) => match change.entry.kind {
-            Kind::Delete => "delete",
-            Kind::Replace => "replace",
-            Kind::Put => "put",
-            Kind::Cut => "cut",
-            Kind::Move => "move",
-            Kind::Drop => "drop",
-            Kind::Add | Kind::AddMore => "add",
-            Kind::Kept => "kept",
+            EntryKind::Delete => "delete",
+            EntryKind::Replace => "replace",
+            EntryKind::Put => "put",
+            EntryKind::Cut => "cut",
+            EntryKind::Move => "move",
+            EntryKind::Drop => "drop",
+            EntryKind::Add | EntryKind::AddMore => "add",
+            EntryKind::Kept => "kept",
         },
         None => "",
     }

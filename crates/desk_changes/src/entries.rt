@@ -6,10 +6,10 @@ ghost use Rattle.desk_changes.specs.EntriesOfTurns.{entry_of, part_of};
 use std::alloc::{AllocError, Global};
 use tune_changes::Turn;
 use tune_sets::NumberList;
-use tune_undo::{After, Entry, Kind, Part, Sum};
+use tune_undo::{After, Entry, EntryKind, Part, Sum};
 
 /// The entry of these turns. The error is out of memory.
-pub(crate) fn entry_of(alloc: Global, kind: Kind, turns: &[Turn]) -> Result<Entry, AllocError>
+pub(crate) fn entry_of(alloc: Global, kind: EntryKind, turns: &[Turn]) -> Result<Entry, AllocError>
     ensures { IfOk result (λ entry. entry_value entry ≡ entry_of kind turns.now) }
 {
     let mut parts = Vec::with_capacity(alloc, turns.len())?;

@@ -13,7 +13,7 @@ use tune_desk::Desk;
 use tune_disk::{Access, Disk};
 use tune_scripts::Console;
 use tune_store::{Layout, Refusal};
-use tune_undo::Kind;
+use tune_undo::EntryKind;
 
 /// The tune that is replaced, and by which revision it is known, if by one.
 pub struct Replaced {
@@ -30,8 +30,7 @@ pub fn replace<C: Console, E: Write, D: Disk, K: AllocGlobal + Desk<Disk = D>>(
     book: &String,
     console: &mut C,
     errors: &mut E,
-) -> u8
-{
+) -> u8 {
     match text_of(desk, book, console, errors) {
         Some(text) => replace_by(desk, file, replaced, text, console, errors),
         None => REFUSED,
@@ -44,8 +43,7 @@ fn text_of<C: Console, E: Write, K: AllocGlobal + Desk>(
     path: &String,
     console: &mut C,
     errors: &mut E,
-) -> Option<TuneText>
-{
+) -> Option<TuneText> {
     let book = book_of(desk, path, console, errors)?;
     match told_book(desk.alloc(), book.as_slice(), Layout::Two.longest_text()) {
         Ok(told) => {
@@ -67,8 +65,7 @@ fn book_of<C: Console, E: Write, K: AllocGlobal + Desk>(
     path: &String,
     console: &mut C,
     errors: &mut E,
-) -> Option<ByteText>
-{
+) -> Option<ByteText> {
     if path.as_str() == "-" {
         return match read_input(desk.alloc(), console) {
             Some(bytes) => Some(ByteText::from_vec(bytes)),
@@ -134,13 +131,16 @@ fn replace_by<C: Console, E: Write, D: Disk, K: AllocGlobal + Desk<Disk = D>>(
     text: TuneText,
     console: &mut C,
     errors: &mut E,
-) -> u8
-{
+) -> u8 {
     match replace_in_file(desk, file, replaced, text) {
         Ok(revision) => match told_line(desk.alloc(), replaced.number, revision) {
             Ok(line) => print(console, errors, line.as_slice()),
             Err(_) => {
-                say(errors, "replace", "it is done, but there is not memory enough to tell it");
+                say(
+                    errors,
+                    "replace",
+                    "it is done, but there is not memory enough to tell it",
+                );
                 REFUSED
             }
         },
@@ -159,8 +159,7 @@ fn replace_in_file<D: Disk, K: AllocGlobal + Desk<Disk = D>>(
     file: &String,
     replaced: &Replaced,
     text: TuneText,
-) -> Result<u16, Unchanged>
-{
+) -> Result<u16, Unchanged> {
     match open_once(desk, file, Access::Change) {
         Err(why) => Err(Unchanged::Unopened(why)),
         Ok(mut archive) => {
@@ -177,11 +176,10 @@ fn replace_in_archive<D: Disk, K: AllocGlobal + Desk<Disk = D>>(
     archive: &mut Archive<D>,
     replaced: &Replaced,
     text: TuneText,
-) -> Result<u16, Unchanged>
-{
+) -> Result<u16, Unchanged> {
     let Replaced { number, revision } = *replaced;
     match planned_replace(desk.alloc(), archive, number, revision, text) {
-        Ok(turns) => carry(desk, file, archive, Kind::Replace, turns.as_slice())?,
+        Ok(turns) => carry(desk, file, archive, EntryKind::Replace, turns.as_slice())?,
         Err(refusal) => return Err(Unchanged::Refused(refusal)),
     }
     match tune_of(archive, number) {

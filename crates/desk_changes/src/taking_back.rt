@@ -19,7 +19,7 @@ use tune_desk::{Desk, DeskFault};
 use tune_disk::{Access, Disk};
 use tune_scripts::Console;
 use tune_store::{Command, TuneStore};
-use tune_undo::{Entry, Kind, Mark, Part, Step, make_ready, standing_steps};
+use tune_undo::{Entry, EntryKind, Mark, Part, Step, make_ready, standing_steps};
 
 /// Takes the last changes of FILE back, or lists those that can be, and gives the status. What was
 /// taken back is printed.
@@ -107,7 +107,10 @@ fn undo_in_archive<D: Disk, K: AllocGlobal + Desk<Disk = D>>(
 }
 
 // The entries of the book of old texts that are not undone.
-pub(crate) fn read_changes<K: AllocGlobal + Desk>(desk: &mut K, file: &String) -> Result<Vec<Step>, NotUndone>
+pub(crate) fn read_changes<K: AllocGlobal + Desk>(
+    desk: &mut K,
+    file: &String,
+) -> Result<Vec<Step>, NotUndone>
     ensures { IsQuiet (K.deeds desk.old) (K.deeds desk.new) }
 {
     let Ok(old) = format!(in desk.alloc(); "{file}.old.abc") else {
@@ -162,7 +165,7 @@ pub(crate) fn first_of(changes: &[Step]) -> usize {
     let mut first = changes.len();
     for _ in 0..changes.len() {
         first -= 1;
-        if changes[first].entry.kind != Kind::AddMore {
+        if changes[first].entry.kind != EntryKind::AddMore {
             return first;
         }
     }

@@ -11,14 +11,14 @@ use tune_changes::{Turn, bring_about};
 use tune_desk::Desk;
 use tune_disk::Disk;
 use tune_store::Refusal;
-use tune_undo::Kind;
+use tune_undo::EntryKind;
 
 /// Keeps an entry of these turns, and brings them about.
 pub(crate) fn carry<D: Disk, K: AllocGlobal + Desk<Disk = D>>(
     desk: &mut K,
     file: &String,
     archive: &mut Archive<D>,
-    kind: Kind,
+    kind: EntryKind,
     turns: &[Turn],
 ) -> Result<(), Unchanged>
     ensures files { SparesFiles (places_of (string_bytes file.now) None false)

@@ -11,7 +11,7 @@ use tune_asking::tune_of;
 use tune_changes::Aim;
 use tune_sets::NumberList;
 use tune_store::{Catalog, Refusal, Tune, TuneStore};
-use tune_undo::{After, Entry, Kind, Part};
+use tune_undo::{After, Entry, EntryKind, Part};
 
 /// A tune that came back without its number, and this number.
 #[derive(Clone, Copy, Debug, PartialEq, Eq)]
@@ -96,7 +96,10 @@ pub(crate) fn taken_by<S: TuneStore>(
             }
         }
     }
-    Ok(Entry { kind: Kind::Kept, parts })
+    Ok(Entry {
+        kind: EntryKind::Kept,
+        parts,
+    })
 }
 
 fn is_text(was: &Option<TuneText>, text: &[u8]) -> bool {
@@ -151,7 +154,12 @@ fn stray_at<S: TuneStore>(
 
 fn has_number(entry: &Entry, other: u32) -> bool {
     for part in entry.parts.as_slice() {
-        if let Part::Tune { number, was: _, is: _ } = part {
+        if let Part::Tune {
+            number,
+            was: _,
+            is: _,
+        } = part
+        {
             if *number == other {
                 return true;
             }
@@ -169,8 +177,8 @@ pub(crate) fn tell_undone<S: TuneStore>(
     ensures { IsOnlyAsked S.TuneStore store.old store.new }
 {
     match entry.kind {
-        Kind::Add | Kind::AddMore => tell_added(entry, told)?,
-        Kind::Replace => tell_replaced(store, entry, told)?,
+        EntryKind::Add | EntryKind::AddMore => tell_added(entry, told)?,
+        EntryKind::Replace => tell_replaced(store, entry, told)?,
         _ => tell_parts(entry, told)?,
     }
     Ok(())
@@ -178,7 +186,10 @@ pub(crate) fn tell_undone<S: TuneStore>(
 
 // The tunes that were added, and are out again.
 fn tell_added(entry: &Entry, told: &mut Vec<u8>) -> Result<(), AllocError> {
-    match (entry.parts.as_slice().first(), entry.parts.as_slice().last()) {
+    match (
+        entry.parts.as_slice().first(),
+        entry.parts.as_slice().last(),
+    ) {
         (Some(Part::Tune { number: first, .. }), Some(Part::Tune { number: last, .. })) => {
             if first == last {
                 write!(told, "tune {first} is out again\n").map_err(|_| AllocError)
@@ -199,7 +210,12 @@ fn tell_replaced<S: TuneStore>(
     ensures { IsOnlyAsked S.TuneStore store.old store.new }
 {
     for part in entry.parts.as_slice() {
-        if let Part::Tune { number, was: _, is: _ } = part {
+        if let Part::Tune {
+            number,
+            was: _,
+            is: _,
+        } = part
+        {
             let revision = tune_of(store, *number)?.revision;
             write!(told, "tune {number} has revision {revision} now\n").map_err(|_| AllocError)?;
         }

@@ -1,5 +1,6 @@
 -- Copies that are put where FILE leads, by the deeds.
-use Rattle.std.proofs.Common.{◌≡◌, ◌≢◌, ℕ, ◌+◌, ◌^◌, ◌%◌, ◌<◌, List, [], ◌∷◌, ◌++◌, length, Bool, true, codes, refl, ap, sym, ◌∙◌, subst, inl, inr, Result, Ok, Err, MatchResult, arith}
+use Rattle.std.proofs.Common.{◌≡◌, ◌≢◌, ℕ, ◌+◌, ◌^◌, ◌%◌, ◌<◌, List, [], ◌∷◌, ◌++◌, length, Bool, true, codes, refl, ap, sym, ◌∙◌, subst, inl, inr}
+use Rattle.std.proofs.Common.{Result, Ok, Err, MatchResult, arith}
 use Rattle.std.proofs.Common.{length-append, append-nil}
 use Rattle.std.specs.Prelude.{decimal}
 use Rattle.std.proofs.lemmas.List.{append_assoc, append_cancel_left}
@@ -163,7 +164,8 @@ puts_over {D} file target path over number disk was old mid now outcome same is 
     let ready = aside_closed file target was old mid number disk h e in
     by e outcome (finished_archive file target true was mid now outcome ready.0 (λ _. (ready.1, ready.2)) names)
   where
-    by : mid ≡ old ++ closed (new_of target) disk ∷ [] → (out : Outcome) → MatchResult out (λ _. MakesArchive file was now × (now ≡ mid ++ naming_of target true (Ok tt) ∷ [])) (λ _. MakesNone file was now)
+    by : mid ≡ old ++ closed (new_of target) disk ∷ [] → (out : Outcome)
+        → MatchResult out (λ _. MakesArchive file was now × (now ≡ mid ++ naming_of target true (Ok tt) ∷ [])) (λ _. MakesNone file was now)
         → Ends file disk out was now
     by e (Ok done) r = (
       r.0,

@@ -3,10 +3,10 @@
 
 mod archive_copies;
 mod archive_files;
+mod copy_reasons;
 mod disk_copies;
 mod making;
 mod put_aside;
-mod reasons;
 mod restores;
 mod sum_files;
 

@@ -6,7 +6,7 @@ ghost use Rattle.tune_desk.specs.Results.{new_of};
 ghost use Rattle.desk_copies.specs.Made.{MakesEmpty, PutsEmpty};
 
 use crate::archive_files::{begin_archive, leave_archive, put_archive};
-use crate::reasons::{Unmade, say_unmade};
+use crate::copy_reasons::{Unmade, say_unmade};
 use desk_scenes::DONE;
 use std::io::Write;
 use tune_archive::Archive;

@@ -12,9 +12,9 @@ ghost use Rattle.desk_copies.specs.Inside.Holding.{Ends, HoldsArchive};
 
 use crate::archive_copies::{Copying, Uncopied, copy_archive};
 use crate::archive_files::{begin_archive, leave_archive, put_archive};
+use crate::copy_reasons::say_unrestored;
 use crate::disk_copies::sum_of_disk;
 use crate::put_aside::put_aside;
-use crate::reasons::say_unrestored;
 use crate::sum_files::{SumFault, compare_sum};
 use desk_scenes::{REFUSED, print, say};
 use std::alloc::{AllocError, Global};

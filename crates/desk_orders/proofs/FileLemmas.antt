@@ -29,7 +29,8 @@ module _ {D : Type 0} (disks : disk.Ghosts D) (places : Places) where
   tells_spares Told scene (inr refused) = unasked_spares disks places scene.was scene.now refused.0
 
   once_spares : (scene : Scene D) → RunsOnce disks places.file scene → SparesFiles places scene.was scene.now
-  once_spares scene (inl (old, done, e, ran, asks, status)) = spares_since disks places scene.was scene.now (visit places.file Read old done.disk) e (refl, (refl, tt))
+  once_spares scene (inl (old, done, e, ran, asks, status)) = spares_since disks places scene.was scene.now (visit places.file Read old done.disk) e
+      (refl, (refl, tt))
   once_spares scene (inr (fault, e, silent, status)) = spares_since disks places scene.was scene.now (failed_visit places.file Read fault) e (refl, tt)
 
   runs_spares : (scene : Scene D) → RunsOnFile disks places.file scene → SparesFiles places scene.was scene.now

@@ -165,7 +165,7 @@ KeepsFiles file other was now = SparesFiles (files_of file other) was now
 abbrev pub AltersFile : {D : Type 0} → disk.Ghosts D → List ℕ → Alteration → Scene D → Type 0
 AltersFile disks file change scene = IsSilent scene.streams
     × ChangesFile disks file (kind_of change) (λ state turns. planned_by change state ≡ Ok turns)
-    scene.was scene.now scene.status
+    (record { was = scene.was; now = scene.now; status = scene.status })
 
 -- An order that the script carries out: nothing was done, and the status says so.
 abbrev pub IsLeft : {D : Type 0} → Scene D → Type 0

@@ -28,8 +28,8 @@ use Rattle.tune_store.specs.declared.command.Command.TheVariants.{Renumber, SetN
 use Rattle.tune_store.specs.declared.command.Reply.{Reply}
 use Rattle.tune_store.specs.declared.command.Reply.TheVariants.{SetMade, SetAdded}
 use Rattle.tune_store.proofs.NamedLemmas.{held_at}
-use Rattle.tune_changes.specs.Turns.{Subject}
-use Rattle.tune_changes.specs.Turns.Subject.{TuneOf, SetOf}
+use Rattle.tune_changes.specs.SubjectTurns.{Subject}
+use Rattle.tune_changes.specs.SubjectTurns.Subject.{TuneOf, SetOf}
 use Rattle.tune_changes.specs.Bringing.{book_with, renumbered, tune_commands, common_front, cut_behind, relaid, set_commands, brought}
 use Rattle.tune_changes.specs.Commands.{after_commands, AreAccepted}
 use Rattle.tune_changes.specs.Undoing.{CanBeReplaced, CanBeText, CanBePlaces, CanBeMade, CanBeNumbers, CanBe, IsGiven}

@@ -12,9 +12,9 @@ use Rattle.tune_store.specs.State.{State, RisesFrom, tune_at, IsState}
 use Rattle.tune_store.specs.TuneSteps.{inserted, without}
 use Rattle.tune_store.specs.declared.tune.Tune.{Tune}
 use Rattle.tune_store.proofs.PlaceLemmas.{tune_at-number, tune_at-without_same, tune_at-without_other}
-use Rattle.tune_changes.specs.Turns.{Subject, text_at, numbers_at, content}
-use Rattle.tune_changes.specs.Turns.Subject.{TuneOf, SetOf}
-use Rattle.tune_changes.specs.States.{anew, all_anew, face, tune_with, put_text, put_numbers, with_content}
+use Rattle.tune_changes.specs.SubjectTurns.{Subject, text_at, numbers_at, content}
+use Rattle.tune_changes.specs.SubjectTurns.Subject.{TuneOf, SetOf}
+use Rattle.tune_changes.specs.ChangedStates.{anew, all_anew, face, tune_with, put_text, put_numbers, with_content}
 use Rattle.tune_changes.proofs.TuneLists.{in_and_out, out_and_in, out_already, found_in, without_anew, inserted_anew, found_anew, rises_anew}
 use Rattle.tune_changes.proofs.SetListLemmas.{named, found_name, none_without, set_out_already, set_out_and_in, set_in_and_out, set_found_in}
 

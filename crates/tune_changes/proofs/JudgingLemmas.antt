@@ -4,7 +4,7 @@ use Rattle.std.specs.Prelude.{◌||◌, ◌&&◌}
 use Rattle.std.proofs.lemmas.List.{drop_more}
 use Rattle.std.proofs.lemmas.List.Folds.{list_all_more}
 use Rattle.tune_store.specs.State.{State}
-use Rattle.tune_undo.specs.declared.entries.Part.{Part}
+use Rattle.tune_undo.specs.declared.old_entries.Part.{Part}
 use Rattle.tune_changes.specs.Judging.{all_before, begins_with, first_changed, is_run_of, part_verdict, says_before, says_changed}
 
 -- RUNS OF NUMBERS

@@ -18,7 +18,7 @@ use Rattle.tune_asking.specs.Asking.{IsFault}
 use Rattle.tune_store.specs.Step.{step}
 use Rattle.tune_store.specs.declared.command.Command.TheVariants.{SetShow}
 use Rattle.tune_asking.specs.Calls.{Call, Meaning, tune_or}
-use Rattle.tune_changes.specs.Inside.Looks.{rows_found, rows_told}
+use Rattle.tune_changes.specs.Inside.SubjectLooks.{rows_found, rows_told}
 
 -- REFUSALS THAT ANSWER
 open_by : (shut : Bool) → (shut ≡ true → ⊥) → shut ≡ false

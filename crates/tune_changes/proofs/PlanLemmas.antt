@@ -1,5 +1,6 @@
 -- The plans of what is left, as numbers are looked at one after another.
-use Rattle.std.proofs.Common.{◌≡◌, ℕ, ◌+◌, ◌<◌, ◌≤◌, Bool, true, false, cond, not, List, [], ◌∷◌, ◌++◌, length, map, take, drop, get_or, Option, Some, None, Result, Ok, Err}
+use Rattle.std.proofs.Common.{◌≡◌, ℕ, ◌+◌, ◌<◌, ◌≤◌, Bool, true, false, cond, not, List, [], ◌∷◌, ◌++◌, length, map, take, drop, get_or, Option}
+use Rattle.std.proofs.Common.{Some, None, Result, Ok, Err}
 use Rattle.std.proofs.Common.{refl, sym, ap, ◌∙◌, subst, inl, inr, ◌⊎◌, arith}
 use Rattle.std.specs.Global.{Vec}
 use Rattle.std.specs.Str.{bytes_eq}
@@ -18,8 +19,9 @@ use Rattle.tune_store.specs.declared.tune_store.TuneStore.{Ghosts}
 use Rattle.tune_asking.specs.Asking.{IsFault, IsToldOrFault}
 use Rattle.tune_asking.proofs.CallLemmas.{Goes}
 use Rattle.tune_asking.specs.Calls.{Call, tune_or, tune_told}
-use Rattle.tune_changes.specs.Inside.Plans.{IsPlannedOrFault, all_gone, gone_at, numbers_in, turns_told}
-use Rattle.tune_changes.specs.Planning.{first_unknown, moved, numbers_put, put_where, tunes_put, place_moved, places_cut, planned_when, set_gone, tune_gone, tunes_gone, unknown_after, with_more}
+use Rattle.tune_changes.specs.Inside.TurnPlans.{IsPlannedOrFault, all_gone, gone_at, numbers_in, turns_told}
+use Rattle.tune_changes.specs.Planning.{first_unknown, moved, numbers_put, put_where, tunes_put, place_moved, places_cut, planned_when, set_gone}
+use Rattle.tune_changes.specs.Planning.{tune_gone, tunes_gone, unknown_after, with_more}
 use Rattle.tune_changes.specs.Planning.{without_places}
 use Rattle.tune_changes.proofs.SetListLemmas.{found_name}
 use Rattle.tune_changes.specs.declared.turns.Turn.{Turn}

@@ -19,10 +19,10 @@ use Rattle.tune_store.specs.Step.{step}
 use Rattle.tune_store.specs.declared.tune.Tune.{Tune}
 use Rattle.tune_store.specs.declared.command.Command.TheVariants.{SetNew, SetAdd, SetCut, SetDrop}
 use Rattle.tune_store.specs.declared.command.Reply.TheVariants.{SetMade, SetAdded, SetCut as CutMade, SetDropped}
-use Rattle.tune_changes.specs.Turns.Subject.{SetOf}
+use Rattle.tune_changes.specs.SubjectTurns.Subject.{SetOf}
 use Rattle.tune_changes.specs.Bringing.{common_front, cut_behind, relaid, set_commands, brought}
 use Rattle.tune_changes.specs.Commands.{LeadsTo}
-use Rattle.tune_changes.specs.States.{with_content}
+use Rattle.tune_changes.specs.ChangedStates.{with_content}
 use Rattle.tune_changes.specs.Undoing.{CanBePlaces, CanBeNumbers, CanBe}
 use Rattle.tune_changes.proofs.Leading.{leads_on, leads_none, leads_by, leads_from, leads_to, leads_with}
 use Rattle.tune_changes.proofs.SetListLemmas.{named, found_name, none_without, set_out_already, set_out_and_in, set_in_and_out, set_found_in, renumbered_in}

@@ -28,10 +28,10 @@ use Rattle.tune_store.specs.declared.command.Command.TheVariants.{Import, Renumb
 use Rattle.tune_store.specs.declared.command.Reply.TheVariants.{Imported, Renumbered, Replaced, Deleted}
 use Rattle.tune_store.proofs.LookUpLemmas.{renumber_moves}
 use Rattle.tune_store.proofs.PlaceLemmas.{tune_at-number}
-use Rattle.tune_changes.specs.Turns.Subject.{TuneOf}
+use Rattle.tune_changes.specs.SubjectTurns.Subject.{TuneOf}
 use Rattle.tune_changes.specs.Bringing.{book_with, renumbered, tune_commands, brought}
 use Rattle.tune_changes.specs.Commands.{LeadsTo}
-use Rattle.tune_changes.specs.States.{tune_with, with_content}
+use Rattle.tune_changes.specs.ChangedStates.{tune_with, with_content}
 use Rattle.tune_changes.specs.Undoing.{CanGoIn, CanBeReplaced, CanBeText, CanBe}
 use Rattle.tune_changes.proofs.Leading.{leads_none, leads_by, leads_to, leads_with}
 use Rattle.tune_changes.proofs.TuneLists.{inserted_last, out_and_in, out_already, with_tune_is, none_above, found_last, without_last, free_still}

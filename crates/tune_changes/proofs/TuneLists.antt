@@ -7,7 +7,7 @@ use Rattle.tune_store.specs.State.{RisesFrom, greatest, tune_at}
 use Rattle.tune_store.specs.TuneSteps.{with_tune, without, inserted}
 use Rattle.tune_store.specs.declared.tune.Tune.{Tune}
 use Rattle.tune_store.proofs.PlaceLemmas.{tune_at-number}
-use Rattle.tune_changes.specs.States.{anew, all_anew}
+use Rattle.tune_changes.specs.ChangedStates.{anew, all_anew}
 
 -- IN AND OUT
 pub found_above : (low number : ℕ) (tunes : List Tune) (tune : Tune) → RisesFrom low tunes → tune_at number tunes ≡ Some tune → low < tune.number

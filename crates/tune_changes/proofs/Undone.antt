@@ -20,11 +20,11 @@ use Rattle.tune_store.proofs.MoveLemmas.{length-without_one, number_within}
 use Rattle.tune_store.proofs.NamedLemmas.{held_at}
 use Rattle.tune_store.proofs.PlaceLemmas.{tune_at-number}
 use Rattle.tune_store.proofs.StateLemmas.{greatest-without}
-use Rattle.tune_changes.specs.Turns.{Subject, Turn, Aim, aim_back, content, numbers_at}
-use Rattle.tune_changes.specs.Turns.Subject.{TuneOf, SetOf}
+use Rattle.tune_changes.specs.SubjectTurns.{Subject, Turn, Aim, aim_back, content, numbers_at}
+use Rattle.tune_changes.specs.SubjectTurns.Subject.{TuneOf, SetOf}
 use Rattle.tune_changes.specs.Bringing.{tune_commands, set_commands, brought, brought_each}
 use Rattle.tune_changes.specs.Commands.{after_commands, AreAccepted, LeadsTo}
-use Rattle.tune_changes.specs.States.{anew, all_anew, face, tune_with, put_numbers, with_content, with_each}
+use Rattle.tune_changes.specs.ChangedStates.{anew, all_anew, face, tune_with, put_numbers, with_content, with_each}
 use Rattle.tune_changes.specs.Undoing.{CanGoIn, CanBeReplaced, CanBeText, CanBePlaces, CanBeMade, CanBeNumbers, CanBe}
 use Rattle.tune_changes.specs.Undoing.{IsGiven, CanComeBack, IsBroughtAbout, BringsAbout}
 use Rattle.tune_changes.specs.Undoing.{brought_about, taken_back, replacements_in, replacements, LeavesRevisions, TakesBack, NotBegun, CanGoBack, StandsAfter}

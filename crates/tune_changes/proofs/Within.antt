@@ -17,11 +17,11 @@ use Rattle.tune_store.specs.declared.tune.Tune.{Tune}
 use Rattle.tune_store.specs.declared.command.Command.{Command}
 use Rattle.tune_store.specs.declared.command.Command.TheVariants.{SetNew, SetAdd, SetCut, SetDrop}
 use Rattle.tune_store.proofs.LimitLemmas.{step_keeps_limits}
-use Rattle.tune_changes.specs.Turns.{Subject, Turn, content, numbers_at}
-use Rattle.tune_changes.specs.Turns.Subject.{SetOf}
+use Rattle.tune_changes.specs.SubjectTurns.{Subject, Turn, content, numbers_at}
+use Rattle.tune_changes.specs.SubjectTurns.Subject.{SetOf}
 use Rattle.tune_changes.specs.Bringing.{common_front, cut_behind, relaid, set_commands, brought}
 use Rattle.tune_changes.specs.Commands.{after_commands, LeadsTo}
-use Rattle.tune_changes.specs.States.{put_numbers, all_anew, with_content, AreAlike, AreAlikeBut}
+use Rattle.tune_changes.specs.ChangedStates.{put_numbers, all_anew, with_content, AreAlike, AreAlikeBut}
 use Rattle.tune_changes.specs.Undoing.{CanBeNumbers, taken_back, TakesBack, CanGoBack, StandsAfter, StandsWithin}
 use Rattle.tune_changes.proofs.Leading.{leads_on, leads_with, after_append, after_keeps}
 use Rattle.tune_changes.proofs.SetListLemmas.{none_without, set_out_already, set_in_and_out}

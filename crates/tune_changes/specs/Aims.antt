@@ -3,8 +3,8 @@ use Rattle.std.specs.Prelude.{List, map, reverse}
 use Rattle.tune_store.specs.State.{State}
 use Rattle.tune_store.specs.declared.command.Command.{Command}
 use Rattle.tune_changes.specs.Bringing.{brought_each}
-use Rattle.tune_changes.specs.Turns.{Turn, Aim}
-use Rattle.tune_changes.specs.Turns.Subject.{TuneOf, SetOf}
+use Rattle.tune_changes.specs.SubjectTurns.{Turn, Aim}
+use Rattle.tune_changes.specs.SubjectTurns.Subject.{TuneOf, SetOf}
 use Rattle.tune_changes.specs.Undoing
 use Rattle.tune_changes.specs.declared.turns.Aim as told_aim
 use Rattle.tune_changes.specs.declared.turns.Aim.TheVariants as aim

@@ -10,8 +10,8 @@ use Rattle.tune_store.specs.declared.command.Command.TheVariants.{Import, Replac
 use Rattle.tune_store.specs.declared.command.Command.TheVariants.{Renumber}
 use Rattle.tune_store.specs.declared.command.Command.TheVariants.{SetNew, SetAdd, SetCut, SetDrop}
 use Rattle.tune_changes.specs.Commands.{after_commands}
-use Rattle.tune_changes.specs.Turns.{Subject, Aim, numbers_at}
-use Rattle.tune_changes.specs.Turns.Subject.{TuneOf, SetOf}
+use Rattle.tune_changes.specs.SubjectTurns.{Subject, Aim, numbers_at}
+use Rattle.tune_changes.specs.SubjectTurns.Subject.{TuneOf, SetOf}
 
 -- TUNES
 -- the book of one tune

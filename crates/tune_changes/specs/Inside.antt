@@ -1,2 +1,2 @@
-pub mod Looks
-pub mod Plans
+pub mod SubjectLooks
+pub mod TurnPlans

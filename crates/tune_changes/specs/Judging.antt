@@ -6,12 +6,12 @@ use Rattle.std.specs.Str.{bytes_eq}
 use Rattle.sha2.specs.Sha256.{sha256}
 use Rattle.tune_store.specs.State.{State, tune_at}
 use Rattle.tune_store.specs.declared.tune.Tune.{Tune}
-use Rattle.tune_undo.specs.declared.entries.After.{After}
-use Rattle.tune_undo.specs.declared.entries.After.TheVariants.{Nothing, Text, Revision}
-use Rattle.tune_undo.specs.declared.entries.Part.{Part}
-use Rattle.tune_undo.specs.declared.entries.Part.TheVariants as part
+use Rattle.tune_undo.specs.declared.old_entries.After.{After}
+use Rattle.tune_undo.specs.declared.old_entries.After.TheVariants.{Nothing, Text, Revision}
+use Rattle.tune_undo.specs.declared.old_entries.Part.{Part}
+use Rattle.tune_undo.specs.declared.old_entries.Part.TheVariants as part
 use Rattle.tune_changes.specs.Bringing.{common_front}
-use Rattle.tune_changes.specs.Turns.{numbers_at}
+use Rattle.tune_changes.specs.SubjectTurns.{numbers_at}
 use Rattle.tune_changes.specs.declared.judging.PartVerdict.{PartVerdict}
 use Rattle.tune_changes.specs.declared.judging.PartVerdict.TheVariants as its
 use Rattle.tune_changes.specs.declared.judging.Verdict.{Verdict}

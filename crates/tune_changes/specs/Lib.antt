@@ -1,7 +1,7 @@
-pub mod Turns
+pub mod SubjectTurns
 pub mod Commands
 pub mod Bringing
-pub mod States
+pub mod ChangedStates
 pub mod Undoing
 pub mod Aims
 pub mod Carrying

@@ -20,7 +20,7 @@ use Rattle.tune_store.specs.declared.command.Refusal.TheVariants.{Stale, Worn}
 use Rattle.tune_asking.specs.Calls.{Meaning}
 use Rattle.desk_terms.specs.declared.alteration.Alteration.{Alteration}
 use Rattle.desk_terms.specs.declared.alteration.Alteration.TheVariants.{Delete, Put, Cut, Move, Drop}
-use Rattle.tune_changes.specs.Turns.{numbers_at}
+use Rattle.tune_changes.specs.SubjectTurns.{numbers_at}
 use Rattle.tune_changes.specs.declared.turns.Turn.{Turn}
 use Rattle.tune_changes.specs.declared.turns.Turn.TheVariants as turn
 

@@ -12,11 +12,11 @@ use Rattle.tune_store.specs.State.{State, tune_at, greatest, AreHeld, IsState}
 use Rattle.tune_store.specs.TuneSteps.{is_number}
 use Rattle.tune_store.specs.declared.tune.Tune.{Tune}
 use Rattle.tune_store.specs.declared.command.Command.{Command}
-use Rattle.tune_changes.specs.Turns.{Subject, Turn, content, numbers_at, aim_of, aim_back}
-use Rattle.tune_changes.specs.Turns.Subject.{TuneOf, SetOf}
+use Rattle.tune_changes.specs.SubjectTurns.{Subject, Turn, content, numbers_at, aim_of, aim_back}
+use Rattle.tune_changes.specs.SubjectTurns.Subject.{TuneOf, SetOf}
 use Rattle.tune_changes.specs.Commands.{after_commands, AreAccepted, LeadsTo}
 use Rattle.tune_changes.specs.Bringing.{brought, brought_each}
-use Rattle.tune_changes.specs.States.{AreAlike, AreAlikeBut}
+use Rattle.tune_changes.specs.ChangedStates.{AreAlike, AreAlikeBut}
 
 -- WHAT A SUBJECT CAN BE
 -- a tune has a number of 32 bits, and the text of a tune

@@ -2,11 +2,11 @@
 ghost use Rattle.std.specs.Prelude.{◌≡◌, ◌≢◌, ℕ, List, ◌∷◌, ◌++◌, take, drop, Option};
 ghost use Rattle.std.specs.List.{AllByRecursion};
 ghost use Rattle.tune_store.specs.State.{State, IsState};
-ghost use Rattle.tune_changes.specs.Turns.{Subject, Turn, Aim, content};
-ghost use Rattle.tune_changes.specs.Turns.Subject.{SetOf};
+ghost use Rattle.tune_changes.specs.SubjectTurns.{Subject, Turn, Aim, content};
+ghost use Rattle.tune_changes.specs.SubjectTurns.Subject.{SetOf};
 ghost use Rattle.tune_changes.specs.Commands.{after_commands, AreAccepted, LeadsTo};
 ghost use Rattle.tune_changes.specs.Bringing.{brought, brought_each};
-ghost use Rattle.tune_changes.specs.States.{with_content, with_each, AreAlikeBut};
+ghost use Rattle.tune_changes.specs.ChangedStates.{with_content, with_each, AreAlikeBut};
 ghost use Rattle.tune_changes.specs.Undoing.{IsGiven, CanBe, BringsAbout, brought_about, TakesBack};
 ghost use Rattle.tune_changes.specs.Undoing.{CanGoBack, StandsAfter, NotBegun, StandsWithin};
 

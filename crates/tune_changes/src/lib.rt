@@ -9,7 +9,7 @@ mod laws;
 mod looking;
 mod planning;
 mod set_bringing;
-mod set_plans;
+mod set_turns;
 mod tune_bringing;
 mod turns;
 

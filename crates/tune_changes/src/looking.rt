@@ -2,8 +2,8 @@
 ghost use Rattle.std.specs.Prelude.{◌≡◌, map, Ok, IfOk};
 ghost use Rattle.tune_store.specs.State.{tune_at};
 ghost use Rattle.tune_asking.specs.Calls.{Call, told_by};
-ghost use Rattle.tune_changes.specs.Turns.{numbers_at};
-ghost use Rattle.tune_changes.specs.Inside.Looks.{rows_told};
+ghost use Rattle.tune_changes.specs.SubjectTurns.{numbers_at};
+ghost use Rattle.tune_changes.specs.Inside.SubjectLooks.{rows_told};
 
 use abc_fields::ByteText;
 use std::alloc::{AllocError, Global};

@@ -9,9 +9,9 @@ ghost use Rattle.tune_asking.specs.Calls.{Call, told_by};
 ghost use Rattle.tune_changes.specs.Planning.{planned_by, planned_replace, planned_when};
 ghost use Rattle.tune_changes.specs.Planning.{alone, is_stale, text_replaced, tune_gone};
 ghost use Rattle.tune_changes.specs.Planning.{tunes_gone, tunes_put};
-ghost use Rattle.tune_changes.specs.Inside.Plans.{IsPlannedOrFault, all_gone, are_known, gone_at, turns_told};
+ghost use Rattle.tune_changes.specs.Inside.TurnPlans.{IsPlannedOrFault, all_gone, are_known, gone_at, turns_told};
 
-use crate::set_plans::{holders, numbers_put, place_moved, places_cut, set_gone};
+use crate::set_turns::{holders, numbers_put, place_moved, places_cut, set_gone};
 use crate::turns::Turn;
 use abc_fields::TuneText;
 use desk_terms::Alteration;

@@ -5,7 +5,8 @@ use Rattle.std.specs.List.{AllByRecursion}
 use Rattle.tune_disk.specs.declared.file.Access.TheVariants.{Read, Change}
 use Rattle.tune_desk.specs.ArchiveFiles.{MakesArchive, MakesIt, FileLeads, IsHeld, IsPutAside, IsBegunArchive, MakesNone, NamesNone}
 use Rattle.tune_desk.specs.BegunResults.{NamesNew, AfterNaming, Outcome, naming_of, refusal_of_removal}
-use Rattle.tune_desk.specs.DeskDeeds.{DeskDeed, Answer, ChangesNothing, looked, compared, tested, followed, read, listed, made, named, named_over, removed, opened}
+use Rattle.tune_desk.specs.DeskDeeds.{DeskDeed, Answer, ChangesNothing, looked, compared, tested, followed, read, listed, made, named, named_over}
+use Rattle.tune_desk.specs.DeskDeeds.{removed, opened}
 use Rattle.tune_desk.specs.DeskDeeds.{closed, grown, created, linked, shared}
 use Rattle.tune_desk.specs.Results.{EachAfter, Leaves, new_of}
 use Rattle.tune_desk.specs.declared.desk.DeskFault.{DeskFault}

@@ -38,12 +38,14 @@ cleared-more places target over front rest h = record {
   };
 }
 
-pub naming_keeps : {D : Type 0} (places : Places) (target : List ℕ) (over : Bool) (answer : Answer) (before : List (DeskDeed D)) → Cleared places target over before
+pub naming_keeps : {D : Type 0} (places : Places) (target : List ℕ) (over : Bool) (answer : Answer) (before : List (DeskDeed D))
+    → Cleared places target over before
     → KeepsTo places before (naming_of target over answer)
 naming_keeps places target true answer before h = (h.leads, refl)
 naming_keeps places target false answer before h = (h.leads, refl)
 
-pub naming_comes : {D : Type 0} (places : Places) (target : List ℕ) (over : Bool) (answer : Answer) (before : List (DeskDeed D)) → Cleared places target over before
+pub naming_comes : {D : Type 0} (places : Places) (target : List ℕ) (over : Bool) (answer : Answer) (before : List (DeskDeed D))
+    → Cleared places target over before
     → IsOwn (new_of target) before → ComesInOrder places before (naming_of target over answer)
 naming_comes places target true answer before h own = (own, h.may.spares, h.may.replaces refl)
 naming_comes places target false answer before h own = (own, h.may.spares)
@@ -239,7 +241,8 @@ module _ {D : Type 0} (places : Places) (target : List ℕ) (out : List ℕ) (wa
     );
   }
 
-  pub cleared_at : (over : Bool) (rest : List (DeskDeed D)) → MayBeWritten places target over rest → Cleared places target over (followed out (Ok target) ∷ rest)
+  pub cleared_at : (over : Bool) (rest : List (DeskDeed D)) → MayBeWritten places target over rest
+      → Cleared places target over (followed out (Ok target) ∷ rest)
   cleared_at over rest may = record {
     leads = leads_at rest;
     may = record {

@@ -12,14 +12,15 @@ use Rattle.std.proofs.lemmas.Slice.Eq.{starts_is}
 use Rattle.abc_fields.specs.Bytes.{space, line_feed}
 use Rattle.tune_undo.specs.Entries.{EntryValue, StepValue}
 use Rattle.tune_undo.specs.EntryBytes.{kind_word, IsMark, parts_bytes, IsEntry, entry_bytes, mark_bytes}
-use Rattle.tune_undo.specs.OldTexts.{OldEntry, IsOld, old_bytes, IsWritten, Begins, Item, Entered, Marked, Place, Top, Start, Within, after_feed, next, Stands, IsLog, standing, standing_after, after_item}
+use Rattle.tune_undo.specs.OldItems.{OldEntry, IsOld, old_bytes, IsWritten, Begins, Item, Entered, Marked, ItemPlace, Top, Start, Within, after_feed}
+use Rattle.tune_undo.specs.OldItems.{next, Stands, IsLog, standing, standing_after, after_item}
 use Rattle.tune_undo.specs.OldTextLaws.{is_ended, before_piece, made_ready, IsPiece, AddsItem, AddsNothing}
-use Rattle.tune_undo.specs.Inside.Reading.{◌>>=◌, field_at, mark_of}
+use Rattle.tune_undo.specs.Inside.ItemReading.{◌>>=◌, field_at, mark_of}
 use Rattle.tune_undo.specs.Inside.Lines.{first_line_at, old_line_at, mark_line_at}
-use Rattle.tune_undo.specs.declared.entries.Kind.{Kind}
-use Rattle.tune_undo.specs.declared.entries.Kind.TheVariants as kind
-use Rattle.tune_undo.specs.declared.entries.Mark.{Mark}
-use Rattle.tune_undo.specs.declared.entries.Mark.TheVariants.{NotDone, Undone, Undoing}
+use Rattle.tune_undo.specs.declared.old_entries.EntryKind.{EntryKind}
+use Rattle.tune_undo.specs.declared.old_entries.EntryKind.TheVariants as kind
+use Rattle.tune_undo.specs.declared.old_entries.Mark.{Mark}
+use Rattle.tune_undo.specs.declared.old_entries.Mark.TheVariants.{NotDone, Undone, Undoing}
 use Rattle.tune_undo.proofs.FieldLaws.{bind_is, Free, free-append, field_again, decimal_free}
 use Rattle.tune_undo.proofs.LineLaws.{first_line, entry_parts, old_line_takes, kind_free, mark_line_again, mark_written_again}
 use Rattle.tune_undo.proofs.PartLaws.{cut, parts_same}
@@ -38,7 +39,8 @@ apart [] (d ∷ b) x y free other e = other.0 (sym (ap (λ t. slice_index t 0) e
 apart (c ∷ a) [] x y free other e = free.0 (ap (λ t. slice_index t 0) e)
 apart (c ∷ a) (d ∷ b) x y free other e = apart a b x y free.1 other.1 (ap (drop 1) e)
 
-pub entry_not_old : (e : EntryValue) (rest : List ℕ) (old : OldEntry) (more : List ℕ) → IsEntry e → IsOld old → old_bytes old ++ more ≡ entry_bytes e ++ rest → ⊥
+pub entry_not_old : (e : EntryValue) (rest : List ℕ) (old : OldEntry) (more : List ℕ) → IsEntry e → IsOld old
+    → old_bytes old ++ more ≡ entry_bytes e ++ rest → ⊥
 entry_not_old e rest old more is good same =
     let read = old_line_takes (entry_bytes e ++ rest) _ (old_again old more (entry_bytes e ++ rest) good same) in
     let few = is.count in
@@ -51,7 +53,7 @@ entry_not_old e rest old more is good same =
     apart (decimal (length (parts_bytes e.parts))) (decimal old.revision) _ _ (decimal_free space (length (parts_bytes e.parts)) (omega arith) short)
     (decimal_free line_feed old.revision (omega arith) (omega arith)) (sym numbers.1)
 
-pub mark_of_kind : (k : Kind) (more : List ℕ) → mark_of (kind_word k ++ (space ∷ more)) ≡ None
+pub mark_of_kind : (k : EntryKind) (more : List ℕ) → mark_of (kind_word k ++ (space ∷ more)) ≡ None
 mark_of_kind kind.Delete more = refl
 mark_of_kind kind.Replace more = refl
 mark_of_kind kind.Put more = refl
@@ -71,10 +73,12 @@ entry_no_mark e rest is =
     let more : List ℕ = parts_bytes e.parts ++ rest in
     let free : Free line_feed word = free-append line_feed (kind_word e.kind) (space ∷ numbers) (kind_feedless e.kind) (
       (λ same. omega arith),
-      free-append line_feed (decimal (length e.parts)) (space ∷ decimal (length (parts_bytes e.parts))) (decimal_free line_feed (length e.parts) (omega arith) few)
+      free-append line_feed (decimal (length e.parts)) (space ∷ decimal (length (parts_bytes e.parts)))
+          (decimal_free line_feed (length e.parts) (omega arith) few)
           ((λ same. omega arith), decimal_free line_feed (length (parts_bytes e.parts)) (omega arith) short),
     ) in
-    let shape : first_line e.kind (length e.parts) (length (parts_bytes e.parts)) more ≡ codes "% tunes-book " ++ (word ++ (line_feed ∷ more)) = sym (simp append_assoc) in
+    let shape : first_line e.kind (length e.parts) (length (parts_bytes e.parts)) more ≡ codes "% tunes-book " ++ (word ++ (line_feed ∷ more)) = sym
+    (simp append_assoc) in
     ap mark_line_at (entry_parts e rest ∙ shape)
     ∙ (bind_is (field_at line_feed (word ++ (line_feed ∷ more))) _ (word, more) (field_again line_feed word more free)
     ∙ ap (λ (o : Option Mark). o >>= (λ mark. Some (mark, more))) (mark_of_kind e.kind numbers))
@@ -140,14 +144,14 @@ not_part bytes more item b part =
     ap (λ t. t ++ more) (sym b.whole) ∙ ap (λ t. (t ++ b.rest) ++ more) q.whole in
     true≢false (sym part ∙ ap is_part_front shape)
 
-quiet_found : (place : Place) (bytes more : List ℕ) (found : Option Item) → (place ≡ Top → is_part_front (bytes ++ more) ≡ true) → Stands place bytes found
+quiet_found : (place : ItemPlace) (bytes more : List ℕ) (found : Option Item) → (place ≡ Top → is_part_front (bytes ++ more) ≡ true) → Stands place bytes found
     → found ≡ None
 quiet_found Top bytes more None part stands = refl
 quiet_found Top bytes more (Some item) part stands = absurd (not_part bytes more item stands (part refl))
 quiet_found Start bytes more found part stands = stands
 quiet_found Within bytes more found part stands = stands
 
-quiet_log : (place : Place) (bytes more : List ℕ) (items : List Item) → Quiet place (bytes ++ more) → IsLog place bytes items → items ≡ []
+quiet_log : (place : ItemPlace) (bytes more : List ℕ) (items : List Item) → Quiet place (bytes ++ more) → IsLog place bytes items → items ≡ []
 quiet_log place [] more items quiet log = log
 quiet_log place (byte ∷ bytes) more items quiet log =
     let none = quiet_found place (byte ∷ bytes) more log.0 quiet.0 log.2 in
@@ -176,7 +180,8 @@ cut_begins byte bytes ys item top other b = elim (cases_lt (length (byte ∷ byt
       let fits : n ≤ length b.front = omega arith in
       let front_is : bs ≡ take n b.front = sym (take_at bs ys n refl) ∙ ap (take n) (sym b.whole) ∙ take-append-le n b.front b.rest fits in
       let whole : b.front ≡ bs ++ zs = sym (take-append-drop n b.front) ∙ ap (λ t. t ++ zs) (sym front_is) in
-      let behind : zs ++ b.rest ≡ ys = append_cancel_left bs (zs ++ b.rest) ys (sym (append_assoc bs zs b.rest) ∙ ap (λ t. t ++ b.rest) (sym whole) ∙ b.whole) in
+      let behind : zs ++ b.rest ≡ ys = append_cancel_left bs (zs ++ b.rest) ys
+      (sym (append_assoc bs zs b.rest) ∙ ap (λ t. t ++ b.rest) (sym whole) ∙ b.whole) in
       let some : 0 < length zs = omega (arith, ap length whole, length-append bs zs) in
       let q = item_quiet b.front item b.written in
       let shape : bs ++ zs ≡ codes "% tunes-book " ++ q.more = sym whole ∙ q.whole in
@@ -196,23 +201,24 @@ cut_begins byte bytes ys item top other b = elim (cases_lt (length (byte ∷ byt
       }
 ]
 
-stands_cut : (place : Place) (byte : ℕ) (bytes ys : List ℕ) (found : Option Item) → place_after place (byte ∷ bytes) ≡ Top → NotPart ys
+stands_cut : (place : ItemPlace) (byte : ℕ) (bytes ys : List ℕ) (found : Option Item) → place_after place (byte ∷ bytes) ≡ Top → NotPart ys
     → Stands place ((byte ∷ bytes) ++ ys) found → Stands place (byte ∷ bytes) found
 stands_cut Top byte bytes ys None top other stands = λ item b. stands item (begins_more (byte ∷ bytes) ys item b)
 stands_cut Top byte bytes ys (Some item) top other stands = cut_begins byte bytes ys item top other stands
 stands_cut Start byte bytes ys found top other stands = stands
 stands_cut Within byte bytes ys found top other stands = stands
 
-pub record Split (place : Place) (xs ys : List ℕ) (items : List Item) : Type 0 where
+pub record Split (place : ItemPlace) (xs ys : List ℕ) (items : List Item) : Type 0 where
   pub before : List Item
   pub later : List Item
   pub front : IsLog place xs before
   pub back : IsLog Top ys later
   pub whole : items ≡ before ++ later
 
-log_split : (place : Place) (xs ys : List ℕ) (items : List Item) → place_after place xs ≡ Top → NotPart ys → IsLog place (xs ++ ys) items → Split place xs ys items
+log_split : (place : ItemPlace) (xs ys : List ℕ) (items : List Item) → place_after place xs ≡ Top → NotPart ys → IsLog place (xs ++ ys) items
+    → Split place xs ys items
 log_split place [] ys items top other log =
-    let P : Place → Type 0 = λ p. IsLog p ys items in
+    let P : ItemPlace → Type 0 = λ p. IsLog p ys items in
     record { before = []; later = items; front = refl; back = subst P top log; whole = refl }
 log_split place (byte ∷ bytes) ys items top other log =
     let more = log_split (next place byte) bytes ys log.1 top other log.3 in
@@ -226,17 +232,17 @@ log_split place (byte ∷ bytes) ys items top other log =
 
 -- THE END OF A BOOK
 -- at the top of a line
-abbrev pub IsOpen : Place → Type 0
+abbrev pub IsOpen : ItemPlace → Type 0
 IsOpen Top = ⊤
 IsOpen Start = ⊤
 IsOpen Within = ⊥
 
-fed : (place : Place) → IsOpen (after_feed place)
+fed : (place : ItemPlace) → IsOpen (after_feed place)
 fed Top = tt
 fed Start = tt
 fed Within = tt
 
-ended_last : (place : Place) (byte : ℕ) (bytes : List ℕ) → is_ended (byte ∷ bytes) ≡ true → IsOpen (place_after place (byte ∷ bytes))
+ended_last : (place : ItemPlace) (byte : ℕ) (bytes : List ℕ) → is_ended (byte ∷ bytes) ≡ true → IsOpen (place_after place (byte ∷ bytes))
 ended_last place byte [] ended = subst IsOpen (sym (cond-true (byte == line_feed) _ _ ended)) (fed place)
 ended_last place byte (other ∷ bytes) ended = ended_last (next place byte) other bytes ended
 
@@ -244,12 +250,12 @@ ended_open : (bytes : List ℕ) → is_ended bytes ≡ true → IsOpen (place_af
 ended_open [] ended = tt
 ended_open (byte ∷ bytes) ended = ended_last Top byte bytes ended
 
-feed_once : (place : Place) → IsOpen place → place_after place (codes "\n") ≡ Top
+feed_once : (place : ItemPlace) → IsOpen place → place_after place (codes "\n") ≡ Top
 feed_once Top at_top = refl
 feed_once Start at_top = refl
 feed_once Within at_top = absurd at_top
 
-feed_twice : (place : Place) → place_after place (codes "\n\n") ≡ Top
+feed_twice : (place : ItemPlace) → place_after place (codes "\n\n") ≡ Top
 feed_twice Top = refl
 feed_twice Start = refl
 feed_twice Within = refl
@@ -307,7 +313,7 @@ cut_log [] more tail item items is whole some quiet log = log
 cut_log (byte ∷ bytes) more tail item items is whole some quiet log =
     let head : byte ≡ 37 = ap (λ t. slice_index t 0) whole in
     let rest : bytes ++ more ≡ tail = ap (drop 1) whole in
-    let P : Place → Type 0 = λ place. IsLog place bytes log.1 in
+    let P : ItemPlace → Type 0 = λ place. IsLog place bytes log.1 in
     let inside : IsLog Within bytes log.1 = subst P (ap (λ c. next Top c) head) log.3 in
     let none : log.1 ≡ [] = quiet_log Within bytes more log.1 (subst (Quiet Within) (sym rest) quiet) inside in
     log.4 ∙ ap (λ o. option_to_list o ++ log.1) (cut_found (byte ∷ bytes) more (37 ∷ tail) item log.0 is whole some log.2) ∙ none

@@ -5,14 +5,15 @@ use Rattle.std.specs.Prelude.{◌==◌, ◌&&◌, not, nat_lt, nat_eq, Option, N
 use Rattle.std.specs.List.{AllByRecursion, starts_with, list_all}
 use Rattle.std.specs.Str.{bytes_eq}
 use Rattle.std.specs.Str.Parse.{digits_value, AllDigits}
-use Rattle.std.proofs.lemmas.Bool.{eqb-true, eqb-false, eq-eqb, ne_eqb, ltb-true, lt-ltb, and_parts, and_from, cond-true, cond-false, false_from_ne_true, not-true}
+use Rattle.std.proofs.lemmas.Bool.{eqb-true, eqb-false, eq-eqb, ne_eqb, ltb-true, lt-ltb, and_parts, and_from, cond-true, cond-false}
+use Rattle.std.proofs.lemmas.Bool.{false_from_ne_true, not-true}
 use Rattle.std.proofs.lemmas.Bool.Decides.{Decides-eqb}
 use Rattle.std.proofs.lemmas.Option.{none-some, same_Some, cond_some}
 use Rattle.std.proofs.lemmas.List.{drop_at}
 use Rattle.std.proofs.lemmas.Fmt.{decimal_is_IsNumeral}
 use Rattle.std.proofs.lemmas.Slice.Eq.{bytes_eq-Decides, starts_is}
 use Rattle.std.proofs.lemmas.Str.Parse.{digit_from_value}
-use Rattle.tune_undo.specs.Inside.Reading.{◌>>=◌, after, onto, field_at, number_of, number_at}
+use Rattle.tune_undo.specs.Inside.ItemReading.{◌>>=◌, after, onto, field_at, number_of, number_at}
 
 -- STEPS
 pub bind_some : {A B : Type 0} (o : Option A) (f : A → Option B) (y : B) → (o >>= f) ≡ Some y → (x : A) × (o ≡ Some x) × (f x ≡ Some y)

@@ -13,16 +13,17 @@ use Rattle.abc_fields.specs.Tunes.{IsTextWithin}
 use Rattle.std.proofs.lemmas.List.{take_at}
 use Rattle.tune_undo.specs.Entries.{EntryValue, IsPart}
 use Rattle.tune_undo.specs.EntryBytes.{IsEntry, entry_bytes, parts_bytes, book_tune}
-use Rattle.tune_undo.specs.OldTexts.{OldEntry, IsOld, made_bytes, old_bytes, after_old, Item, Entered, Marked, Begins}
+use Rattle.tune_undo.specs.OldItems.{OldEntry, IsOld, made_bytes, old_bytes, after_old, Item, Entered, Marked, Begins}
 use Rattle.tune_undo.specs.Inside.Found.{OldRead}
 use Rattle.tune_undo.specs.Inside.Lines.{first_line_at, number_line_at, old_line_at, mark_line_at, after_old_of, len_after, text_len_of}
 use Rattle.tune_undo.specs.declared.part_lines.OldLine.{OldLine}
-use Rattle.tune_undo.specs.declared.entries.After.{After}
-use Rattle.tune_undo.specs.declared.entries.Part.TheVariants.{Tune}
-use Rattle.tune_undo.specs.declared.entries.Mark.{Mark}
+use Rattle.tune_undo.specs.declared.old_entries.After.{After}
+use Rattle.tune_undo.specs.declared.old_entries.Part.TheVariants.{Tune}
+use Rattle.tune_undo.specs.declared.old_entries.Mark.{Mark}
 use Rattle.tune_undo.specs.declared.part_lines.FirstLine.{FirstLine}
-use Rattle.tune_undo.specs.declared.entries.Part.{Part}
-use Rattle.tune_undo.proofs.LineLaws.{first_line, first_line_again, first_line_takes, entry_parts, old_line, old_line_again, old_line_takes, old_parts, mark_line_takes, mark_written_again}
+use Rattle.tune_undo.specs.declared.old_entries.Part.{Part}
+use Rattle.tune_undo.proofs.LineLaws.{first_line, first_line_again, first_line_takes, entry_parts, old_line, old_line_again, old_line_takes}
+use Rattle.tune_undo.proofs.LineLaws.{old_parts, mark_line_takes, mark_written_again}
 use Rattle.tune_undo.proofs.FieldLaws.{bind_is, chosen}
 use Rattle.tune_undo.proofs.PartLaws.{book_tune_again}
 
@@ -136,7 +137,8 @@ pub old_len_is : (number len size : ℕ) (text rest bytes : List ℕ) → number
 old_len_is number len size text rest bytes small e same read =
     let line : ℕ = length bytes - length (text ++ rest) in
     let told : len_after len line ≡ Some size =
-    sym (bind_is (number_line_at bytes) (λ l. len_after len (length bytes - length l.1)) (number, text ++ rest) (book_tune_again number text rest bytes small e)) ∙ read in
+    sym (bind_is (number_line_at bytes) (λ l. len_after len (length bytes - length l.1)) (number, text ++ rest)
+    (book_tune_again number text rest bytes small e)) ∙ read in
     let sum = len_same len line size told in
     omega (
       arith,
@@ -156,7 +158,8 @@ old_whole bytes line found text later is len read made measured good size whole 
     let chose = cond_some _ _ is (sym made) in
     let tests = and_parts _ _ chose.0 in
     let old : OldEntry = record { kind = line.kind; number = line.number; revision = line.revision; text = text; made = l.made } in
-    let long : line.len ≡ length (book_tune line.number text) = old_len_is line.number line.len len text later found l.number whole size (sym measured) in record {
+    let long : line.len ≡ length (book_tune line.number text) = old_len_is line.number line.len len text later found l.number whole size (sym measured) in
+    record {
       old = old;
       good = record { kind = tests.1; number = l.number; revision = ltb-true _ _ tests.0; text = good; made = l.small };
       same = ap (λ a. record { kind = line.kind; parts = Tune line.number (Some text) a ∷ [] }) chose.1;

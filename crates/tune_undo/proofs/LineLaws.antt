@@ -9,20 +9,23 @@ use Rattle.abc_fields.specs.Bytes.{space, line_feed}
 use Rattle.std.specs.List.{list_all}
 use Rattle.tune_sets.specs.Names.{is_name_byte, is_good_name}
 use Rattle.tune_undo.specs.Entries.{EntryValue, IsAfter, AreNumbers}
-use Rattle.tune_undo.specs.EntryBytes.{after_word, length_word, kind_word, mark_word, IsMark, tune_line, numbers_bytes, list_bytes, set_line, parts_bytes, entry_bytes, mark_bytes, book_tune}
-use Rattle.tune_undo.specs.OldTexts.{OldEntry, made_bytes, old_bytes, IsMarkWritten}
-use Rattle.tune_undo.specs.Inside.Reading.{after, field_at, number_of, number_at, length_of, after_of, kind_of, mark_of}
-use Rattle.tune_undo.specs.Inside.Lines.{tune_line_at, number_line_at, set_line_at, first_line_at, mark_line_at, old_line_at, old_len_of, or_first, first_of_three}
+use Rattle.tune_undo.specs.EntryBytes.{after_word, length_word, kind_word, mark_word, IsMark, tune_line, numbers_bytes, list_bytes, set_line}
+use Rattle.tune_undo.specs.EntryBytes.{parts_bytes, entry_bytes, mark_bytes, book_tune}
+use Rattle.tune_undo.specs.OldItems.{OldEntry, made_bytes, old_bytes, IsMarkWritten}
+use Rattle.tune_undo.specs.Inside.ItemReading.{after, field_at, number_of, number_at, length_of, after_of, kind_of, mark_of}
+use Rattle.tune_undo.specs.Inside.Lines.{tune_line_at, number_line_at, set_line_at, first_line_at, mark_line_at, old_line_at, old_len_of, or_first}
+use Rattle.tune_undo.specs.Inside.Lines.{first_of_three}
 use Rattle.tune_undo.specs.declared.part_lines.TuneLine.{TuneLine}
 use Rattle.tune_undo.specs.declared.part_lines.FirstLine.{FirstLine}
 use Rattle.tune_undo.specs.declared.part_lines.OldLine.{OldLine}
-use Rattle.tune_undo.specs.declared.entries.Kind.{Kind}
-use Rattle.tune_undo.specs.declared.entries.Kind.TheVariants as kind
-use Rattle.tune_undo.specs.declared.entries.After.{After}
-use Rattle.tune_undo.specs.declared.entries.After.TheVariants.{Nothing, Text, Revision}
-use Rattle.tune_undo.specs.declared.entries.Mark.{Mark}
-use Rattle.tune_undo.specs.declared.entries.Mark.TheVariants.{NotDone, Undone, Undoing}
-use Rattle.tune_undo.proofs.FieldLaws.{bind_some, bind_is, after_takes, after_again, Free, free-append, free_test, free_index, field_again, field_takes, decimal_free, number_again, number_takes, number_at_again, number_at_takes}
+use Rattle.tune_undo.specs.declared.old_entries.EntryKind.{EntryKind}
+use Rattle.tune_undo.specs.declared.old_entries.EntryKind.TheVariants as kind
+use Rattle.tune_undo.specs.declared.old_entries.After.{After}
+use Rattle.tune_undo.specs.declared.old_entries.After.TheVariants.{Nothing, Text, Revision}
+use Rattle.tune_undo.specs.declared.old_entries.Mark.{Mark}
+use Rattle.tune_undo.specs.declared.old_entries.Mark.TheVariants.{NotDone, Undone, Undoing}
+use Rattle.tune_undo.proofs.FieldLaws.{bind_some, bind_is, after_takes, after_again, Free, free-append, free_test, free_index, field_again}
+use Rattle.tune_undo.proofs.FieldLaws.{field_takes, decimal_free, number_again, number_takes, number_at_again, number_at_takes}
 use Rattle.tune_undo.proofs.WordLaws.{length_again, length_takes, after_word_again, after_of_takes, kind_again, kind_takes, mark_again, mark_takes}
 
 -- WORDS IN A LINE
@@ -65,7 +68,7 @@ name_bytes_free (byte ∷ name) good =
 name_free : (name : List ℕ) → is_good_name name ≡ true → Free space name
 name_free name good = name_bytes_free name (and_parts _ _ good).1
 
-pub kind_free : (k : Kind) → Free space (kind_word k)
+pub kind_free : (k : EntryKind) → Free space (kind_word k)
 kind_free kind.Delete = free_test space (codes "delete") refl
 kind_free kind.Replace = free_test space (codes "replace") refl
 kind_free kind.Put = free_test space (codes "put") refl
@@ -185,11 +188,11 @@ set_line_takes word bytes r e =
 
 -- THE FIRST LINE OF AN ENTRY
 -- the bytes of that line, before what follows
-abbrev pub first_line : Kind → ℕ → ℕ → List ℕ → List ℕ
+abbrev pub first_line : EntryKind → ℕ → ℕ → List ℕ → List ℕ
 first_line k parts len rest =
     codes "% tunes-book " ++ (kind_word k ++ (space ∷ (decimal parts ++ (space ∷ (decimal len ++ (line_feed ∷ rest))))))
 
-pub first_line_again : (k : Kind) (parts len : ℕ) (rest : List ℕ) → parts < 2 ^ 32 → len < 2 ^ 32
+pub first_line_again : (k : EntryKind) (parts len : ℕ) (rest : List ℕ) → parts < 2 ^ 32 → len < 2 ^ 32
     → first_line_at (first_line k parts len rest) ≡ Some (record { kind = k; parts = parts; len = len }, rest)
 first_line_again k parts len rest few short =
     let end : List ℕ = decimal len ++ (line_feed ∷ rest) in
@@ -231,7 +234,8 @@ entry_parts entry rest = simp append_assoc
 pub mark_line_again : (mark : Mark) (rest : List ℕ) → IsMark mark → mark_line_at (mark_bytes mark ++ rest) ≡ Some (mark, rest)
 mark_line_again mark rest good =
     ap (λ t. mark_line_at (codes "% tunes-book " ++ t)) (append_assoc (mark_word mark) (line_feed ∷ []) rest)
-    ∙ bind_is (field_at line_feed (mark_word mark ++ (line_feed ∷ rest))) _ (mark_word mark, rest) (field_again line_feed (mark_word mark) rest (mark_free mark good))
+    ∙ bind_is (field_at line_feed (mark_word mark ++ (line_feed ∷ rest))) _ (mark_word mark, rest)
+    (field_again line_feed (mark_word mark) rest (mark_free mark good))
     ∙ bind_is (mark_of (mark_word mark)) _ mark (mark_again mark good)
 
 pub mark_written_again : (front : List ℕ) (mark : Mark) (rest : List ℕ) → IsMarkWritten front mark → mark_line_at (front ++ rest) ≡ Some (mark, rest)
@@ -324,7 +328,7 @@ old_len_takes word len e = elim (or_cases (number_of word) (first_of_three word)
 ]
 
 -- the bytes of that line, before what follows
-abbrev pub old_line : Kind → ℕ → ℕ → List ℕ → List ℕ → List ℕ
+abbrev pub old_line : EntryKind → ℕ → ℕ → List ℕ → List ℕ → List ℕ
 old_line k number revision lens rest =
     codes "% tunes-book " ++ (kind_word k ++ (space ∷ (decimal number ++ (space ∷ (decimal revision ++ (space ∷ (lens ++ (line_feed ∷ rest))))))))
 
@@ -337,7 +341,7 @@ made_free len (Some made) short small =
           ((λ e. omega arith), decimal_free line_feed made.1 (omega arith) small.1),
     )
 
-pub old_line_again : (k : Kind) (number revision len : ℕ) (made : Option (ℕ × ℕ)) (rest : List ℕ) → number < 2 ^ 32 → revision < 2 ^ 32 → len < 2 ^ 32
+pub old_line_again : (k : EntryKind) (number revision len : ℕ) (made : Option (ℕ × ℕ)) (rest : List ℕ) → number < 2 ^ 32 → revision < 2 ^ 32 → len < 2 ^ 32
     → IfSome made AreTwo → old_line_at (old_line k number revision (decimal len ++ made_bytes made) rest)
     ≡ Some (record { kind = k; number = number; revision = revision; len = len }, rest)
 old_line_again k number revision len made rest small low short two =
@@ -386,5 +390,6 @@ old_line_takes bytes r e =
     })
 
 pub old_parts : (old : OldEntry) (rest : List ℕ) → old_bytes old ++ rest
-    ≡ old_line old.kind old.number old.revision (decimal (length (book_tune old.number old.text)) ++ made_bytes old.made) (book_tune old.number old.text ++ rest)
+    ≡ old_line old.kind old.number old.revision (decimal (length (book_tune old.number old.text)) ++ made_bytes old.made)
+    (book_tune old.number old.text ++ rest)
 old_parts old rest = simp append_assoc

@@ -8,11 +8,12 @@ use Rattle.std.proofs.lemmas.List.{append_cancel_left}
 use Rattle.abc_fields.specs.Bytes.{space, line_feed}
 use Rattle.tune_undo.specs.Entries.{EntryValue}
 use Rattle.tune_undo.specs.EntryBytes.{kind_word, parts_bytes, book_tune, IsEntry, entry_bytes}
-use Rattle.tune_undo.specs.OldTexts.{OldEntry, IsOld, made_bytes, old_bytes, after_old, entry_of_old, IsWritten, Item, Entered, Marked, Place, Top, Start, Within, next, Stands, IsLog}
-use Rattle.tune_undo.specs.Inside.Reading.{◌>>=◌, field_at}
+use Rattle.tune_undo.specs.OldItems.{OldEntry, IsOld, made_bytes, old_bytes, after_old, entry_of_old, IsWritten, Item, Entered, Marked, ItemPlace}
+use Rattle.tune_undo.specs.OldItems.{Top, Start, Within, next, Stands, IsLog}
+use Rattle.tune_undo.specs.Inside.ItemReading.{◌>>=◌, field_at}
 use Rattle.tune_undo.specs.Inside.Lines.{mark_line_at}
-use Rattle.tune_undo.specs.declared.entries.Part.TheVariants.{Tune}
-use Rattle.tune_undo.specs.declared.entries.Mark.{Mark}
+use Rattle.tune_undo.specs.declared.old_entries.Part.TheVariants.{Tune}
+use Rattle.tune_undo.specs.declared.old_entries.Mark.{Mark}
 use Rattle.tune_undo.proofs.FieldLaws.{bind_is, Free, free-append, field_again, decimal_free}
 use Rattle.tune_undo.proofs.LineLaws.{old_line, old_parts, made_free, mark_written_again}
 use Rattle.tune_undo.proofs.PartLaws.{cut, parts_same}
@@ -29,11 +30,14 @@ old_no_mark old rest is =
     let numbers : List ℕ = decimal old.number ++ (space ∷ second) in
     let word : List ℕ = kind_word old.kind ++ (space ∷ numbers) in
     let more : List ℕ = tune ++ rest in
-    let free_second : Free line_feed second = free-append line_feed (decimal old.revision) (space ∷ lens) (decimal_free line_feed old.revision (omega arith) (omega arith))
+    let free_second : Free line_feed second = free-append line_feed (decimal old.revision) (space ∷ lens)
+    (decimal_free line_feed old.revision (omega arith) (omega arith))
     ((λ same. omega arith), made_free (length tune) old.made (old_short old is) is.made) in
-    let free_numbers : Free line_feed numbers = free-append line_feed (decimal old.number) (space ∷ second) (decimal_free line_feed old.number (omega arith) is.number)
+    let free_numbers : Free line_feed numbers = free-append line_feed (decimal old.number) (space ∷ second)
+    (decimal_free line_feed old.number (omega arith) is.number)
     ((λ same. omega arith), free_second) in
-    let free : Free line_feed word = free-append line_feed (kind_word old.kind) (space ∷ numbers) (kind_feedless old.kind) ((λ same. omega arith), free_numbers) in
+    let free : Free line_feed word = free-append line_feed (kind_word old.kind) (space ∷ numbers) (kind_feedless old.kind)
+    ((λ same. omega arith), free_numbers) in
     let shape : old_line old.kind old.number old.revision lens more ≡ codes "% tunes-book " ++ (word ++ (line_feed ∷ more)) = sym (simp append_assoc) in
     ap mark_line_at (old_parts old rest ∙ shape)
     ∙ (bind_is (field_at line_feed (word ++ (line_feed ∷ more))) _ (word, more) (field_again line_feed word more free)
@@ -81,13 +85,15 @@ written_same (Entered e) (Marked mark) front other x y same (inl w) v =
 written_same (Entered e) (Marked mark) front other x y same (inr w) v =
     absurd (none-some _ (sym (old_no_mark w.0 x w.1) ∙ ap (λ t. mark_line_at (t ++ x)) (sym w.2) ∙ ap mark_line_at same ∙ mark_written_again other mark y v))
 written_same (Marked mark) (Entered f) front other x y same w (inl v) =
-    absurd (none-some _ (sym (entry_no_mark f y v.0) ∙ ap (λ t. mark_line_at (t ++ y)) (sym v.1) ∙ ap mark_line_at (sym same) ∙ mark_written_again front mark x w))
+    absurd (none-some _ (sym (entry_no_mark f y v.0) ∙ ap (λ t. mark_line_at (t ++ y)) (sym v.1) ∙ ap mark_line_at (sym same) ∙ mark_written_again front
+    mark x w))
 written_same (Marked mark) (Entered f) front other x y same w (inr v) =
-    absurd (none-some _ (sym (old_no_mark v.0 y v.1) ∙ ap (λ t. mark_line_at (t ++ y)) (sym v.2) ∙ ap mark_line_at (sym same) ∙ mark_written_again front mark x w))
+    absurd (none-some _ (sym (old_no_mark v.0 y v.1) ∙ ap (λ t. mark_line_at (t ++ y)) (sym v.2) ∙ ap mark_line_at (sym same) ∙ mark_written_again front
+    mark x w))
 written_same (Marked mark) (Marked found) front other x y same w v =
     ap (λ p. Marked p.0) (same_Some _ _ (sym (mark_written_again front mark x w) ∙ ap mark_line_at same ∙ mark_written_again other found y v))
 
-stands_same : (place : Place) (bytes : List ℕ) (a b : Option Item) → Stands place bytes a → Stands place bytes b → a ≡ b
+stands_same : (place : ItemPlace) (bytes : List ℕ) (a b : Option Item) → Stands place bytes a → Stands place bytes b → a ≡ b
 stands_same Top bytes None None s t = refl
 stands_same Top bytes None (Some item) s t = absurd (s item t)
 stands_same Top bytes (Some item) None s t = absurd (t item s)
@@ -96,7 +102,7 @@ stands_same Top bytes (Some item) (Some other) s t =
 stands_same Start bytes a b s t = s ∙ sym t
 stands_same Within bytes a b s t = s ∙ sym t
 
-log_same : (place : Place) (bytes : List ℕ) (a b : List Item) → IsLog place bytes a → IsLog place bytes b → a ≡ b
+log_same : (place : ItemPlace) (bytes : List ℕ) (a b : List Item) → IsLog place bytes a → IsLog place bytes b → a ≡ b
 log_same place [] a b s t = s ∙ sym t
 log_same place (byte ∷ bytes) a b s t =
     let found = stands_same place (byte ∷ bytes) s.0 t.0 s.2 t.2 in

@@ -13,12 +13,12 @@ use Rattle.abc_fields.specs.Tunes.{IsTextWithin}
 use Rattle.tune_sets.specs.Names.{is_good_name}
 use Rattle.tune_undo.specs.Entries.{AreNumbers, IsPart}
 use Rattle.tune_undo.specs.EntryBytes.{tune_line, book_tune, old_text, numbers_bytes, list_bytes, set_line, part_bytes, parts_bytes}
-use Rattle.tune_undo.specs.Inside.Reading.{after, number_of}
+use Rattle.tune_undo.specs.Inside.ItemReading.{after, number_of}
 use Rattle.tune_undo.specs.Inside.Lines.{tune_line_at, number_line_at, set_line_at, word_of, next_number}
 use Rattle.tune_undo.specs.declared.part_lines.TuneLine.{TuneLine}
-use Rattle.tune_undo.specs.declared.entries.After.{After}
-use Rattle.tune_undo.specs.declared.entries.Part.{Part}
-use Rattle.tune_undo.specs.declared.entries.Part.TheVariants.{Tune, Set}
+use Rattle.tune_undo.specs.declared.old_entries.After.{After}
+use Rattle.tune_undo.specs.declared.old_entries.Part.{Part}
+use Rattle.tune_undo.specs.declared.old_entries.Part.TheVariants.{Tune, Set}
 use Rattle.tune_undo.proofs.FieldLaws.{bind_some, bind_is, after_takes, Free, decimal_free, number_again, number_takes}
 use Rattle.tune_undo.proofs.WordLaws.{decimal_not_none}
 use Rattle.tune_undo.proofs.LineLaws.{tune_line_again, number_line_again, number_line_takes, set_line_again, set_line_parts, set_line_takes}
@@ -48,14 +48,16 @@ next_again number rest small ends =
     ∙ ap (λ t. Some (number, t)) (drop_at (decimal number) rest (length (decimal number)) refl)
 
 -- numbers of which some are read are these and more
-pub numbers_go : (so_far rest numbers : List ℕ) → AreNumbers so_far → AreNumbers numbers → word_of rest ≡ [] → numbers_bytes so_far ++ rest ≡ numbers_bytes numbers
+pub numbers_go : (so_far rest numbers : List ℕ) → AreNumbers so_far → AreNumbers numbers → word_of rest ≡ []
+    → numbers_bytes so_far ++ rest ≡ numbers_bytes numbers
     → (more : List ℕ) × AreNumbers more × (rest ≡ numbers_bytes more) × (numbers ≡ so_far ++ more)
 numbers_go [] rest numbers are others ends e = (numbers, others, e, refl)
 numbers_go (n ∷ so_far) rest [] are others ends e = absurd (let l = ap length e in omega arith)
 numbers_go (n ∷ so_far) rest (m ∷ numbers) are others ends e =
     let ends_first : word_of (numbers_bytes so_far ++ rest) ≡ [] = ends_go so_far rest ends in
     let same : Some (n, numbers_bytes so_far ++ rest) ≡ Some (m, numbers_bytes numbers) =
-    sym (next_again n (numbers_bytes so_far ++ rest) are.0 ends_first) ∙ ap next_number (sym (append_assoc (codes " " ++ decimal n) (numbers_bytes so_far) rest) ∙ e)
+    sym (next_again n (numbers_bytes so_far ++ rest) are.0 ends_first) ∙ ap next_number
+    (sym (append_assoc (codes " " ++ decimal n) (numbers_bytes so_far) rest) ∙ e)
     ∙ next_again m (numbers_bytes numbers) others.0 (numbers_end numbers) in
     let both = same_Some _ _ same in
     let head : m ≡ n = sym (ap (λ p. p.0) both) in
@@ -381,7 +383,8 @@ parts_go (p ∷ so_far) rest [] are others e =
     absurd (let some = part_some p (parts_bytes so_far ++ rest) in
     let none = ap length (sym (append_assoc (part_bytes p) (parts_bytes so_far) rest) ∙ e) in omega arith)
 parts_go (p ∷ so_far) rest (q ∷ parts) are others e =
-    let same = part_same p q (parts_bytes so_far ++ rest) (parts_bytes parts) are.0 others.0 (sym (append_assoc (part_bytes p) (parts_bytes so_far) rest) ∙ e) in
+    let same = part_same p q (parts_bytes so_far ++ rest) (parts_bytes parts) are.0 others.0
+    (sym (append_assoc (part_bytes p) (parts_bytes so_far) rest) ∙ e) in
     let go = parts_go so_far rest parts are.1 others.1 same.1 in
     (go.0, go.1, go.2, (let head : q ≡ p = sym same.0 in λ i. head i ∷ go.3 i))
 

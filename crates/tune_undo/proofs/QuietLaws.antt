@@ -11,14 +11,15 @@ use Rattle.abc_fields.specs.Lines.{ends_line, has_no_ending}
 use Rattle.abc_fields.specs.Tunes.{IsTuneLine, IsTextWithin, joined}
 use Rattle.tune_sets.specs.Names.{is_name_byte, is_good_name}
 use Rattle.tune_undo.specs.Entries.{EntryValue, IsPart, IsAfter, AreNumbers}
-use Rattle.tune_undo.specs.EntryBytes.{after_word, length_word, kind_word, mark_word, IsMark, tune_line, book_tune, old_text, list_bytes, set_line, part_bytes, parts_bytes, IsEntry, entry_bytes, mark_bytes}
-use Rattle.tune_undo.specs.OldTexts.{OldEntry, IsOld, made_bytes, old_bytes, IsWritten, Item, Entered, Marked, Place, Top, Start, Within, next}
-use Rattle.tune_undo.specs.declared.entries.Kind.{Kind}
-use Rattle.tune_undo.specs.declared.entries.Kind.TheVariants as kind
-use Rattle.tune_undo.specs.declared.entries.After.{After}
-use Rattle.tune_undo.specs.declared.entries.Part.{Part}
-use Rattle.tune_undo.specs.declared.entries.Part.TheVariants.{Tune, Set}
-use Rattle.tune_undo.specs.declared.entries.Mark.{Mark}
+use Rattle.tune_undo.specs.EntryBytes.{after_word, length_word, kind_word, mark_word, IsMark, tune_line, book_tune, old_text, list_bytes, set_line}
+use Rattle.tune_undo.specs.EntryBytes.{part_bytes, parts_bytes, IsEntry, entry_bytes, mark_bytes}
+use Rattle.tune_undo.specs.OldItems.{OldEntry, IsOld, made_bytes, old_bytes, IsWritten, Item, Entered, Marked, ItemPlace, Top, Start, Within, next}
+use Rattle.tune_undo.specs.declared.old_entries.EntryKind.{EntryKind}
+use Rattle.tune_undo.specs.declared.old_entries.EntryKind.TheVariants as kind
+use Rattle.tune_undo.specs.declared.old_entries.After.{After}
+use Rattle.tune_undo.specs.declared.old_entries.Part.{Part}
+use Rattle.tune_undo.specs.declared.old_entries.Part.TheVariants.{Tune, Set}
+use Rattle.tune_undo.specs.declared.old_entries.Mark.{Mark}
 use Rattle.tune_undo.proofs.FieldLaws.{Free, free_test, decimal_free}
 use Rattle.tune_undo.proofs.LineLaws.{tune_line_parts, set_line_parts, old_line, old_parts, after_free, list_free, mark_free, made_free}
 use Rattle.tune_undo.proofs.ItemLaws.{old_short}
@@ -29,28 +30,28 @@ abbrev pub is_part_front : List ℕ → Bool
 is_part_front bytes = starts_with nat_eq bytes (codes "% tune ") || starts_with nat_eq bytes (codes "% set ")
 
 -- each line after an empty line begins as a part does
-abbrev pub Quiet : Place → List ℕ → Type 0
+abbrev pub Quiet : ItemPlace → List ℕ → Type 0
 Quiet place [] = ⊤
 Quiet place (byte ∷ bytes) = (place ≡ Top → is_part_front (byte ∷ bytes) ≡ true) × Quiet (next place byte) bytes
 
-abbrev pub place_after : Place → List ℕ → Place
+abbrev pub place_after : ItemPlace → List ℕ → ItemPlace
 place_after place [] = place
 place_after place (byte ∷ bytes) = place_after (next place byte) bytes
 
-pub place_after-append : (place : Place) (xs ys : List ℕ) → place_after place (xs ++ ys) ≡ place_after (place_after place xs) ys
+pub place_after-append : (place : ItemPlace) (xs ys : List ℕ) → place_after place (xs ++ ys) ≡ place_after (place_after place xs) ys
 place_after-append place [] ys = refl
 place_after-append place (x ∷ xs) ys = place_after-append (next place x) xs ys
 
 -- what follows such bytes at the top of a line after an empty one begins as a part does
-pub quiet_at : (place : Place) (a zs : List ℕ) → Quiet place (a ++ zs) → place_after place a ≡ Top → 0 < length zs → is_part_front zs ≡ true
+pub quiet_at : (place : ItemPlace) (a zs : List ℕ) → Quiet place (a ++ zs) → place_after place a ≡ Top → 0 < length zs → is_part_front zs ≡ true
 quiet_at place [] [] quiet top some = absurd (omega arith)
 quiet_at place [] (z ∷ zs) quiet top some = quiet.0 top
 quiet_at place (byte ∷ a) zs quiet top some = quiet_at (next place byte) a zs quiet.1 top some
 
 -- LINES
-quiet_byte : (place : Place) (byte : ℕ) (bytes : List ℕ) → place ≢ Top → byte ≢ line_feed → Quiet Within bytes → Quiet place (byte ∷ bytes)
+quiet_byte : (place : ItemPlace) (byte : ℕ) (bytes : List ℕ) → place ≢ Top → byte ≢ line_feed → Quiet Within bytes → Quiet place (byte ∷ bytes)
 quiet_byte place byte bytes low other quiet =
-    let P : Place → Type 0 = λ p. Quiet p bytes in
+    let P : ItemPlace → Type 0 = λ p. Quiet p bytes in
     ((λ e. absurd (low e)), subst P (sym (cond-false (byte == line_feed) _ _ (ne_eqb byte line_feed other))) quiet)
 
 within_low : Within ≢ Top
@@ -80,7 +81,7 @@ name_bytes_feedless (byte ∷ name) good =
 name_feedless : (name : List ℕ) → is_good_name name ≡ true → Free line_feed name
 name_feedless name good = name_bytes_feedless name (and_parts _ _ good).1
 
-pub kind_feedless : (k : Kind) → Free line_feed (kind_word k)
+pub kind_feedless : (k : EntryKind) → Free line_feed (kind_word k)
 kind_feedless kind.Delete = free_test line_feed (codes "delete") refl
 kind_feedless kind.Replace = free_test line_feed (codes "replace") refl
 kind_feedless kind.Put = free_test line_feed (codes "put") refl
@@ -145,7 +146,8 @@ set_line_quiet name word list ys good free are quiet =
     let end = quiet_front (list_bytes list) (line_feed ∷ ys) (list_free list are) (quiet_feed ys quiet) in
     let words = quiet_front (space ∷ word) (list_bytes list ++ (line_feed ∷ ys)) ((λ e. omega arith), free) end in
     let front = quiet_front name (space ∷ (word ++ (list_bytes list ++ (line_feed ∷ ys)))) (name_feedless name good) words in
-    let line = quiet_front (codes " set ") (name ++ (space ∷ (word ++ (list_bytes list ++ (line_feed ∷ ys))))) (free_test line_feed (codes " set ") refl) front in
+    let line = quiet_front (codes " set ") (name ++ (space ∷ (word ++ (list_bytes list ++ (line_feed ∷ ys))))) (free_test line_feed (codes " set ") refl)
+    front in
     subst QuietTop (sym (set_line_parts name word list ys)) (((λ e. refl), line), ((λ e. refl), line))
 
 old_text_quiet : (number : ℕ) (was : Option (List ℕ)) (ys : List ℕ) → number < 2 ^ 32 → IfSome was (λ text. IsTextWithin longest_tune text)
@@ -187,7 +189,8 @@ entry_quiet e is =
     let short = is.size in
     let count : List ℕ = decimal (length e.parts) in
     let size : List ℕ = decimal (length body) in
-    let end = quiet_front size (line_feed ∷ body) (decimal_free line_feed (length body) (omega arith) short) (quiet_feed body (parts_quiet e.parts is.parts).1) in
+    let end = quiet_front size (line_feed ∷ body) (decimal_free line_feed (length body) (omega arith) short)
+    (quiet_feed body (parts_quiet e.parts is.parts).1) in
     let second = quiet_front (codes " ") (size ++ (line_feed ∷ body)) (free_test line_feed (codes " ") refl) end in
     let middle = quiet_front count (codes " " ++ (size ++ (line_feed ∷ body))) (decimal_free line_feed (length e.parts) (omega arith) few) second in
     let first = quiet_front (codes " ") (count ++ (codes " " ++ (size ++ (line_feed ∷ body)))) (free_test line_feed (codes " ") refl) middle in
@@ -211,7 +214,8 @@ old_quiet old is =
     quiet_front (decimal old.number) _ (decimal_free line_feed old.number (omega arith) is.number) second in
     let first : Quiet Within (codes " " ++ (decimal old.number ++ (codes " " ++ (decimal old.revision ++ (codes " " ++ (lens ++ (line_feed ∷ tune))))))) =
     quiet_front (codes " ") _ (free_test line_feed (codes " ") refl) front in
-    let all = quiet_front (kind_word old.kind) (codes " " ++ (decimal old.number ++ (codes " " ++ (decimal old.revision ++ (codes " " ++ (lens ++ (line_feed ∷ tune)))))))
+    let all = quiet_front (kind_word old.kind) (codes " " ++ (decimal old.number ++
+    (codes " " ++ (decimal old.revision ++ (codes " " ++ (lens ++ (line_feed ∷ tune)))))))
     (kind_feedless old.kind) first in
     subst QuietItem (sym (sym (append-nil (old_bytes old)) ∙ old_parts old []
     ∙ ap (λ t. old_line old.kind old.number old.revision lens t) (append-nil tune))) (item_from _ all)

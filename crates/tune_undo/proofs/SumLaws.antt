@@ -9,7 +9,7 @@ use Rattle.std.proofs.lemmas.Slice.Eq.{bytes_eq-Decides}
 use Rattle.hex.specs.Hex.{encode_lower, lower_digits, decode_sized, IsBytes}
 use Rattle.hex.specs.declared.error.FromHexError.{FromHexError}
 use Rattle.hex.proofs.HexLemmas.{length-encode_with, decode_sized-encode_lower}
-use Rattle.tune_undo.specs.Sums.{IsSum}
+use Rattle.tune_undo.specs.TextSums.{IsSum}
 use Rattle.tune_undo.specs.Inside.SumWords.{is_byte, sum_from, sum_of}
 
 -- a word that is this one

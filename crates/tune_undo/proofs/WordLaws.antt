@@ -10,14 +10,14 @@ use Rattle.std.proofs.lemmas.Fmt.{decimal_is_IsNumeral, length-decimal-le}
 use Rattle.hex.specs.Hex.{encode_lower, decode_sized}
 use Rattle.tune_undo.specs.Entries.{IsAfter}
 use Rattle.tune_undo.specs.EntryBytes.{after_word, length_word, kind_word, mark_word, IsMark}
-use Rattle.tune_undo.specs.Inside.Reading.{◌>>=◌, after, number_of, length_of, after_of, kind_of, mark_of}
+use Rattle.tune_undo.specs.Inside.ItemReading.{◌>>=◌, after, number_of, length_of, after_of, kind_of, mark_of}
 use Rattle.tune_undo.specs.Inside.SumWords.{sum_of}
-use Rattle.tune_undo.specs.declared.entries.Kind.{Kind}
-use Rattle.tune_undo.specs.declared.entries.Kind.TheVariants as kind
-use Rattle.tune_undo.specs.declared.entries.After.{After}
-use Rattle.tune_undo.specs.declared.entries.After.TheVariants.{Nothing, Text, Revision}
-use Rattle.tune_undo.specs.declared.entries.Mark.{Mark}
-use Rattle.tune_undo.specs.declared.entries.Mark.TheVariants.{NotDone, Undone, Undoing}
+use Rattle.tune_undo.specs.declared.old_entries.EntryKind.{EntryKind}
+use Rattle.tune_undo.specs.declared.old_entries.EntryKind.TheVariants as kind
+use Rattle.tune_undo.specs.declared.old_entries.After.{After}
+use Rattle.tune_undo.specs.declared.old_entries.After.TheVariants.{Nothing, Text, Revision}
+use Rattle.tune_undo.specs.declared.old_entries.Mark.{Mark}
+use Rattle.tune_undo.specs.declared.old_entries.Mark.TheVariants.{NotDone, Undone, Undoing}
 use Rattle.tune_undo.proofs.SumLaws.{is_word, length_digits, sum_again, sum_takes_from}
 use Rattle.tune_undo.proofs.FieldLaws.{bind_some, bind_is, chosen, after_takes, number_again, number_takes}
 
@@ -72,7 +72,7 @@ after_of_takes word is e =
     ]
 
 -- KINDS
-pub kind_again : (k : Kind) → kind_of (kind_word k) ≡ Some k
+pub kind_again : (k : EntryKind) → kind_of (kind_word k) ≡ Some k
 kind_again kind.Delete = refl
 kind_again kind.Replace = refl
 kind_again kind.Put = refl
@@ -84,14 +84,14 @@ kind_again kind.AddMore = refl
 kind_again kind.Kept = refl
 
 -- one more word that was asked for
-asked : (word other : List ℕ) (k found : Kind) (more : Option Kind) → kind_word k ≡ other
+asked : (word other : List ℕ) (k found : EntryKind) (more : Option EntryKind) → kind_word k ≡ other
     → cond (bytes_eq word other) (Some k) more ≡ Some found → (more ≡ Some found → word ≡ kind_word found) → word ≡ kind_word found
 asked word other k found more spelled e go = elim (chosen (bytes_eq word other) _ _ _ e) [
   | inl h ↦ is_word _ _ h.0 ∙ sym spelled ∙ ap kind_word (same_Some _ _ h.1)
   | inr h ↦ go h.1
 ]
 
-pub kind_takes : (word : List ℕ) (k : Kind) → kind_of word ≡ Some k → word ≡ kind_word k
+pub kind_takes : (word : List ℕ) (k : EntryKind) → kind_of word ≡ Some k → word ≡ kind_word k
 kind_takes word k e =
     asked word (codes "delete") kind.Delete k _ refl e (λ e. asked word (codes "replace") kind.Replace k _ refl e
     (λ e. asked word (codes "put") kind.Put k _ refl e (λ e. asked word (codes "cut") kind.Cut k _ refl e

@@ -5,18 +5,18 @@ use Rattle.std.specs.List.{AllByRecursion}
 use Rattle.abc_fields.specs.Limits.{longest_tune}
 use Rattle.abc_fields.specs.Tunes.{IsTextWithin}
 use Rattle.tune_sets.specs.Names.{is_good_name}
-use Rattle.tune_undo.specs.Sums.{IsSum}
-use Rattle.tune_undo.specs.declared.entries.Kind.{Kind}
-use Rattle.tune_undo.specs.declared.entries.After.{After}
-use Rattle.tune_undo.specs.declared.entries.After.TheVariants.{Nothing, Text, Revision}
-use Rattle.tune_undo.specs.declared.entries.Part.{Part}
-use Rattle.tune_undo.specs.declared.entries.Part.TheVariants.{Tune, Set}
-use Rattle.tune_undo.specs.declared.entries.Entry.{Entry}
-use Rattle.tune_undo.specs.declared.entries.Step.{Step}
+use Rattle.tune_undo.specs.TextSums.{IsSum}
+use Rattle.tune_undo.specs.declared.old_entries.EntryKind.{EntryKind}
+use Rattle.tune_undo.specs.declared.old_entries.After.{After}
+use Rattle.tune_undo.specs.declared.old_entries.After.TheVariants.{Nothing, Text, Revision}
+use Rattle.tune_undo.specs.declared.old_entries.Part.{Part}
+use Rattle.tune_undo.specs.declared.old_entries.Part.TheVariants.{Tune, Set}
+use Rattle.tune_undo.specs.declared.old_entries.Entry.{Entry}
+use Rattle.tune_undo.specs.declared.old_entries.Step.{Step}
 
 -- an entry, wherever its parts lie in memory
 pub record EntryValue : Type 0 where
-  pub kind : Kind
+  pub kind : EntryKind
   pub parts : List Part
 
 abbrev pub entry_value : Entry → EntryValue

@@ -5,14 +5,14 @@ use Rattle.std.specs.Option.{option_map}
 use Rattle.std.specs.List.{AllByRecursion}
 use Rattle.hex.specs.Hex.{encode_lower}
 use Rattle.tune_undo.specs.Entries.{EntryValue, IsPart}
-use Rattle.tune_undo.specs.declared.entries.Kind.{Kind}
-use Rattle.tune_undo.specs.declared.entries.Kind.TheVariants as kind
-use Rattle.tune_undo.specs.declared.entries.After.{After}
-use Rattle.tune_undo.specs.declared.entries.After.TheVariants.{Nothing, Text, Revision}
-use Rattle.tune_undo.specs.declared.entries.Part.{Part}
-use Rattle.tune_undo.specs.declared.entries.Part.TheVariants.{Tune, Set}
-use Rattle.tune_undo.specs.declared.entries.Mark.{Mark}
-use Rattle.tune_undo.specs.declared.entries.Mark.TheVariants.{NotDone, Undone, Undoing}
+use Rattle.tune_undo.specs.declared.old_entries.EntryKind.{EntryKind}
+use Rattle.tune_undo.specs.declared.old_entries.EntryKind.TheVariants as kind
+use Rattle.tune_undo.specs.declared.old_entries.After.{After}
+use Rattle.tune_undo.specs.declared.old_entries.After.TheVariants.{Nothing, Text, Revision}
+use Rattle.tune_undo.specs.declared.old_entries.Part.{Part}
+use Rattle.tune_undo.specs.declared.old_entries.Part.TheVariants.{Tune, Set}
+use Rattle.tune_undo.specs.declared.old_entries.Mark.{Mark}
+use Rattle.tune_undo.specs.declared.old_entries.Mark.TheVariants.{NotDone, Undone, Undoing}
 
 -- TUNES
 -- what a tune is after a change: `none`, or the sum of its text in hexadecimal digits
@@ -67,7 +67,7 @@ abbrev pub parts_bytes : List Part → List ℕ
 parts_bytes [] = []
 parts_bytes (part ∷ parts) = part_bytes part ++ parts_bytes parts
 
-abbrev pub kind_word : Kind → List ℕ
+abbrev pub kind_word : EntryKind → List ℕ
 kind_word kind.Delete = codes "delete"
 kind_word kind.Replace = codes "replace"
 kind_word kind.Put = codes "put"

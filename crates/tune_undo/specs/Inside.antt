@@ -1,4 +1,4 @@
 pub mod SumWords
-pub mod Reading
+pub mod ItemReading
 pub mod Lines
 pub mod Found

@@ -1,6 +1,6 @@
-pub mod Sums
+pub mod TextSums
 pub mod Entries
 pub mod EntryBytes
-pub mod OldTexts
+pub mod OldItems
 pub mod OldTextLaws
 pub mod Inside

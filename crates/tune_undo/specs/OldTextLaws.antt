@@ -3,7 +3,7 @@ use Rattle.std.specs.Prelude.{◌≡◌, ℕ, List, [], ◌∷◌, ◌++◌, cod
 use Rattle.std.specs.Prelude.{◌==◌, if◌then◌else◌}
 use Rattle.abc_fields.specs.Bytes.{line_feed}
 use Rattle.tune_undo.specs.EntryBytes.{IsEntry, entry_bytes, IsMark, mark_bytes}
-use Rattle.tune_undo.specs.OldTexts.{Item, Entered, Marked, Top, IsLog, standing, after_item}
+use Rattle.tune_undo.specs.OldItems.{Item, Entered, Marked, Top, IsLog, standing, after_item}
 
 -- whether the last line is ended: there is none, or its line feed is there
 abbrev pub is_ended : List ℕ → Bool

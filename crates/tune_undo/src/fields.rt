@@ -1,11 +1,11 @@
 // Fields of a line: bytes up to a space or to the end of the line, and what they say.
 ghost use Rattle.std.specs.Prelude.{◌≡◌, ◌≢◌, ℕ, ◌+◌, ◌^◌, ◌<◌, decimal, IfNone, IfSome};
 ghost use Rattle.std.specs.Str.{bytes_eq};
-ghost use Rattle.tune_undo.specs.Inside.Reading.{Gives, after, field_at, number_of, number_at};
-ghost use Rattle.tune_undo.specs.Inside.Reading.{kind_of, length_of, after_of, mark_of};
+ghost use Rattle.tune_undo.specs.Inside.ItemReading.{Gives, after, field_at, number_of, number_at};
+ghost use Rattle.tune_undo.specs.Inside.ItemReading.{kind_of, length_of, after_of, mark_of};
 
-use crate::entries::{After, Kind, Mark};
-use crate::sums::sum_of;
+use crate::old_entries::{After, EntryKind, Mark};
+use crate::text_sums::sum_of;
 use itoa::Buffer;
 use memchr::memchr;
 use std::str::from_utf8;
@@ -94,27 +94,27 @@ pub(crate) fn after_of(word: &[u8]) -> Option<After>
 }
 
 // The kind of an entry.
-pub(crate) fn kind_of(word: &[u8]) -> Option<Kind>
+pub(crate) fn kind_of(word: &[u8]) -> Option<EntryKind>
     ensures { result ≡ kind_of word.now }
 {
     if word == b"delete".as_slice() {
-        Some(Kind::Delete)
+        Some(EntryKind::Delete)
     } else if word == b"replace".as_slice() {
-        Some(Kind::Replace)
+        Some(EntryKind::Replace)
     } else if word == b"put".as_slice() {
-        Some(Kind::Put)
+        Some(EntryKind::Put)
     } else if word == b"cut".as_slice() {
-        Some(Kind::Cut)
+        Some(EntryKind::Cut)
     } else if word == b"move".as_slice() {
-        Some(Kind::Move)
+        Some(EntryKind::Move)
     } else if word == b"drop".as_slice() {
-        Some(Kind::Drop)
+        Some(EntryKind::Drop)
     } else if word == b"add".as_slice() {
-        Some(Kind::Add)
+        Some(EntryKind::Add)
     } else if word == b"add-more".as_slice() {
-        Some(Kind::AddMore)
+        Some(EntryKind::AddMore)
     } else if word == b"kept".as_slice() {
-        Some(Kind::Kept)
+        Some(EntryKind::Kept)
     } else {
         None
     }

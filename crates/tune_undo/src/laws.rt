@@ -1,6 +1,6 @@
 // What holds of each book of old texts, whatever was put into it before.
 ghost use Rattle.std.specs.Prelude.{◌≡◌, ◌≢◌, ℕ, List, [], ◌++◌};
-ghost use Rattle.tune_undo.specs.OldTexts.{Item, Top, IsLog};
+ghost use Rattle.tune_undo.specs.OldItems.{Item, Top, IsLog};
 ghost use Rattle.tune_undo.specs.OldTextLaws.{IsPiece, AddsItem, AddsNothing};
 
 /// The law of old texts. The book may be of any bytes, and may end within an entry: its last line

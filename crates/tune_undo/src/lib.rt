@@ -3,18 +3,18 @@
 //! of tunes.
 #![tactic(auto)]
 
-mod entries;
+mod entry_writing;
 mod fields;
-mod items;
 mod laws;
+mod old_entries;
+mod old_items;
 mod part_lines;
 mod parts;
 mod steps;
-mod sums;
-mod writing;
+mod text_sums;
 
-pub use entries::{After, Entry, Kind, Mark, Part, Step};
+pub use entry_writing::{is_ended, joined, make_ready, written_entry, written_mark};
 pub use laws::law_of_old_texts;
+pub use old_entries::{After, Entry, EntryKind, Mark, Part, Step};
 pub use steps::standing_steps;
-pub use sums::Sum;
-pub use writing::{is_ended, joined, make_ready, written_entry, written_mark};
+pub use text_sums::Sum;

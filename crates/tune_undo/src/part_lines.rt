@@ -1,12 +1,12 @@
 // The lines by which the parts of an entry begin.
 ghost use Rattle.std.specs.Prelude.{◌≡◌};
-ghost use Rattle.tune_undo.specs.Inside.Reading.{Gives};
+ghost use Rattle.tune_undo.specs.Inside.ItemReading.{Gives};
 ghost use Rattle.tune_undo.specs.Inside.Lines.{tune_line_at, set_line_at, number_line_at};
 ghost use Rattle.tune_undo.specs.Inside.Lines.{first_line_at, mark_line_at, old_line_at};
 ghost use Rattle.tune_undo.specs.Inside.Lines.{old_len_of, first_of_three};
 
-use crate::entries::{After, Kind, Mark};
 use crate::fields::{after, after_of, field, kind_of, length_of, mark_of, number, number_of};
+use crate::old_entries::{After, EntryKind, Mark};
 
 // What the line of a tune says.
 #[derive(Clone, Copy)]
@@ -19,7 +19,7 @@ pub(crate) struct TuneLine {
 // What the first line of an entry says.
 #[derive(Clone, Copy)]
 pub(crate) struct FirstLine {
-    pub(crate) kind: Kind,
+    pub(crate) kind: EntryKind,
     pub(crate) parts: u32,
     pub(crate) len: u32,
 }
@@ -85,7 +85,7 @@ pub(crate) fn mark_line(bytes: &[u8]) -> Option<(Mark, &[u8])>
 // What the first line of an entry of before says.
 #[derive(Clone, Copy)]
 pub(crate) struct OldLine {
-    pub(crate) kind: Kind,
+    pub(crate) kind: EntryKind,
     pub(crate) number: u32,
     pub(crate) revision: u32,
     pub(crate) len: u32,

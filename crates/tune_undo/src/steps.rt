@@ -2,12 +2,12 @@
 ghost use Rattle.std.specs.Prelude.{◌≡◌, ◌<◌, List, length, map, IfOk, OnOk};
 ghost use Rattle.std.specs.Option.{option_map};
 ghost use Rattle.tune_undo.specs.Entries.{step_value, entry_value};
-ghost use Rattle.tune_undo.specs.OldTexts.{Item, Entered, Top, Stands, IsLog, standing};
-ghost use Rattle.tune_undo.specs.OldTexts.{after_item, after_mark, without_last, begun_last};
+ghost use Rattle.tune_undo.specs.OldItems.{Item, Entered, Top, Stands, IsLog, standing};
+ghost use Rattle.tune_undo.specs.OldItems.{after_item, after_mark, without_last, begun_last};
 ghost use Rattle.tune_undo.specs.Inside.Found.{found_value, place_of, IsLaterLog, after_found};
 
-use crate::entries::{Entry, Kind, Mark, Step};
-use crate::items::{Found, found_at};
+use crate::old_entries::{Entry, EntryKind, Mark, Step};
+use crate::old_items::{Found, found_at};
 use memchr::memchr;
 use std::alloc::{AllocError, Global};
 
@@ -68,7 +68,7 @@ fn put_step(steps: &mut Vec<Step>, entry: Entry) -> Result<(), AllocError>
     ensures { OnOk result (map step_value steps.new.items
         ≡ after_item (map step_value steps.old.items) (Entered (entry_value entry))) }
 {
-    if entry.kind != Kind::Kept {
+    if entry.kind != EntryKind::Kept {
         steps.push(Step { entry, begun: None })?;
     }
     Ok(())

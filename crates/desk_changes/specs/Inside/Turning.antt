@@ -4,39 +4,39 @@ use Rattle.tune_disk.specs.declared.disk.Disk as disk
 use Rattle.tune_disk.specs.declared.file.Access.TheVariants.{Change}
 use Rattle.tune_store.specs.State.{State}
 use Rattle.tune_store.specs.declared.command.Refusal.{Refusal}
-use Rattle.tune_undo.specs.declared.entries.Kind.{Kind}
+use Rattle.tune_undo.specs.declared.old_entries.EntryKind.{EntryKind}
 use Rattle.tune_changes.specs.declared.turns.Turn.{Turn}
 use Rattle.tune_desk.specs.DeskDeeds.{DeskDeed}
 use Rattle.tune_desk.specs.OldTexts.{GrowsNot}
 use Rattle.desk_scenes.specs.FileAnswers.{Did}
 use Rattle.desk_scenes.specs.Visits.{Visits}
-use Rattle.desk_changes.specs.ChangedFiles.{Course, BringsAbout, ChangesBy, LeavesAll, IsHeld}
+use Rattle.desk_changes.specs.ChangedFiles.{Passage, BringsAbout, ChangesBy, LeavesAll, IsChangedWithin}
 use Rattle.desk_changes.specs.declared.words.Unchanged.{Unchanged}
 
 -- Turns were brought about behind their entry; or this was not kept, and nothing was done; or a
 -- refusal ended them.
-abbrev pub Turns : {D A : Type 0} → disk.Ghosts D → List ℕ → Kind → List Turn
-    → Result (Unit {0}) A → Course D → Type 0
+abbrev pub Turns : {D A : Type 0} → disk.Ghosts D → List ℕ → EntryKind → List Turn
+    → Result (Unit {0}) A → Passage D → Type 0
 Turns disks file kind turns result course = MatchResult result
     (λ _. BringsAbout disks file kind turns (Ok tt) course)
     (λ _. ((course.finish ≡ course.start) × GrowsNot file course.was course.now)
     ⊎ ((refusal : Refusal) × BringsAbout disks file kind turns (Err refusal) course))
 
 -- The same behind a look, by which the turns were found.
-abbrev pub Alters : {D A : Type 0} → disk.Ghosts D → List ℕ → Kind
-    → (State → List Turn → Type 0) → Result (Unit {0}) A → Course D → Type 0
+abbrev pub Alters : {D A : Type 0} → disk.Ghosts D → List ℕ → EntryKind
+    → (State → List Turn → Type 0) → Result (Unit {0}) A → Passage D → Type 0
 Alters disks file kind Means result course = MatchResult result
     (λ _. ChangesBy disks file kind Means (Ok tt) course)
     (λ _. LeavesAll disks file course
     ⊎ ((refusal : Refusal) × ChangesBy disks file kind Means (Err refusal) course))
 
 -- The same in FILE, which was opened to change and closed; or it was not opened.
-abbrev pub AltersFile : {D A : Type 0} → disk.Ghosts D → List ℕ → Kind
+abbrev pub AltersFile : {D A : Type 0} → disk.Ghosts D → List ℕ → EntryKind
     → (State → List Turn → Type 0) → Result (Unit {0}) A → List (DeskDeed D) → List (DeskDeed D)
     → Type 0
 AltersFile disks file kind Means result was now = MatchResult result
-    (λ _. IsHeld disks file (ChangesBy disks file kind Means (Ok tt)) was now)
+    (λ _. IsChangedWithin disks file (ChangesBy disks file kind Means (Ok tt)) was now)
     (λ _. Did was now (Visits disks file Change)
-    ⊎ (IsHeld disks file (LeavesAll disks file) was now
-    ⊎ ((refusal : Refusal) × IsHeld disks file
+    ⊎ (IsChangedWithin disks file (LeavesAll disks file) was now
+    ⊎ ((refusal : Refusal) × IsChangedWithin disks file
     (ChangesBy disks file kind Means (Err refusal)) was now)))

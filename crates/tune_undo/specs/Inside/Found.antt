@@ -1,17 +1,17 @@
 -- What the walk over a book of old texts finds, and what it leaves.
 use Rattle.std.specs.Prelude.{◌≡◌, ℕ, List, [], ◌∷◌, ◌++◌, Bool, true, false, Option, None, Some}
 use Rattle.tune_undo.specs.Entries.{EntryValue, entry_value, StepValue}
-use Rattle.tune_undo.specs.OldTexts.{Item, Entered, Marked, Place, Top, Start, next, IsLog}
-use Rattle.tune_undo.specs.OldTexts.{after_item, OldEntry, IsOld, entry_of_old, old_bytes}
-use Rattle.tune_undo.specs.declared.items.Found.{Found}
-use Rattle.tune_undo.specs.declared.items.Found.TheVariants as found
+use Rattle.tune_undo.specs.OldItems.{Item, Entered, Marked, ItemPlace, Top, Start, next, IsLog}
+use Rattle.tune_undo.specs.OldItems.{after_item, OldEntry, IsOld, entry_of_old, old_bytes}
+use Rattle.tune_undo.specs.declared.old_items.Found.{Found}
+use Rattle.tune_undo.specs.declared.old_items.Found.TheVariants as found
 
 abbrev pub found_value : Found → Item
 found_value (found.Entry entry) = Entered (entry_value entry)
 found_value (found.Mark mark) = Marked mark
 
 -- the place at the top of a line, after an empty line or not
-abbrev pub place_of : Bool → Place
+abbrev pub place_of : Bool → ItemPlace
 place_of true = Top
 place_of false = Start
 

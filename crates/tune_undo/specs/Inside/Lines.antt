@@ -2,15 +2,15 @@
 use Rattle.std.specs.Prelude.{ℕ, ◌+◌, ◌-◌, ◌^◌, List, [], ◌∷◌, length, drop, codes, nat_lt}
 use Rattle.std.specs.Prelude.{Option, None, Some, ◌==◌, ◌&&◌, if◌then◌else◌}
 use Rattle.abc_fields.specs.Bytes.{space, line_feed}
-use Rattle.tune_undo.specs.Inside.Reading.{◌>>=◌, after, field_at, number_at, kind_of}
-use Rattle.tune_undo.specs.Inside.Reading.{length_of, number_of, after_of, mark_of}
-use Rattle.tune_undo.specs.OldTexts.{is_old_kind, after_old}
+use Rattle.tune_undo.specs.Inside.ItemReading.{◌>>=◌, after, field_at, number_at, kind_of}
+use Rattle.tune_undo.specs.Inside.ItemReading.{length_of, number_of, after_of, mark_of}
+use Rattle.tune_undo.specs.OldItems.{is_old_kind, after_old}
 use Rattle.tune_undo.specs.declared.part_lines.TuneLine.{TuneLine}
 use Rattle.tune_undo.specs.declared.part_lines.FirstLine.{FirstLine}
 use Rattle.tune_undo.specs.declared.part_lines.OldLine.{OldLine}
-use Rattle.tune_undo.specs.declared.entries.Mark.{Mark}
-use Rattle.tune_undo.specs.declared.entries.Kind.{Kind}
-use Rattle.tune_undo.specs.declared.entries.After.{After}
+use Rattle.tune_undo.specs.declared.old_entries.Mark.{Mark}
+use Rattle.tune_undo.specs.declared.old_entries.EntryKind.{EntryKind}
+use Rattle.tune_undo.specs.declared.old_entries.After.{After}
 
 -- the line of a tune, and what follows it
 abbrev pub tune_line_at : List ℕ → Option (TuneLine × List ℕ)
@@ -101,7 +101,7 @@ old_line_at bytes = do
   Some (record { kind = kind; number = number.0; revision = revision.0; len = len }, lens.1)
 
 -- what a tune is after a change of before
-abbrev pub after_old_of : Kind → ℕ → Option After
+abbrev pub after_old_of : EntryKind → ℕ → Option After
 after_old_of kind revision =
     if nat_lt (revision + 1) (2 ^ 32) && is_old_kind kind then Some (after_old kind revision)
     else None

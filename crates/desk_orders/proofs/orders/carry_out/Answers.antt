@@ -10,64 +10,71 @@ use Rattle.desk_orders.proofs.FileLemmas.{kept_by, told_keeps, asked_keeps, empt
 use Rattle.desk_orders.proofs.orders.carry_out.Goals as goal
 
 pub returns-in-Tell-clause-files : goal.returns-in-Tell-clause-files
-returns-in-Tell-clause-files g c = kept_by (string_bytes c.args.file.now) c.args.order.now (order.Tell c.in-Tell.question) (g.K.Desk.deeds c.args.desk.now) (g.K.Desk.deeds c.tell.new.desk) c.in-Tell.is
+returns-in-Tell-clause-files g c = kept_by (string_bytes c.args.file.now) c.args.order.now (order.Tell c.in-Tell.question) (g.K.Desk.deeds c.args.desk.now)
+    (g.K.Desk.deeds c.tell.new.desk) c.in-Tell.is
     (told_keeps g.D.Disk (string_bytes c.args.file.now) (λ state bytes. told c.in-Tell.question state ≡ Ok bytes) (record {
-  streams = streams_in g.C.Console c.args.console.now c.tell.new.console;
-  was = g.K.Desk.deeds c.args.desk.now;
-  now = g.K.Desk.deeds c.tell.new.desk;
-  status = c.tell.result;
-}) c.tell.ensures)
+      streams = streams_in g.C.Console c.args.console.now c.tell.new.console;
+      was = g.K.Desk.deeds c.args.desk.now;
+      now = g.K.Desk.deeds c.tell.new.desk;
+      status = c.tell.result;
+    }) c.tell.ensures)
 
 pub returns-in-Write-clause-files : goal.returns-in-Write-clause-files
-returns-in-Write-clause-files g c = kept_by (string_bytes c.args.file.now) c.args.order.now (order.Write c.in-Write.question c.in-Write.target) (g.K.Desk.deeds c.args.desk.now) (g.K.Desk.deeds c.write.new.desk) c.in-Write.is
+returns-in-Write-clause-files g c = kept_by (string_bytes c.args.file.now) c.args.order.now (order.Write c.in-Write.question c.in-Write.target)
+    (g.K.Desk.deeds c.args.desk.now) (g.K.Desk.deeds c.write.new.desk) c.in-Write.is
     (writes_spares g.D.Disk (string_bytes c.args.file.now) (λ state bytes. told c.in-Write.question state ≡ Ok bytes) c.in-Write.target (record {
-  streams = streams_in g.C.Console c.args.console.now c.write.new.console;
-  was = g.K.Desk.deeds c.args.desk.now;
-  now = g.K.Desk.deeds c.write.new.desk;
-  status = c.write.result;
-}) c.write.ensures)
+      streams = streams_in g.C.Console c.args.console.now c.write.new.console;
+      was = g.K.Desk.deeds c.args.desk.now;
+      now = g.K.Desk.deeds c.write.new.desk;
+      status = c.write.result;
+    }) c.write.ensures)
 
 pub returns-in-Check-clause-files : goal.returns-in-Check-clause-files
-returns-in-Check-clause-files g c = kept_by (string_bytes c.args.file.now) c.args.order.now order.Check (g.K.Desk.deeds c.args.desk.now) (g.K.Desk.deeds c.check.new.desk) c.in-Check.is
+returns-in-Check-clause-files g c = kept_by (string_bytes c.args.file.now) c.args.order.now order.Check (g.K.Desk.deeds c.args.desk.now)
+    (g.K.Desk.deeds c.check.new.desk) c.in-Check.is
     (told_keeps g.D.Disk (string_bytes c.args.file.now) (λ state bytes. bytes ≡ counts_bytes state) (record {
-  streams = streams_in g.C.Console c.args.console.now c.check.new.console;
-  was = g.K.Desk.deeds c.args.desk.now;
-  now = g.K.Desk.deeds c.check.new.desk;
-  status = c.check.result;
-}) c.check.ensures)
+      streams = streams_in g.C.Console c.args.console.now c.check.new.console;
+      was = g.K.Desk.deeds c.args.desk.now;
+      now = g.K.Desk.deeds c.check.new.desk;
+      status = c.check.result;
+    }) c.check.ensures)
 
 pub returns-in-Draft-clause-files : goal.returns-in-Draft-clause-files
-returns-in-Draft-clause-files g c = kept_by (string_bytes c.args.file.now) c.args.order.now (order.Draft c.in-Draft.number c.in-Draft.out) (g.K.Desk.deeds c.args.desk.now) (g.K.Desk.deeds c.draft.new.desk) c.in-Draft.is
+returns-in-Draft-clause-files g c = kept_by (string_bytes c.args.file.now) c.args.order.now (order.Draft c.in-Draft.number c.in-Draft.out)
+    (g.K.Desk.deeds c.args.desk.now) (g.K.Desk.deeds c.draft.new.desk) c.in-Draft.is
     (drafts_spares g.D.Disk (string_bytes c.args.file.now) c.in-Draft.number (string_bytes c.in-Draft.out) (record {
-  streams = streams_in g.C.Console c.args.console.now c.draft.new.console;
-  was = g.K.Desk.deeds c.args.desk.now;
-  now = g.K.Desk.deeds c.draft.new.desk;
-  status = c.draft.result;
-}) c.draft.ensures)
+      streams = streams_in g.C.Console c.args.console.now c.draft.new.console;
+      was = g.K.Desk.deeds c.args.desk.now;
+      now = g.K.Desk.deeds c.draft.new.desk;
+      status = c.draft.result;
+    }) c.draft.ensures)
 
 pub returns-in-Ask-clause-files : goal.returns-in-Ask-clause-files
-returns-in-Ask-clause-files g c = kept_by (string_bytes c.args.file.now) c.args.order.now order.Ask (g.K.Desk.deeds c.args.desk.now) (g.K.Desk.deeds c.ask.new.desk) c.in-Ask.is
+returns-in-Ask-clause-files g c = kept_by (string_bytes c.args.file.now) c.args.order.now order.Ask (g.K.Desk.deeds c.args.desk.now)
+    (g.K.Desk.deeds c.ask.new.desk) c.in-Ask.is
     (asked_keeps g.D.Disk (string_bytes c.args.file.now) (record {
-  streams = streams_in g.C.Console c.args.console.now c.ask.new.console;
-  was = g.K.Desk.deeds c.args.desk.now;
-  now = g.K.Desk.deeds c.ask.new.desk;
-  status = c.ask.result;
-}) c.ask.ensures)
+      streams = streams_in g.C.Console c.args.console.now c.ask.new.console;
+      was = g.K.Desk.deeds c.args.desk.now;
+      now = g.K.Desk.deeds c.ask.new.desk;
+      status = c.ask.result;
+    }) c.ask.ensures)
 
 pub returns-in-CheckBooks-clause-files : goal.returns-in-CheckBooks-clause-files
-returns-in-CheckBooks-clause-files g c = kept_by (string_bytes c.args.file.now) c.args.order.now (order.CheckBooks c.in-CheckBooks.paths) (g.K.Desk.deeds c.args.desk.now) (g.K.Desk.deeds c.check_books.new.desk) c.in-CheckBooks.is
+returns-in-CheckBooks-clause-files g c = kept_by (string_bytes c.args.file.now) c.args.order.now (order.CheckBooks c.in-CheckBooks.paths)
+    (g.K.Desk.deeds c.args.desk.now) (g.K.Desk.deeds c.check_books.new.desk) c.in-CheckBooks.is
     (quiet_spares g.D.Disk (places_of (string_bytes c.args.file.now) None false) _ _ c.check_books.ensures.quiet)
 
 pub returns-in-Make-clause-files : goal.returns-in-Make-clause-files
-returns-in-Make-clause-files g c = kept_by (string_bytes c.args.file.now) c.args.order.now order.Make (g.K.Desk.deeds c.args.desk.now) (g.K.Desk.deeds c.make.new.desk) c.in-Make.is
+returns-in-Make-clause-files g c = kept_by (string_bytes c.args.file.now) c.args.order.now order.Make (g.K.Desk.deeds c.args.desk.now)
+    (g.K.Desk.deeds c.make.new.desk) c.in-Make.is
     (empty_keeps g.D.Disk (string_bytes c.args.file.now) _ _ c.make.result c.make.ensures)
 
 pub returns-in-Restore-clause-files : goal.returns-in-Restore-clause-files
-returns-in-Restore-clause-files g c = kept_by (string_bytes c.args.file.now) c.args.order.now (order.Restore c.in-Restore.copy c.in-Restore.force) (g.K.Desk.deeds c.args.desk.now) (g.K.Desk.deeds c.restore.new.desk) c.in-Restore.is
+returns-in-Restore-clause-files g c = kept_by (string_bytes c.args.file.now) c.args.order.now (order.Restore c.in-Restore.copy c.in-Restore.force)
+    (g.K.Desk.deeds c.args.desk.now) (g.K.Desk.deeds c.restore.new.desk) c.in-Restore.is
     (restored_keeps g.D.Disk (string_bytes c.args.file.now) (string_bytes c.in-Restore.copy) (record {
-  streams = streams_in g.C.Console c.args.console.now c.restore.new.console;
-  was = g.K.Desk.deeds c.args.desk.now;
-  now = g.K.Desk.deeds c.restore.new.desk;
-  status = c.restore.result;
-}) c.restore.ensures)
-
+      streams = streams_in g.C.Console c.args.console.now c.restore.new.console;
+      was = g.K.Desk.deeds c.args.desk.now;
+      now = g.K.Desk.deeds c.restore.new.desk;
+      status = c.restore.result;
+    }) c.restore.ensures)

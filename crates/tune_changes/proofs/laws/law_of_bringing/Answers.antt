@@ -1,5 +1,5 @@
 use Rattle.tune_changes.specs.Bringing.{brought}
-use Rattle.tune_changes.specs.States.{with_content}
+use Rattle.tune_changes.specs.ChangedStates.{with_content}
 use Rattle.tune_changes.proofs.Leading.{leads_left}
 use Rattle.tune_changes.proofs.Accepted.{only}
 use Rattle.tune_changes.proofs.Faces.{its_content, others_stay}

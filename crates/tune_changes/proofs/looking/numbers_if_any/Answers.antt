@@ -13,4 +13,5 @@ returns-in_ok-numbers-in-Ok g c =
     (λ is_open honest.
     let state = k.state c.args.store.now in
     set_there state.tunes (set_at c.args.name.now state.sets) _ (good_of k _ _ _ _ _ start c.in-Ok.ensures is_open honest)
-    ∙ ap (λ numbers. Ok (Some numbers)) (ap (map (λ (row : IndexRow). row.number)) (sym c.as_slice.ensures) ∙ sym c.in_ok-numbers-in-Ok.ensures ∙ sym c.from_vec.ensures))
+    ∙ ap (λ numbers. Ok (Some numbers)) (ap (map (λ (row : IndexRow). row.number)) (sym c.as_slice.ensures) ∙ sym c.in_ok-numbers-in-Ok.ensures ∙ sym
+    c.from_vec.ensures))

@@ -1,7 +1,7 @@
 use Rattle.std.proofs.Common.{◌≡◌, ◌+◌, [], ◌∷◌, ◌++◌, List, Ok, Result, take, drop, refl, sym, ap, ◌∙◌, arith, rules, append-nil}
 use Rattle.tune_store.specs.declared.command.Refusal.{Refusal}
 use Rattle.tune_asking.proofs.CallLemmas.{goes_none, goes_on, good_of, call_ok, call_err, call_no_memory}
-use Rattle.tune_changes.specs.Inside.Plans.{all_gone}
+use Rattle.tune_changes.specs.Inside.TurnPlans.{all_gone}
 use Rattle.tune_changes.specs.Planning.{with_more}
 use Rattle.tune_changes.specs.declared.turns.Turn.{Turn}
 use Rattle.tune_changes.proofs.PlanLemmas.{before, before_none, before_more, gone_next, gone_end}

@@ -1,6 +1,6 @@
 use Rattle.std.proofs.Common.{◌≡◌, false, [], take, drop}
 use Rattle.tune_asking.proofs.CallLemmas.{Goes}
-use Rattle.tune_changes.specs.Inside.Plans.{all_gone}
+use Rattle.tune_changes.specs.Inside.TurnPlans.{all_gone}
 use Rattle.tune_changes.proofs.PlanLemmas.{before}
 use Rattle.tune_changes.proofs.planning.all_gone.Given as goal
 

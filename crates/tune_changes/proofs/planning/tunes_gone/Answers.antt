@@ -2,7 +2,7 @@ use Rattle.std.proofs.Common.{◌≡◌, [], List, ℕ, Option, map, sym, ap, �
 use Rattle.tune_sets.specs.Sets.{holder}
 use Rattle.tune_sets.specs.declared.set_lists.TuneSet.{TuneSet}
 use Rattle.tune_asking.proofs.CallLemmas.{goes_none, call_same}
-use Rattle.tune_changes.specs.Inside.Plans.{all_gone}
+use Rattle.tune_changes.specs.Inside.TurnPlans.{all_gone}
 use Rattle.tune_changes.specs.Planning.{tunes_gone}
 use Rattle.tune_changes.proofs.PlanLemmas.{all_held}
 use Rattle.tune_changes.proofs.planning.tunes_gone.Goals as goal

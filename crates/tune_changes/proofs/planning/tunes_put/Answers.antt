@@ -4,7 +4,7 @@ use Rattle.tune_sets.specs.declared.set_lists.TuneSet.{TuneSet}
 use Rattle.tune_store.specs.declared.command.Refusal.{Refusal}
 use Rattle.tune_asking.specs.Asking.{IsToldOrFault}
 use Rattle.tune_asking.proofs.CallLemmas.{goes_none, goes_on, good_of}
-use Rattle.tune_changes.specs.Inside.Plans.{numbers_in}
+use Rattle.tune_changes.specs.Inside.TurnPlans.{numbers_in}
 use Rattle.tune_changes.specs.Planning.{numbers_put, tunes_put}
 use Rattle.tune_changes.specs.declared.turns.Turn.{Turn}
 use Rattle.tune_changes.proofs.PlanLemmas.{planned_then, put_known}

@@ -1,4 +1,5 @@
-use Rattle.std.proofs.Common.{◌≡◌, ◌<◌, ◌≤◌, ◌+◌, ◌-◌, ◌++◌, [], ◌∷◌, Ok, Err, Some, None, map, take, drop, length, replicate, rules, refl, sym, ap, ◌∙◌, subst, arith, append-nil}
+use Rattle.std.proofs.Common.{◌≡◌, ◌<◌, ◌≤◌, ◌+◌, ◌-◌, ◌++◌, [], ◌∷◌, Ok, Err, Some, None, map, take, drop, length, replicate, rules, refl, sym, ap}
+use Rattle.std.proofs.Common.{◌∙◌, subst, arith, append-nil}
 use Rattle.tune_store.specs.declared.command.Command.TheVariants.{SetCut}
 use Rattle.tune_changes.proofs.CarryLemmas.{partly_none, partly_on, carries_err, carries_done}
 use Rattle.tune_changes.proofs.BringingLemmas.{repeated_next, repeated_end}

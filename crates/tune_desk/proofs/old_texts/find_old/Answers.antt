@@ -15,7 +15,8 @@ returns-in_ok-spare_unknown-in-Ok-File g c =
     let head = tested old archive_head (Ok false) in
     let deed = looked old (Ok standing.File) in
     let is : c.in-Ok-File.field-0 ≡ standing.File = search rules in
-    asks_first (λ since. AreApart old file since × Contains since head) (MayGrow (places_of file None false) old) _ _ _ deed (rw is at c.in-Ok-File.ensures.deed) refl
+    asks_first (λ since. AreApart old file since × Contains since head) (MayGrow (places_of file None false) old) _ _ _ deed
+    (rw is at c.in-Ok-File.ensures.deed) refl
     (λ rest h. inr (first_of_one deed rest, apart-more (covers_rest (deed ∷ []) rest) old file h.0, (covers_rest (deed ∷ []) rest).each head h.1))
     (asks_both (λ since. AreApart old file since × Contains since head) KnowsNothing (λ since. AreApart old file since × Contains since head) _ _ _
     (λ front rest p q. (apart-more (covers_front front rest) old file p.0, (covers_front front rest).each head p.1))

@@ -1,7 +1,7 @@
 use Rattle.std.proofs.Common.{ap, sym, ◌∙◌}
 use Rattle.std.specs.Prelude.{decimal}
 use Rattle.std.proofs.lemmas.Slice.Eq.{bytes_eq-Decides}
-use Rattle.tune_undo.specs.Inside.Reading.{number_of}
+use Rattle.tune_undo.specs.Inside.ItemReading.{number_of}
 use Rattle.tune_undo.proofs.FieldLaws.{number_again}
 use Rattle.tune_undo.proofs.fields.number_of.Goals as goal
 

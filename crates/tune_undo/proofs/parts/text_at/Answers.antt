@@ -12,18 +12,21 @@ returns-in_default-clause-none c = λ text later is size e.
 
 pub returns-then-other-number-clause-none : goal.returns-then-other-number-clause-none
 returns-then-other-number-clause-none c = λ text later is size e.
-    let front = text_front c.args.number c.in-Some.other text later c.in-Some.rest.now c.args.bytes.now c.args.len (omega (arith, c.ranges.number)) c.in-Some.ensures size e in
+    let front = text_front c.args.number c.in-Some.other text later c.in-Some.rest.now c.args.bytes.now c.args.len (omega (arith, c.ranges.number))
+    c.in-Some.ensures size e in
     c.if-other-number.true front.0
 
 pub returns-then-rest-len-clause-none : goal.returns-then-rest-len-clause-none
 returns-then-rest-len-clause-none c = λ text later is size e.
-    let front = text_front c.args.number c.in-Some.other text later c.in-Some.rest.now c.args.bytes.now c.args.len (omega (arith, c.ranges.number)) c.in-Some.ensures size e in
+    let front = text_front c.args.number c.in-Some.other text later c.in-Some.rest.now c.args.bytes.now c.args.len (omega (arith, c.ranges.number))
+    c.in-Some.ensures size e in
     let long = front.1 in
     omega arith
 
 pub returns-then-not-branch-clause-none : goal.returns-then-not-branch-clause-none
 returns-then-not-branch-clause-none c = λ text later is size e.
-    let front = text_front c.args.number c.in-Some.other text later c.in-Some.rest.now c.args.bytes.now c.args.len (omega (arith, c.ranges.number)) c.in-Some.ensures size e in
+    let front = text_front c.args.number c.in-Some.other text later c.in-Some.rest.now c.args.bytes.now c.args.len (omega (arith, c.ranges.number))
+    c.in-Some.ensures size e in
     let good = subst (IsTextWithin longest_tune) (sym (c.split_at.ensures.front ∙ front.2)) is in
     true≢false (sym (c.in_ok-read_stored.ensures.good.1 good) ∙ c.if-not-branch.true)
 

@@ -1,5 +1,5 @@
 use Rattle.std.proofs.Common.{Some, refl, arith}
-use Rattle.tune_undo.specs.declared.entries.Step.{Step}
+use Rattle.tune_undo.specs.declared.old_entries.Step.{Step}
 use Rattle.tune_undo.proofs.StepLaws.{begun_none, begun_more}
 use Rattle.tune_undo.proofs.steps.begin_last.Goals as goal
 

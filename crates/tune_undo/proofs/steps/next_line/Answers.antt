@@ -1,7 +1,7 @@
 use Rattle.std.proofs.Common.{◌≡◌, ◌+◌, ℕ, suc, List, [], length, drop, ap, sym, subst, ◌∙◌, arith}
 use Rattle.std.specs.Prelude.{◌==◌}
 use Rattle.std.proofs.lemmas.List.{take_rest, drop_all}
-use Rattle.tune_undo.specs.OldTexts.{Start, IsLog}
+use Rattle.tune_undo.specs.OldItems.{Start, IsLog}
 use Rattle.tune_undo.specs.Inside.Found.{place_of, IsLaterLog}
 use Rattle.tune_undo.proofs.StepLaws.{later_first, later_absent}
 use Rattle.tune_undo.proofs.steps.next_line.Goals as goal

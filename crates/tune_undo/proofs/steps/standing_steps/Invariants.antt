@@ -2,7 +2,7 @@
 use Rattle.std.proofs.Common.{◌≡◌, List, length}
 use Rattle.std.specs.Prelude.{map}
 use Rattle.tune_undo.specs.Entries.{step_value}
-use Rattle.tune_undo.specs.OldTexts.{Item, Top, IsLog, standing, standing_after}
+use Rattle.tune_undo.specs.OldItems.{Item, Top, IsLog, standing, standing_after}
 use Rattle.tune_undo.specs.Inside.Found.{place_of}
 use Rattle.tune_undo.proofs.steps.standing_steps.Given as goal
 
