@@ -3,7 +3,7 @@ use Rattle.std.specs.Prelude.{ℕ, List, map, Option, Some, None}
 use Rattle.sha2.specs.Sha256.{sha256}
 use Rattle.tune_changes.specs.declared.turns.Turn.{Turn}
 use Rattle.tune_changes.specs.declared.turns.Turn.TheVariants as turn
-use Rattle.tune_undo.specs.Entries.{EntryValue}
+use Rattle.tune_undo.specs.OldEntries.{EntryValue}
 use Rattle.tune_undo.specs.declared.old_entries.After.{After}
 use Rattle.tune_undo.specs.declared.old_entries.After.TheVariants.{Nothing, Text}
 use Rattle.tune_undo.specs.declared.old_entries.EntryKind.{EntryKind}

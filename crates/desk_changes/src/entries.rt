@@ -1,6 +1,6 @@
 // Entries of the book of old texts, of turns.
 ghost use Rattle.std.specs.Prelude.{◌≡◌, IfOk};
-ghost use Rattle.tune_undo.specs.Entries.{entry_value};
+ghost use Rattle.tune_undo.specs.OldEntries.{entry_value};
 ghost use Rattle.desk_changes.specs.EntriesOfTurns.{entry_of, part_of};
 
 use std::alloc::{AllocError, Global};

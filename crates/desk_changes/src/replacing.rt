@@ -22,7 +22,8 @@ pub struct Replaced {
 }
 
 /// Puts the one tune of a book in the place of a tune, prints the revision that this has then, and
-/// gives the status. A book of which a line would not be kept is refused: an empty line ends a tune.
+/// gives the status. A book of which a line would not be kept is refused: an empty line ends a
+/// tune.
 pub fn replace<C: Console, E: Write, D: Disk, K: AllocGlobal + Desk<Disk = D>>(
     desk: &mut K,
     file: &String,

@@ -20,7 +20,7 @@ use Rattle.tune_desk.proofs.ArchiveLemmas.{finished_archive, makes_both, makes_o
 use Rattle.tune_desk.proofs.BegunLemmas.{own_more, quiet_leaves}
 use Rattle.tune_desk.proofs.SpareLemmas.{each_after, each_append, each_of_all, own_after}
 use Rattle.tune_desk.proofs.DeedLists.{All-append, All-map, covers_front, covers_rest}
-use Rattle.desk_copies.specs.Inside.Holding.{Ends, HoldsArchive, HasPutAside, aside_of}
+use Rattle.desk_copies.specs.Inside.HeldFiles.{Ends, HoldsArchive, HasPutAside, aside_of}
 
 -- one path is not another
 pub not_there : (path other : List ℕ) → path ≢ other → ¬ Contains (other ∷ []) path

@@ -21,7 +21,8 @@ pub record IsLookedAt {D : Type 0} (honest : D → Type 0) (state : D → DiskSt
   pub same : honest new → state new ≡ state old
 
 -- ARCHIVES
--- An archive was copied: the copy holds the state that the archive holds, and so does each file that
+-- An archive was copied: the copy holds the state that the archive holds, and so does each file
+-- that
 -- a stop leaves of it. How much that is was told, and the sum of the bytes, which is that of both.
 pub record CopiesArchive (from to : DiskState) (copied : Copied) : Type 0 where
   pub state : State

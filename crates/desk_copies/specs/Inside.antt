@@ -1,4 +1,4 @@
 pub mod Asked
 pub mod Beginnings
 pub mod Checks
-pub mod Holding
+pub mod HeldFiles

@@ -1,6 +1,7 @@
 // An archive that is put where FILE leads.
 ghost use Rattle.std.specs.Prelude.{◌≡◌, false, List, ℕ, IfOk, MatchResult, string_bytes};
-ghost use Rattle.tune_desk.specs.ArchiveFiles.{IsBegunArchive, PutsArchive, MakesArchive, MakesNone};
+ghost use Rattle.tune_desk.specs.ArchiveFiles.{IsBegunArchive, PutsArchive, MakesArchive};
+ghost use Rattle.tune_desk.specs.ArchiveFiles.{MakesNone};
 ghost use Rattle.tune_desk.specs.DeskDeeds.{DeskDeed};
 ghost use Rattle.tune_desk.specs.Results.{new_of};
 ghost use Rattle.desk_copies.specs.Inside.Beginnings.{IsFollowed, BeginsFile};

@@ -1,7 +1,7 @@
 // An archive that is put aside, while it is held.
 ghost use Rattle.std.specs.Prelude.{List, ℕ, MatchResult, string_bytes};
 ghost use Rattle.tune_desk.specs.DeskDeeds.{DeskDeed};
-ghost use Rattle.desk_copies.specs.Inside.Holding.{HoldsArchive, HasPutAside};
+ghost use Rattle.desk_copies.specs.Inside.HeldFiles.{HoldsArchive, HasPutAside};
 
 use tune_desk::{Desk, DeskFault};
 

@@ -8,7 +8,7 @@ ghost use Rattle.desk_scenes.specs.Printing.{PrintsOrNot};
 ghost use Rattle.desk_copies.specs.Copies.{IsLookedAt};
 ghost use Rattle.desk_copies.specs.Restored.{AgreesAndRestores, Restores, RestoresFile};
 ghost use Rattle.desk_copies.specs.Restored.{RestoresFrom, aside_told, restored_bytes};
-ghost use Rattle.desk_copies.specs.Inside.Holding.{Ends, HoldsArchive};
+ghost use Rattle.desk_copies.specs.Inside.HeldFiles.{Ends, HoldsArchive};
 
 use crate::archive_copies::{Copying, Uncopied, copy_archive};
 use crate::archive_files::{begin_archive, leave_archive, put_archive};

@@ -31,7 +31,7 @@ use Rattle.tune_store.specs.Step.{step}
 use Rattle.tune_store.specs.SetSteps.{refusal_of_sets}
 use Rattle.desk_questions.specs.Dumps.{piece_size, book_of, imported, tune_commands, set_commands, sets_commands, command_bytes, script_bytes}
 use Rattle.desk_questions.specs.Inside.DumpCalls.{Brings, GoesOn, AreDumped, rows_told, places_told}
-use Rattle.tune_asking.specs.Calls.{tune_told}
+use Rattle.tune_asking.specs.AskingCalls.{tune_told}
 use Rattle.desk_questions.specs.Told.{tunes_at}
 use Rattle.desk_questions.proofs.TuneLemmas.{written_more, at_more, at_own, all_in}
 use Rattle.desk_questions.proofs.FoundLemmas.{rises_of}

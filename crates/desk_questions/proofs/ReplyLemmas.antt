@@ -14,7 +14,7 @@ use Rattle.tune_store.specs.declared.command.Reply.{Reply}
 use Rattle.tune_store.specs.declared.command.Reply.TheVariants.{Shown, Found, Titled}
 use Rattle.tune_store.specs.declared.command.Refusal.{Refusal}
 use Rattle.tune_store.specs.declared.command.Refusal.TheVariants.{BadQuery}
-use Rattle.tune_asking.specs.Calls.{tune_or, tune_told}
+use Rattle.tune_asking.specs.AskingCalls.{tune_or, tune_told}
 
 -- FIND
 pub found_ok : (notes : ℕ) (query : Query) (tunes : List Tune) (reply : Reply) → find notes query tunes ≡ Ok reply

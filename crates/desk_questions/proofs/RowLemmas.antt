@@ -18,7 +18,7 @@ use Rattle.desk_lists.specs.ListForms.{tune_list_bytes, count_bytes}
 use Rattle.desk_questions.specs.Conditions.{asks_nothing}
 use Rattle.desk_questions.specs.Told.{found, of_found, listed, chosen, tunes_at, as_told, shown_tunes}
 use Rattle.desk_terms.specs.declared.condition.Condition.{Condition}
-use Rattle.tune_asking.specs.Calls.{tune_told}
+use Rattle.tune_asking.specs.AskingCalls.{tune_told}
 use Rattle.desk_questions.specs.Inside.QuestionCalls.{AreFound, AreRowsAt, AreWritten}
 use Rattle.desk_questions.proofs.TuneLemmas.{at_more, at_none, at_own, all_in, all_filter, all_take, all_drop, written_more}
 use Rattle.desk_questions.proofs.FoundLemmas.{rises_of}

@@ -6,7 +6,7 @@ use Rattle.tune_store.specs.declared.tune.Tune.{Tune}
 use Rattle.desk_lists.specs.declared.twins.TwinRow.{TwinRow}
 use Rattle.desk_questions.specs.SameTunes.{twins}
 use Rattle.desk_questions.specs.Told.{tunes_at}
-use Rattle.tune_asking.specs.Calls.{tune_told}
+use Rattle.tune_asking.specs.AskingCalls.{tune_told}
 use Rattle.desk_questions.specs.Inside.SeenTunes.{HasSeen, AreSeen, AreTwinsAt}
 use Rattle.desk_questions.specs.declared.same_tunes.SeenTunes.{SeenTunes}
 use Rattle.desk_questions.proofs.TuneLemmas.{at_more}

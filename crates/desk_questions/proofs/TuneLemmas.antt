@@ -10,7 +10,7 @@ use Rattle.tune_store.specs.declared.tune.Tune.{Tune}
 use Rattle.tune_store.specs.declared.command.Refusal.{Refusal}
 use Rattle.tune_store.specs.declared.command.Refusal.TheVariants.{Unknown}
 use Rattle.desk_questions.specs.Told.{tunes_at, with_more}
-use Rattle.tune_asking.specs.Calls.{tune_or}
+use Rattle.tune_asking.specs.AskingCalls.{tune_or}
 
 -- ONE NUMBER MORE
 -- a tune behind those of some numbers

@@ -7,7 +7,7 @@ ghost use Rattle.tune_store.specs.declared.command.Command.TheVariants.{SetNew, 
 ghost use Rattle.desk_questions.specs.Dumps.{book_of, imported, set_commands};
 ghost use Rattle.desk_questions.specs.Dumps.{dump_commands, command_bytes};
 ghost use Rattle.desk_questions.specs.Dumps.{script_bytes};
-ghost use Rattle.tune_asking.specs.Calls.{Call, told_by, told_where};
+ghost use Rattle.tune_asking.specs.AskingCalls.{Call, told_by, told_where};
 ghost use Rattle.desk_questions.specs.Inside.DumpCalls.{GoesOn, places_told};
 ghost use Rattle.desk_questions.specs.Inside.DumpCalls.{tunes_dumped, set_dumped};
 ghost use Rattle.desk_questions.specs.Inside.DumpCalls.{each_dumped, sets_dumped};

@@ -1,6 +1,6 @@
 // The tunes that conditions give.
 ghost use Rattle.std.specs.Prelude.{◌≡◌, ◌++◌, map, filter, true, IfOk, OnOk};
-ghost use Rattle.tune_asking.specs.Calls.{Call};
+ghost use Rattle.tune_asking.specs.AskingCalls.{Call};
 ghost use Rattle.desk_questions.specs.Inside.QuestionCalls.{added_by_query, added_by_title};
 ghost use Rattle.desk_questions.specs.Inside.QuestionCalls.{AreGiven, AreFound, RefusesNothing};
 ghost use Rattle.std.specs.List.{list_any};

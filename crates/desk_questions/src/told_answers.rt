@@ -9,7 +9,7 @@ ghost use Rattle.desk_lists.specs.ListForms.{count_bytes, tune_list_bytes};
 ghost use Rattle.tune_asking.specs.Asking.{IsOnlyAsked, IsToldOrFault};
 ghost use Rattle.desk_questions.specs.Told.{told, of_found, listed, chosen, as_told, tunes_at};
 ghost use Rattle.desk_questions.specs.Told.{shown_tunes, reply_told};
-ghost use Rattle.tune_asking.specs.Calls.{Call, told_by, told_where};
+ghost use Rattle.tune_asking.specs.AskingCalls.{Call, told_by, told_where};
 ghost use Rattle.desk_questions.specs.Inside.QuestionCalls.{AreRowsAt};
 ghost use Rattle.desk_questions.specs.Inside.QuestionCalls.{AreWritten};
 

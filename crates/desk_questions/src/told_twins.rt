@@ -3,7 +3,7 @@ ghost use Rattle.std.specs.Prelude.{◌≡◌, Ok, Err};
 ghost use Rattle.desk_lists.specs.Twins.{twin_list_bytes};
 ghost use Rattle.desk_questions.specs.SameTunes.{twins};
 ghost use Rattle.desk_questions.specs.Told.{tunes_at};
-ghost use Rattle.tune_asking.specs.Calls.{Call, told_where};
+ghost use Rattle.tune_asking.specs.AskingCalls.{Call, told_where};
 ghost use Rattle.desk_questions.specs.Inside.SeenTunes.{AreTwinsAt};
 
 use crate::same_tunes::SeenTunes;

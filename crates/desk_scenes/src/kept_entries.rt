@@ -1,6 +1,6 @@
 // Entries and marks of the book of old texts.
 ghost use Rattle.std.specs.Prelude.{None, false, IfOk, IfErr, string_bytes};
-ghost use Rattle.tune_undo.specs.Entries.{entry_value};
+ghost use Rattle.tune_undo.specs.OldEntries.{entry_value};
 ghost use Rattle.tune_undo.specs.EntryBytes.{entry_bytes, mark_bytes};
 ghost use Rattle.tune_desk.specs.OldTexts.{Grows, GrowsNot};
 ghost use Rattle.tune_desk.specs.Results.{SparesFiles, places_of};

@@ -1,5 +1,6 @@
 //! What a person may ask of an archive, and what may be changed in one: questions, what tunes are
-//! found by, in which form a list is told, changes, how books are taken in, and what is undone. What
+//! found by, in which form a list is told, changes, how books are taken in, and what is undone.
+//! What
 //! they mean is defined where they are answered and carried out.
 #![tactic(auto)]
 

@@ -71,7 +71,8 @@ pub enum Order {
     },
     /// Change tunes or a set list.
     Alter(Alteration),
-    /// Put the tune of a book in the place of a tune, if that has this revision, where one is given.
+    /// Put the tune of a book in the place of a tune, if that has this revision, where one is
+    /// given.
     /// `-` is standard input.
     Replace {
         number: u32,

@@ -9,7 +9,8 @@ ghost use Rattle.desk_words.specs.OrderMeanings.{some_sought, counts_in, chooses
 ghost use Rattle.desk_words.specs.OrderMeanings.{set_in};
 ghost use Rattle.desk_words.specs.OrderMeanings.{shows_in, exports_by, exports_in, place_in};
 ghost use Rattle.desk_words.specs.OrderMeanings.{writing};
-ghost use Rattle.desk_words.specs.OrderMeanings.{checks_by, checks_in, drafts_in, meaning_of, telling};
+ghost use Rattle.desk_words.specs.OrderMeanings.{checks_by, checks_in, drafts_in, meaning_of};
+ghost use Rattle.desk_words.specs.OrderMeanings.{telling};
 ghost use Rattle.desk_words.specs.OrderMeanings.{lists_titles, lists_sets, lists_twins};
 ghost use Rattle.desk_words.specs.OrderMeanings.{books_in, dumps, places_in};
 ghost use Rattle.desk_words.specs.NamedMeanings.{meaning_named};

@@ -11,7 +11,7 @@ use Rattle.tune_store.specs.declared.tune_store.TuneStore.{Ghosts}
 use Rattle.tune_scripts.specs.Carried.{Carried, CarriesOut}
 use Rattle.tune_scripts.proofs.CarriedLemmas.{carries_more}
 use Rattle.tune_asking.specs.Asking.{IsOnlyAsked, CarriesOutQuestions, IsFault, IsToldOrFault}
-use Rattle.tune_asking.specs.Calls.{Call, Meaning, told_where, told_by}
+use Rattle.tune_asking.specs.AskingCalls.{Call, Meaning, told_where, told_by}
 
 all-append : {A : Type 0} (P : A → Type 0) (xs ys : List A) → AllByRecursion P xs → AllByRecursion P ys → AllByRecursion P (xs ++ ys)
 all-append P [] ys h k = k

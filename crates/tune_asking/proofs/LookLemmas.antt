@@ -11,7 +11,7 @@ use Rattle.tune_store.specs.declared.command.Command.TheVariants.{Show}
 use Rattle.tune_store.specs.declared.command.Reply.{Reply}
 use Rattle.tune_store.specs.declared.command.Reply.TheVariants.{Shown}
 use Rattle.tune_store.specs.declared.command.Refusal.{Refusal}
-use Rattle.tune_asking.specs.Calls.{tune_or, tune_told}
+use Rattle.tune_asking.specs.AskingCalls.{tune_or, tune_told}
 
 -- LABELS
 pub numbers_next : (labels : List Label) (place : ℕ) (label : Label) → place < length labels → ((d : Label) → label ≡ get_or labels place d)

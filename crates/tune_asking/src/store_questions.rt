@@ -2,7 +2,7 @@
 ghost use Rattle.std.specs.Prelude.{◌≡◌, true};
 ghost use Rattle.tune_store.specs.Answers.{asks};
 ghost use Rattle.tune_store.specs.Step.{step};
-ghost use Rattle.tune_asking.specs.Calls.{Call, told_by, tune_told};
+ghost use Rattle.tune_asking.specs.AskingCalls.{Call, told_by, tune_told};
 
 use tune_store::{Command, Refusal, Reply, Tune, TuneStore};
 

@@ -31,7 +31,7 @@ use Rattle.tune_store.proofs.NamedLemmas.{held_at}
 use Rattle.tune_changes.specs.SubjectTurns.{Subject}
 use Rattle.tune_changes.specs.SubjectTurns.Subject.{TuneOf, SetOf}
 use Rattle.tune_changes.specs.Bringing.{book_with, renumbered, tune_commands, common_front, cut_behind, relaid, set_commands, brought}
-use Rattle.tune_changes.specs.Commands.{after_commands, AreAccepted}
+use Rattle.tune_changes.specs.CommandRuns.{after_commands, AreAccepted}
 use Rattle.tune_changes.specs.Undoing.{CanBeReplaced, CanBeText, CanBePlaces, CanBeMade, CanBeNumbers, CanBe, IsGiven}
 use Rattle.tune_changes.proofs.SetListLemmas.{named, found_name, none_without, set_out_already, set_out_and_in, set_found_in, all_found_set}
 use Rattle.tune_changes.proofs.SetBrought.{listed, holding, new_gives, add_gives, cut_behind_leads, front_same, front_within, front_within_new, held_drop}

@@ -21,7 +21,7 @@ use Rattle.tune_store.specs.TuneSteps.{TunesOutcome, import_book, with_texts}
 use Rattle.abc_fields.specs.Books.{Texts, book_answer}
 use Rattle.tune_changes.specs.Aims.{aim_for, aimed_back, brought_about, turn_of}
 use Rattle.tune_changes.specs.Bringing.{brought, brought_each, common_front, cut_behind, relaid, renumbered, set_commands, tune_commands}
-use Rattle.tune_changes.specs.Commands.{after_commands}
+use Rattle.tune_changes.specs.CommandRuns.{after_commands}
 use Rattle.tune_changes.specs.declared.turns.Aim as told_aim
 use Rattle.tune_changes.specs.declared.turns.Turn as told
 

@@ -17,10 +17,10 @@ use Rattle.tune_store.specs.declared.tune_store.TuneStore.{Ghosts}
 use Rattle.tune_scripts.specs.Carried.{Carried, CarriesOut, IsCarried, run_of}
 use Rattle.tune_scripts.proofs.CarriedLemmas.{carries_more}
 use Rattle.tune_asking.specs.Asking.{IsOnlyAsked, IsFault}
-use Rattle.tune_asking.specs.Calls.{Call, Meaning}
+use Rattle.tune_asking.specs.AskingCalls.{Call, Meaning}
 use Rattle.tune_asking.proofs.CallLemmas.{asked_none}
 use Rattle.tune_changes.specs.Carrying.{Carries, CarriesOutSome, CarriesAll, CarriesFront, EndsAt, answered, changes_of}
-use Rattle.tune_changes.specs.Commands.{AreAccepted, LeadsTo, after_commands}
+use Rattle.tune_changes.specs.CommandRuns.{AreAccepted, LeadsTo, after_commands}
 
 -- LISTS OF COMMANDS
 pub after_more : (a b : List Command) (state : State) → after_commands (a ++ b) state ≡ after_commands b (after_commands a state)

@@ -6,7 +6,7 @@ use Rattle.tune_store.specs.TuneSteps.{Outcome}
 use Rattle.tune_store.specs.declared.command.Command.{Command}
 use Rattle.tune_store.specs.declared.command.Reply.{Reply}
 use Rattle.tune_store.proofs.LimitLemmas.{step_keeps_limits}
-use Rattle.tune_changes.specs.Commands.{after_commands, AreAccepted, LeadsTo}
+use Rattle.tune_changes.specs.CommandRuns.{after_commands, AreAccepted, LeadsTo}
 
 pub after_append : (some more : List Command) (state : State) → after_commands (some ++ more) state ≡ after_commands more (after_commands some state)
 after_append [] more state = refl

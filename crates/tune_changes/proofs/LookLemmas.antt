@@ -17,7 +17,7 @@ use Rattle.tune_store.proofs.PlaceLemmas.{tune_at-number}
 use Rattle.tune_asking.specs.Asking.{IsFault}
 use Rattle.tune_store.specs.Step.{step}
 use Rattle.tune_store.specs.declared.command.Command.TheVariants.{SetShow}
-use Rattle.tune_asking.specs.Calls.{Call, Meaning, tune_or}
+use Rattle.tune_asking.specs.AskingCalls.{Call, Meaning, tune_or}
 use Rattle.tune_changes.specs.Inside.SubjectLooks.{rows_found, rows_told}
 
 -- REFUSALS THAT ANSWER

@@ -18,7 +18,7 @@ use Rattle.tune_store.specs.declared.command.Refusal.TheVariants.{OutOfMemory, D
 use Rattle.tune_store.specs.declared.tune_store.TuneStore.{Ghosts}
 use Rattle.tune_asking.specs.Asking.{IsFault, IsToldOrFault}
 use Rattle.tune_asking.proofs.CallLemmas.{Goes}
-use Rattle.tune_asking.specs.Calls.{Call, tune_or, tune_told}
+use Rattle.tune_asking.specs.AskingCalls.{Call, tune_or, tune_told}
 use Rattle.tune_changes.specs.Inside.TurnPlans.{IsPlannedOrFault, all_gone, gone_at, numbers_in, turns_told}
 use Rattle.tune_changes.specs.Planning.{first_unknown, moved, numbers_put, put_where, tunes_put, place_moved, places_cut, planned_when, set_gone}
 use Rattle.tune_changes.specs.Planning.{tune_gone, tunes_gone, unknown_after, with_more}

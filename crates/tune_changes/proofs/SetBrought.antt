@@ -21,7 +21,7 @@ use Rattle.tune_store.specs.declared.command.Command.TheVariants.{SetNew, SetAdd
 use Rattle.tune_store.specs.declared.command.Reply.TheVariants.{SetMade, SetAdded, SetCut as CutMade, SetDropped}
 use Rattle.tune_changes.specs.SubjectTurns.Subject.{SetOf}
 use Rattle.tune_changes.specs.Bringing.{common_front, cut_behind, relaid, set_commands, brought}
-use Rattle.tune_changes.specs.Commands.{LeadsTo}
+use Rattle.tune_changes.specs.CommandRuns.{LeadsTo}
 use Rattle.tune_changes.specs.ChangedStates.{with_content}
 use Rattle.tune_changes.specs.Undoing.{CanBePlaces, CanBeNumbers, CanBe}
 use Rattle.tune_changes.proofs.Leading.{leads_on, leads_none, leads_by, leads_from, leads_to, leads_with}

@@ -30,7 +30,7 @@ use Rattle.tune_store.proofs.LookUpLemmas.{renumber_moves}
 use Rattle.tune_store.proofs.PlaceLemmas.{tune_at-number}
 use Rattle.tune_changes.specs.SubjectTurns.Subject.{TuneOf}
 use Rattle.tune_changes.specs.Bringing.{book_with, renumbered, tune_commands, brought}
-use Rattle.tune_changes.specs.Commands.{LeadsTo}
+use Rattle.tune_changes.specs.CommandRuns.{LeadsTo}
 use Rattle.tune_changes.specs.ChangedStates.{tune_with, with_content}
 use Rattle.tune_changes.specs.Undoing.{CanGoIn, CanBeReplaced, CanBeText, CanBe}
 use Rattle.tune_changes.proofs.Leading.{leads_none, leads_by, leads_to, leads_with}

@@ -23,7 +23,7 @@ use Rattle.tune_store.proofs.StateLemmas.{greatest-without}
 use Rattle.tune_changes.specs.SubjectTurns.{Subject, Turn, Aim, aim_back, content, numbers_at}
 use Rattle.tune_changes.specs.SubjectTurns.Subject.{TuneOf, SetOf}
 use Rattle.tune_changes.specs.Bringing.{tune_commands, set_commands, brought, brought_each}
-use Rattle.tune_changes.specs.Commands.{after_commands, AreAccepted, LeadsTo}
+use Rattle.tune_changes.specs.CommandRuns.{after_commands, AreAccepted, LeadsTo}
 use Rattle.tune_changes.specs.ChangedStates.{anew, all_anew, face, tune_with, put_numbers, with_content, with_each}
 use Rattle.tune_changes.specs.Undoing.{CanGoIn, CanBeReplaced, CanBeText, CanBePlaces, CanBeMade, CanBeNumbers, CanBe}
 use Rattle.tune_changes.specs.Undoing.{IsGiven, CanComeBack, IsBroughtAbout, BringsAbout}

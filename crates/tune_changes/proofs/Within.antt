@@ -20,7 +20,7 @@ use Rattle.tune_store.proofs.LimitLemmas.{step_keeps_limits}
 use Rattle.tune_changes.specs.SubjectTurns.{Subject, Turn, content, numbers_at}
 use Rattle.tune_changes.specs.SubjectTurns.Subject.{SetOf}
 use Rattle.tune_changes.specs.Bringing.{common_front, cut_behind, relaid, set_commands, brought}
-use Rattle.tune_changes.specs.Commands.{after_commands, LeadsTo}
+use Rattle.tune_changes.specs.CommandRuns.{after_commands, LeadsTo}
 use Rattle.tune_changes.specs.ChangedStates.{put_numbers, all_anew, with_content, AreAlike, AreAlikeBut}
 use Rattle.tune_changes.specs.Undoing.{CanBeNumbers, taken_back, TakesBack, CanGoBack, StandsAfter, StandsWithin}
 use Rattle.tune_changes.proofs.Leading.{leads_on, leads_with, after_append, after_keeps}

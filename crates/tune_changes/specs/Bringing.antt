@@ -9,7 +9,7 @@ use Rattle.tune_store.specs.declared.command.Command.{Command}
 use Rattle.tune_store.specs.declared.command.Command.TheVariants.{Import, Replace, Delete}
 use Rattle.tune_store.specs.declared.command.Command.TheVariants.{Renumber}
 use Rattle.tune_store.specs.declared.command.Command.TheVariants.{SetNew, SetAdd, SetCut, SetDrop}
-use Rattle.tune_changes.specs.Commands.{after_commands}
+use Rattle.tune_changes.specs.CommandRuns.{after_commands}
 use Rattle.tune_changes.specs.SubjectTurns.{Subject, Aim, numbers_at}
 use Rattle.tune_changes.specs.SubjectTurns.Subject.{TuneOf, SetOf}
 

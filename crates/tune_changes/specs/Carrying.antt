@@ -12,7 +12,7 @@ use Rattle.tune_store.specs.declared.command.Refusal.TheVariants.{Device}
 use Rattle.tune_store.specs.declared.tune_store.TuneStore.{Ghosts}
 use Rattle.tune_scripts.specs.Carried.{Carried, CarriesOut, run_of}
 use Rattle.tune_asking.specs.Asking.{IsFault}
-use Rattle.tune_changes.specs.Commands.{LeadsTo}
+use Rattle.tune_changes.specs.CommandRuns.{LeadsTo}
 
 -- of commands that were answered, those that are no questions
 abbrev pub changes_of : List Answered → List Answered

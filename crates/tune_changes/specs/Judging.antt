@@ -64,7 +64,8 @@ abbrev pub numbers_or_none : Option (List ℕ) → List ℕ
 numbers_or_none None = []
 numbers_or_none (Some numbers) = numbers
 
--- Whether a stop may have left numbers on the way from some to others, or back: what stands in front
+-- Whether a stop may have left numbers on the way from some to others, or back: what stands in
+-- front
 -- of both, and behind it neighbouring ones of the one or of the other.
 abbrev pub is_on_the_way : List ℕ → List ℕ → List ℕ → Bool
 is_on_the_way was is now =

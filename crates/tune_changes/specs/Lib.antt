@@ -1,5 +1,5 @@
 pub mod SubjectTurns
-pub mod Commands
+pub mod CommandRuns
 pub mod Bringing
 pub mod ChangedStates
 pub mod Undoing

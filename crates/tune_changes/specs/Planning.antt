@@ -1,4 +1,5 @@
--- What a change comes to: a turn for each tune or set list, or why it is refused. Nothing is changed
+-- What a change comes to: a turn for each tune or set list, or why it is refused. Nothing is
+-- changed
 -- by it: a plan is made before anything is.
 use Rattle.std.specs.Prelude.{◌≡◌, ℕ, ◌+◌, ◌-◌, List, [], ◌∷◌, ◌++◌, length, take, drop, not}
 use Rattle.std.specs.Prelude.{Bool, false, Result, Ok, Err, string_bytes}
@@ -17,9 +18,10 @@ use Rattle.tune_store.specs.declared.command.Refusal.{Refusal}
 use Rattle.tune_store.specs.declared.command.Refusal.TheVariants.{Unknown, InSet, BadName, SetFull}
 use Rattle.tune_store.specs.declared.command.Refusal.TheVariants.{SetsFull, NoSuchSet, NoSuchPlace}
 use Rattle.tune_store.specs.declared.command.Refusal.TheVariants.{Stale, Worn}
-use Rattle.tune_asking.specs.Calls.{Meaning}
+use Rattle.tune_asking.specs.AskingCalls.{Meaning}
 use Rattle.desk_terms.specs.declared.alteration.Alteration.{Alteration}
-use Rattle.desk_terms.specs.declared.alteration.Alteration.TheVariants.{Delete, Put, Cut, Move, Drop}
+use Rattle.desk_terms.specs.declared.alteration.Alteration.TheVariants.{Delete, Put, Cut, Move}
+use Rattle.desk_terms.specs.declared.alteration.Alteration.TheVariants.{Drop}
 use Rattle.tune_changes.specs.SubjectTurns.{numbers_at}
 use Rattle.tune_changes.specs.declared.turns.Turn.{Turn}
 use Rattle.tune_changes.specs.declared.turns.Turn.TheVariants as turn

@@ -1,6 +1,6 @@
 // How the tunes and set lists of an entry stand.
 ghost use Rattle.std.specs.Prelude.{◌≡◌, ◌≤◌, ◌||◌, ◌&&◌, true, drop, length, None, Some, Ok};
-ghost use Rattle.tune_asking.specs.Calls.{Call, told_by};
+ghost use Rattle.tune_asking.specs.AskingCalls.{Call, told_by};
 ghost use Rattle.tune_changes.specs.Judging.{begins_with, is_after, is_before, is_between};
 ghost use Rattle.tune_changes.specs.Judging.{is_on_the_way, is_run_of, is_same, numbers_or_none};
 ghost use Rattle.tune_changes.specs.Judging.{part_verdict, says_before, says_changed};

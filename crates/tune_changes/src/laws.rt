@@ -4,7 +4,7 @@ ghost use Rattle.std.specs.List.{AllByRecursion};
 ghost use Rattle.tune_store.specs.State.{State, IsState};
 ghost use Rattle.tune_changes.specs.SubjectTurns.{Subject, Turn, Aim, content};
 ghost use Rattle.tune_changes.specs.SubjectTurns.Subject.{SetOf};
-ghost use Rattle.tune_changes.specs.Commands.{after_commands, AreAccepted, LeadsTo};
+ghost use Rattle.tune_changes.specs.CommandRuns.{after_commands, AreAccepted, LeadsTo};
 ghost use Rattle.tune_changes.specs.Bringing.{brought, brought_each};
 ghost use Rattle.tune_changes.specs.ChangedStates.{with_content, with_each, AreAlikeBut};
 ghost use Rattle.tune_changes.specs.Undoing.{IsGiven, CanBe, BringsAbout, brought_about, TakesBack};

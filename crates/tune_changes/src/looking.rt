@@ -1,7 +1,7 @@
 // How a tune and a set list stand.
 ghost use Rattle.std.specs.Prelude.{◌≡◌, map, Ok, IfOk};
 ghost use Rattle.tune_store.specs.State.{tune_at};
-ghost use Rattle.tune_asking.specs.Calls.{Call, told_by};
+ghost use Rattle.tune_asking.specs.AskingCalls.{Call, told_by};
 ghost use Rattle.tune_changes.specs.SubjectTurns.{numbers_at};
 ghost use Rattle.tune_changes.specs.Inside.SubjectLooks.{rows_told};
 

@@ -5,11 +5,12 @@ ghost use Rattle.tune_store.specs.declared.command.Refusal.{Refusal};
 ghost use Rattle.tune_changes.specs.declared.turns.Turn.{Turn};
 ghost use Rattle.tune_sets.specs.Numbers.{is_among};
 ghost use Rattle.tune_store.specs.State.{tune_at};
-ghost use Rattle.tune_asking.specs.Calls.{Call, told_by};
+ghost use Rattle.tune_asking.specs.AskingCalls.{Call, told_by};
 ghost use Rattle.tune_changes.specs.Planning.{planned_by, planned_replace, planned_when};
 ghost use Rattle.tune_changes.specs.Planning.{alone, is_stale, text_replaced, tune_gone};
 ghost use Rattle.tune_changes.specs.Planning.{tunes_gone, tunes_put};
-ghost use Rattle.tune_changes.specs.Inside.TurnPlans.{IsPlannedOrFault, all_gone, are_known, gone_at, turns_told};
+ghost use Rattle.tune_changes.specs.Inside.TurnPlans.{IsPlannedOrFault, all_gone, are_known};
+ghost use Rattle.tune_changes.specs.Inside.TurnPlans.{gone_at, turns_told};
 
 use crate::set_turns::{holders, numbers_put, place_moved, places_cut, set_gone};
 use crate::turns::Turn;

@@ -132,7 +132,8 @@ pub trait Desk {
             ≡ deeds self.old ++ opened (string_bytes path.now) access result ∷ [] }
         ensures is_new { IfOk result is_new };
 
-    /// Puts bytes at the end of the file at a path, and syncs it; where nothing stands there, a file
+    /// Puts bytes at the end of the file at a path, and syncs it; where nothing stands there, a
+    /// file
     /// is made, and its folder synced too. `NotFile` where no regular file stands there, and
     /// `Missing` where a link there leads to nothing, or the folder is missing. After a fault a
     /// front of the bytes may stand at its end.

@@ -10,13 +10,13 @@ use Rattle.std.proofs.lemmas.Option.{none-some, same_Some}
 use Rattle.std.proofs.lemmas.List.{append_cancel_left, take_at, take-append-le, take-append-drop}
 use Rattle.std.proofs.lemmas.Slice.Eq.{starts_is}
 use Rattle.abc_fields.specs.Bytes.{space, line_feed}
-use Rattle.tune_undo.specs.Entries.{EntryValue, StepValue}
+use Rattle.tune_undo.specs.OldEntries.{EntryValue, StepValue}
 use Rattle.tune_undo.specs.EntryBytes.{kind_word, IsMark, parts_bytes, IsEntry, entry_bytes, mark_bytes}
 use Rattle.tune_undo.specs.OldItems.{OldEntry, IsOld, old_bytes, IsWritten, Begins, Item, Entered, Marked, ItemPlace, Top, Start, Within, after_feed}
 use Rattle.tune_undo.specs.OldItems.{next, Stands, IsLog, standing, standing_after, after_item}
 use Rattle.tune_undo.specs.OldTextLaws.{is_ended, before_piece, made_ready, IsPiece, AddsItem, AddsNothing}
 use Rattle.tune_undo.specs.Inside.ItemReading.{◌>>=◌, field_at, mark_of}
-use Rattle.tune_undo.specs.Inside.Lines.{first_line_at, old_line_at, mark_line_at}
+use Rattle.tune_undo.specs.Inside.EntryLines.{first_line_at, old_line_at, mark_line_at}
 use Rattle.tune_undo.specs.declared.old_entries.EntryKind.{EntryKind}
 use Rattle.tune_undo.specs.declared.old_entries.EntryKind.TheVariants as kind
 use Rattle.tune_undo.specs.declared.old_entries.Mark.{Mark}

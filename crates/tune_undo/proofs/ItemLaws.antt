@@ -11,11 +11,11 @@ use Rattle.abc_fields.specs.Bytes.{line_feed}
 use Rattle.abc_fields.specs.Limits.{longest_tune}
 use Rattle.abc_fields.specs.Tunes.{IsTextWithin}
 use Rattle.std.proofs.lemmas.List.{take_at}
-use Rattle.tune_undo.specs.Entries.{EntryValue, IsPart}
+use Rattle.tune_undo.specs.OldEntries.{EntryValue, IsPart}
 use Rattle.tune_undo.specs.EntryBytes.{IsEntry, entry_bytes, parts_bytes, book_tune}
 use Rattle.tune_undo.specs.OldItems.{OldEntry, IsOld, made_bytes, old_bytes, after_old, Item, Entered, Marked, Begins}
 use Rattle.tune_undo.specs.Inside.Found.{OldRead}
-use Rattle.tune_undo.specs.Inside.Lines.{first_line_at, number_line_at, old_line_at, mark_line_at, after_old_of, len_after, text_len_of}
+use Rattle.tune_undo.specs.Inside.EntryLines.{first_line_at, number_line_at, old_line_at, mark_line_at, after_old_of, len_after, text_len_of}
 use Rattle.tune_undo.specs.declared.part_lines.OldLine.{OldLine}
 use Rattle.tune_undo.specs.declared.old_entries.After.{After}
 use Rattle.tune_undo.specs.declared.old_entries.Part.TheVariants.{Tune}

@@ -8,13 +8,13 @@ use Rattle.hex.specs.Hex.{encode_with, lower_digits}
 use Rattle.abc_fields.specs.Bytes.{space, line_feed}
 use Rattle.std.specs.List.{list_all}
 use Rattle.tune_sets.specs.Names.{is_name_byte, is_good_name}
-use Rattle.tune_undo.specs.Entries.{EntryValue, IsAfter, AreNumbers}
+use Rattle.tune_undo.specs.OldEntries.{EntryValue, IsAfter, AreNumbers}
 use Rattle.tune_undo.specs.EntryBytes.{after_word, length_word, kind_word, mark_word, IsMark, tune_line, numbers_bytes, list_bytes, set_line}
 use Rattle.tune_undo.specs.EntryBytes.{parts_bytes, entry_bytes, mark_bytes, book_tune}
 use Rattle.tune_undo.specs.OldItems.{OldEntry, made_bytes, old_bytes, IsMarkWritten}
 use Rattle.tune_undo.specs.Inside.ItemReading.{after, field_at, number_of, number_at, length_of, after_of, kind_of, mark_of}
-use Rattle.tune_undo.specs.Inside.Lines.{tune_line_at, number_line_at, set_line_at, first_line_at, mark_line_at, old_line_at, old_len_of, or_first}
-use Rattle.tune_undo.specs.Inside.Lines.{first_of_three}
+use Rattle.tune_undo.specs.Inside.EntryLines.{tune_line_at, number_line_at, set_line_at, first_line_at, mark_line_at, old_line_at, old_len_of, or_first}
+use Rattle.tune_undo.specs.Inside.EntryLines.{first_of_three}
 use Rattle.tune_undo.specs.declared.part_lines.TuneLine.{TuneLine}
 use Rattle.tune_undo.specs.declared.part_lines.FirstLine.{FirstLine}
 use Rattle.tune_undo.specs.declared.part_lines.OldLine.{OldLine}

@@ -6,12 +6,12 @@ use Rattle.std.specs.Option.{option_to_list}
 use Rattle.std.proofs.lemmas.Option.{none-some, same_Some}
 use Rattle.std.proofs.lemmas.List.{append_cancel_left}
 use Rattle.abc_fields.specs.Bytes.{space, line_feed}
-use Rattle.tune_undo.specs.Entries.{EntryValue}
+use Rattle.tune_undo.specs.OldEntries.{EntryValue}
 use Rattle.tune_undo.specs.EntryBytes.{kind_word, parts_bytes, book_tune, IsEntry, entry_bytes}
 use Rattle.tune_undo.specs.OldItems.{OldEntry, IsOld, made_bytes, old_bytes, after_old, entry_of_old, IsWritten, Item, Entered, Marked, ItemPlace}
 use Rattle.tune_undo.specs.OldItems.{Top, Start, Within, next, Stands, IsLog}
 use Rattle.tune_undo.specs.Inside.ItemReading.{◌>>=◌, field_at}
-use Rattle.tune_undo.specs.Inside.Lines.{mark_line_at}
+use Rattle.tune_undo.specs.Inside.EntryLines.{mark_line_at}
 use Rattle.tune_undo.specs.declared.old_entries.Part.TheVariants.{Tune}
 use Rattle.tune_undo.specs.declared.old_entries.Mark.{Mark}
 use Rattle.tune_undo.proofs.FieldLaws.{bind_is, Free, free-append, field_again, decimal_free}

@@ -11,10 +11,10 @@ use Rattle.abc_fields.specs.Bytes.{space, line_feed}
 use Rattle.abc_fields.specs.Limits.{longest_tune}
 use Rattle.abc_fields.specs.Tunes.{IsTextWithin}
 use Rattle.tune_sets.specs.Names.{is_good_name}
-use Rattle.tune_undo.specs.Entries.{AreNumbers, IsPart}
+use Rattle.tune_undo.specs.OldEntries.{AreNumbers, IsPart}
 use Rattle.tune_undo.specs.EntryBytes.{tune_line, book_tune, old_text, numbers_bytes, list_bytes, set_line, part_bytes, parts_bytes}
 use Rattle.tune_undo.specs.Inside.ItemReading.{after, number_of}
-use Rattle.tune_undo.specs.Inside.Lines.{tune_line_at, number_line_at, set_line_at, word_of, next_number}
+use Rattle.tune_undo.specs.Inside.EntryLines.{tune_line_at, number_line_at, set_line_at, word_of, next_number}
 use Rattle.tune_undo.specs.declared.part_lines.TuneLine.{TuneLine}
 use Rattle.tune_undo.specs.declared.old_entries.After.{After}
 use Rattle.tune_undo.specs.declared.old_entries.Part.{Part}

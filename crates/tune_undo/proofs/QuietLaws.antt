@@ -10,7 +10,7 @@ use Rattle.abc_fields.specs.Limits.{longest_tune}
 use Rattle.abc_fields.specs.Lines.{ends_line, has_no_ending}
 use Rattle.abc_fields.specs.Tunes.{IsTuneLine, IsTextWithin, joined}
 use Rattle.tune_sets.specs.Names.{is_name_byte, is_good_name}
-use Rattle.tune_undo.specs.Entries.{EntryValue, IsPart, IsAfter, AreNumbers}
+use Rattle.tune_undo.specs.OldEntries.{EntryValue, IsPart, IsAfter, AreNumbers}
 use Rattle.tune_undo.specs.EntryBytes.{after_word, length_word, kind_word, mark_word, IsMark, tune_line, book_tune, old_text, list_bytes, set_line}
 use Rattle.tune_undo.specs.EntryBytes.{part_bytes, parts_bytes, IsEntry, entry_bytes, mark_bytes}
 use Rattle.tune_undo.specs.OldItems.{OldEntry, IsOld, made_bytes, old_bytes, IsWritten, Item, Entered, Marked, ItemPlace, Top, Start, Within, next}

@@ -6,7 +6,7 @@ use Rattle.std.specs.Option.{option_to_list}
 use Rattle.std.proofs.lemmas.Bool.{ne_eqb, cond-true, cond-false, false_from_ne_true}
 use Rattle.std.proofs.lemmas.List.{map_push, take-map, length-map, nil_from_length}
 use Rattle.abc_fields.specs.Bytes.{line_feed}
-use Rattle.tune_undo.specs.Entries.{StepValue, step_value}
+use Rattle.tune_undo.specs.OldEntries.{StepValue, step_value}
 use Rattle.tune_undo.specs.OldItems.{Item, ItemPlace, Top, Start, Within, after_feed, next, Stands, IsLog, without_last, begun_last, standing_after}
 use Rattle.tune_undo.specs.Inside.Found.{place_of, IsLaterLog, after_found}
 use Rattle.tune_undo.specs.declared.old_entries.Step.{Step}

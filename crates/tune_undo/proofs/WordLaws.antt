@@ -8,7 +8,7 @@ use Rattle.std.proofs.lemmas.Bool.{eqb-true, eq-eqb, ne_eqb, cond-true, cond-fal
 use Rattle.std.proofs.lemmas.Option.{none-some, same_Some}
 use Rattle.std.proofs.lemmas.Fmt.{decimal_is_IsNumeral, length-decimal-le}
 use Rattle.hex.specs.Hex.{encode_lower, decode_sized}
-use Rattle.tune_undo.specs.Entries.{IsAfter}
+use Rattle.tune_undo.specs.OldEntries.{IsAfter}
 use Rattle.tune_undo.specs.EntryBytes.{after_word, length_word, kind_word, mark_word, IsMark}
 use Rattle.tune_undo.specs.Inside.ItemReading.{◌>>=◌, after, number_of, length_of, after_of, kind_of, mark_of}
 use Rattle.tune_undo.specs.Inside.SumWords.{sum_of}

@@ -4,7 +4,7 @@ use Rattle.std.specs.Prelude.{Option, None, Some, ⊤}
 use Rattle.std.specs.Option.{option_map}
 use Rattle.std.specs.List.{AllByRecursion}
 use Rattle.hex.specs.Hex.{encode_lower}
-use Rattle.tune_undo.specs.Entries.{EntryValue, IsPart}
+use Rattle.tune_undo.specs.OldEntries.{EntryValue, IsPart}
 use Rattle.tune_undo.specs.declared.old_entries.EntryKind.{EntryKind}
 use Rattle.tune_undo.specs.declared.old_entries.EntryKind.TheVariants as kind
 use Rattle.tune_undo.specs.declared.old_entries.After.{After}

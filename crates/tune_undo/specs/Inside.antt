@@ -1,4 +1,4 @@
 pub mod SumWords
 pub mod ItemReading
-pub mod Lines
+pub mod EntryLines
 pub mod Found

@@ -1,5 +1,5 @@
 pub mod TextSums
-pub mod Entries
+pub mod OldEntries
 pub mod EntryBytes
 pub mod OldItems
 pub mod OldTextLaws

@@ -6,7 +6,7 @@ use Rattle.std.specs.Option.{option_to_list}
 use Rattle.abc_fields.specs.Bytes.{line_feed}
 use Rattle.abc_fields.specs.Limits.{longest_tune}
 use Rattle.abc_fields.specs.Tunes.{IsTextWithin}
-use Rattle.tune_undo.specs.Entries.{EntryValue, StepValue}
+use Rattle.tune_undo.specs.OldEntries.{EntryValue, StepValue}
 use Rattle.tune_undo.specs.EntryBytes.{kind_word, book_tune, IsEntry, entry_bytes}
 use Rattle.tune_undo.specs.EntryBytes.{IsMark, mark_bytes}
 use Rattle.tune_undo.specs.declared.old_entries.EntryKind.{EntryKind}

@@ -4,7 +4,7 @@ ghost use Rattle.std.specs.Option.{option_map};
 ghost use Rattle.tune_undo.specs.EntryBytes.{kind_word, after_word, book_tune, tune_line};
 ghost use Rattle.tune_undo.specs.EntryBytes.{old_text, numbers_bytes, set_line, part_bytes};
 ghost use Rattle.tune_undo.specs.EntryBytes.{parts_bytes, entry_bytes, mark_bytes};
-ghost use Rattle.tune_undo.specs.Entries.{entry_value};
+ghost use Rattle.tune_undo.specs.OldEntries.{entry_value};
 ghost use Rattle.tune_undo.specs.OldTextLaws.{is_ended, before_piece, made_ready};
 
 use crate::old_entries::{After, Entry, EntryKind, Mark, Part};

@@ -1,10 +1,10 @@
 // Entries and marks, read.
 ghost use Rattle.std.specs.Prelude.{◌≡◌, ◌≢◌, ◌++◌, ℕ, List, IfOk, IfSome, IfNone};
-ghost use Rattle.tune_undo.specs.Entries.{EntryValue, entry_value};
+ghost use Rattle.tune_undo.specs.OldEntries.{EntryValue, entry_value};
 ghost use Rattle.tune_undo.specs.EntryBytes.{IsEntry, entry_bytes};
 ghost use Rattle.tune_undo.specs.OldItems.{OldEntry, IsOld, old_bytes, entry_of_old, Item, Begins};
 ghost use Rattle.tune_undo.specs.OldItems.{IsMarkWritten};
-ghost use Rattle.tune_undo.specs.Inside.Lines.{after_old_of, text_len_of};
+ghost use Rattle.tune_undo.specs.Inside.EntryLines.{after_old_of, text_len_of};
 ghost use Rattle.tune_undo.specs.Inside.Found.{found_value, OldRead};
 ghost use Rattle.tune_undo.specs.declared.old_entries.Mark.{Mark};
 

@@ -1,9 +1,9 @@
 // The lines by which the parts of an entry begin.
 ghost use Rattle.std.specs.Prelude.{◌≡◌};
 ghost use Rattle.tune_undo.specs.Inside.ItemReading.{Gives};
-ghost use Rattle.tune_undo.specs.Inside.Lines.{tune_line_at, set_line_at, number_line_at};
-ghost use Rattle.tune_undo.specs.Inside.Lines.{first_line_at, mark_line_at, old_line_at};
-ghost use Rattle.tune_undo.specs.Inside.Lines.{old_len_of, first_of_three};
+ghost use Rattle.tune_undo.specs.Inside.EntryLines.{tune_line_at, set_line_at, number_line_at};
+ghost use Rattle.tune_undo.specs.Inside.EntryLines.{first_line_at, mark_line_at, old_line_at};
+ghost use Rattle.tune_undo.specs.Inside.EntryLines.{old_len_of, first_of_three};
 
 use crate::fields::{after, after_of, field, kind_of, length_of, mark_of, number, number_of};
 use crate::old_entries::{After, EntryKind, Mark};

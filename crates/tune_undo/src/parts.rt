@@ -1,16 +1,17 @@
 // The parts of an entry, read.
-ghost use Rattle.std.specs.Prelude.{◌≡◌, ◌≢◌, ◌++◌, ◌^◌, ◌<◌, ◌≤◌, ℕ, List, [], length, drop, codes};
+ghost use Rattle.std.specs.Prelude.{◌≡◌, ◌≢◌, ◌++◌, ◌^◌, ◌<◌, ◌≤◌, ℕ, List, [], length, drop};
+ghost use Rattle.std.specs.Prelude.{codes};
 ghost use Rattle.std.specs.Prelude.{true};
 ghost use Rattle.std.specs.Prelude.{Option, Some, IfOk, IfSome, IfNone};
 ghost use Rattle.std.specs.List.{AllByRecursion};
 ghost use Rattle.abc_fields.specs.Limits.{longest_tune};
 ghost use Rattle.abc_fields.specs.Tunes.{IsTextWithin};
 ghost use Rattle.tune_sets.specs.Names.{is_good_name};
-ghost use Rattle.tune_undo.specs.Entries.{AreNumbers, IsPart};
+ghost use Rattle.tune_undo.specs.OldEntries.{AreNumbers, IsPart};
 ghost use Rattle.tune_undo.specs.EntryBytes.{book_tune, numbers_bytes, list_bytes, set_line};
 ghost use Rattle.tune_undo.specs.EntryBytes.{part_bytes, parts_bytes};
 ghost use Rattle.tune_undo.specs.Inside.ItemReading.{Gives};
-ghost use Rattle.tune_undo.specs.Inside.Lines.{word_of, next_number};
+ghost use Rattle.tune_undo.specs.Inside.EntryLines.{word_of, next_number};
 ghost use Rattle.tune_undo.specs.declared.old_entries.After.{After};
 ghost use Rattle.tune_undo.specs.declared.old_entries.Part.{Part};
 ghost use Rattle.tune_undo.specs.declared.old_entries.Part.TheVariants.{Tune, Set};

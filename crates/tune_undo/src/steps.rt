@@ -1,7 +1,7 @@
 // The entries of a book of old texts that are not undone.
 ghost use Rattle.std.specs.Prelude.{◌≡◌, ◌<◌, List, length, map, IfOk, OnOk};
 ghost use Rattle.std.specs.Option.{option_map};
-ghost use Rattle.tune_undo.specs.Entries.{step_value, entry_value};
+ghost use Rattle.tune_undo.specs.OldEntries.{step_value, entry_value};
 ghost use Rattle.tune_undo.specs.OldItems.{Item, Entered, Top, Stands, IsLog, standing};
 ghost use Rattle.tune_undo.specs.OldItems.{after_item, after_mark, without_last, begun_last};
 ghost use Rattle.tune_undo.specs.Inside.Found.{found_value, place_of, IsLaterLog, after_found};

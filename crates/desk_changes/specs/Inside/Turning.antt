@@ -10,7 +10,8 @@ use Rattle.tune_desk.specs.DeskDeeds.{DeskDeed}
 use Rattle.tune_desk.specs.OldTexts.{GrowsNot}
 use Rattle.desk_scenes.specs.FileAnswers.{Did}
 use Rattle.desk_scenes.specs.Visits.{Visits}
-use Rattle.desk_changes.specs.ChangedFiles.{Passage, BringsAbout, ChangesBy, LeavesAll, IsChangedWithin}
+use Rattle.desk_changes.specs.ChangedFiles.{Passage, BringsAbout, ChangesBy, LeavesAll}
+use Rattle.desk_changes.specs.ChangedFiles.{IsChangedWithin}
 use Rattle.desk_changes.specs.declared.words.Unchanged.{Unchanged}
 
 -- Turns were brought about behind their entry; or this was not kept, and nothing was done; or a

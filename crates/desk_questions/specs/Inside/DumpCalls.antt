@@ -13,7 +13,7 @@ use Rattle.tune_store.specs.declared.command.Refusal.{Refusal}
 use Rattle.desk_questions.specs.Dumps.{book_of, tune_commands, set_commands, sets_commands}
 use Rattle.desk_questions.specs.Dumps.{script_bytes}
 use Rattle.desk_questions.specs.Told.{tunes_at}
-use Rattle.tune_asking.specs.Calls.{Meaning}
+use Rattle.tune_asking.specs.AskingCalls.{Meaning}
 
 -- TUNES
 -- A script, and a piece of these bytes, whose last number is `last`, came to others by a tune more:

@@ -1,5 +1,6 @@
 -- What the calls that make a plan come to.
-use Rattle.std.specs.Prelude.{◌≡◌, ℕ, List, [], ◌∷◌, ◌++◌, Option, None, Some, Result, Ok, Err, take}
+use Rattle.std.specs.Prelude.{◌≡◌, ℕ, List, [], ◌∷◌, ◌++◌, Option, None, Some, Result, Ok, Err}
+use Rattle.std.specs.Prelude.{take}
 use Rattle.std.specs.Prelude.{slice_index, slice_index_or, ◌⊎◌, MatchResult}
 use Rattle.std.specs.Global.{Vec}
 use Rattle.std.specs.Prelude.{if◌then◌else◌}
@@ -11,7 +12,7 @@ use Rattle.tune_store.specs.State.{State, tune_at}
 use Rattle.tune_store.specs.declared.command.Refusal.{Refusal}
 use Rattle.tune_store.specs.declared.command.Refusal.TheVariants.{Unknown}
 use Rattle.tune_asking.specs.Asking.{IsFault}
-use Rattle.tune_asking.specs.Calls.{Meaning}
+use Rattle.tune_asking.specs.AskingCalls.{Meaning}
 use Rattle.tune_changes.specs.Planning.{first_unknown, tune_gone, with_more}
 use Rattle.tune_changes.specs.declared.turns.Turn.{Turn}
 

@@ -1,6 +1,6 @@
 -- What the walk over a book of old texts finds, and what it leaves.
 use Rattle.std.specs.Prelude.{◌≡◌, ℕ, List, [], ◌∷◌, ◌++◌, Bool, true, false, Option, None, Some}
-use Rattle.tune_undo.specs.Entries.{EntryValue, entry_value, StepValue}
+use Rattle.tune_undo.specs.OldEntries.{EntryValue, entry_value, StepValue}
 use Rattle.tune_undo.specs.OldItems.{Item, Entered, Marked, ItemPlace, Top, Start, next, IsLog}
 use Rattle.tune_undo.specs.OldItems.{after_item, OldEntry, IsOld, entry_of_old, old_bytes}
 use Rattle.tune_undo.specs.declared.old_items.Found.{Found}

@@ -1,6 +1,6 @@
 use Rattle.std.proofs.Common.{List, ℕ, string_bytes}
 use Rattle.tune_desk.specs.DeskDeeds.{DeskDeed}
-use Rattle.desk_copies.specs.Inside.Holding.{HoldsArchive}
+use Rattle.desk_copies.specs.Inside.HeldFiles.{HoldsArchive}
 use Rattle.desk_copies.proofs.put_aside.put_aside.Given as goal
 
 -- what is held stays held

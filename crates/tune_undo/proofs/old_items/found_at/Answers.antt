@@ -1,4 +1,4 @@
-use Rattle.tune_undo.specs.Entries.{entry_value}
+use Rattle.tune_undo.specs.OldEntries.{entry_value}
 use Rattle.tune_undo.proofs.ItemLaws.{entry_begins, old_begins, mark_begins, none_begins}
 use Rattle.tune_undo.proofs.old_items.found_at.Goals as goal
 

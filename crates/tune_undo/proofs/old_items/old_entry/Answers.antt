@@ -2,7 +2,7 @@ use Rattle.std.proofs.Common.{◌≡◌, ◌++◌, ◌∷◌, [], List, ap, sym,
 use Rattle.std.specs.Prelude.{Some}
 use Rattle.std.proofs.lemmas.Option.{none-some, same_Some}
 use Rattle.tune_undo.specs.EntryBytes.{book_tune}
-use Rattle.tune_undo.specs.Inside.Lines.{after_old_of, text_len_of}
+use Rattle.tune_undo.specs.Inside.EntryLines.{after_old_of, text_len_of}
 use Rattle.tune_undo.specs.Inside.Found.{OldRead}
 use Rattle.tune_undo.specs.declared.old_entries.Part.{Part}
 use Rattle.tune_undo.specs.declared.old_entries.Part.TheVariants.{Tune}

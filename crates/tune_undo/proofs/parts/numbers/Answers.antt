@@ -3,7 +3,7 @@ use Rattle.std.specs.Prelude.{decimal}
 use Rattle.std.proofs.lemmas.Bool.Decides.{nat_tests}
 use Rattle.std.proofs.lemmas.List.{nil_from_length}
 use Rattle.tune_undo.specs.EntryBytes.{numbers_bytes}
-use Rattle.tune_undo.specs.Inside.Lines.{word_of}
+use Rattle.tune_undo.specs.Inside.EntryLines.{word_of}
 use Rattle.tune_undo.proofs.PartLaws.{numbers_end, next_takes, numbers_more, are-append, numbers_stop}
 use Rattle.tune_undo.proofs.parts.numbers.Goals as goal
 

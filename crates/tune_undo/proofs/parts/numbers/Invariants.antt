@@ -1,7 +1,7 @@
 use Rattle.std.proofs.Common.{◌≡◌, ◌++◌, ℕ, List, [], length}
-use Rattle.tune_undo.specs.Entries.{AreNumbers}
+use Rattle.tune_undo.specs.OldEntries.{AreNumbers}
 use Rattle.tune_undo.specs.EntryBytes.{numbers_bytes}
-use Rattle.tune_undo.specs.Inside.Lines.{word_of}
+use Rattle.tune_undo.specs.Inside.EntryLines.{word_of}
 use Rattle.tune_undo.proofs.parts.numbers.Given as goal
 
 abbrev pub invariant-loop-rest : goal.invariant-loop-rest

@@ -1,6 +1,6 @@
 use Rattle.std.proofs.Common.{◌≡◌, ◌++◌, length}
 use Rattle.std.specs.List.{AllByRecursion}
-use Rattle.tune_undo.specs.Entries.{IsPart}
+use Rattle.tune_undo.specs.OldEntries.{IsPart}
 use Rattle.tune_undo.specs.EntryBytes.{parts_bytes}
 use Rattle.tune_undo.proofs.parts.parts.Given as goal
 

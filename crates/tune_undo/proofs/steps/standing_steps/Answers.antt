@@ -3,7 +3,7 @@ use Rattle.std.specs.Prelude.{map}
 use Rattle.std.specs.Option.{option_map, option_to_list}
 use Rattle.std.proofs.lemmas.Bool.Decides.{nat_tests}
 use Rattle.std.proofs.lemmas.List.{nil_from_length}
-use Rattle.tune_undo.specs.Entries.{step_value}
+use Rattle.tune_undo.specs.OldEntries.{step_value}
 use Rattle.tune_undo.specs.OldItems.{IsLog, standing_after}
 use Rattle.tune_undo.specs.Inside.Found.{found_value, place_of}
 use Rattle.tune_undo.proofs.StepLaws.{log_from, standing_found}

@@ -1,7 +1,7 @@
 -- what the steps so far and the items of the rest leave, the items of the book leave
 use Rattle.std.proofs.Common.{◌≡◌, List, length}
 use Rattle.std.specs.Prelude.{map}
-use Rattle.tune_undo.specs.Entries.{step_value}
+use Rattle.tune_undo.specs.OldEntries.{step_value}
 use Rattle.tune_undo.specs.OldItems.{Item, Top, IsLog, standing, standing_after}
 use Rattle.tune_undo.specs.Inside.Found.{place_of}
 use Rattle.tune_undo.proofs.steps.standing_steps.Given as goal
