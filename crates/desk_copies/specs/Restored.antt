@@ -45,7 +45,8 @@ RestoresFrom disks file source after (Ok restored) was now =
 RestoresFrom disks file source after (Err why) was now = MakesNone file was now
 
 -- First the sum of what COPY shows was found to agree with COPY.sha256.
-pub record AgreesAndPuts {D : Type 0} (disks : disk.Ghosts D) (file copy : List ℕ) (source after : D)
+pub record AgreesAndPuts {D : Type 0} (disks : disk.Ghosts D) (file copy : List ℕ)
+    (source after : D)
     (restored : Restored) (was now : List (DeskDeed D)) : Type 0 where
   pub sum : List ℕ
   pub asked : List (DeskDeed D)

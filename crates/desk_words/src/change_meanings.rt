@@ -74,7 +74,8 @@ fn how_to_add(found: &ArgMatches) -> Adding
 
 // There is a book at least.
 fn some_books(alloc: Global, words: &[&str]) -> Result<Vec<String>, OrderFault>
-    ensures { Gives (λ books. map string_bytes books.items) (some_books (texts_of words.now)) result }
+    ensures { Gives (λ books. map string_bytes books.items)
+        (some_books (texts_of words.now)) result }
 {
     match words {
         [] => Err(OrderFault::NoBooks),

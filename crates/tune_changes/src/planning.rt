@@ -134,7 +134,8 @@ fn all_gone<S: TuneStore>(
     held: &[Option<SetName>],
 ) -> Result<Vec<Turn>, Refusal>
     requires { length held.now ≡ length numbers.now }
-    ensures { Call S.TuneStore store.old store.new (turns_told (all_gone [] held.now numbers.now)) result }
+    ensures { Call S.TuneStore store.old store.new
+        (turns_told (all_gone [] held.now numbers.now)) result }
 {
     let mut turns = Vec::with_capacity(alloc, numbers.len())?;
     for place in 0..numbers.len() {

@@ -13,7 +13,8 @@ pub record HoldsArchive {D : Type 0} (file target : List ℕ) (was now : List (D
 abbrev pub aside_of : List ℕ → ℕ → List ℕ
 aside_of target number = target ++ (codes "." ++ decimal number ++ codes ".old")
 
-pub record HasPutAside {D : Type 0} (file target : List ℕ) (number : ℕ) (was now : List (DeskDeed D))
+pub record HasPutAside {D : Type 0} (file target : List ℕ) (number : ℕ)
+    (was now : List (DeskDeed D))
     : Type 0 where
   pub holds : HoldsArchive file target was now
   pub aside : IsPutAside target holds.begun.since
