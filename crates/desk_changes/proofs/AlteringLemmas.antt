@@ -63,7 +63,7 @@ module _ {D : Type 0} (disks : disk.Ghosts D) (file : List ℕ) (kind : EntryKin
   pub alters_file : {A : Type 0} (start finish : Shelf D) (was began ended now : List (DeskDeed D)) (new : D) (result : Result (Unit {0}) A)
       → Opens disks file Change start was began → finish.pages.disk ≡ Some new → now ≡ ended ++ closed file new ∷ []
       → Alters disks file kind Means result (record { start = start; finish = finish; was = began; now = ended })
-      → AltersFile disks file kind Means result was now
+      → AltersFile disks file kind Means result (record { was = was; now = now })
   alters_file start finish was began ended now new (Ok done) opens became close alters =
       held (ChangesBy disks file kind Means (Ok tt)) start finish was began ended now new opens became close alters
   alters_file start finish was began ended now new (Err why) opens became close (inl left) =

@@ -51,8 +51,10 @@ fn alter_file<D: Disk, K: AllocGlobal + Desk<Disk = D>>(
     ensures files { SparesFiles (places_of (string_bytes file.now) None false)
         (K.deeds desk.old) (K.deeds desk.new) }
     ensures alters { AltersFile D.Disk (string_bytes file.now) (kind_of change.now)
-        (λ state turns. planned_by change.now state ≡ Ok turns) result
-        (K.deeds desk.old) (K.deeds desk.new) }
+        (λ state turns. planned_by change.now state ≡ Ok turns) result (record {
+          was = K.deeds desk.old;
+          now = K.deeds desk.new;
+        }) }
 {
     match open_once(desk, file, Access::Change) {
         Err(why) => Err(Unchanged::Unopened(why)),

@@ -12,7 +12,7 @@ use Rattle.tune_desk.proofs.DeedLists.{All-map}
 use Rattle.tune_desk.proofs.SpareLemmas.{each_of_all}
 use Rattle.desk_copies.specs.Copies.{CopiesArchive, IsLookedAt}
 use Rattle.desk_copies.specs.Inside.Asked.{AsksSum}
-use Rattle.desk_copies.specs.Restored.{AgreesAndRestores, PutsCopy, RestoresFile, RestoresFrom, RestoresState}
+use Rattle.desk_copies.specs.Restored.{AgreesAndRestores, CopyRead, PutsCopy, RestoresFile, RestoresFrom, RestoresState}
 use Rattle.desk_copies.specs.declared.archive_copies.Copied.{Copied}
 use Rattle.desk_copies.specs.declared.restores.Restored.{Restored}
 use Rattle.desk_copies.specs.declared.restores.Unrestored.{Unrestored}
@@ -23,10 +23,14 @@ pub restores_state : (from to : DiskState) (copied : Copied) → CopiesArchive f
 restores_state from to copied h = record { state = h.state; held = h.held; kept = h.kept; counted = h.counts }
 
 module _ {D : Type 0} (disks : disk.Ghosts D) (file copy : List ℕ) where
+  -- COPY, read from one disk to another
+  abbrev pub read_of : D → D → CopyRead D
+  read_of source after = record { path = copy; source = source; after = after }
+
   -- a copy from a disk that was only looked at before
   from_before : (source looked after : D) (restored : Restored) (was now : List (DeskDeed D)) → IsLookedAt disks.honest disks.state source looked
-      → IsLookedAt disks.honest disks.state looked after → PutsCopy disks file looked after restored was now
-      → PutsCopy disks file source after restored was now
+      → IsLookedAt disks.honest disks.state looked after → PutsCopy disks file (read_of looked after) restored was now
+      → PutsCopy disks file (read_of source after) restored was now
   from_before source looked after restored was now first second h = record {
     made = h.made;
     makes = h.makes;
@@ -39,7 +43,7 @@ module _ {D : Type 0} (disks : disk.Ghosts D) (file copy : List ℕ) where
   pub agreed_then : {T E : Type 0} (done : T) (source looked after : D) (sum : List ℕ) (outcome : Result Restored Unrestored) (was mid now : List (DeskDeed D))
       → IsLookedAt disks.honest disks.state source looked → (disks.honest looked → sum ≡ sha256 (disks.state source).seen)
       → AsksSum {T = T} {E = E} copy sum (Ok done) was mid → IsLookedAt disks.honest disks.state looked after
-      → RestoresFrom disks file looked after outcome mid now → AgreesAndRestores disks file copy source after outcome was now
+      → RestoresFrom disks file (read_of looked after) outcome mid now → AgreesAndRestores disks file (read_of source after) outcome was now
   agreed_then done source looked after sum (Ok restored) was mid now first summed asks second h = record {
     sum = sum;
     asked = asks.asked;
@@ -64,7 +68,7 @@ module _ {D : Type 0} (disks : disk.Ghosts D) (file copy : List ℕ) where
 
   -- COPY was opened before, and closed behind
   pub visited_then : (source after : D) (outcome : Result Restored Unrestored) (was first last now : List (DeskDeed D))
-      → first ≡ was ++ opened copy Read (Ok source) ∷ [] → AgreesAndRestores disks file copy source after outcome first last
+      → first ≡ was ++ opened copy Read (Ok source) ∷ [] → AgreesAndRestores disks file (read_of source after) outcome first last
       → now ≡ last ++ closed copy after ∷ [] → RestoresFile disks file copy outcome was now
   visited_then source after (Ok restored) was first last now e h k =
       let inner = makes_before file first h.mid last h.asked h.history h.quiet h.puts.makes in

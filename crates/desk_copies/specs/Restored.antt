@@ -28,40 +28,44 @@ pub record RestoresState (from to : DiskState) (counts : Counts) : Type 0 where
   pub kept : LeavesOnly to.now (λ left. Holds left state)
   pub counted : CountsOf counts state
 
+-- COPY, and its disk before and after it was read.
+pub record CopyRead (D : Type 0) : Type 0 where
+  pub path : List ℕ
+  pub source : D
+  pub after : D
+
 -- An archive was put where FILE leads that holds the state of COPY, whose disk was only read.
-pub record PutsCopy {D : Type 0} (disks : disk.Ghosts D) (file : List ℕ) (source after : D)
+pub record PutsCopy {D : Type 0} (disks : disk.Ghosts D) (file : List ℕ) (read : CopyRead D)
     (restored : Restored) (was now : List (DeskDeed D)) : Type 0 where
   pub made : D
   pub makes : MakesArchive file was now
   pub puts : PutsArchive file made was now
-  pub restores : disks.honest after → disks.honest made
-      → RestoresState (disks.state source) (disks.state made) restored.counts
+  pub restores : disks.honest read.after → disks.honest made
+      → RestoresState (disks.state read.source) (disks.state made) restored.counts
 
 -- It was; or none was.
-abbrev pub RestoresFrom : {D : Type 0} → disk.Ghosts D → List ℕ → D → D
+abbrev pub RestoresFrom : {D : Type 0} → disk.Ghosts D → List ℕ → CopyRead D
     → Result Restored Unrestored → List (DeskDeed D) → List (DeskDeed D) → Type 0
-RestoresFrom disks file source after (Ok restored) was now =
-    PutsCopy disks file source after restored was now
-RestoresFrom disks file source after (Err why) was now = MakesNone file was now
+RestoresFrom disks file read (Ok restored) was now = PutsCopy disks file read restored was now
+RestoresFrom disks file read (Err why) was now = MakesNone file was now
 
 -- First the sum of what COPY shows was found to agree with COPY.sha256.
-pub record AgreesAndPuts {D : Type 0} (disks : disk.Ghosts D) (file copy : List ℕ)
-    (source after : D)
+pub record AgreesAndPuts {D : Type 0} (disks : disk.Ghosts D) (file : List ℕ) (read : CopyRead D)
     (restored : Restored) (was now : List (DeskDeed D)) : Type 0 where
   pub sum : List ℕ
   pub asked : List (DeskDeed D)
   pub mid : List (DeskDeed D)
   pub history : mid ≡ was ++ asked
   pub quiet : AllByRecursion ChangesNothing asked
-  pub agrees : AgreesWith copy sum asked
-  pub summed : disks.honest after → sum ≡ sha256 (disks.state source).seen
-  pub puts : PutsCopy disks file source after restored mid now
+  pub agrees : AgreesWith read.path sum asked
+  pub summed : disks.honest read.after → sum ≡ sha256 (disks.state read.source).seen
+  pub puts : PutsCopy disks file read restored mid now
 
-abbrev pub AgreesAndRestores : {D : Type 0} → disk.Ghosts D → List ℕ → List ℕ → D → D
+abbrev pub AgreesAndRestores : {D : Type 0} → disk.Ghosts D → List ℕ → CopyRead D
     → Result Restored Unrestored → List (DeskDeed D) → List (DeskDeed D) → Type 0
-AgreesAndRestores disks file copy source after (Ok restored) was now =
-    AgreesAndPuts disks file copy source after restored was now
-AgreesAndRestores disks file copy source after (Err why) was now = MakesNone file was now
+AgreesAndRestores disks file read (Ok restored) was now =
+    AgreesAndPuts disks file read restored was now
+AgreesAndRestores disks file read (Err why) was now = MakesNone file was now
 
 -- COPY was opened to read alone, and closed behind that.
 pub record HasRestored {D : Type 0} (disks : disk.Ghosts D) (file copy : List ℕ)
@@ -72,7 +76,8 @@ pub record HasRestored {D : Type 0} (disks : disk.Ghosts D) (file copy : List �
   pub last : List (DeskDeed D)
   pub makes : MakesArchive file was now
   pub opens : first ≡ was ++ opened copy Read (Ok source) ∷ []
-  pub puts : AgreesAndPuts disks file copy source after restored first last
+  pub puts : AgreesAndPuts disks file (record { path = copy; source = source; after = after })
+      restored first last
   pub closes : now ≡ last ++ closed copy after ∷ []
 
 abbrev pub RestoresFile : {D : Type 0} → disk.Ghosts D → List ℕ → List ℕ

@@ -109,8 +109,11 @@ fn restore_agreed<D: Disk, K: AllocGlobal + Desk<Disk = D>>(
     force: bool,
     source: &mut D,
 ) -> Result<Restored, Unrestored>
-    ensures restores { AgreesAndRestores D.Disk (string_bytes file.now) (string_bytes copy.now)
-        source.old source.new result (K.deeds desk.old) (K.deeds desk.new) }
+    ensures restores { AgreesAndRestores D.Disk (string_bytes file.now) (record {
+      path = string_bytes copy.now;
+      source = source.old;
+      after = source.new;
+    }) result (K.deeds desk.old) (K.deeds desk.new) }
     ensures source { IsLookedAt D.honest D.state source.old source.new }
 {
     let sum = match sum_of_disk(desk.alloc(), source) {
@@ -131,8 +134,11 @@ fn restore_from<D: Disk, K: AllocGlobal + Desk<Disk = D>>(
     force: bool,
     source: &mut D,
 ) -> Result<Restored, Unrestored>
-    ensures restores { RestoresFrom D.Disk (string_bytes file.now) source.old source.new
-        result (K.deeds desk.old) (K.deeds desk.new) }
+    ensures restores { RestoresFrom D.Disk (string_bytes file.now) (record {
+      path = string_bytes copy.now;
+      source = source.old;
+      after = source.new;
+    }) result (K.deeds desk.old) (K.deeds desk.new) }
     ensures source { IsLookedAt D.honest D.state source.old source.new }
 {
     match begin_archive(desk, file, true) {
@@ -151,7 +157,11 @@ fn fill_copy<D: Disk, K: AllocGlobal + Desk<Disk = D>>(
     requires { string_bytes begun.place.new ≡ new_of (string_bytes begun.place.target) }
     ensures restores { (file : List ℕ) (was : List (DeskDeed D))
         → IsBegunArchive file (string_bytes begun.place.target) was (K.deeds desk.old)
-        → RestoresFrom D.Disk file source.old source.new result was (K.deeds desk.new) }
+        → RestoresFrom D.Disk file (record {
+          path = string_bytes copy.now;
+          source = source.old;
+          after = source.new;
+        }) result was (K.deeds desk.new) }
     ensures source { IsLookedAt D.honest D.state source.old source.new }
 {
     let BegunResult { place, disk } = begun;

@@ -31,13 +31,18 @@ Alters disks file kind Means result course = MatchResult result
     (λ _. LeavesAll disks file course
     ⊎ ((refusal : Refusal) × ChangesBy disks file kind Means (Err refusal) course))
 
+-- what was done with files between two moments
+pub record Stretch (D : Type 0) : Type 0 where
+  pub was : List (DeskDeed D)
+  pub now : List (DeskDeed D)
+
 -- The same in FILE, which was opened to change and closed; or it was not opened.
 abbrev pub AltersFile : {D A : Type 0} → disk.Ghosts D → List ℕ → EntryKind
-    → (State → List Turn → Type 0) → Result (Unit {0}) A → List (DeskDeed D) → List (DeskDeed D)
-    → Type 0
-AltersFile disks file kind Means result was now = MatchResult result
-    (λ _. IsChangedWithin disks file (ChangesBy disks file kind Means (Ok tt)) was now)
-    (λ _. Did was now (Visits disks file Change)
-    ⊎ (IsChangedWithin disks file (LeavesAll disks file) was now
+    → (State → List Turn → Type 0) → Result (Unit {0}) A → Stretch D → Type 0
+AltersFile disks file kind Means result stretch = MatchResult result
+    (λ _. IsChangedWithin disks file (ChangesBy disks file kind Means (Ok tt))
+    stretch.was stretch.now)
+    (λ _. Did stretch.was stretch.now (Visits disks file Change)
+    ⊎ (IsChangedWithin disks file (LeavesAll disks file) stretch.was stretch.now
     ⊎ ((refusal : Refusal) × IsChangedWithin disks file
-    (ChangesBy disks file kind Means (Err refusal)) was now)))
+    (ChangesBy disks file kind Means (Err refusal)) stretch.was stretch.now)))
