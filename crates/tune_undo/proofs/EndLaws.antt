@@ -15,7 +15,7 @@ use Rattle.tune_undo.specs.EntryBytes.{kind_word, IsMark, parts_bytes, IsEntry, 
 use Rattle.tune_undo.specs.OldItems.{OldEntry, IsOld, old_bytes, IsWritten, Begins, Item, Entered, Marked, ItemPlace, Top, Start, Within, after_feed}
 use Rattle.tune_undo.specs.OldItems.{next, Stands, IsLog, standing, standing_after, after_item}
 use Rattle.tune_undo.specs.OldTextLaws.{is_ended, before_piece, made_ready, IsPiece, AddsItem, AddsNothing}
-use Rattle.tune_undo.specs.Inside.ItemReading.{and_then, field_at, mark_of}
+use Rattle.tune_undo.specs.Inside.ItemReading.{◌>>=◌, field_at, mark_of}
 use Rattle.tune_undo.specs.Inside.EntryLines.{first_line_at, old_line_at, mark_line_at}
 use Rattle.tune_undo.specs.declared.old_entries.EntryKind.{EntryKind}
 use Rattle.tune_undo.specs.declared.old_entries.EntryKind.TheVariants as kind
@@ -81,7 +81,7 @@ entry_no_mark e rest is =
     (simp append_assoc) in
     ap mark_line_at (entry_parts e rest ∙ shape)
     ∙ (bind_is (field_at line_feed (word ++ (line_feed ∷ more))) _ (word, more) (field_again line_feed word more free)
-    ∙ ap (λ (o : Option Mark). and_then o (λ mark. Some (mark, more))) (mark_of_kind e.kind numbers))
+    ∙ ap (λ (o : Option Mark). o >>= (λ mark. Some (mark, more))) (mark_of_kind e.kind numbers))
 
 -- what begins with a written entry is that entry
 entry_only : (e : EntryValue) (item : Item) (front rest : List ℕ) → IsEntry e → front ++ rest ≡ entry_bytes e → IsWritten front item

@@ -13,15 +13,15 @@ use Rattle.std.proofs.lemmas.List.{drop_at}
 use Rattle.std.proofs.lemmas.Fmt.{decimal_is_IsNumeral}
 use Rattle.std.proofs.lemmas.Slice.Eq.{bytes_eq-Decides, starts_is}
 use Rattle.std.proofs.lemmas.Str.Parse.{digit_from_value}
-use Rattle.tune_undo.specs.Inside.ItemReading.{and_then, after, onto, field_at, number_of, number_at}
+use Rattle.tune_undo.specs.Inside.ItemReading.{◌>>=◌, after, onto, field_at, number_of, number_at}
 
 -- STEPS
-pub bind_some : {A B : Type 0} (o : Option A) (f : A → Option B) (y : B) → and_then o f ≡ Some y → (x : A) × (o ≡ Some x) × (f x ≡ Some y)
+pub bind_some : {A B : Type 0} (o : Option A) (f : A → Option B) (y : B) → (o >>= f) ≡ Some y → (x : A) × (o ≡ Some x) × (f x ≡ Some y)
 bind_some None f y e = absurd (none-some y e)
 bind_some (Some x) f y e = (x, refl, e)
 
-pub bind_is : {A B : Type 0} (o : Option A) (f : A → Option B) (x : A) → o ≡ Some x → and_then o f ≡ f x
-bind_is o f x e = ap (λ p. and_then p f) e
+pub bind_is : {A B : Type 0} (o : Option A) (f : A → Option B) (x : A) → o ≡ Some x → (o >>= f) ≡ f x
+bind_is o f x e = ap (λ p. p >>= f) e
 
 pub chosen : {A : Type 0} (b : Bool) (x y z : A) → cond b x y ≡ z → ((b ≡ true) × (x ≡ z)) ⊎ ((b ≡ false) × (y ≡ z))
 chosen true x y z e = inl (refl, e)
@@ -127,7 +127,7 @@ number_at_again end n rest low small =
 
 pub number_at_takes : (end : ℕ) (bytes : List ℕ) (r : ℕ × List ℕ) → number_at end bytes ≡ Some r → (r.0 < 2 ^ 32) × (bytes ≡ decimal r.0 ++ (end ∷ r.1))
 number_at_takes end bytes r e =
-    let f = bind_some (field_at end bytes) (λ field. and_then (number_of field.0) (λ number. Some (number, field.1))) r e in
+    let f = bind_some (field_at end bytes) (λ field. number_of field.0 >>= λ number. Some (number, field.1)) r e in
     let n = bind_some (number_of f.0.0) (λ number. Some (number, f.0.1)) r f.2 in
     let word = number_takes f.0.0 n.0 n.1 in
     let P : ℕ × List ℕ → Type 0 = λ s. (s.0 < 2 ^ 32) × (bytes ≡ decimal s.0 ++ (end ∷ s.1)) in

@@ -10,7 +10,7 @@ use Rattle.tune_undo.specs.OldEntries.{EntryValue}
 use Rattle.tune_undo.specs.EntryBytes.{kind_word, parts_bytes, book_tune, IsEntry, entry_bytes}
 use Rattle.tune_undo.specs.OldItems.{OldEntry, IsOld, made_bytes, old_bytes, after_old, entry_of_old, IsWritten, Item, Entered, Marked, ItemPlace}
 use Rattle.tune_undo.specs.OldItems.{Top, Start, Within, next, Stands, IsLog}
-use Rattle.tune_undo.specs.Inside.ItemReading.{and_then, field_at}
+use Rattle.tune_undo.specs.Inside.ItemReading.{◌>>=◌, field_at}
 use Rattle.tune_undo.specs.Inside.EntryLines.{mark_line_at}
 use Rattle.tune_undo.specs.declared.old_entries.Part.TheVariants.{Tune}
 use Rattle.tune_undo.specs.declared.old_entries.Mark.{Mark}
@@ -41,7 +41,7 @@ old_no_mark old rest is =
     let shape : old_line old.kind old.number old.revision lens more ≡ codes "% tunes-book " ++ (word ++ (line_feed ∷ more)) = sym (simp append_assoc) in
     ap mark_line_at (old_parts old rest ∙ shape)
     ∙ (bind_is (field_at line_feed (word ++ (line_feed ∷ more))) _ (word, more) (field_again line_feed word more free)
-    ∙ ap (λ (o : Option Mark). and_then o (λ mark. Some (mark, more))) (mark_of_kind old.kind numbers))
+    ∙ ap (λ (o : Option Mark). o >>= (λ mark. Some (mark, more))) (mark_of_kind old.kind numbers))
 
 -- entries at the front of the same bytes are one
 new_same : (e f : EntryValue) (x y : List ℕ) → IsEntry e → IsEntry f → entry_bytes e ++ x ≡ entry_bytes f ++ y → e ≡ f

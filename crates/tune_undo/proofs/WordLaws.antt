@@ -10,7 +10,7 @@ use Rattle.std.proofs.lemmas.Fmt.{decimal_is_IsNumeral, length-decimal-le}
 use Rattle.hex.specs.Hex.{encode_lower, decode_sized}
 use Rattle.tune_undo.specs.OldEntries.{IsAfter}
 use Rattle.tune_undo.specs.EntryBytes.{after_word, length_word, kind_word, mark_word, IsMark}
-use Rattle.tune_undo.specs.Inside.ItemReading.{and_then, after, number_of, length_of, after_of, kind_of, mark_of}
+use Rattle.tune_undo.specs.Inside.ItemReading.{◌>>=◌, after, number_of, length_of, after_of, kind_of, mark_of}
 use Rattle.tune_undo.specs.Inside.SumWords.{sum_of}
 use Rattle.tune_undo.specs.declared.old_entries.EntryKind.{EntryKind}
 use Rattle.tune_undo.specs.declared.old_entries.EntryKind.TheVariants as kind
@@ -64,7 +64,7 @@ after_of_takes word is e =
       | inr h ↦ elim (chosen (bytes_eq word (codes "none")) _ _ _ h.1) [
         | inl n ↦ subst P (same_Some _ _ n.1) (tt, is_word _ _ n.0)
         | inr n ↦
-            let r = bind_some (after (codes "revision ") word) (λ rest. and_then (number_of rest) (λ n. Some (Revision n))) is n.1 in
+            let r = bind_some (after (codes "revision ") word) (λ rest. number_of rest >>= λ n. Some (Revision n)) is n.1 in
             let m = bind_some (number_of r.0) (λ n. Some (Revision n)) is r.2 in
             let number = number_takes r.0 m.0 m.1 in
             subst P (same_Some _ _ m.2) (number.0, after_takes (codes "revision ") word r.0 r.1 ∙ ap (λ t. codes "revision " ++ t) number.1)
@@ -119,7 +119,7 @@ mark_takes word mark e =
         | inr h ↦ elim (chosen (bytes_eq word (codes "undoing")) _ _ _ h.1) [
           | inl h ↦ subst P (same_Some _ _ h.1) (inr (is_word _ _ h.0, refl))
           | inr h ↦
-              let r = bind_some (after (codes "undoing ") word) (λ rest. and_then (number_of rest) (λ n. Some (Undoing n))) mark h.1 in
+              let r = bind_some (after (codes "undoing ") word) (λ rest. number_of rest >>= λ n. Some (Undoing n)) mark h.1 in
               let m = bind_some (number_of r.0) (λ n. Some (Undoing n)) mark r.2 in
               let number = number_takes r.0 m.0 m.1 in
               subst P (same_Some _ _ m.2) (inl (number.0, after_takes (codes "undoing ") word r.0 r.1 ∙ ap (λ t. codes "undoing " ++ t) number.1))

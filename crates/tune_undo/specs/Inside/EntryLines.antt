@@ -2,7 +2,7 @@
 use Rattle.std.specs.Prelude.{ℕ, ◌+◌, ◌-◌, ◌^◌, List, [], ◌∷◌, length, drop, codes, nat_lt}
 use Rattle.std.specs.Prelude.{Option, None, Some, ◌==◌, ◌&&◌, if◌then◌else◌}
 use Rattle.abc_fields.specs.Bytes.{space, line_feed}
-use Rattle.tune_undo.specs.Inside.ItemReading.{and_then, after, field_at, number_at, kind_of}
+use Rattle.tune_undo.specs.Inside.ItemReading.{◌>>=◌, after, field_at, number_at, kind_of}
 use Rattle.tune_undo.specs.Inside.ItemReading.{length_of, number_of, after_of, mark_of}
 use Rattle.tune_undo.specs.OldItems.{is_old_kind, after_old}
 use Rattle.tune_undo.specs.declared.part_lines.TuneLine.{TuneLine}

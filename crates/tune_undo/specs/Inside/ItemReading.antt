@@ -14,9 +14,10 @@ use Rattle.tune_undo.specs.declared.old_entries.Mark.{Mark}
 use Rattle.tune_undo.specs.declared.old_entries.Mark.TheVariants.{NotDone, Undone, Undoing}
 
 -- the second step, if the first one gave a value
-abbrev pub and_then : {A B : Type 0} → Option A → (A → Option B) → Option B
-and_then None f = None
-and_then (Some x) f = f x
+infixl 10 ◌>>=◌
+abbrev pub ◌>>=◌ : {A B : Type 0} → Option A → (A → Option B) → Option B
+None >>= f = None
+(Some x) >>= f = f x
 
 -- what a function returned, seen by a view, is what reading gives
 abbrev pub Gives : {X Y : Type 0} → (X → Y) → Option X → Option Y → Type 0
@@ -55,15 +56,14 @@ number_at end bytes = do
 abbrev pub length_of : List ℕ → Option (Option ℕ)
 length_of word =
     if bytes_eq word (codes "none") then Some None
-    else and_then (number_of word) (λ len. Some (Some len))
+    else (number_of word >>= λ len. Some (Some len))
 
 -- what a tune is after a change
 abbrev pub after_of : List ℕ → Option After
 after_of word =
-    if length word == 64 then and_then (sum_of word) (λ sum. Some (Text sum))
+    if length word == 64 then (sum_of word >>= λ sum. Some (Text sum))
     else if bytes_eq word (codes "none") then Some Nothing
-    else and_then (after (codes "revision ") word)
-    (λ rest. and_then (number_of rest) (λ n. Some (Revision n)))
+    else (after (codes "revision ") word >>= λ rest. number_of rest >>= λ n. Some (Revision n))
 
 -- the kind of an entry
 abbrev pub kind_of : List ℕ → Option EntryKind
@@ -85,5 +85,4 @@ mark_of word =
     if bytes_eq word (codes "not done") then Some NotDone
     else if bytes_eq word (codes "undone") then Some Undone
     else if bytes_eq word (codes "undoing") then Some (Undoing 0)
-    else and_then (after (codes "undoing ") word)
-    (λ rest. and_then (number_of rest) (λ n. Some (Undoing n)))
+    else (after (codes "undoing ") word >>= λ rest. number_of rest >>= λ n. Some (Undoing n))
