@@ -389,6 +389,7 @@ def lemmas(path):
     """The name of each item of a file that defines nothing, in its order."""
     text = USE_LIST.sub("", without_comments(open(path, encoding="utf-8").read(), "--"))
     levels, head, enters, named, found = [0], "", False, set(), []
+    operators = set()
     for line in filter(str.strip, text.split("\n")):
         depth = len(line) - len(line.lstrip())
         if head:
@@ -403,6 +404,12 @@ def lemmas(path):
         if item is None or depth != levels[-1] or not re.match(r"\w", item.group(3)):
             continue
         name = item.group(3)
+        # an operator is named once, and its clauses have it between what it is of
+        if name in ("infixl", "infixr", "infix"):
+            operators.add(line.split()[-1].replace("◌", ""))
+            continue
+        if any(operator in line.split(" = ")[0] for operator in operators):
+            continue
         if "module" in item.group(2):
             head, enters = ("", True) if re.search(r"\bwhere\b", line) else (line, False)
         # what follows a name that was named before is one of its clauses
