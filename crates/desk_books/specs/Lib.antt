@@ -1,0 +1,4 @@
+pub mod AddedBooks
+pub mod CheckedBooks
+pub mod KeptEntries
+pub mod Stages
