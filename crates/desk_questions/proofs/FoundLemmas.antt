@@ -191,13 +191,3 @@ found_by_next conditions i condition labels state numbers given new l at was giv
 pub nothing_among : (conditions : List Condition) (i : ℕ) (condition : Condition) → i < length conditions → condition ≡ get_or conditions i condition
     → asks_nothing condition ≡ true → list_any asks_nothing conditions ≡ true
 nothing_among conditions i condition l at nothing = list_any_at asks_nothing conditions i condition l (rw (← at) nothing)
-
--- LABELS
-pub numbers_next : (labels : List Label) (place : ℕ) (label : Label) → place < length labels → ((d : Label) → label ≡ get_or labels place d)
-    → take place (numbers_of labels) ++ label.number ∷ [] ≡ take (place + 1) (numbers_of labels)
-numbers_next labels place label l at =
-    let number : Label → ℕ = λ (label : Label). label.number in
-    let long : length (map number labels) ≡ length labels = length-map labels number in
-    let within : place < length (map number labels) = omega arith in
-    ap (λ n. take place (map number labels) ++ n ∷ []) (ap number (at label) ∙ sym (get_or-map number labels place label 0 l))
-    ∙ sym (take_more (map number labels) place 0 within)

@@ -16,30 +16,6 @@ use Rattle.tune_store.specs.declared.command.Refusal.{Refusal}
 use Rattle.tune_store.specs.declared.command.Refusal.TheVariants.{BadQuery}
 use Rattle.tune_asking.specs.Calls.{tune_or, tune_told}
 
--- SHOW
-pub shown_ok : (number : ℕ) (there : Option Tune) (reply : Reply) → shown number there ≡ Ok reply
-    → (tune : Tune) × (reply ≡ Shown tune) × (tune_or number there ≡ Ok tune)
-shown_ok number None reply e = absurd cc
-shown_ok number (Some tune) reply e = (tune, cc, refl)
-
--- the tune that is shown
-pub shown_tune : (number : ℕ) (state : State) (tune : Tune) → (step state (Show number)).1 ≡ Ok (Shown tune) → tune_told number state ≡ Ok tune
-shown_tune number state tune e =
-    let h = shown_ok number (tune_at number state.tunes) (Shown tune) e in
-    let same : tune ≡ h.0 = cc (h.1) in
-    h.2 ∙ ap Ok (sym same)
-
-pub shown_is : (number : ℕ) (state : State) (reply : Reply) (tune : Tune) → (step state (Show number)).1 ≡ Ok reply → reply ≡ Shown tune
-    → tune_told number state ≡ Ok tune
-shown_is number state reply tune e is =
-    let h = shown_ok number (tune_at number state.tunes) reply e in
-    let same : tune ≡ h.0 = cc (h.1, is) in
-    h.2 ∙ ap Ok (sym same)
-
-pub shown_refused : (number : ℕ) (there : Option Tune) (refusal : Refusal) → shown number there ≡ Err refusal → tune_or number there ≡ Err refusal
-shown_refused number None refusal e = cc
-shown_refused number (Some tune) refusal e = absurd cc
-
 -- FIND
 pub found_ok : (notes : ℕ) (query : Query) (tunes : List Tune) (reply : Reply) → find notes query tunes ≡ Ok reply
     → (is_bad query ≡ false) × (reply ≡ Found (found notes query tunes))

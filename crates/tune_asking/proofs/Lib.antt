@@ -1,2 +1,3 @@
 pub mod AskLemmas
 pub mod CallLemmas
+pub mod LookLemmas

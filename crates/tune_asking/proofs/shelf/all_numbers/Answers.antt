@@ -1,5 +1,5 @@
 use Rattle.std.proofs.Common.{◌≡◌, ◌<◌, ◌++◌, [], ◌∷◌, length, ap, ◌∙◌, sym, rules, arith}
-use Rattle.desk_questions.proofs.FoundLemmas.{numbers_next}
+use Rattle.tune_asking.proofs.LookLemmas.{numbers_next}
 use Rattle.tune_asking.proofs.shelf.all_numbers.Goals as goal
 
 pub loop-place-preserved : goal.loop-place-preserved

@@ -1,7 +1,7 @@
 use Rattle.std.proofs.Common.{◌≡◌, rules, refl, sym, ap, ◌∙◌}
 use Rattle.tune_store.specs.State.{tune_at}
 use Rattle.tune_asking.proofs.CallLemmas.{goes_none, goes_on, good_of, call_ok, call_err, call_refused}
-use Rattle.desk_questions.proofs.ReplyLemmas.{shown_is, shown_ok, shown_refused}
+use Rattle.tune_asking.proofs.LookLemmas.{shown_is, shown_ok, shown_refused}
 use Rattle.tune_asking.proofs.store_questions.tune_of.Goals as goal
 
 pub ask-requires : goal.ask-requires
