@@ -5,7 +5,7 @@ use Rattle.std.specs.List.{AllByRecursion, Contains}
 use Rattle.tune_desk.specs.DeskDeeds.{DeskDeed}
 use Rattle.tune_desk.specs.KeptNames.{IsNamesake, IsKeptName, folder_of}
 use Rattle.tune_desk.specs.Refusals.{HasCause, HasFault, IsBeside}
-use Rattle.tune_desk.specs.Results.{Places, LeadsTo, AreApart, SparesNames, SparesArchive, MayBeReplaced}
+use Rattle.tune_desk.specs.Results.{Places, LeadsTo, AreApart, SparesNames, SparesArchive, MayBeReplaced, MayGrow}
 use Rattle.tune_desk.specs.declared.refusals.ResultRefusal.{ResultRefusal}
 use Rattle.tune_desk.specs.declared.refusals.ResultRefusal.TheVariants.{Archive, OtherArchive, Companion}
 use Rattle.tune_desk.specs.declared.refusals.ResultRefusal.TheVariants.{Standing as StandsThere, Folder, NotFile}
@@ -59,6 +59,10 @@ module _ {D : Type 0} {some all : List (DeskDeed D)} (more : Covers some all) wh
     other = apart-more target places.file h.other;
     no_archive = more.each _ h.no_archive;
   }
+
+  pub grows-more : (places : Places) (path : List ℕ) → MayGrow places path some → MayGrow places path all
+  grows-more places path (inl h) = inl (more.each _ h)
+  grows-more places path (inr h) = inr (more.each _ h.0, apart-more path places.file h.1, more.each _ h.2)
 
   pub beside-more : (HasName : List ℕ → List ℕ → Type 0) (places : Places) (target : List ℕ) → IsBeside HasName places target some
       → IsBeside HasName places target all

@@ -1,3 +1,4 @@
+pub mod ArchiveLemmas
 mod AskLemmas
 mod DeedLists
 mod NameLemmas

@@ -5,6 +5,7 @@ use Rattle.std.proofs.lemmas.List.{append_assoc}
 use Rattle.std.specs.List.{AllByRecursion, Contains}
 use Rattle.tune_desk.specs.DeskDeeds.{DeskDeed, Answer, ChangesNothing, looked, compared, tested, followed}
 use Rattle.tune_desk.specs.DeskDeeds.{read, listed, made, named, named_over, removed, opened, closed}
+use Rattle.tune_desk.specs.DeskDeeds.{grown, created, linked, shared}
 use Rattle.tune_desk.specs.Inside.Asks.{MayBeWritten}
 use Rattle.tune_desk.specs.Inside.Puts.{Outcome, WritesTo, naming_of, refusal_of_making, refusal_of_removal}
 use Rattle.tune_desk.specs.Refusals.{Refuses, HasCause, DoneBefore, NamesNothing, LeadsNowhere}
@@ -62,14 +63,22 @@ naming_fails D target false fault h = (refl, λ e. h (cc))
 module _ {D : Type 0} (places : Places) (target : List ℕ) (over : Bool) (bytes : List ℕ) (before : List (DeskDeed D))
     (h : Cleared places target over before) where
   own_made : IsOwn (new_of target) (before ++ made (new_of target) bytes (Ok tt) ∷ [])
-  own_made = record { bytes = bytes; earlier = before; since = []; history = refl; left = tt }
+  own_made = record {
+    making = made (new_of target) bytes (Ok tt);
+    earlier = before;
+    since = [];
+    makes = inl (bytes, refl);
+    history = refl;
+    left = tt;
+  }
 
   own_unnamed : (fault : DeskFault) → fault ≢ desk.Unkept
       → IsOwn (new_of target) ((before ++ made (new_of target) bytes (Ok tt) ∷ []) ++ naming_of target over (Err fault) ∷ [])
   own_unnamed fault other = record {
-    bytes = bytes;
+    making = made (new_of target) bytes (Ok tt);
     earlier = before;
     since = naming_of target over (Err fault) ∷ [];
+    makes = inl (bytes, refl);
     history = append_assoc before (made (new_of target) bytes (Ok tt) ∷ []) (naming_of target over (Err fault) ∷ []);
     left = (naming_leaves D target over fault other, tt);
   }
@@ -137,6 +146,10 @@ quiet_names (named_over from to answer) h = absurd (cc)
 quiet_names (removed path answer) h = tt
 quiet_names (opened path access answer) h = tt
 quiet_names (closed path disk) h = tt
+quiet_names (grown path bytes answer) h = tt
+quiet_names (created path answer) h = tt
+quiet_names (linked from to answer) h = tt
+quiet_names (shared path like answer) h = tt
 
 quiet_done : {D : Type 0} (why : ResultRefusal) (deed : DeskDeed D) → ChangesNothing deed → DoneBefore why deed
 quiet_done Archive deed h = h

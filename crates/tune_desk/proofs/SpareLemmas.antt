@@ -1,12 +1,12 @@
 -- Orders that spare files: what is done before and after may be any reading.
-use Rattle.std.proofs.Common.{◌≡◌, ℕ, List, [], ◌∷◌, ◌++◌, refl, ap, sym, ◌∙◌, subst, Ok}
+use Rattle.std.proofs.Common.{◌≡◌, ℕ, List, [], ◌∷◌, ◌++◌, refl, ap, sym, ◌∙◌, subst}
 use Rattle.std.proofs.lemmas.List.{append_assoc, append-nil}
 use Rattle.std.specs.List.{AllByRecursion}
 use Rattle.tune_disk.specs.declared.file.Access.TheVariants.{Read, Change}
 use Rattle.tune_desk.specs.DeskDeeds.{DeskDeed, ChangesNothing, looked, compared, tested, followed, read, listed, made, named, named_over, removed, opened}
-use Rattle.tune_desk.specs.DeskDeeds.{closed}
+use Rattle.tune_desk.specs.DeskDeeds.{closed, grown, created, linked, shared}
 use Rattle.tune_desk.specs.Results.{Places, KeepsTo, ComesInOrder, EachAfter, SparesFiles, IsReading, IsOwn}
-use Rattle.tune_desk.proofs.DeedLists.{covers_rest, leads-more, archive-more, replaced-more}
+use Rattle.tune_desk.proofs.DeedLists.{covers_rest, leads-more, archive-more, replaced-more, grows-more}
 
 pub quiet_reads : {D : Type 0} (places : Places) (deed : DeskDeed D) → ChangesNothing deed → IsReading places deed
 quiet_reads places (looked path answer) h = h
@@ -22,6 +22,10 @@ quiet_reads places (removed path answer) h = h
 quiet_reads places (opened path Read answer) h = h
 quiet_reads places (opened path Change answer) h = absurd (cc)
 quiet_reads places (closed path disk) h = h
+quiet_reads places (grown path bytes answer) h = h
+quiet_reads places (created path answer) h = h
+quiet_reads places (linked from to answer) h = h
+quiet_reads places (shared path like answer) h = h
 
 pub reading_keeps : {D : Type 0} (places : Places) (before : List (DeskDeed D)) (deed : DeskDeed D) → IsReading places deed → KeepsTo places before deed
 reading_keeps places before (looked path answer) h = tt
@@ -37,6 +41,10 @@ reading_keeps places before (removed path answer) h = absurd (cc)
 reading_keeps places before (opened path Read answer) h = tt
 reading_keeps places before (opened path Change answer) h = h
 reading_keeps places before (closed path disk) h = tt
+reading_keeps places before (grown path bytes answer) h = absurd (cc)
+reading_keeps places before (created path answer) h = absurd (cc)
+reading_keeps places before (linked from to answer) h = absurd (cc)
+reading_keeps places before (shared path like answer) h = absurd (cc)
 
 pub reading_comes : {D : Type 0} (places : Places) (before : List (DeskDeed D)) (deed : DeskDeed D) → IsReading places deed → ComesInOrder places before deed
 reading_comes places before (looked path answer) h = tt
@@ -51,6 +59,10 @@ reading_comes places before (named_over from to answer) h = absurd (cc)
 reading_comes places before (removed path answer) h = absurd (cc)
 reading_comes places before (opened path access answer) h = tt
 reading_comes places before (closed path disk) h = tt
+reading_comes places before (grown path bytes answer) h = absurd (cc)
+reading_comes places before (created path answer) h = absurd (cc)
+reading_comes places before (linked from to answer) h = absurd (cc)
+reading_comes places before (shared path like answer) h = absurd (cc)
 
 pub each_append : {D : Type 0} (Fits : List (DeskDeed D) → DeskDeed D → Type 0) (before xs ys : List (DeskDeed D)) → EachAfter Fits before xs
     → EachAfter Fits (before ++ xs) ys
@@ -76,10 +88,11 @@ each_after Fits front f before (x ∷ xs) h =
 module _ {D : Type 0} (front : List (DeskDeed D)) where
   pub own_after : (path : List ℕ) (before : List (DeskDeed D)) → IsOwn path before → IsOwn path (front ++ before)
   own_after path before h = record {
-    bytes = h.bytes;
+    making = h.making;
     earlier = front ++ h.earlier;
     since = h.since;
-    history = ap (λ l. front ++ l) h.history ∙ sym (append_assoc front h.earlier (made path h.bytes (Ok tt) ∷ h.since));
+    makes = h.makes;
+    history = ap (λ l. front ++ l) h.history ∙ sym (append_assoc front h.earlier (h.making ∷ h.since));
     left = h.left;
   }
 
@@ -97,6 +110,10 @@ module _ {D : Type 0} (front : List (DeskDeed D)) where
   keeps_after places before (opened path Read answer) h = tt
   keeps_after places before (opened path Change answer) h = h
   keeps_after places before (closed path disk) h = tt
+  keeps_after places before (grown path bytes answer) h = h
+  keeps_after places before (created path answer) h = (h.0, leads-more (covers_rest front before) places h.0 h.1, h.2)
+  keeps_after places before (linked from to answer) h = h
+  keeps_after places before (shared path like answer) h = (h.0, leads-more (covers_rest front before) places h.0 h.1, h.2)
 
   pub comes_after : (places : Places) (before : List (DeskDeed D)) (deed : DeskDeed D) → ComesInOrder places before deed → ComesInOrder places
       (front ++ before) deed
@@ -113,6 +130,10 @@ module _ {D : Type 0} (front : List (DeskDeed D)) where
   comes_after places before (removed path answer) h = own_after path before h
   comes_after places before (opened path access answer) h = tt
   comes_after places before (closed path disk) h = tt
+  comes_after places before (grown path bytes answer) h = grows-more (covers_rest front before) places path h
+  comes_after places before (created path answer) h = (h.0, archive-more (covers_rest front before) places h.0 h.1, h.2)
+  comes_after places before (linked from to answer) h = tt
+  comes_after places before (shared path like answer) h = own_after path before h
 
 -- Nothing was done.
 pub spares_none : {D : Type 0} (places : Places) (was : List (DeskDeed D)) → SparesFiles places was was

@@ -32,6 +32,14 @@ pub data DeskDeed (D : Type 0) : Type 0 where
   -- a file was opened as a disk; that disk was closed
   opened : List ℕ → Access → Result D DeskFault → DeskDeed D
   closed : List ℕ → D → DeskDeed D
+  -- bytes were put at the end of a file, which was made where nothing stood
+  grown : List ℕ → List ℕ → Answer → DeskDeed D
+  -- an empty file was made, where nothing stood, and opened as a disk to change it
+  created : List ℕ → Result D DeskFault → DeskDeed D
+  -- the file of the first path got the second for one name more, which nothing had
+  linked : List ℕ → List ℕ → Answer → DeskDeed D
+  -- those may read and write the file of the first path who may do so with that of the second
+  shared : List ℕ → List ℕ → Answer → DeskDeed D
 
 -- the bytes of a path that was answered, and of names
 abbrev pub path_of : {A : Type 0} → Result (String A) DeskFault → Result (List ℕ) DeskFault
@@ -50,6 +58,10 @@ changed_by (named from to answer) = from ∷ to ∷ []
 changed_by (named_over from to answer) = from ∷ to ∷ []
 changed_by (removed path answer) = path ∷ []
 changed_by (opened path Change answer) = path ∷ []
+changed_by (grown path bytes answer) = path ∷ []
+changed_by (created path answer) = path ∷ []
+changed_by (linked from to answer) = to ∷ []
+changed_by (shared path like answer) = path ∷ []
 changed_by deed = []
 
 -- A deed that changes no file: a question, or an opening to read alone.

@@ -3,6 +3,7 @@ use Rattle.std.specs.Prelude.{ℕ, List, map, String, string_bytes}
 use Rattle.http_server.specs.declared.log.Log.{Log}
 use Rattle.tune_desk.specs.DeskDeeds.{DeskDeed, looked, compared, tested, followed, read, listed}
 use Rattle.tune_desk.specs.DeskDeeds.{made, named, named_over, removed, opened, closed}
+use Rattle.tune_desk.specs.DeskDeeds.{grown, created, linked, shared}
 use Rattle.tune_desk.specs.DeskDeeds.{path_of, names_of}
 use Rattle.tune_desk.specs.declared.desk_log.DeskLog.{DeskLog}
 use Rattle.tune_desk.specs.declared.desk_log.Told.{Told}
@@ -31,6 +32,13 @@ deed_of (path, told.Removed answer) = removed (string_bytes path) answer.value
 deed_of (path, told.Opened access answer) =
     opened (string_bytes path) access.value answer.value
 deed_of (path, told.Closed disk) = closed (string_bytes path) disk.value
+deed_of (path, told.Grown bytes answer) =
+    grown (string_bytes path) (bytes_of bytes) answer.value
+deed_of (path, told.Created answer) = created (string_bytes path) answer.value
+deed_of (path, told.Linked to answer) =
+    linked (string_bytes path) (string_bytes to.value) answer.value
+deed_of (path, told.Shared like answer) =
+    shared (string_bytes path) (string_bytes like.value) answer.value
 
 -- the deeds, the first first
 abbrev pub deeds_of : {D : Type 0} → DeskLog D → List (DeskDeed D)

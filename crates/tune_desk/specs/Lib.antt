@@ -1,3 +1,4 @@
+pub mod ArchiveFiles
 pub mod DeskDeeds
 pub mod DeskLog
 pub mod Inside

@@ -7,6 +7,7 @@ use Rattle.tune_disk.specs.declared.file.Access.TheVariants.{Change}
 use Rattle.tune_desk.specs.DeskDeeds.{DeskDeed, Answer, looked, compared, tested, followed, made}
 use Rattle.tune_desk.specs.DeskDeeds.{named}
 use Rattle.tune_desk.specs.DeskDeeds.{named_over, removed, opened, changed_by, ChangesNothing}
+use Rattle.tune_desk.specs.DeskDeeds.{grown, created, linked, shared}
 use Rattle.tune_desk.specs.KeptNames.{folder_of, IsNamesake, IsKeptName}
 use Rattle.tune_desk.specs.declared.desk.DeskFault.TheVariants.{Missing, Unkept}
 use Rattle.tune_desk.specs.declared.desk.Standing.TheVariants as standing
@@ -32,12 +33,17 @@ pub record LeadsTo {D : Type 0} (places : Places) (target : List ℕ) (before : 
 abbrev pub new_of : List ℕ → List ℕ
 new_of target = target ++ codes ".new"
 
+-- FILE.old.abc: the book of old texts of FILE
+abbrev pub old_of : List ℕ → List ℕ
+old_of file = file ++ codes ".old.abc"
+
 -- every archive begins with these bytes
 abbrev pub archive_head : List ℕ
 archive_head = codes "ABCTUNE1"
 
--- WHICH FILES. A deed keeps to the files of its order: FILE may change as a disk alone; the result
--- is made as TARGET.new, which is named TARGET, or taken away.
+-- WHICH FILES. A deed keeps to the files of its order: FILE may change as a disk alone, and what
+-- grows is its book of old texts; the result is made as TARGET.new, which is named TARGET, or taken
+-- away.
 abbrev pub KeepsTo : {D : Type 0} → Places → List (DeskDeed D) → DeskDeed D → Type 0
 KeepsTo places before (made path bytes answer) =
     (target : List ℕ) × LeadsTo places target before × (path ≡ new_of target)
@@ -47,6 +53,12 @@ KeepsTo places before (named_over from to answer) =
 KeepsTo places before (removed path answer) =
     (target : List ℕ) × LeadsTo places target before × (path ≡ new_of target)
 KeepsTo places before (opened path Change answer) = path ≡ places.file
+KeepsTo places before (grown path bytes answer) = path ≡ old_of places.file
+KeepsTo places before (created path answer) =
+    (target : List ℕ) × LeadsTo places target before × (path ≡ new_of target)
+KeepsTo places before (linked from to answer) = ⊥
+KeepsTo places before (shared path like answer) =
+    (target : List ℕ) × LeadsTo places target before × (path ≡ new_of target)
 KeepsTo places before deed = Unit {0}
 
 -- IN WHICH ORDER. Two paths were compared, and do not lead to one file or folder.
@@ -77,22 +89,38 @@ pub record MayBeReplaced {D : Type 0} (places : Places) (target : List ℕ)
   pub other : AreApart target places.file before
   pub no_archive : Contains before (tested target archive_head (Ok false))
 
--- A deed leaves the file at a path as it is. A naming that failed left both paths as they were.
+-- The book at a path may grow: nothing stands there; or a regular file does, which is not FILE by
+-- any name, and does not begin as an archive.
+abbrev pub MayGrow : {D : Type 0} → Places → List ℕ → List (DeskDeed D) → Type 0
+MayGrow places path before = Contains before (looked path (Ok standing.Nothing))
+    ⊎ (Contains before (looked path (Ok standing.File)) × AreApart path places.file before
+    × Contains before (tested path archive_head (Ok false)))
+
+-- A deed leaves the file at a path as it is, byte for byte. A naming that failed left both paths as
+-- they were.
 abbrev pub Leaves : {D : Type 0} → List ℕ → DeskDeed D → Type 0
 Leaves path (named from to (Err fault)) = fault ≢ Unkept
 Leaves path (named_over from to (Err fault)) = fault ≢ Unkept
+Leaves path (shared other like answer) = Unit {0}
 Leaves path deed = ¬ Contains (changed_by deed) path
+
+-- A deed made the file at a path, where nothing stood: of bytes, or as a disk.
+abbrev pub IsMaking : {D : Type 0} → List ℕ → DeskDeed D → Type 0
+IsMaking {D} path deed = ((bytes : List ℕ) × (deed ≡ made path bytes (Ok tt)))
+    ⊎ ((disk : D) × (deed ≡ created path (Ok disk)))
 
 -- The file at a path is the order's own: it was made by the order, and each deed since left it.
 pub record IsOwn {D : Type 0} (path : List ℕ) (before : List (DeskDeed D)) : Type 0 where
-  pub bytes : List ℕ
+  pub making : DeskDeed D
   pub earlier : List (DeskDeed D)
   pub since : List (DeskDeed D)
-  pub history : before ≡ earlier ++ made path bytes (Ok tt) ∷ since
+  pub makes : IsMaking path making
+  pub history : before ≡ earlier ++ making ∷ since
   pub left : AllByRecursion (Leaves path) since
 
 -- A deed comes in order: nothing is named or taken away but what is the order's own, nothing is
--- made or named where a name is kept for the archive, and a file is written over where it may be.
+-- made or named where a name is kept for the archive, a file is written over where it may be, and
+-- grows where it may.
 abbrev pub ComesInOrder : {D : Type 0} → Places → List (DeskDeed D) → DeskDeed D → Type 0
 ComesInOrder places before (made path bytes answer) =
     (target : List ℕ) × SparesArchive places target before × (path ≡ new_of target)
@@ -101,6 +129,10 @@ ComesInOrder places before (named from to answer) =
 ComesInOrder places before (named_over from to answer) =
     IsOwn from before × SparesArchive places to before × MayBeReplaced places to before
 ComesInOrder places before (removed path answer) = IsOwn path before
+ComesInOrder places before (shared path like answer) = IsOwn path before
+ComesInOrder places before (grown path bytes answer) = MayGrow places path before
+ComesInOrder places before (created path answer) =
+    (target : List ℕ) × SparesArchive places target before × (path ≡ new_of target)
 ComesInOrder places before deed = Unit {0}
 
 -- each of these deeds, by what came before it

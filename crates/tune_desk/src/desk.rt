@@ -3,6 +3,7 @@ ghost use Rattle.std.specs.Prelude.{◌≡◌, ◌++◌, ◌∷◌, [], List, If
 ghost use Rattle.tune_desk.specs.DeskDeeds.{DeskDeed, looked, compared, tested, followed, read};
 ghost use Rattle.tune_desk.specs.DeskDeeds.{listed};
 ghost use Rattle.tune_desk.specs.DeskDeeds.{made, named, named_over, removed, opened, closed};
+ghost use Rattle.tune_desk.specs.DeskDeeds.{grown, created, linked, shared};
 ghost use Rattle.tune_desk.specs.DeskDeeds.{path_of, names_of};
 
 use abc_fields::ByteText;
@@ -130,6 +131,37 @@ pub trait Desk {
         ensures deed { deeds self.new
             ≡ deeds self.old ++ opened (string_bytes path.now) access result ∷ [] }
         ensures is_new { IfOk result is_new };
+
+    /// Puts bytes at the end of the file at a path, and syncs it; where nothing stands there, a file
+    /// is made, and its folder synced too. `NotFile` where no regular file stands there, and
+    /// `Missing` where a link there leads to nothing, or the folder is missing. After a fault a
+    /// front of the bytes may stand at its end.
+    fn grow(&mut self, path: &String, bytes: &[u8]) -> Result<(), DeskFault>
+        ensures deed { deeds self.new
+            ≡ deeds self.old ++ grown (string_bytes path.now) bytes.now result ∷ [] };
+
+    /// Makes a file without a byte, and opens it as a disk to change it, alone. `Taken` where
+    /// anything stands at the path, a link too, wherever it leads: that is left as it is. After
+    /// another fault nothing of it stands there.
+    fn create(&mut self, path: &String) -> Result<Self::Disk, DeskFault>
+        ensures deed { deeds self.new
+            ≡ deeds self.old ++ created (string_bytes path.now) result ∷ [] }
+        ensures is_new { IfOk result is_new };
+
+    /// Gives the file at `from` the name `to` beside its own, and syncs the folder; where the file
+    /// system gives no second name, a copy of it is made there, and synced. Neither is followed
+    /// through a link at its end. `Taken` where anything has the name `to`, and `Unkept` where the
+    /// name was given and the folder was not synced; after any other fault both paths are as they
+    /// were.
+    fn link(&mut self, from: &String, to: &String) -> Result<(), DeskFault>
+        ensures deed { deeds self.new ≡ deeds self.old
+            ++ linked (string_bytes from.now) (string_bytes to.now) result ∷ [] };
+
+    /// Lets those read and write the file at `path` who may do so with the file at `like`, and its
+    /// owner, and nobody else. `Device` also where the file system keeps no such thing.
+    fn share(&mut self, path: &String, like: &String) -> Result<(), DeskFault>
+        ensures deed { deeds self.new ≡ deeds self.old
+            ++ shared (string_bytes path.now) (string_bytes like.now) result ∷ [] };
 
     /// Closes the disk of a path.
     fn close(&mut self, path: &String, disk: Self::Disk)

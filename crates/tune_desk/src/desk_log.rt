@@ -2,6 +2,7 @@
 ghost use Rattle.std.specs.Prelude.{◌≡◌, ◌++◌, ◌∷◌, [], List, string_bytes};
 ghost use Rattle.tune_desk.specs.DeskDeeds.{looked, compared, tested, followed, read, listed};
 ghost use Rattle.tune_desk.specs.DeskDeeds.{made, named, named_over, removed, opened, closed};
+ghost use Rattle.tune_desk.specs.DeskDeeds.{grown, created, linked, shared};
 ghost use Rattle.tune_desk.specs.DeskDeeds.{path_of, names_of};
 ghost use Rattle.tune_desk.specs.DeskLog.{deeds_of, bytes_of};
 
@@ -33,6 +34,10 @@ pub(crate) enum Told<D: Drop> {
     Removed(Snapshot<Result<(), DeskFault>>),
     Opened(Snapshot<Access>, Snapshot<Result<D, DeskFault>>),
     Closed(Snapshot<D>),
+    Grown(Log<u8, ()>, Snapshot<Result<(), DeskFault>>),
+    Created(Snapshot<Result<D, DeskFault>>),
+    Linked(Snapshot<String>, Snapshot<Result<(), DeskFault>>),
+    Shared(Snapshot<String>, Snapshot<Result<(), DeskFault>>),
 }
 
 // The bytes, for clauses alone.
@@ -161,5 +166,40 @@ impl<D: Drop> DeskLog<D> {
             ≡ deeds_of self.old ++ closed (string_bytes path.now) disk.now ∷ [] }
     {
         self.log = self.log.and(path, &Told::Closed(Snapshot::of(disk)));
+    }
+
+    /// Bytes were put at the end of a file, with this answer.
+    pub fn grow(&mut self, path: &String, bytes: &[u8], answer: &Result<(), DeskFault>)
+        ensures { deeds_of self.new
+            ≡ deeds_of self.old ++ grown (string_bytes path.now) bytes.now answer.now ∷ [] }
+    {
+        self.log = self.log.and(path, &Told::Grown(told_bytes(bytes), Snapshot::of(answer)));
+    }
+
+    /// An empty file was made and opened, with this answer.
+    pub fn create(&mut self, path: &String, answer: &Result<D, DeskFault>)
+        ensures { deeds_of self.new
+            ≡ deeds_of self.old ++ created (string_bytes path.now) answer.now ∷ [] }
+    {
+        self.log = self.log.and(path, &Told::Created(Snapshot::of(answer)));
+    }
+
+    /// A file got one name more, with this answer.
+    pub fn link(&mut self, from: &String, to: &String, answer: &Result<(), DeskFault>)
+        ensures { deeds_of self.new ≡ deeds_of self.old
+            ++ linked (string_bytes from.now) (string_bytes to.now) answer.now ∷ [] }
+    {
+        self.log = self.log.and(from, &Told::Linked(Snapshot::of(to), Snapshot::of(answer)));
+    }
+
+    /// A file was shared as another is, with this answer.
+    pub fn share(&mut self, path: &String, like: &String, answer: &Result<(), DeskFault>)
+        ensures { deeds_of self.new ≡ deeds_of self.old
+            ++ shared (string_bytes path.now) (string_bytes like.now) answer.now ∷ [] }
+    {
+        self.log = self.log.and(
+            path,
+            &Told::Shared(Snapshot::of(like), Snapshot::of(answer)),
+        );
     }
 }

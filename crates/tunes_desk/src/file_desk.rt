@@ -4,9 +4,9 @@ ghost use Rattle.tune_disk.specs.FileDisk.{HasJustOpened};
 
 use abc_fields::ByteText;
 use std::alloc::{Alloc, Global};
-use std::fs::{File, Files, OpenOptions};
+use std::fs::{File, Files, OpenOptions, Permissions};
 use std::io::{Read, Write};
-use std::os::unix::fs::MetadataExt;
+use std::os::unix::fs::{MetadataExt, PermissionsExt};
 use std::path::Path;
 use std::rt::Clock;
 use std::time::Duration;
@@ -27,6 +27,14 @@ const NOT_OPEN_TO_WRITE: i32 = 9;
 
 // How many links are followed, one after another.
 const MOST_LINKS: u32 = 40;
+
+// How many bytes of a file are copied at once.
+const PART: usize = 65_536;
+
+// Of the permissions of a file: that its owner may read and write it, and that others may.
+const OWN_BITS: u32 = 0o600;
+
+const SHARED_BITS: u32 = 0o066;
 
 /// The files of a program, by their paths. Why the device failed is told on standard error, with
 /// the path.
@@ -150,6 +158,37 @@ impl<'a, R: Files<File = File> + AllocGlobal + Clock + Eprint + Clone + Drop, H:
         let opened = opened_in_time(self.rt, path.as_str(), access, self.wait, self.history);
         let answer = told_opening(self.rt, path, opened);
         self.log.open(path, access, &answer);
+        answer
+    }
+
+    fn grow(&mut self, path: &String, bytes: &[u8]) -> Result<(), DeskFault> {
+        let answer = told(self.rt, path, grow_by(self.rt, path.as_str(), bytes));
+        self.log.grow(path, bytes, &answer);
+        answer
+    }
+
+    fn create(&mut self, path: &String) -> Result<FileDisk<H>, DeskFault> {
+        let created = create_disk(self.rt, path.as_str(), self.history);
+        let answer = told_opening(self.rt, path, created);
+        self.log.create(path, &answer);
+        answer
+    }
+
+    fn link(&mut self, from: &String, to: &String) -> Result<(), DeskFault> {
+        let answer = match give_second_name(self.rt, from, to) {
+            Ok(()) => kept(self.rt, to),
+            Err(fault) => Err(fault),
+        };
+        self.log.link(from, to, &answer);
+        answer
+    }
+
+    fn share(&mut self, path: &String, like: &String) -> Result<(), DeskFault> {
+        let answer = match share_as(self.rt, path.as_str(), like.as_str()) {
+            Ok(()) => Ok(()),
+            Err(error) => Err(fault_of(&error)),
+        };
+        self.log.share(path, like, &answer);
         answer
     }
 
@@ -368,6 +407,81 @@ fn fill(file: &mut File, bytes: &[u8]) -> io::Result<()> {
     file.sync_all()
 }
 
+// Puts bytes at the end of a file.
+fn grow_by<R: Files<File = File>>(rt: &R, path: &str, bytes: &[u8]) -> io::Result<()> {
+    match fs::symlink_metadata(rt, path) {
+        Ok(_) => grow_standing(rt, path, bytes),
+        Err(error) if fault_of(&error) == DeskFault::Missing => grow_new(rt, path, bytes),
+        Err(error) => Err(error),
+    }
+}
+
+// Something stands there: a link that leads nowhere is `NotFound`, and a pipe is not opened.
+fn grow_standing<R: Files<File = File>>(rt: &R, path: &str, bytes: &[u8]) -> io::Result<()> {
+    if !fs::metadata(rt, path)?.is_file() {
+        return Err(io::ErrorKind::InvalidInput.into());
+    }
+    let mut file = OpenOptions::new().append(true).open(rt, path)?;
+    fill(&mut file, bytes)
+}
+
+fn grow_new<R: Files<File = File>>(rt: &R, path: &str, bytes: &[u8]) -> io::Result<()> {
+    let mut file = File::create_new(rt, path)?;
+    fill(&mut file, bytes)?;
+    sync_folder(rt, path)
+}
+
+// Lets those use a file who may use another.
+fn share_as<R: Files<File = File>>(rt: &R, path: &str, like: &str) -> io::Result<()> {
+    let mode = fs::metadata(rt, like)?.permissions().mode();
+    fs::set_permissions(rt, path, Permissions::from_mode(mode & SHARED_BITS | OWN_BITS))
+}
+
+// Gives a file a second name, which nobody has. Where a file system has no links, a copy is made.
+fn give_second_name<R: Files<File = File> + Eprint>(
+    rt: &R,
+    from: &String,
+    to: &String,
+) -> Result<(), DeskFault> {
+    match fs::hard_link(rt, from.as_str(), to.as_str()) {
+        Ok(()) => Ok(()),
+        Err(error) => match error.kind() {
+            io::ErrorKind::AlreadyExists | io::ErrorKind::NotFound => {
+                Err(told_fault(rt, to, &error))
+            }
+            _ => told(rt, to, copy_file(rt, from.as_str(), to.as_str())),
+        },
+    }
+}
+
+// A new file of the bytes of another, for those who may use that; where it cannot be whole, nothing
+// of it stays.
+fn copy_file<R: Files<File = File> + Eprint>(rt: &R, from: &str, to: &str) -> io::Result<()> {
+    if !fs::symlink_metadata(rt, from)?.is_file() {
+        return Err(io::ErrorKind::InvalidInput.into());
+    }
+    let mut source = open_file(rt, from)?;
+    let mut copy = File::create_new(rt, to)?;
+    let _ = share_as(rt, to, from);
+    let done = copy_all(&mut source, &mut copy);
+    if done.is_err() {
+        take_back(rt, to);
+    }
+    done
+}
+
+fn copy_all(source: &mut File, copy: &mut File) -> io::Result<()> {
+    let mut buffer = [0u8; PART];
+    for _ in 0..u64::MAX {
+        let count = source.read(&mut buffer)?;
+        if count == 0 {
+            return copy.sync_all();
+        }
+        copy.write_all(&buffer[..count])?;
+    }
+    copy.sync_all()
+}
+
 // Gives a file another name, which nobody has, in the place of its own. The system itself refuses a
 // second link of one name. Where a file system has no links, the file is renamed after a look.
 fn give_name<R: Files<File = File> + Eprint>(
@@ -464,4 +578,33 @@ fn opened_in_time<R: Files<File = File> + Clock, H: FileHistory>(
         }
     }
     opened(rt, path, access, history)
+}
+
+// A new file without a byte, as a disk. Where it cannot be opened, nothing of it stays.
+fn create_disk<R: Files<File = File> + Eprint, H: FileHistory>(
+    rt: &R,
+    path: &str,
+    history: &H,
+) -> io::Result<FileDisk<H>>
+    ensures { IfOk result HasJustOpened }
+{
+    let made = File::create_new(rt, path)?;
+    match FileDisk::try_open(rt, path, history) {
+        Ok(disk) => match leads_to(rt, path, &made) {
+            Ok(true) => Ok(disk),
+            Ok(false) => Err(io::ErrorKind::WouldBlock.into()),
+            Err(error) => Err(error),
+        },
+        Err(error) => {
+            take_back(rt, path);
+            Err(error)
+        }
+    }
+}
+
+// Whether a path leads to this file: another program may have given it to another by now.
+fn leads_to<R: Files<File = File>>(rt: &R, path: &str, file: &File) -> io::Result<bool> {
+    let named = fs::metadata(rt, path)?;
+    let opened = file.metadata()?;
+    Ok(named.dev() == opened.dev() && named.ino() == opened.ino())
 }
