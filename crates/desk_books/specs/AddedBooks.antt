@@ -79,7 +79,7 @@ abbrev pub KeepsBook : {D : Type 0} → Bool → List ℕ → List ℕ → List 
     → List (DeskDeed D) → Course → Course → Type 0
 KeepsBook true file book was now old new = (now ≡ was) × (new ≡ old)
 KeepsBook false file book was now old new = (entry : Entry) × IsAddOf old.begun book entry
-    × Did was now (KeepsEntry file entry) × (new ≡ record old { begun = true })
+    × KeepsEntry file entry was now × (new ≡ record old { begun = true })
 
 -- ONE BOOK
 -- A store carried out an import of just this book, and nothing else. Whether its device failed is
@@ -102,7 +102,7 @@ TakesIn {D} {S} kept given book old new status = (deeds : List (DeskDeed D)) × 
 
 -- Nothing was done but that an entry was to be kept, and was not.
 abbrev pub Stays : {D S : Type 0} → List ℕ → Reached D S → Reached D S → Type 0
-Stays file old new = Did old.deeds new.deeds (KeepsNot file) × (new.store ≡ old.store)
+Stays file old new = KeepsNot file old.deeds new.deeds × (new.store ≡ old.store)
     × (new.course ≡ old.course)
 
 -- A book was taken in; or it is refused before that, or its entry could not be kept, and the

@@ -1,6 +1,5 @@
 // What an add keeps of the tunes that a book brings, before it brings them.
 ghost use Rattle.std.specs.Prelude.{◌≡◌, ◌<◌, ◌+◌, ◌^◌, length, IfOk, MatchResult, string_bytes};
-ghost use Rattle.desk_scenes.specs.FileAnswers.{Did};
 ghost use Rattle.desk_books.specs.AddedBooks.{added_kind, added_parts};
 ghost use Rattle.desk_books.specs.KeptEntries.{KeepsEntry, KeepsNot};
 
@@ -44,6 +43,7 @@ fn added_parts(alloc: Global, first: u32, texts: &[TuneText]) -> Result<Vec<Part
 }
 
 // A stub, until there is such a function.
+#[derive(Clone, Copy, Debug)]
 pub(crate) enum Unkept {
     OutOfMemory,
     Device,
@@ -55,8 +55,8 @@ pub(crate) fn keep_entry<K: AllocGlobal + Desk>(
     entry: &Entry,
 ) -> Result<(), Unkept>
     ensures { MatchResult result
-        (λ _. Did (K.deeds desk.old) (K.deeds desk.new) (KeepsEntry (string_bytes file.now) entry.now))
-        (λ _. Did (K.deeds desk.old) (K.deeds desk.new) (KeepsNot (string_bytes file.now))) }
+        (λ _. KeepsEntry (string_bytes file.now) entry.now (K.deeds desk.old) (K.deeds desk.new))
+        (λ _. KeepsNot (string_bytes file.now) (K.deeds desk.old) (K.deeds desk.new)) }
 {
     let _ = entry;
     match desk.look(file) {

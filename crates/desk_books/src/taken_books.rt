@@ -11,7 +11,6 @@ ghost use Rattle.desk_books.specs.AddedBooks.{TakesPath, ReadsBook, TakesBook};
 ghost use Rattle.desk_books.specs.Stages.{EachInTurn};
 ghost use Rattle.desk_books.specs.AddedBooks.{KeepsBook};
 ghost use Rattle.desk_books.specs.KeptEntries.{KeepsNot};
-ghost use Rattle.desk_scenes.specs.FileAnswers.{Did};
 ghost use Rattle.tune_store.specs.declared.layout.Layout.{Layout};
 
 use crate::added_entries::{Unkept, added_entry, keep_entry};
@@ -162,7 +161,7 @@ fn lost_of(alloc: Global, book: &[u8], longest: usize) -> Result<usize, AllocErr
 
 // The tunes that a book brings.
 #[derive(Drop)]
-struct Brought {
+struct NewTunes {
     // The numbers that they get, from the first to the last.
     first: u32,
     last: u32,
@@ -170,7 +169,7 @@ struct Brought {
 }
 
 // What a book brings to a store, or why the store refuses it.
-fn brought<S: Catalog>(alloc: Global, store: &S, book: &[u8]) -> Result<Brought, Refusal>
+fn tunes_of<S: Catalog>(alloc: Global, store: &S, book: &[u8]) -> Result<NewTunes, Refusal>
     ensures texts { IfOk result (λ brought.
         book_answer (longest_text (S.layout store.now)) book.now ≡ Ok brought.texts.items) }
     ensures numbers { IfOk result (λ brought. brought.first + vec_len brought.texts < 2 ^ 32) }
@@ -188,7 +187,7 @@ fn brought<S: Catalog>(alloc: Global, store: &S, book: &[u8]) -> Result<Brought,
     if last > GREATEST_NUMBER as usize {
         return Err(Refusal::NumbersSpent);
     }
-    Ok(Brought {
+    Ok(NewTunes {
         first: greatest + 1,
         last: last as u32,
         texts,
@@ -222,7 +221,7 @@ fn take_part<E: Write, S: TuneStore + Catalog, K: AllocGlobal + Desk>(
         (reached_at (K.deeds desk.old) store.old course.old)
         (reached_at (K.deeds desk.new) store.new course.new) result }
 {
-    let brought = match brought(desk.alloc(), store, book.as_slice()) {
+    let brought = match tunes_of(desk.alloc(), store, book.as_slice()) {
         Ok(brought) => brought,
         Err(refusal) => {
             return say_refused(errors, path.as_str(), 1, tally.parts, &refusal);
@@ -231,7 +230,7 @@ fn take_part<E: Write, S: TuneStore + Catalog, K: AllocGlobal + Desk>(
     match keep(desk, file, &brought, how, course) {
         Ok(()) => {
             let answer = import(store, book, course);
-            tell_answer(errors, file, path, &brought, answer, tally)
+            tell_answer(errors, file, path, &brought, &answer, tally)
         }
         Err(_) => say_unkept(errors, path.as_str()),
     }
@@ -241,7 +240,7 @@ fn take_part<E: Write, S: TuneStore + Catalog, K: AllocGlobal + Desk>(
 fn keep<K: AllocGlobal + Desk>(
     desk: &mut K,
     file: &String,
-    brought: &Brought,
+    brought: &NewTunes,
     how: &Adding,
     course: &mut Course,
 ) -> Result<(), Unkept>
@@ -251,7 +250,7 @@ fn keep<K: AllocGlobal + Desk>(
         → book_answer (longest_text layout) book ≡ Ok brought.now.texts.items
         → KeepsBook how.now.dry (string_bytes file.now) book (K.deeds desk.old)
         (K.deeds desk.new) course.old course.new)
-        (λ _. Did (K.deeds desk.old) (K.deeds desk.new) (KeepsNot (string_bytes file.now))
+        (λ _. KeepsNot (string_bytes file.now) (K.deeds desk.old) (K.deeds desk.new)
         × (course.new ≡ course.old)) }
 {
     if how.dry {
@@ -294,11 +293,11 @@ fn tell_answer<E: Write>(
     errors: &mut E,
     file: &String,
     path: &String,
-    brought: &Brought,
-    answer: Result<Reply, Refusal>,
+    brought: &NewTunes,
+    answer: &Result<Reply, Refusal>,
     tally: &mut Tally,
 ) -> u8
-    ensures { result ≡ 0 → IsOk answer }
+    ensures { result ≡ 0 → IsOk answer.now }
 {
     match answer {
         Ok(_) => {
@@ -306,6 +305,6 @@ fn tell_answer<E: Write>(
             DONE
         }
         Err(Refusal::Device | Refusal::Closed) => say_failed(errors, file.as_str()),
-        Err(refusal) => say_refused(errors, path.as_str(), 1, tally.parts, &refusal),
+        Err(refusal) => say_refused(errors, path.as_str(), 1, tally.parts, refusal),
     }
 }

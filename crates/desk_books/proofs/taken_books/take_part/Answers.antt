@@ -6,7 +6,7 @@ returns-in-Ok g c = inl (
   g.K.Desk.deeds c.keep.new.desk,
   c.keep.new.course,
   c.import-answer.result,
-  c.in-Ok.ensures _ _ c.brought.ensures.texts,
+  c.in-Ok.ensures _ _ c.tunes_of-brought.ensures.texts,
   record { carried = c.import-answer.ensures.carried; deeds = refl; course = c.import-answer.ensures.course },
   c.tell_answer.ensures,
 )
