@@ -12,7 +12,10 @@ use crate::deliveries::deliver;
 use crate::drafts::write_draft;
 use crate::file_questions::{ask_counts, ask_question, ask_tune};
 use desk_books::check_books;
-use desk_scenes::{REFUSED, Unopened, bring_to_rest, print, print_counts, read_input, say, say_unanswered, say_unopened};
+use desk_scenes::{
+    REFUSED, Unopened, bring_to_rest, print, print_counts, read_input, say, say_unanswered,
+    say_unopened,
+};
 use desk_terms::Question;
 use desk_words::{Order, Target};
 use std::io::Write;

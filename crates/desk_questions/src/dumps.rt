@@ -12,12 +12,10 @@ ghost use Rattle.desk_questions.specs.Inside.DumpCalls.{GoesOn, places_told};
 ghost use Rattle.desk_questions.specs.Inside.DumpCalls.{tunes_dumped, set_dumped};
 ghost use Rattle.desk_questions.specs.Inside.DumpCalls.{each_dumped, sets_dumped};
 
-use tune_asking::all_numbers;
-use tune_asking::{ask, tune_of};
-use tune_asking::write_tune;
 use abc_fields::ByteText;
 use std::alloc::{AllocError, Global};
 use std::io::Write;
+use tune_asking::{all_numbers, ask, tune_of, write_tune};
 use tune_sets::{SetName, SetRow, SetRowList};
 use tune_store::{Catalog, Command, IndexRow, Refusal, Reply, RowList, Tune, TuneStore};
 

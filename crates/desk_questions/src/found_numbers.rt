@@ -11,11 +11,10 @@ ghost use Rattle.desk_questions.specs.Inside.SoughtWords.{words_of};
 
 use crate::conditions::{has_no_words, has_title, looks_at_titles, queries_of, words_of};
 use crate::numbers::{add_numbers, in_both};
-use tune_asking::all_numbers;
-use tune_asking::ask;
 use desk_lists::FoldedWords;
 use desk_terms::Condition;
 use std::alloc::{AllocError, Global};
+use tune_asking::{all_numbers, ask};
 use tune_queries::Query;
 use tune_store::{Catalog, Command, IndexRow, Refusal, Reply, TuneStore};
 

@@ -16,14 +16,13 @@ ghost use Rattle.desk_questions.specs.Inside.QuestionCalls.{AreWritten};
 use crate::dumps::dump;
 use crate::found_numbers::found;
 use crate::numbers::chosen;
-use tune_asking::{ask, tune_of};
 use crate::told_rows::row_of;
 use crate::told_twins::twins;
-use tune_asking::write_tune;
 use abc_fields::ByteText;
 use desk_lists::{count_line, place_list, set_list, tune_list};
 use desk_terms::{Condition, Form, Question};
 use std::alloc::{AllocError, Global};
+use tune_asking::{ask, tune_of, write_tune};
 use tune_books::BookWriter;
 use tune_store::{Catalog, Command, IndexRow, Refusal, Reply, Tune, TuneStore};
 

@@ -7,12 +7,11 @@ ghost use Rattle.tune_asking.specs.Calls.{Call, told_where};
 ghost use Rattle.desk_questions.specs.Inside.SeenTunes.{AreTwinsAt};
 
 use crate::same_tunes::SeenTunes;
-use tune_asking::all_numbers;
-use tune_asking::tune_of;
 use abc_fields::ByteText;
 use desk_lists::{TwinRow, twin_list};
 use desk_terms::Form;
 use std::alloc::Global;
+use tune_asking::{all_numbers, tune_of};
 use tune_store::{Catalog, Refusal, TuneStore};
 
 // Tells the rows of the tunes that are there twice.

@@ -5,6 +5,7 @@
 mod file_opening;
 mod input;
 mod printing;
+mod progress;
 mod reasons;
 mod result_files;
 mod unanswered;
@@ -12,8 +13,10 @@ mod unanswered;
 pub use file_opening::{Unopened, bring_to_rest, open_once, open_to_read};
 pub use input::read_input;
 pub use printing::{print, print_counts};
+pub use progress::Progress;
 pub use reasons::{
-    BAD_WORDS, DONE, REFUSED, desk_reason, say, say_unanswered, say_unopened, say_unwritten,
+    BAD_WORDS, DONE, REFUSED, desk_reason, say, say_refusal, say_unanswered, say_unkept,
+    say_unopened, say_unopened_to_change, say_unwritten,
 };
 pub use result_files::write_file;
 pub use unanswered::Unanswered;

@@ -35,6 +35,15 @@ impl<D: Disk> Archive<D> {
     {
         self.holds();
     }
+
+    /// An open archive knows its set lists, where its disk is honest: what it tells as a `Catalog`
+    /// are those of its state. It does nothing.
+    pub fn law_of_sets(&self)
+        ensures { self.now.closed ≡ false → HonestAt D.honest self.now.pages.disk
+            → self.now.contents.sets ≡ (state_of D.state self.now).sets }
+    {
+        self.holds();
+    }
 }
 
 impl<D: Disk> TuneStore for Archive<D> {

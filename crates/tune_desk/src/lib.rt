@@ -5,6 +5,7 @@
 mod desk;
 mod desk_log;
 mod kept_names;
+mod old_texts;
 mod putting;
 mod refusals;
 mod result_checks;
@@ -12,5 +13,6 @@ mod results;
 
 pub use desk::{Desk, DeskFault, Standing};
 pub use desk_log::DeskLog;
+pub use old_texts::{OldTextsFault, grow_old_texts};
 pub use refusals::{ResultFault, ResultRefusal};
 pub use results::write_result;

@@ -1,0 +1,4 @@
+pub mod Sums
+pub mod Entries
+pub mod EntryBytes
+pub mod Inside

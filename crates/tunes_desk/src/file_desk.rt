@@ -434,7 +434,11 @@ fn grow_new<R: Files<File = File>>(rt: &R, path: &str, bytes: &[u8]) -> io::Resu
 // Lets those use a file who may use another.
 fn share_as<R: Files<File = File>>(rt: &R, path: &str, like: &str) -> io::Result<()> {
     let mode = fs::metadata(rt, like)?.permissions().mode();
-    fs::set_permissions(rt, path, Permissions::from_mode(mode & SHARED_BITS | OWN_BITS))
+    fs::set_permissions(
+        rt,
+        path,
+        Permissions::from_mode(mode & SHARED_BITS | OWN_BITS),
+    )
 }
 
 // Gives a file a second name, which nobody has. Where a file system has no links, a copy is made.

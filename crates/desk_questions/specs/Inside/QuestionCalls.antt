@@ -19,6 +19,7 @@ use Rattle.tune_store.specs.declared.command.Refusal.{Refusal}
 use Rattle.tune_store.specs.declared.command.Refusal.TheVariants.{Device, Unknown, BadQuery}
 use Rattle.tune_store.specs.declared.tune_store.TuneStore.{Ghosts}
 use Rattle.tune_asking.specs.Asking.{IsOnlyAsked, IsFault}
+use Rattle.tune_asking.specs.Calls.{Meaning}
 use Rattle.desk_questions.specs.Conditions.{gives, has_title, asks_nothing}
 use Rattle.desk_questions.specs.Told.{found, tunes_at}
 use Rattle.desk_terms.specs.declared.condition.Condition.{Condition}

@@ -1,0 +1,3 @@
+pub mod ChangedFiles
+pub mod EntriesOfTurns
+pub mod Kinds

@@ -1,0 +1,11 @@
+pub mod Leading
+pub mod TuneLists
+pub mod SetListLemmas
+pub mod TuneBrought
+pub mod SetBrought
+pub mod Faces
+pub mod Undone
+pub mod Within
+pub mod CarryLemmas
+pub mod LookLemmas
+pub mod BringingLemmas
