@@ -18,6 +18,7 @@ use Rattle.tune_store.specs.declared.tune_store.TuneStore as store
 use Rattle.tune_archive.specs.AsStore.{store_on}
 use Rattle.tune_archive.specs.Shelf.{Shelf}
 use Rattle.tune_desk.specs.DeskDeeds.{DeskDeed, read, closed}
+use Rattle.tune_desk.specs.OldTexts.{Grows, GrowsNot}
 use Rattle.tune_desk.specs.declared.desk.DeskFault.{DeskFault}
 use Rattle.tune_undo.specs.declared.entries.Kind.{Kind}
 use Rattle.tune_undo.specs.declared.entries.Kind.TheVariants.{Add, AddMore}
@@ -25,12 +26,13 @@ use Rattle.tune_undo.specs.declared.entries.After.TheVariants.{Text}
 use Rattle.tune_undo.specs.declared.entries.Part.{Part}
 use Rattle.tune_undo.specs.declared.entries.Part.TheVariants.{Tune}
 use Rattle.tune_undo.specs.declared.entries.Entry.{Entry}
+use Rattle.tune_undo.specs.Entries.{entry_value}
+use Rattle.tune_undo.specs.EntryBytes.{entry_bytes}
 use Rattle.desk_terms.specs.declared.adding.Adding.{Adding}
 use Rattle.desk_scenes.specs.FileAnswers.{Did}
 use Rattle.desk_scenes.specs.OpenedFile.{Opens}
 use Rattle.desk_scenes.specs.Scenes.{IsQuiet}
 use Rattle.desk_scenes.specs.Visits.{Visits}
-use Rattle.desk_books.specs.KeptEntries.{KeepsEntry, KeepsNot}
 use Rattle.desk_books.specs.Stages.{EachInTurn}
 use Rattle.desk_books.specs.declared.taken_books.Course.{Course}
 
@@ -79,7 +81,7 @@ abbrev pub KeepsBook : {D : Type 0} → Bool → List ℕ → List ℕ → List 
     → List (DeskDeed D) → Course → Course → Type 0
 KeepsBook true file book was now old new = (now ≡ was) × (new ≡ old)
 KeepsBook false file book was now old new = (entry : Entry) × IsAddOf old.begun book entry
-    × KeepsEntry file entry was now × (new ≡ record old { begun = true })
+    × Grows file (entry_bytes (entry_value entry)) was now × (new ≡ record old { begun = true })
 
 -- ONE BOOK
 -- A store carried out an import of just this book, and nothing else. Whether its device failed is
@@ -102,7 +104,7 @@ TakesIn {D} {S} kept given book old new status = (deeds : List (DeskDeed D)) × 
 
 -- Nothing was done but that an entry was to be kept, and was not.
 abbrev pub Stays : {D S : Type 0} → List ℕ → Reached D S → Reached D S → Type 0
-Stays file old new = KeepsNot file old.deeds new.deeds × (new.store ≡ old.store)
+Stays file old new = GrowsNot file old.deeds new.deeds × (new.store ≡ old.store)
     × (new.course ≡ old.course)
 
 -- A book was taken in; or it is refused before that, or its entry could not be kept, and the

@@ -1,4 +1,3 @@
 pub mod AddedBooks
 pub mod CheckedBooks
-pub mod KeptEntries
 pub mod Stages

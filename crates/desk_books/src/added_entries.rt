@@ -1,12 +1,14 @@
 // What an add keeps of the tunes that a book brings, before it brings them.
-ghost use Rattle.std.specs.Prelude.{◌≡◌, ◌<◌, ◌+◌, ◌^◌, length, IfOk, MatchResult, string_bytes};
+ghost use Rattle.std.specs.Prelude.{◌≡◌, ◌<◌, ◌+◌, ◌^◌, length, IfErr, IfOk, string_bytes};
+ghost use Rattle.tune_undo.specs.Entries.{entry_value};
+ghost use Rattle.tune_undo.specs.EntryBytes.{entry_bytes};
+ghost use Rattle.tune_desk.specs.OldTexts.{Grows, GrowsNot};
 ghost use Rattle.desk_books.specs.AddedBooks.{added_kind, added_parts};
-ghost use Rattle.desk_books.specs.KeptEntries.{KeepsEntry, KeepsNot};
 
 use abc_fields::TuneText;
 use std::alloc::{AllocError, Global};
-use tune_desk::{Desk, DeskFault};
-use tune_undo::{After, Entry, Kind, Part, Sum};
+use tune_desk::{Desk, OldTextsFault, grow_old_texts};
+use tune_undo::{After, Entry, Kind, Part, Sum, written_entry};
 
 /// The entry of an add: its tunes come with these numbers and texts. The error is out of memory.
 pub(crate) fn added_entry(
@@ -42,25 +44,19 @@ fn added_parts(alloc: Global, first: u32, texts: &[TuneText]) -> Result<Vec<Part
     Ok(parts)
 }
 
-// A stub, until there is such a function.
-#[derive(Clone, Copy, Debug)]
-pub(crate) enum Unkept {
-    OutOfMemory,
-    Device,
-}
-
+/// Puts an entry at the end of the book of old texts of FILE, and has the device keep it.
 pub(crate) fn keep_entry<K: AllocGlobal + Desk>(
     desk: &mut K,
     file: &String,
     entry: &Entry,
-) -> Result<(), Unkept>
-    ensures { MatchResult result
-        (λ _. KeepsEntry (string_bytes file.now) entry.now (K.deeds desk.old) (K.deeds desk.new))
-        (λ _. KeepsNot (string_bytes file.now) (K.deeds desk.old) (K.deeds desk.new)) }
+) -> Result<(), OldTextsFault>
+    ensures kept { IfOk result (λ _. Grows (string_bytes file.now)
+        (entry_bytes (entry_value entry.now)) (K.deeds desk.old) (K.deeds desk.new)) }
+    ensures refused { IfErr result (λ _. GrowsNot (string_bytes file.now)
+        (K.deeds desk.old) (K.deeds desk.new)) }
 {
-    let _ = entry;
-    match desk.look(file) {
-        Ok(_) => Ok(()),
-        Err(_) => Err(Unkept::Device),
+    match written_entry(desk.alloc(), entry) {
+        Ok(bytes) => grow_old_texts(desk.alloc(), desk, file, bytes.as_slice()),
+        Err(_) => Err(OldTextsFault::OutOfMemory),
     }
 }

@@ -10,10 +10,10 @@ ghost use Rattle.desk_books.specs.AddedBooks.{given_of, reached_at, no_course};
 ghost use Rattle.desk_books.specs.AddedBooks.{TakesPath, ReadsBook, TakesBook};
 ghost use Rattle.desk_books.specs.Stages.{EachInTurn};
 ghost use Rattle.desk_books.specs.AddedBooks.{KeepsBook};
-ghost use Rattle.desk_books.specs.KeptEntries.{KeepsNot};
+ghost use Rattle.tune_desk.specs.OldTexts.{GrowsNot};
 ghost use Rattle.tune_store.specs.declared.layout.Layout.{Layout};
 
-use crate::added_entries::{Unkept, added_entry, keep_entry};
+use crate::added_entries::{added_entry, keep_entry};
 use crate::told_imports::{Tally, say_failed, say_refused, say_unkept, say_unread, tell_taken};
 use abc_fields::{ByteText, TuneText, split_book};
 use desk_scenes::{DONE, REFUSED};
@@ -21,7 +21,7 @@ use desk_terms::Adding;
 use std::alloc::{AllocError, Global};
 use std::io::Write;
 use told_books::told_book;
-use tune_desk::{Desk, DeskFault};
+use tune_desk::{Desk, DeskFault, OldTextsFault};
 use tune_scripts::Console;
 use tune_store::{Catalog, Command, GREATEST_NUMBER, Refusal, Reply, TuneStore};
 
@@ -243,14 +243,14 @@ fn keep<K: AllocGlobal + Desk>(
     brought: &NewTunes,
     how: &Adding,
     course: &mut Course,
-) -> Result<(), Unkept>
+) -> Result<(), OldTextsFault>
     requires { brought.now.first + vec_len brought.now.texts < 2 ^ 32 }
     ensures { MatchResult result
         (λ _. (book : List ℕ) (layout : Layout)
         → book_answer (longest_text layout) book ≡ Ok brought.now.texts.items
         → KeepsBook how.now.dry (string_bytes file.now) book (K.deeds desk.old)
         (K.deeds desk.new) course.old course.new)
-        (λ _. KeepsNot (string_bytes file.now) (K.deeds desk.old) (K.deeds desk.new)
+        (λ _. GrowsNot (string_bytes file.now) (K.deeds desk.old) (K.deeds desk.new)
         × (course.new ≡ course.old)) }
 {
     if how.dry {
@@ -258,7 +258,7 @@ fn keep<K: AllocGlobal + Desk>(
     }
     let texts = brought.texts.as_slice();
     let Ok(entry) = added_entry(desk.alloc(), course.begun, brought.first, texts) else {
-        return Err(Unkept::OutOfMemory);
+        return Err(OldTextsFault::OutOfMemory);
     };
     keep_entry(desk, file, &entry)?;
     course.begun = true;
