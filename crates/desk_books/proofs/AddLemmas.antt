@@ -1,5 +1,5 @@
 -- Books that are taken in one after another.
-use Rattle.std.proofs.Common.{◌≡◌, ◌≢◌, ◌⊎◌, inl, inr, ℕ, ◌+◌, ◌<◌, max, List, [], ◌∷◌, ◌++◌, None, length, take, get_or, ap, sym, ◌∙◌, arith, add-zero}
+use Rattle.std.proofs.Common.{◌≡◌, ◌≢◌, ◌⊎◌, inl, inr, ℕ, ◌+◌, ◌<◌, max, List, [], ◌∷◌, ◌++◌, None, length, take, get_or, ap, sym, refl, ◌∙◌, arith, add-zero, append-nil}
 use Rattle.std.proofs.lemmas.List.{take_more}
 use Rattle.std.proofs.lemmas.Grind.{common_steps}
 use Rattle.sha2.specs.Sha256.{sha256}
@@ -8,6 +8,7 @@ use Rattle.tune_undo.specs.declared.entries.Part.TheVariants.{Tune}
 use Rattle.tune_store.specs.declared.tune_store.TuneStore as store
 use Rattle.tune_disk.specs.declared.disk.Disk as disk
 use Rattle.tune_desk.specs.DeskDeeds.{DeskDeed}
+use Rattle.tune_desk.specs.OldTexts.{GrowsNot}
 use Rattle.desk_terms.specs.declared.adding.Adding.{Adding}
 use Rattle.desk_scenes.specs.Scenes.{IsQuiet}
 use Rattle.desk_scenes.proofs.QuietLemmas.{quiet_both}
@@ -51,3 +52,7 @@ added_more texts first i number text sum lt is at e =
     ap (λ s. added_parts first (take i texts) ++ Tune number None (Text s) ∷ []) e
     ∙ ap (λ n. added_parts first (take i texts) ++ Tune n None (Text (sha256 text)) ∷ []) (at ∙ ap (λ n. first + n) (sym size))
     ∙ sym (added_append (take i texts) first text) ∙ ap (added_parts first) (sym longer)
+
+-- nothing was grown
+pub grows_nothing : {D : Type 0} (file : List ℕ) (was : List (DeskDeed D)) → GrowsNot file was was
+grows_nothing file was = record { asked = []; tried = []; history = sym (append-nil was); changes_nothing = tt; failed = inl refl }
