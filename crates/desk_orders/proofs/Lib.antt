@@ -1,4 +1,3 @@
-pub mod BookLemmas
 pub mod FileLemmas
 pub mod OrderLemmas
 pub mod ScriptLemmas

@@ -1,3 +1,2 @@
-pub mod CheckedBooks
 pub mod Orders
 pub mod ScriptVisits

@@ -29,7 +29,8 @@ use Rattle.desk_copies.specs.Restored.{Restores}
 use Rattle.desk_words.specs.declared.asked.Order.{Order}
 use Rattle.desk_words.specs.declared.asked.Order.TheVariants as order
 use Rattle.desk_words.specs.declared.asked.Target.{Target}
-use Rattle.desk_orders.specs.CheckedBooks.{Stage, TellsPaths}
+use Rattle.desk_books.specs.CheckedBooks.{TellsPaths}
+use Rattle.desk_books.specs.Stages.{Stage}
 use Rattle.desk_scenes.specs.FileAnswers.{Did, IsAsked, IsUnasked}
 use Rattle.desk_scenes.specs.Printing.{WritesOut, Prints, WritesNothing, IsSilent, ReadsAll}
 use Rattle.desk_orders.specs.ScriptVisits.{AsksScript}

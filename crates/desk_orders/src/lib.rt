@@ -1,7 +1,6 @@
 //! What the front end does for its orders, over a desk of files and a console.
 #![tactic(auto)]
 
-mod books;
 mod deliveries;
 mod drafts;
 mod file_opening;

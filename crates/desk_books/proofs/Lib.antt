@@ -1,0 +1,3 @@
+pub mod AddLemmas
+pub mod BookLemmas
+pub mod TurnLemmas

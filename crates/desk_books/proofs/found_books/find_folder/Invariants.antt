@@ -1,0 +1,6 @@
+use Rattle.desk_scenes.specs.Scenes.{IsQuiet}
+use Rattle.desk_books.proofs.found_books.find_folder.Given as goal
+
+-- no file was changed so far
+abbrev pub invariant-loop : goal.invariant-loop
+invariant-loop g l = IsQuiet (g.K.Desk.deeds l.fn.desk) (g.K.Desk.deeds l.desk)

@@ -1,0 +1,176 @@
+-- What an add does with FILE, and with the old texts beside it.
+use Rattle.std.specs.Prelude.{◌≡◌, ◌≢◌, ◌⊎◌, ℕ, ◌+◌, ◌≤◌, List, [], ◌∷◌, ◌++◌, codes}
+use Rattle.std.specs.Prelude.{Bool, true, false, if◌then◌else◌, Option, Some, None}
+use Rattle.std.specs.Prelude.{Result, Ok, Err, IsOk, IfOk, not}
+use Rattle.std.specs.List.{AllByRecursion}
+use Rattle.sha2.specs.Sha256.{sha256}
+use Rattle.abc_fields.specs.Books.{book_answer}
+use Rattle.tune_disk.specs.declared.disk.Disk as disk
+use Rattle.tune_disk.specs.declared.file.Access.TheVariants.{Change}
+use Rattle.tune_scripts.specs.Carried.{IsCarried}
+use Rattle.tune_store.specs.Answers.{stays_open}
+use Rattle.tune_store.specs.Limits.{longest_text}
+use Rattle.tune_store.specs.declared.layout.Layout.{Layout}
+use Rattle.tune_store.specs.declared.command.Command.TheVariants.{Import}
+use Rattle.tune_store.specs.declared.command.Reply.{Reply}
+use Rattle.tune_store.specs.declared.command.Refusal.{Refusal}
+use Rattle.tune_store.specs.declared.tune_store.TuneStore as store
+use Rattle.tune_archive.specs.AsStore.{store_on}
+use Rattle.tune_archive.specs.Shelf.{Shelf}
+use Rattle.tune_desk.specs.DeskDeeds.{DeskDeed, read, closed}
+use Rattle.tune_desk.specs.OldTexts.{Grows, GrowsNot}
+use Rattle.tune_desk.specs.declared.desk.DeskFault.{DeskFault}
+use Rattle.tune_undo.specs.declared.entries.Kind.{Kind}
+use Rattle.tune_undo.specs.declared.entries.Kind.TheVariants.{Add, AddMore}
+use Rattle.tune_undo.specs.declared.entries.After.TheVariants.{Text}
+use Rattle.tune_undo.specs.declared.entries.Part.{Part}
+use Rattle.tune_undo.specs.declared.entries.Part.TheVariants.{Tune}
+use Rattle.tune_undo.specs.declared.entries.Entry.{Entry}
+use Rattle.tune_undo.specs.Entries.{entry_value}
+use Rattle.tune_undo.specs.EntryBytes.{entry_bytes}
+use Rattle.desk_terms.specs.declared.adding.Adding.{Adding}
+use Rattle.desk_scenes.specs.FileAnswers.{Did}
+use Rattle.desk_scenes.specs.OpenedFile.{Opens}
+use Rattle.desk_scenes.specs.Scenes.{IsQuiet}
+use Rattle.desk_scenes.specs.Visits.{Visits}
+use Rattle.desk_books.specs.Stages.{EachInTurn}
+use Rattle.desk_books.specs.declared.taken_books.Course.{Course}
+
+-- What an add is given: FILE, what standard input gave, and how books are taken in.
+pub record Given : Type 0 where
+  pub file : List ℕ
+  pub input : List ℕ
+  pub how : Adding
+
+abbrev pub given_of : List ℕ → List ℕ → Adding → Given
+given_of file input how = record { file = file; input = input; how = how }
+
+-- How far it has come: what was done with files, the store that takes books in, whether an entry
+-- was kept, and whether the device failed.
+pub record Reached (D S : Type 0) : Type 0 where
+  pub deeds : List (DeskDeed D)
+  pub store : S
+  pub course : Course
+
+abbrev pub reached_at : {D S : Type 0} → List (DeskDeed D) → S → Course → Reached D S
+reached_at deeds store course = record { deeds = deeds; store = store; course = course }
+
+-- ENTRIES
+-- the first entry of an add begins it, and each later one goes on with it
+abbrev pub added_kind : Bool → Kind
+added_kind begun = if begun then AddMore else Add
+
+-- tunes of these texts that come, with numbers from this one on
+abbrev pub added_parts : ℕ → List (List ℕ) → List Part
+added_parts first [] = []
+added_parts first (text ∷ texts) =
+    Tune first None (Text (sha256 text)) ∷ added_parts (first + 1) texts
+
+-- An entry says that the tunes of this book come.
+pub record IsAddOf (begun : Bool) (book : List ℕ) (entry : Entry) : Type 0 where
+  pub layout : Layout
+  pub texts : List (List ℕ)
+  pub first : ℕ
+  pub answer : book_answer (longest_text layout) book ≡ Ok texts
+  pub kind : entry.kind ≡ added_kind begun
+  pub parts : entry.parts.items ≡ added_parts first texts
+
+-- An entry of this book was kept beside FILE, and nothing else was done with files; but where the
+-- book is only tried, nothing was done.
+abbrev pub KeepsBook : {D : Type 0} → Bool → List ℕ → List ℕ → List (DeskDeed D)
+    → List (DeskDeed D) → Course → Course → Type 0
+KeepsBook true file book was now old new = (now ≡ was) × (new ≡ old)
+KeepsBook false file book was now old new = (entry : Entry) × IsAddOf old.begun book entry
+    × Grows file (entry_bytes (entry_value entry)) was now × (new ≡ record old { begun = true })
+
+-- ONE BOOK
+-- A store carried out an import of just this book, and nothing else. Whether its device failed is
+-- known by the answer.
+pub record Imports {D S : Type 0} (kept : store.Ghosts S) (book : List ℕ) (old new : Reached D S)
+    (answer : Result Reply Refusal) : Type 0 where
+  pub carried : kept.honest new.store → IsCarried kept old.store
+      (record { command = Import book; answer = answer; after = new.store })
+  pub deeds : new.deeds ≡ old.deeds
+  pub course : new.course ≡ record old.course { failed = not (stays_open answer) }
+
+-- An entry of the book was kept, and then it was imported; where the status is 0, the store took
+-- it in.
+abbrev pub TakesIn : {D S : Type 0} → store.Ghosts S → Given → List ℕ → Reached D S → Reached D S
+    → ℕ → Type 0
+TakesIn {D} {S} kept given book old new status = (deeds : List (DeskDeed D)) × (course : Course)
+    × (answer : Result Reply Refusal)
+    × KeepsBook given.how.dry given.file book old.deeds deeds old.course course
+    × Imports kept book (reached_at deeds old.store course) new answer × (status ≡ 0 → IsOk answer)
+
+-- Nothing was done but that an entry was to be kept, and was not.
+abbrev pub Stays : {D S : Type 0} → List ℕ → Reached D S → Reached D S → Type 0
+Stays file old new = GrowsNot file old.deeds new.deeds × (new.store ≡ old.store)
+    × (new.course ≡ old.course)
+
+-- A book was taken in; or it is refused before that, or its entry could not be kept, and the
+-- status says so.
+abbrev pub TakesBook : {D S : Type 0} → store.Ghosts S → Given → List ℕ → Reached D S → Reached D S
+    → ℕ → Type 0
+TakesBook kept given book old new status = TakesIn kept given book old new status
+    ⊎ ((status ≢ 0) × ((new ≡ old) ⊎ Stays given.file old new))
+
+-- PATHS
+-- The book at a path: what standard input gave for `-`, or a file that was read.
+abbrev pub ReadsBook : {D : Type 0} → List ℕ → List ℕ → Result (List ℕ) DeskFault
+    → List (DeskDeed D) → List (DeskDeed D) → Type 0
+ReadsBook input path answer was now =
+    ((path ≡ codes "-") × (now ≡ was) × IfOk answer (λ book. book ≡ input))
+    ⊎ ((path ≢ codes "-") × (now ≡ was ++ read path answer ∷ []))
+
+-- what comes of a reading
+abbrev pub TakesRead : {D S : Type 0} → store.Ghosts S → Given → Result (List ℕ) DeskFault
+    → Reached D S → Reached D S → ℕ → Type 0
+TakesRead kept given (Ok book) old new status = TakesBook kept given book old new status
+TakesRead kept given (Err fault) old new status = (new ≡ old) × (status ≢ 0)
+
+-- A book was read and taken in, unless the device failed before.
+abbrev pub TakesPath : {D S : Type 0} → store.Ghosts S → Given → List ℕ → Reached D S → Reached D S
+    → ℕ → Type 0
+TakesPath {D} kept given path old new status =
+    ((old.course.failed ≡ true) × (new ≡ old) × (status ≢ 0))
+    ⊎ ((old.course.failed ≡ false) × (answer : Result (List ℕ) DeskFault)
+    × (deeds : List (DeskDeed D)) × ReadsBook given.input path answer old.deeds deeds
+    × TakesRead kept given answer (record old { deeds = deeds }) new status)
+
+-- each of these paths, in order
+abbrev pub TakesPaths : {D S : Type 0} → store.Ghosts S → Given → List (List ℕ) → Reached D S
+    → Reached D S → ℕ → Type 0
+TakesPaths kept given paths old new status =
+    EachInTurn (TakesPath kept given) paths old new status
+
+-- THE WHOLE
+-- nothing yet
+abbrev pub no_course : Course
+no_course = record { begun = false; failed = false }
+
+-- FILE was opened to change, the books of these paths were taken in, and FILE was closed.
+pub record TakesInto {D : Type 0} (disks : disk.Ghosts D) (given : Given) (paths : List (List ℕ))
+    (was now : List (DeskDeed D)) (status : ℕ) : Type 0 where
+  pub archive : Shelf D
+  pub opening : List (DeskDeed D)
+  pub opens : Opens disks given.file Change archive was opening
+  pub last : Reached D (Shelf D)
+  pub takes : TakesPaths (store_on disks) given paths (reached_at opening archive no_course) last status
+  pub disk : D
+  pub held : last.store.pages.disk ≡ Some disk
+  pub closes : now ≡ last.deeds ++ closed given.file disk ∷ []
+
+-- Books were looked for, and taken in; or none was found, or FILE was not opened, and the status
+-- says so.
+abbrev pub AddsFound : {D : Type 0} → disk.Ghosts D → Given → List (List ℕ)
+    → List (DeskDeed D) → List (DeskDeed D) → ℕ → Type 0
+AddsFound disks given paths was now status = TakesInto disks given paths was now status
+    ⊎ (Did was now (Visits disks given.file Change) × (status ≢ 0))
+
+-- What comes of an add of these paths: books were looked for and found, and then taken in; or the
+-- add was refused before FILE was opened, and nothing was done but to look at files.
+abbrev pub Adds : {D : Type 0} → disk.Ghosts D → List ℕ → Adding → List (DeskDeed D)
+    → List (DeskDeed D) → ℕ → Type 0
+Adds {D} disks file how was now status = (IsQuiet was now × (status ≢ 0))
+    ⊎ ((found : List (List ℕ)) × (input : List ℕ) × (mid : List (DeskDeed D))
+    × IsQuiet was mid × AddsFound disks (given_of file input how) found mid now status)

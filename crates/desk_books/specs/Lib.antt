@@ -1,0 +1,3 @@
+pub mod AddedBooks
+pub mod CheckedBooks
+pub mod Stages

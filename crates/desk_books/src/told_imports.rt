@@ -1,0 +1,208 @@
+// What is said of books that are taken in.
+ghost use Rattle.std.specs.Prelude.{◌≢◌};
+
+use abc_fields::TuneFault;
+use crate::checked_books::put_lost;
+use desk_scenes::{REFUSED, print, say};
+use std::alloc::{AllocError, Global};
+use std::io::Write;
+use tune_scripts::Console;
+use tune_store::Refusal;
+
+// What became of a book.
+#[derive(Clone, Copy)]
+pub(crate) struct Tally {
+    // The number of the first of its tunes that were taken in, and of the last.
+    pub(crate) first: u32,
+    pub(crate) last: u32,
+    // How many tunes were taken in.
+    pub(crate) tunes: usize,
+    // In how many parts it came.
+    pub(crate) parts: usize,
+    // How many of its tunes were there.
+    pub(crate) there: usize,
+    // How many of its lines are not kept.
+    pub(crate) lost: usize,
+}
+
+impl Tally {
+    pub(crate) fn new(parts: usize, there: usize, lost: usize) -> Tally {
+        Tally {
+            first: 0,
+            last: 0,
+            tunes: 0,
+            parts,
+            there,
+            lost,
+        }
+    }
+
+    // So many tunes were taken in, with these numbers.
+    pub(crate) fn take(&mut self, count: usize, first: u32, last: u32) {
+        if self.tunes == 0 {
+            self.first = first;
+        }
+        self.tunes = self.tunes.saturating_add(count);
+        self.last = last;
+    }
+}
+
+/// Prints what became of a book, and gives the status.
+pub(crate) fn tell_taken<C: Console, E: Write>(
+    alloc: Global,
+    path: &str,
+    tally: &Tally,
+    dry: bool,
+    console: &mut C,
+    errors: &mut E,
+) -> u8 {
+    match taken_line(alloc, path, tally, dry) {
+        Ok(line) => print(console, errors, line.as_slice()),
+        Err(_) => {
+            say(errors, path, NO_MEMORY);
+            REFUSED
+        }
+    }
+}
+
+const NO_MEMORY: &str = "there is not memory enough; end other programs, and try again";
+
+fn taken_line(
+    alloc: Global,
+    path: &str,
+    tally: &Tally,
+    dry: bool,
+) -> Result<Vec<u8>, AllocError> {
+    let mut line = Vec::new(alloc);
+    if tally.tunes == 0 {
+        if tally.there > 0 {
+            let there = tally.there;
+            write!(line, "{path}: all its tunes are there already, {there}\n")
+                .map_err(|_| AllocError)?;
+        }
+        return Ok(line);
+    }
+    write!(line, "{path}: ").map_err(|_| AllocError)?;
+    put_tunes(&mut line, tally, dry)?;
+    put_rest(&mut line, tally)?;
+    line.push(b'\n')?;
+    Ok(line)
+}
+
+// Which tunes were taken in; where they were only tried, how many.
+fn put_tunes(line: &mut Vec<u8>, tally: &Tally, dry: bool) -> Result<(), AllocError> {
+    let Tally {
+        first, last, tunes, ..
+    } = *tally;
+    if dry {
+        let plural = if tunes == 1 { "" } else { "s" };
+        write!(line, "{tunes} tune{plural}").map_err(|_| AllocError)
+    } else if first == last {
+        write!(line, "tune {first}").map_err(|_| AllocError)
+    } else {
+        write!(line, "tunes {first} to {last}").map_err(|_| AllocError)
+    }
+}
+
+fn put_rest(line: &mut Vec<u8>, tally: &Tally) -> Result<(), AllocError> {
+    let Tally {
+        parts, there, lost, ..
+    } = *tally;
+    if parts > 1 {
+        write!(line, ", in {parts} parts").map_err(|_| AllocError)?;
+    }
+    if there > 0 {
+        write!(line, "; {there} of its tunes are there already").map_err(|_| AllocError)?;
+    }
+    put_lost(line, lost)
+}
+
+/// Says why a book is not taken in, or a part of one, and gives the status.
+pub(crate) fn say_refused<E: Write>(
+    errors: &mut E,
+    path: &str,
+    part: usize,
+    parts: usize,
+    refusal: &Refusal,
+) -> u8
+    ensures { result ≢ 0 }
+{
+    let _ = write!(errors, "tunes-book: {path}: ");
+    if parts > 1 {
+        let _ = write!(errors, "part {part} of {parts}: ");
+    }
+    write_reason(errors, refusal);
+    let _ = write!(errors, "; nothing of it is taken in\n");
+    let _ = errors.flush();
+    REFUSED
+}
+
+fn write_reason<E: Write>(errors: &mut E, refusal: &Refusal) {
+    let _ = match refusal {
+        Refusal::BadTune { place, fault } => match fault {
+            TuneFault::NoKey => write!(
+                errors,
+                "its tune number {place} has no K: line; give it one, K:none will do"
+            ),
+            TuneFault::TooLong => write!(
+                errors,
+                "its tune number {place} is too long; cut it in two, or, where `tunes-book check` \
+                 says layout 1, let tunes have 64,000 bytes in place of 16,000 by \
+                 `tunes-book upgrade`"
+            ),
+        },
+        _ => errors.write_all(reason(refusal).as_bytes()),
+    };
+}
+
+fn reason(refusal: &Refusal) -> &'static str {
+    match refusal {
+        Refusal::NoTune => "there is no tune in it: no line begins with X:",
+        Refusal::BookTooLong => {
+            "it has more than 4,000,000 bytes; `tunes-book add --split` takes it in by parts"
+        }
+        Refusal::ArchiveFull => {
+            "the archive would have too many tunes; make a second one, or, where \
+             `tunes-book check` says layout 1, let it have 50,000 in place of 20,000 by \
+             `tunes-book upgrade`"
+        }
+        Refusal::NumbersSpent => {
+            "the numbers to 999,999 are spent; add the book of an `export` to a new archive"
+        }
+        _ => NO_MEMORY,
+    }
+}
+
+/// Says that the device failed within an import, and gives the status.
+pub(crate) fn say_failed<E: Write>(errors: &mut E, file: &str) -> u8
+    ensures { result ≢ 0 }
+{
+    say(
+        errors,
+        file,
+        "the device failed, and what was asked may have been done or not. Look at the disk and at \
+         the permissions, and let the system give up its cached pages before you go on: USING.md, \
+         \"The file cannot be used\", has the steps",
+    );
+    REFUSED
+}
+
+/// Says that a book could not be read, and gives the status.
+pub(crate) fn say_unread<E: Write>(errors: &mut E, path: &str) -> u8
+    ensures { result ≢ 0 }
+{
+    say(errors, path, "it cannot be read; nothing of it is taken in");
+    REFUSED
+}
+
+/// Says that what a book brings could not be kept, and gives the status.
+pub(crate) fn say_unkept<E: Write>(errors: &mut E, path: &str) -> u8
+    ensures { result ≢ 0 }
+{
+    say(
+        errors,
+        path,
+        "what it brings could not be noted beside the archive; nothing of it is taken in",
+    );
+    REFUSED
+}
