@@ -1,10 +1,11 @@
 -- Books that are taken in one after another.
-use Rattle.std.proofs.Common.{◌≡◌, ◌≢◌, ◌⊎◌, inl, inr, ℕ, ◌+◌, ◌<◌, max, List, [], ◌∷◌, ◌++◌, None, length, take, get_or, ap, sym, refl, ◌∙◌, arith, add-zero, append-nil}
+use Rattle.std.proofs.Common.{◌≡◌, ◌≢◌, ◌⊎◌, inl, inr, ℕ, ◌+◌, ◌<◌, max, List, [], ◌∷◌, ◌++◌, None, length, take, get_or, ap, sym, refl, ◌∙◌, arith}
+use Rattle.std.proofs.Common.{add-zero, append-nil}
 use Rattle.std.proofs.lemmas.List.{take_more}
 use Rattle.std.proofs.lemmas.Grind.{common_steps}
 use Rattle.sha2.specs.Sha256.{sha256}
-use Rattle.tune_undo.specs.declared.entries.After.TheVariants.{Text}
-use Rattle.tune_undo.specs.declared.entries.Part.TheVariants.{Tune}
+use Rattle.tune_undo.specs.declared.old_entries.After.TheVariants.{Text}
+use Rattle.tune_undo.specs.declared.old_entries.Part.TheVariants.{Tune}
 use Rattle.tune_store.specs.declared.tune_store.TuneStore as store
 use Rattle.tune_disk.specs.declared.disk.Disk as disk
 use Rattle.tune_desk.specs.DeskDeeds.{DeskDeed}
@@ -40,7 +41,7 @@ added_append (other ∷ texts) first text =
     let number : (first + 1) + length texts ≡ first + length (other ∷ texts) = omega arith in
     ap (λ parts. Tune first None (Text (sha256 other)) ∷ parts)
     (added_append texts (first + 1) text
-        ∙ ap (λ n. added_parts (first + 1) texts ++ Tune n None (Text (sha256 text)) ∷ []) number)
+    ∙ ap (λ n. added_parts (first + 1) texts ++ Tune n None (Text (sha256 text)) ∷ []) number)
 
 -- the parts of the first texts, and of one more
 pub added_more : (texts : List (List ℕ)) (first i number : ℕ) (text sum : List ℕ) → i < length texts → text ≡ get_or texts i text

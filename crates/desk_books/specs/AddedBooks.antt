@@ -20,13 +20,13 @@ use Rattle.tune_archive.specs.Shelf.{Shelf}
 use Rattle.tune_desk.specs.DeskDeeds.{DeskDeed, read, closed}
 use Rattle.tune_desk.specs.OldTexts.{Grows, GrowsNot}
 use Rattle.tune_desk.specs.declared.desk.DeskFault.{DeskFault}
-use Rattle.tune_undo.specs.declared.entries.Kind.{Kind}
-use Rattle.tune_undo.specs.declared.entries.Kind.TheVariants.{Add, AddMore}
-use Rattle.tune_undo.specs.declared.entries.After.TheVariants.{Text}
-use Rattle.tune_undo.specs.declared.entries.Part.{Part}
-use Rattle.tune_undo.specs.declared.entries.Part.TheVariants.{Tune}
-use Rattle.tune_undo.specs.declared.entries.Entry.{Entry}
-use Rattle.tune_undo.specs.Entries.{entry_value}
+use Rattle.tune_undo.specs.declared.old_entries.EntryKind.{EntryKind}
+use Rattle.tune_undo.specs.declared.old_entries.EntryKind.TheVariants.{Add, AddMore}
+use Rattle.tune_undo.specs.declared.old_entries.After.TheVariants.{Text}
+use Rattle.tune_undo.specs.declared.old_entries.Part.{Part}
+use Rattle.tune_undo.specs.declared.old_entries.Part.TheVariants.{Tune}
+use Rattle.tune_undo.specs.declared.old_entries.Entry.{Entry}
+use Rattle.tune_undo.specs.OldEntries.{entry_value}
 use Rattle.tune_undo.specs.EntryBytes.{entry_bytes}
 use Rattle.desk_terms.specs.declared.adding.Adding.{Adding}
 use Rattle.desk_scenes.specs.FileAnswers.{Did}
@@ -57,7 +57,7 @@ reached_at deeds store course = record { deeds = deeds; store = store; course = 
 
 -- ENTRIES
 -- the first entry of an add begins it, and each later one goes on with it
-abbrev pub added_kind : Bool → Kind
+abbrev pub added_kind : Bool → EntryKind
 added_kind begun = if begun then AddMore else Add
 
 -- tunes of these texts that come, with numbers from this one on
@@ -75,13 +75,19 @@ pub record IsAddOf (begun : Bool) (book : List ℕ) (entry : Entry) : Type 0 whe
   pub kind : entry.kind ≡ added_kind begun
   pub parts : entry.parts.items ≡ added_parts first texts
 
+-- what was done with files for a book
+pub record BookDeeds (D : Type 0) : Type 0 where
+  pub was : List (DeskDeed D)
+  pub now : List (DeskDeed D)
+
 -- An entry of this book was kept beside FILE, and nothing else was done with files; but where the
 -- book is only tried, nothing was done.
-abbrev pub KeepsBook : {D : Type 0} → Bool → List ℕ → List ℕ → List (DeskDeed D)
-    → List (DeskDeed D) → Course → Course → Type 0
-KeepsBook true file book was now old new = (now ≡ was) × (new ≡ old)
-KeepsBook false file book was now old new = (entry : Entry) × IsAddOf old.begun book entry
-    × Grows file (entry_bytes (entry_value entry)) was now × (new ≡ record old { begun = true })
+abbrev pub KeepsBook : {D : Type 0} → Bool → List ℕ → List ℕ → BookDeeds D → Course → Course
+    → Type 0
+KeepsBook true file book deeds old new = (deeds.now ≡ deeds.was) × (new ≡ old)
+KeepsBook false file book deeds old new = (entry : Entry) × IsAddOf old.begun book entry
+    × Grows file (entry_bytes (entry_value entry)) deeds.was deeds.now
+    × (new ≡ record old { begun = true })
 
 -- ONE BOOK
 -- A store carried out an import of just this book, and nothing else. Whether its device failed is
@@ -99,7 +105,8 @@ abbrev pub TakesIn : {D S : Type 0} → store.Ghosts S → Given → List ℕ �
     → ℕ → Type 0
 TakesIn {D} {S} kept given book old new status = (deeds : List (DeskDeed D)) × (course : Course)
     × (answer : Result Reply Refusal)
-    × KeepsBook given.how.dry given.file book old.deeds deeds old.course course
+    × KeepsBook given.how.dry given.file book (record { was = old.deeds; now = deeds }) old.course
+    course
     × Imports kept book (reached_at deeds old.store course) new answer × (status ≡ 0 → IsOk answer)
 
 -- Nothing was done but that an entry was to be kept, and was not.
@@ -155,7 +162,8 @@ pub record TakesInto {D : Type 0} (disks : disk.Ghosts D) (given : Given) (paths
   pub opening : List (DeskDeed D)
   pub opens : Opens disks given.file Change archive was opening
   pub last : Reached D (Shelf D)
-  pub takes : TakesPaths (store_on disks) given paths (reached_at opening archive no_course) last status
+  pub takes : TakesPaths (store_on disks) given paths (reached_at opening archive no_course)
+      last status
   pub disk : D
   pub held : last.store.pages.disk ≡ Some disk
   pub closes : now ≡ last.deeds ++ closed given.file disk ∷ []

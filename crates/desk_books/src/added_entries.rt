@@ -1,6 +1,6 @@
 // What an add keeps of the tunes that a book brings, before it brings them.
 ghost use Rattle.std.specs.Prelude.{◌≡◌, ◌<◌, ◌+◌, ◌^◌, length, IfErr, IfOk, string_bytes};
-ghost use Rattle.tune_undo.specs.Entries.{entry_value};
+ghost use Rattle.tune_undo.specs.OldEntries.{entry_value};
 ghost use Rattle.tune_undo.specs.EntryBytes.{entry_bytes};
 ghost use Rattle.tune_desk.specs.OldTexts.{Grows, GrowsNot};
 ghost use Rattle.desk_books.specs.AddedBooks.{added_kind, added_parts};
@@ -8,7 +8,7 @@ ghost use Rattle.desk_books.specs.AddedBooks.{added_kind, added_parts};
 use abc_fields::TuneText;
 use std::alloc::{AllocError, Global};
 use tune_desk::{Desk, OldTextsFault, grow_old_texts};
-use tune_undo::{After, Entry, Kind, Part, Sum, written_entry};
+use tune_undo::{After, Entry, EntryKind, Part, Sum, written_entry};
 
 /// The entry of an add: its tunes come with these numbers and texts. The error is out of memory.
 pub(crate) fn added_entry(
@@ -21,7 +21,11 @@ pub(crate) fn added_entry(
     ensures kind { IfOk result (λ entry. entry.kind ≡ added_kind begun) }
     ensures parts { IfOk result (λ entry. entry.parts.items ≡ added_parts first texts.now) }
 {
-    let kind = if begun { Kind::AddMore } else { Kind::Add };
+    let kind = if begun {
+        EntryKind::AddMore
+    } else {
+        EntryKind::Add
+    };
     let parts = added_parts(alloc, first, texts)?;
     Ok(Entry { kind, parts })
 }

@@ -95,11 +95,7 @@ fn missing<E: Write>(errors: &mut E, path: &String) -> u8
     BAD_WORDS
 }
 
-fn find_input<E: Write>(
-    path: &String,
-    books: &mut Vec<String>,
-    errors: &mut E,
-) -> Result<(), u8>
+fn find_input<E: Write>(path: &String, books: &mut Vec<String>, errors: &mut E) -> Result<(), u8>
     ensures { IfErr result (λ status. status ≢ 0) }
 {
     if books.iter().any(|book| book.as_str() == "-") {
@@ -109,11 +105,7 @@ fn find_input<E: Write>(
     add_book(path, books, errors)
 }
 
-fn add_book<E: Write>(
-    path: &String,
-    books: &mut Vec<String>,
-    errors: &mut E,
-) -> Result<(), u8>
+fn add_book<E: Write>(path: &String, books: &mut Vec<String>, errors: &mut E) -> Result<(), u8>
     ensures { IfErr result (λ status. status ≢ 0) }
 {
     let Ok(book) = path.clone() else {

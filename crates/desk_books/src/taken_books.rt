@@ -1,5 +1,6 @@
 // Books that are taken in, one after another.
-ghost use Rattle.std.specs.Prelude.{◌≡◌, ◌+◌, ◌<◌, ◌^◌, ℕ, List, [], not, Ok, IfOk, IsOk, MatchResult};
+ghost use Rattle.std.specs.Prelude.{◌≡◌, ◌+◌, ◌<◌, ◌^◌, ℕ, List, [], not, Ok, IfOk, IsOk};
+ghost use Rattle.std.specs.Prelude.{MatchResult};
 ghost use Rattle.std.specs.Prelude.{string_bytes, vec_len};
 ghost use Rattle.abc_fields.specs.Books.{book_answer};
 ghost use Rattle.tune_scripts.specs.Carried.{IsCarried};
@@ -142,7 +143,9 @@ fn take_book<C: Console, E: Write, S: TuneStore + Catalog, K: AllocGlobal + Desk
         return say_refused(errors, path.as_str(), 1, 1, &Refusal::OutOfMemory);
     };
     let mut tally = Tally::new(1, 0, lost);
-    let status = take_part(desk, file, path, book, how, store, course, &mut tally, errors);
+    let status = take_part(
+        desk, file, path, book, how, store, course, &mut tally, errors,
+    );
     status.max(tell_taken(
         desk.alloc(),
         path.as_str(),
@@ -195,8 +198,7 @@ fn tunes_of<S: Catalog>(alloc: Global, store: &S, book: &[u8]) -> Result<NewTune
 }
 
 // The greatest number, or 0.
-fn last_number<S: Catalog>(store: &S) -> u32
-{
+fn last_number<S: Catalog>(store: &S) -> u32 {
     let len = store.len();
     if len == 0 {
         return 0;
@@ -248,8 +250,10 @@ fn keep<K: AllocGlobal + Desk>(
     ensures { MatchResult result
         (λ _. (book : List ℕ) (layout : Layout)
         → book_answer (longest_text layout) book ≡ Ok brought.now.texts.items
-        → KeepsBook how.now.dry (string_bytes file.now) book (K.deeds desk.old)
-        (K.deeds desk.new) course.old course.new)
+        → KeepsBook how.now.dry (string_bytes file.now) book (record {
+          was = K.deeds desk.old;
+          now = K.deeds desk.new;
+        }) course.old course.new)
         (λ _. GrowsNot (string_bytes file.now) (K.deeds desk.old) (K.deeds desk.new)
         × (course.new ≡ course.old)) }
 {

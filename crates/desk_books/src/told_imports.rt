@@ -1,8 +1,8 @@
 // What is said of books that are taken in.
 ghost use Rattle.std.specs.Prelude.{◌≢◌};
 
-use abc_fields::TuneFault;
 use crate::checked_books::put_lost;
+use abc_fields::TuneFault;
 use desk_scenes::{REFUSED, print, say};
 use std::alloc::{AllocError, Global};
 use std::io::Write;
@@ -67,18 +67,14 @@ pub(crate) fn tell_taken<C: Console, E: Write>(
 
 const NO_MEMORY: &str = "there is not memory enough; end other programs, and try again";
 
-fn taken_line(
-    alloc: Global,
-    path: &str,
-    tally: &Tally,
-    dry: bool,
-) -> Result<Vec<u8>, AllocError> {
+fn taken_line(alloc: Global, path: &str, tally: &Tally, dry: bool) -> Result<Vec<u8>, AllocError> {
     let mut line = Vec::new(alloc);
     if tally.tunes == 0 {
         if tally.there > 0 {
             let there = tally.there;
-            write!(line, "{path}: all its tunes are there already, {there}\n")
-                .map_err(|_| AllocError)?;
+            write!(line, "{path}: all its tunes are there already, {there}\n").map_err(
+                |_| AllocError,
+            )?;
         }
         return Ok(line);
     }
@@ -92,7 +88,10 @@ fn taken_line(
 // Which tunes were taken in; where they were only tried, how many.
 fn put_tunes(line: &mut Vec<u8>, tally: &Tally, dry: bool) -> Result<(), AllocError> {
     let Tally {
-        first, last, tunes, ..
+        first,
+        last,
+        tunes,
+        ..
     } = *tally;
     if dry {
         let plural = if tunes == 1 { "" } else { "s" };
@@ -106,7 +105,10 @@ fn put_tunes(line: &mut Vec<u8>, tally: &Tally, dry: bool) -> Result<(), AllocEr
 
 fn put_rest(line: &mut Vec<u8>, tally: &Tally) -> Result<(), AllocError> {
     let Tally {
-        parts, there, lost, ..
+        parts,
+        there,
+        lost,
+        ..
     } = *tally;
     if parts > 1 {
         write!(line, ", in {parts} parts").map_err(|_| AllocError)?;

@@ -3,11 +3,7 @@
 
 mod deliveries;
 mod drafts;
-mod file_opening;
 mod file_questions;
-mod input;
 mod orders;
-mod printing;
-mod reasons;
 
 pub use orders::carry_out;

@@ -10,7 +10,7 @@ ghost use Rattle.desk_orders.specs.Orders.{RunsOnce, RunsOnFile, KeepsFiles};
 use crate::deliveries::deliver;
 use crate::drafts::write_draft;
 use crate::file_questions::{ask_counts, ask_question, ask_tune};
-use desk_books::{add, check_books};
+use desk_books::check_books;
 use desk_changes::alter;
 use desk_copies::{make, restore};
 use desk_scenes::{

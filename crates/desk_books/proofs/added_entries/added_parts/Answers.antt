@@ -1,8 +1,8 @@
 use Rattle.std.proofs.Common.{◌≡◌, ◌+◌, [], ◌∷◌, ◌++◌, ap, sym, ◌∙◌, rules, arith, None}
 use Rattle.sha2.specs.Sha256.{sha256}
-use Rattle.tune_undo.specs.declared.entries.After.TheVariants.{Text}
-use Rattle.tune_undo.specs.declared.entries.Part.{Part}
-use Rattle.tune_undo.specs.declared.entries.Part.TheVariants.{Tune}
+use Rattle.tune_undo.specs.declared.old_entries.After.TheVariants.{Text}
+use Rattle.tune_undo.specs.declared.old_entries.Part.{Part}
+use Rattle.tune_undo.specs.declared.old_entries.Part.TheVariants.{Tune}
 use Rattle.desk_books.proofs.AddLemmas.{added_more}
 use Rattle.desk_books.proofs.added_entries.added_parts.Goals as goal
 
@@ -15,6 +15,7 @@ loop-text-preserved c =
     record {
       number = omega (arith, kept.number);
       parts = pushed ∙ ap (λ parts. parts ++ part ∷ []) kept.parts
-          ∙ added_more c.args.texts.now c.args.first c.loop-text.text-index c.loop-text.number c.text-item.result c.of.result c.loop-text-test.true c.text-item.is
+          ∙ added_more c.args.texts.now c.args.first c.loop-text.text-index c.loop-text.number c.text-item.result c.of.result c.loop-text-test.true
+          c.text-item.is
           kept.number sum;
     }

@@ -13,7 +13,7 @@ returns g c = λ book layout answer.
     let was = g.K.Desk.deeds c.args.desk.now in
     let now = g.K.Desk.deeds c.keep_entry.new.desk in
     let old = c.args.course.now in
-    subst (λ dry. KeepsBook dry file book was now old (record old { begun = true })) (sym c.if-how.false) (
+    subst (λ dry. KeepsBook dry file book (record { was = was; now = now }) old (record old { begun = true })) (sym c.if-how.false) (
       c.in-Ok.entry,
       record {
         layout = layout;

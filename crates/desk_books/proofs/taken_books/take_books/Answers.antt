@@ -13,4 +13,4 @@ loop-path-preserved g c =
     let taken = next_in_turn (λ path. TakesPath g.S.TuneStore given (string_bytes path)) c.args.paths.now c.loop-path.path-index c.path-item.result
     start mid end c.loop-path.worst c.take_path-status.result c.loop-path-test.true c.path-item.is c.loop-path.invariant c.take_path-status.ensures in
     subst (λ worst. EachInTurn (λ path. TakesPath g.S.TuneStore given (string_bytes path)) (take (c.loop-path.path-index + 1) c.args.paths.now) start end worst)
-        (sym c.max-worst.ensures) taken
+    (sym c.max-worst.ensures) taken

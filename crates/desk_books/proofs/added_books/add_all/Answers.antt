@@ -2,7 +2,7 @@ use Rattle.std.proofs.Common.{inl, inr, string_bytes}
 use Rattle.tune_archive.specs.AsStore.{store_on}
 use Rattle.desk_books.specs.AddedBooks.{TakesPath, given_of, reached_at, no_course}
 use Rattle.desk_books.proofs.TurnLemmas.{each_map}
-use Rattle.desk_books.proofs.adding.add_all.Goals as goal
+use Rattle.desk_books.proofs.added_books.add_all.Goals as goal
 
 pub returns-in-Ok : goal.returns-in-Ok
 returns-in-Ok g c =

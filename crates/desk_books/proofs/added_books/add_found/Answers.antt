@@ -1,7 +1,7 @@
 use Rattle.std.proofs.Common.{inl, inr, string_bytes, map, subst, arith}
 use Rattle.desk_scenes.proofs.QuietLemmas.{quiet_none}
 use Rattle.desk_books.specs.AddedBooks.{AddsFound, given_of}
-use Rattle.desk_books.proofs.adding.add_found.Goals as goal
+use Rattle.desk_books.proofs.added_books.add_found.Goals as goal
 
 pub returns-in-Some : goal.returns-in-Some
 returns-in-Some g c =

@@ -50,8 +50,8 @@ fn add_found<C: Console, E: Write, D: Disk, K: AllocGlobal + Desk<Disk = D>>(
     }
 }
 
-// What standard input gives, where it is one of these books: it is read before FILE is opened, which
-// other programs may have until then.
+// What standard input gives, where it is one of these books: it is read before FILE is opened,
+// which other programs may have until then.
 fn input_of<C: Console>(alloc: Global, found: &[String], console: &mut C) -> Option<Vec<u8>> {
     if found.iter().any(|path| path.as_str() == "-") {
         read_input(alloc, console)
