@@ -1,2 +1,1 @@
 pub mod AlteringLemmas
-pub mod WorkLemmas
