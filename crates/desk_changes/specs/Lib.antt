@@ -2,3 +2,4 @@ pub mod ChangedFiles
 pub mod EntriesOfTurns
 pub mod Inside
 pub mod Kinds
+pub mod ReplacedTunes

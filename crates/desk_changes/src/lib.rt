@@ -4,7 +4,9 @@
 
 mod altering;
 mod entries;
+mod replacing;
 mod turning;
 mod words;
 
 pub use altering::alter;
+pub use replacing::{Replaced, replace};
