@@ -1,1 +1,3 @@
 pub mod AlteringLemmas
+pub mod LookingLemmas
+pub mod WorkLemmas

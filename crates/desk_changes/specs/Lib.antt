@@ -3,3 +3,6 @@ pub mod EntriesOfTurns
 pub mod Inside
 pub mod Kinds
 pub mod ReplacedTunes
+pub mod TakenBack
+pub mod Undone
+pub mod Works

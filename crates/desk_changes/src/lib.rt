@@ -1,12 +1,16 @@
 //! Orders that change what FILE holds: it is opened to change, looked at, and then changed, behind
-//! an entry of the book of old texts.
+//! an entry of the book of old texts; and the order that undoes them.
 #![tactic(auto)]
 
 mod altering;
+mod change_lists;
 mod entries;
 mod replacing;
+mod taking_back;
 mod turning;
+mod undone;
 mod words;
 
 pub use altering::alter;
 pub use replacing::{Replaced, replace};
+pub use taking_back::undo;

@@ -1,0 +1,9 @@
+use Rattle.std.proofs.Common.{string_bytes}
+use Rattle.desk_changes.specs.Works.{WorksBeside}
+use Rattle.desk_changes.proofs.WorkLemmas.{course_of}
+use Rattle.desk_changes.proofs.taking_back.undo_entries.Given as goal
+
+abbrev pub invariant-loop-change : goal.invariant-loop-change
+invariant-loop-change g l =
+    WorksBeside g.D.Disk (string_bytes l.file) (course_of g.D.Disk (string_bytes l.file) l.fn.archive l.archive
+    (g.K.Desk.deeds l.fn.desk) (g.K.Desk.deeds l.desk))
