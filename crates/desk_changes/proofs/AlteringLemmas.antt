@@ -28,12 +28,12 @@ grows_none file was =
 
 module _ {D : Type 0} (disks : disk.Ghosts D) (file : List ℕ) (kind : EntryKind) (Means : State → List Turn → Type 0) where
   -- a look that was refused
-  pub look_refused : {T A : Type 0} (start finish : Shelf D) (was : List (DeskDeed D)) (why : A) → IsOnlyAsked (store_on disks) start finish
-      → Alters {T = T} disks file kind Means (Err why) (record { start = start; finish = finish; was = was; now = was })
+  pub look_refused : {A : Type 0} (start finish : Shelf D) (was : List (DeskDeed D)) (why : A) → IsOnlyAsked (store_on disks) start finish
+      → Alters disks file kind Means (Err why) (record { start = start; finish = finish; was = was; now = was })
   look_refused start finish was why asked = inl (record { asked = asked; unkept = grows_none file was })
 
   -- turns behind a look
-  pub look_then : {T A : Type 0} (turns : List Turn) (start mid finish : Shelf D) (was now : List (DeskDeed D)) (result : Result T A)
+  pub look_then : {A : Type 0} (turns : List Turn) (start mid finish : Shelf D) (was now : List (DeskDeed D)) (result : Result (Unit {0}) A)
       → IsOnlyAsked (store_on disks) start mid
       → (HonestAt disks.honest mid.pages.disk → Means (state_of disks.state start) turns)
       → Turns disks file kind turns result (record { start = mid; finish = finish; was = was; now = now })
@@ -60,7 +60,7 @@ module _ {D : Type 0} (disks : disk.Ghosts D) (file : List ℕ) (kind : EntryKin
     does = does;
   }
 
-  pub alters_file : {T A : Type 0} (start finish : Shelf D) (was began ended now : List (DeskDeed D)) (new : D) (result : Result T A)
+  pub alters_file : {A : Type 0} (start finish : Shelf D) (was began ended now : List (DeskDeed D)) (new : D) (result : Result (Unit {0}) A)
       → Opens disks file Change start was began → finish.pages.disk ≡ Some new → now ≡ ended ++ closed file new ∷ []
       → Alters disks file kind Means result (record { start = start; finish = finish; was = began; now = ended })
       → AltersFile disks file kind Means result (record { was = was; now = now })

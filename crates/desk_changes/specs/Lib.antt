@@ -2,7 +2,6 @@ pub mod ChangedFiles
 pub mod EntriesOfTurns
 pub mod Inside
 pub mod Kinds
-pub mod ReplacedTunes
 pub mod TakenBack
 pub mod Undone
 pub mod Works

@@ -5,12 +5,10 @@
 mod altering;
 mod change_lists;
 mod entries;
-mod replacing;
 mod taking_back;
 mod turning;
 mod undone;
 mod words;
 
 pub use altering::alter;
-pub use replacing::{Replaced, replace};
 pub use taking_back::undo;

@@ -24,7 +24,6 @@ use Rattle.desk_terms.specs.declared.alteration.Alteration.{Alteration}
 use Rattle.tune_changes.specs.Planning.{planned_by}
 use Rattle.desk_changes.specs.ChangedFiles.{ChangesFile}
 use Rattle.desk_changes.specs.Kinds.{kind_of}
-use Rattle.desk_changes.specs.ReplacedTunes.{ReplacesTune}
 use Rattle.desk_changes.specs.Undone.{Undoes}
 use Rattle.desk_copies.specs.Made.{MakesEmpty}
 use Rattle.desk_copies.specs.Restored.{Restores}
@@ -170,12 +169,6 @@ AltersFile disks file change scene = IsSilent scene.streams
     × ChangesFile disks file (kind_of change) (λ state turns. planned_by change state ≡ Ok turns)
     (record { was = scene.was; now = scene.now; status = scene.status })
 
--- The tune of a book was put in the place of a tune; or not.
-abbrev pub ReplacesBy : {D : Type 0} → disk.Ghosts D → List ℕ → ℕ → Option ℕ → Scene D → Type 0
-ReplacesBy disks file number revision scene =
-    ReplacesTune disks file (record { number = number; revision = revision })
-    (record { was = scene.was; now = scene.now; status = scene.status })
-
 -- An order that the script carries out: nothing was done, and the status says so.
 abbrev pub IsLeft : {D : Type 0} → Scene D → Type 0
 IsLeft scene = (scene.now ≡ scene.was) × (IsSilent scene.streams × (scene.status ≢ 0))
@@ -199,7 +192,5 @@ CarriesOut disks file order.Make scene =
 CarriesOut disks file (order.Restore copy force) scene =
     Restores disks file (string_bytes copy) scene
 CarriesOut disks file (order.Alter change) scene = AltersFile disks file change scene
-CarriesOut disks file (order.Replace number revision book) scene =
-    ReplacesBy disks file number revision scene
 CarriesOut disks file (order.Undo undoing) scene = Undoes disks file undoing scene.was scene.now
 CarriesOut disks file other scene = IsLeft scene

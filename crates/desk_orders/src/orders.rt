@@ -11,7 +11,7 @@ use crate::deliveries::deliver;
 use crate::drafts::write_draft;
 use crate::file_questions::{ask_counts, ask_question, ask_tune};
 use desk_books::check_books;
-use desk_changes::{Replaced, alter, replace, undo};
+use desk_changes::{alter, undo};
 use desk_copies::{make, restore};
 use desk_scenes::{
     BAD_WORDS, REFUSED, Unopened, bring_to_rest, print, print_counts, read_input, say,
@@ -57,20 +57,14 @@ pub fn carry_out<C: Console, E: Write, D: Disk, K: AllocGlobal + Desk<Disk = D>>
         Order::Make => make(desk, file, errors),
         Order::Restore { copy, force } => restore(desk, file, copy, *force, console, errors),
         Order::Alter(change) => alter(desk, file, change, errors),
-        Order::Replace {
-            number,
-            revision,
-            book,
-        } => {
-            let replaced = Replaced {
-                number: *number,
-                revision: *revision,
-            };
-            replace(desk, file, &replaced, book, console, errors)
-        }
         Order::Undo(undoing) => undo(desk, file, undoing, console, errors),
         Order::CheckCopy(_) => leave(errors),
         Order::Add { books: _, how: _ } => leave(errors),
+        Order::Replace {
+            number: _,
+            revision: _,
+            book: _,
+        } => leave(errors),
         Order::Backup { copy: _, keep: _ } => leave(errors),
         Order::Load(_) => leave(errors),
         Order::Upgrade => leave(errors),
