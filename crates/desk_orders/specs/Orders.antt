@@ -35,6 +35,7 @@ use Rattle.desk_books.specs.Stages.{Stage}
 use Rattle.desk_scenes.specs.FileAnswers.{Did, IsAsked, IsUnasked}
 use Rattle.desk_scenes.specs.Printing.{WritesOut, Prints, WritesNothing, IsSilent, ReadsAll}
 use Rattle.desk_orders.specs.ScriptVisits.{AsksScript}
+use Rattle.desk_scenes.specs.Scenes.{Scene, IsQuiet, WritesResult}
 use Rattle.desk_scenes.specs.Visits.{visit, failed_visit}
 
 -- how far it was at its beginning, and at its end
