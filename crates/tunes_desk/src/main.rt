@@ -1,12 +1,10 @@
 //! The program `tunes-desk`, which asks archives of tunes in ABC notation, changes them, and writes
-//! results to files: `tunes-book` hands it each command but those that start other programs.
+//! results to files: `tunes-book` hands it each command that changes no archive.
 #![tactic(auto)]
 
 mod file_desk;
-mod voice;
 
 use desk_orders::carry_out;
-use desk_scenes::Progress;
 use desk_words::{Order, Words, report, words_of};
 use file_desk::{FileDesk, NOTHING, tell};
 use std::env::VarError;
@@ -17,7 +15,6 @@ use std::rt::Runtime;
 use std::{env, io};
 use tune_cli::StreamConsole;
 use tune_disk::UnknownHistory;
-use voice::Voice;
 
 /// How many bytes are read at once, and how many of a list are written at once.
 const BUFFER: usize = 65_536;
@@ -37,7 +34,7 @@ const NOT_TEXT: &str = "TUNES_BOOK is not UTF-8; name the file otherwise";
 
 fn main(rt: HostRuntime) -> ExitCode {
     let _ = Vec::<u8>::with_capacity(rt.alloc(), KEPT_BYTES);
-    let mut errors = Voice::new(&rt, rt.stderr());
+    let mut errors = rt.stderr();
     let status = match start(&rt, &mut errors) {
         Ok(status) => status,
         Err(error) => say_failure(&rt, &error),
@@ -69,7 +66,7 @@ fn say_failure<R: Eprint>(rt: &R, error: &io::Error) -> u8 {
 }
 
 // Reads the words of the command, does what they ask for, and gives the status.
-fn start<R: Runtime + AllocGlobal + Files<File = File>, E: Write + Progress>(
+fn start<R: Runtime + AllocGlobal + Files<File = File>, E: Write>(
     rt: &R,
     errors: &mut E,
 ) -> io::Result<u8> {
@@ -101,7 +98,7 @@ fn chance<R: Runtime>(rt: &R) -> u64 {
 }
 
 // Finds out which archive is meant, and carries the order out.
-fn on_archive<R: Runtime + AllocGlobal + Files<File = File>, E: Write + Progress>(
+fn on_archive<R: Runtime + AllocGlobal + Files<File = File>, E: Write>(
     rt: &R,
     words: &Words,
     errors: &mut E,
@@ -118,7 +115,7 @@ fn on_archive<R: Runtime + AllocGlobal + Files<File = File>, E: Write + Progress
 }
 
 // No archive is told, for this reason: there are orders that want none.
-fn without_archive<R: Runtime + AllocGlobal + Files<File = File>, E: Write + Progress>(
+fn without_archive<R: Runtime + AllocGlobal + Files<File = File>, E: Write>(
     rt: &R,
     why: &str,
     words: &Words,
@@ -132,7 +129,7 @@ fn without_archive<R: Runtime + AllocGlobal + Files<File = File>, E: Write + Pro
 }
 
 // Does what is asked, over standard input, output and error, and files.
-fn perform<R: Runtime + AllocGlobal + Files<File = File>, E: Write + Progress>(
+fn perform<R: Runtime + AllocGlobal + Files<File = File>, E: Write>(
     rt: &R,
     file: &String,
     words: &Words,
