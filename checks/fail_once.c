@@ -1,13 +1,15 @@
 // A library that is loaded before the C library, so that one call of a program fails. By the
 // variables FAIL_KIND (`system`: calls of the system, or `memory`: those that take memory),
-// FAIL_AT (which call, from 1 on; 0 for none), FAIL_HOW (the number of the error, or 0 where a
-// call that moves bytes is to move one) and FAIL_COUNT (a file that gets, at the end of the
-// program, how many such calls it made, a space, and 1 where one of them failed or was short).
+// FAIL_AT (which call, from 1 on; 0 for none), FAIL_HOW (the number of the error; or 0 where a
+// call that moves bytes is to move one; or below 0 the number of the signal that ends the program
+// before the call) and FAIL_COUNT (a file that gets, at the end of the program, how many such calls
+// it made, a space, and 1 where one of them failed or was short).
 // Of the kind `lock` none fails, but before each of the first FAIL_AT locks the files of the paths
 // FAIL_PATH and FAIL_OTHER change names, or the first is removed where there is no second.
 #define _GNU_SOURCE
 #include <errno.h>
 #include <fcntl.h>
+#include <signal.h>
 #include <stdarg.h>
 #include <stdio.h>
 #include <stdlib.h>
@@ -26,7 +28,11 @@ extern void *__libc_memalign(size_t, size_t);
 static long fail_at, how, count, failed;
 static int memory, locks;
 
-static int is_at(void) { return ++count == fail_at && (failed = 1); }
+static int is_at(void) {
+    if (++count != fail_at) return 0;
+    if (how < 0) kill(getpid(), (int)-how);
+    return failed = 1;
+}
 
 // What is called before this is not the program's.
 __attribute__((constructor)) static void begin(void) {
@@ -117,15 +123,19 @@ int ftruncate64(int file, off64_t length) { CALL(SYS_ftruncate, file, length); }
 static void change_path(void) {
     const char *path = getenv("FAIL_PATH"), *other = getenv("FAIL_OTHER");
     char kept[4096];
-    if (!path || !other) { if (!path || unlink(path)) abort(); return; }
+    if (!path || !other) { if (!path || syscall(SYS_unlink, path)) abort(); return; }
     int length = snprintf(kept, sizeof kept, "%s.kept", path);
     if (length < 0 || (size_t)length >= sizeof kept) abort();
-    if (rename(path, kept) || rename(other, path) || rename(kept, other)) abort();
+    if (syscall(SYS_rename, path, kept) || syscall(SYS_rename, other, path)) abort();
+    if (syscall(SYS_rename, kept, other)) abort();
 }
 int flock(int file, int operation) {
     if (locks && count < fail_at) { count++; failed = 1; change_path(); }
     CALL(SYS_flock, file, operation);
 }
+int link(const char *from, const char *to) { CALL(SYS_link, from, to); }
+int rename(const char *from, const char *to) { CALL(SYS_rename, from, to); }
+int unlink(const char *path) { CALL(SYS_unlink, path); }
 int statx(int folder, const char *path, int flags, unsigned mask, struct statx *found) {
     CALL(SYS_statx, folder, path, flags, mask, found);
 }
