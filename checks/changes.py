@@ -83,9 +83,6 @@ class Contents(NamedTuple):
         texts = {number: text for number, text in self.texts.items() if number not in numbers}
         return self._replace(texts=texts)
 
-    def with_text(self, number, text):
-        return self._replace(texts={**self.texts, number: text})
-
     def with_set(self, name, numbers):
         return self._replace(sets={**self.sets, name: numbers})
 
@@ -501,7 +498,6 @@ CHANGES = {
     'move in a list of 180': ('move long 2 179',
                               lambda was: was.with_set('long', moved(LONG, 2, 179))),
     'drop': ('drop long', lambda was: was.without_set('long')),
-    'replace': ('replace 7 mine.abc', lambda was: was.with_text(7, MINE)),
 }
 
 
