@@ -11,7 +11,7 @@ use Rattle.tune_changes.specs.declared.judging.Verdict.TheVariants.{Before, Begu
 use Rattle.tune_changes.proofs.LookLemmas.{same_told}
 use Rattle.tune_undo.specs.declared.old_entries.Part.{Part}
 use Rattle.tune_undo.specs.declared.old_entries.Step.{Step}
-use Rattle.desk_changes.specs.TakenBack.{AreUnchanged, IsUnchanged, Stood}
+use Rattle.desk_changes.specs.Inside.TakenBack.{AreUnchanged, IsUnchanged, Stood}
 
 module _ {S : Type 0} (k : Ghosts S) where
   -- so far all stood, and so do all where the rest does

@@ -2,6 +2,5 @@ pub mod ChangedFiles
 pub mod EntriesOfTurns
 pub mod Inside
 pub mod Kinds
-pub mod TakenBack
 pub mod Undone
 pub mod Works

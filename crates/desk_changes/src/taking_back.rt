@@ -3,8 +3,8 @@ ghost use Rattle.std.specs.Prelude.{◌≡◌, ◌≤◌, IfOk, None, true, fals
 ghost use Rattle.tune_asking.specs.Asking.{IsOnlyAsked};
 ghost use Rattle.tune_desk.specs.Results.{SparesFiles, places_of};
 ghost use Rattle.desk_scenes.specs.Scenes.{IsQuiet};
-ghost use Rattle.desk_changes.specs.TakenBack.{AreUnchanged, IsUnchanged, Stood};
-ghost use Rattle.desk_changes.specs.TakenBack.{LeavesChanged, BringsBack, TakesEntryBack};
+ghost use Rattle.desk_changes.specs.Inside.TakenBack.{AreUnchanged, IsUnchanged, Stood};
+ghost use Rattle.desk_changes.specs.Inside.TakenBack.{LeavesChanged, BringsBack, TakesEntryBack};
 ghost use Rattle.desk_changes.specs.Undone.{Undoes, UndoesFile};
 ghost use Rattle.desk_changes.specs.Works.{WorksBeside};
 
