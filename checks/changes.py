@@ -1,34 +1,37 @@
 #!/usr/bin/env python3
-"""Usage: checks/changes.py [--full] [--kills N] [ORDER..]
+"""Usage: checks/changes.py [--full] [--kills N] [--jobs N] [ORDER..]
 
-Breaks off each order of `tunes-desk` that changes an archive, or puts one in its place, and looks
-behind each run that no tune and no set list is lost by it. An order is broken off in these ways:
-it is killed at moments that are spread over its run, and before calls of the system; a call of the
+Breaks off each order of `tunes-desk` that changes an archive, makes one, or copies one, and looks
+behind each run that no tune and no set list is lost by it. An order is broken off in these ways: it
+is killed at moments that are spread over its run, and before calls of the system; a call of the
 system fails, by each usual error, or moves one byte alone; its device has room for so many pages
-and no more. ORDER is a name as it is printed, without which all are tried. A quick run goes through
-some moments, calls and sizes of each order; with --full it is 200 moments, or N, each call and each
-size.
+and no more; the power goes behind a call, and takes names and bytes that no sync has kept. ORDER is
+a name as it is printed, without which all are tried. A quick run goes through some moments, calls
+and sizes of each order; with --full it is 200 moments, or N, each call and each size.
 
-The archive has 300 tunes, and set lists of up to 180 places. What it holds is read by
+The archive has 40 tunes, and set lists of up to 180 places. What it holds is read by
 examples/read_archive.py and not by the program, and what an order means is told here, as a function
 of what was there. Behind each run the archive opens, and has what it had before the order or what
 it is to have after it; or it has something between, and one `undo` takes it back. `undo`, called
 again and again, leads over these states, and no others, to the first of all. A text that is in the
 archive no longer stands whole in its book of old texts, which only grows. No other file changes.
-What makes an archive leaves nothing under its name, or a whole one.
+What makes an archive leaves nothing under its name, or a whole one. A copy is there whole or not,
+and so is its sum; old ones go only where the newer ones are there.
 
-The programs are those that ./build made, or those that the variables TUNES and TUNES_DESK name.
-Calls are broken off by a library, checks/fail_once.c, that is built for this by `cc`. Where there
-is no C compiler it fails, unless the variable LEAVE_OUT has the word `cc`. Devices are mounted, by
-root or in a name space of the user; where neither can be, a line says that they are left out. A
-line is printed for each order, with how often it was left before, after, or to be finished by
-`undo`; the files of a loss are kept, and the status is 1 where there was one.
+Behind that, orders that are refused change nothing; two orders at once, of which one is stopped
+before a call, are as if one came after the other; and files have odd names, or are links, or stand
+in a folder that may not be written.
+
+The programs are those that ./build made, or those that the variables TUNES and TUNES_DESK name. An
+order that the program does not carry out yet is left out, and a line says so. Calls are broken off
+by a library, checks/fail_once.c, that is built for this by `cc`. Where there is no C compiler it
+fails, unless the variable LEAVE_OUT has the word `cc`. Devices are mounted, by root or in a name
+space of the user; where neither can be, a line says that they are left out. A line is printed for
+each order, with how often it was left before, after, or to be finished by `undo`; the files of a
+loss are kept, and the status is 1 where there was one.
 """
 import argparse
-import hashlib
-import io
 import os
-import re
 import shutil
 import signal
 import subprocess
@@ -37,439 +40,64 @@ import tempfile
 import time
 from collections import Counter
 from concurrent.futures import ThreadPoolExecutor
-from functools import lru_cache
-from itertools import count
 from typing import NamedTuple
 
 sys.dont_write_bytecode = True
-ROOT = os.path.dirname(os.path.dirname(os.path.abspath(__file__)))
-sys.path.append(os.path.join(ROOT, 'examples'))
-import read_archive
-from fail_once import ERRORS, LIBRARY, ONE_BYTE
-from full_folders import Full, can_mount, rooms_one_by_one
+from broken_orders import (Asking, Backing, Change, Loading, Making, Restoring, Undoing, Upgrading,
+                           sum_line, words_of)
+from broken_runs import (COPY, DESK, DONE, FILE, OLD, REFUSED, ROOT, Break, Contents, Given, Lost,
+                         Runner, book_of, contents_of, keeps_first, power_cuts, read, script_of,
+                         told, write_all)
+from changes_beside import (MAKINGS, Beside, is_not_yet, told_line, try_eight, try_makings,
+                            try_pairs, try_places)
+from fail_once import ERRORS, ONE_BYTE
+from full_folders import can_mount, rooms_one_by_one, without_log
+from layouts import kept
 from made_tunes import texts_of
-from search_keys import keys_of
 
 BUILT = os.path.join(ROOT, 'crates', 'tunes', 'out', 'tunes')
 PROGRAM = os.path.abspath(os.environ.get('TUNES') or BUILT)
-BUILT_DESK = os.path.join(ROOT, 'crates', 'tunes_desk', 'out', 'tunes_desk')
-DESK = os.path.abspath(os.environ.get('TUNES_DESK') or BUILT_DESK)
-FILE, OLD, COPY = 'tunes.abcx', 'tunes.abcx.old.abc', 'copy.abcx'
-DONE, REFUSED = 0, 1
-# A call that fails may say that a file is not there, or is no archive.
-STATUSES = None, DONE, REFUSED, 2, 3
-SECONDS = 120
 # How many moments, calls and sizes of a device a quick run tries of an order, about.
-FEW_KILLS, FEW_CALLS, KILLS = 20, 30, 200
+FEW_KILLS, FEW_CALLS, FEW_CUTS, FEW_STOPS, KILLS = 4, 8, 5, 6, 200
 # Sizes of a device in a row that are enough for an order, after which more room tells nothing.
 ENOUGH, MOST_PAGES = 2, 4000
 MOST_KEPT = 3
-NOTHING_LEFT = re.compile(rb'nothing is (left )?to be undone')
 
 
-# WHAT AN ARCHIVE HOLDS
+# TEXTS AND BOOKS
 
-class Lost(Exception):
-    """What is lost, or wrong."""
-
-
-class Contents(NamedTuple):
-    """The layout, the texts of tunes by their numbers, and the numbers of set lists by name."""
-    layout: int
-    texts: dict
-    sets: dict
-
-    def without(self, *numbers):
-        texts = {number: text for number, text in self.texts.items() if number not in numbers}
-        return self._replace(texts=texts)
-
-    def with_set(self, name, numbers):
-        return self._replace(sets={**self.sets, name: numbers})
-
-    def without_set(self, name):
-        sets = {each: numbers for each, numbers in self.sets.items() if each != name}
-        return self._replace(sets=sets)
-
-
-# The keys of a text are worked out once, and what a file holds too.
-read_archive.keys_of = lru_cache(None)(keys_of)
-KNOWN_TEXTS, KNOWN_FILES = {}, {}
-
-
-def contents_of(data):
-    """What the bytes of a file hold."""
-    if data is None:
-        raise Lost('there is no archive')
-    name = hashlib.sha256(data).digest()
-    if name not in KNOWN_FILES:
-        KNOWN_FILES[name] = contents_read(data)
-    return KNOWN_FILES[name]
-
-
-def contents_read(data):
-    """The same, by the reader that is not the program."""
-    try:
-        archive = read_archive.Archive(io.BytesIO(data))
-    except (read_archive.Damaged, ValueError, IndexError) as fault:
-        raise Lost(f'it is no archive: {fault}') from fault
-    if archive.pages.faults:
-        raise Lost(f'it is damaged: {archive.pages.faults[0]}')
-    texts = {number: KNOWN_TEXTS.setdefault(text, text) for number, text in
-             ((number, archive.text(pages)) for number, pages in archive.tunes)}
-    return Contents(archive.version, texts, dict(archive.sets))
-
-
-def difference(found, wanted):
-    """How contents differ, in words."""
-    parts = [('tunes missing', set(wanted.texts) - set(found.texts)),
-             ('tunes too many', set(found.texts) - set(wanted.texts)),
-             ('other texts', {number for number in set(found.texts) & set(wanted.texts)
-                              if found.texts[number] != wanted.texts[number]}),
-             ('other set lists', {name for name in {**found.sets, **wanted.sets}
-                                  if found.sets.get(name) != wanted.sets.get(name)})]
-    told = [f'{what}: {" ".join(map(str, sorted(which)[:5]))}' for what, which in parts if which]
-    return ', '.join(told) or f'layout {found.layout} in place of {wanted.layout}'
-
-
-# FILES AND RUNS
-
-def read(path):
-    with open(path, 'rb') as file:
-        return file.read()
-
-
-def write_all(folder, files):
-    os.makedirs(folder, exist_ok=True)
-    for name, data in files.items():
-        path = os.path.join(folder, name)
-        os.makedirs(os.path.dirname(path), exist_ok=True)
-        with open(path, 'wb') as file:
-            file.write(data)
-
-
-def read_all(folder):
-    """The files of a folder and of those in it, but the one that fills a device."""
-    paths = [os.path.join(above, name) for above, _, names in os.walk(folder) for name in names]
-    return {os.path.relpath(path, folder): read(path) for path in paths
-            if not path.endswith('.filler')}
-
-
-class Ended(NamedTuple):
-    """What came of a run; none is the status of one that was killed."""
-    status: object
-    printed: bytes
-    said: bytes
-    files: dict
-
-
-class Break(NamedTuple):
-    """How a run is broken off: after so many seconds, at a call of the system, by the room of its
-    device, or not at all."""
-    seconds: object = None
-    at: int = 0
-    how: int = 0
-    kind: str = 'system'
-    room: object = None
-
-    def __str__(self):
-        if self.seconds is not None:
-            return f'killed after {1000 * self.seconds:.1f} milliseconds'
-        if self.room is not None:
-            return f'with room for {self.room} pages'
-        ways = {-signal.SIGKILL: 'killed before', ONE_BYTE: 'one byte alone at'}
-        how = ways.get(self.how, f'{os.strerror(abs(self.how))} at')
-        what = 'call of the system' if self.kind == 'system' else 'request of memory'
-        return f'{how} {what} {self.at}' if self.at else 'not broken off'
-
-    def environment(self, library):
-        if not self.at:
-            return {}
-        return {'LD_PRELOAD': library, 'FAIL_KIND': self.kind, 'FAIL_AT': str(self.at),
-                'FAIL_HOW': str(self.how)}
-
-
-def call(folder, words, more=None, seconds=None):
-    """Runs the program in a folder, and kills it after so many seconds."""
-    with subprocess.Popen([DESK, *words], cwd=folder, env={**os.environ, **(more or {})},
-                          stdin=subprocess.DEVNULL, stdout=subprocess.PIPE,
-                          stderr=subprocess.PIPE) as started:
-        if seconds is not None:
-            time.sleep(seconds)
-            started.kill()
-        printed, said = started.communicate(timeout=SECONDS)
-    status = started.returncode
-    if status < 0 and status != -signal.SIGKILL:
-        raise Lost(f'it ends by signal {-status}')
-    return None if status < 0 else status, printed, said
-
-
-class Runner:
-    """Runs orders in folders of their own."""
-
-    def __init__(self, folder):
-        self.folder, self.numbers = folder, count()
-        self.library = os.path.join(folder, 'fail_once.so')
-
-    def new_folder(self):
-        return os.path.join(self.folder, str(next(self.numbers)))
-
-    def run(self, words, files, broken=Break()):
-        folder = self.new_folder()
-        os.mkdir(folder)
-        try:
-            if broken.room is None:
-                return self.run_in(folder, words, files, broken)
-            full = Full('folder', '', broken.room)
-            with full.mounted(folder, files):
-                return self.run_in(folder, words, files, broken, full)
-        finally:
-            shutil.rmtree(folder)
-
-    def run_in(self, folder, words, files, broken, full=None):
-        write_all(folder, files)
-        if full:
-            full.fill(folder)
-        ended = call(folder, words, broken.environment(self.library), broken.seconds)
-        return Ended(*ended, read_all(folder))
-
-    def time_of(self, words, files):
-        """How many seconds a run takes that is not broken off."""
-        folder = self.new_folder()
-        write_all(folder, files)
-        begun = time.perf_counter()
-        call(folder, words)
-        took = time.perf_counter() - begun
-        shutil.rmtree(folder)
-        return took
-
-    def calls_of(self, words, files, kind='system'):
-        """How many calls a run makes that is not broken off."""
-        folder = self.new_folder()
-        write_all(folder, files)
-        path = f'{folder}.count'
-        call(folder, words, {'LD_PRELOAD': self.library, 'FAIL_KIND': kind, 'FAIL_AT': '0',
-                             'FAIL_COUNT': path})
-        shutil.rmtree(folder)
-        return int(read(path).split()[0])
-
-
-# ORDERS
-
-class Order:
-    """An order, the files from which it starts, and the states of the archive: what it starts from,
-    and what it leads to."""
-
-    def __init__(self, name, words, files, start, goal):
-        self.name, self.words, self.files = name, words, files
-        self.start, self.goal = start, goal
-        self.wanted, self.verdicts = None, {}
-
-    def line(self):
-        return ' '.join(['tunes-desk', *self.words])
-
-    def judge(self, runner, ended, broken):
-        """What a run came to: a word that is counted. `Lost` where something is lost or wrong."""
-        statuses = STATUSES if broken.at else (None, DONE, REFUSED)
-        if ended.status not in statuses:
-            raise Lost(f'its status is {ended.status}: {told(ended)}')
-        is_told = ended.said.startswith(b'tunes-book: ')
-        if broken.room is not None and ended.status != DONE and not is_told:
-            raise Lost('it fails without a word')
-        is_short = broken.at and broken.how == ONE_BYTE
-        if is_short and (ended.status, ended.printed) != (DONE, self.wanted.printed):
-            raise Lost(f'one byte alone was seen: {told(ended)}')
-        key = ended.status == DONE, digest(ended.files)
-        if key not in self.verdicts:
-            self.verdicts[key] = self.outcome(runner, ended)
-        return self.verdicts[key]
-
-    def outcome(self, runner, ended):
-        raise NotImplementedError
-
-    def spares(self, files, *own):
-        """Other files are as they were, and none is new but what a broken run left as *.new."""
-        for name in {**self.files, **files}:
-            left = name.endswith('.new') and name not in self.files
-            if name not in own and not left and self.files.get(name) != files.get(name):
-                raise Lost(f'the file {name} is not as it was')
-
-
-def digest(files):
-    told_files = hashlib.sha256()
-    for name, data in sorted(files.items()):
-        told_files.update(b'%b %d\n' % (name.encode(), len(data)))
-        told_files.update(data)
-    return told_files.hexdigest()
-
-
-def told(ended):
-    return ' '.join((ended.printed + ended.said).decode(errors='replace').split())[-300:]
-
-
-class Change(Order):
-    """An order that `undo` takes back, or `undo` itself. The states of `way` follow one another
-    where `undo` is called again and again."""
-
-    def __init__(self, name, words, files, start, goal, way):
-        super().__init__(name, words, files, start, goal)
-        self.way = way
-
-    def outcome(self, runner, ended):
-        self.spares(ended.files, FILE, OLD)
-        if not ended.files.get(OLD, b'').startswith(self.files.get(OLD, b'')):
-            raise Lost(f'what stood in {OLD} is another')
-        now = contents_of(ended.files.get(FILE))
-        if ended.status == DONE and now != self.goal:
-            raise Lost(f'it ended as done, and there are {difference(now, self.goal)}')
-        keeps_texts(self.start, now, ended.files)
-        files = opened(runner, ended.files, now)
-        files = self.goes_back(runner, files, now)
-        self.goes_on(runner, files)
-        if now == self.goal:
-            return 'after'
-        return 'before' if now == self.start else 'finished by undo'
-
-    def goes_back(self, runner, files, now):
-        """Goes the way of `undo` to its end, and gives the files that are there. A mark that is
-        missing may take a step more."""
-        spare = 1
-        while True:
-            ended = runner.run(['-f', FILE, 'undo'], files)
-            after = contents_of(ended.files.get(FILE))
-            keeps_texts(now, after, ended.files)
-            if ended.status != DONE:
-                if not NOTHING_LEFT.search(ended.said) or now != self.way[-1] or after != now:
-                    raise Lost(f'`undo` is refused, where there are '
-                               f'{difference(now, self.way[-1])}: {told(ended)}')
-                return ended.files
-            steps = self.steps(now, after)
-            spare -= steps == 0
-            if steps not in (0, 1) or spare < 0:
-                raise Lost(f'`undo` goes {steps} steps: {told(ended)}')
-            files, now = ended.files, after
-
-    def goes_on(self, runner, files):
-        """A change, and what undoes it, go through behind all this."""
-        for line in 'delete 245 246', 'undo':
-            ended = runner.run(words_of(line), files)
-            if ended.status != DONE:
-                raise Lost(f'`{line}` behind it is refused: {told(ended)}')
-            files = ended.files
-        now = contents_of(files.get(FILE))
-        if now != self.way[-1]:
-            raise Lost(f'a change and `undo` behind it leave {difference(now, self.way[-1])}')
-
-    def steps(self, now, after):
-        """How many steps of the way lie between two states; the first may be between two."""
-        if after not in self.way:
-            raise Lost(f'`undo` leaves what never was: {difference(after, self.way[1])}')
-        if now in self.way:
-            return self.way.index(after) - self.way.index(now)
-        return min(1, self.way.index(after))
-
-
-def keeps_texts(was, now, files):
-    """A text that goes out of the archive stands whole in the book of old texts."""
-    there, old = set(now.texts.values()), files.get(OLD, b'')
-    for number, text in was.texts.items():
-        if text not in there and b'X:%d\n%b\n' % (number, text) not in old:
-            raise Lost(f'the text of tune {number} is lost')
-
-
-def opened(runner, files, now, name=FILE):
-    """The files behind an opening, which changes nothing that the archive holds."""
-    ended = runner.run(['-f', name, 'check'], files)
-    if ended.status != DONE:
-        raise Lost(f'it does not open: {told(ended)}')
-    after = contents_of(ended.files.get(name))
-    if after != now:
-        raise Lost(f'behind an opening there are {difference(after, now)}')
-    return ended.files
-
-
-class Making(Order):
-    """An order that makes an archive where nothing stands. One that is made empty has no tune to
-    lose, and may be left as no archive."""
-
-    def outcome(self, runner, ended):
-        self.spares(ended.files, FILE)
-        try:
-            now = contents_of(ended.files.get(FILE))
-        except Lost:
-            if ended.status == DONE or self.goal.texts and FILE in ended.files:
-                raise
-            self.makes_again(runner, ended.files)
-            return 'before'
-        if now != self.goal:
-            raise Lost(f'there are {difference(now, self.goal)}')
-        opened(runner, ended.files, now)
-        return 'after'
-
-    def makes_again(self, runner, files):
-        """Without what is left of it, it goes through."""
-        rest = {name: data for name, data in files.items() if name in self.files}
-        ended = runner.run(self.words, rest)
-        if ended.status != DONE or contents_of(ended.files.get(FILE)) != self.goal:
-            raise Lost(f'it is refused where there is room again: {told(ended)}')
-
-
-class Restoring(Order):
-    """The copy in the place of the archive, which keeps a name."""
-
-    def outcome(self, runner, ended):
-        if ended.files.get(COPY) != self.files[COPY]:
-            raise Lost('the copy is not as it was')
-        now = contents_of(ended.files.get(FILE))
-        if now not in (self.start, self.goal) or ended.status == DONE and now != self.goal:
-            raise Lost(f'there are {difference(now, self.goal)}')
-        kept = [name for name, data in ended.files.items()
-                if data == self.files[FILE] and not name.endswith('.new')]
-        if not kept:
-            raise Lost('the archive that was there is lost')
-        opened(runner, ended.files, now)
-        return 'after' if now == self.goal else 'before'
-
-
-# STARTS
-
-def plain(texts):
-    return [text.encode() for text in texts]
-
-
-TEXTS = plain(texts_of(300, 7))
-LOADED = plain(texts_of(40, 14))
+TEXTS = [text.encode() for text in texts_of(40, 7)]
+OTHERS = [text.encode() for text in texts_of(40, 14)]
 MINE = b'T:Mine\nR:jig\nK:G\nGAB cde|\n'
-LONG = [1 + place * 7 % 240 for place in range(180)]
-SETS = {'long': LONG, 'none': [], 'short': [3, 1, 3], 'some': list(range(20, 60))}
-TWELVE = [5, 6, 5, 200, 201, 202, 7, 8, 9, 10, 11, 5]
+# Almost as long as a text may be.
+LONG_TEXT = b'T:Long\nR:jig\nK:G\n' + b'GAB cde|gfe dcB|\n' * 3500
+LARGE = [b'T:Large %d\nR:reel\nK:D\n' % number + b'DFA dfa|gfe dcB|\n' * 3500
+         for number in range(70)]
+NO_KEY = b'T:Without a key\nR:jig\n'
+# Directives that stand between tunes.
+BETWEEN = b'%%stretchlast 1\n', b'%%scale 0.8\n'
+ONE, TWO, THREE = ((b'T:%b\nM:4/4\n' % name, b'K:D\nDFA dfa|\n')
+                        for name in (b'First', b'Second', b'Third'))
+CARRIED = [b''.join(ONE), BETWEEN[0].join(TWO), b''.join(BETWEEN).join(THREE)]
+CARRYING = (b'X:1\n%b%b\n%b\nX:2\n%b%b\n%b\nX:3\n%b%b'
+            % (*ONE, BETWEEN[0], *TWO, BETWEEN[1], *THREE))
 
+BOOKS = {
+    'mine.abc': book_of([MINE]), 'long.abc': book_of([LONG_TEXT]), 'three.abc': book_of(OTHERS[:3]),
+    'books/a.abc': book_of(OTHERS[3:5]), 'books/b.ABC': book_of(OTHERS[5:6]),
+    'books/c/d.abc': book_of(OTHERS[6:8]), 'books/notes.txt': b'no book\n',
+    'known.abc': book_of([TEXTS[4], OTHERS[8], TEXTS[10], OTHERS[8], OTHERS[9]]),
+    'some-bad.abc': book_of([OTHERS[10], NO_KEY, OTHERS[11]]), 'carrying.abc': CARRYING,
+    'two.abc': book_of(OTHERS[:2]), 'lost.abc': book_of([MINE]) + b'\nW:below an empty line\n',
+}
+LARGE_BOOK = {'large.abc': book_of(LARGE)}
 
-def book_of(texts):
-    return b''.join(b'X:1\n%b\n' % text for text in texts)
-
-
-BOOKS = {'mine.abc': b'X:1\n' + MINE}
-
-
-def script_of(contents):
-    """The script that makes an archive."""
-    book = book_of(text for _, text in sorted(contents.texts.items()))
-    lists = [f'set-new {name}\n' + ''.join(f'set-add {name} {number}\n' for number in numbers)
-             for name, numbers in contents.sets.items()]
-    return b'import %d\n%b' % (len(book), book) + ''.join(lists).encode()
-
-
-def made(folder, contents):
-    """An archive that `tunes` makes."""
-    path = os.path.join(folder, 'made')
-    subprocess.run([PROGRAM, 'make', path], stdout=subprocess.DEVNULL, check=True)
-    ended = subprocess.run([PROGRAM, 'run', path], input=script_of(contents), check=True,
-                           stdout=subprocess.PIPE)
-    assert b'\nrefused' not in ended.stdout
-    data = read(path)
-    os.remove(path)
-    assert contents_of(data) == contents
-    return data
+LOADED = Contents(2, dict(enumerate(OTHERS, 1)), {'friday': [3, 1, 30]})
+LONG = [1 + place * 7 % 30 for place in range(180)]
+SETS = {'long': LONG, 'none': [], 'short': [3, 1, 3], 'some': list(range(10, 30))}
+TWELVE = [5, 6, 5, 28, 29, 30, 7, 8, 9, 10, 11, 5]
+GOOD_SCRIPT = {'good.script': script_of(LOADED)}
+START = Contents(2, dict(enumerate(TEXTS, 1)), SETS)
 
 
 def cut(numbers, *places):
@@ -481,53 +109,230 @@ def moved(numbers, place, to):
     return rest[:to - 1] + [numbers[place - 1]] + rest[to - 1:]
 
 
-def words_of(line):
-    return ['-f', FILE, *line.split()]
+# CASES
+
+class Case(NamedTuple):
+    """An order: its words, what it makes of what was there, and what else it gets."""
+    line: str
+    meaning: object
+    text: bytes = b''
+    books: dict = BOOKS
+    status: int = DONE
+
+
+def adds(line, texts, **more):
+    return Case(f'add {line}', lambda was: was.and_then(texts), **more)
+
+
+def replaces(line, number, by, **more):
+    return Case(f'replace {line}', lambda was: was.with_text(number, by), **more)
 
 
 # What each change means.
 CHANGES = {
-    'delete of three': ('delete 251 299 260', lambda was: was.without(251, 299, 260)),
-    'delete of the last': ('delete 300', lambda was: was.without(300)),
-    'put of twelve': (f'put short {" ".join(map(str, TWELVE))}',
-                      lambda was: was.with_set('short', was.sets['short'] + TWELVE)),
-    'put, a new list': (f'put new {" ".join(map(str, TWELVE))}',
-                        lambda was: was.with_set('new', TWELVE)),
-    'cut': ('cut long 90', lambda was: was.with_set('long', cut(LONG, 90))),
-    'cut of three': ('cut long 170 3 90', lambda was: was.with_set('long', cut(LONG, 3, 90, 170))),
-    'move in a list of 180': ('move long 2 179',
-                              lambda was: was.with_set('long', moved(LONG, 2, 179))),
-    'drop': ('drop long', lambda was: was.without_set('long')),
+    'delete of three': Case('delete 31 39 35', lambda was: was.without(31, 39, 35)),
+    'delete of the last': Case('delete 40', lambda was: was.without(40)),
+    'put of twelve': Case(f'put short {" ".join(map(str, TWELVE))}',
+                          lambda was: was.with_set('short', was.sets['short'] + TWELVE)),
+    'put, a new list': Case(f'put new {" ".join(map(str, TWELVE))}',
+                            lambda was: was.with_set('new', TWELVE)),
+    'cut': Case('cut long 90', lambda was: was.with_set('long', cut(LONG, 90))),
+    'cut of three': Case('cut long 170 3 90',
+                         lambda was: was.with_set('long', cut(LONG, 3, 90, 170))),
+    'move in a list of 180': Case('move long 2 179',
+                                  lambda was: was.with_set('long', moved(LONG, 2, 179))),
+    'drop': Case('drop long', lambda was: was.without_set('long')),
+    'replace': replaces('7 mine.abc', 7, MINE),
+    'replace by a revision': replaces('32 long.abc --revision 1', 32, LONG_TEXT),
+    'replace from standard input': replaces('7 -', 7, OTHERS[30], text=book_of(OTHERS[30:31])),
+    'add of a file': adds('three.abc', OTHERS[:3]),
+    'add of a folder': adds('books', OTHERS[3:8]),
+    'add of several': adds('mine.abc books three.abc', [MINE, *OTHERS[3:8], *OTHERS[:3]]),
+    'add from standard input': adds('mine.abc -', [MINE, *OTHERS[20:23]],
+                                    text=book_of(OTHERS[20:23])),
+    'add --new': adds('--new known.abc', OTHERS[8:10]),
+    'add --new of two books': adds('--new known.abc three.abc known.abc',
+                                   OTHERS[8:10] + OTHERS[:3]),
+    'add --good': adds('--good some-bad.abc', OTHERS[10:12]),
+    'add --carry': adds('--carry carrying.abc', CARRIED),
+    'add, a book refused': adds('mine.abc some-bad.abc three.abc', [MINE, *OTHERS[:3]],
+                                status=REFUSED),
+    'add --split': adds('--split large.abc', LARGE, books=LARGE_BOOK),
+}
+
+# Those that are tried in an archive that was never changed, too: they make its book of old texts.
+FIRST_OF_ALL = ['delete of the last', 'put, a new list', 'add of a file']
+
+# Several changes, which one `undo` takes back.
+SEVERAL = {
+    'undo of two changes': ['put of twelve', 'delete of three'],
+    'undo of five changes': ['add of several', 'replace', 'put of twelve', 'move in a list of 180',
+                             'delete of three'],
+    'undo of two replaces': ['replace', 'replace from standard input'],
+    'undo of an add under an old number': ['delete of the last', 'add of a file'],
+    'undo of lists': ['put of twelve', 'drop', 'put, a new list'],
+}
+
+# Orders that are refused, or have nothing to do, and the statuses that they may have.
+UNCHANGED = [
+    ('replace 7 mine.abc --revision 2', [1]), ('replace 37 mine.abc', [1]),
+    ('replace 7 two.abc', [1]), ('replace 7 lost.abc', [1]), ('replace 7 absent.abc', [1, 2]),
+    ('replace 7 books', [1, 2]), ('replace 7 tunes.abcx', [1, 2]),
+    ('delete 31 3', [1]), ('delete 31 37', [1]), ('put short 5 37', [1]),
+    ('put bad/name 1', [1, 2]), (f'put long {" ".join(["5"] * 21)}', [1]), ('cut short 1 9', [1]),
+    ('move short 1 9', [1]), ('drop absent', [1]), ('add some-bad.abc', [1]),
+    ('add absent.abc three.abc', [1, 2]), ('add --new --split three.abc', [2]),
+    ('add tunes.abcx', [1, 2]), ('add tunes.abcx.old.abc', [1, 2]), ('add --dry three.abc', [0]),
+    ('add --dry --new known.abc', [0]), ('add --new same.abc', [0]), ('undo --list', [0]),
+    ('new', [1, 3]), ('load good.script', [1, 3]), ('upgrade', [0]), ('check', [0]),
+    ('backup tunes.abcx', [1, 2]), ('restore tunes.abcx', [1, 2]), ('restore mine.abc', [1, 3]),
+    ('restore absent.abcx', [1, 2, 3]), ('restore damaged.abcx', [1, 3]),
+    ('restore summed.abcx', [1, 3]), ('check summed.abcx', [1, 3]), ('check damaged.abcx', [3]),
+    ('check mine.abc', [3]), ('check absent.abcx', [1, 2, 3]),
+    ('backup --keep 0 copy.abcx', [2]),
+]
+
+
+# Orders that run two at once: a line, and what it makes of what was there, or how many changes it
+# takes back, or none where it changes nothing.
+PAIRED = {
+    'delete': ('delete 31 39', lambda was: was.without(31, 39)),
+    'put': ('put short 5 6', lambda was: was.with_set('short', was.sets['short'] + [5, 6])),
+    'move': ('move long 2 179', CHANGES['move in a list of 180'].meaning),
+    'drop': ('drop none', lambda was: was.without_set('none')),
+    'replace': ('replace 7 mine.abc', CHANGES['replace'].meaning),
+    'add': ('add three.abc', CHANGES['add of a file'].meaning),
+    'add of one': ('add mine.abc', lambda was: was.and_then([MINE])),
+    'undo': ('undo', 1), 'undo of two': ('undo --to 2', 2), 'export': ('export -', None),
+    'backup': (f'backup {COPY}', None),
+    'restore': ('restore other.abcx', lambda was: LOADED),
 }
 
 
-def changes_in(runner, base):
+# STARTS
+
+def run_script(data, script):
+    """The archive that `tunes` makes of one by a script; of none, where it has no bytes."""
+    with tempfile.TemporaryDirectory() as folder:
+        path = os.path.join(folder, 'archive')
+        if data:
+            write_all(folder, {'archive': data})
+        else:
+            subprocess.run([PROGRAM, 'make', path], stdout=subprocess.DEVNULL, check=True)
+        ended = subprocess.run([PROGRAM, 'run', path], input=script, check=True,
+                               stdout=subprocess.PIPE)
+        assert b'\nrefused' not in ended.stdout
+        return read(path)
+
+
+def made(contents):
+    """An archive that ends with its pages, so that each change makes it longer."""
+    data = without_log(run_script(b'', script_of(contents)))
+    assert contents_of(data) == contents
+    return data
+
+
+class Starts:
+    """The archives from which orders start."""
+
+    def __init__(self, runner):
+        self.runner, self.base = runner, made(START)
+        # A tune was deleted before.
+        self.begun, self.start = self.changed(self.base, START)
+        self.small = made(LOADED)
+
+    def changed(self, data, contents, books=None):
+        ended = self.runner.run(words_of('delete 37'), {FILE: data, **(books or {})})
+        now = contents.without(37)
+        assert ended.status == DONE and contents_of(ended.files[FILE]) == now, told(ended)
+        return ended.files, now
+
+    def with_books(self, books):
+        return {**self.begun, **books}
+
+
+class LeftOut(NamedTuple):
+    """An order that the program does not carry out yet."""
+    name: str
+
+
+def firsts_in(starts):
+    """The first changes of an archive."""
+    for name in FIRST_OF_ALL:
+        case = CHANGES[name]
+        yield Change(f'{name}, the first of all', case.line, {FILE: starts.base, **case.books},
+                     [case.meaning(START), START])
+
+
+def changes_in(starts):
     """Each change of an archive from which a tune was deleted before, and what undoes it."""
-    first = Contents(2, dict(enumerate(TEXTS, 1)), SETS)
-    begun = runner.run(words_of('delete 270'), {FILE: base, **BOOKS})
-    start = first.without(270)
-    assert begun.status == DONE and contents_of(begun.files[FILE]) == start, told(begun)
-    for name, (line, meaning) in CHANGES.items():
-        goal = meaning(start)
-        way = [goal, start, first]
-        order = Change(name, words_of(line), begun.files, start, goal, way)
+    for name, case in CHANGES.items():
+        goal = case.meaning(starts.start)
+        way = [goal, starts.start, START]
+        order = Change(name, case.line, starts.with_books(case.books), way, text=case.text,
+                       status=case.status)
+        ended = starts.runner.run(order.words, order.files, given=order.text)
+        if is_not_yet(ended):
+            yield LeftOut(name)
+            continue
         yield order
-        ended = runner.run(order.words, order.files)
-        if ended.status == DONE:
-            yield Change(f'undo of {name}', words_of('undo'), ended.files, goal, start, way)
-        if ended.status == DONE and name == 'put of twelve':
-            yield Change('undo of two changes', words_of('undo --to 2'), ended.files, goal, first,
-                         way)
+        if ended.status == case.status:
+            yield Undoing(f'undo of {name}', 'undo', ended.files, way, start=goal,
+                          goal=starts.start)
 
 
-def others_in(folder, base):
-    """The orders that make an archive, or put a copy in its place."""
-    first = Contents(2, dict(enumerate(TEXTS, 1)), SETS)
-    yield Making('new', words_of('new'), {}, None, Contents(2, {}, {}))
-    loaded = Contents(2, dict(enumerate(LOADED, 1)), {'friday': [3, 1, 40]})
-    small = made(folder, loaded)
-    yield Restoring('restore', words_of(f'restore {COPY}'), {FILE: base, COPY: small}, first,
-                    loaded)
+def several_in(starts):
+    """Undos of several changes."""
+    for name, parts in SEVERAL.items():
+        files, way, is_done = starts.with_books(BOOKS), [starts.start, START], True
+        for part in parts:
+            case = CHANGES[part]
+            ended = starts.runner.run(words_of(case.line), files, given=case.text)
+            way.insert(0, case.meaning(way[0]))
+            files = ended.files
+            is_done = is_done and ended.status == DONE
+        if is_done:
+            yield Undoing(name, f'undo --to {len(parts)}', files, way, start=way[0],
+                          goal=starts.start)
+        else:
+            yield LeftOut(name)
+
+
+def makings_in(starts):
+    """The orders that make an archive, put a copy in its place, or bring it to a layout."""
+    yield Making('new', 'new', {}, None, Contents(2, {}, {}))
+    yield Loading('load', 'load good.script', GOOD_SCRIPT, None, LOADED)
+    yield Loading('load from standard input', 'load -', {}, None, LOADED, text=script_of(LOADED))
+    both = {FILE: starts.base, COPY: starts.small}
+    yield Restoring('restore', f'restore {COPY}', both, START, LOADED)
+    summed = {**both, f'{COPY}.sha256': sum_line(COPY, starts.small)}
+    yield Restoring('restore of a copy with its sum', f'restore {COPY}', summed, START, LOADED)
+    first = START._replace(layout=1)
+    old = run_script(kept('layout-1-empty'), script_of(first))
+    files, start = starts.changed(old, first)
+    yield Upgrading('upgrade', 'upgrade', files, [start._replace(layout=2), first], start=start)
+
+
+def copies_in(starts):
+    """The orders that make copies, or look at one."""
+    base, start = starts.begun, starts.start
+    yield Backing('backup', f'backup {COPY}', base, start)
+    first = {COPY: starts.small, f'{COPY}.sha256': sum_line(COPY, starts.small)}
+    yield Backing('backup of the same name', f'backup {COPY}', {**base, **first}, start)
+    older = {name: starts.small for name in (COPY, f'{COPY}.1', f'{COPY}.2', f'{COPY}.4')}
+    sums = {f'{name}.sha256': sum_line(name, data) for name, data in older.items()}
+    theirs = {f'{COPY}.3': b'notes\n', f'{COPY}.10.abc': b'X:1\n', f'{COPY}.old': b'mine\n'}
+    yield Backing('backup --keep 2', f'backup --keep 2 {COPY}',
+                  {**base, **older, **sums, **theirs}, start, keep=2)
+    yield Asking('check of a copy', f'check {COPY}', {**base, **first}, start, start)
+
+
+def orders_in(starts):
+    yield from changes_in(starts)
+    yield from several_in(starts)
+    for order in (*firsts_in(starts), *makings_in(starts), *copies_in(starts)):
+        is_out = is_not_yet(starts.runner.run(order.words, order.files, given=order.text))
+        yield LeftOut(order.name) if is_out else order
 
 
 # WAYS TO BREAK OFF
@@ -540,18 +345,18 @@ def spread(most, few):
 
 
 def killed(runner, order, kills):
-    took = max(runner.time_of(order.words, order.files) for _ in range(3))
+    took = max(runner.time_of(order.given()) for _ in range(3))
     return [Break(seconds=1.05 * took * place / kills) for place in range(kills)]
 
 
 def at_calls(runner, order, options):
     """Each call, with a kill before it, and with each error; or some calls, and one for each."""
-    calls = runner.calls_of(order.words, order.files)
+    calls = runner.calls_of(order.given())
     hows = [*ERRORS, ONE_BYTE]
     if options.full:
         numbers = range(1, calls + 1)
         broken = [Break(at=at, how=how) for at in numbers for how in hows]
-        requests = runner.calls_of(order.words, order.files, 'memory')
+        requests = runner.calls_of(order.given(), 'memory')
         broken += [Break(at=at, how=1, kind='memory') for at in spread(requests, KILLS)]
     else:
         numbers = spread(calls, FEW_CALLS)
@@ -568,15 +373,15 @@ class Tried:
     def put(self, way, broken, outcome, ended):
         self.counts[way] += 1
         if isinstance(outcome, Lost):
-            kept = keep(self.order, ended) if len(self.wrong) < MOST_KEPT else ''
-            self.wrong.append(f'{broken}: {outcome}{kept}')
+            is_few = len(self.wrong) < MOST_KEPT
+            self.wrong.append(f'{broken}: {outcome}{keep(self.order, ended) if is_few else ""}')
         else:
             self.outcomes[outcome] += 1
 
     def __str__(self):
         ways = ', '.join(f'{number} {way}' for way, number in self.counts.items())
         outcomes = ', '.join(f'{self.outcomes[each]} {each}'
-                             for each in ('before', 'after', 'finished by undo')
+                             for each in ('before', 'after', 'in part', 'finished by undo')
                              if self.outcomes[each])
         told_wrong = f'; {len(self.wrong)} failed: ' + '; '.join(self.wrong[:MOST_KEPT])
         return (f'{"FAILED" if self.wrong else "ok":7} {self.order.name}: {ways}: {outcomes}'
@@ -597,7 +402,7 @@ def one_break(runner, order, broken):
     """What a run that is broken off so comes to, or what is lost, and the run."""
     ended = None
     try:
-        ended = runner.run(order.words, order.files, broken)
+        ended = runner.run(order.words, order.files, broken, order.text)
         return order.judge(runner, ended, broken), ended
     except Lost as lost:
         return lost, ended
@@ -607,19 +412,45 @@ def try_sizes(runner, order, tried, options):
     """The order with each room of its device, up to where it goes as it does without a bound."""
     row = 0
     for room in rooms_one_by_one(options.full):
+        if not options.full and room > 2 and room % 2:
+            continue
         outcome, ended = one_break(runner, order, Break(room=room))
         tried.put('sizes of its device', Break(room=room), outcome, ended)
-        done = ended is not None and ended.status == DONE
+        # An order that is refused anyway says the same then as without a bound.
+        done = ended is not None and (ended.status, ended.printed) == (
+            order.status, order.wanted.printed)
         row = row + 1 if done else 0
         if row == ENOUGH or room > MOST_PAGES:
             return
 
 
+def try_power(runner, order, tried, options):
+    """The order with a power cut behind each call that changes files or keeps them, or some."""
+    broken = Break(power='the power goes')
+    try:
+        ended, calls = runner.noted_calls(order.given())
+        if order.keeps_first:
+            keeps_first(calls, order.files)
+        for broken, left in power_cuts(ended, calls, order.files, lambda most: range(1, most + 1)
+                                       if options.full else spread(most, FEW_CUTS)):
+            tried.put('power cuts', broken, *judged(runner, order, left, broken))
+    except Lost as lost:
+        tried.put('power cuts', broken, lost, None)
+
+
+def judged(runner, order, ended, broken):
+    try:
+        return order.judge(runner, ended, broken), ended
+    except Lost as lost:
+        return lost, ended
+
+
 def try_order(runner, order, options, pool):
     tried = Tried(order)
     outcome, order.wanted = one_break(runner, order, Break())
-    if outcome != 'after':
-        tried.put('not broken off', Break(), Lost(f'{outcome}: {told(order.wanted)}'), order.wanted)
+    if outcome != 'after' or order.wanted.status != order.status:
+        why = f'{outcome}, status {order.wanted.status}: {told(order.wanted)}'
+        tried.put('not broken off', Break(), Lost(why), order.wanted)
         return tried
     by_call, faults = at_calls(runner, order, options) if options.library else ([], [])
     for way, all_broken in (('kills', killed(runner, order, options.kills)),
@@ -627,26 +458,79 @@ def try_order(runner, order, options, pool):
         for broken, (outcome, ended) in zip(all_broken, pool.map(
                 lambda broken: one_break(runner, order, broken), all_broken)):
             tried.put(way, broken, outcome, ended)
+    if options.library:
+        try_power(runner, order, tried, options)
     if options.devices:
         try_sizes(runner, order, tried, options)
     return tried
 
 
+def try_unchanged(starts):
+    """Orders that change nothing: a line for all, and how many failed."""
+    damaged = starts.small[:5000] + b'\1' + starts.small[5001:-4096]
+    files = starts.with_books({
+        **BOOKS, **GOOD_SCRIPT, 'damaged.abcx': damaged,
+        'summed.abcx': starts.small, 'summed.abcx.sha256': sum_line('summed.abcx', damaged),
+        'same.abc': book_of([TEXTS[6]])})
+    wrong, count = [], 0
+    for line, statuses in UNCHANGED:
+        ended = starts.runner.run(words_of(line), files)
+        if is_not_yet(ended):
+            continue
+        count += 1
+        if ended.status not in statuses:
+            wrong.append(f'`{line}` ends with {ended.status}: {told(ended)}')
+        others = [name for name in {**files, **ended.files}
+                  if files.get(name) != ended.files.get(name)]
+        if others:
+            wrong.append(f'`{line}` changes {" ".join(others)}: {told(ended)}')
+    return told_line('orders that change nothing', count, wrong)
+
+
+def try_beside(starts, options, pool):
+    """Orders beside one another, and in other places."""
+    runner, start = starts.runner, starts.start
+    files, failures = {**starts.with_books(BOOKS), 'other.abcx': starts.small}, 0
+    if options.library:
+        cut_one = runner.run(words_of('cut some 1'), files)
+        states = [start.with_set('some', SETS['some'][1:]), start, START]
+        few = FEW_STOPS if not options.full else KILLS
+        failures += try_pairs(
+            Beside(runner, cut_one.files, states, PAIRED), pool,
+            lambda line: spread(runner.calls_of(Given(words_of(line), cut_one.files)), few))
+        goals = {'new': ('new', Contents(2, {}, {})), 'load': ('load good.script', LOADED)}
+        calls = spread(runner.calls_of(Given(words_of('new'), {})), few)
+        wrong = [each for at in calls for each in try_makings(runner, GOOD_SCRIPT, goals, at)]
+        failures += told_line('two that make an archive', len(calls) * len(MAKINGS), wrong)
+    failures += told_line('eight at once', 16, try_eight(runner, starts.begun, start))
+    with_others = {**files, **GOOD_SCRIPT}
+    with_others.pop(OLD)
+    first = START.without(37)
+    states = {'': first, 'delete': first.without(31),
+              'put': first.with_set('short', SETS['short'] + [5, 6])}
+    full = Contents(2, dict(enumerate(OTHERS[:5], 1)), {})
+    return failures + try_places(runner, with_others, states, (full, made(full)), pool)
+
+
 def try_all(folder, options):
     runner = Runner(folder)
     if options.library:
-        subprocess.run(['cc', '-O2', '-shared', '-fPIC', '-o', runner.library, LIBRARY],
-                       check=True)
-    first = Contents(2, dict(enumerate(TEXTS, 1)), SETS)
-    base = made(folder, first)
-    orders = [*changes_in(runner, base), *others_in(folder, base)]
-    chosen = [order for order in orders if not options.order or order.name in options.order]
+        runner.build_library()
+    starts = Starts(runner)
+    orders = [order for order in orders_in(starts)
+              if not options.order or order.name in options.order]
+    left_out = [order.name for order in orders if isinstance(order, LeftOut)]
+    chosen = [order for order in orders if not isinstance(order, LeftOut)]
     failures, outcomes = 0, Counter()
-    with ThreadPoolExecutor(os.cpu_count()) as pool, ThreadPoolExecutor(3) as side:
+    with ThreadPoolExecutor(options.jobs) as pool, ThreadPoolExecutor(options.jobs) as side:
         for tried in side.map(lambda order: try_order(runner, order, options, pool), chosen):
             print(tried, flush=True)
             failures += len(tried.wrong)
             outcomes += tried.outcomes
+        if not options.order:
+            failures += try_unchanged(starts) + try_beside(starts, options, pool)
+    if left_out:
+        print(f'left out, since the program does not carry them out yet: {", ".join(left_out)}')
     print(f'{sum(outcomes.values())} runs were broken off: '
           + ', '.join(f'{number} {each}' for each, number in outcomes.items())
           + f'; {failures} failed')
@@ -657,6 +541,7 @@ def options_of():
     parser = argparse.ArgumentParser(usage=__doc__.split('\n', maxsplit=1)[0][len('Usage: '):])
     parser.add_argument('--full', action='store_true')
     parser.add_argument('--kills', type=int)
+    parser.add_argument('--jobs', type=int, default=os.cpu_count())
     parser.add_argument('order', nargs='*')
     options = parser.parse_args()
     options.kills = options.kills or (KILLS if options.full else FEW_KILLS)

@@ -81,7 +81,7 @@ awk '/^```/ && inside { exit }
     inside
     found && /^```/ { inside = 1 }
     { found = $0 == "<!-- recipe: first -->" }' "$doc/README.md" |
-    sed "s|\./tunes-book|tunes-book|g; s|examples/|$doc/examples/|g" > first
+    sed "s|\./tunes-book|tunes-book|g; s|add examples|add $doc/examples|" > first
 wanted="$doc/examples/session.abc: tunes 1 to 15"
 prints sh ./first
 wanted='1 Kesh Jig, The'

@@ -1,9 +1,13 @@
 // A library that is loaded before the C library, so that one call of a program fails. By the
 // variables FAIL_KIND (`system`: calls of the system, or `memory`: those that take memory),
 // FAIL_AT (which call, from 1 on; 0 for none), FAIL_HOW (the number of the error; or 0 where a
-// call that moves bytes is to move one; or below 0 the number of the signal that ends the program
-// before the call) and FAIL_COUNT (a file that gets, at the end of the program, how many such calls
-// it made, a space, and 1 where one of them failed or was short).
+// call that moves bytes is to move one; or below 0 the number of a signal that the program gets
+// before the call: it ends there, or is stopped until it is told to go on) and FAIL_COUNT (a file
+// that gets, at the end of the program, how many such calls it made, a space, and 1 where one of
+// them failed or was short).
+// The file of FAIL_LOG gets each call that changes files or keeps them, once it went well: its
+// name, its file, an offset and how many bytes, with spaces; a tab, a path, a tab, another path, a
+// line feed, and so many bytes.
 // Of the kind `lock` none fails, but before each of the first FAIL_AT locks the files of the paths
 // FAIL_PATH and FAIL_OTHER change names, or the first is removed where there is no second.
 #define _GNU_SOURCE
@@ -26,12 +30,40 @@ extern void *__libc_realloc(void *, size_t);
 extern void *__libc_memalign(size_t, size_t);
 
 static long fail_at, how, count, failed;
-static int memory, locks;
+static int memory, locks, log_file = -1;
 
 static int is_at(void) {
     if (++count != fail_at) return 0;
-    if (how < 0) kill(getpid(), (int)-how);
-    return failed = 1;
+    failed = 1;
+    if (how < 0) { kill(getpid(), (int)-how); return 0; }
+    return 1;
+}
+
+static long noted(long result, const char *name, long file, long offset, const void *bytes,
+                  const char *path, const char *other) {
+    char line[9000];
+    long size = bytes ? result : 0;
+    if (log_file < 0 || result < 0) return result;
+    int length = snprintf(line, sizeof line, "%s %ld %ld %ld\t%s\t%s\n", name, file, offset, size,
+                          path, other);
+    if (length >= (int)sizeof line || syscall(SYS_write, log_file, line, length) != length) abort();
+    if (size && syscall(SYS_write, log_file, bytes, size) != size) abort();
+    return result;
+}
+static long opened(long result, const char *path, int flags) {
+    // Its offset tells whether the file may be made here, by 1, and whether it is emptied, by 2.
+    long made = (flags & O_CREAT ? 1 : 0) + (flags & O_TRUNC ? 2 : 0);
+    return noted(result, "open", result, made, NULL, path, "");
+}
+static long kept(long result, int file) {
+    return noted(result, "sync", file, 0, NULL, "", "");
+}
+static long cut(long result, int file, off_t length) {
+    return noted(result, "cut", file, length, NULL, "", "");
+}
+static long written(long result, int file, const void *bytes) {
+    off_t end = log_file < 0 ? 0 : syscall(SYS_lseek, file, 0, SEEK_CUR);
+    return noted(result, "write", file, end - result, bytes, "", "");
 }
 
 // What is called before this is not the program's.
@@ -42,6 +74,8 @@ __attribute__((constructor)) static void begin(void) {
     how = error ? atol(error) : 0;
     count = failed = 0;
     fail_at = at ? atol(at) : 0;
+    const char *log = getenv("FAIL_LOG");
+    if (log) log_file = (int)syscall(SYS_open, log, O_WRONLY | O_CREAT | O_TRUNC, 0600);
 }
 
 __attribute__((destructor)) static void end(void) {
@@ -55,44 +89,46 @@ __attribute__((destructor)) static void end(void) {
 }
 
 // A call that moves no bytes cannot be short.
-#define CALL(...)                                                     \
+#define CALL(call)                                                    \
     do {                                                              \
         if (!memory && !locks && is_at()) {                           \
             if (how) { errno = (int)how; return -1; }                 \
             failed = 0;                                               \
         }                                                             \
-        return syscall(__VA_ARGS__);                          \
+        return call;                                                  \
     } while (0)
 
-#define MOVE(length, ...)                                             \
+#define MOVE(length, call)                                            \
     do {                                                              \
         if (!memory && !locks && is_at()) {                           \
             if (how) { errno = (int)how; return -1; }                 \
             if (length > 1) length = 1; else failed = 0;              \
         }                                                             \
-        return syscall(__VA_ARGS__);                          \
+        return call;                                                  \
     } while (0)
 
 ssize_t read(int file, void *bytes, size_t length) {
-    MOVE(length, SYS_read, file, bytes, length);
+    MOVE(length, syscall(SYS_read, file, bytes, length));
 }
 ssize_t write(int file, const void *bytes, size_t length) {
-    MOVE(length, SYS_write, file, bytes, length);
+    MOVE(length, written(syscall(SYS_write, file, bytes, length), file, bytes));
 }
 ssize_t __write(int file, const void *bytes, size_t length) {
-    MOVE(length, SYS_write, file, bytes, length);
+    MOVE(length, written(syscall(SYS_write, file, bytes, length), file, bytes));
 }
 ssize_t pread(int file, void *bytes, size_t length, off_t from) {
-    MOVE(length, SYS_pread64, file, bytes, length, from);
+    MOVE(length, syscall(SYS_pread64, file, bytes, length, from));
 }
 ssize_t pread64(int file, void *bytes, size_t length, off64_t from) {
-    MOVE(length, SYS_pread64, file, bytes, length, from);
+    MOVE(length, syscall(SYS_pread64, file, bytes, length, from));
 }
 ssize_t pwrite(int file, const void *bytes, size_t length, off_t to) {
-    MOVE(length, SYS_pwrite64, file, bytes, length, to);
+    MOVE(length, noted(syscall(SYS_pwrite64, file, bytes, length, to), "write", file, to, bytes,
+                       "", ""));
 }
 ssize_t pwrite64(int file, const void *bytes, size_t length, off64_t to) {
-    MOVE(length, SYS_pwrite64, file, bytes, length, to);
+    MOVE(length, noted(syscall(SYS_pwrite64, file, bytes, length, to), "write", file, to, bytes,
+                       "", ""));
 }
 
 static int mode_of(int flags, va_list more) {
@@ -103,41 +139,59 @@ int open(const char *path, int flags, ...) {
     va_start(more, flags);
     int mode = mode_of(flags, more);
     va_end(more);
-    CALL(SYS_open, path, flags, mode);
+    CALL(opened(syscall(SYS_open, path, flags, mode), path, flags));
 }
 int open64(const char *path, int flags, ...) {
     va_list more;
     va_start(more, flags);
     int mode = mode_of(flags, more);
     va_end(more);
-    CALL(SYS_open, path, flags, mode);
+    CALL(opened(syscall(SYS_open, path, flags, mode), path, flags));
 }
-int close(int file) { CALL(SYS_close, file); }
-off_t lseek(int file, off_t offset, int whence) { CALL(SYS_lseek, file, offset, whence); }
-off64_t lseek64(int file, off64_t offset, int whence) { CALL(SYS_lseek, file, offset, whence); }
-int fsync(int file) { CALL(SYS_fsync, file); }
-int fdatasync(int file) { CALL(SYS_fdatasync, file); }
-int ftruncate(int file, off_t length) { CALL(SYS_ftruncate, file, length); }
-int ftruncate64(int file, off64_t length) { CALL(SYS_ftruncate, file, length); }
+int close(int file) { CALL(syscall(SYS_close, file)); }
+off_t lseek(int file, off_t offset, int whence) {
+    CALL(syscall(SYS_lseek, file, offset, whence));
+}
+off64_t lseek64(int file, off64_t offset, int whence) {
+    CALL(syscall(SYS_lseek, file, offset, whence));
+}
+int fsync(int file) { CALL(kept(syscall(SYS_fsync, file), file)); }
+int fdatasync(int file) { CALL(kept(syscall(SYS_fdatasync, file), file)); }
+int ftruncate(int file, off_t length) {
+    CALL(cut(syscall(SYS_ftruncate, file, length), file, length));
+}
+int ftruncate64(int file, off64_t length) {
+    CALL(cut(syscall(SYS_ftruncate, file, length), file, length));
+}
 // What another program may do between the opening of a file and its lock.
 static void change_path(void) {
     const char *path = getenv("FAIL_PATH"), *other = getenv("FAIL_OTHER");
-    char kept[4096];
+    char aside[4096];
     if (!path || !other) { if (!path || syscall(SYS_unlink, path)) abort(); return; }
-    int length = snprintf(kept, sizeof kept, "%s.kept", path);
-    if (length < 0 || (size_t)length >= sizeof kept) abort();
-    if (syscall(SYS_rename, path, kept) || syscall(SYS_rename, other, path)) abort();
-    if (syscall(SYS_rename, kept, other)) abort();
+    int length = snprintf(aside, sizeof aside, "%s.kept", path);
+    if (length < 0 || (size_t)length >= sizeof aside) abort();
+    if (syscall(SYS_rename, path, aside) || syscall(SYS_rename, other, path)) abort();
+    if (syscall(SYS_rename, aside, other)) abort();
 }
 int flock(int file, int operation) {
     if (locks && count < fail_at) { count++; failed = 1; change_path(); }
-    CALL(SYS_flock, file, operation);
+    CALL(syscall(SYS_flock, file, operation));
 }
-int link(const char *from, const char *to) { CALL(SYS_link, from, to); }
-int rename(const char *from, const char *to) { CALL(SYS_rename, from, to); }
-int unlink(const char *path) { CALL(SYS_unlink, path); }
+int link(const char *from, const char *to) {
+    CALL(noted(syscall(SYS_link, from, to), "link", -1, 0, NULL, from, to));
+}
+int rename(const char *from, const char *to) {
+    CALL(noted(syscall(SYS_rename, from, to), "rename", -1, 0, NULL, from, to));
+}
+int unlink(const char *path) {
+    CALL(noted(syscall(SYS_unlink, path), "unlink", -1, 0, NULL, path, ""));
+}
+int fchmod(int file, mode_t mode) { CALL(syscall(SYS_fchmod, file, mode)); }
+ssize_t getdents64(int file, void *entries, size_t length) {
+    CALL(syscall(SYS_getdents64, file, entries, length));
+}
 int statx(int folder, const char *path, int flags, unsigned mask, struct statx *found) {
-    CALL(SYS_statx, folder, path, flags, mask, found);
+    CALL(syscall(SYS_statx, folder, path, flags, mask, found));
 }
 
 #define REFUSE()                                                      \

@@ -3,7 +3,8 @@
 # Tries each command of ./tunes-book under each of the shells `sh`, `bash --posix` and `busybox sh`
 # that is here, over the programs ./tunes and ./tunes-desk, or those that the variables TUNES and
 # TUNES_DESK name; then the pages, the completion, ./install and ./release. SHELLS and PARTS name
-# some of them. Prints a line for each case, and ends with status 1 where one failed.
+# some of them, as PARTS=pages the pages and what comes behind them. Prints a line for each case,
+# and ends with status 1 where one failed.
 # shellcheck disable=SC2015,SC2016,SC2028,SC2086 # words of a line are split; `$` is for others
 # A shell cannot take a signal that was ignored when it began: here each is as at the start.
 if [ -z "${SIGNALS_ARE_TAKEN-}" ]; then
@@ -46,8 +47,9 @@ begin() {
     why=
     mkdir "$work/$cases" && cd "$work/$cases" || exit 1
     TUNES=$program
+    TUNES_DESK=$desk
     TUNES_BOOK=tunes.abcx
-    export TUNES TUNES_BOOK
+    export TUNES TUNES_DESK TUNES_BOOK
     unset VISUAL
     EDITOR='sh ./editor'
     export EDITOR
@@ -169,18 +171,17 @@ by_script() { printf '%s\n' "$@" | "$program" run tunes.abcx > "$work/told"; }
 # The editor is the script of standard input. A case may name another for a while.
 editor() { cat > editor; }
 
-# A program in the place of `tunes`: standard input is a script, in which $real is the true one.
-fake() {
-    { printf '#!/bin/sh\nreal='\''%s'\''\n' "$program" && cat; } > fake
+# A program in the place of `tunes-desk`: standard input is its script, and $real is the true one.
+fake_desk() {
+    { printf '#!/bin/sh\nreal='\''%s'\''\n' "$desk" && cat; } > fake
     chmod +x fake
-    TUNES=$PWD/fake
+    TUNES_DESK=$PWD/fake
 }
 
 # A folder with links to all tools that tunes-book asks for, but those of these words.
 tools_without() {
     mkdir -p bin
-    for tool in awk cat chmod cksum cmp dd flock grep head ln ls mkfifo mktemp mv od readlink rm \
-        sed sh sync tail tee tr wc sleep; do
+    for tool in awk cmp cp grep head mktemp readlink rm sh tail touch tr; do
         case " $* " in *" $tool "*) continue ;; esac
         found=$(command -v "$tool") && ln -s "$found" "bin/$tool"
     done
@@ -194,11 +195,11 @@ cases_of_words() {
     done_with "$("$root/tunes-book" --help)"
     [ "$(awk 'length > 79' "$work/out")" = '' ] || wrong 'the help has lines above 79 columns'
     run --version
-    done_with "$("$program" --version)"
+    done_with "$("$desk" --version)"
     for line in 'list' '-x' '-f' 'show' 'show one' 'show 1234567890' 'new a' 'upgrade x' \
         '--json upgrade' 'cut friday' 'cut friday x' 'put friday' 'put fri/day 1' 'set a.b' 'find' \
         'find key' 'find --within' 'find --split a' 'add' 'add absent.abc' '--json show 1' \
-        'move a 1' 'undo 1' 'export' 'hear 1' 'backup' 'restore' 'dump' 'load absent' 'titles x' \
+        'move a 1' 'undo 1' 'export' 'hear 1' 'backup' 'restore' 'dump' 'load' 'titles x' \
         'add --within x' 'count --json' 'random --tune 1' 'find kesh --wait x' \
         'put a 1 --wait x' '--wait' 'export a b --tune 1' 'titles --json --csv' 'find --in D kesh' \
         'print a.pdf --tune x' 'ask x'; do
@@ -311,7 +312,7 @@ delete 1'
     same "$work/out" "$work/wanted"
     run show 16
     refused 1 'no tune has the number 16'
-    has 'all.abc mine.abc tunes.abcx'
+    has 'all.abc mine.abc tunes.abcx tunes.abcx.old.abc'
     end
 
     begin 'adding what is new' session
@@ -377,6 +378,9 @@ x,2'
     printf 'X:1\nT:B\nK:C\n' > 'fol der/B.abc'
     printf 'X:1\nT:none\n' > 'fol der/a.abc'
     echo 'X:1' > 'fol der/readme.txt'
+    mkdir -p inner/in/most
+    printf 'X:1\nT:c\nK:C\n' > inner/c.ABC
+    printf 'X:1\nT:d\nK:C\n' > inner/in/most/d.abc
     run add 'fol der' absent.abc
     refused 2 'absent.abc: there is no such file'
     run check
@@ -394,6 +398,11 @@ fol der/b.abc: 1 tune'
     done_with "$book: 15 tunes"
     run check
     done_with 'layout 2 tunes 2 sets 0'
+    run add inner
+    ends_with 0
+    grep -q '^inner/c.ABC: tune ' "$work/out" || wrong 'a book .ABC is passed over'
+    grep -q '^inner/in/most/d.abc: tune ' "$work/out" ||
+        wrong 'a folder within a folder is passed over'
     echo 'a remark' > remark.abc
     run import-check remark.abc
     ends_with 1
@@ -407,7 +416,7 @@ of "all"'
     done_with ''
     printf 'X:1\nT:a\nK:C\n' > "$odd.abc"
     cp "$odd.abc" -- -n.abc
-    run -f "$odd" add "$odd.abc" -n.abc
+    run -f "$odd" add -- "$odd.abc" -n.abc
     done_with "$odd.abc: tune 1
 -n.abc: tune 2"
     run -f "$odd" export "out $odd"
@@ -415,9 +424,12 @@ of "all"'
     run -f "$odd" export -- -o.abc
     done_with ''
     same ./-o.abc "out $odd"
+    # what has the sums has one name on a line
     run -f "$odd" backup "copy $odd"
+    refused 2 'choose one on one line'
+    run -f "$odd" backup 'copy of "all"'
     done_with ''
-    run -f "$odd" restore "copy $odd"
+    run -f "$odd" restore 'copy of "all"'
     ends_with 0
     run -f "$odd" delete 1
     done_with ''
@@ -501,7 +513,37 @@ of "all"'
     for line in 1 6 11; do tells "-:$line: "; done
     end
 
+    begin 'the good tunes of a book, and lines between tunes'
+    run new
+    printf 'X:1\nT:one\nK:C\n\nX:2\nT:bad\n\nX:3\nT:three\nK:C\n' > mine.abc
+    run add mine.abc
+    refused 1 'its tune number 2 has no K: line'
+    run add --good mine.abc
+    ends_with 0
+    says 'mine.abc: tunes 1 to 2; 1 of its tunes are left out'
+    tells 'mine.abc:5: tune 2 has no K: line, and is left out'
+    run show 2
+    says 'X:2
+T:three
+K:C'
+    printf 'remark\n\nX:1\nT:one\nK:C\n\n%%%%gchord 1\n\nX:2\nT:two\nK:C\n' > lines.abc
+    run add --show-lost lines.abc
+    ends_with 0
+    says 'lines.abc: tunes 3 to 4; 2 lines of it go into no tune, and are not kept'
+    tells 'lines.abc:1: it is in no tune, and is not kept: remark'
+    tells 'lines.abc:7: it is in no tune, and is not kept, though it changes how a sheet looks'
+    run add --carry lines.abc
+    ends_with 0
+    grep -q '; 1 line between its tunes goes into 1 of them' "$work/out" ||
+        wrong "--carry says '$(cat "$work/out")'"
+    run show 6
+    grep -q '^%%gchord 1$' "$work/out" || wrong 'a line between tunes is not carried'
+    run undo
+    done_with 'tunes 5 to 6 are out again'
+    end
+
     begin 'a book that is too long, and its parts'
+    # of 4,250,000 bytes, in parts that are full once they have 1,000,000
     run new
     awk 'BEGIN {
         print "M:6/8\n%%staves 1\n"
@@ -516,7 +558,7 @@ of "all"'
     run add "$book" long.abc
     refused 1 'long.abc: it has more than 4,000,000 bytes; `tunes-book add --split`'
     run add --split long.abc "$book"
-    done_with "long.abc: tunes 16 to 415, in 2 parts
+    done_with "long.abc: tunes 16 to 415, in 5 parts
 $book: tunes 416 to 430"
     run show 16
     head -n 3 "$work/out" > "$work/found"
@@ -528,11 +570,11 @@ $book: tunes 416 to 430"
     same "$work/found" "$work/wanted"
     printf 'X:1\nT:bad\n' >> long.abc
     run add --dry --split long.abc
-    refused 1 'long.abc: part 2 of 2: its tune number'
+    refused 1 'long.abc: its tune number 401 has no K: line'
     # old Mac lines, and no file header
     sed '1,3d; $d' long.abc | sed '$d' | tr '\n' '\r' > mac.abc
     run add --dry --split mac.abc
-    done_with 'mac.abc: 400 tunes, in 2 parts'
+    done_with 'mac.abc: 400 tunes, in 5 parts'
     end
 
     begin 'a book that cannot be read'
@@ -579,7 +621,7 @@ cases_of_sets() {
     run put "$(printf '%041d' 1)" 1
     refused 1 '1 to 40 letters'
     run put friday 0
-    refused 1 'from 1 to 999,999'
+    refused 1 'no tune has the number 0'
     run cut friday 2
     done_with ''
     run cut friday 9
@@ -591,7 +633,9 @@ cases_of_sets() {
     run delete 3
     refused 1 'the set list friday has it'
     run undo
-    refused 1 'nothing is left'
+    done_with 'friday is as it was'
+    run set friday
+    [ "$(($(wc -l < "$work/out")))" -eq 4 ] || wrong 'a place that was cut is not there again'
     run export friday.abc friday
     done_with ''
     [ "$(sed -n 2p friday.abc)" = '% set friday' ] || wrong 'friday.abc is another book'
@@ -628,9 +672,9 @@ cases_of_sets() {
         done
     done
     run move a 0 1
-    refused 1 'it has 5 places'
+    refused 1 'a: the set list has no such place; `tunes-book set` shows its places'
     run move a 1 6
-    refused 1 'it has 5 places'
+    refused 1 'no such place'
     run move b 1 2
     refused 1 'no such set list'
     # a full set list
@@ -644,7 +688,7 @@ cases_of_sets() {
     [ "$(sed -n '2p; 200p' "$work/out" | cut -d ' ' -f 1,2 | tr '\n' ' ')" = '2 3 200 2 ' ] ||
         wrong 'place 2 is not at the end'
     run put full 1
-    refused 1 'full has 200 places, so none of the 1 tunes is put: the set list has 200 places'
+    refused 1 'full: the set list has 200 places, and no more; begin a second one'
     end
 }
 
@@ -654,7 +698,7 @@ left_out() {
     run edit 3
     refused 1 "$2"
     case $(cat "$work/err") in
-    *'your text stays there'*) ;;
+    *'your text '*tune-3.abc*) ;;
     *) wrong "after '$1' it does not say where the text is" ;;
     esac
     same tune-3.abc written
@@ -738,7 +782,7 @@ cases_of_edits() {
     rm tune-3.abc
     echo 'echo W:more >> "$1"; cp "$1" written; kill -s INT $$; sleep 5' | editor
     run edit 3
-    refused 1 'your text stays there'
+    refused 1 'your text stays in tune-3.abc'
     same tune-3.abc written
     # an interrupt of the terminal goes to both
     rm tune-3.abc
@@ -749,7 +793,7 @@ signal.signal(signal.SIGINT, signal.default_int_handler)
 sys.exit(subprocess.run(sys.argv[1:], start_new_session=True).returncode)' \
             $shell "$root/tunes-book" edit 3 > "$work/out" 2> "$work/err"
         status=$?
-        refused 1 'your text stays there'
+        refused 1 'your text stays in tune-3.abc'
         same tune-3.abc written
         rm tune-3.abc
     fi
@@ -766,7 +810,7 @@ sys.exit(subprocess.run(sys.argv[1:], start_new_session=True).returncode)' \
 END
     echo 'sh ./other; sed -i s/^R:.*/R:slide/ "$1"; cp "$1" written' | editor
     run edit 3
-    refused 1 'tune 3 was replaced meanwhile; `tunes-book show 3` prints the other'
+    refused 1 'tune 3 was replaced meanwhile; `tunes-book show 3` prints it'
     same tune-3.abc written
     run show 3
     says 'X:3
@@ -797,7 +841,7 @@ while [ ! -e locked ]; do sleep 0.05; done
 END
         run edit 5
         refused 1 'another program has it open'
-        grep -q 'your text is in tune-5.abc' "$work/err" || wrong 'it does not say where it is'
+        grep -q 'your text stays in tune-5.abc' "$work/err" || wrong 'it does not say where it is'
         same tune-5.abc written
         : > over
         flock tunes.abcx true
@@ -839,13 +883,125 @@ cases_of_undo() {
     run delete 7
     by_script 'renumber 15 7'
     run undo
-    done_with 'tune 7 is there again, with the number 15'
-    # a delete that took no place, and a tune that is gone
+    refused 1 'tune 7 was changed since by another program, so it stays; its old text is in tunes.'
+    # a tune that is gone
     EDITOR='sed -i s/^R:.*/R:one/'
     run edit 2
     by_script 'delete 2'
     run undo
-    refused 1 'its old text is in tunes.abcx.old.abc, from line'
+    refused 1 'its old text is in tunes.abcx.old.abc'
+    end
+
+    begin 'undoing what was added' session
+    contents tunes.abcx > wanted
+    printf 'X:1\nT:one\nK:C\n\nX:2\nT:two\nK:C\n' > two.abc
+    printf 'X:1\nT:three\nK:C\n' > one.abc
+    run add two.abc one.abc
+    done_with 'two.abc: tunes 16 to 17
+one.abc: tune 18'
+    run undo --list
+    done_with '1 add tunes 16 to 18'
+    run undo
+    done_with 'tune 18 is out again
+tunes 16 to 17 are out again'
+    contents tunes.abcx > found
+    same found wanted
+    run add two.abc
+    run put friday 16
+    run undo --to 2
+    done_with 'friday is gone again
+tunes 16 to 17 are out again'
+    # one that a set list has meanwhile stays, until that is gone
+    run add two.abc
+    by_script 'set-new x' 'set-add x 16'
+    run undo
+    refused 1 'the set list x has it'
+    by_script 'set-drop x'
+    run undo
+    done_with 'tunes 16 to 17 are out again'
+    contents tunes.abcx > found
+    same found wanted
+    # what was taken out by an undo is in the old texts
+    grep -q '^T:three$' tunes.abcx.old.abc || wrong 'a text that an undo takes away is not kept'
+    end
+
+    begin 'undoing a load' session
+    run put friday 3 1
+    run dump all.script
+    run -f new.abcx load all.script
+    done_with 'layout 2 tunes 15 sets 1'
+    run -f new.abcx undo --list
+    done_with '1 load tunes 1 to 15 and 1 set list'
+    run -f new.abcx delete 7
+    run -f new.abcx undo --to 2
+    done_with 'tune 7 is there again
+friday is gone again
+tunes 1 to 15 are out again'
+    run -f new.abcx check
+    done_with 'layout 2 tunes 0 sets 0'
+    run -f new.abcx undo
+    refused 1 'nothing is left to be undone'
+    grep -q '^T:.*Kesh' new.abcx.old.abc || wrong 'a text that an undo takes away is not kept'
+    # an archive in which nothing is has no entry, and one that is not made leaves none
+    run -f empty.abcx new
+    run -f empty.abcx dump -
+    cp "$work/out" empty.script
+    run -f other.abcx load empty.script
+    done_with 'layout 2 tunes 0 sets 0'
+    run -f bad.abcx load remark.abc
+    [ ! -e other.abcx.old.abc ] && [ ! -e bad.abcx.old.abc ] || wrong 'there is a book of old texts'
+    end
+
+    begin 'undoing set lists, and several changes' session
+    contents tunes.abcx > wanted
+    run undo --list
+    done_with ''
+    run put friday 3 1 5
+    run move friday 3 1
+    run cut friday 1 2
+    run set friday
+    done_with '1 1 Kesh Jig, The'
+    run drop friday
+    run delete 7 9
+    done_with ''
+    run undo --list
+    done_with '1 delete tune 7 9
+2 drop friday
+3 cut friday
+4 move friday
+5 put friday'
+    run undo --list --json
+    lists_json '[{"change": 1, "kind": "delete", "of": "tune 7 9"},
+        {"change": 2, "kind": "drop", "of": "friday"},
+        {"change": 3, "kind": "cut", "of": "friday"},
+        {"change": 4, "kind": "move", "of": "friday"},
+        {"change": 5, "kind": "put", "of": "friday"}]'
+    run undo --csv --list
+    ends_with 0
+    [ "$(head -n 2 "$work/out" | tr '\n' ' ')" = 'change,kind,of 1,delete,tune 7 9 ' ] ||
+        wrong "undo --csv --list begins with '$(head -n 2 "$work/out")'"
+    run undo
+    ends_with 0
+    run undo --to 2
+    done_with 'friday is as it was
+friday is as it was'
+    run set friday
+    done_with '1 5 Blarney Pilgrim, The
+2 3 Tripping Up the Stairs
+3 1 Kesh Jig, The'
+    run undo --to 2
+    done_with 'friday is as it was
+friday is gone again'
+    run sets
+    done_with ''
+    contents tunes.abcx > found
+    same found wanted
+    for line in 'undo --list --to 1' 'undo --json' 'undo --to' 'undo --to x'; do
+        run $line
+        refused 2 ''
+    done
+    run undo --to 2
+    refused 1 'nothing is left to be undone'
     end
 
     begin 'old texts that are cut, and texts like marks' session
@@ -871,10 +1027,10 @@ cases_of_undo() {
         ln -s /dev/full tunes.abcx.old.abc
         cp tunes.abcx before
         run delete 1
-        refused 1 'the old text could not be kept'
+        refused 1 'could not be kept in tunes.abcx.old.abc'
         EDITOR='sed -i s/^R:.*/R:one/'
         run edit 1
-        refused 1 'the old text could not be kept'
+        refused 1 'could not be kept in tunes.abcx.old.abc'
         [ -s tune-1.abc ] || wrong 'the text of the edit is lost'
         same tunes.abcx before
     }
@@ -887,8 +1043,33 @@ cases_of_copies() {
     run backup copy.abcx
     done_with ''
     same copy.abcx tunes.abcx
+    sha256sum -c copy.abcx.sha256 > "$work/told" 2>&1 || wrong 'the sum beside a copy is another'
+    contents tunes.abcx > wanted
+    run drop friday
+    run delete 3
+    # a second copy of that name has a number
     run backup copy.abcx
-    refused 1 'copy.abcx is there'
+    done_with 'the copy is copy.abcx.1'
+    same copy.abcx.1 tunes.abcx
+    sha256sum -c copy.abcx.1.sha256 > "$work/told" 2>&1 || wrong 'the sum of a second copy'
+    run check copy.abcx
+    done_with 'layout 2 tunes 15 sets 1'
+    run check copy.abcx.1
+    done_with 'layout 2 tunes 14 sets 0'
+    # of three the last two stay
+    run backup copy.abcx --keep 2
+    done_with 'the copy is copy.abcx.2'
+    [ ! -e copy.abcx ] && [ ! -e copy.abcx.sha256 ] || wrong '--keep 2 keeps three'
+    [ -e copy.abcx.1 ] && [ -e copy.abcx.2 ] || wrong '--keep 2 keeps one'
+    run backup copy.abcx --keep 0
+    refused 2 'a number from 1'
+    by_script 'set-new friday' 'set-add friday 3' 'set-add friday 1'
+    rm copy.abcx.*
+    end
+
+    begin 'a copy and its sum' session
+    run put friday 3 1
+    run backup copy.abcx
     contents tunes.abcx > wanted
     run drop friday
     run delete 3
@@ -903,6 +1084,16 @@ the archive that was there is tunes.abcx.1.old now'
     cp tunes.abcx before
     run restore cut.abcx
     refused 3 'damaged'
+    run check cut.abcx
+    refused 3 'damaged'
+    cp later other.abcx
+    sed 's/copy/other/' copy.abcx.sha256 > other.abcx.sha256
+    for line in 'restore other.abcx' 'check other.abcx'; do
+        run $line
+        refused 1 'its bytes are not those whose sum is beside it'
+        same tunes.abcx before
+    done
+    rm other.abcx*
     run restore absent.abcx
     refused 1 'no such file'
     same tunes.abcx before
@@ -914,8 +1105,8 @@ the archive that was there is tunes.abcx.1.old now'
     rm tunes.abcx
     run restore copy.abcx
     done_with 'layout 2 tunes 15 sets 1'
-    has "before copy.abcx cut.abcx found later tunes.abcx tunes.abcx.1.old tunes.abcx.2.old \
-tunes.abcx.old.abc wanted"
+    has "before copy.abcx copy.abcx.sha256 cut.abcx found later tunes.abcx tunes.abcx.1.old \
+tunes.abcx.2.old tunes.abcx.old.abc wanted"
     end
 
     begin 'dump and load' session
@@ -939,6 +1130,12 @@ tunes.abcx.old.abc wanted"
     refused 1 'a command of it is refused'
     run -f other.abcx load "$book"
     refused 1 ''
+    run -f other.abcx load absent
+    refused 2 'no such file'
+    $shell "$root/tunes-book" -f piped.abcx load - < all.script > "$work/out" 2> "$work/err"
+    status=$?
+    words='load -'
+    done_with 'layout 2 tunes 14 sets 3'
     [ ! -e other.abcx ] && [ ! -e other.abcx.new ] || wrong 'something is made of a bad script'
     run -f empty.abcx new
     run -f empty.abcx dump empty.script
@@ -1035,6 +1232,54 @@ sys.exit(os.waitstatus_to_exitcode(os.waitpid(child, 0)[1]))' \
     status=$?
 }
 
+# Runs ./tunes-book at a terminal, whose output goes into the file $1.
+seen_at_terminal() {
+    seen=$1
+    shift
+    SEEN=$seen python3 -c 'import os, pty, sys
+open(os.environ["SEEN"] + ".begun", "w").close()
+sys.exit(os.waitstatus_to_exitcode(pty.spawn(sys.argv[1:])))' \
+        $shell "$root/tunes-book" --wait 5 "$@" > "$seen" 2>&1 < /dev/null
+}
+
+# The file $1 has a line of how far a command is, $2, then its erasure and $3, and no more.
+tells_how_far() {
+    case $(od -An -v -c "$1" | tr -d ' \n') in
+    *tunes-book:$2'\r033[K'"$3") ;;
+    *) wrong "'$1' does not tell how far it is, or leaves that on the terminal" ;;
+    esac
+}
+
+# Other programs have the archives for the second in which nothing is told.
+cases_of_progress() {
+    if ! command -v flock > /dev/null; then
+        skip 'how far a command is' flock
+        return
+    fi
+    begin 'how far a command is' session
+    words='commands for more than a second'
+    cp tunes.abcx more.abcx
+    printf 'X:1\nT:One\nK:C\nCDE\n' > one.abc
+    printf 'X:1\nT:Two\nK:C\nEDC\n' > two.abc
+    flock tunes.abcx flock more.abcx sh -c 'echo > locked
+until [ -e backup.begun ] && [ -e export.begun ] && [ -e add.begun ]; do sleep 0.05; done
+sleep 1.2' &
+    while [ ! -e locked ]; do sleep 0.05; done
+    seen_at_terminal backup backup copy &
+    seen_at_terminal export export all.abc &
+    seen_at_terminal add -f more.abcx add one.abc two.abc &
+    run --wait 5 backup other
+    done_with ''
+    wait
+    kilobytes=$(($(wc -c < tunes.abcx) / 1000))
+    tells_how_far backup "kBcopied:*of$kilobytes" ''
+    kilobytes=$(($(wc -c < all.abc) / 1000))
+    tells_how_far export "kBwritten:*of$kilobytes" ''
+    tells_how_far add 'books:1of2' 'two.abc:tune17\r\n'
+    same copy tunes.abcx
+    end
+}
+
 cases_of_layouts() {
     begin 'an upgrade' one
     cp tunes.abcx before
@@ -1068,7 +1313,7 @@ cases_of_layouts() {
     done_with 'layout 1 tunes 2 sets 1
 the archive that was there is tunes.abcx.1.old now'
     same tunes.abcx before
-    has 'before copy found tunes.abcx tunes.abcx.1.old upgraded wanted'
+    has 'before copy copy.sha256 found tunes.abcx tunes.abcx.1.old upgraded wanted'
     end
 
     begin 'an upgrade at a terminal' one
@@ -1152,25 +1397,6 @@ the archive that was there is tunes.abcx.1.old now'
     rm tunes.abcx
     run upgrade
     refused 1 'there is no such file'
-    for half in upgrade check; do
-        cp before tunes.abcx
-        fake << END
-case \$1 in
-$half) "\$real" "\$@" | head -c 7 ;;
-*) exec "\$real" "\$@" ;;
-esac
-END
-        run upgrade
-        refused 1 'the answer of the program tunes is not whole'
-        [ ! -s "$work/out" ] || wrong "half of $half is taken for its answer"
-    done
-    same tunes.abcx before
-    fake << 'END'
-case $1 in upgrade) exit 1 ;; *) exec "$real" "$@" ;; esac
-END
-    run upgrade
-    refused 1 'no answer came from the program tunes'
-    complains '`tunes-book check` tells in which'
     end
 }
 
@@ -1271,81 +1497,47 @@ cases_of_devices() {
 }
 
 cases_of_programs() {
-    begin 'answers that are cut' session
-    fake << 'END'
-case $1 in
-run)
-    "$real" "$@" > answer
-    head -c $(($(wc -c < answer) - 3)) answer
-    rm answer ;;
-*) exec "$real" "$@" ;;
-esac
+    begin 'an edit that a program does not put in' session
+    for body in 'exit 1' 'exit 125' 'kill -s KILL $$'; do
+        fake_desk << END
+case \$* in *replace*) $body ;; *) exec "\$real" "\$@" ;; esac
 END
-    printf 'X:1\nK:C\n' > mine.abc
-    for line in 'add mine.abc' 'add --new mine.abc'; do
-        run $line
-        [ "$status" -ne 0 ] || wrong "'$line' ends with 0"
+        EDITOR='sed -i s/jig/reel/'
+        run edit 1
+        [ "$status" -ne 0 ] || wrong "an edit ends with 0 after '$body'"
+        tells 'your text is in tune-1.abc'
+        grep -q reel tune-1.abc || wrong 'the text is lost'
+        rm tune-1.abc
     done
-    has 'fake mine.abc tunes.abcx'
     end
 
-    begin 'answers that are cut after an edit' session
-    fake << 'END'
-case $1 in
-run)
-    read -r line
-    echo 'refused 11 NoSuchSet'
-    read -r line
-    printf 'ok s' ;;
-*) exec "$real" "$@" ;;
-esac
-END
-    EDITOR='sed -i s/jig/reel/'
-    run edit 1
-    refused 1 'your text is in tune-1.abc'
-    grep -q reel tune-1.abc || wrong 'the text is lost'
-    end
-
-    begin 'a program that answers nothing, or is none' session
-    fake << 'END'
-case $1 in run) read -r line ;; *) exec "$real" "$@" ;; esac
-END
-    for line in "add $book" 'put a 1' 'cut a 1' 'delete 1' 'move a 1 2' 'drop a'; do
-        run $line
-        refused 1 'no answer came'
-    done
-    TUNES=/bin/true
-    run put a 1
-    refused 4 'is another program'
-    TUNES=$PWD/absent
-    run put a 1
-    refused 4 'is not found'
+    begin 'a program that is none' session
     TUNES_DESK=$PWD/absent
-    for line in titles 'put a 1' 'help find'; do
+    for line in titles 'put a 1' 'help find' "add $book" 'edit 1' 'hear 1 a.mid'; do
         run $line
         refused 4 'is not found'
     done
+    # `tunes` is not asked for
     TUNES_DESK=$desk
-    fake << 'END'
-exit 125
-END
-    run put a 1
-    refused 4 'cannot be run'
+    TUNES=$PWD/absent
+    for line in 'put a 1' "add $book" upgrade 'backup b' check; do
+        run $line
+        ends_with 0
+    done
     end
 
     begin 'a stop in the middle leaves nothing' session
-    fake << 'END'
-case $1 in run) : > asked; sleep 1 ;; *) exec "$real" "$@" ;; esac
-END
+    echo ': > asked; while [ -e asked ]; do sleep 0.05; done' | editor
     for signal in TERM HUP; do
-        rm -f asked
-        $shell "$root/tunes-book" add --new "$book" > "$work/out" 2> "$work/err" &
+        $shell "$root/tunes-book" edit 3 > "$work/out" 2> "$work/err" < /dev/null &
         while [ ! -e asked ]; do sleep 0.05; done
         kill -s "$signal" $!
+        rm asked
         wait $! 2> "$work/told"
         [ $? -gt 128 ] || wrong "it goes on after $signal"
+        rm tune-3.abc
     done
-    has 'asked fake tunes.abcx'
+    has 'editor tunes.abcx'
     end
 }
 
@@ -1376,9 +1568,9 @@ END
 printf '%%PDF-1.4\n%%%%EOF\n' > "$2"
 END
     tool_is abc2midi << 'END'
-printf 'MThd\0\0\0\006\0\0\0\001\0`MTrk\0\0\0\004\0\377/\0' > tune.mid
-grep -n qqq tune.abc
-! grep -q qqq tune.abc
+printf 'MThd\0\0\0\006\0\0\0\001\0`MTrk\0\0\0\004\0\377/\0' > book.mid
+grep -n qqq book.abc
+! grep -q qqq book.abc
 END
 }
 
@@ -1523,7 +1715,7 @@ cases_of_outs() {
     done_with ''
     same ./- all.abc
     has "- all.abc all.pdf bin bin/abc2midi bin/abcm2ps bin/ps2pdf friday.abc script three.mid \
-three.ps tunes.abcx"
+three.ps tunes.abcx tunes.abcx.old.abc"
     # nothing of it on a terminal
     if command -v script > /dev/null; then
         for line in 'print -' 'hear 1 -'; do
@@ -1544,8 +1736,8 @@ three.ps tunes.abcx"
         refused 2 ''
     done
     run print friday
-    complains 'friday is a set list; `tunes-book print friday.pdf friday` prints it'
-    has tunes.abcx
+    complains '`print OUT.pdf NAME` prints a set list'
+    has 'tunes.abcx tunes.abcx.old.abc'
     end
 
     begin 'a file that is not an archive is not replaced by a copy' session
@@ -1566,98 +1758,92 @@ the archive that was there is mine.abc.1.old now'
         cp "$other" other
         ln -sf other tunes.abcx.old.abc
         run delete 1
-        refused 1 'the old text could not be kept in tunes.abcx.old.abc'
+        refused 1 'what is changed could not be kept in tunes.abcx.old.abc'
         same other "$other"
         same tunes.abcx before
     done
     end
 }
 
-# Each call of `sync` writes its words to the file `synced`, and whether the archive is as before.
-# It waits while there is a file `delay`.
-watched_sync() {
-    tool_is sync << 'END'
-cmp -s tunes.abcx before && state=before || state=after
-for word; do
-    case $word in --) ;; *) [ -e "$word" ] && echo "$state $word" >> synced ;; esac
-done
-while [ -e delay ]; do : > waits; sleep 0.05; done
-END
-    cp tunes.abcx before
+# Runs a call eight times at once. The files `status.N` get what each ends with.
+eight_at_once() {
+    for number in 1 2 3 4 5 6 7 8; do
+        { $shell "$root/tunes-book" "$@" > out.$number 2> err.$number; echo $? > status.$number; } &
+    done
+    wait
+    words="$*, eight times"
+    [ "$(cat status.* | tr -d '01\n')" = '' ] || wrong "'$words' ends with $(cat status.*)"
 }
 
-# Runs two calls, the second while the first is where it syncs; `first` and `second` get their
-# statuses.
-two_at_once() {
-    rm -f waits
-    : > delay
-    tries=0
-    PATH=$PWD/bin:$PATH $shell "$root/tunes-book" $1 > first.out 2> first.err < /dev/null &
-    until [ -e waits ] || [ "$tries" -ge 400 ]; do
-        sleep 0.05
-        tries=$((tries + 1))
-    done
-    run $2
-    second=$status
-    rm -f delay waits
-    wait $!
-    first=$?
+# How many of eight calls were done.
+done_of_eight() { cat status.* | grep -c '^0$'; }
+
+# Runs a change as `strace` has it, and sees that what is kept was on the device before the first
+# write to the archive.
+kept_first() {
+    words="$*, under strace"
+    strace -f -y -qq -e trace=write,pwrite64,fsync,fdatasync -o trace "$desk" -f tunes.abcx "$@" \
+        > "$work/out" 2> "$work/err" < /dev/null
+    status=$?
+    ends_with 0
+    awk -v folder="$PWD>" '
+        /sync\(/ && /\/tunes\.abcx\.old\.abc>/ { kept = 1 }
+        /sync\(/ && index($0, folder) { named = 1 }
+        /write.*\/tunes\.abcx>/ { written = 1; exit }
+        END { exit !(kept && (named || there) && written) }' there="$there" trace ||
+        wrong "'$words' writes before what is kept is on the device"
+    rm trace
+    there=1
 }
 
 cases_of_kept() {
-    begin 'what is kept is on the device before the tune changes' session
-    watched_sync
-    run_over_bin delete 3
-    done_with ''
-    grep -qx 'before tunes.abcx.old.abc' synced && grep -qx 'before ./' synced ||
-        wrong "before a delete it syncs '$(cat synced)'"
-    cp tunes.abcx before
-    rm synced
-    EDITOR='sed -i s/^R:.*/R:one/'
-    run_over_bin edit 4
-    done_with 'tune 4 has revision 2 now'
-    grep -qx 'before tunes.abcx.old.abc' synced && grep -qx 'before ./' synced ||
-        wrong "before an edit it syncs '$(cat synced)'"
-    end
+    if strace -o "$work/told" true 2> "$work/err"; then
+        begin 'what is kept is on the device before the archive changes' session
+        there=0
+        kept_first delete 3
+        kept_first put friday 4 1
+        kept_first move friday 1 2
+        run show 4
+        sed 's/^R:.*/R:one/' "$work/out" > four.abc
+        kept_first replace 4 four.abc
+        kept_first undo
+        end
+    else
+        skip 'what is kept is on the device before the archive changes' 'strace that may run'
+    fi
 
-    begin 'names that are given are on the device' session
-    watched_sync
-    for line in 'backup out' 'restore out'; do
-        rm -f synced
-        run_over_bin $line
-        ends_with 0
-        name=out
-        [ "${line%% *}" != restore ] || name=tunes.abcx
-        grep -q " $name$" synced && [ "$(tail -n 1 synced)" = 'before ./' ] ||
-            wrong "'$line' syncs '$(cat synced)'"
-    done
-    run dump script
-    rm synced
-    run_over_bin -f new.abcx load script
-    ends_with 0
-    grep -q ' new.abcx$' synced && [ "$(tail -n 1 synced)" = 'before ./' ] ||
-        wrong "load syncs '$(cat synced)'"
-    tool_is sync << 'END'
-case $* in *fresh.new*) exit 1 ;; esac
-END
-    run_over_bin backup fresh
-    refused 1 'fresh could not be written'
-    end
+    if strace -o "$work/told" true 2> "$work/err"; then
+        begin 'names that are given are on the device' session
+        run dump script
+        for line in '-f tunes.abcx backup out' '-f tunes.abcx restore out' \
+            '-f other.abcx restore out' '-f made.abcx new' '-f new.abcx load script'; do
+            strace -f -qq -o trace "$desk" $line > "$work/out" 2> "$work/err"
+            status=$?
+            words="$line, under strace"
+            ends_with 0
+            syncs_and_names
+            case $(cat "$work/found") in
+            *'fsync link fsync ' | *'fsync rename fsync ') ;;
+            *) wrong "'$words' syncs and names in the order '$(cat "$work/found")'" ;;
+            esac
+            rm trace
+        done
+        end
+    else
+        skip 'names that are given are on the device' 'strace that may run'
+    fi
 
     begin 'two at once' session
-    watched_sync
-    two_at_once 'backup out' 'backup out'
-    [ "$first.$second" = 0.1 ] || wrong "two backups: $first and $second"
-    complains 'out.new is there'
-    same out tunes.abcx
-    rm out
-    run export whole
-    for number in 1 2 3 4 5 6 7 8; do
-        { $shell "$root/tunes-book" export out 2> err.$number; echo $? > status.$number; } &
+    eight_at_once backup copy
+    for each in copy copy.?; do
+        [ ! -e "$each" ] || same "$each" tunes.abcx
     done
-    wait
-    [ "$(cat status.* | sort | tr -d '\n')" = 01111111 ] ||
-        wrong "of eight exports to one file $(grep -c '^0$' status.*) end with 0"
+    [ "$(find . -name 'copy*' ! -name '*.sha256' | wc -l)" -eq "$(done_of_eight)" ] ||
+        wrong "of eight backups $(done_of_eight) are done"
+    rm -f copy*
+    run export whole
+    eight_at_once export out
+    [ "$(done_of_eight)" -eq 1 ] || wrong "of eight exports to one file $(done_of_eight) end with 0"
     same out whole
     [ ! -e out.new ] || wrong 'out.new is left'
     run backup one
@@ -1665,22 +1851,24 @@ END
     run backup two
     run delete 4
     cp tunes.abcx later
-    cp tunes.abcx before
-    two_at_once 'restore one' 'restore two'
-    [ "$first.$second" = 0.1 ] || wrong "two restores: $first and $second"
-    same tunes.abcx one
+    run restore one
+    ends_with 0
     same tunes.abcx.1.old later
     echo mine > tunes.abcx.2.old
     run restore two
     ends_with 0
     [ "$(cat tunes.abcx.2.old)" = mine ] || wrong 'a file that came there is written over'
     same tunes.abcx.3.old one
+    eight_at_once restore one
+    same tunes.abcx one
+    same tunes.abcx.4.old two
+    [ "$(find . -name 'tunes.abcx.*.old' | wc -l)" -eq $((3 + $(done_of_eight))) ] ||
+        wrong "of eight restores $(done_of_eight) are done"
     run dump script
-    two_at_once '-f made load script' '-f made new'
-    [ "$first.$second" = 1.0 ] || wrong "load beside new: $first and $second"
-    grep -q 'made by another program meanwhile' first.err || wrong 'load does not say why'
-    run -f made check
-    done_with 'layout 2 tunes 0 sets 0'
+    eight_at_once -f made load script
+    [ "$(done_of_eight)" -eq 1 ] || wrong "of eight loads of one archive $(done_of_eight) are done"
+    run -f made dump again
+    same again script
     end
 
     begin 'an undo asks for the tune that was changed' session
@@ -1692,12 +1880,9 @@ END
     run -f x edit 2
     run -f x delete 2
     printf 'X:1\nT:three\nK:C\n' > c.abc
-    run -f x add c.abc
-    done_with 'c.abc: tune 2'
+    { echo "import $(($(wc -c < c.abc)))"; cat c.abc; } | "$program" run x > told
     run -f x undo
-    done_with 'tune 2 is there again, with the number 3'
-    run -f x undo
-    refused 1 'tune 2 is not the one that was edited'
+    refused 1 'tune 2 was changed since by another program, so it stays; its old text is in x.'
     run -f x show 2
     says 'X:2
 T:three
@@ -1723,7 +1908,6 @@ K:C'
     done_with 'tune 4 is there again'
     run show 4
     same "$work/out" wanted
-    printf '\n%% tunes-b' > tunes.abcx.old.abc
     run delete 4
     done_with ''
     # cut behind an entry, whose marks are read all the same
@@ -1741,7 +1925,7 @@ K:C'
     cp tunes.abcx deleted
     cp tunes.abcx.old.abc entry
     # killed before the tune came back, and after
-    printf '\n%% tunes-book undoing\n' >> tunes.abcx.old.abc
+    printf '\n%% tunes-book undoing 15\n' >> tunes.abcx.old.abc
     run undo
     done_with 'tune 7 is there again'
     run undo
@@ -1749,7 +1933,7 @@ K:C'
     for number in 16 7; do
         cp deleted tunes.abcx
         cp entry tunes.abcx.old.abc
-        printf '\n%% tunes-book undoing\n' >> tunes.abcx.old.abc
+        printf '\n%% tunes-book undoing 15\n' >> tunes.abcx.old.abc
         { echo "import $(($(wc -c < wanted)))"; cat wanted; } | "$program" run tunes.abcx > told
         [ "$number" = 16 ] || by_script 'renumber 16 7'
         run undo
@@ -1762,11 +1946,8 @@ K:C'
         refused 1 'nothing is left'
     done
     run delete 7
-    cp tunes.abcx before
-    watched_sync
-    two_at_once undo undo
-    [ "$first.$second" = 0.1 ] || wrong "two undos: $first and $second"
-    complains 'another program has it open'
+    eight_at_once undo
+    [ "$(done_of_eight)" -eq 1 ] || wrong "of eight undos of one change $(done_of_eight) are done"
     run check
     done_with 'layout 2 tunes 15 sets 0'
     end
@@ -1857,11 +2038,11 @@ cases_of_stops() {
     }' | "$program" run tunes.abcx > "$work/told"
     cp tunes.abcx before
     run put big 1 2 3 4 5 6 7 8 9 10 11
-    refused 1 'big has 190 places, so none of the 11 tunes is put'
+    refused 1 'big: the set list has 200 places, and no more'
     run put new 1 99
     refused 1 'no tune has the number 99'
     run move big 1 191
-    refused 1 'it has 190 places'
+    refused 1 'no such place'
     same tunes.abcx before
     run put big 1 2 3 4 5 6 7 8 9 10
     done_with ''
@@ -1940,12 +2121,13 @@ cases_of_options() {
         refused 2 "'-3' is no number"
     done
     rm ./-dash.abcx ./=.abcx ./--
-    for line in 'find --help' 'help find' 'export --help'; do
+    for line in 'find --help' 'help find' '--help find' 'export --help' 'put --help' 'help put' \
+        'undo --help' 'edit --help' 'help print' 'add --help' 'help backup'; do
         run $line
         ends_with 0
-        grep -q -e --help "$work/out" || wrong "'$line' is no page of help"
+        grep -q 'Usage: tunes-book [a-z]' "$work/out" || wrong "'$line' is no page of help"
     done
-    for line in 'put --help' 'help put' '--help find' -h; do
+    for line in -h --help help; do
         run $line
         done_with "$("$root/tunes-book" --help)"
     done
@@ -1969,9 +2151,7 @@ END
     refused 1 'friday.ps is not made'
     odd=$(printf 'a\351.abcx')
     cp tunes.abcx "$odd"
-    run -f "$odd" put a 1
-    refused 1 'the path is not UTF-8'
-    for line in titles 'export b.abc'; do
+    for line in titles 'export b.abc' 'put a 1' "add $book"; do
         run -f "$odd" $line
         refused 2 'a word of the command is not UTF-8'
     done
@@ -1985,7 +2165,11 @@ END
     words='import-check -, of a file whose name is not UTF-8'
     done_with '-: 15 tunes'
     run add "$odd"
-    done_with "$odd: tunes 16 to 30"
+    refused 2 'a word of the command is not UTF-8'
+    $shell "$root/tunes-book" add - < "$odd" > "$work/out" 2> "$work/err"
+    status=$?
+    words='add -, of a file whose name is not UTF-8'
+    done_with '-: tunes 16 to 30'
     end
 
     begin 'what a tool says is told of the tune' session
@@ -2008,7 +2192,7 @@ END
     run_over_bin --force hear 3 a.mid
     done_with ''
     tool_is abc2midi << 'END'
-printf 'MThd\0\0\0\006\0\0\0\001\0`MTrk\0\0\0\011\0\377/\0' > tune.mid
+printf 'MThd\0\0\0\006\0\0\0\001\0`MTrk\0\0\0\004\0\377' > book.mid
 END
     cp a.mid wanted
     run_over_bin hear 3 a.mid
@@ -2035,6 +2219,12 @@ lines' 'star *'; do
         [ -z "$(ls -A -- "$folder")" ] || wrong "working files are left in $folder"
     done
     end
+}
+
+# The calls of `trace` that sync or name files, in their order.
+syncs_and_names() {
+    sed -n 's/.*\b\(fsync\|fdatasync\|link\|linkat\|rename\|renameat\|renameat2\)(.*/\1/p' trace |
+        sed 's/^fdatasync/fsync/; s/at2*$//' | tr '\n' ' ' > "$work/found"
 }
 
 # Runs the program that asks as `strace` has it, and says what it did that no question may do: FILE
@@ -2247,11 +2437,12 @@ cases_of_questions() {
         rm -f out.* err.*
         flock -s tunes.abcx sh -c ': > locked; while [ ! -e over ]; do sleep 0.05; done' &
         while [ ! -e locked ]; do sleep 0.05; done
-        for line in titles 'show 1' 'find kesh' 'export b.abc' 'dump b' check count ask; do
+        for line in titles 'show 1' 'find kesh' 'export b.abc' 'dump b' check count ask 'backup c'
+        do
             run $line
             ends_with 0
         done
-        for line in 'put a 1' 'backup c' 'put a 1 --wait 1' upgrade; do
+        for line in 'put a 1' 'add b.abc' 'put a 1 --wait 1' upgrade; do
             run $line
             refused 1 'another program has it open'
         done
@@ -2336,8 +2527,7 @@ open("stopped", "wb").write(opened(before, after))' "$root/checks" || wrong 'no 
             status=$?
             words="$line, under strace"
             ends_with 0
-            sed -n 's/.*\b\(fsync\|fdatasync\|link\|linkat\|rename\|renameat\|renameat2\)(.*/\1/p' \
-                trace | sed 's/^fdatasync/fsync/; s/at2*$//' | tr '\n' ' ' > "$work/found"
+            syncs_and_names
             case $(cat "$work/found") in
             *'fsync link fsync ' | *'fsync rename fsync ') ;;
             *) wrong "'$words' syncs and names in the order '$(cat "$work/found")'" ;;
@@ -2388,13 +2578,17 @@ cases_of_tools() {
     case $shell in
     busy*) ;;
     *)
-        for missing in awk mktemp od; do
+        for words_of in 'edit 1:cmp' 'print a.ps:awk' 'hear 1 a.mid:mktemp'; do
+            missing=${words_of#*:}
             tools_without "$missing"
+            : > bin/abcm2ps
+            : > bin/abc2midi
+            chmod +x bin/abcm2ps bin/abc2midi
             was=$PATH
             PATH=$PWD/bin
-            run_by_path undo
+            run_by_path ${words_of%:*}
             PATH=$was
-            words="undo without $missing"
+            words=$words_of
             refused 4 "the program $missing is not found"
             rm -r bin
         done ;;
@@ -2408,7 +2602,7 @@ cases_of_tools() {
     PATH=$PWD/bin:$PATH
     for name in out.ps out.mid wanted; do echo older > $name; done
     for body in 'exit 1' 'exit 0' 'echo half > book.ps' ': > book.ps; exit 2' \
-        'echo half > tune.mid' ': > tune.mid'; do
+        'echo half > book.mid' ': > book.mid'; do
         for tool in abcm2ps abc2midi; do
             printf '#!/bin/sh\n%s\n' "$body" > bin/$tool
             chmod +x bin/$tool
@@ -2441,7 +2635,7 @@ cases_of_tools() {
         run print all.ps
         ends_with 0
         [ "$(head -c 4 all.ps)" = %!PS ] || wrong 'all.ps is no PostScript'
-        has 'all.ps friday.pdf tunes.abcx'
+        has 'all.ps friday.pdf tunes.abcx tunes.abcx.old.abc'
         end
     else
         skip 'sheets of music' 'abcm2ps or ps2pdf'
@@ -2496,6 +2690,12 @@ tunes-book --|tunes-book --csv --force --help --json --version --wait
 tunes-book -f a|tunes-book -f a\ b all.abc
 tunes-book -f tunes.abcx fi|tunes-book -f tunes.abcx find
 tunes-book u|tunes-book undo upgrade
+tunes-book undo |tunes-book undo --csv --json --list --to
+tunes-book replace 3 a|tunes-book replace 3 a\ b all.abc
+tunes-book replace 3 --|tunes-book replace 3 --revision
+tunes-book restore --|tunes-book restore --force
+tunes-book check bi|tunes-book check bin
+tunes-book re|tunes-book replace restore
 tunes-book upgrade |tunes-book upgrade
 tunes-book find r|tunes-book find rhythm
 tunes-book --wait 5 find --w|tunes-book --wait 5 find --within
@@ -2514,7 +2714,8 @@ tunes-book put friday |tunes-book put friday
 tunes-book print bi|tunes-book print bin
 tunes-book print a.pdf fri|tunes-book print a.pdf friday
 tunes-book export a.abc |tunes-book export a.abc francis friday x
-tunes-book add --|tunes-book add --dry --new --split
+tunes-book add --|tunes-book add --carry --dry --good --new --show-lost --split
+tunes-book backup --|tunes-book backup --keep
 tunes-book add a|tunes-book add a\ b all.abc
 tunes-book add b.abc a\ b/|tunes-book add b.abc a\ b/c.abc
 tunes-book show a|tunes-book show a
@@ -2860,9 +3061,10 @@ for shell in ${SHELLS:-sh bash busybox}; do
     esac
     for part in ${PARTS:-words options questions books sets edits undo kept copies outs layouts \
         devices programs stops tools}; do
-        [ "$part" = pages ] || "cases_of_$part"
+        case $part in pages | progress) ;; *) "cases_of_$part" ;; esac
     done
 done
 shell='sh'
-case ${PARTS:-pages} in *pages*) cases_of_pages ;; esac
+case ${PARTS-}.${SHELLS-} in *progress*.* | .) cases_of_progress ;; esac
+case ${PARTS-}.${SHELLS-} in *pages*.* | .) cases_of_pages ;; esac
 [ "$failures" -eq 0 ]

@@ -79,8 +79,8 @@ TEXTS = [LONG, *(tune(b'Tune %d of the middle of the night' % number) for number
 NUMBER_OF_ONLY = len(TEXTS)
 ONE = [tune(b'One more, and the %dth of them' % number, 60) for number in range(8)]
 OTHER = [tune(b'Another, and the %dth of them' % number, 60) for number in range(8)]
-# 700 tunes, of which 666 go into a part of 4,000,000 bytes.
-LENGTH, IN_FIRST = 6000, 666
+# 700 tunes: a part is full once it has more than 1,000,000 bytes, so by 167 of them.
+LENGTH, IN_PART = 6000, 167
 LARGE = [(b'T:Large %d\nK:C\n' % number + b'abcdefgabcdefgabc|\n' * 400)[:LENGTH - 8] + b'\n'
          for number in range(700)]
 
@@ -115,10 +115,10 @@ TOOLS = {
     # It ends with 0 where it had no room too, as the true one does.
     'abcm2ps': '{ echo %!PS && cat "$4" && echo %%EOF; } > "$3"; exit 0',
     'ps2pdf': '{ echo %PDF-1.4 && cat "$1" && echo %%EOF; } > "$2"',
-    # A chunk: its name, its length in 4 bytes, and as many bytes.
+    # A chunk: its name, its length in 4 bytes, as many bytes, and the end of a track.
     'abc2midi': r'''length=$(($(wc -c < "$1")))
 high=$(printf %03o $((length / 256))) low=$(printf %03o $((length % 256)))
-{ printf "MThd\\000\\000\\$high\\$low" && cat "$1"; } > "$3"''',
+{ printf "MThd\\000\\000\\$high\\$low" && cat "$1" && printf "\\377/\\000"; } > "$3"''',
 }
 
 
@@ -346,8 +346,9 @@ def one_book(before, after):
     return [after.up_to(len(before.texts) + len(ONE))]
 
 
-def one_part(before, after):
-    return [after.up_to(len(before.texts) + IN_FIRST)]
+def some_parts(before, after):
+    return [after.up_to(len(before.texts) + count)
+            for count in range(IN_PART, len(LARGE), IN_PART)]
 
 
 def moved(name, place, to):
@@ -411,13 +412,13 @@ CASES = [
     Case('delete, a long tune', 'delete', '1', keeps=True),
     Case('undo of an edit', 'undo', start='edited', undoes=True),
     Case('undo of a delete', 'undo', start='deleted', undoes=True, parts=back_at_the_end),
-    Case('put, a new list', 'put', 'new', *PUT, parts=places_of(b'new', TWENTY)),
-    Case('put', 'put', 'short', *PUT, parts=places_of(b'short', TWENTY)),
-    Case('move', 'move', 'full', '190', '198', parts=moved(b'full', 190, 198)),
+    Case('put, a new list', 'put', 'new', *PUT, keeps=True, parts=places_of(b'new', TWENTY)),
+    Case('put', 'put', 'short', *PUT, keeps=True, parts=places_of(b'short', TWENTY)),
+    Case('move', 'move', 'full', '190', '198', keeps=True, parts=moved(b'full', 190, 198)),
     Case('add', 'add', 'one.abc', 'other.abc', parts=one_book, silent=True),
     Case('add --new, all there', 'add', '--new', 'all.abc'),
     Case('add --new, half there', 'add', '--new', 'half.abc'),
-    Case('add --split', 'add', '--split', 'large.abc', start='large', parts=one_part, silent=True,
+    Case('add --split', 'add', '--split', 'large.abc', start='large', parts=some_parts, silent=True,
          rooms=FOR_LARGE),
     Case('add --dry', 'add', '--dry', 'one.abc', 'other.abc', reads=True),
     Case('import-check', 'import-check', 'one.abc', 'other.abc', reads=True),
@@ -689,10 +690,12 @@ def replaces_all(run):
 
 
 def kept_texts(book):
+    """The tunes of a book of old texts that are there to their last byte, by the lines before."""
     texts = set()
-    for entry in re.finditer(rb'^% tunes-book [a-z]+ \d+ \d+ (\d+)(?: \d+)*\n', book, re.MULTILINE):
-        text = book[entry.end():entry.end() + int(entry.group(1))]
-        if len(text) == int(entry.group(1)):
+    for line in re.finditer(rb'^% tune (\d+) was (\d+) is .*\n', book, re.MULTILINE):
+        whole = len(b'X:%s\n' % line.group(1)) + int(line.group(2))
+        text = book[line.end():line.end() + whole]
+        if len(text) == whole:
             texts.add(text)
     return texts
 

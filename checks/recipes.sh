@@ -385,9 +385,6 @@ begin 'the archive of the README'
 run first
 ends_with 0
 says 'examples/session.abc: tunes 1 to 15'
-run_again first
-ends_with 3
-says ''
 holds 'layout 2 tunes 15 sets 0'
 end
 
@@ -396,13 +393,13 @@ run begin
 says '1 Kesh Jig, The'
 if command -v abcm2ps > "$work/told" && command -v ps2pdf > "$work/told"; then
     ends_with 0
-    has 'friday.pdf tunes.abcx'
+    has 'friday.pdf tunes.abcx tunes.abcx.old.abc'
     run_again begin
     ends_with 1
     grep -q 'friday.pdf is there' "$work/err" || wrong 'it does not say why'
 else
     ends_with 4
-    has 'tunes.abcx'
+    has 'tunes.abcx tunes.abcx.old.abc'
     run_again begin
     ends_with 4
 fi
@@ -417,7 +414,7 @@ ends_with 0
 says ''
 run_again make
 ends_with 3
-grep -q 'the file is not empty' "$work/err" || wrong 'it does not say why'
+grep -q 'there is such a file' "$work/err" || wrong 'it does not say why'
 holds 'layout 2 tunes 0 sets 0'
 end
 
@@ -429,6 +426,10 @@ cp tunes.abcx once.abcx
 run_again add
 ends_with 0
 says 'mine.abc: tunes 16 to 30'
+./tunes-book -f tunes.abcx undo > "$work/out" 2> "$work/err"
+status=$?
+ends_with 0
+says 'tunes 16 to 30 are out again'
 mv once.abcx tunes.abcx
 holds 'layout 2 tunes 15 sets 0'
 echo export | ./tunes run tunes.abcx | sed 1d > "$work/found"
@@ -526,6 +527,22 @@ holds 'layout 2 tunes 15 sets 0'
 has 'mine.abc tunes.abcx tunes.abcx.old.abc'
 end
 
+go_on 'changing a tune by a book'
+cp tunes.abcx "$work/before"
+run put-back
+ends_with 0
+says 'tune 3 has revision 3 now'
+sed 's/^R:.*/R:reel/' "$work/tune" > "$work/wanted"
+same new.abc "$work/wanted"
+echo show 3 | ./tunes run tunes.abcx | sed 1d > "$work/found"
+same "$work/found" "$work/wanted"
+run_again put-back
+ends_with 0
+says 'tune 3 is not changed'
+cp "$work/before" tunes.abcx
+rm new.abc tune.abc
+end
+
 go_on 'undoing'
 echo export | ./tunes run tunes.abcx > "$work/wanted"
 run undo
@@ -535,6 +552,22 @@ run_again undo
 ends_with 0
 echo export | ./tunes run tunes.abcx > "$work/found"
 same "$work/found" "$work/wanted"
+end
+
+go_on 'undoing several changes'
+blocks output undo-to > "$work/told"
+run undo-to
+ends_with 0
+{ sed -n 1,3p "$work/out" && sed -n '/ again$/p; / was$/p' "$work/out"; } > "$work/found"
+same "$work/found" "$work/told"
+run_again undo-to
+ends_with 0
+./tunes-book -f tunes.abcx undo --to 2 > "$work/out" 2> "$work/err"
+status=$?
+ends_with 0
+echo export | ./tunes run tunes.abcx > "$work/found"
+same "$work/found" "$work/wanted"
+holds 'layout 2 tunes 15 sets 0'
 end
 
 go_on 'a set list in a file'
@@ -688,14 +721,23 @@ ends_with 0
 says ''
 same "$copy" tunes.abcx
 cp "$copy" "$work/wanted"
+run sums
+ends_with 0
+says 'no copy has changed'
 run_again back-up
-ends_with 1
+ends_with 0
+says "the copy is $copy.1"
 same "$copy" "$work/wanted"
-has "backup $copy mine.abc tunes.abcx"
+same "$copy.1" tunes.abcx
+run sums
+says 'no copy has changed'
+has "backup $copy $copy.1 $copy.1.sha256 $copy.sha256 mine.abc tunes.abcx"
+rm "$copy.1" "$copy.1.sha256"
 end
 
 go_on 'backing up while a program has the archive open'
 mv "$copy" "$work/copy.abcx"
+mv "$copy.sha256" "$work/copy.sum"
 hold ./tunes run tunes.abcx
 echo 'delete 15' >&9
 run back-up
@@ -704,6 +746,7 @@ let_go
 holds 'layout 2 tunes 14 sets 1'
 has 'backup mine.abc tunes.abcx'
 mv "$work/copy.abcx" "$copy"
+mv "$work/copy.sum" "$copy.sha256"
 end
 
 go_on 'restoring'
@@ -720,7 +763,7 @@ says 'layout 2 tunes 15 sets 1
 the archive that was there is tunes.abcx.2.old now'
 same tunes.abcx "$copy"
 same tunes.abcx.2.old "$copy"
-has "backup $copy mine.abc tunes.abcx tunes.abcx.1.old tunes.abcx.2.old"
+has "backup $copy $copy.sha256 mine.abc tunes.abcx tunes.abcx.1.old tunes.abcx.2.old"
 rm tunes.abcx.*
 end
 
@@ -842,7 +885,7 @@ ok find 1
 1 Kesh Jig, The
 $(cat "$work/shown")"
 holds 'layout 2 tunes 15 sets 0'
-has 'mine.abc tunes.abcx'
+has 'mine.abc tunes.abcx tunes.abcx.old.abc'
 end
 
 go_on 'replacing a tune by a script'
@@ -904,7 +947,7 @@ ends_with 1
 says 'refused 11 NoSuchSet'
 same friday.abc "$work/set"
 rm friday.abc tune.*
-has 'mine.abc tunes.abcx'
+has 'mine.abc tunes.abcx tunes.abcx.old.abc'
 end
 
 # Takes the archive of a script over to a new one by a script, and compares the two.

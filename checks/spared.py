@@ -19,6 +19,7 @@ scripts in place of the real ones. A line is printed for each fault, in which /w
 of its world, and one at the end for all; the status is 1 where there was a fault.
 """
 import argparse
+import hashlib
 import os
 import random
 import re
@@ -424,7 +425,11 @@ class Call:
             file = out
         self.out_word, self.file_word = out, file
         self.file, self.out = os.path.join(cwd, file), os.path.join(cwd, out)
+        if command == 'backup' and not same(self.file, self.out):
+            self.out = next_copy(self.out)
         self.real_file, self.real_out = os.path.realpath(self.file), os.path.realpath(self.out)
+        # Beside a copy stands its sum.
+        self.sum = in_real_folder(self.out) + '.sha256' if command == 'backup' else None
         by_variable = world.chance.random() < 0.25
         self.variable = {'TUNES_BOOK': file if by_variable else ''}
         rest = {'hear': [more, out], 'load': [more], 'new': []}.get(command, [out, more])
@@ -447,6 +452,19 @@ class Call:
     def out_data(self):
         """The bytes of the file that stands at OUT, or nothing where there is none."""
         return bytes_of(self.real_out) if os.path.isfile(self.real_out) else None
+
+
+def next_copy(copy):
+    """Where a copy goes: COPY, or COPY and the next number where that or one by a number stands."""
+    above, name = os.path.split(copy)
+    if os.path.exists(copy) and not os.path.isfile(copy):
+        return copy
+    standing = os.listdir(above) if os.path.isdir(above) else []
+    matches = [re.fullmatch(re.escape(name) + r'\.([1-9][0-9]{0,8})', other) for other in standing]
+    numbers = [int(match[1]) for match in matches if match]
+    if not numbers and not os.path.exists(copy):
+        return copy
+    return f'{copy}.{max(numbers, default=0) + 1}'
 
 
 def quoted(word):
@@ -539,9 +557,11 @@ def is_companion(call):
 
 
 def is_there(call):
-    """what backup, load and new make is not to be there"""
+    """what load and new make is not to be there, nor the sum of a copy"""
+    if call.sum and os.path.lexists(call.sum):
+        return {REFUSED}
     if os.path.isfile(call.real_out):
-        if call.command in ('backup', 'load'):
+        if call.command == 'load':
             return {REFUSED}
         if call.command == 'new' and call.out_data():
             return {REFUSED, NO_ARCHIVE}
@@ -553,12 +573,24 @@ def stands(call):
         return {REFUSED}
 
 
-RULES = [wrong_ending, no_option, no_archive, no_such_part, no_script, no_text, no_place, no_file,
-         is_file, is_archive, is_companion, is_there, stands]
+def no_sum(call):
+    """sha256sum reads no such name"""
+    if call.command == 'backup' and set(os.path.basename(call.out)) & set('\\\n\r'):
+        return {BAD_WORDS}
+
+
+RULES = [no_sum, wrong_ending, no_option, no_archive, no_such_part, no_script, no_text, no_place,
+         no_file, is_file, is_archive, is_companion, is_there, stands]
 
 
 def same(path, other):
     return os.path.exists(path) and os.path.exists(other) and os.path.samefile(path, other)
+
+
+def sum_line(call, data):
+    """What `sha256sum -c` reads of a copy."""
+    name = os.fsencode(os.path.basename(call.out))
+    return hashlib.sha256(data).hexdigest().encode() + b'  ' + name + b'\n'
 
 
 def in_real_folder(path):
@@ -671,7 +703,7 @@ def is_whole(call, data):
     """Whether these bytes at OUT are what the call had to write."""
     answer = call.world.run.answer
     if call.command == 'backup':
-        return data == bytes_of(call.file)
+        return data == bytes_of(call.file) and bytes_of(call.sum) == sum_line(call, data)
     if call.command == 'dump':
         return is_written_script(data) and holds_by(call, data) == answer('run', call.file, LOOK)[1]
     if call.command == 'new':
@@ -703,7 +735,7 @@ def difference(before, after):
 def judge(call, refusals, doubts, status, before, after):
     """What is wrong with the outcome of a call, as a list."""
     wrong, why = [], [rule.__doc__ for rule in RULES if rule in refusals]
-    may = {call.real_out} if status == DONE and not refusals else set()
+    may = {call.real_out, call.sum} if status == DONE and not refusals else set()
     for path, what in difference(before, after):
         if path not in may:
             wrong.append(f'{inside(path, call.world)} is {what}')

@@ -43,19 +43,22 @@ _tunes_book() {
         return
     fi
     case $((COMP_CWORD - at)).$command.$word in
-    0.*) names='new add import-check find count random titles twins sets show edit delete undo
-        set put cut drop move export print hear site backup restore dump load check ask upgrade
-        help -f --wait --json --csv --force --help --version' ;;
+    0.*) names='new add import-check find count random titles twins sets show edit replace delete
+        undo set put cut drop move export print hear site backup restore dump load check ask
+        upgrade help -f --wait --json --csv --force --help --version' ;;
     1.find.* | 1.random.*) names="title rhythm key notes $finding --json --csv" ;;
     1.count.*) names="title rhythm key notes $finding" ;;
     1.set.* | 1.put.* | 1.cut.* | 1.move.* | 1.drop.* | 2.export.* | 2.print.* | 2.site.*)
         names=$("${COMP_WORDS[0]}" -f "$file" sets 2> /dev/null | cut -d ' ' -f 1) ;;
-    1.add.-*) names='--new --split --dry' ;;
+    *.add.-*) names='--new --split --dry --good --show-lost --carry' ;;
+    *.backup.-*) names='--keep' ;;
     1.export.-* | 1.print.-*) names='--force --tune' ;;
-    1.hear.-* | 1.dump.-*) names='--force' ;;
+    1.hear.-* | 1.dump.-* | 1.restore.-*) names='--force' ;;
+    1.undo.*) names='--list --to --json --csv' ;;
+    *.replace.-*) names='--revision' ;;
     1.titles.* | 1.twins.* | 1.sets.*) names='--json --csv' ;;
     *.add.* | *.import-check.* | 1.export.* | 1.print.* | 1.backup.* | 1.restore.* | 1.dump.* | \
-        1.load.* | 1.site.* | 2.hear.*) _tunes_files "$word"; return ;;
+        1.load.* | 1.site.* | 1.check.* | 2.hear.* | 2.replace.*) _tunes_files "$word"; return ;;
     esac
     mapfile -t COMPREPLY < <(compgen -W "$names" -- "$word")
 }

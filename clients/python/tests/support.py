@@ -53,6 +53,7 @@ class InFolder(unittest.TestCase):
         self.addCleanup(shutil.rmtree, self.folder, ignore_errors=True)
         self.path = self.at('tunes.abcx')
         self.archives = []
+        self.told = {}
 
     def at(self, name):
         return os.path.join(self.folder, name)
@@ -144,8 +145,20 @@ class InFolder(unittest.TestCase):
                 f'from tunes_archive import *\n'
                 f'programs = Programs({program("TUNES")!r}, {program("TUNES_DESK")!r})\n'
                 f'archive = Archive({self.path!r}, programs=programs, hold=600)\n{body}\n')
-        return subprocess.Popen([sys.executable, '-B', '-c', text], stdin=subprocess.PIPE,
-                                stdout=subprocess.PIPE, stderr=subprocess.DEVNULL)
+        told = tempfile.TemporaryFile()
+        self.addCleanup(told.close)
+        process = subprocess.Popen([sys.executable, '-B', '-c', text], stdin=subprocess.PIPE,
+                                   stdout=subprocess.PIPE, stderr=told)
+        self.told[process.pid] = told
+        return process
+
+    def assertSays(self, process, line):
+        """The next line of a program; else what it has on standard error is told."""
+        said = process.stdout.readline()
+        if said != line:
+            told = self.told[process.pid]
+            told.seek(0)
+            self.fail(f'it says {said!r}, and on standard error {os.fsdecode(told.read())}')
 
 
 FAKE = r'''

@@ -32,7 +32,7 @@ class Ends(InFolder):
         self.addCleanup(process.stdin.close)
         self.addCleanup(process.wait)
         self.addCleanup(process.kill)
-        self.assertEqual(process.stdout.readline(), b'here\n')
+        self.assertSays(process, b'here\n')
         return process
 
     SAY = 'sys.stdout.write("here\\n"); sys.stdout.flush()\n'
@@ -150,7 +150,7 @@ time.sleep(600)''')
         thread = threading.Thread(target=interrupt)
         thread.start()
         try:
-            self.assertEqual(process.stdout.readline(), b'done\n')
+            self.assertSays(process, b'done\n')
         finally:
             ended.set()
             thread.join()

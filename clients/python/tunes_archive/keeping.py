@@ -361,13 +361,14 @@ class Keeper:
     def block(self, use: Use) -> Iterator[None]:
         """Keeps the file open for the calls within, and lets go of it at the end."""
         with self._lock:
-            forks = self._forks
-            self._enter(use)
+            forks, outer = self._forks, len(self._blocks)
             try:
+                # An interrupt may come behind its last step: the block was entered then.
+                self._enter(use)
                 yield
             finally:
-                if forks == self._forks:
-                    self._blocks.pop()
+                if forks == self._forks and len(self._blocks) > outer:
+                    del self._blocks[outer:]
                     if not self._blocks:
                         self._leave()
 

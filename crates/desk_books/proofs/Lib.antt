@@ -1,3 +1,4 @@
 pub mod AddLemmas
 pub mod BookLemmas
+pub mod KnownLemmas
 pub mod TurnLemmas

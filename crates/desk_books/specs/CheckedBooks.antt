@@ -1,6 +1,6 @@
 -- What is told of books that are tried without an archive: to standard output a line for each that
 -- was read and would be taken in, in order; and the status.
-use Rattle.std.specs.Prelude.{◌≡◌, ◌≢◌, ◌⊎◌, ℕ, List, [], ◌∷◌, ◌++◌, length, max}
+use Rattle.std.specs.Prelude.{◌≡◌, ◌≢◌, ◌⊎◌, ℕ, List, [], ◌++◌, length, max}
 use Rattle.std.specs.Prelude.{Bool, true, false, not, ◌&&◌, ◌||◌, nat_eq, ◌==◌, if◌then◌else◌}
 use Rattle.std.specs.Prelude.{String, Result, Ok, Err, string_bytes, count_by, codes, decimal}
 use Rattle.std.specs.List.{ends_with, list_any}

@@ -1,19 +1,35 @@
 // Books that are taken in.
-ghost use Rattle.std.specs.Prelude.{map, string_bytes};
-ghost use Rattle.desk_books.specs.AddedBooks.{Adds, AddsFound, given_of};
+ghost use Rattle.std.specs.Prelude.{◌≡◌, map, None, false, string_bytes};
+ghost use Rattle.tune_pages.specs.Kept.{HonestAt};
+ghost use Rattle.tune_contents.specs.Holds.{labels_in};
+ghost use Rattle.tune_store.specs.Labels.{labels_of};
+ghost use Rattle.tune_archive.specs.AsStore.{store_on};
+ghost use Rattle.tune_archive.specs.Shelf.{state_of};
+ghost use Rattle.desk_books.specs.AddedBooks.{Adds, AddsFound, TakesAll, TakesFound};
+ghost use Rattle.desk_books.specs.Givens.{given_by};
+ghost use Rattle.tune_desk.specs.Results.{SparesFiles, places_of};
 
+use crate::asked_texts::known_texts;
 use crate::found_books::find_books;
-use crate::taken_books::take_books;
-use desk_scenes::{REFUSED, Unopened, open_once, read_input, say, say_unopened};
+use crate::requests::Request;
+use crate::taken_books::{Course, take_books};
+use crate::tried_books::try_books;
+use desk_scenes::{
+    Progress, REFUSED, Unanswered, open_once, read_input, say, say_unanswered,
+    say_unopened_to_change,
+};
 use desk_terms::Adding;
 use std::alloc::Global;
 use std::io::Write;
+use tune_archive::Archive;
 use tune_desk::Desk;
 use tune_disk::{Access, Disk};
 use tune_scripts::Console;
 
-/// Takes the books of these paths into FILE, and gives the status.
-pub fn add<C: Console, E: Write, D: Disk, K: AllocGlobal + Desk<Disk = D>>(
+/// Takes the books of these paths into FILE, and gives the status: 0 where all went in; 1 where one
+/// is refused, or a device failed; 2 where there is none; 3 no archive, or a damaged one. Where
+/// they are only tried, FILE is asked, and what would be taken in is told.
+pub fn add<C: Console, E: Write + Progress, D: Disk, K: AllocGlobal + Desk<Disk = D>>(
     desk: &mut K,
     file: &String,
     books: &[String],
@@ -21,7 +37,9 @@ pub fn add<C: Console, E: Write, D: Disk, K: AllocGlobal + Desk<Disk = D>>(
     console: &mut C,
     errors: &mut E,
 ) -> u8
-    ensures { Adds D.Disk (string_bytes file.now) how.now
+    ensures files { SparesFiles (places_of (string_bytes file.now) None false)
+        (K.deeds desk.old) (K.deeds desk.new) }
+    ensures adds { Adds D.Disk (string_bytes file.now) how.now
         (K.deeds desk.old) (K.deeds desk.new) result }
 {
     match find_books(desk, file, books, errors) {
@@ -30,7 +48,7 @@ pub fn add<C: Console, E: Write, D: Disk, K: AllocGlobal + Desk<Disk = D>>(
     }
 }
 
-fn add_found<C: Console, E: Write, D: Disk, K: AllocGlobal + Desk<Disk = D>>(
+fn add_found<C: Console, E: Write + Progress, D: Disk, K: AllocGlobal + Desk<Disk = D>>(
     desk: &mut K,
     file: &String,
     found: &[String],
@@ -38,11 +56,20 @@ fn add_found<C: Console, E: Write, D: Disk, K: AllocGlobal + Desk<Disk = D>>(
     console: &mut C,
     errors: &mut E,
 ) -> u8
-    ensures { Adds D.Disk (string_bytes file.now) how.now
+    ensures files { SparesFiles (places_of (string_bytes file.now) None false)
+        (K.deeds desk.old) (K.deeds desk.new) }
+    ensures adds { Adds D.Disk (string_bytes file.now) how.now
         (K.deeds desk.old) (K.deeds desk.new) result }
 {
     match input_of(desk.alloc(), found, console) {
-        Some(input) => add_all(desk, file, found, input.as_slice(), how, console, errors),
+        Some(input) => {
+            let request = Request {
+                file,
+                input: input.as_slice(),
+                how,
+            };
+            add_given(desk, &request, found, console, errors)
+        }
         None => {
             say(errors, "standard input", "it could not be read to its end");
             REFUSED
@@ -60,42 +87,78 @@ fn input_of<C: Console>(alloc: Global, found: &[String], console: &mut C) -> Opt
     }
 }
 
-fn add_all<C: Console, E: Write, D: Disk, K: AllocGlobal + Desk<Disk = D>>(
+fn add_given<C: Console, E: Write + Progress, D: Disk, K: AllocGlobal + Desk<Disk = D>>(
     desk: &mut K,
-    file: &String,
+    request: &Request,
     found: &[String],
-    input: &[u8],
-    how: &Adding,
     console: &mut C,
     errors: &mut E,
 ) -> u8
-    ensures { AddsFound D.Disk (given_of (string_bytes file.now) input.now how.now)
-        (map string_bytes found.now)
+    ensures files { SparesFiles (places_of (string_bytes request.now.file.now) None false)
+        (K.deeds desk.old) (K.deeds desk.new) }
+    ensures adds { AddsFound D.Disk (given_by request.now) (map string_bytes found.now)
         (K.deeds desk.old) (K.deeds desk.new) result }
 {
-    match open_once(desk, file, Access::Change) {
-        Ok(mut archive) => {
-            let (status, _course) = take_books(
-                desk,
-                file,
-                found,
-                input,
-                how,
-                &mut archive,
-                console,
-                errors,
-            );
-            desk.close(file, archive.into_disk());
-            status
-        }
-        Err(why) => say_unopened(errors, file.as_str(), for_a_change(why)),
+    if request.how.dry {
+        try_books(desk, request, found, console, errors)
+    } else {
+        take_found(desk, request, found, console, errors)
     }
 }
 
-// FILE is not opened in the middle of a change of before.
-fn for_a_change(why: Unopened) -> Unopened {
-    match why {
-        Unopened::Unmended(fault) => Unopened::Unread(fault),
-        why => why,
+fn take_found<C: Console, E: Write + Progress, D: Disk, K: AllocGlobal + Desk<Disk = D>>(
+    desk: &mut K,
+    request: &Request,
+    found: &[String],
+    console: &mut C,
+    errors: &mut E,
+) -> u8
+    ensures files { SparesFiles (places_of (string_bytes request.now.file.now) None false)
+        (K.deeds desk.old) (K.deeds desk.new) }
+    ensures takes { TakesFound D.Disk (given_by request.now) (map string_bytes found.now)
+        (K.deeds desk.old) (K.deeds desk.new) result }
+{
+    match open_once(desk, request.file, Access::Change) {
+        Ok(mut archive) => {
+            // For the proof.
+            archive.law_of_labels();
+            let status = take_all(desk, request, found, &mut archive, console, errors);
+            desk.close(request.file, archive.into_disk());
+            status
+        }
+        Err(why) => say_unopened_to_change(errors, request.file.as_str(), why),
+    }
+}
+
+fn take_all<C: Console, E: Write + Progress, D: Disk, K: AllocGlobal + Desk<Disk = D>>(
+    desk: &mut K,
+    request: &Request,
+    found: &[String],
+    archive: &mut Archive<D>,
+    console: &mut C,
+    errors: &mut E,
+) -> u8
+    ensures files { SparesFiles (places_of (string_bytes request.now.file.now) None false)
+        (K.deeds desk.old) (K.deeds desk.new) }
+    ensures takes { archive.old.closed ≡ false
+        → (HonestAt D.honest archive.old.pages.disk
+        → labels_in archive.old.contents.rows.items
+        ≡ labels_of (state_of D.state archive.old).tunes)
+        → TakesAll (store_on D.Disk) (given_by request.now) (map string_bytes found.now) (record {
+          start = archive.old;
+          finish = archive.new;
+          was = K.deeds desk.old;
+          now = K.deeds desk.new;
+        }) result }
+{
+    match known_texts(desk.alloc(), archive, request.how.only_new) {
+        Ok(known) => {
+            let mut course = Course::new(known);
+            take_books(desk, request, found, archive, &mut course, console, errors)
+        }
+        Err(refusal) => {
+            let why = Unanswered::Refused(refusal);
+            say_unanswered(errors, request.file.as_str(), "add", &why)
+        }
     }
 }

@@ -11,11 +11,12 @@ ghost use Rattle.desk_books.specs.CheckedBooks.{TellsPaths, is_book_name, lost_t
 ghost use Rattle.desk_books.specs.Stages.{EachInTurn, stage_of};
 ghost use Rattle.desk_scenes.specs.Scenes.{IsQuiet};
 
+use crate::lost_lines::say_dropped_lines;
 use abc_fields::{BookFault, ByteText, TuneFault};
 use desk_scenes::{BAD_WORDS, DONE, REFUSED, desk_reason, print, read_input, say};
 use std::alloc::{AllocError, Global};
 use std::io::Write;
-use told_books::{DroppedLine, ToldBook, told_book};
+use told_books::{ToldBook, told_book};
 use tune_desk::{Desk, DeskFault, Standing};
 use tune_scripts::Console;
 use tune_store::Layout;
@@ -248,10 +249,7 @@ fn say_told<E: Write>(errors: &mut E, path: &str, told: &ToldBook) -> u8
             say_bad_tune(errors, path, tune.line, place, fault);
         }
     }
-    for line in told.dropped.as_slice() {
-        say_dropped(errors, path, line);
-    }
-    let _ = errors.flush();
+    say_dropped_lines(errors, path, told.dropped.as_slice(), 0);
     match told.fault() {
         None => DONE,
         Some(fault) => {
@@ -272,24 +270,6 @@ fn say_bad_tune<E: Write>(errors: &mut E, path: &str, line: usize, place: u64, f
             "tunes-book: {path}:{line}: tune {place} is too long; cut it in two\n"
         ),
     };
-}
-
-fn say_dropped<E: Write>(errors: &mut E, path: &str, line: &DroppedLine) {
-    let number = line.number;
-    let _ = if line.directive {
-        write!(
-            errors,
-            "tunes-book: {path}:{number}: it is in no tune, and is not kept, though it changes how \
-             a sheet looks: "
-        )
-    } else {
-        write!(
-            errors,
-            "tunes-book: {path}:{number}: it is in no tune, and is not kept: "
-        )
-    };
-    let _ = errors.write_all(line.text);
-    let _ = errors.write_all(b"\n");
 }
 
 fn say_bad_book<E: Write>(errors: &mut E, path: &str, fault: BookFault) {

@@ -257,7 +257,8 @@ fn put_paths(
 }
 
 // What stands at a path within a folder: a book, a folder, or neither. A link to a folder is not
-// followed, so that no folder is gone through twice.
+// followed, so that no folder is gone through twice. Where that cannot be seen, or nothing stands
+// there any more, no book is left out without a word.
 fn find_within<E: Write, K: AllocGlobal + Desk>(
     desk: &mut K,
     file: &String,
@@ -271,28 +272,41 @@ fn find_within<E: Write, K: AllocGlobal + Desk>(
     ensures refused { IfErr result (λ status. status ≢ 0) }
 {
     match desk.look(path) {
-        Ok(Standing::Folder) => {
-            if is_link(desk, path) {
-                return Ok(());
-            }
-            put_names(desk, path, pending, errors)
-        }
+        Ok(Standing::Folder) => find_inner(desk, path, pending, errors),
         Ok(Standing::File) => {
             if !is_book_name(path.as_str()) {
                 return Ok(());
             }
             find_beside(desk, file, old_texts, path, books, errors)
         }
-        _ => Ok(()),
+        Ok(Standing::Nothing) => Err(unread(errors, path.as_str(), DeskFault::Missing)),
+        Ok(Standing::Other) => Ok(()),
+        Err(fault) => Err(unread(errors, path.as_str(), fault)),
     }
 }
 
-fn is_link<K: AllocGlobal + Desk>(desk: &mut K, path: &String) -> bool
+fn find_inner<E: Write, K: AllocGlobal + Desk>(
+    desk: &mut K,
+    folder: &String,
+    pending: &mut Vec<String>,
+    errors: &mut E,
+) -> Result<(), u8>
+    ensures quiet { IsQuiet (K.deeds desk.old) (K.deeds desk.new) }
+    ensures refused { IfErr result (λ status. status ≢ 0) }
+{
+    match is_link(desk, folder) {
+        Ok(true) => Ok(()),
+        Ok(false) => put_names(desk, folder, pending, errors),
+        Err(fault) => Err(unread(errors, folder.as_str(), fault)),
+    }
+}
+
+fn is_link<K: AllocGlobal + Desk>(desk: &mut K, path: &String) -> Result<bool, DeskFault>
     ensures { IsQuiet (K.deeds desk.old) (K.deeds desk.new) }
 {
     match desk.follow(desk.alloc(), path) {
-        Ok(end) => end.as_str() != path.as_str(),
-        Err(_) => true,
+        Ok(end) => Ok(end.as_str() != path.as_str()),
+        Err(fault) => Err(fault),
     }
 }
 

@@ -1,114 +1,128 @@
 // Books that are taken in, one after another.
-ghost use Rattle.std.specs.Prelude.{◌≡◌, ◌+◌, ◌<◌, ◌^◌, ℕ, List, [], not, Ok, IfOk, IsOk};
-ghost use Rattle.std.specs.Prelude.{MatchResult};
-ghost use Rattle.std.specs.Prelude.{string_bytes, vec_len};
+ghost use Rattle.std.specs.Prelude.{◌≡◌, ◌+◌, ◌<◌, ◌^◌, ℕ, List, Ok, IfOk, IsOk, is_err};
+ghost use Rattle.std.specs.Prelude.{MatchResult, None, false, string_bytes, vec_len};
 ghost use Rattle.abc_fields.specs.Books.{book_answer};
 ghost use Rattle.tune_scripts.specs.Carried.{IsCarried};
-ghost use Rattle.tune_store.specs.Answers.{stays_open};
 ghost use Rattle.tune_store.specs.Limits.{longest_text};
 ghost use Rattle.tune_store.specs.declared.command.Command.TheVariants as command;
-ghost use Rattle.desk_books.specs.AddedBooks.{given_of, reached_at, no_course};
-ghost use Rattle.desk_books.specs.AddedBooks.{TakesPath, ReadsBook, TakesBook};
-ghost use Rattle.desk_books.specs.Stages.{EachInTurn};
-ghost use Rattle.desk_books.specs.AddedBooks.{KeepsBook};
-ghost use Rattle.tune_desk.specs.OldTexts.{GrowsNot};
 ghost use Rattle.tune_store.specs.declared.layout.Layout.{Layout};
+ghost use Rattle.tune_desk.specs.OldTexts.{GrowsNot};
+ghost use Rattle.tune_desk.specs.Results.{SparesFiles, places_of};
+ghost use Rattle.desk_books.specs.AddedBooks.{KeepsBook, TakesBook, TakesChosen, TakesParts};
+ghost use Rattle.desk_books.specs.AddedBooks.{TakesPath, first_course, reached_at};
+ghost use Rattle.desk_books.specs.Givens.{given_by, ReadsBook};
+ghost use Rattle.desk_books.specs.Stages.{EachInTurn};
 
-use crate::added_entries::{added_entry, keep_entry};
-use crate::told_imports::{Tally, say_failed, say_refused, say_unkept, say_unread, tell_taken};
-use abc_fields::{ByteText, TuneText, split_book};
-use desk_scenes::{DONE, REFUSED};
-use desk_terms::Adding;
-use std::alloc::{AllocError, Global};
+use crate::added_entries::added_entry;
+use crate::chosen_parts::{Choice, choose};
+use crate::requests::Request;
+use crate::stocks::{NewTunes, Stock};
+use crate::told_imports::{
+    Tally, say_failed, say_part_refused, say_refused, say_unkept, say_unread, tell_progress,
+    tell_taken,
+};
+use abc_fields::ByteText;
+use chosen_books::KnownTexts;
+use desk_scenes::{DONE, Progress, REFUSED, keep_entry};
+use std::alloc::Global;
 use std::io::Write;
-use told_books::told_book;
 use tune_desk::{Desk, DeskFault, OldTextsFault};
 use tune_scripts::Console;
-use tune_store::{Catalog, Command, GREATEST_NUMBER, Refusal, Reply, TuneStore};
+use tune_store::{Catalog, Command, Refusal, Reply, TuneStore};
 
-// How far an add has come.
-#[derive(Clone, Copy)]
+/// How far an add has come.
+#[derive(Drop)]
 pub(crate) struct Course {
     // Whether an entry was kept: the next one goes on with it.
     begun: bool,
-    // Whether the device failed: nothing is taken in then.
+    // Whether an import was refused behind its entry, as where the device failed: nothing is taken
+    // in then, so that no other tunes get the numbers of that entry.
     failed: bool,
+    // The texts that are there, where only new tunes are taken in.
+    known: KnownTexts,
+}
+
+impl Course {
+    /// Nothing yet, where these texts are there.
+    pub(crate) fn new(known: KnownTexts) -> Course
+        ensures { result ≡ first_course known }
+    {
+        Course {
+            begun: false,
+            failed: false,
+            known,
+        }
+    }
 }
 
 /// Takes in the books of these paths, one after another, and gives the greatest status.
-pub(crate) fn take_books<C: Console, E: Write, S: TuneStore + Catalog, K: AllocGlobal + Desk>(
+pub(crate) fn take_books<
+    C: Console,
+    E: Write + Progress,
+    S: TuneStore + Catalog,
+    K: AllocGlobal + Desk,
+>(
     desk: &mut K,
-    file: &String,
+    request: &Request,
     paths: &[String],
-    input: &[u8],
-    how: &Adding,
-    store: &mut S,
-    console: &mut C,
-    errors: &mut E,
-) -> (u8, Course)
-    ensures { let given = given_of (string_bytes file.now) input.now how.now in
-        EachInTurn (λ path. TakesPath S.TuneStore given (string_bytes path)) paths.now
-        (reached_at (K.deeds desk.old) store.old no_course)
-        (reached_at (K.deeds desk.new) store.new result.1) result.0 }
-{
-    let mut worst = DONE;
-    let mut course = Course {
-        begun: false,
-        failed: false,
-    };
-    for path in paths {
-        let status = take_path(
-            desk,
-            file,
-            path,
-            input,
-            how,
-            store,
-            &mut course,
-            console,
-            errors,
-        );
-        worst = worst.max(status);
-    }
-    (worst, course)
-}
-
-fn take_path<C: Console, E: Write, S: TuneStore + Catalog, K: AllocGlobal + Desk>(
-    desk: &mut K,
-    file: &String,
-    path: &String,
-    input: &[u8],
-    how: &Adding,
     store: &mut S,
     course: &mut Course,
     console: &mut C,
     errors: &mut E,
 ) -> u8
-    ensures { let given = given_of (string_bytes file.now) input.now how.now in
-        TakesPath S.TuneStore given (string_bytes path.now)
+    ensures files { SparesFiles (places_of (string_bytes request.now.file.now) None false)
+        (K.deeds desk.old) (K.deeds desk.new) }
+    ensures takes { EachInTurn
+        (λ path. TakesPath S.TuneStore (given_by request.now) (string_bytes path)) paths.now
+        (reached_at (K.deeds desk.old) store.old course.old)
+        (reached_at (K.deeds desk.new) store.new course.new) result }
+{
+    let mut worst = DONE;
+    let mut done = 0usize;
+    for path in paths {
+        let status = take_path(desk, request, path, store, course, console, errors);
+        worst = worst.max(status);
+        done = done.saturating_add(1);
+        tell_progress(errors, "books", done, paths.len());
+    }
+    worst
+}
+
+fn take_path<C: Console, E: Write + Progress, S: TuneStore + Catalog, K: AllocGlobal + Desk>(
+    desk: &mut K,
+    request: &Request,
+    path: &String,
+    store: &mut S,
+    course: &mut Course,
+    console: &mut C,
+    errors: &mut E,
+) -> u8
+    ensures files { SparesFiles (places_of (string_bytes request.now.file.now) None false)
+        (K.deeds desk.old) (K.deeds desk.new) }
+    ensures takes { TakesPath S.TuneStore (given_by request.now) (string_bytes path.now)
         (reached_at (K.deeds desk.old) store.old course.old)
         (reached_at (K.deeds desk.new) store.new course.new) result }
 {
     if course.failed {
         return REFUSED;
     }
-    match read_book(desk, path, input) {
-        Ok(book) => take_book(desk, file, path, book, how, store, course, console, errors),
+    match read_book(desk, request, path) {
+        Ok(book) => take_book(desk, request, path, book, store, course, console, errors),
         Err(_) => say_unread(errors, path.as_str()),
     }
 }
 
-// The bytes of a book: of standard input for `-`, which was read before.
-fn read_book<K: AllocGlobal + Desk>(
+/// The bytes of a book: of standard input for `-`, which was read before.
+pub(crate) fn read_book<K: AllocGlobal + Desk>(
     desk: &mut K,
+    request: &Request,
     path: &String,
-    input: &[u8],
 ) -> Result<ByteText, DeskFault>
-    ensures { ReadsBook input.now (string_bytes path.now) result
+    ensures { ReadsBook request.now.input.now (string_bytes path.now) result
         (K.deeds desk.old) (K.deeds desk.new) }
 {
     if path.as_str() == "-" {
-        return copy_input(desk.alloc(), input);
+        return copy_input(desk.alloc(), request.input);
     }
     desk.read(desk.alloc(), path)
 }
@@ -122,144 +136,143 @@ fn copy_input(alloc: Global, input: &[u8]) -> Result<ByteText, DeskFault>
     }
 }
 
-// Takes in a book that was read, and tells of it.
-fn take_book<C: Console, E: Write, S: TuneStore + Catalog, K: AllocGlobal + Desk>(
+// Takes in what is chosen of a book that was read, and tells of it.
+fn take_book<C: Console, E: Write + Progress, S: TuneStore + Catalog, K: AllocGlobal + Desk>(
     desk: &mut K,
-    file: &String,
+    request: &Request,
     path: &String,
     book: ByteText,
-    how: &Adding,
     store: &mut S,
     course: &mut Course,
     console: &mut C,
     errors: &mut E,
 ) -> u8
-    ensures { let given = given_of (string_bytes file.now) [] how.now in
-        TakesBook S.TuneStore given book
+    ensures files { SparesFiles (places_of (string_bytes request.now.file.now) None false)
+        (K.deeds desk.old) (K.deeds desk.new) }
+    ensures takes { TakesChosen S.TuneStore (given_by request.now) book
         (reached_at (K.deeds desk.old) store.old course.old)
         (reached_at (K.deeds desk.new) store.new course.new) result }
 {
-    let Ok(lost) = lost_of(desk.alloc(), book.as_slice(), store.layout().longest_text()) else {
-        return say_refused(errors, path.as_str(), 1, 1, &Refusal::OutOfMemory);
-    };
-    let mut tally = Tally::new(1, 0, lost);
-    let status = take_part(
-        desk, file, path, book, how, store, course, &mut tally, errors,
-    );
-    status.max(tell_taken(
-        desk.alloc(),
-        path.as_str(),
-        &tally,
-        how.dry,
-        console,
-        errors,
-    ))
-}
-
-// How many lines of a book are not kept.
-fn lost_of(alloc: Global, book: &[u8], longest: usize) -> Result<usize, AllocError> {
-    let told = told_book(alloc, book, longest)?;
-    Ok(told.lost())
-}
-
-// The tunes that a book brings.
-#[derive(Drop)]
-struct NewTunes {
-    // The numbers that they get, from the first to the last.
-    first: u32,
-    last: u32,
-    texts: Vec<TuneText>,
-}
-
-// What a book brings to a store, or why the store refuses it.
-fn tunes_of<S: Catalog>(alloc: Global, store: &S, book: &[u8]) -> Result<NewTunes, Refusal>
-    ensures texts { IfOk result (λ brought.
-        book_answer (longest_text (S.layout store.now)) book.now ≡ Ok brought.texts.items) }
-    ensures numbers { IfOk result (λ brought. brought.first + vec_len brought.texts < 2 ^ 32) }
-{
+    let alloc = desk.alloc();
     let layout = store.layout();
-    let texts = split_book(alloc, book, layout.longest_text())?;
-    let count = texts.len();
-    let len = store.len();
-    let most = layout.most_tunes();
-    if count > most || len > most - count {
-        return Err(Refusal::ArchiveFull);
+    let known = &mut course.known;
+    match choose(
+        alloc,
+        request.how,
+        layout,
+        path.as_str(),
+        book,
+        known,
+        errors,
+    ) {
+        Ok(choice) => { take_choice(desk, request, path, choice, store, course, console, errors) }
+        Err(refusal) => say_refused(errors, path.as_str(), &refusal),
     }
-    let greatest = last_number(store);
-    let last = greatest as usize + count;
-    if last > GREATEST_NUMBER as usize {
-        return Err(Refusal::NumbersSpent);
-    }
-    Ok(NewTunes {
-        first: greatest + 1,
-        last: last as u32,
-        texts,
-    })
 }
 
-// The greatest number, or 0.
-fn last_number<S: Catalog>(store: &S) -> u32 {
-    let len = store.len();
-    if len == 0 {
-        return 0;
-    }
-    store.label(len - 1).number
-}
-
-// Takes in a book, all of it or nothing.
-fn take_part<E: Write, S: TuneStore + Catalog, K: AllocGlobal + Desk>(
+// Takes in the parts of a book, and tells of them.
+fn take_choice<C: Console, E: Write + Progress, S: TuneStore + Catalog, K: AllocGlobal + Desk>(
     desk: &mut K,
-    file: &String,
+    request: &Request,
     path: &String,
-    book: ByteText,
-    how: &Adding,
+    choice: Choice,
+    store: &mut S,
+    course: &mut Course,
+    console: &mut C,
+    errors: &mut E,
+) -> u8
+    ensures files { SparesFiles (places_of (string_bytes request.now.file.now) None false)
+        (K.deeds desk.old) (K.deeds desk.new) }
+    ensures takes { TakesParts S.TuneStore (string_bytes request.now.file.now) choice.parts.items
+        (reached_at (K.deeds desk.old) store.old course.old)
+        (reached_at (K.deeds desk.new) store.new course.new) result }
+{
+    let Choice { parts, mut tally } = choice;
+    let status = take_parts(
+        desk, request, path, parts, store, course, &mut tally, errors,
+    );
+    status.max(tell_taken(desk.alloc(), path.as_str(), &tally, false, console, errors))
+}
+
+// Takes in the parts of a book, one after another, up to one that is refused.
+fn take_parts<E: Write + Progress, S: TuneStore + Catalog, K: AllocGlobal + Desk>(
+    desk: &mut K,
+    request: &Request,
+    path: &String,
+    parts: Vec<ByteText>,
     store: &mut S,
     course: &mut Course,
     tally: &mut Tally,
     errors: &mut E,
 ) -> u8
-    ensures { let given = given_of (string_bytes file.now) [] how.now in
-        TakesBook S.TuneStore given book
+    ensures files { SparesFiles (places_of (string_bytes request.now.file.now) None false)
+        (K.deeds desk.old) (K.deeds desk.new) }
+    ensures takes { TakesParts S.TuneStore (string_bytes request.now.file.now) parts.items
         (reached_at (K.deeds desk.old) store.old course.old)
         (reached_at (K.deeds desk.new) store.new course.new) result }
 {
-    let brought = match tunes_of(desk.alloc(), store, book.as_slice()) {
-        Ok(brought) => brought,
-        Err(refusal) => {
-            return say_refused(errors, path.as_str(), 1, tally.parts, &refusal);
+    let mut rest = parts.into_iter();
+    while let Some(part) = rest.next() {
+        let status = take_part(desk, request, path, part, store, course, tally, errors);
+        if status != DONE {
+            return status;
         }
+        tally.tell_part(errors);
+    }
+    DONE
+}
+
+// Takes in a part of a book, all of it or nothing.
+fn take_part<E: Write, S: TuneStore + Catalog, K: AllocGlobal + Desk>(
+    desk: &mut K,
+    request: &Request,
+    path: &String,
+    part: ByteText,
+    store: &mut S,
+    course: &mut Course,
+    tally: &mut Tally,
+    errors: &mut E,
+) -> u8
+    ensures files { SparesFiles (places_of (string_bytes request.now.file.now) None false)
+        (K.deeds desk.old) (K.deeds desk.new) }
+    ensures takes { TakesBook S.TuneStore (string_bytes request.now.file.now) part
+        (reached_at (K.deeds desk.old) store.old course.old)
+        (reached_at (K.deeds desk.new) store.new course.new) result }
+{
+    tally.begin_part();
+    let brought = match Stock::of(store).tunes_of(desk.alloc(), part.as_slice()) {
+        Ok(brought) => brought,
+        Err(refusal) => return say_part_refused(errors, path.as_str(), tally, &refusal),
     };
-    match keep(desk, file, &brought, how, course) {
+    match keep(desk, request.file, &brought, course) {
         Ok(()) => {
-            let answer = import(store, book, course);
-            tell_answer(errors, file, path, &brought, &answer, tally)
+            let answer = import(store, part, course);
+            tell_answer(errors, request.file, path, &brought, &answer, tally)
         }
         Err(_) => say_unkept(errors, path.as_str()),
     }
 }
 
-// Keeps an entry of what a book brings, where it is not only tried.
+// Keeps an entry of what a book brings.
 fn keep<K: AllocGlobal + Desk>(
     desk: &mut K,
     file: &String,
     brought: &NewTunes,
-    how: &Adding,
     course: &mut Course,
 ) -> Result<(), OldTextsFault>
     requires { brought.now.first + vec_len brought.now.texts < 2 ^ 32 }
-    ensures { MatchResult result
+    ensures files { SparesFiles (places_of (string_bytes file.now) None false)
+        (K.deeds desk.old) (K.deeds desk.new) }
+    ensures keeps { MatchResult result
         (λ _. (book : List ℕ) (layout : Layout)
         → book_answer (longest_text layout) book ≡ Ok brought.now.texts.items
-        → KeepsBook how.now.dry (string_bytes file.now) book (record {
+        → KeepsBook (string_bytes file.now) book (record {
           was = K.deeds desk.old;
           now = K.deeds desk.new;
         }) course.old course.new)
         (λ _. GrowsNot (string_bytes file.now) (K.deeds desk.old) (K.deeds desk.new)
         × (course.new ≡ course.old)) }
 {
-    if how.dry {
-        return Ok(());
-    }
     let texts = brought.texts.as_slice();
     let Ok(entry) = added_entry(desk.alloc(), course.begun, brought.first, texts) else {
         return Err(OldTextsFault::OutOfMemory);
@@ -276,20 +289,11 @@ fn import<S: TuneStore>(
 ) -> Result<Reply, Refusal>
     ensures carried { S.honest store.new → IsCarried S.TuneStore store.old
         (record { command = command.Import book; answer = result; after = store.new }) }
-    ensures course { course.new ≡ record course.old { failed = not (stays_open result) } }
+    ensures course { course.new ≡ record course.old { failed = is_err result } }
 {
     let answer = store.apply(&Command::Import(book));
-    course.failed = has_failed(&answer);
+    course.failed = answer.is_err();
     answer
-}
-
-fn has_failed(answer: &Result<Reply, Refusal>) -> bool
-    ensures { result ≡ not (stays_open answer.now) }
-{
-    match answer {
-        Err(Refusal::Device | Refusal::Closed) => true,
-        _ => false,
-    }
 }
 
 // What an import was answered.
@@ -301,14 +305,15 @@ fn tell_answer<E: Write>(
     answer: &Result<Reply, Refusal>,
     tally: &mut Tally,
 ) -> u8
-    ensures { result ≡ 0 → IsOk answer.now }
+    ensures done { result ≡ 0 → IsOk answer.now }
+    ensures refused { IsOk answer.now → result ≡ 0 }
 {
     match answer {
         Ok(_) => {
-            tally.take(brought.texts.len(), brought.first, brought.last);
+            tally.take(brought);
             DONE
         }
         Err(Refusal::Device | Refusal::Closed) => say_failed(errors, file.as_str()),
-        Err(refusal) => say_refused(errors, path.as_str(), 1, tally.parts, refusal),
+        Err(refusal) => say_part_refused(errors, path.as_str(), tally, refusal),
     }
 }

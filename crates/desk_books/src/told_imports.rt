@@ -2,8 +2,10 @@
 ghost use Rattle.std.specs.Prelude.{◌≢◌};
 
 use crate::checked_books::put_lost;
+use crate::stocks::NewTunes;
 use abc_fields::TuneFault;
-use desk_scenes::{REFUSED, print, say};
+use chosen_books::CarriedLines;
+use desk_scenes::{Progress, REFUSED, print, say};
 use std::alloc::{AllocError, Global};
 use std::io::Write;
 use tune_scripts::Console;
@@ -13,37 +15,63 @@ use tune_store::Refusal;
 #[derive(Clone, Copy)]
 pub(crate) struct Tally {
     // The number of the first of its tunes that were taken in, and of the last.
-    pub(crate) first: u32,
-    pub(crate) last: u32,
+    first: u32,
+    last: u32,
     // How many tunes were taken in.
-    pub(crate) tunes: usize,
-    // In how many parts it came.
-    pub(crate) parts: usize,
+    tunes: usize,
+    // In how many parts it comes, and which of these comes now, counted from 1.
+    parts: usize,
+    part: usize,
     // How many of its tunes were there.
     pub(crate) there: usize,
+    // How many of its tunes are left out, since they are refused.
+    pub(crate) left_out: usize,
+    // The lines between its tunes that go into tunes behind them.
+    pub(crate) carried: CarriedLines,
     // How many of its lines are not kept.
     pub(crate) lost: usize,
 }
 
 impl Tally {
-    pub(crate) fn new(parts: usize, there: usize, lost: usize) -> Tally {
+    /// That of a book of so many parts, of which none was taken in.
+    pub(crate) fn of_parts(parts: usize) -> Tally {
         Tally {
             first: 0,
             last: 0,
             tunes: 0,
             parts,
-            there,
-            lost,
+            part: 0,
+            there: 0,
+            left_out: 0,
+            carried: CarriedLines { lines: 0, tunes: 0 },
+            lost: 0,
         }
     }
 
-    // So many tunes were taken in, with these numbers.
-    pub(crate) fn take(&mut self, count: usize, first: u32, last: u32) {
+    /// The next part comes.
+    pub(crate) fn begin_part(&mut self) {
+        self.part = self.part.saturating_add(1);
+    }
+
+    /// These tunes were taken in.
+    pub(crate) fn take(&mut self, brought: &NewTunes) {
         if self.tunes == 0 {
-            self.first = first;
+            self.first = brought.first;
         }
-        self.tunes = self.tunes.saturating_add(count);
-        self.last = last;
+        self.tunes = self.tunes.saturating_add(brought.texts.len());
+        self.last = brought.last;
+    }
+
+    /// Tells how many parts came, where there are several.
+    pub(crate) fn tell_part<E: Progress>(&self, errors: &mut E) {
+        tell_progress(errors, "parts", self.part, self.parts);
+    }
+}
+
+/// Tells how many of these are done, where there are several.
+pub(crate) fn tell_progress<E: Progress>(errors: &mut E, what: &str, done: usize, all: usize) {
+    if all > 1 {
+        errors.progress(what, done as u64, all as u64);
     }
 }
 
@@ -103,10 +131,13 @@ fn put_tunes(line: &mut Vec<u8>, tally: &Tally, dry: bool) -> Result<(), AllocEr
     }
 }
 
+// In how many parts they came, and what was left out, carried or lost.
 fn put_rest(line: &mut Vec<u8>, tally: &Tally) -> Result<(), AllocError> {
     let Tally {
         parts,
         there,
+        left_out,
+        carried,
         lost,
         ..
     } = *tally;
@@ -116,19 +147,43 @@ fn put_rest(line: &mut Vec<u8>, tally: &Tally) -> Result<(), AllocError> {
     if there > 0 {
         write!(line, "; {there} of its tunes are there already").map_err(|_| AllocError)?;
     }
+    if left_out > 0 {
+        write!(line, "; {left_out} of its tunes are left out").map_err(|_| AllocError)?;
+    }
+    put_carried(line, carried)?;
     put_lost(line, lost)
 }
 
-/// Says why a book is not taken in, or a part of one, and gives the status.
-pub(crate) fn say_refused<E: Write>(
+fn put_carried(line: &mut Vec<u8>, carried: CarriedLines) -> Result<(), AllocError> {
+    let CarriedLines { lines, tunes } = carried;
+    if lines == 0 {
+        return Ok(());
+    }
+    let (are, go) = if lines == 1 {
+        ("line between its tunes", "goes")
+    } else {
+        ("lines between its tunes", "go")
+    };
+    write!(line, "; {lines} {are} {go} into {tunes} of them").map_err(|_| AllocError)
+}
+
+/// Says why a book is not taken in, and gives the status.
+pub(crate) fn say_refused<E: Write>(errors: &mut E, path: &str, refusal: &Refusal) -> u8
+    ensures { result ≢ 0 }
+{
+    say_part_refused(errors, path, &Tally::of_parts(1), refusal)
+}
+
+/// Says why the part of a book that comes now is not taken in, and gives the status.
+pub(crate) fn say_part_refused<E: Write>(
     errors: &mut E,
     path: &str,
-    part: usize,
-    parts: usize,
+    tally: &Tally,
     refusal: &Refusal,
 ) -> u8
     ensures { result ≢ 0 }
 {
+    let Tally { part, parts, .. } = *tally;
     let _ = write!(errors, "tunes-book: {path}: ");
     if parts > 1 {
         let _ = write!(errors, "part {part} of {parts}: ");

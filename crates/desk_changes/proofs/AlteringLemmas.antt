@@ -1,5 +1,5 @@
 -- A change, by its parts: the look, the entry and the turns, and FILE around them.
-use Rattle.std.proofs.Common.{◌≡◌, ◌≢◌, ◌⊎◌, inl, inr, ℕ, List, [], ◌∷◌, ◌++◌, Some, None, Ok, Err, false, refl, sym, ◌∙◌, subst, append-nil}
+use Rattle.std.proofs.Common.{◌≡◌, inl, inr, ℕ, List, [], ◌∷◌, ◌++◌, Some, None, Ok, Err, false, refl, sym, subst, append-nil}
 use Rattle.std.specs.Prelude.{Result}
 use Rattle.tune_disk.specs.declared.disk.Disk as disk
 use Rattle.tune_disk.specs.declared.file.Access.TheVariants.{Change}
@@ -13,12 +13,9 @@ use Rattle.tune_desk.specs.OldTexts.{GrowsNot}
 use Rattle.tune_desk.specs.Results.{SparesFiles, IsReading, places_of}
 use Rattle.tune_desk.proofs.SpareLemmas.{spares_one_more, spares_both, spares_none}
 use Rattle.tune_store.specs.State.{State}
-use Rattle.tune_store.specs.declared.command.Refusal.{Refusal}
 use Rattle.tune_undo.specs.declared.old_entries.EntryKind.{EntryKind}
-use Rattle.desk_scenes.specs.FileAnswers.{Did}
 use Rattle.desk_scenes.specs.OpenedFile.{Opens}
-use Rattle.desk_scenes.specs.Visits.{Visits}
-use Rattle.desk_changes.specs.ChangedFiles.{Passage, BringsAbout, ChangesBy, LeavesAll, IsChangedWithin}
+use Rattle.desk_changes.specs.ChangedFiles.{Passage, ChangesBy, LeavesAll, IsChangedWithin}
 use Rattle.desk_changes.specs.Inside.Turning.{Turns, Alters, AltersFile}
 
 -- nothing was kept
@@ -28,12 +25,12 @@ grows_none file was =
 
 module _ {D : Type 0} (disks : disk.Ghosts D) (file : List ℕ) (kind : EntryKind) (Means : State → List Turn → Type 0) where
   -- a look that was refused
-  pub look_refused : {A : Type 0} (start finish : Shelf D) (was : List (DeskDeed D)) (why : A) → IsOnlyAsked (store_on disks) start finish
-      → Alters disks file kind Means (Err why) (record { start = start; finish = finish; was = was; now = was })
-  look_refused start finish was why asked = inl (record { asked = asked; unkept = grows_none file was })
+  pub look_refused : {A : Type 0} (T : Type 0) (start finish : Shelf D) (was : List (DeskDeed D)) (why : A) → IsOnlyAsked (store_on disks) start finish
+      → Alters {T = T} disks file kind Means (Err why) (record { start = start; finish = finish; was = was; now = was })
+  look_refused T start finish was why asked = inl (record { asked = asked; unkept = grows_none file was })
 
   -- turns behind a look
-  pub look_then : {A : Type 0} (turns : List Turn) (start mid finish : Shelf D) (was now : List (DeskDeed D)) (result : Result (Unit {0}) A)
+  pub look_then : {T A : Type 0} (turns : List Turn) (start mid finish : Shelf D) (was now : List (DeskDeed D)) (result : Result T A)
       → IsOnlyAsked (store_on disks) start mid
       → (HonestAt disks.honest mid.pages.disk → Means (state_of disks.state start) turns)
       → Turns disks file kind turns result (record { start = mid; finish = finish; was = was; now = now })
@@ -60,7 +57,7 @@ module _ {D : Type 0} (disks : disk.Ghosts D) (file : List ℕ) (kind : EntryKin
     does = does;
   }
 
-  pub alters_file : {A : Type 0} (start finish : Shelf D) (was began ended now : List (DeskDeed D)) (new : D) (result : Result (Unit {0}) A)
+  pub alters_file : {T A : Type 0} (start finish : Shelf D) (was began ended now : List (DeskDeed D)) (new : D) (result : Result T A)
       → Opens disks file Change start was began → finish.pages.disk ≡ Some new → now ≡ ended ++ closed file new ∷ []
       → Alters disks file kind Means result (record { start = start; finish = finish; was = began; now = ended })
       → AltersFile disks file kind Means result (record { was = was; now = now })

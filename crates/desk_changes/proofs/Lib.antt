@@ -1,3 +1,7 @@
 pub mod AlteringLemmas
+pub mod BackLemmas
+pub mod BookLemmas
 pub mod LookingLemmas
+pub mod ReplacingLemmas
+pub mod UndoLemmas
 pub mod WorkLemmas

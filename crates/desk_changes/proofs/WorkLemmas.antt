@@ -13,7 +13,7 @@ use Rattle.tune_desk.specs.DeskDeeds.{DeskDeed}
 use Rattle.tune_desk.specs.Results.{SparesFiles, places_of}
 use Rattle.tune_desk.proofs.SpareLemmas.{spares_both, spares_none}
 use Rattle.desk_changes.specs.ChangedFiles.{Passage}
-use Rattle.desk_changes.specs.Works.{Works, WorksBeside}
+use Rattle.desk_changes.specs.Inside.Works.{Works, WorksBeside}
 
 module _ {D : Type 0} (disks : disk.Ghosts D) where
   pub works_none : (here : Shelf D) → Works disks here here

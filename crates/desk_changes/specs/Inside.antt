@@ -1,2 +1,4 @@
-pub mod TakenBack
+pub mod Replacing
+pub mod TriedUndoings
 pub mod Turning
+pub mod Works

@@ -1,6 +1,9 @@
+pub mod BackLaws
 pub mod ChangedFiles
 pub mod EntriesOfTurns
 pub mod Inside
 pub mod Kinds
+pub mod OldChanges
+pub mod ReplacedTunes
+pub mod TakenBack
 pub mod Undone
-pub mod Works

@@ -1,37 +1,87 @@
--- What an entry is taken back to.
-use Rattle.std.specs.Prelude.{◌⊎◌, ℕ, List, map}
+-- What an order does that undoes changes of FILE.
+use Rattle.std.specs.Prelude.{◌≡◌, ◌≢◌, ◌⊎◌, ℕ, ◌+◌, ◌<◌, List, [], ◌∷◌, ◌++◌, Bool}
+use Rattle.std.specs.Prelude.{if◌then◌else◌}
 use Rattle.desk_terms.specs.declared.undoing.Undoing.{Undoing}
 use Rattle.desk_terms.specs.declared.undoing.Undoing.TheVariants as undoing
 use Rattle.tune_disk.specs.declared.disk.Disk as disk
 use Rattle.tune_disk.specs.declared.file.Access.TheVariants.{Change}
-use Rattle.tune_changes.specs.declared.turns.Aim.{Aim}
-use Rattle.tune_changes.specs.declared.turns.Aim.TheVariants as aim
-use Rattle.tune_undo.specs.declared.old_entries.Part.{Part}
-use Rattle.tune_undo.specs.declared.old_entries.Part.TheVariants.{Tune, Set}
+use Rattle.tune_archive.specs.Shelf.{Shelf}
+use Rattle.tune_undo.specs.OldEntries.{StepValue}
 use Rattle.tune_desk.specs.DeskDeeds.{DeskDeed}
 use Rattle.desk_scenes.specs.FileAnswers.{Did}
-use Rattle.desk_scenes.specs.Scenes.{IsQuiet}
+use Rattle.desk_scenes.specs.Printing.{Prints}
+use Rattle.desk_scenes.specs.Scenes.{Scene, IsQuiet}
 use Rattle.desk_scenes.specs.Visits.{Visits}
-use Rattle.desk_changes.specs.ChangedFiles.{IsChangedWithin}
-use Rattle.desk_changes.specs.Works.{WorksBeside}
+use Rattle.desk_changes.specs.ChangedFiles.{Passage, IsChangedWithin}
+use Rattle.desk_changes.specs.OldChanges.{BookChange, changes_of, ReadsSteps}
+use Rattle.desk_changes.specs.TakenBack.{IsStill, UndoesChange, BreaksOffChange}
 
--- each tune and set list to what it was
-abbrev pub aim_by : Part → Aim
-aim_by (Tune number was is) = aim.Tune number was
-aim_by (Set name was is) = aim.Set name was
+-- These changes were undone, the last one first, and in so many of them there was something to be
+-- taken back.
+abbrev pub GoesBack : {D : Type 0} → disk.Ghosts D → List ℕ → List BookChange → ℕ → Passage D
+    → Type 0
+GoesBack disks file [] taken course = (taken ≡ 0) × IsStill course
+GoesBack {D} disks file (change ∷ later) taken course =
+    (mid : Shelf D) × (deeds : List (DeskDeed D)) × (before : ℕ) × (some : Bool)
+    × GoesBack disks file later before (record course { finish = mid; now = deeds })
+    × UndoesChange disks file change some (record course { start = mid; was = deeds })
+    × (taken ≡ (if some then before + 1 else before))
 
-abbrev pub aims_by : List Part → List Aim
-aims_by parts = map aim_by parts
+-- Of the changes of these entries the last were undone, until so many were taken back.
+pub record UndoesLast {D : Type 0} (disks : disk.Ghosts D) (file : List ℕ) (count : ℕ)
+    (steps : List StepValue) (course : Passage D) : Type 0 where
+  pub earlier : List BookChange
+  pub gone : List BookChange
+  pub split : changes_of steps ≡ earlier ++ gone
+  pub back : GoesBack disks file gone count course
 
--- FILE was opened to change, and its archive became another one by commands of the store, while the
--- book of old texts grew at most; or it was not opened.
-abbrev pub UndoesFile : {D : Type 0} → disk.Ghosts D → List ℕ → List (DeskDeed D)
-    → List (DeskDeed D) → Type 0
-UndoesFile disks file was now = Did was now (Visits disks file Change)
-    ⊎ IsChangedWithin disks file (WorksBeside disks file) was now
+-- What ended an undoing before: no change was left; or the last one that was left was not undone.
+abbrev pub EndsBefore : {D : Type 0} → disk.Ghosts D → List ℕ → List BookChange → Passage D
+    → Type 0
+EndsBefore disks file earlier course = ((earlier ≡ []) × IsStill course)
+    ⊎ ((others : List BookChange) × (change : BookChange) × (earlier ≡ others ++ change ∷ [])
+    × BreaksOffChange disks file change course)
 
--- Changes are listed, and nothing is done with files but to read; or they are taken back.
-abbrev pub Undoes : {D : Type 0} → disk.Ghosts D → List ℕ → Undoing → List (DeskDeed D)
-    → List (DeskDeed D) → Type 0
-Undoes disks file (undoing.List form) was now = IsQuiet was now
-Undoes disks file other was now = UndoesFile disks file was now
+-- Of the changes of these entries the last were undone, but fewer were taken back than this, and
+-- then no other one was.
+pub record UndoesFewer {D : Type 0} (disks : disk.Ghosts D) (file : List ℕ) (count : ℕ)
+    (steps : List StepValue) (course : Passage D) : Type 0 where
+  pub earlier : List BookChange
+  pub gone : List BookChange
+  pub split : changes_of steps ≡ earlier ++ gone
+  pub taken : ℕ
+  pub fewer : taken < count
+  pub mid : Shelf D
+  pub deeds : List (DeskDeed D)
+  pub back : GoesBack disks file gone taken (record course { finish = mid; now = deeds })
+  pub ends : EndsBefore disks file earlier (record course { start = mid; was = deeds })
+
+-- The book of old texts was read, and this was done with the entries that stand in it.
+pub record UsesBook {D : Type 0} (file : List ℕ) (Does : List StepValue → Passage D → Type 0)
+    (course : Passage D) : Type 0 where
+  pub steps : List StepValue
+  pub began : List (DeskDeed D)
+  pub reads : ReadsSteps file steps course.was began
+  pub does : Does steps (record course { was = began })
+
+-- The book was not read, and nothing was done.
+abbrev pub FindsNoBook : {D : Type 0} → Passage D → Type 0
+FindsNoBook course = (course.finish ≡ course.start) × IsQuiet course.was course.now
+
+-- FILE was opened to change, and so many changes were taken back, which was told; or the status
+-- says that they were not.
+abbrev pub UndoesFile : {D : Type 0} → disk.Ghosts D → List ℕ → ℕ → Scene D → Type 0
+UndoesFile disks file count scene =
+    (IsChangedWithin disks file (UsesBook file (UndoesLast disks file count)) scene.was scene.now
+    × ((told : List ℕ) × Prints scene.streams told scene.status))
+    ⊎ ((scene.status ≢ 0) × (Did scene.was scene.now (Visits disks file Change)
+    ⊎ (IsChangedWithin disks file FindsNoBook scene.was scene.now
+    ⊎ IsChangedWithin disks file (UsesBook file (UndoesFewer disks file count))
+    scene.was scene.now)))
+
+-- THE THEOREM OF AN UNDOING. Changes are listed, and nothing is done with files but to read; or so
+-- many are taken back.
+abbrev pub Undoes : {D : Type 0} → disk.Ghosts D → List ℕ → Undoing → Scene D → Type 0
+Undoes disks file undoing.Last scene = UndoesFile disks file 1 scene
+Undoes disks file (undoing.To count) scene = UndoesFile disks file count scene
+Undoes disks file (undoing.List form) scene = IsQuiet scene.was scene.now

@@ -103,16 +103,22 @@ fn kind_of(changes: &[Step]) -> &'static str {
             EntryKind::Move => "move",
             EntryKind::Drop => "drop",
             EntryKind::Add | EntryKind::AddMore => "add",
+            EntryKind::Load => "load",
             EntryKind::Kept => "kept",
         },
         None => "",
     }
 }
 
-// What a change was of: tunes, from the first to the last where it was an add, or a set list.
+// What a change was of: tunes, from the first to the last where it was an add, or a set list; or
+// all that a load brought.
 fn put_subjects(bytes: &mut Vec<u8>, changes: &[Step]) -> Result<(), AllocError> {
-    if kind_of(changes) == "add" {
+    let kind = kind_of(changes);
+    if kind == "add" {
         return put_added(bytes, changes);
+    }
+    if kind == "load" {
+        return put_loaded(bytes, changes);
     }
     for change in changes {
         put_parts(bytes, &change.entry)?;
@@ -136,6 +142,29 @@ fn put_added(bytes: &mut Vec<u8>, changes: &[Step]) -> Result<(), AllocError> {
     } else {
         write!(bytes, "tunes {first} to {last}").map_err(|_| AllocError)
     }
+}
+
+// The tunes of a load, from the first to the last, and how many set lists it brought.
+fn put_loaded(bytes: &mut Vec<u8>, changes: &[Step]) -> Result<(), AllocError> {
+    let mut has_tunes = false;
+    let mut sets = 0u64;
+    for change in changes {
+        for part in change.entry.parts.as_slice() {
+            match part {
+                Part::Tune { .. } => has_tunes = true,
+                Part::Set { .. } => sets = sets.saturating_add(1),
+            }
+        }
+    }
+    if has_tunes {
+        put_added(bytes, changes)?;
+        if sets == 0 {
+            return Ok(());
+        }
+        bytes.extend_from_slice(b" and ")?;
+    }
+    let word = if sets == 1 { "list" } else { "lists" };
+    write!(bytes, "{sets} set {word}").map_err(|_| AllocError)
 }
 
 fn put_parts(bytes: &mut Vec<u8>, entry: &Entry) -> Result<(), AllocError> {

@@ -5,10 +5,15 @@
 mod altering;
 mod change_lists;
 mod entries;
+mod laws;
+mod one_tune_books;
+mod replacing;
 mod taking_back;
 mod turning;
 mod undone;
 mod words;
 
 pub use altering::alter;
+pub use laws::law_of_entries;
+pub use replacing::replace;
 pub use taking_back::undo;

@@ -1,12 +1,24 @@
 // The order that takes changes back.
-ghost use Rattle.std.specs.Prelude.{◌≡◌, ◌≤◌, IfOk, None, true, false, length, string_bytes};
+ghost use Rattle.std.specs.Prelude.{◌≡◌, ◌<◌, ◌||◌, IfOk, MatchResult, None, true, false};
+ghost use Rattle.std.specs.Prelude.{length, string_bytes};
+ghost use Rattle.tune_archive.specs.AsStore.{store_on};
 ghost use Rattle.tune_asking.specs.Asking.{IsOnlyAsked};
+ghost use Rattle.tune_changes.specs.Judging.{verdict_on};
+ghost use Rattle.tune_changes.specs.declared.judging.Verdict.TheVariants.{Before};
 ghost use Rattle.tune_desk.specs.Results.{SparesFiles, places_of};
+ghost use Rattle.tune_scripts.specs.Streams.{streams_in};
+ghost use Rattle.tune_undo.specs.OldEntries.{step_value};
 ghost use Rattle.desk_scenes.specs.Scenes.{IsQuiet};
-ghost use Rattle.desk_changes.specs.Inside.TakenBack.{AreUnchanged, IsUnchanged, Stood};
-ghost use Rattle.desk_changes.specs.Inside.TakenBack.{LeavesChanged, BringsBack, TakesEntryBack};
+ghost use Rattle.desk_changes.specs.Inside.TriedUndoings.{AreStanding, EndsFrom, FindsSteps};
+ghost use Rattle.desk_changes.specs.Inside.TriedUndoings.{FinishesEntry, TriesEntry};
+ghost use Rattle.desk_changes.specs.Inside.TriedUndoings.{TriesEntries, TriesChange, TriesTimes};
+ghost use Rattle.desk_changes.specs.Inside.TriedUndoings.{TriesByBook, TriesWithin, steps_of};
+ghost use Rattle.desk_changes.specs.OldChanges.{ReadsSteps, is_further};
+ghost use Rattle.desk_changes.specs.TakenBack.{AreUnchanged, Begins, IsUnchanged, KeepsGone, Stood};
+ghost use Rattle.desk_changes.specs.TakenBack.{IsBeginning, KeepsTextsOrNot, MarksOrNot};
+ghost use Rattle.desk_changes.specs.TakenBack.{RenumbersOne};
 ghost use Rattle.desk_changes.specs.Undone.{Undoes, UndoesFile};
-ghost use Rattle.desk_changes.specs.Works.{WorksBeside};
+ghost use Rattle.desk_changes.specs.Inside.Works.{WorksBeside};
 
 use crate::change_lists::list_changes;
 use crate::undone::{greatest_number, number_stray, restore, taken_by, tell_undone};
@@ -35,8 +47,12 @@ pub fn undo<C: Console, E: Write, D: Disk, K: AllocGlobal + Desk<Disk = D>>(
 ) -> u8
     ensures files { SparesFiles (places_of (string_bytes file.now) None false)
         (K.deeds desk.old) (K.deeds desk.new) }
-    ensures undoes { Undoes D.Disk (string_bytes file.now) undoing.now
-        (K.deeds desk.old) (K.deeds desk.new) }
+    ensures undoes { Undoes D.Disk (string_bytes file.now) undoing.now (record {
+      streams = streams_in C.Console console.old console.new;
+      was = K.deeds desk.old;
+      now = K.deeds desk.new;
+      status = result;
+    }) }
 {
     match undoing {
         Undoing::Last => undo_some(desk, file, 1, console, errors),
@@ -54,8 +70,12 @@ fn undo_some<C: Console, E: Write, D: Disk, K: AllocGlobal + Desk<Disk = D>>(
 ) -> u8
     ensures files { SparesFiles (places_of (string_bytes file.now) None false)
         (K.deeds desk.old) (K.deeds desk.new) }
-    ensures undoes { UndoesFile D.Disk (string_bytes file.now)
-        (K.deeds desk.old) (K.deeds desk.new) }
+    ensures undoes { UndoesFile D.Disk (string_bytes file.now) count (record {
+      streams = streams_in C.Console console.old console.new;
+      was = K.deeds desk.old;
+      now = K.deeds desk.new;
+      status = result;
+    }) }
 {
     let mut told = Vec::new(desk.alloc());
     let done = undo_in_file(desk, file, count, &mut told);
@@ -74,7 +94,7 @@ fn undo_in_file<D: Disk, K: AllocGlobal + Desk<Disk = D>>(
 ) -> Result<(), NotUndone>
     ensures files { SparesFiles (places_of (string_bytes file.now) None false)
         (K.deeds desk.old) (K.deeds desk.new) }
-    ensures undoes { UndoesFile D.Disk (string_bytes file.now)
+    ensures undoes { TriesWithin D.Disk (string_bytes file.now) count result
         (K.deeds desk.old) (K.deeds desk.new) }
 {
     match open_once(desk, file, Access::Change) {
@@ -94,7 +114,13 @@ fn undo_in_archive<D: Disk, K: AllocGlobal + Desk<Disk = D>>(
     count: u32,
     told: &mut Vec<u8>,
 ) -> Result<(), NotUndone>
-    ensures { WorksBeside D.Disk (string_bytes file.now) (record {
+    ensures works { WorksBeside D.Disk (string_bytes file.now) (record {
+      start = archive.old;
+      finish = archive.new;
+      was = K.deeds desk.old;
+      now = K.deeds desk.new;
+    }) }
+    ensures undoes { TriesByBook D.Disk (string_bytes file.now) count result (record {
       start = archive.old;
       finish = archive.new;
       was = K.deeds desk.old;
@@ -105,7 +131,43 @@ fn undo_in_archive<D: Disk, K: AllocGlobal + Desk<Disk = D>>(
     undo_times(desk, file, archive, changes.as_slice(), count, told)
 }
 
-// Takes back the last of these changes, and those before it, as many as are to be.
+// The entries of the book of old texts that are not undone.
+pub(crate) fn read_changes<K: AllocGlobal + Desk>(
+    desk: &mut K,
+    file: &String,
+) -> Result<Vec<Step>, NotUndone>
+    ensures { MatchResult result
+        (λ steps. ReadsSteps (string_bytes file.now) (steps_of steps.items)
+        (K.deeds desk.old) (K.deeds desk.new))
+        (λ _. IsQuiet (K.deeds desk.old) (K.deeds desk.new)) }
+{
+    let Ok(old) = format!(in desk.alloc(); "{file}.old.abc") else {
+        return Err(NotUndone::OutOfMemory);
+    };
+    let book = desk.read(desk.alloc(), &old);
+    steps_in(desk.alloc(), book)
+}
+
+// Those of a book, which is read as it is once its last line is ended.
+fn steps_in(alloc: Global, book: Result<ByteText, DeskFault>) -> Result<Vec<Step>, NotUndone>
+    ensures { IfOk result (λ steps. FindsSteps book (steps_of steps.items)) }
+{
+    match book {
+        Ok(book) => Ok(steps_of(alloc, book)?),
+        Err(DeskFault::Missing) => Err(NotUndone::NoBook),
+        Err(fault) => Err(NotUndone::Unread(fault)),
+    }
+}
+
+fn steps_of(alloc: Global, book: ByteText) -> Result<Vec<Step>, AllocError>
+    ensures { IfOk result (λ steps. AreStanding book (steps_of steps.items)) }
+{
+    let mut bytes = book.into_vec();
+    make_ready(&mut bytes)?;
+    standing_steps(alloc, bytes.as_slice())
+}
+
+// Undoes the last of these changes, and those before it, until as many took place as are to be.
 fn undo_times<D: Disk, K: AllocGlobal + Desk<Disk = D>>(
     desk: &mut K,
     file: &String,
@@ -114,89 +176,55 @@ fn undo_times<D: Disk, K: AllocGlobal + Desk<Disk = D>>(
     count: u32,
     told: &mut Vec<u8>,
 ) -> Result<(), NotUndone>
-    ensures { WorksBeside D.Disk (string_bytes file.now) (record {
-      start = archive.old;
-      finish = archive.new;
-      was = K.deeds desk.old;
-      now = K.deeds desk.new;
-    }) }
-{
-    let mut left = changes.len();
-    for _time in 0..count {
-        left = undo_last(desk, file, archive, &changes[..left], told)?;
-    }
-    Ok(())
-}
-
-// The entries of the book of old texts that are not undone.
-pub(crate) fn read_changes<K: AllocGlobal + Desk>(
-    desk: &mut K,
-    file: &String,
-) -> Result<Vec<Step>, NotUndone>
-    ensures { IsQuiet (K.deeds desk.old) (K.deeds desk.new) }
-{
-    let Ok(old) = format!(in desk.alloc(); "{file}.old.abc") else {
-        return Err(NotUndone::OutOfMemory);
-    };
-    let book = desk.read(desk.alloc(), &old);
-    changes_of(desk.alloc(), book)
-}
-
-// Those of a book, which is read as it is once its last line is ended.
-fn changes_of(alloc: Global, book: Result<ByteText, DeskFault>) -> Result<Vec<Step>, NotUndone> {
-    match book {
-        Ok(book) => Ok(steps_of(alloc, book)?),
-        Err(DeskFault::Missing) => Err(NotUndone::NoBook),
-        Err(fault) => Err(NotUndone::Unread(fault)),
-    }
-}
-
-fn steps_of(alloc: Global, book: ByteText) -> Result<Vec<Step>, AllocError> {
-    let mut bytes = book.into_vec();
-    make_ready(&mut bytes)?;
-    standing_steps(alloc, bytes.as_slice())
-}
-
-// Takes back the last of these changes that took place. Gives how many entries come before it.
-fn undo_last<D: Disk, K: AllocGlobal + Desk<Disk = D>>(
-    desk: &mut K,
-    file: &String,
-    archive: &mut Archive<D>,
-    changes: &[Step],
-    told: &mut Vec<u8>,
-) -> Result<usize, NotUndone>
     ensures works { WorksBeside D.Disk (string_bytes file.now) (record {
       start = archive.old;
       finish = archive.new;
       was = K.deeds desk.old;
       now = K.deeds desk.new;
     }) }
-    ensures within { IfOk result (λ left. left ≤ length changes.now) }
+    ensures undoes { TriesTimes D.Disk (string_bytes file.now) count (steps_of changes.now) result
+        (record {
+          start = archive.old;
+          finish = archive.new;
+          was = K.deeds desk.old;
+          now = K.deeds desk.new;
+        }) }
 {
     let mut left = changes.len();
-    for _round in 0..changes.len() {
+    let mut wanted = count;
+    while wanted > 0 {
+        if left == 0 {
+            return Err(NotUndone::NothingLeft);
+        }
         let first = first_of(&changes[..left]);
         let took_place = undo_change(desk, file, archive, &changes[first..left], told)?;
-        left = first;
         if took_place {
-            return Ok(left);
+            wanted -= 1;
         }
+        left = first;
     }
-    Err(NotUndone::NothingLeft)
+    Ok(())
 }
 
 // Where the change begins whose last entry is the last of these.
 pub(crate) fn first_of(changes: &[Step]) -> usize
-    ensures { result ≤ length changes.now }
+    ensures before { 0 < length changes.now → result < length changes.now }
+    ensures ends { 0 < length changes.now → EndsFrom result changes.now }
 {
     let mut first = changes.len();
     while first > 0 {
         first -= 1;
-        if changes[first].entry.kind != EntryKind::AddMore {
+        if !is_further(changes[first].entry.kind) {
             return first;
         }
     }
     first
+}
+
+fn is_further(kind: EntryKind) -> bool
+    ensures { result ≡ is_further kind }
+{
+    matches!(kind, EntryKind::AddMore)
 }
 
 // Takes a change back, whose entries these are, the last first; unless one of its tunes or set
@@ -214,12 +242,13 @@ fn undo_change<D: Disk, K: AllocGlobal + Desk<Disk = D>>(
       was = K.deeds desk.old;
       now = K.deeds desk.new;
     }) }
-    ensures spares { LeavesChanged D.Disk changes.now (record {
-      start = archive.old;
-      finish = archive.new;
-      was = K.deeds desk.old;
-      now = K.deeds desk.new;
-    }) }
+    ensures undoes { TriesChange D.Disk (string_bytes file.now) (steps_of changes.now) result
+        (record {
+          start = archive.old;
+          finish = archive.new;
+          was = K.deeds desk.old;
+          now = K.deeds desk.new;
+        }) }
 {
     look_at(desk.alloc(), archive, changes)?;
     undo_entries(desk, file, archive, changes, told)
@@ -229,7 +258,7 @@ fn undo_change<D: Disk, K: AllocGlobal + Desk<Disk = D>>(
 fn look_at<S: TuneStore>(alloc: Global, store: &mut S, changes: &[Step]) -> Result<(), NotUndone>
     ensures asked { IsOnlyAsked S.TuneStore store.old store.new }
     ensures stands { IfOk result
-        (λ _. Stood S.TuneStore store.old store.new (AreUnchanged changes.now)) }
+        (λ _. Stood S.TuneStore store.old store.new (AreUnchanged (steps_of changes.now))) }
 {
     for change in changes {
         look_at_entry(alloc, store, &change.entry)?;
@@ -246,6 +275,8 @@ fn look_at_entry<S: TuneStore>(
     ensures asked { IsOnlyAsked S.TuneStore store.old store.new }
     ensures stands { IfOk result
         (λ _. Stood S.TuneStore store.old store.new (IsUnchanged entry.now.parts.items)) }
+    ensures judges { IfOk result (λ verdict. Stood S.TuneStore store.old store.new
+        (λ state. verdict_on entry.now.parts.items state ≡ verdict)) }
 {
     let standing = judged(alloc, store, entry)?;
     match standing {
@@ -263,20 +294,34 @@ fn undo_entries<D: Disk, K: AllocGlobal + Desk<Disk = D>>(
     changes: &[Step],
     told: &mut Vec<u8>,
 ) -> Result<bool, NotUndone>
-    ensures { WorksBeside D.Disk (string_bytes file.now) (record {
+    ensures works { WorksBeside D.Disk (string_bytes file.now) (record {
       start = archive.old;
       finish = archive.new;
       was = K.deeds desk.old;
       now = K.deeds desk.new;
     }) }
+    ensures undoes { TriesEntries D.Disk (string_bytes file.now) (steps_of changes.now) result
+        (record {
+          start = archive.old;
+          finish = archive.new;
+          was = K.deeds desk.old;
+          now = K.deeds desk.new;
+        }) }
 {
     let mut took_place = false;
-    for change in changes.iter().rev() {
-        if undo_entry(desk, file, archive, change, told)? {
-            took_place = true;
-        }
+    let mut left = changes.len();
+    while left > 0 {
+        left -= 1;
+        let its = undo_entry(desk, file, archive, &changes[left], told)?;
+        took_place = is_either(took_place, its);
     }
     Ok(took_place)
+}
+
+fn is_either(one: bool, other: bool) -> bool
+    ensures { result ≡ (one || other) }
+{
+    one || other
 }
 
 // Takes back what one entry says. Whether there was something to be taken back.
@@ -293,8 +338,13 @@ fn undo_entry<D: Disk, K: AllocGlobal + Desk<Disk = D>>(
       was = K.deeds desk.old;
       now = K.deeds desk.new;
     }) }
-    ensures takes_back { IfOk result (λ took_place. took_place ≡ true
-        → TakesEntryBack D.Disk change.now.entry.parts.items archive.old archive.new) }
+    ensures undoes { TriesEntry D.Disk (string_bytes file.now) (step_value change.now) result
+        (record {
+          start = archive.old;
+          finish = archive.new;
+          was = K.deeds desk.old;
+          now = K.deeds desk.new;
+        }) }
 {
     let standing = look_at_entry(desk.alloc(), archive, &change.entry)?;
     if is_done(standing, change) {
@@ -308,8 +358,13 @@ fn undo_entry<D: Disk, K: AllocGlobal + Desk<Disk = D>>(
 }
 
 // Whether all is as it was, and no stop left a tune on its way.
-fn is_done(standing: Verdict, change: &Step) -> bool {
-    standing == Verdict::Before && change.begun.is_none()
+fn is_done(standing: Verdict, change: &Step) -> bool
+    ensures { result ≡ true → (standing ≡ Before) × (change.now.begun ≡ None) }
+{
+    match (standing, change.begun) {
+        (Verdict::Before, None) => true,
+        _ => false,
+    }
 }
 
 // Keeps the texts that are taken away by it.
@@ -319,12 +374,21 @@ fn keep_taken<D: Disk, K: AllocGlobal + Desk<Disk = D>>(
     archive: &mut Archive<D>,
     entry: &Entry,
 ) -> Result<(), NotUndone>
-    ensures { WorksBeside D.Disk (string_bytes file.now) (record {
+    ensures works { WorksBeside D.Disk (string_bytes file.now) (record {
       start = archive.old;
       finish = archive.new;
       was = K.deeds desk.old;
       now = K.deeds desk.new;
     }) }
+    ensures keeps { IfOk result (λ _. KeepsGone D.Disk (string_bytes file.now)
+        entry.now.parts.items (record {
+          start = archive.old;
+          finish = archive.new;
+          was = K.deeds desk.old;
+          now = K.deeds desk.new;
+        })) }
+    ensures book { KeepsTextsOrNot (string_bytes file.now) (K.deeds desk.old) (K.deeds desk.new) }
+    ensures asks { IsOnlyAsked (store_on D.Disk) archive.old archive.new }
 {
     let kept = taken_by(desk.alloc(), archive, entry)?;
     if kept.parts.is_empty() {
@@ -342,12 +406,22 @@ fn begin_undoing<D: Disk, K: AllocGlobal + Desk<Disk = D>>(
     archive: &mut Archive<D>,
     change: &Step,
 ) -> Result<(), NotUndone>
-    ensures { WorksBeside D.Disk (string_bytes file.now) (record {
+    ensures works { WorksBeside D.Disk (string_bytes file.now) (record {
       start = archive.old;
       finish = archive.new;
       was = K.deeds desk.old;
       now = K.deeds desk.new;
     }) }
+    ensures begins { IfOk result (λ _. Begins D.Disk (string_bytes file.now) change.now.begun
+        (record {
+          start = archive.old;
+          finish = archive.new;
+          was = K.deeds desk.old;
+          now = K.deeds desk.new;
+        })) }
+    ensures book { MarksOrNot (string_bytes file.now) IsBeginning
+        (K.deeds desk.old) (K.deeds desk.new) }
+    ensures renumbers { RenumbersOne D.Disk (λ _. Unit {0}) archive.old archive.new }
 {
     match change.begun {
         None => {
@@ -372,8 +446,13 @@ fn finish_undoing<D: Disk, K: AllocGlobal + Desk<Disk = D>>(
       was = K.deeds desk.old;
       now = K.deeds desk.new;
     }) }
-    ensures restores { IfOk result
-        (λ _. BringsBack D.Disk entry.now.parts.items archive.old archive.new) }
+    ensures finishes { FinishesEntry D.Disk (string_bytes file.now) entry.now.parts.items
+        result (record {
+          start = archive.old;
+          finish = archive.new;
+          was = K.deeds desk.old;
+          now = K.deeds desk.new;
+        }) }
 {
     restore(desk.alloc(), archive, entry)?;
     keep_mark(desk, file, Mark::Undone)?;

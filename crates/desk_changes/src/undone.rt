@@ -1,11 +1,17 @@
 // What an undoing takes away, what it brings back, and how that is told.
-ghost use Rattle.std.specs.Prelude.{◌≡◌, IfOk, [], ◌∷◌};
+ghost use Rattle.std.specs.Prelude.{◌≡◌, ◌++◌, IfOk, OnOk, Ok, [], ◌∷◌};
+ghost use Rattle.std.specs.Option.{option_to_list};
 ghost use Rattle.tune_asking.specs.Asking.{IsOnlyAsked};
+ghost use Rattle.tune_asking.specs.AskingCalls.{Call, told_by};
+ghost use Rattle.tune_store.specs.State.{tune_at};
 ghost use Rattle.tune_changes.specs.Aims.{aimed_back};
 ghost use Rattle.tune_changes.specs.Carrying.{Carries};
 ghost use Rattle.tune_store.specs.declared.command.Command.TheVariants.{Renumber};
-ghost use Rattle.desk_changes.specs.Undone.{aims_by, aim_by};
-ghost use Rattle.desk_changes.specs.Works.{Works};
+ghost use Rattle.tune_undo.specs.OldEntries.{entry_value};
+ghost use Rattle.desk_changes.specs.TakenBack.{aims_by, aim_by, gone_by, gone_text, all_gone_by};
+ghost use Rattle.desk_changes.specs.TakenBack.{entry_of_texts, is_text, IsAccepted, RenumbersOne};
+ghost use Rattle.desk_changes.specs.TakenBack.{Stood};
+ghost use Rattle.desk_changes.specs.Inside.Works.{Works};
 
 use crate::words::NotUndone;
 use abc_fields::TuneText;
@@ -36,7 +42,8 @@ pub(crate) fn greatest_number<C: Catalog>(catalog: &C) -> u32 {
 
 // The tune of a number, where there is one.
 fn tune_if_any<S: TuneStore>(store: &mut S, number: u32) -> Result<Option<Tune>, Refusal>
-    ensures { IsOnlyAsked S.TuneStore store.old store.new }
+    ensures { Call S.TuneStore store.old store.new
+        (told_by (λ state. Ok (tune_at number state.tunes))) result }
 {
     match tune_of(store, number) {
         Ok(tune) => Ok(Some(tune)),
@@ -101,11 +108,15 @@ pub(crate) fn taken_by<S: TuneStore>(
     store: &mut S,
     entry: &Entry,
 ) -> Result<Entry, Refusal>
-    ensures { IsOnlyAsked S.TuneStore store.old store.new }
+    ensures asked { IsOnlyAsked S.TuneStore store.old store.new }
+    ensures texts { IfOk result (λ gone. entry_value gone ≡ entry_of_texts gone.parts.items) }
+    ensures gone { IfOk result (λ gone. Stood S.TuneStore store.old store.new
+        (λ state. gone.parts.items ≡ all_gone_by entry.now.parts.items state)) }
 {
     let mut parts = Vec::new(alloc);
     for part in entry.parts.as_slice() {
-        put_taken(store, part, &mut parts)?;
+        let gone = gone_by(store, part)?;
+        put_gone(&mut parts, gone)?;
     }
     Ok(Entry {
         kind: EntryKind::Kept,
@@ -113,40 +124,49 @@ pub(crate) fn taken_by<S: TuneStore>(
     })
 }
 
-// Puts the text of a tune that goes.
-fn put_taken<S: TuneStore>(store: &mut S, part: &Part, parts: &mut Vec<Part>) -> Result<(), Refusal>
-    ensures { IsOnlyAsked S.TuneStore store.old store.new }
+fn put_gone(parts: &mut Vec<Part>, gone: Option<Part>) -> Result<(), AllocError>
+    ensures { OnOk result (parts.new.items ≡ parts.old.items ++ option_to_list gone) }
+{
+    match gone {
+        Some(part) => {
+            parts.push(part)?;
+            Ok(())
+        }
+        None => Ok(()),
+    }
+}
+
+// The text of a tune that goes.
+fn gone_by<S: TuneStore>(store: &mut S, part: &Part) -> Result<Option<Part>, Refusal>
+    ensures { Call S.TuneStore store.old store.new
+        (told_by (λ state. Ok (gone_by part.now state))) result }
 {
     match part {
         Part::Tune { number, was, is: _ } => {
             let now = tune_if_any(store, *number)?;
-            Ok(put_if_other(*number, was, now, parts)?)
+            Ok(gone_text(*number, was, now))
         }
-        Part::Set { .. } => Ok(()),
+        Part::Set { .. } => Ok(None),
     }
 }
 
-fn put_if_other(
-    number: u32,
-    was: &Option<TuneText>,
-    now: Option<Tune>,
-    parts: &mut Vec<Part>,
-) -> Result<(), AllocError> {
-    let Some(tune) = now else {
-        return Ok(());
-    };
+fn gone_text(number: u32, was: &Option<TuneText>, now: Option<Tune>) -> Option<Part>
+    ensures { result ≡ gone_text number was.now now }
+{
+    let tune = now?;
     if is_text(was, tune.text.bytes()) {
-        return Ok(());
+        return None;
     }
-    parts.push(Part::Tune {
+    Some(Part::Tune {
         number,
         was: Some(tune.text),
         is: After::Nothing,
-    })?;
-    Ok(())
+    })
 }
 
-fn is_text(was: &Option<TuneText>, text: &[u8]) -> bool {
+fn is_text(was: &Option<TuneText>, text: &[u8]) -> bool
+    ensures { result ≡ is_text was.now text.now }
+{
     match was {
         Some(was) => was.bytes() == text,
         None => false,
@@ -187,7 +207,10 @@ pub(crate) fn number_stray<D: Disk>(
     entry: &Entry,
     greatest: u32,
 ) -> Result<(), Refusal>
-    ensures { Works D.Disk archive.old archive.new }
+    ensures works { Works D.Disk archive.old archive.new }
+    ensures renumbers { RenumbersOne D.Disk (λ _. Unit {0}) archive.old archive.new }
+    ensures accepted { IfOk result
+        (λ _. RenumbersOne D.Disk IsAccepted archive.old archive.new) }
 {
     let Some(stray) = stray_of(archive, entry, greatest)? else {
         return Ok(());
@@ -248,6 +271,7 @@ pub(crate) fn tell_undone<S: TuneStore>(
     match entry.kind {
         EntryKind::Add | EntryKind::AddMore => tell_added(entry, told)?,
         EntryKind::Replace => tell_replaced(store, entry, told)?,
+        EntryKind::Load => tell_loaded(entry, told)?,
         _ => tell_parts(entry, told)?,
     }
     Ok(())
@@ -260,13 +284,35 @@ fn tell_added(entry: &Entry, told: &mut Vec<u8>) -> Result<(), AllocError> {
         entry.parts.as_slice().last(),
     ) {
         (Some(Part::Tune { number: first, .. }), Some(Part::Tune { number: last, .. })) => {
-            if first == last {
-                write!(told, "tune {first} is out again\n").map_err(|_| AllocError)
-            } else {
-                write!(told, "tunes {first} to {last} are out again\n").map_err(|_| AllocError)
-            }
+            tell_out(*first, *last, told)
         }
         _ => Ok(()),
+    }
+}
+
+// The set lists of a load, which are gone again, and its tunes, which are out again.
+fn tell_loaded(entry: &Entry, told: &mut Vec<u8>) -> Result<(), AllocError> {
+    let mut first = 0;
+    let mut last = 0;
+    for part in entry.parts.as_slice() {
+        if let Part::Tune { number, .. } = part {
+            first = if first == 0 { *number } else { first };
+            last = *number;
+        } else {
+            tell_part(part, told)?;
+        }
+    }
+    if last == 0 {
+        return Ok(());
+    }
+    tell_out(first, last, told)
+}
+
+fn tell_out(first: u32, last: u32, told: &mut Vec<u8>) -> Result<(), AllocError> {
+    if first == last {
+        write!(told, "tune {first} is out again\n").map_err(|_| AllocError)
+    } else {
+        write!(told, "tunes {first} to {last} are out again\n").map_err(|_| AllocError)
     }
 }
 

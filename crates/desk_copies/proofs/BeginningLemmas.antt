@@ -2,7 +2,8 @@
 use Rattle.std.proofs.Common.{◌≡◌, ℕ, List, [], ◌∷◌, ◌++◌, Bool, true, false, refl, ap, ◌∙◌, inr, Result, Ok, Err, MatchResult}
 use Rattle.std.proofs.lemmas.List.{append_assoc}
 use Rattle.std.specs.List.{AllByRecursion}
-use Rattle.tune_desk.specs.ArchiveFiles.{IsBegunArchive, MakesArchive, MakesIt, MakesNone, NamesNone, PutsArchive}
+use Rattle.tune_desk.specs.ArchiveFiles.{IsBegunArchive, IsBegunArchiveBy, Keeping, MakesArchiveBy, MakesIt, MakesNone, MakesNoneBy, NamesNone}
+use Rattle.tune_desk.specs.ArchiveFiles.{PutsArchiveAfter}
 use Rattle.tune_desk.specs.BegunResults.{NamesNew, Outcome, naming_of}
 use Rattle.tune_desk.specs.DeskDeeds.{DeskDeed, Answer, ChangesNothing, followed, created, closed, removed}
 use Rattle.tune_desk.specs.Results.{EachAfter, new_of}
@@ -83,10 +84,12 @@ pub created_at : {D : Type 0} (path other : List ℕ) (answer : Result D DeskFau
 created_at path other answer mid now same e = e ∙ ap (λ p. mid ++ created p answer ∷ []) same
 
 -- TARGET.new is closed, and named TARGET
-pub puts_archive : {D : Type 0} (file target path : List ℕ) (over : Bool) (disk : D) (was old mid now : List (DeskDeed D)) (outcome : Outcome)
-    → path ≡ new_of target → mid ≡ old ++ closed path disk ∷ [] → NamesNew target over outcome mid now → IsBegunArchive file target was old → over ≡ false
-    → MatchResult outcome (λ _. MakesArchive file was now × PutsArchive file disk was now) (λ _. MakesNone file was now)
-puts_archive {D} file target path over disk was old mid now outcome same e names begun none =
+pub puts_archive : {D : Type 0} (keeping : Keeping) (file target path : List ℕ) (over : Bool) (disk : D) (was old mid now : List (DeskDeed D))
+    (outcome : Outcome)
+    → path ≡ new_of target → mid ≡ old ++ closed path disk ∷ [] → NamesNew target over outcome mid now
+    → IsBegunArchiveBy keeping file target was old → over ≡ false
+    → MatchResult outcome (λ _. MakesArchiveBy keeping file was now × PutsArchiveAfter keeping file disk was old now) (λ _. MakesNoneBy keeping file was now)
+puts_archive {D} keeping file target path over disk was old mid now outcome same e names begun none =
     by outcome (finished_archive file target over was mid now outcome begun-closed (λ is. absurd (no over none is)) names)
   where
     no : (b : Bool) → b ≡ false → b ≡ true → ⊥
@@ -96,30 +99,34 @@ puts_archive {D} file target path over disk was old mid now outcome same e names
     here : mid ≡ old ++ closed (new_of target) disk ∷ []
     here = closed_at path (new_of target) disk old mid same e
 
-    begun-closed : IsBegunArchive file target was mid
+    begun-closed : IsBegunArchiveBy keeping file target was mid
     begun-closed = archive_quiet file target was old begun mid (closed path disk) e refl
 
-    by : (out : Outcome) → MatchResult out (λ _. MakesArchive file was now × (now ≡ mid ++ naming_of target over (Ok tt) ∷ [])) (λ _. MakesNone file was now)
-        → MatchResult out (λ _. MakesArchive file was now × PutsArchive file disk was now) (λ _. MakesNone file was now)
+    by : (out : Outcome) → MatchResult out (λ _. MakesArchiveBy keeping file was now × (now ≡ mid ++ naming_of target over (Ok tt) ∷ []))
+        (λ _. MakesNoneBy keeping file was now)
+        → MatchResult out (λ _. MakesArchiveBy keeping file was now × PutsArchiveAfter keeping file disk was old now) (λ _. MakesNoneBy keeping file was now)
     by (Ok done) h = (
       h.0,
-      record {
-        target = target;
-        over = over;
-        mid = old;
-        rest = [];
-        begun = begun;
-        history = h.1 ∙ ap (λ l. l ++ naming_of target over (Ok tt) ∷ []) here
-            ∙ append_assoc old (closed (new_of target) disk ∷ []) (naming_of target over (Ok tt) ∷ []);
-        quiet = tt;
-      },
+      (
+        record {
+          target = target;
+          over = over;
+          mid = old;
+          rest = [];
+          begun = begun;
+          history = h.1 ∙ ap (λ l. l ++ naming_of target over (Ok tt) ∷ []) here
+              ∙ append_assoc old (closed (new_of target) disk ∷ []) (naming_of target over (Ok tt) ∷ []);
+          quiet = tt;
+        },
+        refl,
+      ),
     )
     by (Err why) h = h
 
 -- or taken away
-pub leaves_archive : {D : Type 0} (file target path : List ℕ) (disk : D) (was old mid now : List (DeskDeed D)) (answer : Answer)
-    → path ≡ new_of target → mid ≡ old ++ closed path disk ∷ [] → now ≡ mid ++ removed path answer ∷ [] → IsBegunArchive file target was old
-    → MakesNone file was now
-leaves_archive file target path disk was old mid now answer same e k begun =
+pub leaves_archive : {D : Type 0} (keeping : Keeping) (file target path : List ℕ) (disk : D) (was old mid now : List (DeskDeed D)) (answer : Answer)
+    → path ≡ new_of target → mid ≡ old ++ closed path disk ∷ [] → now ≡ mid ++ removed path answer ∷ [] → IsBegunArchiveBy keeping file target was old
+    → MakesNoneBy keeping file was now
+leaves_archive keeping file target path disk was old mid now answer same e k begun =
     archive_removed file target was mid (archive_quiet file target was old begun mid (closed path disk) e refl) now answer
     (k ∙ ap (λ p. mid ++ removed p answer ∷ []) same)

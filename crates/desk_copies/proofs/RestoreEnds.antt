@@ -78,7 +78,7 @@ module _ {D : Type 0} (disks : disk.Ghosts D) (file copy : List ℕ) where
         after = after;
         first = first;
         last = last;
-        makes = makes_one_more file was last now (closed copy after) outer k (quiet_makes file outer.since (closed copy after) refl);
+        makes = makes_one_more file was last now (closed copy after) outer k tt;
         opens = e;
         puts = h;
         closes = k;

@@ -9,17 +9,17 @@ use Rattle.std.specs.Char.{IsAsciiDigit}
 use Rattle.std.specs.List.{AllByRecursion, Contains}
 use Rattle.std.proofs.lemmas.List.Elements.{All-from_recursion}
 use Rattle.std.proofs.lemmas.Fmt.{decimal_by_steps}
-use Rattle.tune_disk.specs.declared.file.Access.TheVariants.{Read, Change}
-use Rattle.tune_desk.specs.ArchiveFiles.{FileLeads, IsAside, IsBegunArchive, IsHeld, IsPutAside, KeepsOpen, MakesArchive, MakesIt, MakesNone, NamesNone}
+use Rattle.tune_disk.specs.declared.file.Access.TheVariants.{Change}
+use Rattle.tune_desk.specs.ArchiveFiles.{IsAside, IsBegunArchive, IsHeld, IsPutAside, Keeping, KeepsOpen, MakesArchive, MakesArchiveBy, MakesIt, MakesItBy}
+use Rattle.tune_desk.specs.ArchiveFiles.{MakesNone, MakesNoneBy, NamesNone}
 use Rattle.tune_desk.specs.BegunResults.{NamesNew, Outcome, naming_of}
-use Rattle.tune_desk.specs.DeskDeeds.{DeskDeed, Answer, ChangesNothing, looked, compared, tested, followed, read, listed, made, named, named_over, removed}
-use Rattle.tune_desk.specs.DeskDeeds.{opened, closed, grown, created, linked, shared}
+use Rattle.tune_desk.specs.DeskDeeds.{DeskDeed, Answer, ChangesNothing, followed, opened, closed, linked, shared}
 use Rattle.tune_desk.specs.Results.{EachAfter, Leaves, new_of}
 use Rattle.tune_desk.specs.declared.desk.DeskFault.{DeskFault}
-use Rattle.tune_desk.proofs.ArchiveLemmas.{finished_archive, makes_both, makes_one_more, makes_quiet, quiet_makes, quiet_unnamed}
+use Rattle.tune_desk.proofs.ArchiveLemmas.{finished_archive, makes_after, makes_both, makes_one_more, makes_quiet, quiet_by, quiet_makes, quiet_unnamed}
 use Rattle.tune_desk.proofs.BegunLemmas.{own_more, quiet_leaves}
-use Rattle.tune_desk.proofs.SpareLemmas.{each_after, each_append, each_of_all, own_after}
-use Rattle.tune_desk.proofs.DeedLists.{All-append, All-map, covers_front, covers_rest}
+use Rattle.tune_desk.proofs.SpareLemmas.{each_after, each_append, each_of_all}
+use Rattle.tune_desk.proofs.DeedLists.{All-append, All-map, covers_front}
 use Rattle.desk_copies.specs.Inside.HeldFiles.{Ends, HoldsArchive, HasPutAside, aside_of}
 
 -- one path is not another
@@ -139,7 +139,7 @@ module _ {D : Type 0} (file target : List ℕ) (was mid now : List (DeskDeed D))
   pub aside_closed : (number : ℕ) (disk : D) → HasPutAside file target number was mid → now ≡ mid ++ closed (new_of target) disk ∷ []
       → (h : IsBegunArchive file target was now) × IsHeld target h.since × IsPutAside target h.since
   aside_closed number disk h e = (
-    begun_more (closed (new_of target) disk) h.holds.begun e (quiet_makes file h.holds.begun.since (closed (new_of target) disk) refl) tt
+    begun_more (closed (new_of target) disk) h.holds.begun e tt tt
         (quiet_leaves (new_of target) (closed (new_of target) disk) refl),
     held_more (closed (new_of target) disk) h.holds.begun.since h.holds.held (new_is_other target),
     record {
@@ -223,62 +223,20 @@ pub shared_at : {D : Type 0} (path other like : List ℕ) (answer : Answer) (mid
     → now ≡ mid ++ shared path like answer ∷ [] → now ≡ mid ++ shared other like answer ∷ []
 shared_at path other like answer mid now same e = e ∙ ap (λ p. mid ++ shared p like answer ∷ []) same
 
--- what makes an archive does so behind questions
-module _ {D : Type 0} (front : List (DeskDeed D)) where
-  leads_behind : (file target : List ℕ) (before : List (DeskDeed D)) → FileLeads file target before → FileLeads file target (front ++ before)
-  leads_behind file target before h = (covers_rest front before).each (followed file (Ok target)) h
-
-  held_behind : (path : List ℕ) (before : List (DeskDeed D)) → IsHeld path before → IsHeld path (front ++ before)
-  held_behind path before h = record {
-    disk = h.disk;
-    earlier = front ++ h.earlier;
-    since = h.since;
-    history = ap (λ l. front ++ l) h.history ∙ sym (append_assoc front h.earlier (opened path Change (Ok h.disk) ∷ h.since));
-    kept = h.kept;
-  }
-
-  aside_behind : (target : List ℕ) (before : List (DeskDeed D)) → IsPutAside target before → IsPutAside target (front ++ before)
-  aside_behind target before h = record {
-    aside = h.aside;
-    earlier = front ++ h.earlier;
-    since = h.since;
-    is_aside = h.is_aside;
-    history = ap (λ l. front ++ l) h.history ∙ sym (append_assoc front h.earlier (linked target h.aside (Ok tt) ∷ h.since));
-    left = h.left;
-  }
-
-  makes_behind : (file : List ℕ) (before : List (DeskDeed D)) (deed : DeskDeed D) → MakesIt file before deed → MakesIt file (front ++ before) deed
-  makes_behind file before (looked path answer) h = tt
-  makes_behind file before (compared path other answer) h = tt
-  makes_behind file before (tested path bytes answer) h = tt
-  makes_behind file before (followed path answer) h = tt
-  makes_behind file before (read path answer) h = tt
-  makes_behind file before (listed path answer) h = tt
-  makes_behind file before (made path bytes answer) h = h
-  makes_behind file before (named from to answer) h = (leads_behind file to before h.0, h.1, own_after front from before h.2)
-  makes_behind file before (named_over from to answer) h =
-      (leads_behind file to before h.0, h.1, own_after front from before h.2, held_behind to before h.3, aside_behind to before h.4)
-  makes_behind file before (removed path answer) h = (h.0, leads_behind file h.0 before h.1, h.2, own_after front path before h.3)
-  makes_behind file before (opened path Read answer) h = tt
-  makes_behind file before (opened path Change answer) h = leads_behind file path before h
-  makes_behind file before (closed path disk) h = tt
-  makes_behind file before (grown path bytes answer) h = h
-  makes_behind file before (created path answer) h = (h.0, leads_behind file h.0 before h.1, h.2)
-  makes_behind file before (linked from to answer) h = (leads_behind file from before h.0, h.1, held_behind from before h.2)
-  makes_behind file before (shared path like answer) h = (h.0, leads_behind file h.0 before h.1, h.2, own_after front path before h.3)
-
 -- questions come before
-pub none_before : {D : Type 0} (file : List ℕ) (was mid now asked : List (DeskDeed D)) → mid ≡ was ++ asked → AllByRecursion ChangesNothing asked
-    → MakesNone file mid now → MakesNone file was now
-none_before file was mid now asked e quiet h = record {
+pub none_before : {D : Type 0} {keeping : Keeping} (file : List ℕ) (was mid now asked : List (DeskDeed D)) → mid ≡ was ++ asked
+    → AllByRecursion ChangesNothing asked → MakesNoneBy keeping file mid now → MakesNoneBy keeping file was now
+none_before {D} {keeping} file was mid now asked e quiet h = record {
   since = asked ++ h.since;
   history = h.history ∙ ap (λ l. l ++ h.since) e ∙ append_assoc was asked h.since;
-  each = each_append (MakesIt file) [] asked h.since (each_of_all ChangesNothing (MakesIt file) (quiet_makes file) [] asked quiet)
-      (subst (λ l. EachAfter (MakesIt file) l h.since) (append-nil asked) (each_after (MakesIt file) asked (makes_behind asked file) [] h.since h.each));
+  each = each_append (MakesItBy keeping file) [] asked h.since
+      (each_of_all ChangesNothing (MakesItBy keeping file) (quiet_by keeping file) [] asked quiet)
+      (subst (λ l. EachAfter (MakesItBy keeping file) l h.since) (append-nil asked)
+      (each_after (MakesItBy keeping file) asked (makes_after asked keeping file) [] h.since h.each));
   unnamed = All-append NamesNone asked h.since (All-map ChangesNothing NamesNone quiet_unnamed asked quiet) h.unnamed;
 }
 
-pub makes_before : {D : Type 0} (file : List ℕ) (was mid now asked : List (DeskDeed D)) → mid ≡ was ++ asked → AllByRecursion ChangesNothing asked
-    → MakesArchive file mid now → MakesArchive file was now
-makes_before file was mid now asked e quiet h =
-    makes_both file was mid now (subst (MakesArchive file was) (sym e) (makes_quiet file was asked quiet)) h
+pub makes_before : {D : Type 0} {keeping : Keeping} (file : List ℕ) (was mid now asked : List (DeskDeed D)) → mid ≡ was ++ asked
+    → AllByRecursion ChangesNothing asked → MakesArchiveBy keeping file mid now → MakesArchiveBy keeping file was now
+makes_before {D} {keeping} file was mid now asked e quiet h =
+    makes_both file was mid now (subst (MakesArchiveBy keeping file was) (sym e) (makes_quiet file was asked quiet)) h

@@ -5,6 +5,7 @@ ghost use Rattle.desk_copies.specs.Copies.{CopiesArchive, IsLookedAt};
 ghost use Rattle.desk_copies.specs.Inside.Checks.{ChecksCopy};
 
 use crate::disk_copies::{CopyFault, copy_disk, sum_of_disk};
+use desk_scenes::Progress;
 use std::alloc::Global;
 use tune_archive::{Archive, Counts};
 use tune_disk::Disk;
@@ -41,15 +42,20 @@ pub struct Copying<D: Disk> {
 
 /// Copies an archive to a disk on which nothing stands, opens the copy to check it, and reads it
 /// once more.
-pub fn copy_archive<D: Disk>(alloc: Global, from: &mut D, to: D) -> Copying<D>
+pub fn copy_archive<D: Disk, E: Progress>(
+    alloc: Global,
+    from: &mut D,
+    to: D,
+    teller: &mut E,
+) -> Copying<D>
     ensures copied { IfOk result.outcome (λ copied. D.honest from.new → D.honest result.disk
         → CopiesArchive (D.state from.old) (D.state result.disk) copied) }
     ensures from { IsLookedAt D.honest D.state from.old from.new }
     ensures to { D.honest result.disk → D.honest to }
 {
     let mut disk = to;
-    match copy_disk(alloc, from, &mut disk) {
-        Ok(sum) => checked_copy(alloc, disk, sum),
+    match copy_disk(alloc, from, &mut disk, teller) {
+        Ok(sum) => checked_copy(alloc, disk, sum, teller),
         Err(fault) => Copying {
             disk,
             outcome: Err(Uncopied::Bytes(fault)),
@@ -58,7 +64,12 @@ pub fn copy_archive<D: Disk>(alloc: Global, from: &mut D, to: D) -> Copying<D>
 }
 
 // Opens a copy of this sum to check it, and reads it once more.
-fn checked_copy<D: Disk>(alloc: Global, disk: D, sum: [u8; 32]) -> Copying<D>
+fn checked_copy<D: Disk, E: Progress>(
+    alloc: Global,
+    disk: D,
+    sum: [u8; 32],
+    teller: &mut E,
+) -> Copying<D>
     ensures checked { IfOk result.outcome (λ copied. D.honest result.disk
         → ChecksCopy (D.state disk) (D.state result.disk) sum copied) }
     ensures disk { D.honest result.disk → D.honest disk }
@@ -69,7 +80,7 @@ fn checked_copy<D: Disk>(alloc: Global, disk: D, sum: [u8; 32]) -> Copying<D>
             let mut disk = archive.into_disk();
             match counts {
                 Ok(counts) => {
-                    let outcome = read_again(alloc, &mut disk, counts, sum);
+                    let outcome = read_again(alloc, &mut disk, counts, sum, teller);
                     Copying { disk, outcome }
                 }
                 Err(_) => Copying {
@@ -86,18 +97,19 @@ fn checked_copy<D: Disk>(alloc: Global, disk: D, sum: [u8; 32]) -> Copying<D>
 }
 
 // Compares what a disk shows with a sum.
-fn read_again<D: Disk>(
+fn read_again<D: Disk, E: Progress>(
     alloc: Global,
     disk: &mut D,
     counts: Counts,
     sum: [u8; 32],
+    teller: &mut E,
 ) -> Result<Copied, Uncopied>
     ensures same { IfOk result (λ copied. D.honest disk.new
         → (sum ≡ sha256 (D.state disk.old).seen)) }
     ensures copied { IfOk result (λ copied. (copied.counts ≡ counts) × (copied.sum ≡ sum)) }
     ensures disk { IsLookedAt D.honest D.state disk.old disk.new }
 {
-    match sum_of_disk(alloc, disk) {
+    match sum_of_disk(alloc, disk, teller) {
         Ok(found) if found == sum => Ok(Copied { counts, sum }),
         Ok(_) => Err(Uncopied::Other),
         Err(fault) => Err(Uncopied::Bytes(fault)),

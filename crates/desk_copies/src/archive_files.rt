@@ -1,7 +1,8 @@
 // An archive that is put where FILE leads.
 ghost use Rattle.std.specs.Prelude.{◌≡◌, false, List, ℕ, IfOk, MatchResult, string_bytes};
-ghost use Rattle.tune_desk.specs.ArchiveFiles.{IsBegunArchive, PutsArchive, MakesArchive};
-ghost use Rattle.tune_desk.specs.ArchiveFiles.{MakesNone};
+ghost use Rattle.tune_desk.specs.ArchiveFiles.{Keeping, IsBegunArchive, IsBegunArchiveBy};
+ghost use Rattle.tune_desk.specs.ArchiveFiles.{MakesArchiveBy, MakesNone, MakesNoneBy};
+ghost use Rattle.tune_desk.specs.ArchiveFiles.{PutsArchiveAfter};
 ghost use Rattle.tune_desk.specs.DeskDeeds.{DeskDeed};
 ghost use Rattle.tune_desk.specs.Results.{new_of};
 ghost use Rattle.desk_copies.specs.Inside.Beginnings.{IsFollowed, BeginsFile};
@@ -13,7 +14,7 @@ use tune_disk::Disk;
 
 /// Begins an archive where FILE leads: makes TARGET.new, as a disk. A file that stands at TARGET is
 /// refused, but where it may stand.
-pub(crate) fn begin_archive<D: Disk, K: AllocGlobal + Desk<Disk = D>>(
+pub fn begin_archive<D: Disk, K: AllocGlobal + Desk<Disk = D>>(
     desk: &mut K,
     file: &String,
     may_stand: bool,
@@ -116,29 +117,29 @@ fn stands(found: Result<Standing, DeskFault>, may_stand: bool) -> Result<bool, R
 }
 
 /// Closes the disk of TARGET.new, and names it TARGET, where nothing stands; or takes it away.
-pub(crate) fn put_archive<D: Disk, K: Desk<Disk = D>>(
+pub fn put_archive<D: Disk, K: Desk<Disk = D>>(
     desk: &mut K,
     place: &ResultPlace,
     disk: D,
 ) -> Result<(), ResultRefusal>
     requires { string_bytes place.now.new ≡ new_of (string_bytes place.now.target) }
-    ensures { (file : List ℕ) (was : List (DeskDeed D))
-        → IsBegunArchive file (string_bytes place.now.target) was (K.deeds desk.old)
+    ensures { (keeping : Keeping) (file : List ℕ) (was : List (DeskDeed D))
+        → IsBegunArchiveBy keeping file (string_bytes place.now.target) was (K.deeds desk.old)
         → place.now.over ≡ false → MatchResult result
-        (λ _. MakesArchive file was (K.deeds desk.new)
-        × PutsArchive file disk was (K.deeds desk.new))
-        (λ _. MakesNone file was (K.deeds desk.new)) }
+        (λ _. MakesArchiveBy keeping file was (K.deeds desk.new)
+        × PutsArchiveAfter keeping file disk was (K.deeds desk.old) (K.deeds desk.new))
+        (λ _. MakesNoneBy keeping file was (K.deeds desk.new)) }
 {
     desk.close(&place.new, disk);
     finish_result(desk, place)
 }
 
 /// Closes the disk of TARGET.new, and takes it away.
-pub(crate) fn leave_archive<D: Disk, K: Desk<Disk = D>>(desk: &mut K, place: &ResultPlace, disk: D)
+pub fn leave_archive<D: Disk, K: Desk<Disk = D>>(desk: &mut K, place: &ResultPlace, disk: D)
     requires { string_bytes place.now.new ≡ new_of (string_bytes place.now.target) }
-    ensures { (file : List ℕ) (was : List (DeskDeed D))
-        → IsBegunArchive file (string_bytes place.now.target) was (K.deeds desk.old)
-        → MakesNone file was (K.deeds desk.new) }
+    ensures { (keeping : Keeping) (file : List ℕ) (was : List (DeskDeed D))
+        → IsBegunArchiveBy keeping file (string_bytes place.now.target) was (K.deeds desk.old)
+        → MakesNoneBy keeping file was (K.deeds desk.new) }
 {
     desk.close(&place.new, disk);
     let _ = desk.remove(&place.new);

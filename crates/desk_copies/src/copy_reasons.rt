@@ -97,8 +97,8 @@ pub(crate) fn say_unrestored<E: Write>(
     }
 }
 
-// Says why a copy was not opened.
-pub(crate) fn say_unread<E: Write>(errors: &mut E, copy: &str, fault: DeskFault) -> u8
+/// Says why a copy was not opened, and gives the status.
+pub fn say_unread<E: Write>(errors: &mut E, copy: &str, fault: DeskFault) -> u8
     ensures { result ≢ 0 }
 {
     let reason = match fault {
@@ -110,7 +110,7 @@ pub(crate) fn say_unread<E: Write>(errors: &mut E, copy: &str, fault: DeskFault)
 }
 
 /// Says why an archive was not copied, and gives the status.
-pub(crate) fn say_uncopied<E: Write>(errors: &mut E, out: &str, from: &str, why: Uncopied) -> u8
+pub fn say_uncopied<E: Write>(errors: &mut E, out: &str, from: &str, why: Uncopied) -> u8
     ensures { result ≢ 0 }
 {
     match why {
@@ -134,7 +134,7 @@ pub(crate) fn say_uncopied<E: Write>(errors: &mut E, out: &str, from: &str, why:
 }
 
 /// Says why a copy does not agree with the sum beside it, and gives the status.
-pub(crate) fn say_sum<E: Write>(errors: &mut E, copy: &str, why: SumFault) -> u8
+pub fn say_sum<E: Write>(errors: &mut E, copy: &str, why: SumFault) -> u8
     ensures { result ≢ 0 }
 {
     let reason = match why {

@@ -6,6 +6,8 @@ ghost use Rattle.sha2.specs.Sha256.{sha256};
 ghost use Rattle.tune_disk.specs.Disk.{Shows, Written};
 ghost use Rattle.desk_copies.specs.Copies.{IsCopied, IsLookedAt};
 
+use crate::told_bytes::{ByteWork, tell_bytes};
+use desk_scenes::Progress;
 use sha2::{Digest, Sha256};
 use std::alloc::{AllocError, Global};
 use tune_disk::{DeviceFault, Disk};
@@ -35,7 +37,12 @@ impl From<AllocError> for CopyFault {
 
 /// Copies all that one disk shows to another, on which nothing stands, and syncs that. Gives the
 /// SHA-256 of it.
-pub fn copy_disk<D: Disk>(alloc: Global, from: &mut D, to: &mut D) -> Result<[u8; 32], CopyFault>
+pub fn copy_disk<D: Disk, E: Progress>(
+    alloc: Global,
+    from: &mut D,
+    to: &mut D,
+    teller: &mut E,
+) -> Result<[u8; 32], CopyFault>
     ensures copied { IfOk result (λ sum. D.honest from.new → D.honest to.new
         → IsCopied (D.state from.old) (D.state to.new) sum) }
     ensures from { IsLookedAt D.honest D.state from.old from.new }
@@ -43,7 +50,7 @@ pub fn copy_disk<D: Disk>(alloc: Global, from: &mut D, to: &mut D) -> Result<[u8
 {
     let size = size_of(from)?;
     begins_empty(to)?;
-    let sum = copy_parts(alloc, from, to, size)?;
+    let sum = copy_parts(alloc, from, to, size, teller)?;
     match to.sync() {
         Ok(()) => Ok(sum),
         Err(DeviceFault) => Err(CopyFault::Target),
@@ -51,13 +58,17 @@ pub fn copy_disk<D: Disk>(alloc: Global, from: &mut D, to: &mut D) -> Result<[u8
 }
 
 /// The SHA-256 of all that a disk shows.
-pub fn sum_of_disk<D: Disk>(alloc: Global, disk: &mut D) -> Result<[u8; 32], CopyFault>
+pub fn sum_of_disk<D: Disk, E: Progress>(
+    alloc: Global,
+    disk: &mut D,
+    teller: &mut E,
+) -> Result<[u8; 32], CopyFault>
     ensures summed { IfOk result (λ sum. D.honest disk.new
         → sum ≡ sha256 (D.state disk.old).seen) }
     ensures disk { IsLookedAt D.honest D.state disk.old disk.new }
 {
     let size = size_of(disk)?;
-    match sum_parts(alloc, disk, size) {
+    match sum_parts(alloc, disk, size, teller) {
         Ok(sum) => Ok(sum),
         Err(fault) => Err(fault),
     }
@@ -86,11 +97,13 @@ fn begins_empty<D: Disk>(disk: &mut D) -> Result<(), CopyFault>
     }
 }
 
-fn copy_parts<D: Disk>(
+// Copies so many bytes, part by part, and tells how far it is.
+fn copy_parts<D: Disk, E: Progress>(
     alloc: Global,
     from: &mut D,
     to: &mut D,
     size: u64,
+    teller: &mut E,
 ) -> Result<[u8; 32], CopyFault>
     requires { size ≤ 2 ^ 40 }
     ensures copied { IfOk result (λ sum. D.honest from.new → D.honest to.new
@@ -106,6 +119,7 @@ fn copy_parts<D: Disk>(
         let some = (size - at).min(PART);
         copy_part(alloc, from, to, &mut sum, at, some as usize)?;
         at += some;
+        tell_bytes(teller, ByteWork::Copy, at, size);
     }
     Ok(sum.finalize())
 }
@@ -166,7 +180,13 @@ fn copy_by<D: Disk>(
     Ok(())
 }
 
-fn sum_parts<D: Disk>(alloc: Global, disk: &mut D, size: u64) -> Result<[u8; 32], CopyFault>
+// Sums so many bytes, part by part, and tells how far it is.
+fn sum_parts<D: Disk, E: Progress>(
+    alloc: Global,
+    disk: &mut D,
+    size: u64,
+    teller: &mut E,
+) -> Result<[u8; 32], CopyFault>
     requires { size ≤ 2 ^ 40 }
     ensures summed { IfOk result (λ sum. D.honest disk.new
         → size ≡ length (D.state disk.old).seen → sum ≡ sha256 (D.state disk.old).seen) }
@@ -178,6 +198,7 @@ fn sum_parts<D: Disk>(alloc: Global, disk: &mut D, size: u64) -> Result<[u8; 32]
         let some = (size - at).min(PART);
         sum_part(alloc, disk, &mut sum, at, some as usize)?;
         at += some;
+        tell_bytes(teller, ByteWork::Read, at, size);
     }
     Ok(sum.finalize())
 }

@@ -16,7 +16,7 @@ use crate::copy_reasons::say_unrestored;
 use crate::disk_copies::sum_of_disk;
 use crate::put_aside::put_aside;
 use crate::sum_files::{SumFault, compare_sum};
-use desk_scenes::{REFUSED, print, say};
+use desk_scenes::{Progress, REFUSED, print, say};
 use std::alloc::{AllocError, Global};
 use std::io::Write;
 use tune_archive::Counts;
@@ -61,7 +61,7 @@ pub(crate) enum Unrestored {
 
 /// Puts a copy where FILE leads, and gives the status. What stands there is first given the name
 /// FILE.N.old too, the first that is free; where it is no archive, only by `force`.
-pub fn restore<C: Console, E: Write, D: Disk, K: AllocGlobal + Desk<Disk = D>>(
+pub fn restore<C: Console, E: Write + Progress, D: Disk, K: AllocGlobal + Desk<Disk = D>>(
     desk: &mut K,
     file: &String,
     copy: &String,
@@ -76,24 +76,25 @@ pub fn restore<C: Console, E: Write, D: Disk, K: AllocGlobal + Desk<Disk = D>>(
       status = result;
     }) }
 {
-    match restore_file(desk, file, copy, force) {
+    match restore_file(desk, file, copy, force, errors) {
         Ok(restored) => print_restored(desk.alloc(), console, errors, file, restored),
         Err(why) => say_unrestored(errors, file.as_str(), copy.as_str(), &why),
     }
 }
 
-fn restore_file<D: Disk, K: AllocGlobal + Desk<Disk = D>>(
+fn restore_file<D: Disk, E: Progress, K: AllocGlobal + Desk<Disk = D>>(
     desk: &mut K,
     file: &String,
     copy: &String,
     force: bool,
+    teller: &mut E,
 ) -> Result<Restored, Unrestored>
     ensures { RestoresFile D.Disk (string_bytes file.now) (string_bytes copy.now) result
         (K.deeds desk.old) (K.deeds desk.new) }
 {
     match desk.open(copy, Access::Read) {
         Ok(mut source) => {
-            let outcome = restore_agreed(desk, file, copy, force, &mut source);
+            let outcome = restore_agreed(desk, file, copy, force, &mut source, teller);
             desk.close(copy, source);
             outcome
         }
@@ -102,12 +103,13 @@ fn restore_file<D: Disk, K: AllocGlobal + Desk<Disk = D>>(
 }
 
 // Restores what is open, where it agrees with the sum beside it.
-fn restore_agreed<D: Disk, K: AllocGlobal + Desk<Disk = D>>(
+fn restore_agreed<D: Disk, E: Progress, K: AllocGlobal + Desk<Disk = D>>(
     desk: &mut K,
     file: &String,
     copy: &String,
     force: bool,
     source: &mut D,
+    teller: &mut E,
 ) -> Result<Restored, Unrestored>
     ensures restores { AgreesAndRestores D.Disk (string_bytes file.now) (record {
       path = string_bytes copy.now;
@@ -116,23 +118,24 @@ fn restore_agreed<D: Disk, K: AllocGlobal + Desk<Disk = D>>(
     }) result (K.deeds desk.old) (K.deeds desk.new) }
     ensures source { IsLookedAt D.honest D.state source.old source.new }
 {
-    let sum = match sum_of_disk(desk.alloc(), source) {
+    let sum = match sum_of_disk(desk.alloc(), source, teller) {
         Ok(sum) => sum,
         Err(fault) => return Err(Unrestored::Uncopied(Uncopied::Bytes(fault))),
     };
     match compare_sum(desk, copy, &sum) {
-        Ok(()) => restore_from(desk, file, copy, force, source),
+        Ok(()) => restore_from(desk, file, copy, force, source, teller),
         Err(why) => Err(Unrestored::Sum(why)),
     }
 }
 
 // Copies what is open to TARGET.new, and puts that in its place.
-fn restore_from<D: Disk, K: AllocGlobal + Desk<Disk = D>>(
+fn restore_from<D: Disk, E: Progress, K: AllocGlobal + Desk<Disk = D>>(
     desk: &mut K,
     file: &String,
     copy: &String,
     force: bool,
     source: &mut D,
+    teller: &mut E,
 ) -> Result<Restored, Unrestored>
     ensures restores { RestoresFrom D.Disk (string_bytes file.now) (record {
       path = string_bytes copy.now;
@@ -142,17 +145,18 @@ fn restore_from<D: Disk, K: AllocGlobal + Desk<Disk = D>>(
     ensures source { IsLookedAt D.honest D.state source.old source.new }
 {
     match begin_archive(desk, file, true) {
-        Ok(begun) => fill_copy(desk, copy, force, source, begun),
+        Ok(begun) => fill_copy(desk, copy, force, source, begun, teller),
         Err(fault) => Err(Unrestored::File(fault)),
     }
 }
 
-fn fill_copy<D: Disk, K: AllocGlobal + Desk<Disk = D>>(
+fn fill_copy<D: Disk, E: Progress, K: AllocGlobal + Desk<Disk = D>>(
     desk: &mut K,
     copy: &String,
     force: bool,
     source: &mut D,
     begun: BegunResult<D>,
+    teller: &mut E,
 ) -> Result<Restored, Unrestored>
     requires { string_bytes begun.place.new ≡ new_of (string_bytes begun.place.target) }
     ensures restores { (file : List ℕ) (was : List (DeskDeed D))
@@ -166,7 +170,7 @@ fn fill_copy<D: Disk, K: AllocGlobal + Desk<Disk = D>>(
 {
     let BegunResult { place, disk } = begun;
     let _ = desk.share(&place.new, copy);
-    let Copying { disk, outcome } = copy_archive(desk.alloc(), source, disk);
+    let Copying { disk, outcome } = copy_archive(desk.alloc(), source, disk, teller);
     match outcome {
         Ok(copied) => match put_copy(desk, place, disk, force) {
             Ok(aside) => Ok(Restored {

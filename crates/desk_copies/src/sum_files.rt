@@ -24,14 +24,14 @@ pub enum SumFault {
 }
 
 /// COPY.sha256.
-pub(crate) fn sum_path(alloc: Global, copy: &String) -> Result<String, AllocError>
+pub fn sum_path(alloc: Global, copy: &String) -> Result<String, AllocError>
     ensures { IfOk result (λ path. string_bytes path ≡ sum_path (string_bytes copy.now)) }
 {
     format!(in alloc; "{copy}.sha256")
 }
 
 /// Compares a sum with that of COPY.sha256, where anything stands there.
-pub(crate) fn compare_sum<K: AllocGlobal + Desk>(
+pub fn compare_sum<K: AllocGlobal + Desk>(
     desk: &mut K,
     copy: &String,
     sum: &[u8; 32],

@@ -15,8 +15,9 @@ use Rattle.desk_words.specs.declared.asked.Target.{Target}
 use Rattle.desk_scenes.specs.FileAnswers.{Did, IsVisited, IsAsked, IsUnasked}
 use Rattle.desk_scenes.specs.Scenes.{Scene, IsQuiet}
 use Rattle.desk_orders.specs.Orders.{CarriesOut, Tells, WritesAnswer, DeliversRead, Drafts, WritesDraft, PlacesInput, RunsOnce, RunsOnFile}
-use Rattle.tune_desk.specs.ArchiveFiles.{MakesArchive, MakesNone}
+use Rattle.tune_desk.specs.ArchiveFiles.{Keeping, KeepsEntry, MakesArchive, MakesArchiveBy, MakesNoneBy}
 use Rattle.desk_copies.specs.Made.{MakesEmpty}
+use Rattle.desk_loads.specs.LoadedScripts.{Loads}
 use Rattle.desk_copies.specs.Restored.{Restores}
 use Rattle.desk_orders.specs.Orders.{IsRefused, KeepsFiles, files_of, places_to}
 use Rattle.desk_scenes.specs.Visits.{Visits, Mends, Comes, ComesToNothing, visit, failed_visit, spared, failed}
@@ -79,6 +80,10 @@ pub kept_by : {D : Type 0} (file : List ℕ) (asked by : Order) (was now : List 
     → KeepsFiles file asked was now
 kept_by file asked by was now e h = subst (λ o. KeepsFiles file o was now) (sym e) h
 
+pub carried_by : {D : Type 0} (disks : disk.Ghosts D) (file : List ℕ) (asked by : Order) (scene : Scene D) → asked ≡ by
+    → CarriesOut disks file by scene → CarriesOut disks file asked scene
+carried_by disks file asked by scene e h = subst (λ o. CarriesOut disks file o scene) (sym e) h
+
 pub told_keeps : {D : Type 0} (disks : disk.Ghosts D) (file : List ℕ) (Told : State → List ℕ → Type 0) (scene : Scene D) → Tells disks file Told scene
     → SparesFiles (places_of file None false) scene.was scene.now
 told_keeps disks file Told scene h = tells_spares disks (places_of file None false) Told scene h
@@ -88,7 +93,8 @@ pub asked_keeps : {D : Type 0} (disks : disk.Ghosts D) (file : List ℕ) (scene 
 asked_keeps disks file scene h = runs_spares disks (places_of file None false) scene h
 
 -- an archive was put where FILE leads, or none
-pub none_keeps : {D : Type 0} (file : List ℕ) (was now : List (DeskDeed D)) → MakesNone file was now → MakesArchive file was now
+pub none_keeps : {D : Type 0} {keeping : Keeping} (file : List ℕ) (was now : List (DeskDeed D)) → MakesNoneBy keeping file was now
+    → MakesArchiveBy keeping file was now
 none_keeps file was now h = record { since = h.since; history = h.history; each = h.each }
 
 pub empty_keeps : {D : Type 0} (disks : disk.Ghosts D) (file : List ℕ) (was now : List (DeskDeed D)) (status : ℕ) → MakesEmpty disks file was now status
@@ -100,6 +106,11 @@ pub restored_keeps : {D : Type 0} (disks : disk.Ghosts D) (file copy : List ℕ)
     → MakesArchive file scene.was scene.now
 restored_keeps disks file copy scene (inl restored) = restored.1.makes
 restored_keeps disks file copy scene (inr none) = none_keeps file scene.was scene.now none.0
+
+pub loaded_keeps : {D : Type 0} (disks : disk.Ghosts D) (file path : List ℕ) (scene : Scene D) → Loads disks file path scene
+    → MakesArchiveBy KeepsEntry file scene.was scene.now
+loaded_keeps disks file path scene (inl loaded) = loaded.makes
+loaded_keeps disks file path scene (inr none) = none_keeps file scene.was scene.now none.0
 
 -- nothing was done
 pub left_keeps : {D : Type 0} (file : List ℕ) (was : List (DeskDeed D)) → SparesFiles (places_of file None false) was was

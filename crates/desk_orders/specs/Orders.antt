@@ -14,7 +14,7 @@ use Rattle.tune_cli.specs.FileActs.{RunsOn}
 use Rattle.tune_cli.specs.ProgramLines.{counts_bytes}
 use Rattle.tune_cli.specs.declared.file_actions.Done.{Done}
 use Rattle.tune_desk.specs.DeskDeeds.{DeskDeed, opened, closed, ChangesNothing}
-use Rattle.tune_desk.specs.ArchiveFiles.{MakesArchive}
+use Rattle.tune_desk.specs.ArchiveFiles.{KeepsEntry, MakesArchive, MakesArchiveBy}
 use Rattle.tune_desk.specs.Results.{Places, places_of, SparesFiles, Writes}
 use Rattle.tune_desk.specs.Refusals.{Refuses}
 use Rattle.tune_desk.specs.declared.desk.DeskFault.{DeskFault}
@@ -24,12 +24,19 @@ use Rattle.desk_terms.specs.declared.alteration.Alteration.{Alteration}
 use Rattle.tune_changes.specs.Planning.{planned_by}
 use Rattle.desk_changes.specs.ChangedFiles.{ChangesFile}
 use Rattle.desk_changes.specs.Kinds.{kind_of}
+use Rattle.desk_backups.specs.BackupFiles.{SparesCopies}
+use Rattle.desk_backups.specs.Backups.{Backs}
+use Rattle.desk_backups.specs.CheckedCopies.{TellsCopy}
+use Rattle.desk_changes.specs.ReplacedTunes.{ReplacesTune}
 use Rattle.desk_changes.specs.Undone.{Undoes}
 use Rattle.desk_copies.specs.Made.{MakesEmpty}
 use Rattle.desk_copies.specs.Restored.{Restores}
+use Rattle.desk_loads.specs.LoadedScripts.{Loads}
+use Rattle.desk_loads.specs.Upgraded.{Upgrades}
 use Rattle.desk_words.specs.declared.asked.Order.{Order}
 use Rattle.desk_words.specs.declared.asked.Order.TheVariants as order
 use Rattle.desk_words.specs.declared.asked.Target.{Target}
+use Rattle.desk_books.specs.AddedBooks.{Adds}
 use Rattle.desk_books.specs.CheckedBooks.{TellsPaths}
 use Rattle.desk_books.specs.Stages.{Stage}
 use Rattle.desk_scenes.specs.FileAnswers.{Did, IsAsked, IsUnasked}
@@ -154,12 +161,16 @@ files_of file (order.Draft number out) = places_of file (Some (string_bytes out)
 files_of file (order.Place target) = places_to file target
 files_of file order = places_of file None false
 
--- WHAT AN ORDER MAY DO WITH FILES: one that puts an archive where FILE leads makes it there; every
--- other one spares files.
+-- WHAT AN ORDER MAY DO WITH FILES: one that puts an archive where FILE leads makes it there, and
+-- one that makes it of a script keeps an entry before; one that copies FILE spares files, and takes
+-- old copies away; every other one spares files.
 abbrev pub KeepsFiles : {D : Type 0} → List ℕ → Order → List (DeskDeed D) → List (DeskDeed D)
     → Type 0
 KeepsFiles file order.Make was now = MakesArchive file was now
 KeepsFiles file (order.Restore copy force) was now = MakesArchive file was now
+KeepsFiles file (order.Load script) was now = MakesArchiveBy KeepsEntry file was now
+KeepsFiles file (order.Backup copy keep) was now =
+    SparesCopies file (string_bytes copy) keep was now
 KeepsFiles file other was now = SparesFiles (files_of file other) was now
 
 -- CHANGES
@@ -170,10 +181,6 @@ AltersFile disks file change scene = IsSilent scene.streams
     × ChangesFile disks file (kind_of change) (λ state turns. planned_by change state ≡ Ok turns)
     (record { was = scene.was; now = scene.now; status = scene.status })
 
--- An order that the script carries out: nothing was done, and the status says so.
-abbrev pub IsLeft : {D : Type 0} → Scene D → Type 0
-IsLeft scene = (scene.now ≡ scene.was) × (IsSilent scene.streams × (scene.status ≢ 0))
-
 -- THE THEOREM OF THE FRONT END: what an order does with FILE, with other files, with standard
 -- input and output, and its status.
 abbrev pub CarriesOut : {D : Type 0} → disk.Ghosts D → List ℕ → Order → Scene D → Type 0
@@ -183,6 +190,7 @@ CarriesOut disks file (order.Write question target) scene =
     WritesAnswer disks file (λ state bytes. told question state ≡ Ok bytes) target scene
 CarriesOut disks file order.Check scene =
     Tells disks file (λ state bytes. bytes ≡ counts_bytes state) scene
+CarriesOut disks file (order.CheckCopy copy) scene = TellsCopy disks (string_bytes copy) scene
 CarriesOut disks file (order.Draft number out) scene =
     Drafts disks file number (string_bytes out) scene
 CarriesOut disks file (order.Place target) scene = PlacesInput file target scene
@@ -193,5 +201,12 @@ CarriesOut disks file order.Make scene =
 CarriesOut disks file (order.Restore copy force) scene =
     Restores disks file (string_bytes copy) scene
 CarriesOut disks file (order.Alter change) scene = AltersFile disks file change scene
-CarriesOut disks file (order.Undo undoing) scene = Undoes disks file undoing scene.was scene.now
-CarriesOut disks file other scene = IsLeft scene
+CarriesOut disks file (order.Replace number revision book) scene = ReplacesTune disks file
+    (record { number = number; revision = revision; book = string_bytes book }) scene
+CarriesOut disks file (order.Undo undoing) scene = Undoes disks file undoing scene
+CarriesOut disks file (order.Load script) scene = Loads disks file (string_bytes script) scene
+CarriesOut disks file order.Upgrade scene = Upgrades disks file scene
+CarriesOut disks file (order.Backup copy keep) scene =
+    Backs disks file (string_bytes copy) keep scene
+CarriesOut disks file (order.Add books how) scene =
+    Adds disks file how scene.was scene.now scene.status

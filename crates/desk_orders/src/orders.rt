@@ -10,11 +10,13 @@ ghost use Rattle.desk_orders.specs.Orders.{RunsOnce, RunsOnFile, KeepsFiles};
 use crate::deliveries::deliver;
 use crate::drafts::write_draft;
 use crate::file_questions::{ask_counts, ask_question, ask_tune};
-use desk_books::check_books;
-use desk_changes::{alter, undo};
+use desk_backups::{backup, check_copy};
+use desk_books::{add, check_books};
+use desk_changes::{alter, replace, undo};
 use desk_copies::{make, restore};
+use desk_loads::{load, upgrade};
 use desk_scenes::{
-    BAD_WORDS, REFUSED, Unopened, bring_to_rest, print, print_counts, read_input, say,
+    Progress, REFUSED, Unopened, bring_to_rest, print, print_counts, read_input, say,
     say_unanswered, say_unopened,
 };
 use desk_terms::Question;
@@ -30,7 +32,7 @@ use tune_scripts::Console;
 ///
 /// `does` says for each order what it does with FILE, with a result, and with standard input and
 /// output; `files` says for all of them which files a call may change, and in which order.
-pub fn carry_out<C: Console, E: Write, D: Disk, K: AllocGlobal + Desk<Disk = D>>(
+pub fn carry_out<C: Console, E: Write + Progress, D: Disk, K: AllocGlobal + Desk<Disk = D>>(
     desk: &mut K,
     file: &String,
     order: &Order,
@@ -57,30 +59,18 @@ pub fn carry_out<C: Console, E: Write, D: Disk, K: AllocGlobal + Desk<Disk = D>>
         Order::Make => make(desk, file, errors),
         Order::Restore { copy, force } => restore(desk, file, copy, *force, console, errors),
         Order::Alter(change) => alter(desk, file, change, errors),
-        Order::Undo(undoing) => undo(desk, file, undoing, console, errors),
-        Order::CheckCopy(_) => leave(errors),
-        Order::Add { books: _, how: _ } => leave(errors),
         Order::Replace {
-            number: _,
-            revision: _,
-            book: _,
-        } => leave(errors),
-        Order::Backup { copy: _, keep: _ } => leave(errors),
-        Order::Load(_) => leave(errors),
-        Order::Upgrade => leave(errors),
+            number,
+            revision,
+            book,
+        } => replace(desk, file, *number, *revision, book, console, errors),
+        Order::Undo(undoing) => undo(desk, file, undoing, console, errors),
+        Order::Load(script) => load(desk, file, script, console, errors),
+        Order::Upgrade => upgrade(desk, file, console, errors),
+        Order::CheckCopy(copy) => check_copy(desk, copy, console, errors),
+        Order::Add { books, how } => add(desk, file, books.as_slice(), how, console, errors),
+        Order::Backup { copy, keep } => backup(desk, file, copy, *keep, console, errors),
     }
-}
-
-// Says that the script carries this order out.
-fn leave<E: Write>(errors: &mut E) -> u8
-    ensures { result ≢ 0 }
-{
-    say(
-        errors,
-        "this command",
-        "it is carried out by the script; call `tunes-book`",
-    );
-    BAD_WORDS
 }
 
 // Prints what FILE tells to a question.

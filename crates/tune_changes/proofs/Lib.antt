@@ -12,3 +12,5 @@ pub mod LookLemmas
 pub mod BringingLemmas
 pub mod PlanLemmas
 pub mod JudgingLemmas
+pub mod LoadLemmas
+pub mod Unloaded

@@ -1,2 +1,3 @@
+pub mod LoadCalls
 pub mod SubjectLooks
 pub mod TurnPlans

@@ -7,4 +7,5 @@ pub mod Aims
 pub mod Carrying
 pub mod Planning
 pub mod Judging
+pub mod BroughtParts
 pub mod Inside

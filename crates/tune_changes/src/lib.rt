@@ -3,6 +3,7 @@
 #![tactic(auto)]
 
 mod bringing;
+mod brought_parts;
 mod carrying;
 mod judging;
 mod laws;
@@ -14,6 +15,7 @@ mod tune_bringing;
 mod turns;
 
 pub use bringing::{bring_about, take_back};
+pub use brought_parts::loaded_parts;
 pub use judging::{PartVerdict, Verdict, judged, set_verdict, tune_verdict};
 pub use laws::{law_of_bringing, law_of_undo};
 pub use planning::{planned, planned_replace};

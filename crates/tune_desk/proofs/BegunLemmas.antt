@@ -13,7 +13,7 @@ use Rattle.tune_desk.proofs.DeedLists.{covers_front, All-append, leads-more, arc
 use Rattle.tune_desk.proofs.ResultLemmas.{Cleared, naming_keeps, naming_comes, naming_leaves}
 use Rattle.tune_desk.proofs.SpareLemmas.{each_append, quiet_reads, reading_keeps, reading_comes}
 
-none_there : (path : List ℕ) → ¬ Contains [] path
+pub none_there : (path : List ℕ) → ¬ Contains [] path
 none_there path h = absurd (let lt = h.1 in omega (arith, lt))
 
 -- what changes nothing leaves each file

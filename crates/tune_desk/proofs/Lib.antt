@@ -3,6 +3,7 @@ mod AskLemmas
 mod BeginLemmas
 pub mod BegunLemmas
 pub mod DeedLists
+pub mod EntryLemmas
 mod NameLemmas
 mod OldTextsLemmas
 mod PutLemmas

@@ -7,13 +7,15 @@ ghost use Rattle.tune_desk.specs.OldTexts.{Grows, GrowsNot, IsPieceOf};
 ghost use Rattle.tune_desk.specs.Results.{SparesFiles, places_of};
 
 use crate::{Desk, DeskFault, Standing};
+use memchr::memmem;
 use std::alloc::{AllocError, Global};
 
 // The first bytes of every archive.
 const ARCHIVE_HEAD: &[u8] = b"ABCTUNE1";
 
-// The first bytes of every book of old texts.
-const OLD_TEXTS_HEAD: &[u8] = b"\n% tunes-book ";
+// How every entry of a book of old texts begins, and so the book, but where a stop left less of its
+// first one.
+const ENTRY_HEAD: &[u8] = b"\n% tunes-book ";
 
 /// Why nothing was put at the end of the book of old texts.
 #[derive(Clone, Copy, Debug, PartialEq, Eq)]
@@ -117,23 +119,25 @@ fn spare_archive<K: Desk>(desk: &mut K, old: &String) -> Result<(), OldTextsFaul
     }
 }
 
-// That it begins as a book of old texts, or has no more than a front of that.
+// That it begins as a book of old texts; or has an entry, behind what a stop left; or has no more
+// than the front of one.
 fn spare_unknown<K: Desk>(alloc: Global, desk: &mut K, old: &String) -> Result<(), OldTextsFault>
     ensures { Asks KnowsNothing (K.deeds desk.old) (K.deeds desk.new) }
 {
-    match desk.begins(old, OLD_TEXTS_HEAD) {
+    match desk.begins(old, ENTRY_HEAD) {
         Ok(true) => Ok(()),
-        Ok(false) => spare_longer(alloc, desk, old),
+        Ok(false) => spare_cut(alloc, desk, old),
         Err(fault) => Err(OldTextsFault::Unasked(fault)),
     }
 }
 
-fn spare_longer<K: Desk>(alloc: Global, desk: &mut K, old: &String) -> Result<(), OldTextsFault>
+fn spare_cut<K: Desk>(alloc: Global, desk: &mut K, old: &String) -> Result<(), OldTextsFault>
     ensures { Asks KnowsNothing (K.deeds desk.old) (K.deeds desk.new) }
 {
     match desk.read(alloc, old) {
-        Ok(bytes) => {
-            if OLD_TEXTS_HEAD.starts_with(bytes.as_slice()) {
+        Ok(book) => {
+            let book = book.as_slice();
+            if ENTRY_HEAD.starts_with(book) || memmem::find(book, ENTRY_HEAD).is_some() {
                 Ok(())
             } else {
                 Err(OldTextsFault::NotOldTexts)

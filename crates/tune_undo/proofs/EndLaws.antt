@@ -62,6 +62,7 @@ mark_of_kind kind.Move more = refl
 mark_of_kind kind.Drop more = refl
 mark_of_kind kind.Add more = refl
 mark_of_kind kind.AddMore more = refl
+mark_of_kind kind.Load more = refl
 mark_of_kind kind.Kept more = refl
 
 pub entry_no_mark : (e : EntryValue) (rest : List ℕ) → IsEntry e → mark_line_at (entry_bytes e ++ rest) ≡ None

@@ -77,6 +77,7 @@ kind_free kind.Move = free_test space (codes "move") refl
 kind_free kind.Drop = free_test space (codes "drop") refl
 kind_free kind.Add = free_test space (codes "add") refl
 kind_free kind.AddMore = free_test space (codes "add-more") refl
+kind_free kind.Load = free_test space (codes "load") refl
 kind_free kind.Kept = free_test space (codes "kept") refl
 
 pub mark_free : (mark : Mark) → IsMark mark → Free line_feed (mark_word mark)

@@ -90,6 +90,7 @@ kind_feedless kind.Move = free_test line_feed (codes "move") refl
 kind_feedless kind.Drop = free_test line_feed (codes "drop") refl
 kind_feedless kind.Add = free_test line_feed (codes "add") refl
 kind_feedless kind.AddMore = free_test line_feed (codes "add-more") refl
+kind_feedless kind.Load = free_test line_feed (codes "load") refl
 kind_feedless kind.Kept = free_test line_feed (codes "kept") refl
 
 -- TEXTS

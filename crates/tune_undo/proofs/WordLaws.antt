@@ -81,6 +81,7 @@ kind_again kind.Move = refl
 kind_again kind.Drop = refl
 kind_again kind.Add = refl
 kind_again kind.AddMore = refl
+kind_again kind.Load = refl
 kind_again kind.Kept = refl
 
 -- one more word that was asked for
@@ -97,7 +98,8 @@ kind_takes word k e =
     (λ e. asked word (codes "put") kind.Put k _ refl e (λ e. asked word (codes "cut") kind.Cut k _ refl e
     (λ e. asked word (codes "move") kind.Move k _ refl e (λ e. asked word (codes "drop") kind.Drop k _ refl e
     (λ e. asked word (codes "add") kind.Add k _ refl e (λ e. asked word (codes "add-more") kind.AddMore k _ refl e
-    (λ e. asked word (codes "kept") kind.Kept k None refl e (λ e. absurd (none-some k e))))))))))
+    (λ e. asked word (codes "load") kind.Load k _ refl e
+    (λ e. asked word (codes "kept") kind.Kept k None refl e (λ e. absurd (none-some k e)))))))))))
 
 -- MARKS
 pub mark_again : (mark : Mark) → IsMark mark → mark_of (mark_word mark) ≡ Some mark

@@ -76,6 +76,7 @@ kind_word kind.Move = codes "move"
 kind_word kind.Drop = codes "drop"
 kind_word kind.Add = codes "add"
 kind_word kind.AddMore = codes "add-more"
+kind_word kind.Load = codes "load"
 kind_word kind.Kept = codes "kept"
 
 -- an entry: a line with its kind, how many parts it has and how many bytes these take, and the

@@ -119,6 +119,7 @@ fn kind_word(kind: EntryKind) -> &'static str
         EntryKind::Drop => "drop",
         EntryKind::Add => "add",
         EntryKind::AddMore => "add-more",
+        EntryKind::Load => "load",
         EntryKind::Kept => "kept",
     }
 }

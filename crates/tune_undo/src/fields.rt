@@ -113,6 +113,8 @@ pub(crate) fn kind_of(word: &[u8]) -> Option<EntryKind>
         Some(EntryKind::Add)
     } else if word == b"add-more".as_slice() {
         Some(EntryKind::AddMore)
+    } else if word == b"load".as_slice() {
+        Some(EntryKind::Load)
     } else if word == b"kept".as_slice() {
         Some(EntryKind::Kept)
     } else {

@@ -22,6 +22,8 @@ pub enum EntryKind {
     Add,
     /// The tunes of a further book of the same add.
     AddMore,
+    /// The archive was made by a load, which brought all that it held.
+    Load,
     /// A text that an undo took away is kept. It is no change that can be undone.
     Kept,
 }

@@ -2,7 +2,10 @@
 ghost use Rattle.std.specs.Prelude.{IfOk};
 ghost use Rattle.tune_disk.specs.FileDisk.{HasJustOpened};
 
+use crate::voice::ProgressLine;
 use abc_fields::ByteText;
+use desk_copies::{ByteWork, tell_bytes};
+use desk_scenes::Progress;
 use std::alloc::{Alloc, Global};
 use std::fs::{File, Files, OpenOptions, Permissions};
 use std::io::{Read, Write};
@@ -28,7 +31,7 @@ const NOT_OPEN_TO_WRITE: i32 = 9;
 // How many links are followed, one after another.
 const MOST_LINKS: u32 = 40;
 
-// How many bytes of a file are copied at once.
+// How many bytes of a file are copied, or written, at once.
 const PART: usize = 65_536;
 
 // Of the permissions of a file: that its owner may read and write it, and that others may.
@@ -41,6 +44,8 @@ const SHARED_BITS: u32 = 0o066;
 #[derive(Drop)]
 pub(crate) struct FileDesk<'a, R, H> {
     rt: &'a R,
+    // The line that tells how far an order is.
+    line: &'a ProgressLine<'a, R>,
     // How many seconds are waited while another program has a file.
     wait: u32,
     // The history of the file that is opened, for clauses alone.
@@ -55,12 +60,18 @@ pub(crate) struct FileDesk<'a, R, H> {
 
 impl<'a, R: Files<File = File>, H> FileDesk<'a, R, H> {
     /// The error is that of `NOTHING`.
-    pub(crate) fn new(rt: &'a R, wait: u32, history: &'a H) -> io::Result<FileDesk<'a, R, H>> {
+    pub(crate) fn new(
+        rt: &'a R,
+        line: &'a ProgressLine<'a, R>,
+        wait: u32,
+        history: &'a H,
+    ) -> io::Result<FileDesk<'a, R, H>> {
         let first = File::open(rt, NOTHING)?;
         let second = File::open(rt, NOTHING)?;
         let third = File::open(rt, NOTHING)?;
         Ok(FileDesk {
             rt,
+            line,
             wait,
             history,
             _first: [first, second, third],
@@ -88,50 +99,58 @@ impl<'a, R: Files<File = File> + AllocGlobal + Clock + Eprint + Clone + Drop, H:
     ghost is_new = { HasJustOpened };
 
     fn look(&mut self, path: &String) -> Result<Standing, DeskFault> {
-        let answer = told(self.rt, path, standing(self.rt, path.as_str()));
+        let answer = told(self.line, path, standing(self.rt, path.as_str()));
         self.log.look(path, &answer);
         answer
     }
 
     fn is_same(&mut self, path: &String, other: &String) -> Result<bool, DeskFault> {
-        let answer = are_same(self.rt, path, other);
+        let answer = are_same(self.rt, self.line, path, other);
         self.log.is_same(path, other, &answer);
         answer
     }
 
     fn begins(&mut self, path: &String, with: &[u8]) -> Result<bool, DeskFault> {
-        let answer = told(self.rt, path, begins_with(self.rt, path.as_str(), with));
+        let answer = told(self.line, path, begins_with(self.rt, path.as_str(), with));
         self.log.begins(path, with, &answer);
         answer
     }
 
     fn follow(&mut self, alloc: Global, path: &String) -> Result<String, DeskFault> {
-        let answer = told(self.rt, path, followed(self.rt, alloc, path.as_str()));
+        let answer = told(self.line, path, followed(self.rt, alloc, path.as_str()));
         self.log.follow(path, &answer);
         answer
     }
 
     fn read(&mut self, alloc: Global, path: &String) -> Result<ByteText, DeskFault> {
-        let answer = told(self.rt, path, read_whole(self.rt, alloc, path.as_str()));
+        let answer = told(self.line, path, read_whole(self.rt, alloc, path.as_str()));
         self.log.read(path, &answer);
         answer
     }
 
     fn names(&mut self, alloc: Global, path: &String) -> Result<Vec<String>, DeskFault> {
-        let answer = told(self.rt, path, names_in(self.rt, alloc, path.as_str()));
+        let answer = told(
+            self.line,
+            path,
+            names_in(self.rt, alloc, self.line, path.as_str()),
+        );
         self.log.names(path, &answer);
         answer
     }
 
     fn make(&mut self, path: &String, bytes: &[u8]) -> Result<(), DeskFault> {
-        let answer = told(self.rt, path, make_whole(self.rt, path.as_str(), bytes));
+        let answer = told(
+            self.line,
+            path,
+            make_whole(self.rt, self.line, path.as_str(), bytes),
+        );
         self.log.make(path, bytes, &answer);
         answer
     }
 
     fn name(&mut self, from: &String, to: &String) -> Result<(), DeskFault> {
-        let answer = match give_name(self.rt, from, to) {
-            Ok(()) => kept(self.rt, to),
+        let answer = match give_name(self.rt, self.line, from, to) {
+            Ok(()) => kept(self.rt, self.line, to),
             Err(fault) => Err(fault),
         };
         self.log.name(from, to, &answer);
@@ -139,9 +158,13 @@ impl<'a, R: Files<File = File> + AllocGlobal + Clock + Eprint + Clone + Drop, H:
     }
 
     fn name_over(&mut self, from: &String, to: &String) -> Result<(), DeskFault> {
-        let named = told(self.rt, to, fs::rename(self.rt, from.as_str(), to.as_str()));
+        let named = told(
+            self.line,
+            to,
+            fs::rename(self.rt, from.as_str(), to.as_str()),
+        );
         let answer = match named {
-            Ok(()) => kept(self.rt, to),
+            Ok(()) => kept(self.rt, self.line, to),
             Err(fault) => Err(fault),
         };
         self.log.name_over(from, to, &answer);
@@ -149,34 +172,34 @@ impl<'a, R: Files<File = File> + AllocGlobal + Clock + Eprint + Clone + Drop, H:
     }
 
     fn remove(&mut self, path: &String) -> Result<(), DeskFault> {
-        let answer = told(self.rt, path, fs::remove_file(self.rt, path.as_str()));
+        let answer = told(self.line, path, fs::remove_file(self.rt, path.as_str()));
         self.log.remove(path, &answer);
         answer
     }
 
     fn open(&mut self, path: &String, access: Access) -> Result<FileDisk<H>, DeskFault> {
         let opened = opened_in_time(self.rt, path.as_str(), access, self.wait, self.history);
-        let answer = told_opening(self.rt, path, opened);
+        let answer = told_opening(self.line, path, opened);
         self.log.open(path, access, &answer);
         answer
     }
 
     fn grow(&mut self, path: &String, bytes: &[u8]) -> Result<(), DeskFault> {
-        let answer = told(self.rt, path, grow_by(self.rt, path.as_str(), bytes));
+        let answer = told(self.line, path, grow_by(self.rt, path.as_str(), bytes));
         self.log.grow(path, bytes, &answer);
         answer
     }
 
     fn create(&mut self, path: &String) -> Result<FileDisk<H>, DeskFault> {
-        let created = create_disk(self.rt, path.as_str(), self.history);
-        let answer = told_opening(self.rt, path, created);
+        let created = create_disk(self.rt, self.line, path.as_str(), self.history);
+        let answer = told_opening(self.line, path, created);
         self.log.create(path, &answer);
         answer
     }
 
     fn link(&mut self, from: &String, to: &String) -> Result<(), DeskFault> {
-        let answer = match give_second_name(self.rt, from, to) {
-            Ok(()) => kept(self.rt, to),
+        let answer = match give_second_name(self.rt, self.line, from, to) {
+            Ok(()) => kept(self.rt, self.line, to),
             Err(fault) => Err(fault),
         };
         self.log.link(from, to, &answer);
@@ -194,7 +217,7 @@ impl<'a, R: Files<File = File> + AllocGlobal + Clock + Eprint + Clone + Drop, H:
 
     fn close(&mut self, path: &String, disk: FileDisk<H>) {
         if let Some(error) = disk.cause() {
-            tell_cause(self.rt, path, error);
+            tell_cause(self.line, path, error);
         }
         self.log.close(path, &disk);
     }
@@ -215,23 +238,27 @@ fn fault_of(error: &io::Error) -> DeskFault {
 }
 
 // The fault of an error, which is told where it is one of the device.
-fn told_fault<R: Eprint>(rt: &R, path: &String, error: &io::Error) -> DeskFault {
+fn told_fault<R: Eprint>(line: &ProgressLine<R>, path: &String, error: &io::Error) -> DeskFault {
     let fault = fault_of(error);
     if fault == DeskFault::Device {
-        tell(rt, path.as_str(), error);
+        line.tell(path.as_str(), error);
     }
     fault
 }
 
-fn told<R: Eprint, T: Drop>(rt: &R, path: &String, answer: io::Result<T>) -> Result<T, DeskFault> {
+fn told<R: Eprint, T: Drop>(
+    line: &ProgressLine<R>,
+    path: &String,
+    answer: io::Result<T>,
+) -> Result<T, DeskFault> {
     match answer {
         Ok(value) => Ok(value),
-        Err(error) => Err(told_fault(rt, path, &error)),
+        Err(error) => Err(told_fault(line, path, &error)),
     }
 }
 
 fn told_opening<R: Eprint, H: FileHistory>(
-    rt: &R,
+    line: &ProgressLine<R>,
     path: &String,
     answer: io::Result<FileDisk<H>>,
 ) -> Result<FileDisk<H>, DeskFault>
@@ -240,21 +267,15 @@ fn told_opening<R: Eprint, H: FileHistory>(
 {
     match answer {
         Ok(disk) => Ok(disk),
-        Err(error) => Err(told_fault(rt, path, &error)),
+        Err(error) => Err(told_fault(line, path, &error)),
     }
-}
-
-/// Tells what the system answered of a path, or of a stream. Where that cannot be written, the
-/// status says enough.
-pub(crate) fn tell<R: Eprint>(rt: &R, path: &str, error: &io::Error) {
-    let _ = eprintln!(rt; "tunes-book: {path}: {error}");
 }
 
 // Tells why the device of a disk failed. That a disk which was opened to read took no write is no
 // failure: an archive that a stop left within a change is then opened once more.
-fn tell_cause<R: Eprint>(rt: &R, path: &String, error: &io::Error) {
+fn tell_cause<R: Eprint>(line: &ProgressLine<R>, path: &String, error: &io::Error) {
     if error.raw_os_error() != Some(NOT_OPEN_TO_WRITE) {
-        tell(rt, path.as_str(), error);
+        line.tell(path.as_str(), error);
     }
 }
 
@@ -272,12 +293,17 @@ fn standing<R: Files<File = File>>(rt: &R, path: &str) -> io::Result<Standing> {
 
 fn are_same<R: Files<File = File> + Eprint>(
     rt: &R,
+    line: &ProgressLine<R>,
     path: &String,
     other: &String,
 ) -> Result<bool, DeskFault> {
-    let one = told(rt, path, fs::metadata(rt, path.as_str()))?;
-    let two = told(rt, other, fs::metadata(rt, other.as_str()))?;
-    Ok(one.dev() == two.dev() && one.ino() == two.ino())
+    let one = told(line, path, fs::metadata(rt, path.as_str()))?;
+    match told(line, other, fs::metadata(rt, other.as_str())) {
+        Ok(two) => Ok(one.dev() == two.dev() && one.ino() == two.ino()),
+        // What is not there is no file that stands: an archive that is about to be made.
+        Err(DeskFault::Missing) => Ok(false),
+        Err(fault) => Err(fault),
+    }
 }
 
 // A regular file, open to read alone. A pipe, whose opening would wait, is not opened.
@@ -318,6 +344,7 @@ fn read_whole<R: Files<File = File>>(rt: &R, alloc: Global, path: &str) -> io::R
 fn names_in<R: Files<File = File> + AllocGlobal + Eprint + Clone + Drop>(
     rt: &R,
     alloc: Global,
+    line: &ProgressLine<R>,
     path: &str,
 ) -> io::Result<Vec<String>> {
     let mut names = Vec::new(alloc);
@@ -325,6 +352,7 @@ fn names_in<R: Files<File = File> + AllocGlobal + Eprint + Clone + Drop>(
         match entry {
             Ok(entry) => names.push(String::from_str(alloc, entry.file_name())?)?,
             Err(error) if error.kind() == io::ErrorKind::InvalidFilename => {
+                line.clear();
                 let _ = eprintln!(rt;
                     "tunes-book: {path}: a name in it is not UTF-8, and is passed over"
                 );
@@ -384,18 +412,41 @@ fn followed<R: Files<File = File>>(rt: &R, alloc: Global, path: &str) -> io::Res
 // WRITING
 
 // A new file of these bytes; where it cannot be whole, nothing of it stays.
-fn make_whole<R: Files<File = File> + Eprint>(rt: &R, path: &str, bytes: &[u8]) -> io::Result<()> {
+fn make_whole<R: Files<File = File> + Clock + Eprint>(
+    rt: &R,
+    line: &ProgressLine<R>,
+    path: &str,
+    bytes: &[u8],
+) -> io::Result<()> {
     let mut file = File::create_new(rt, path)?;
-    let done = fill(&mut file, bytes);
+    let mut teller = line;
+    let done = fill_by_parts(&mut file, bytes, &mut teller);
     if done.is_err() {
-        take_back(rt, path);
+        take_back(rt, line, path);
     }
     done
 }
 
+// Puts bytes into a file, part by part, and tells how far it is.
+fn fill_by_parts<E: Progress>(file: &mut File, bytes: &[u8], teller: &mut E) -> io::Result<()> {
+    let mut rest = bytes;
+    for _ in 0..u64::MAX {
+        if rest.is_empty() {
+            return file.sync_all();
+        }
+        let (part, behind) = rest.split_at(rest.len().min(PART));
+        file.write_all(part)?;
+        rest = behind;
+        let done = bytes.len().saturating_sub(rest.len());
+        tell_bytes(teller, ByteWork::Write, done as u64, bytes.len() as u64);
+    }
+    file.sync_all()
+}
+
 // Takes away a file that is not whole. Where the system does not let it go, that is told.
-fn take_back<R: Files<File = File> + Eprint>(rt: &R, path: &str) {
+fn take_back<R: Files<File = File> + Eprint>(rt: &R, line: &ProgressLine<R>, path: &str) {
     if let Err(error) = fs::remove_file(rt, path) {
+        line.clear();
         let _ = eprintln!(rt;
             "tunes-book: {path}: it is not whole, and could not be taken away: {error}"
         );
@@ -444,6 +495,7 @@ fn share_as<R: Files<File = File>>(rt: &R, path: &str, like: &str) -> io::Result
 // Gives a file a second name, which nobody has. Where a file system has no links, a copy is made.
 fn give_second_name<R: Files<File = File> + Eprint>(
     rt: &R,
+    line: &ProgressLine<R>,
     from: &String,
     to: &String,
 ) -> Result<(), DeskFault> {
@@ -451,16 +503,21 @@ fn give_second_name<R: Files<File = File> + Eprint>(
         Ok(()) => Ok(()),
         Err(error) => match error.kind() {
             io::ErrorKind::AlreadyExists | io::ErrorKind::NotFound => {
-                Err(told_fault(rt, to, &error))
+                Err(told_fault(line, to, &error))
             }
-            _ => told(rt, to, copy_file(rt, from.as_str(), to.as_str())),
+            _ => told(line, to, copy_file(rt, line, from.as_str(), to.as_str())),
         },
     }
 }
 
 // A new file of the bytes of another, for those who may use that; where it cannot be whole, nothing
 // of it stays.
-fn copy_file<R: Files<File = File> + Eprint>(rt: &R, from: &str, to: &str) -> io::Result<()> {
+fn copy_file<R: Files<File = File> + Eprint>(
+    rt: &R,
+    line: &ProgressLine<R>,
+    from: &str,
+    to: &str,
+) -> io::Result<()> {
     if !fs::symlink_metadata(rt, from)?.is_file() {
         return Err(io::ErrorKind::InvalidInput.into());
     }
@@ -469,7 +526,7 @@ fn copy_file<R: Files<File = File> + Eprint>(rt: &R, from: &str, to: &str) -> io
     let _ = share_as(rt, to, from);
     let done = copy_all(&mut source, &mut copy);
     if done.is_err() {
-        take_back(rt, to);
+        take_back(rt, line, to);
     }
     done
 }
@@ -490,16 +547,17 @@ fn copy_all(source: &mut File, copy: &mut File) -> io::Result<()> {
 // second link of one name. Where a file system has no links, the file is renamed after a look.
 fn give_name<R: Files<File = File> + Eprint>(
     rt: &R,
+    line: &ProgressLine<R>,
     from: &String,
     to: &String,
 ) -> Result<(), DeskFault> {
     match fs::hard_link(rt, from.as_str(), to.as_str()) {
-        Ok(()) => leave_name(rt, from, to),
+        Ok(()) => leave_name(rt, line, from, to),
         Err(error) => match error.kind() {
             io::ErrorKind::AlreadyExists | io::ErrorKind::NotFound => {
-                Err(told_fault(rt, to, &error))
+                Err(told_fault(line, to, &error))
             }
-            _ => told(rt, to, rename_to_free(rt, from.as_str(), to.as_str())),
+            _ => told(line, to, rename_to_free(rt, from.as_str(), to.as_str())),
         },
     }
 }
@@ -508,17 +566,18 @@ fn give_name<R: Files<File = File> + Eprint>(
 // the new name, and nothing makes the device keep it.
 fn leave_name<R: Files<File = File> + Eprint>(
     rt: &R,
+    line: &ProgressLine<R>,
     from: &String,
     to: &String,
 ) -> Result<(), DeskFault> {
     let Err(error) = fs::remove_file(rt, from.as_str()) else {
         return Ok(());
     };
-    let fault = told_fault(rt, from, &error);
+    let fault = told_fault(line, from, &error);
     match fs::remove_file(rt, to.as_str()) {
         Ok(()) => Err(fault),
         Err(error) => {
-            tell(rt, to.as_str(), &error);
+            line.tell(to.as_str(), &error);
             Err(DeskFault::Unkept)
         }
     }
@@ -533,11 +592,15 @@ fn rename_to_free<R: Files<File = File>>(rt: &R, from: &str, to: &str) -> io::Re
 }
 
 // Has the device keep a name that was given.
-fn kept<R: Files<File = File> + Eprint>(rt: &R, path: &String) -> Result<(), DeskFault> {
+fn kept<R: Files<File = File> + Eprint>(
+    rt: &R,
+    line: &ProgressLine<R>,
+    path: &String,
+) -> Result<(), DeskFault> {
     match sync_folder(rt, path.as_str()) {
         Ok(()) => Ok(()),
         Err(error) => {
-            tell(rt, path.as_str(), &error);
+            line.tell(path.as_str(), &error);
             Err(DeskFault::Unkept)
         }
     }
@@ -587,6 +650,7 @@ fn opened_in_time<R: Files<File = File> + Clock, H: FileHistory>(
 // A new file without a byte, as a disk. Where it cannot be opened, nothing of it stays.
 fn create_disk<R: Files<File = File> + Eprint, H: FileHistory>(
     rt: &R,
+    line: &ProgressLine<R>,
     path: &str,
     history: &H,
 ) -> io::Result<FileDisk<H>>
@@ -600,7 +664,7 @@ fn create_disk<R: Files<File = File> + Eprint, H: FileHistory>(
             Err(error) => Err(error),
         },
         Err(error) => {
-            take_back(rt, path);
+            take_back(rt, line, path);
             Err(error)
         }
     }

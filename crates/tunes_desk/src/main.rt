@@ -1,20 +1,23 @@
 //! The program `tunes-desk`, which asks archives of tunes in ABC notation, changes them, and writes
-//! results to files: `tunes-book` hands it each command that changes no archive.
+//! results to files: `tunes-book` hands its commands over to it.
 #![tactic(auto)]
 
 mod file_desk;
+mod voice;
 
 use desk_orders::carry_out;
+use desk_scenes::Progress;
 use desk_words::{Order, Words, report, words_of};
-use file_desk::{FileDesk, NOTHING, tell};
+use file_desk::{FileDesk, NOTHING};
 use std::env::VarError;
 use std::fs::{File, Files};
-use std::io::{BufReader, BufWriter, Write};
+use std::io::{BufReader, BufWriter, IsTerminal, Write};
 use std::process::ExitCode;
 use std::rt::Runtime;
 use std::{env, io};
 use tune_cli::StreamConsole;
 use tune_disk::UnknownHistory;
+use voice::{ProgressLine, Voice};
 
 /// How many bytes are read at once, and how many of a list are written at once.
 const BUFFER: usize = 65_536;
@@ -34,8 +37,10 @@ const NOT_TEXT: &str = "TUNES_BOOK is not UTF-8; name the file otherwise";
 
 fn main(rt: HostRuntime) -> ExitCode {
     let _ = Vec::<u8>::with_capacity(rt.alloc(), KEPT_BYTES);
-    let mut errors = rt.stderr();
-    let status = match start(&rt, &mut errors) {
+    let line = ProgressLine::new(&rt, rt.stderr().is_terminal());
+    let answer = start(&rt, &line, &mut Voice::new(&line, rt.stderr()));
+    line.clear();
+    let status = match answer {
         Ok(status) => status,
         Err(error) => say_failure(&rt, &error),
     };
@@ -66,26 +71,27 @@ fn say_failure<R: Eprint>(rt: &R, error: &io::Error) -> u8 {
 }
 
 // Reads the words of the command, does what they ask for, and gives the status.
-fn start<R: Runtime + AllocGlobal + Files<File = File>, E: Write>(
+fn start<R: Runtime + AllocGlobal + Files<File = File>, E: Write + Progress>(
     rt: &R,
+    line: &ProgressLine<R>,
     errors: &mut E,
 ) -> io::Result<u8> {
     let words: Vec<String> = env::args(rt)?.collect(rt.alloc())?;
     match words_of(rt.alloc(), words.as_slice(), chance(rt)) {
-        Ok(words) => on_archive(rt, &words, errors),
+        Ok(words) => on_archive(rt, line, &words, errors),
         Err(fault) => match report(rt, &fault) {
             Ok(status) => Ok(status),
-            Err(error) => Ok(unwritten(rt, &error)),
+            Err(error) => Ok(unwritten(line, &error)),
         },
     }
 }
 
 // Where help could not be written: that is no fault where its reader went away.
-fn unwritten<R: Eprint>(rt: &R, error: &io::Error) -> u8 {
+fn unwritten<R: Eprint>(line: &ProgressLine<R>, error: &io::Error) -> u8 {
     if error.kind() == io::ErrorKind::BrokenPipe {
         return 0;
     }
-    tell(rt, "standard output", error);
+    line.tell("standard output", error);
     FAILED
 }
 
@@ -98,52 +104,56 @@ fn chance<R: Runtime>(rt: &R) -> u64 {
 }
 
 // Finds out which archive is meant, and carries the order out.
-fn on_archive<R: Runtime + AllocGlobal + Files<File = File>, E: Write>(
+fn on_archive<R: Runtime + AllocGlobal + Files<File = File>, E: Write + Progress>(
     rt: &R,
+    line: &ProgressLine<R>,
     words: &Words,
     errors: &mut E,
 ) -> io::Result<u8> {
     match &words.file {
-        Some(file) => perform(rt, file, words, errors),
+        Some(file) => perform(rt, line, file, words, errors),
         None => match env::var(rt, "TUNES_BOOK") {
-            Ok(file) if !file.is_empty() => perform(rt, &file, words, errors),
+            Ok(file) if !file.is_empty() => perform(rt, line, &file, words, errors),
             Err(VarError::OutOfMemory) => Err(io::ErrorKind::OutOfMemory.into()),
-            Err(VarError::NotUnicode) => without_archive(rt, NOT_TEXT, words, errors),
-            _ => without_archive(rt, NOT_TOLD, words, errors),
+            Err(VarError::NotUnicode) => without_archive(rt, line, NOT_TEXT, words, errors),
+            _ => without_archive(rt, line, NOT_TOLD, words, errors),
         },
     }
 }
 
 // No archive is told, for this reason: there are orders that want none.
-fn without_archive<R: Runtime + AllocGlobal + Files<File = File>, E: Write>(
+fn without_archive<R: Runtime + AllocGlobal + Files<File = File>, E: Write + Progress>(
     rt: &R,
+    line: &ProgressLine<R>,
     why: &str,
     words: &Words,
     errors: &mut E,
 ) -> io::Result<u8> {
-    if let Order::CheckBooks(_) = &words.order {
-        return perform(rt, &String::new(rt.alloc()), words, errors);
+    if let Order::CheckBooks(_) | Order::CheckCopy(_) = &words.order {
+        return perform(rt, line, &String::new(rt.alloc()), words, errors);
     }
     let _ = eprintln!(rt; "tunes-book: {why}");
     Ok(BAD_WORDS)
 }
 
 // Does what is asked, over standard input, output and error, and files.
-fn perform<R: Runtime + AllocGlobal + Files<File = File>, E: Write>(
+fn perform<R: Runtime + AllocGlobal + Files<File = File>, E: Write + Progress>(
     rt: &R,
+    line: &ProgressLine<R>,
     file: &String,
     words: &Words,
     errors: &mut E,
 ) -> io::Result<u8> {
-    let mut desk = match FileDesk::new(rt, words.wait, &UnknownHistory) {
+    let mut desk = match FileDesk::new(rt, line, words.wait, &UnknownHistory) {
         Ok(desk) => desk,
         Err(error) => {
-            tell(rt, NOTHING, &error);
+            line.tell(NOTHING, &error);
             return Ok(FAILED);
         }
     };
     let reader = BufReader::with_capacity(rt.alloc(), BUFFER, rt.reader())?;
-    let writer = BufWriter::with_capacity(rt.alloc(), BUFFER, io::writer(rt))?;
+    let output = Voice::new(line, io::writer(rt));
+    let writer = BufWriter::with_capacity(rt.alloc(), BUFFER, output)?;
     let mut console = StreamConsole::new(reader, writer);
     Ok(carry_out(&mut desk, file, &words.order, &mut console, errors))
 }

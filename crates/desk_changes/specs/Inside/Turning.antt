@@ -12,20 +12,19 @@ use Rattle.desk_scenes.specs.FileAnswers.{Did}
 use Rattle.desk_scenes.specs.Visits.{Visits}
 use Rattle.desk_changes.specs.ChangedFiles.{Passage, BringsAbout, ChangesBy, LeavesAll}
 use Rattle.desk_changes.specs.ChangedFiles.{IsChangedWithin}
-use Rattle.desk_changes.specs.declared.words.Unchanged.{Unchanged}
 
 -- Turns were brought about behind their entry; or this was not kept, and nothing was done; or a
 -- refusal ended them.
-abbrev pub Turns : {D A : Type 0} → disk.Ghosts D → List ℕ → EntryKind → List Turn
-    → Result (Unit {0}) A → Passage D → Type 0
+abbrev pub Turns : {D T A : Type 0} → disk.Ghosts D → List ℕ → EntryKind → List Turn
+    → Result T A → Passage D → Type 0
 Turns disks file kind turns result course = MatchResult result
     (λ _. BringsAbout disks file kind turns (Ok tt) course)
     (λ _. ((course.finish ≡ course.start) × GrowsNot file course.was course.now)
     ⊎ ((refusal : Refusal) × BringsAbout disks file kind turns (Err refusal) course))
 
 -- The same behind a look, by which the turns were found.
-abbrev pub Alters : {D A : Type 0} → disk.Ghosts D → List ℕ → EntryKind
-    → (State → List Turn → Type 0) → Result (Unit {0}) A → Passage D → Type 0
+abbrev pub Alters : {D T A : Type 0} → disk.Ghosts D → List ℕ → EntryKind
+    → (State → List Turn → Type 0) → Result T A → Passage D → Type 0
 Alters disks file kind Means result course = MatchResult result
     (λ _. ChangesBy disks file kind Means (Ok tt) course)
     (λ _. LeavesAll disks file course
@@ -37,8 +36,8 @@ pub record Stretch (D : Type 0) : Type 0 where
   pub now : List (DeskDeed D)
 
 -- The same in FILE, which was opened to change and closed; or it was not opened.
-abbrev pub AltersFile : {D A : Type 0} → disk.Ghosts D → List ℕ → EntryKind
-    → (State → List Turn → Type 0) → Result (Unit {0}) A → Stretch D → Type 0
+abbrev pub AltersFile : {D T A : Type 0} → disk.Ghosts D → List ℕ → EntryKind
+    → (State → List Turn → Type 0) → Result T A → Stretch D → Type 0
 AltersFile disks file kind Means result stretch = MatchResult result
     (λ _. IsChangedWithin disks file (ChangesBy disks file kind Means (Ok tt))
     stretch.was stretch.now)

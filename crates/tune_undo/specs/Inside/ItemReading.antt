@@ -76,6 +76,7 @@ kind_of word =
     else if bytes_eq word (codes "drop") then Some kind.Drop
     else if bytes_eq word (codes "add") then Some kind.Add
     else if bytes_eq word (codes "add-more") then Some kind.AddMore
+    else if bytes_eq word (codes "load") then Some kind.Load
     else if bytes_eq word (codes "kept") then Some kind.Kept
     else None
 

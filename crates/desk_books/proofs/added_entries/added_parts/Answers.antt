@@ -1,4 +1,4 @@
-use Rattle.std.proofs.Common.{◌≡◌, ◌+◌, [], ◌∷◌, ◌++◌, ap, sym, ◌∙◌, rules, arith, None}
+use Rattle.std.proofs.Common.{◌≡◌, [], ◌∷◌, ◌++◌, ap, ◌∙◌, rules, arith, None}
 use Rattle.sha2.specs.Sha256.{sha256}
 use Rattle.tune_undo.specs.declared.old_entries.After.TheVariants.{Text}
 use Rattle.tune_undo.specs.declared.old_entries.Part.{Part}

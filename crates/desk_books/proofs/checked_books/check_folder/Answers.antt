@@ -1,4 +1,4 @@
-use Rattle.std.proofs.Common.{◌≡◌, Ok, Err, inl, inr, refl, sym, subst, map, string_bytes, false, true, rules}
+use Rattle.std.proofs.Common.{◌≡◌, Ok, Err, inl, inr, refl, subst, map, string_bytes, false, true, rules}
 use Rattle.std.specs.List.{list_any}
 use Rattle.desk_books.specs.CheckedBooks.{TellsName, is_book_name}
 use Rattle.desk_books.specs.Stages.{EachInTurn, stage_of}

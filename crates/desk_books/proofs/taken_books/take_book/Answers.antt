@@ -1,11 +1,9 @@
-use Rattle.std.proofs.Common.{inr, inl, refl, string_bytes, []}
-use Rattle.desk_books.specs.AddedBooks.{given_of, reached_at}
-use Rattle.desk_books.proofs.AddLemmas.{takes_more}
+use Rattle.std.proofs.Common.{inr, inl, refl}
 use Rattle.desk_books.proofs.taken_books.take_book.Goals as goal
 
-pub returns : goal.returns
-returns g c =
-    let old = reached_at (g.K.Desk.deeds c.args.desk.now) c.args.store.now c.args.course.now in
-    let new = reached_at (g.K.Desk.deeds c.take_part-status.new.desk) c.take_part-status.new.store c.take_part-status.new.course in
-    takes_more g.S.TuneStore (given_of (string_bytes c.args.file.now) [] c.args.how.now) c.args.book old new c.take_part-status.result
-    c.tell_taken.result c.max.result c.max.ensures c.take_part-status.ensures
+pub returns-in-Ok-clause-takes : goal.returns-in-Ok-clause-takes
+returns-in-Ok-clause-takes g c =
+    inl (c.layout-layout.result, c.choose.new.known, c.in-Ok.choice.parts.items, c.in-Ok.ensures, c.take_choice.ensures.takes)
+
+pub returns-in-Err-clause-takes : goal.returns-in-Err-clause-takes
+returns-in-Err-clause-takes g c = inr (c.choose.new.known, refl, c.say_refused.ensures)

@@ -4,6 +4,7 @@ use Rattle.tune_desk.specs.DeskDeeds.{opened, closed}
 use Rattle.tune_desk.specs.Results.{places_of}
 use Rattle.desk_scenes.proofs.FileLemmas.{spares_since, visits_read}
 use Rattle.desk_changes.proofs.AlteringLemmas.{around_spares}
+use Rattle.desk_changes.proofs.UndoLemmas.{within_file}
 use Rattle.desk_changes.proofs.WorkLemmas.{course_of}
 use Rattle.desk_changes.proofs.taking_back.undo_in_file.Goals as goal
 
@@ -23,20 +24,13 @@ returns-in-Ok-clause-files g c =
     let opens = c.in-Ok.ensures in
     around_spares file (g.K.Desk.deeds c.args.desk.now) (g.K.Desk.deeds c.open_once.new.desk) (g.K.Desk.deeds c.undo_in_archive-done.new.desk)
     (g.K.Desk.deeds c.close.new.self) (opened file Change (Ok opens.old)) (closed file c.into_disk.result) opens.deeds refl
-    c.undo_in_archive-done.ensures.spares c.close.ensures.deed refl
+    c.undo_in_archive-done.ensures.works.spares c.close.ensures.deed refl
 
 pub returns-in-Ok-clause-undoes : goal.returns-in-Ok-clause-undoes
 returns-in-Ok-clause-undoes g c =
     let file = string_bytes c.args.file.now in
     let opens = c.in-Ok.ensures in
-    inr (record {
-      old = opens.old;
-      new = c.into_disk.result;
-      course = course_of g.D.Disk file c.in-Ok.archive c.undo_in_archive-done.new.archive (g.K.Desk.deeds c.open_once.new.desk)
-          (g.K.Desk.deeds c.undo_in_archive-done.new.desk);
-      is = opens.is;
-      became = c.into_disk.ensures.disk;
-      began = opens.deeds;
-      ended = c.close.ensures.deed;
-      does = c.undo_in_archive-done.ensures;
-    })
+    within_file g.D.Disk file c.args.count c.undo_in_archive-done.result opens.old c.into_disk.result
+    (course_of g.D.Disk file c.in-Ok.archive c.undo_in_archive-done.new.archive (g.K.Desk.deeds c.open_once.new.desk)
+    (g.K.Desk.deeds c.undo_in_archive-done.new.desk)) (g.K.Desk.deeds c.args.desk.now) (g.K.Desk.deeds c.close.new.self)
+    (record { is = opens.is; became = c.into_disk.ensures.disk; began = opens.deeds; ended = c.close.ensures.deed }) c.undo_in_archive-done.ensures.undoes

@@ -1,5 +1,5 @@
 use Rattle.std.proofs.Common.{◌≡◌, ◌++◌, drop, map}
-use Rattle.desk_changes.specs.Undone.{aim_by}
+use Rattle.desk_changes.specs.TakenBack.{aim_by}
 use Rattle.desk_changes.proofs.undone.aims_of.Given as goal
 
 abbrev pub invariant-loop-part : goal.invariant-loop-part

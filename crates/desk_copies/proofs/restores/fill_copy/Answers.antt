@@ -1,5 +1,6 @@
 use Rattle.std.proofs.Common.{string_bytes}
 use Rattle.tune_desk.proofs.ArchiveLemmas.{archive_shared}
+use Rattle.tune_desk.specs.ArchiveFiles.{KeepsNone}
 use Rattle.desk_copies.proofs.RestoreEnds.{restores_state}
 use Rattle.desk_copies.proofs.RestoreLemmas.{shared_at}
 use Rattle.desk_copies.proofs.restores.fill_copy.Goals as goal
@@ -27,4 +28,4 @@ pub returns-in-Err-clause-restores : goal.returns-in-Err-clause-restores
 returns-in-Err-clause-restores g c = λ file was h.
     let shared = archive_shared file (string_bytes c.args.begun.place.target) was _ h _ (string_bytes c.args.copy.now) _
     (shared_at _ _ _ _ _ _ c.requires c.share.ensures.deed) in
-    c.leave_archive.ensures file was shared
+    c.leave_archive.ensures KeepsNone file was shared

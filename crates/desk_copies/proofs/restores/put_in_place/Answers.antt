@@ -1,4 +1,5 @@
 use Rattle.std.proofs.Common.{Ok, Err, string_bytes}
+use Rattle.tune_desk.specs.ArchiveFiles.{KeepsNone}
 use Rattle.desk_copies.proofs.RestoreLemmas.{puts_over}
 use Rattle.desk_copies.proofs.restores.put_in_place.Goals as goal
 
@@ -13,4 +14,4 @@ returns-in-Err-finish_result g c = λ file was h.
     (Err c.in-Err-finish_result.why) c.requires.new c.requires.over (c.in-Ok.ensures file was h) c.close.ensures.deed c.in-Err-finish_result.ensures
 
 pub returns-in-Err : goal.returns-in-Err
-returns-in-Err g c = λ file was h. c.leave_archive.ensures file was (c.in-Err.ensures file was h).begun
+returns-in-Err g c = λ file was h. c.leave_archive.ensures KeepsNone file was (c.in-Err.ensures file was h).begun

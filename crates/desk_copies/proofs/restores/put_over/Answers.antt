@@ -1,4 +1,5 @@
 use Rattle.std.proofs.Common.{refl, string_bytes}
+use Rattle.tune_desk.specs.ArchiveFiles.{KeepsNone}
 use Rattle.desk_copies.proofs.RestoreLemmas.{archive_opened, archive_unopened, ends_more}
 use Rattle.desk_copies.proofs.restores.put_over.Goals as goal
 
@@ -11,4 +12,4 @@ returns-in-Ok g c = λ file was h.
 pub returns-in-Err : goal.returns-in-Err
 returns-in-Err g c = λ file was h.
     let target = string_bytes c.args.place.now.target in
-    c.leave_archive.ensures file was (archive_unopened file target was _ _ c.in-Err.fault h c.in-Err.ensures.deed)
+    c.leave_archive.ensures KeepsNone file was (archive_unopened file target was _ _ c.in-Err.fault h c.in-Err.ensures.deed)

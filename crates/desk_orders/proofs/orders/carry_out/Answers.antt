@@ -6,7 +6,8 @@ use Rattle.tune_desk.specs.Results.{places_of}
 use Rattle.desk_questions.specs.Told.{told}
 use Rattle.desk_words.specs.declared.asked.Order.TheVariants as order
 use Rattle.desk_scenes.proofs.FileLemmas.{quiet_spares}
-use Rattle.desk_orders.proofs.FileLemmas.{kept_by, told_keeps, asked_keeps, empty_keeps, restored_keeps, writes_spares, drafts_spares, places_spares}
+use Rattle.desk_orders.proofs.FileLemmas.{kept_by, carried_by, told_keeps, asked_keeps, empty_keeps, restored_keeps, loaded_keeps}
+use Rattle.desk_orders.proofs.FileLemmas.{writes_spares, drafts_spares, places_spares}
 use Rattle.desk_orders.proofs.orders.carry_out.Goals as goal
 
 pub returns-in-Tell-clause-files : goal.returns-in-Tell-clause-files
@@ -64,6 +65,11 @@ returns-in-CheckBooks-clause-files g c = kept_by (string_bytes c.args.file.now) 
     (g.K.Desk.deeds c.args.desk.now) (g.K.Desk.deeds c.check_books.new.desk) c.in-CheckBooks.is
     (quiet_spares g.D.Disk (places_of (string_bytes c.args.file.now) None false) _ _ c.check_books.ensures.quiet)
 
+pub returns-in-CheckCopy-clause-files : goal.returns-in-CheckCopy-clause-files
+returns-in-CheckCopy-clause-files g c = kept_by (string_bytes c.args.file.now) c.args.order.now (order.CheckCopy c.in-CheckCopy.copy)
+    (g.K.Desk.deeds c.args.desk.now) (g.K.Desk.deeds c.check_copy.new.desk) c.in-CheckCopy.is
+    (quiet_spares g.D.Disk (places_of (string_bytes c.args.file.now) None false) _ _ c.check_copy.ensures.files)
+
 pub returns-in-Make-clause-files : goal.returns-in-Make-clause-files
 returns-in-Make-clause-files g c = kept_by (string_bytes c.args.file.now) c.args.order.now order.Make (g.K.Desk.deeds c.args.desk.now)
     (g.K.Desk.deeds c.make.new.desk) c.in-Make.is
@@ -78,3 +84,37 @@ returns-in-Restore-clause-files g c = kept_by (string_bytes c.args.file.now) c.a
       now = g.K.Desk.deeds c.restore.new.desk;
       status = c.restore.result;
     }) c.restore.ensures)
+
+pub returns-in-Load-clause-files : goal.returns-in-Load-clause-files
+returns-in-Load-clause-files g c = kept_by (string_bytes c.args.file.now) c.args.order.now (order.Load c.in-Load.script) (g.K.Desk.deeds c.args.desk.now)
+    (g.K.Desk.deeds c.load.new.desk) c.in-Load.is
+    (loaded_keeps g.D.Disk (string_bytes c.args.file.now) (string_bytes c.in-Load.script) (record {
+      streams = streams_in g.C.Console c.args.console.now c.load.new.console;
+      was = g.K.Desk.deeds c.args.desk.now;
+      now = g.K.Desk.deeds c.load.new.desk;
+      status = c.load.result;
+    }) c.load.ensures)
+
+pub returns-in-Upgrade-clause-files : goal.returns-in-Upgrade-clause-files
+returns-in-Upgrade-clause-files g c = kept_by (string_bytes c.args.file.now) c.args.order.now order.Upgrade (g.K.Desk.deeds c.args.desk.now)
+    (g.K.Desk.deeds c.upgrade.new.desk) c.in-Upgrade.is c.upgrade.ensures.files
+
+pub returns-in-Replace-clause-does : goal.returns-in-Replace-clause-does
+returns-in-Replace-clause-does g c = carried_by g.D.Disk (string_bytes c.args.file.now) c.args.order.now
+    (order.Replace c.in-Replace.number c.in-Replace.revision c.in-Replace.book) _ c.in-Replace.is c.replace.ensures.replaces
+
+pub returns-in-CheckCopy-clause-does : goal.returns-in-CheckCopy-clause-does
+returns-in-CheckCopy-clause-does g c = carried_by g.D.Disk (string_bytes c.args.file.now) c.args.order.now (order.CheckCopy c.in-CheckCopy.copy) _
+    c.in-CheckCopy.is c.check_copy.ensures.tells
+
+pub returns-in-Backup-clause-files : goal.returns-in-Backup-clause-files
+returns-in-Backup-clause-files g c = kept_by (string_bytes c.args.file.now) c.args.order.now (order.Backup c.in-Backup.copy c.in-Backup.keep)
+    (g.K.Desk.deeds c.args.desk.now) (g.K.Desk.deeds c.backup.new.desk) c.in-Backup.is c.backup.ensures.files
+
+pub returns-in-Backup-clause-does : goal.returns-in-Backup-clause-does
+returns-in-Backup-clause-does g c = carried_by g.D.Disk (string_bytes c.args.file.now) c.args.order.now
+    (order.Backup c.in-Backup.copy c.in-Backup.keep) _ c.in-Backup.is c.backup.ensures.backs_up
+
+pub returns-in-Add-clause-does : goal.returns-in-Add-clause-does
+returns-in-Add-clause-does g c = carried_by g.D.Disk (string_bytes c.args.file.now) c.args.order.now (order.Add c.in-Add.books c.in-Add.how) _ c.in-Add.is
+    c.add.ensures.adds

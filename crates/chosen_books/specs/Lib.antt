@@ -1,0 +1,4 @@
+pub mod Inside
+pub mod KnownTexts
+pub mod BookTunes
+pub mod ChosenTunes

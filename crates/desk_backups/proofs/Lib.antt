@@ -1,0 +1,4 @@
+pub mod CheckLemmas
+pub mod CopyLemmas
+pub mod NameLemmas
+pub mod ThinLemmas

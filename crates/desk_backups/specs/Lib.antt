@@ -1,0 +1,6 @@
+pub mod BackupFiles
+pub mod Backups
+pub mod CheckedCopies
+pub mod CopyNames
+pub mod Inside
+pub mod OldCopies
