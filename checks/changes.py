@@ -97,6 +97,7 @@ LONG = [1 + place * 7 % 30 for place in range(180)]
 SETS = {'long': LONG, 'none': [], 'short': [3, 1, 3], 'some': list(range(10, 30))}
 TWELVE = [5, 6, 5, 28, 29, 30, 7, 8, 9, 10, 11, 5]
 GOOD_SCRIPT = {'good.script': script_of(LOADED)}
+OTHERS_LOADED = Contents(2, dict(enumerate(OTHERS[:7:-1], 1)), {'monday': [2]})
 START = Contents(2, dict(enumerate(TEXTS, 1)), SETS)
 
 
@@ -498,9 +499,11 @@ def try_beside(starts, options, pool):
         failures += try_pairs(
             Beside(runner, cut_one.files, states, PAIRED), pool,
             lambda line: spread(runner.calls_of(Given(words_of(line), cut_one.files)), few))
-        goals = {'new': ('new', Contents(2, {}, {})), 'load': ('load good.script', LOADED)}
+        goals = {'new': ('new', Contents(2, {}, {})), 'load': ('load good.script', LOADED),
+                 'load of others': ('load others.script', OTHERS_LOADED)}
         calls = spread(runner.calls_of(Given(words_of('new'), {})), few)
-        wrong = [each for at in calls for each in try_makings(runner, GOOD_SCRIPT, goals, at)]
+        scripts = {**GOOD_SCRIPT, 'others.script': script_of(OTHERS_LOADED)}
+        wrong = [each for at in calls for each in try_makings(runner, scripts, goals, at)]
         failures += told_line('two that make an archive', len(calls) * len(MAKINGS), wrong)
     failures += told_line('eight at once', 16, try_eight(runner, starts.begun, start))
     with_others = {**files, **GOOD_SCRIPT}

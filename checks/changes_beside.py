@@ -39,7 +39,8 @@ PAIRS = [
     Pair('restore', 'backup'),
 ]
 # Orders that make an archive where there is none.
-MAKINGS = [Pair('new', 'new'), Pair('load', 'new'), Pair('new', 'load'), Pair('load', 'load')]
+MAKINGS = [Pair('new', 'new'), Pair('load', 'new'), Pair('new', 'load'), Pair('load', 'load'),
+           Pair('load', 'load of others'), Pair('load of others', 'load')]
 
 
 def is_busy(ended):
@@ -172,7 +173,7 @@ class Beside:
 
 def try_makings(runner, files, goals, at):
     """Two orders that make an archive, of which the first is stopped before this call: one of them
-    makes it, whole. Gives what is wrong."""
+    makes it, whole, and `undo` takes back what that brought. Gives what is wrong."""
     wrong = []
     for pair in MAKINGS:
         both = two_at_once(runner, files, [goals[name][0] for name in pair], at, False)
@@ -183,6 +184,8 @@ def try_makings(runner, files, goals, at):
         try:
             now = contents_of(both[0].files.get(FILE))
             fault = '' if made == [now] and all(map(finds_another, others)) else 'another is there'
+            if not fault and now.texts:
+                goes_back(runner, both[0].files, now, [now, Contents(now.layout, {}, {})])
         except Lost as lost:
             fault = str(lost)
         if fault:

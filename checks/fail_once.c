@@ -188,7 +188,12 @@ int unlink(const char *path) {
 }
 int fchmod(int file, mode_t mode) { CALL(syscall(SYS_fchmod, file, mode)); }
 ssize_t getdents64(int file, void *entries, size_t length) {
-    CALL(syscall(SYS_getdents64, file, entries, length));
+    if (!memory && !locks && is_at()) {
+        // ENOENT says that the folder was taken away, and so has no more entries: that is no fault.
+        if (how && how != ENOENT) { errno = (int)how; return -1; }
+        failed = 0;
+    }
+    return syscall(SYS_getdents64, file, entries, length);
 }
 int statx(int folder, const char *path, int flags, unsigned mask, struct statx *found) {
     CALL(syscall(SYS_statx, folder, path, flags, mask, found));

@@ -911,11 +911,16 @@ tunes 16 to 17 are out again'
     run undo --to 2
     done_with 'friday is gone again
 tunes 16 to 17 are out again'
-    # one that a set list has meanwhile stays, until that is gone
+    # where a set list has one meanwhile all of them stay, until that is gone
     run add two.abc
     by_script 'set-new x' 'set-add x 16'
+    contents tunes.abcx > held
+    cp tunes.abcx.old.abc held.old.abc
     run undo
     refused 1 'the set list x has it'
+    contents tunes.abcx > found
+    same found held
+    same tunes.abcx.old.abc held.old.abc
     by_script 'set-drop x'
     run undo
     done_with 'tunes 16 to 17 are out again'

@@ -92,6 +92,8 @@ LIKELY = {'export': ['book.abc', 'friday.abc', 'earlier.abc', 'copy.abc'],
 # The commands whose result may be written over a file.
 RESULTS = ('export', 'print', 'hear', 'dump')
 ENDINGS = {'print': ('.pdf', '.ps'), 'hear': ('.mid',)}
+# What stands beside OUT then.
+BESIDE = {'backup': '.sha256', 'load': '.old.abc'}
 FRESH = ['fresh', 'fresh one', '-fresh', '--force', 'fresh\\n', 'fresh*', 'frésh', 'new',
          "fresh'$(true)", 'fresh\udcff', 'nowhere/fresh', 'nowhere/../fresh', 'deep/fresh',
          'to other/fresh', 'fresh/']
@@ -428,8 +430,10 @@ class Call:
         if command == 'backup' and not same(self.file, self.out):
             self.out = next_copy(self.out)
         self.real_file, self.real_out = os.path.realpath(self.file), os.path.realpath(self.out)
-        # Beside a copy stands its sum.
-        self.sum = in_real_folder(self.out) + '.sha256' if command == 'backup' else None
+        # Beside a copy stands its sum, and beside an archive that was loaded its entry.
+        self.beside = None
+        if command in BESIDE:
+            self.beside = in_real_folder(self.out) + BESIDE[command]
         by_variable = world.chance.random() < 0.25
         self.variable = {'TUNES_BOOK': file if by_variable else ''}
         rest = {'hear': [more, out], 'load': [more], 'new': []}.get(command, [out, more])
@@ -558,7 +562,7 @@ def is_companion(call):
 
 def is_there(call):
     """what load and new make is not to be there, nor the sum of a copy"""
-    if call.sum and os.path.lexists(call.sum):
+    if call.command == 'backup' and os.path.lexists(call.beside):
         return {REFUSED}
     if os.path.isfile(call.real_out):
         if call.command == 'load':
@@ -591,6 +595,16 @@ def sum_line(call, data):
     """What `sha256sum -c` reads of a copy."""
     name = os.fsencode(os.path.basename(call.out))
     return hashlib.sha256(data).hexdigest().encode() + b'  ' + name + b'\n'
+
+
+def has_entry(call):
+    """Whether the entry of a load stands beside the archive, unless nothing is in this."""
+    counts = call.world.run.answer('check', call.real_out)[1].split()
+    parts = int(counts[3]) + int(counts[5])
+    if not parts:
+        return not os.path.lexists(call.beside)
+    head = b'\n%% tunes-book load %d ' % parts
+    return os.path.isfile(call.beside) and bytes_of(call.beside).startswith(head)
 
 
 def in_real_folder(path):
@@ -703,13 +717,13 @@ def is_whole(call, data):
     """Whether these bytes at OUT are what the call had to write."""
     answer = call.world.run.answer
     if call.command == 'backup':
-        return data == bytes_of(call.file) and bytes_of(call.sum) == sum_line(call, data)
+        return data == bytes_of(call.file) and bytes_of(call.beside) == sum_line(call, data)
     if call.command == 'dump':
         return is_written_script(data) and holds_by(call, data) == answer('run', call.file, LOOK)[1]
     if call.command == 'new':
         return answer('check', call.real_out)[1].endswith(b' tunes 0 sets 0\n')
     if call.command == 'load':
-        return answer('run', call.real_out, LOOK) == (DONE, loaded(call))
+        return answer('run', call.real_out, LOOK) == (DONE, loaded(call)) and has_entry(call)
     if call.command == 'hear':
         return data == sound(part_of(call))
     if call.command == 'export':
@@ -735,7 +749,7 @@ def difference(before, after):
 def judge(call, refusals, doubts, status, before, after):
     """What is wrong with the outcome of a call, as a list."""
     wrong, why = [], [rule.__doc__ for rule in RULES if rule in refusals]
-    may = {call.real_out, call.sum} if status == DONE and not refusals else set()
+    may = {call.real_out, call.beside} if status == DONE and not refusals else set()
     for path, what in difference(before, after):
         if path not in may:
             wrong.append(f'{inside(path, call.world)} is {what}')

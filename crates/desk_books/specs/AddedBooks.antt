@@ -40,7 +40,7 @@ use Rattle.desk_books.specs.TriedBooks.{TriesFound}
 use Rattle.desk_books.specs.declared.taken_books.Course.{Course}
 
 -- How far it has come: what was done with files, the store that takes books in, whether an entry
--- was kept, and whether an import was refused behind its entry.
+-- was kept, and whether one may stand whose tunes did not come.
 pub record Reached (D S : Type 0) : Type 0 where
   pub deeds : List (DeskDeed D)
   pub store : S
@@ -107,10 +107,11 @@ TakesIn {D} {S} kept file book old new status = (deeds : List (DeskDeed D)) × (
     × Imports kept book (reached_at deeds old.store course) new answer
     × (status ≡ 0 → IsOk answer) × (IsOk answer → status ≡ 0)
 
--- Nothing was done but that an entry was to be kept, and was not.
+-- Nothing was done but that an entry was to be kept, and was not: a device that failed may hold it
+-- all the same, and so nothing is to come behind it.
 abbrev pub Stays : {D S : Type 0} → List ℕ → Reached D S → Reached D S → Type 0
 Stays file old new = GrowsNot file old.deeds new.deeds × (new.store ≡ old.store)
-    × (new.course ≡ old.course)
+    × (new.course ≡ record old.course { failed = true })
 
 -- A part of a book was taken in; or it is refused before that, or its entry could not be kept, and
 -- the status says so.
@@ -149,7 +150,7 @@ abbrev pub TakesRead : {D S : Type 0} → store.Ghosts S → Given → Result (L
 TakesRead kept given (Ok book) old new status = TakesChosen kept given book old new status
 TakesRead kept given (Err fault) old new status = (new ≡ old) × (status ≢ 0)
 
--- A book was read and taken in, unless an import was refused before.
+-- A book was read and taken in, unless an entry may stand whose tunes did not come.
 abbrev pub TakesPath : {D S : Type 0} → store.Ghosts S → Given → List ℕ → Reached D S → Reached D S
     → ℕ → Type 0
 TakesPath {D} kept given path old new status =

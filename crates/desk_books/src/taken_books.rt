@@ -18,8 +18,8 @@ use crate::chosen_parts::{Choice, choose};
 use crate::requests::Request;
 use crate::stocks::{NewTunes, Stock};
 use crate::told_imports::{
-    Tally, say_failed, say_part_refused, say_refused, say_unkept, say_unread, tell_progress,
-    tell_taken,
+    Tally, say_failed, say_part_refused, say_refused, say_unkept, say_unread, say_untried,
+    tell_progress, tell_taken,
 };
 use abc_fields::ByteText;
 use chosen_books::KnownTexts;
@@ -35,8 +35,8 @@ use tune_store::{Catalog, Command, Refusal, Reply, TuneStore};
 pub(crate) struct Course {
     // Whether an entry was kept: the next one goes on with it.
     begun: bool,
-    // Whether an import was refused behind its entry, as where the device failed: nothing is taken
-    // in then, so that no other tunes get the numbers of that entry.
+    // Whether an entry may stand whose tunes did not come, as where the device failed at it or
+    // behind it: nothing is taken in then, so that no other tunes get the numbers of that entry.
     failed: bool,
     // The texts that are there, where only new tunes are taken in.
     known: KnownTexts,
@@ -104,7 +104,7 @@ fn take_path<C: Console, E: Write + Progress, S: TuneStore + Catalog, K: AllocGl
         (reached_at (K.deeds desk.new) store.new course.new) result }
 {
     if course.failed {
-        return REFUSED;
+        return say_untried(errors, path.as_str());
     }
     match read_book(desk, request, path) {
         Ok(book) => take_book(desk, request, path, book, store, course, console, errors),
@@ -249,7 +249,10 @@ fn take_part<E: Write, S: TuneStore + Catalog, K: AllocGlobal + Desk>(
             let answer = import(store, part, course);
             tell_answer(errors, request.file, path, &brought, &answer, tally)
         }
-        Err(_) => say_unkept(errors, path.as_str()),
+        Err(_) => {
+            course.failed = true;
+            say_unkept(errors, path.as_str())
+        }
     }
 }
 

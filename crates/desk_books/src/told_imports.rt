@@ -263,3 +263,15 @@ pub(crate) fn say_unkept<E: Write>(errors: &mut E, path: &str) -> u8
     );
     REFUSED
 }
+
+/// Says that a book was not tried, since one before it failed, and gives the status.
+pub(crate) fn say_untried<E: Write>(errors: &mut E, path: &str) -> u8
+    ensures { result ≢ 0 }
+{
+    say(
+        errors,
+        path,
+        "it was not tried, since one before it failed; nothing of it is taken in",
+    );
+    REFUSED
+}

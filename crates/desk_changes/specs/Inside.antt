@@ -1,3 +1,4 @@
+pub mod HeldTunes
 pub mod Replacing
 pub mod TriedUndoings
 pub mod Turning

@@ -5,6 +5,7 @@
 mod altering;
 mod change_lists;
 mod entries;
+mod held_tunes;
 mod laws;
 mod one_tune_books;
 mod replacing;

@@ -1,6 +1,7 @@
 // The order that takes changes back.
 ghost use Rattle.std.specs.Prelude.{◌≡◌, ◌<◌, ◌||◌, IfOk, MatchResult, None, true, false};
 ghost use Rattle.std.specs.Prelude.{length, string_bytes};
+ghost use Rattle.std.specs.List.{list_any};
 ghost use Rattle.tune_archive.specs.AsStore.{store_on};
 ghost use Rattle.tune_asking.specs.Asking.{IsOnlyAsked};
 ghost use Rattle.tune_changes.specs.Judging.{verdict_on};
@@ -9,6 +10,7 @@ ghost use Rattle.tune_desk.specs.Results.{SparesFiles, places_of};
 ghost use Rattle.tune_scripts.specs.Streams.{streams_in};
 ghost use Rattle.tune_undo.specs.OldEntries.{step_value};
 ghost use Rattle.desk_scenes.specs.Scenes.{IsQuiet};
+ghost use Rattle.desk_changes.specs.Inside.HeldTunes.{holds_back};
 ghost use Rattle.desk_changes.specs.Inside.TriedUndoings.{AreStanding, EndsFrom, FindsSteps};
 ghost use Rattle.desk_changes.specs.Inside.TriedUndoings.{FinishesEntry, TriesEntry};
 ghost use Rattle.desk_changes.specs.Inside.TriedUndoings.{TriesEntries, TriesChange, TriesTimes};
@@ -21,6 +23,7 @@ ghost use Rattle.desk_changes.specs.Undone.{Undoes, UndoesFile};
 ghost use Rattle.desk_changes.specs.Inside.Works.{WorksBeside};
 
 use crate::change_lists::list_changes;
+use crate::held_tunes::spare_held;
 use crate::undone::{greatest_number, number_stray, restore, taken_by, tell_undone};
 use crate::words::{NotUndone, say_not_undone};
 use abc_fields::ByteText;
@@ -33,7 +36,7 @@ use tune_changes::{Verdict, judged};
 use tune_desk::{Desk, DeskFault};
 use tune_disk::{Access, Disk};
 use tune_scripts::Console;
-use tune_store::TuneStore;
+use tune_store::{Catalog, TuneStore};
 use tune_undo::{Entry, EntryKind, Mark, Part, Step, make_ready, standing_steps};
 
 /// Takes the last changes of FILE back, or lists those that can be, and gives the status. What was
@@ -228,7 +231,8 @@ fn is_further(kind: EntryKind) -> bool
 }
 
 // Takes a change back, whose entries these are, the last first; unless one of its tunes or set
-// lists was changed since: then nothing is done. Whether there was something to be taken back.
+// lists was changed since, or a set list has a tune that it brought: then nothing is done. Whether
+// there was something to be taken back.
 fn undo_change<D: Disk, K: AllocGlobal + Desk<Disk = D>>(
     desk: &mut K,
     file: &String,
@@ -254,16 +258,23 @@ fn undo_change<D: Disk, K: AllocGlobal + Desk<Disk = D>>(
     undo_entries(desk, file, archive, changes, told)
 }
 
-// Refused where a tune or a set list of these entries was changed since.
-fn look_at<S: TuneStore>(alloc: Global, store: &mut S, changes: &[Step]) -> Result<(), NotUndone>
+// Refused where a tune or a set list of these entries was changed since, or a set list has a tune
+// that they brought.
+fn look_at<S: TuneStore + Catalog>(
+    alloc: Global,
+    store: &mut S,
+    changes: &[Step],
+) -> Result<(), NotUndone>
     ensures asked { IsOnlyAsked S.TuneStore store.old store.new }
     ensures stands { IfOk result
         (λ _. Stood S.TuneStore store.old store.new (AreUnchanged (steps_of changes.now))) }
+    ensures free { IfOk result
+        (λ _. list_any (holds_back (steps_of changes.now)) (S.Catalog.sets store.new) ≡ false) }
 {
     for change in changes {
         look_at_entry(alloc, store, &change.entry)?;
     }
-    Ok(())
+    Ok(spare_held(store.sets().as_slice(), changes)?)
 }
 
 // How the parts of an entry stand; refused where one was changed since.

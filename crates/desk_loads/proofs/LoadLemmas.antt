@@ -1,7 +1,7 @@
 -- A script that is read, and the archive that is put.
-use Rattle.std.proofs.Common.{◌≡◌, ◌≢◌, ◌⊎◌, inl, inr, ℕ, List, [], ◌∷◌, ◌++◌, refl, sym, ◌∙◌, subst, None, false, Ok, Err}
+use Rattle.std.proofs.Common.{◌≡◌, ◌≢◌, ◌⊎◌, inl, inr, ℕ, List, [], ◌∷◌, ◌++◌, refl, sym, ap, ◌∙◌, subst, None, false, Ok, Err}
 use Rattle.std.specs.List.{AllByRecursion}
-use Rattle.std.proofs.lemmas.List.{append-nil}
+use Rattle.std.proofs.lemmas.List.{append-nil, append_assoc}
 use Rattle.tune_disk.specs.declared.disk.Disk as disk
 use Rattle.tune_archive.specs.declared.archive.Counts.{Counts}
 use Rattle.tune_scripts.specs.Consoles.{InputTold, OutputTold}
@@ -10,12 +10,15 @@ use Rattle.tune_scripts.specs.Streams.{Streams}
 use Rattle.tune_undo.specs.EntryBytes.{entry_bytes}
 use Rattle.tune_undo.specs.declared.old_entries.Part.{Part}
 use Rattle.tune_desk.specs.ArchiveFiles.{KeepsEntry, IsBegunArchiveBy, MakesNoneBy}
-use Rattle.tune_desk.specs.DeskDeeds.{DeskDeed, ChangesNothing, read}
+use Rattle.tune_desk.specs.DeskDeeds.{DeskDeed, ChangesNothing, grown, read}
 use Rattle.tune_desk.specs.OldTexts.{Grows, GrowsNot}
-use Rattle.tune_desk.specs.Results.{SparesFiles, places_of}
+use Rattle.tune_desk.specs.Results.{Places, SparesFiles, old_of, places_of}
 use Rattle.tune_desk.specs.declared.desk.DeskFault.{DeskFault}
 use Rattle.tune_desk.proofs.EntryLemmas.{archive_kept}
+use Rattle.tune_desk.proofs.SpareLemmas.{quiet_all, spares_both, spares_reading}
 use Rattle.desk_scenes.specs.Printing.{PrintsOrNot, WritesNothing, WritesOut}
+use Rattle.desk_scenes.specs.Scenes.{IsQuiet}
+use Rattle.desk_scenes.proofs.QuietLemmas.{all_both}
 use Rattle.desk_copies.proofs.RestoreLemmas.{makes_before, none_before}
 use Rattle.desk_loads.specs.LoadedScripts.{KeepsLoad, Loads, PutsScript, ReadsScript, entry_of_load}
 
@@ -31,6 +34,45 @@ keeps_some file (part ∷ parts) was now some grows = grows
 
 pub grows_none : {D : Type 0} (file : List ℕ) (was : List (DeskDeed D)) → GrowsNot file was was
 grows_none file was = record { asked = []; tried = []; history = sym (append-nil was); changes_nothing = tt; failed = inl refl }
+
+-- after questions alone
+pub spares_asked : {D : Type 0} (places : Places) (was now : List (DeskDeed D)) → IsQuiet was now → SparesFiles places was now
+spares_asked places was now quiet =
+    subst (SparesFiles places was) (sym quiet.1) (spares_reading places was quiet.0 (quiet_all places quiet.0 quiet.2))
+
+pub grows_not_asked : {D : Type 0} (file : List ℕ) (was now : List (DeskDeed D)) → IsQuiet was now → GrowsNot file was now
+grows_not_asked file was now quiet = record {
+  asked = quiet.0;
+  tried = [];
+  history = quiet.1 ∙ ap (λ l. was ++ l) (sym (append-nil quiet.0));
+  changes_nothing = quiet.2;
+  failed = inl refl;
+}
+
+-- and then an entry was kept, or not
+module _ {D : Type 0} (file : List ℕ) (was mid now : List (DeskDeed D)) (quiet : IsQuiet was mid) where
+  pub spares_later : SparesFiles (places_of file None false) mid now → SparesFiles (places_of file None false) was now
+  spares_later spares = let places = places_of file None false in spares_both places was mid now (spares_asked places was mid quiet) spares
+
+  pub grows_later : (bytes : List ℕ) → Grows file bytes mid now → Grows file bytes was now
+  grows_later bytes h = let deed = grown (old_of file) h.piece (Ok tt) in record {
+    asked = quiet.0 ++ h.asked;
+    piece = h.piece;
+    history = h.history ∙ ap (λ l. l ++ (h.asked ++ deed ∷ [])) quiet.1 ∙ append_assoc was quiet.0 (h.asked ++ deed ∷ [])
+        ∙ ap (λ l. was ++ l) (sym (append_assoc quiet.0 h.asked (deed ∷ [])));
+    changes_nothing = all_both ChangesNothing quiet.0 h.asked quiet.2 h.changes_nothing;
+    is_piece = h.is_piece;
+  }
+
+  pub grows_not_later : GrowsNot file mid now → GrowsNot file was now
+  grows_not_later h = record {
+    asked = quiet.0 ++ h.asked;
+    tried = h.tried;
+    history = h.history ∙ ap (λ l. l ++ (h.asked ++ h.tried)) quiet.1 ∙ append_assoc was quiet.0 (h.asked ++ h.tried)
+        ∙ ap (λ l. was ++ l) (sym (append_assoc quiet.0 h.asked h.tried));
+    changes_nothing = all_both ChangesNothing quiet.0 h.asked quiet.2 h.changes_nothing;
+    failed = h.failed;
+  }
 
 -- an archive that is begun is so still once its entry is kept
 pub begun_kept : {D : Type 0} (file target : List ℕ) (parts : List Part) (was mid now : List (DeskDeed D)) → IsBegunArchiveBy KeepsEntry file target was mid

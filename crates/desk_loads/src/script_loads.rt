@@ -6,6 +6,7 @@ ghost use Rattle.tune_desk.specs.DeskDeeds.{DeskDeed};
 ghost use Rattle.tune_desk.specs.OldTexts.{GrowsNot};
 ghost use Rattle.tune_desk.specs.Results.{SparesFiles, new_of, places_of};
 ghost use Rattle.tune_scripts.specs.Streams.{streams_in};
+ghost use Rattle.desk_scenes.specs.Scenes.{IsQuiet};
 ghost use Rattle.desk_loads.specs.LoadedScripts.{HoldsScript, KeepsLoad, Loads, PutsScript};
 ghost use Rattle.desk_loads.specs.LoadedScripts.{ReadsScript};
 
@@ -16,7 +17,9 @@ use desk_copies::{begin_archive, leave_archive, put_archive};
 use desk_scenes::{keep_entry, print_counts, read_input};
 use std::io::Write;
 use tune_archive::Counts;
-use tune_desk::{BegunResult, Desk, DeskFault, OldTextsFault, ResultFault, ResultPlace};
+use tune_desk::{
+    BegunResult, Desk, DeskFault, OldTextsFault, ResultFault, ResultPlace, ResultRefusal, Standing,
+};
 use tune_disk::Disk;
 use tune_scripts::Console;
 use tune_undo::{Entry, EntryKind, Part};
@@ -145,7 +148,7 @@ fn put_filled<D: Disk, K: AllocGlobal + Desk<Disk = D>>(
         (λ _. MakesNoneBy KeepsEntry (string_bytes file.now) was (K.deeds desk.new)) }
 {
     let Filled { counts, parts } = filled;
-    match keep_load(desk, file, parts) {
+    match keep_load(desk, file, &place.target, parts) {
         Ok(()) => match put_archive(desk, &place, disk) {
             Ok(()) => Ok(counts),
             Err(why) => Err(Unloaded::File(ResultFault {
@@ -155,17 +158,19 @@ fn put_filled<D: Disk, K: AllocGlobal + Desk<Disk = D>>(
         },
         Err(why) => {
             leave_archive(desk, &place, disk);
-            Err(Unloaded::Unkept(why))
+            Err(why)
         }
     }
 }
 
-// Keeps the entry of a load of these parts, where there are any.
+// Keeps the entry of a load of these parts, where there are any; unless something stands at TARGET
+// by now: then another program put it there before TARGET.new was made, with an entry of its own.
 fn keep_load<K: AllocGlobal + Desk>(
     desk: &mut K,
     file: &String,
+    target: &String,
     parts: Vec<Part>,
-) -> Result<(), OldTextsFault>
+) -> Result<(), Unloaded>
     ensures files { SparesFiles (places_of (string_bytes file.now) None false)
         (K.deeds desk.old) (K.deeds desk.new) }
     ensures kept { IfOk result (λ _. KeepsLoad (string_bytes file.now) parts.items
@@ -176,9 +181,25 @@ fn keep_load<K: AllocGlobal + Desk>(
     if parts.is_empty() {
         return Ok(());
     }
+    look_again(desk, target)?;
     let entry = Entry {
         kind: EntryKind::Load,
         parts,
     };
-    keep_entry(desk, file, &entry)
+    match keep_entry(desk, file, &entry) {
+        Ok(()) => Ok(()),
+        Err(why) => Err(Unloaded::Unkept(why)),
+    }
+}
+
+// That nothing stands at TARGET yet.
+fn look_again<K: Desk>(desk: &mut K, target: &String) -> Result<(), Unloaded>
+    ensures { IsQuiet (K.deeds desk.old) (K.deeds desk.new) }
+{
+    let why = match desk.look(target) {
+        Ok(Standing::Nothing) => return Ok(()),
+        Ok(_) => ResultRefusal::Standing,
+        Err(fault) => ResultRefusal::Unasked(fault),
+    };
+    Err(Unloaded::File(ResultFault { target: None, why }))
 }

@@ -69,8 +69,8 @@ pub trait Desk {
         ensures deed { deeds self.new
             ≡ deeds self.old ++ looked (string_bytes path.now) result ∷ [] };
 
-    /// Whether both paths lead to one file, or to one folder. `Missing` where either leads to
-    /// nothing.
+    /// Whether both paths lead to one file, or to one folder; not, where the second leads to
+    /// nothing. `Missing` where the first does.
     fn is_same(&mut self, path: &String, other: &String) -> Result<bool, DeskFault>
         ensures deed { deeds self.new ≡ deeds self.old
             ++ compared (string_bytes path.now) (string_bytes other.now) result ∷ [] };
@@ -133,8 +133,7 @@ pub trait Desk {
         ensures is_new { IfOk result is_new };
 
     /// Puts bytes at the end of the file at a path, and syncs it; where nothing stands there, a
-    /// file
-    /// is made, and its folder synced too. `NotFile` where no regular file stands there, and
+    /// file is made, and its folder synced too. `NotFile` where no regular file stands there, and
     /// `Missing` where a link there leads to nothing, or the folder is missing. After a fault a
     /// front of the bytes may stand at its end.
     fn grow(&mut self, path: &String, bytes: &[u8]) -> Result<(), DeskFault>

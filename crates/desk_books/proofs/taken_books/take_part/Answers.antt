@@ -1,6 +1,7 @@
-use Rattle.std.proofs.Common.{◌≡◌, inr, inl, refl, Ok, subst}
+use Rattle.std.proofs.Common.{◌≡◌, inr, inl, ap, refl, true, Ok, subst}
 use Rattle.abc_fields.specs.Books.{book_answer}
 use Rattle.tune_store.specs.Limits.{longest_text}
+use Rattle.desk_books.specs.declared.taken_books.Course.{Course}
 use Rattle.desk_books.proofs.taken_books.take_part.Goals as goal
 
 pub returns-in-Ok-keep-clause-takes : goal.returns-in-Ok-keep-clause-takes
@@ -19,4 +20,4 @@ returns-in-Ok-keep-clause-takes g c =
 
 pub returns-in-Err-keep-clause-takes : goal.returns-in-Err-keep-clause-takes
 returns-in-Err-keep-clause-takes g c =
-    inr (c.say_unkept.ensures, inr (c.in-Err-keep.ensures.keeps.0, refl, c.in-Err-keep.ensures.keeps.1))
+    inr (c.say_unkept.ensures, inr (c.in-Err-keep.ensures.keeps.0, refl, ap (λ (course : Course). record course { failed = true }) c.in-Err-keep.ensures.keeps.1))
