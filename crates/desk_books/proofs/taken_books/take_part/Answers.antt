@@ -20,4 +20,5 @@ returns-in-Ok-keep-clause-takes g c =
 
 pub returns-in-Err-keep-clause-takes : goal.returns-in-Err-keep-clause-takes
 returns-in-Err-keep-clause-takes g c =
-    inr (c.say_unkept.ensures, inr (c.in-Err-keep.ensures.keeps.0, refl, ap (λ (course : Course). record course { failed = true }) c.in-Err-keep.ensures.keeps.1))
+    let failed = ap (λ (course : Course). record course { failed = true }) c.in-Err-keep.ensures.keeps.1 in
+    inr (c.say_unkept.ensures, inr (c.in-Err-keep.ensures.keeps.0, refl, failed))
