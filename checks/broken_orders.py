@@ -1,5 +1,6 @@
 """Orders of `tunes-desk` that are broken off, and what may come of each: a part of
 checks/changes.py."""
+import errno
 import hashlib
 import re
 import sys
@@ -271,12 +272,14 @@ class Backing(Order):
 
     def __init__(self, name, line, files, start, **more):
         self.keep = more.pop('keep', None)
-        self.behind_power_cuts = set()
+        self.may_have_more = set()
         super().__init__(name, line, files, start, start, **more)
 
     def judge(self, runner, ended, broken):
-        if broken.power:
-            self.behind_power_cuts.add(digest(ended.files))
+        # That old ones are gone is not kept on the device: they may be there again. And one that
+        # is not there, as a call says, is not taken away.
+        if broken.power or broken.at and broken.how == errno.ENOENT:
+            self.may_have_more.add(digest(ended.files))
         return super().judge(runner, ended, broken)
 
     def outcome(self, runner, ended):
@@ -285,9 +288,8 @@ class Backing(Order):
         is_made, is_summed = self.is_made(ended.files)
         gone = {name for name in family if name not in ended.files}
         self.may_go(ended.files, gone, is_summed)
-        # That old ones are gone is not kept on the device: they may be there again.
         is_thin = (not self.keep or len(copies_in(ended.files)) <= self.keep
-                   or digest(ended.files) in self.behind_power_cuts)
+                   or digest(ended.files) in self.may_have_more)
         is_whole = is_made and is_summed and is_thin
         if ended.status == DONE and not is_whole:
             raise Lost('it ended as done, and a copy, its sum or an old one is not as it should be')

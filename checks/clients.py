@@ -17,6 +17,7 @@ The status is 1 where something failed.
 import faulthandler
 import io
 import os
+import signal
 import subprocess
 import sys
 import time
@@ -69,10 +70,18 @@ def missing():
                                                                                os.X_OK)]
 
 
+def take_signals():
+    """What the background of a shell ignores ends programs here, as the tests want it."""
+    signal.signal(signal.SIGINT, signal.default_int_handler)
+    for number in signal.SIGQUIT, signal.SIGHUP, signal.SIGTERM:
+        signal.signal(number, signal.SIG_DFL)
+
+
 def main():
     if sys.version_info < OLDEST:
         print(f'left out  all: Python is older than {OLDEST[0]}.{OLDEST[1]}')
         return 0
+    take_signals()
     sys.path.insert(0, TESTS)
     lost = missing()
     if lost:
