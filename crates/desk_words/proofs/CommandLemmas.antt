@@ -122,6 +122,11 @@ app_with_command old new command app more of_old is adds =
     ∙ ap (λ a. with_subcommand a (shape_of command)) of_old
     ∙ ap (λ (a : App). with_subcommand app a.top) is.app_is
 
+-- the same, of what is known of the call that adds one
+pub one_more : (old new : Command) (app : App) (top : Shape) → app_of old ≡ app → app_of new ≡ with_subcommand (app_of old) top
+    → app_of new ≡ with_subcommand app top
+one_more old new app top of_old adds = adds ∙ ap (λ (all : App). with_subcommand all top) of_old
+
 more_commands : (app : App) (first rest : List App) → with_commands (with_commands app first) rest ≡ with_commands app (first ++ rest)
 more_commands app first rest = sym (fold-append (λ (all : App) (command : App). with_subcommand all command.top) app first rest)
 

@@ -8,7 +8,7 @@ ghost use Rattle.desk_words.specs.DeskCommands.{with_rules, with_commands, chang
 ghost use Rattle.desk_words.specs.DeskCommands.{place_commands, copy_commands, told_commands};
 ghost use Rattle.desk_words.specs.Inside.Commands.{HasApp, HasRule};
 
-use crate::desk_commands::{flag, force, listing, many, one, option, several, word};
+use crate::desk_commands::{flag, force, listing, many, one, option, several, with_command, word};
 use clap::{Arg, Command};
 use std::alloc::{AllocError, Global};
 
@@ -205,17 +205,11 @@ pub(crate) fn with_changes<'a>(
     ensures { IfOk result (λ all.
         app_of all ≡ with_commands (app_of command.entry) change_commands) }
 {
-    let new = alone(alloc, "new", "Makes an empty archive");
-    let add = add(alloc)?;
-    let delete = delete(alloc)?;
-    let replace = replace(alloc)?;
-    let undo = undo(alloc)?;
-    command
-        .subcommand(new)?
-        .subcommand(add)?
-        .subcommand(delete)?
-        .subcommand(replace)?
-        .subcommand(undo)
+    let all = with_command(command, Ok(alone(alloc, "new", "Makes an empty archive")))?;
+    let all = with_command(all, add(alloc))?;
+    let all = with_command(all, delete(alloc))?;
+    let all = with_command(all, replace(alloc))?;
+    with_command(all, undo(alloc))
 }
 
 // The commands that change set lists.
@@ -226,15 +220,10 @@ pub(crate) fn with_places<'a>(
     ensures { IfOk result (λ all.
         app_of all ≡ with_commands (app_of command.entry) place_commands) }
 {
-    let put = put(alloc)?;
-    let cut = cut(alloc)?;
-    let move_place = move_place(alloc)?;
-    let drop_list = drop_list(alloc)?;
-    command
-        .subcommand(put)?
-        .subcommand(cut)?
-        .subcommand(move_place)?
-        .subcommand(drop_list)
+    let all = with_command(command, put(alloc))?;
+    let all = with_command(all, cut(alloc))?;
+    let all = with_command(all, move_place(alloc))?;
+    with_command(all, drop_list(alloc))
 }
 
 // The commands on copies and layouts.
@@ -244,19 +233,15 @@ pub(crate) fn with_copies<'a>(
 ) -> Result<Command<'a>, AllocError>
     ensures { IfOk result (λ all. app_of all ≡ with_commands (app_of command.entry) copy_commands) }
 {
-    let backup = backup(alloc)?;
-    let restore = restore(alloc)?;
-    let load = load(alloc)?;
+    let all = with_command(command, backup(alloc))?;
+    let all = with_command(all, restore(alloc))?;
+    let all = with_command(all, load(alloc))?;
     let upgrade = alone(
         alloc,
         "upgrade",
         "Brings an archive of layout 1 to layout 2, which holds more",
     );
-    command
-        .subcommand(backup)?
-        .subcommand(restore)?
-        .subcommand(load)?
-        .subcommand(upgrade)
+    with_command(all, Ok(upgrade))
 }
 
 // The commands that another program carries out.
@@ -269,27 +254,26 @@ pub(crate) fn with_told<'a>(alloc: Global, command: Command<'a>) -> Result<Comma
         "Opens a tune in $VISUAL or $EDITOR, and replaces it",
         "tunes-book edit <NUM>",
     );
+    let all = with_command(command, Ok(edit))?;
     let print = used(
         alloc,
         "print",
         "Writes tunes as sheets of music, to OUT.pdf or OUT.ps; - is standard output",
         "tunes-book print [--force] [--tune <NUM>]... <OUT> [NAME]",
     );
+    let all = with_command(all, Ok(print))?;
     let hear = used(
         alloc,
         "hear",
         "Writes a sound file of a tune, to OUT.mid; - is standard output",
         "tunes-book hear [--force] <NUM> <OUT>",
     );
+    let all = with_command(all, Ok(hear))?;
     let site = used(
         alloc,
         "site",
         "Makes pages for the web, in a folder, with a search",
         "tunes-book site <DIR> [NAME]",
     );
-    command
-        .subcommand(edit)?
-        .subcommand(print)?
-        .subcommand(hear)?
-        .subcommand(site)
+    with_command(all, Ok(site))
 }

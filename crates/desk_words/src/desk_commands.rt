@@ -1,6 +1,6 @@
 // The command line, by the parser's own rules.
 ghost use Rattle.std.specs.Prelude.{◌≡◌, ◌++◌, [], ◌∷◌, codes, false, fold, IfOk};
-ghost use Rattle.clap.specs.Words.{app_of, new_app, new_rule, with_rule};
+ghost use Rattle.clap.specs.Words.{App, app_of, new_app, new_rule, with_rule, with_subcommand};
 ghost use Rattle.clap.specs.declared.builder.command.Command.TheViews.{out-Command as fields_of};
 ghost use Rattle.desk_words.specs.DeskCommands.{flag_rule, option_rule, one_rule, many_rule};
 ghost use Rattle.desk_words.specs.DeskCommands.{several_rule};
@@ -304,47 +304,48 @@ fn program<'a>(alloc: Global) -> Result<Command<'a>, AllocError>
         ))
 }
 
+// A command more, where there was memory for it. It is called with what makes the command, so that
+// no other one is owned meanwhile.
+pub(crate) fn with_command<'a>(
+    command: Command<'a>,
+    more: Result<Command<'a>, AllocError>,
+) -> Result<Command<'a>, AllocError>
+    ensures { (app : App) → IfOk more.entry (λ more. HasApp more app) → IfOk result
+        (λ all. app_of all ≡ with_subcommand (app_of command.entry) app.top) }
+{
+    match more {
+        Ok(more) => command.subcommand(more),
+        Err(e) => Err(e),
+    }
+}
+
 // The commands that find tunes.
 fn with_finds<'a>(alloc: Global, command: Command<'a>) -> Result<Command<'a>, AllocError>
     ensures { IfOk result (λ all. app_of all ≡ with_commands (app_of command.entry) find_commands) }
 {
-    let find = find(alloc)?;
-    let count = count(alloc)?;
-    let random = random(alloc)?;
-    command
-        .subcommand(find)?
-        .subcommand(count)?
-        .subcommand(random)
+    let all = with_command(command, find(alloc))?;
+    let all = with_command(all, count(alloc))?;
+    with_command(all, random(alloc))
 }
 
 // The commands that list.
 fn with_lists<'a>(alloc: Global, command: Command<'a>) -> Result<Command<'a>, AllocError>
     ensures { IfOk result (λ all. app_of all ≡ with_commands (app_of command.entry) list_commands) }
 {
-    let titles = titles(alloc)?;
-    let sets = sets(alloc)?;
-    let set = set(alloc)?;
-    let twins = twins(alloc)?;
-    command
-        .subcommand(titles)?
-        .subcommand(sets)?
-        .subcommand(set)?
-        .subcommand(twins)
+    let all = with_command(command, titles(alloc))?;
+    let all = with_command(all, sets(alloc))?;
+    let all = with_command(all, set(alloc))?;
+    with_command(all, twins(alloc))
 }
 
 // The commands on tunes and books.
 fn with_tunes<'a>(alloc: Global, command: Command<'a>) -> Result<Command<'a>, AllocError>
     ensures { IfOk result (λ all. app_of all ≡ with_commands (app_of command.entry) tune_commands) }
 {
-    let show = show(alloc)?;
-    let export = export(alloc)?;
-    let dump = dump(alloc)?;
-    let draft = draft(alloc)?;
-    command
-        .subcommand(show)?
-        .subcommand(export)?
-        .subcommand(dump)?
-        .subcommand(draft)
+    let all = with_command(command, show(alloc))?;
+    let all = with_command(all, export(alloc))?;
+    let all = with_command(all, dump(alloc))?;
+    with_command(all, draft(alloc))
 }
 
 // The other commands.
@@ -352,15 +353,10 @@ fn with_others<'a>(alloc: Global, command: Command<'a>) -> Result<Command<'a>, A
     ensures { IfOk result (λ all.
         app_of all ≡ with_commands (app_of command.entry) other_commands) }
 {
-    let check = check(alloc)?;
-    let import_check = import_check(alloc)?;
-    let place = place(alloc)?;
-    let ask = ask(alloc);
-    command
-        .subcommand(check)?
-        .subcommand(import_check)?
-        .subcommand(place)?
-        .subcommand(ask)
+    let all = with_command(command, check(alloc))?;
+    let all = with_command(all, import_check(alloc))?;
+    let all = with_command(all, place(alloc))?;
+    with_command(all, Ok(ask(alloc)))
 }
 
 // The command line.

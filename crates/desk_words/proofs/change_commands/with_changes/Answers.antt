@@ -1,12 +1,12 @@
 use Rattle.std.proofs.Common.{refl}
 use Rattle.std.proofs.lemmas.Result.{IfOk-weaker}
-use Rattle.desk_words.proofs.CommandLemmas.{app_with_command}
+use Rattle.desk_words.proofs.CommandLemmas.{one_more}
 use Rattle.desk_words.proofs.change_commands.with_changes.Goals as goal
 
 pub returns : goal.returns
 returns c =
-    let with_new = app_with_command _ _ _ _ _ refl c.alone-new.ensures c.in_ok-subcommand.ensures in
-    let with_add = app_with_command _ _ _ _ _ with_new c.in_ok-add.ensures c.in_ok-subcommand-2.ensures in
-    let with_delete = app_with_command _ _ _ _ _ with_add c.in_ok-delete.ensures c.in_ok-subcommand-3.ensures in
-    let with_replace = app_with_command _ _ _ _ _ with_delete c.in_ok-replace.ensures c.in_ok-subcommand-4.ensures in
-    IfOk-weaker c.subcommand-5.result _ _ (λ all adds. app_with_command _ all _ _ _ with_replace c.in_ok-undo.ensures adds) c.subcommand-5.ensures
+    let first_1 = one_more _ _ _ _ refl (c.in_ok-all.ensures _ c.alone.ensures) in
+    let first_2 = one_more _ _ _ _ first_1 (c.in_ok-all-2.ensures _ c.add.ensures) in
+    let first_3 = one_more _ _ _ _ first_2 (c.in_ok-all-3.ensures _ c.delete.ensures) in
+    let first_4 = one_more _ _ _ _ first_3 (c.in_ok-all-4.ensures _ c.replace.ensures) in
+    IfOk-weaker c.with_command-5.result _ _ (λ all adds. one_more _ all _ _ first_4 adds) (c.with_command-5.ensures _ c.undo.ensures)

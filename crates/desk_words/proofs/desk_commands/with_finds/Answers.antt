@@ -1,10 +1,10 @@
 use Rattle.std.proofs.Common.{refl}
 use Rattle.std.proofs.lemmas.Result.{IfOk-weaker}
-use Rattle.desk_words.proofs.CommandLemmas.{app_with_command}
+use Rattle.desk_words.proofs.CommandLemmas.{one_more}
 use Rattle.desk_words.proofs.desk_commands.with_finds.Goals as goal
 
 pub returns : goal.returns
 returns c =
-    let with_find = app_with_command _ _ _ _ _ refl c.in_ok-find.ensures c.in_ok-subcommand.ensures in
-    let with_count = app_with_command _ _ _ _ _ with_find c.in_ok-count.ensures c.in_ok-subcommand-2.ensures in
-    IfOk-weaker c.subcommand-3.result _ _ (λ all adds. app_with_command _ all _ _ _ with_count c.in_ok-random.ensures adds) c.subcommand-3.ensures
+    let first_1 = one_more _ _ _ _ refl (c.in_ok-all.ensures _ c.find.ensures) in
+    let first_2 = one_more _ _ _ _ first_1 (c.in_ok-all-2.ensures _ c.count.ensures) in
+    IfOk-weaker c.with_command-3.result _ _ (λ all adds. one_more _ all _ _ first_2 adds) (c.with_command-3.ensures _ c.random.ensures)

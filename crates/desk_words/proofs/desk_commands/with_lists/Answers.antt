@@ -1,11 +1,11 @@
 use Rattle.std.proofs.Common.{refl}
 use Rattle.std.proofs.lemmas.Result.{IfOk-weaker}
-use Rattle.desk_words.proofs.CommandLemmas.{app_with_command}
+use Rattle.desk_words.proofs.CommandLemmas.{one_more}
 use Rattle.desk_words.proofs.desk_commands.with_lists.Goals as goal
 
 pub returns : goal.returns
 returns c =
-    let with_titles = app_with_command _ _ _ _ _ refl c.in_ok-titles.ensures c.in_ok-subcommand.ensures in
-    let with_sets = app_with_command _ _ _ _ _ with_titles c.in_ok-sets.ensures c.in_ok-subcommand-2.ensures in
-    let with_set = app_with_command _ _ _ _ _ with_sets c.in_ok-set.ensures c.in_ok-subcommand-3.ensures in
-    IfOk-weaker c.subcommand-4.result _ _ (λ all adds. app_with_command _ all _ _ _ with_set c.in_ok-twins.ensures adds) c.subcommand-4.ensures
+    let first_1 = one_more _ _ _ _ refl (c.in_ok-all.ensures _ c.titles.ensures) in
+    let first_2 = one_more _ _ _ _ first_1 (c.in_ok-all-2.ensures _ c.sets.ensures) in
+    let first_3 = one_more _ _ _ _ first_2 (c.in_ok-all-3.ensures _ c.set.ensures) in
+    IfOk-weaker c.with_command-4.result _ _ (λ all adds. one_more _ all _ _ first_3 adds) (c.with_command-4.ensures _ c.twins.ensures)
