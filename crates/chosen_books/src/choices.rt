@@ -19,7 +19,7 @@ use desk_terms::Adding;
 use std::alloc::{AllocError, Global};
 
 /// How many lines between tunes went into tunes behind them.
-#[derive(Clone, Copy, Debug, PartialEq, Eq)]
+#[derive(Clone, Copy)]
 pub struct CarriedLines {
     /// How many lines went into at least one tune that is taken in.
     pub lines: usize,

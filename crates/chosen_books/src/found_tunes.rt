@@ -23,7 +23,7 @@ use std::alloc::{AllocError, Global};
 use told_books::{Fate, told_book};
 
 /// A tune of a book that is left out, since an import would refuse it.
-#[derive(Clone, Copy, Debug, PartialEq, Eq)]
+#[derive(Clone, Copy)]
 pub struct LeftOut {
     /// Its place among the tunes of the book, counted from 1.
     pub place: usize,

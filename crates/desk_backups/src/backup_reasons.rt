@@ -8,7 +8,7 @@ use tune_desk::{DeskFault, ResultFault};
 use tune_journal::OpenFault;
 
 /// Why the archive was not copied.
-#[derive(Debug, Drop)]
+#[derive(Drop)]
 pub(crate) enum Unbacked {
     /// FILE was not opened, to bring it to rest.
     Unopened(Unopened),
@@ -33,7 +33,7 @@ pub(crate) enum Unbacked {
 }
 
 /// Why a copy does not hold what it should.
-#[derive(Debug, Drop)]
+#[derive(Drop)]
 pub(crate) enum Unchecked {
     /// COPY was not opened.
     Unread(DeskFault),

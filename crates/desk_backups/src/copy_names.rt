@@ -13,7 +13,7 @@ use tune_desk::{Desk, DeskFault, ResultFault, ResultRefusal, Standing};
 const DIGITS: usize = 9;
 
 /// The path of a copy, which is COPY of this number.
-#[derive(Debug, Drop)]
+#[derive(Drop)]
 pub(crate) struct NamedCopy {
     pub(crate) path: String,
     pub(crate) number: u32,

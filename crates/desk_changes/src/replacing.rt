@@ -64,7 +64,7 @@ pub fn replace<C: Console, E: Write, D: Disk, K: AllocGlobal + Desk<Disk = D>>(
 
 /// A text that is to be that of the tune of a number, where this has the revision that is given, if
 /// one is.
-#[derive(Debug, Drop)]
+#[derive(Drop)]
 pub(crate) struct Replacement {
     number: u32,
     revision: Option<u32>,

@@ -26,7 +26,7 @@ use tune_store::{Catalog, Command, Refusal, Reply, Tune, TuneStore};
 use tune_undo::{After, Entry, EntryKind, Part};
 
 // A tune that came back without its number, and this number.
-#[derive(Clone, Copy, Debug, PartialEq, Eq)]
+#[derive(Clone, Copy)]
 struct Stray {
     number: u32,
     to: u32,

@@ -9,7 +9,7 @@ use tune_sets::SetName;
 use tune_store::Refusal;
 
 /// Why an order changed nothing, or not all of it.
-#[derive(Clone, Copy, Debug, PartialEq, Eq)]
+#[derive(Clone, Copy)]
 pub(crate) enum Unchanged {
     /// FILE was not opened.
     Unopened(Unopened),
@@ -37,7 +37,7 @@ pub(crate) fn say_unchanged<E: Write>(errors: &mut E, file: &str, what: &str, wh
 }
 
 /// Why a change was not taken back.
-#[derive(Clone, Copy, Debug, PartialEq, Eq)]
+#[derive(Clone, Copy)]
 pub(crate) enum NotUndone {
     /// FILE was not opened.
     Unopened(Unopened),

@@ -12,7 +12,7 @@ use tune_disk::Disk;
 use tune_journal::OpenFault;
 
 /// An archive that was copied.
-#[derive(Clone, Copy, Debug, PartialEq, Eq)]
+#[derive(Clone, Copy)]
 pub struct Copied {
     /// How much it holds.
     pub counts: Counts,
@@ -21,7 +21,7 @@ pub struct Copied {
 }
 
 /// Why an archive was not copied.
-#[derive(Clone, Copy, Debug, PartialEq, Eq)]
+#[derive(Clone, Copy)]
 pub enum Uncopied {
     /// Its bytes were not.
     Bytes(CopyFault),

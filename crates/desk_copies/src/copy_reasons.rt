@@ -13,7 +13,7 @@ use tune_journal::OpenFault;
 pub(crate) const NO_ARCHIVE: u8 = 3;
 
 /// Why a new archive was not made.
-#[derive(Debug, Drop)]
+#[derive(Drop)]
 pub(crate) enum Unmade {
     /// Its file was not made, or not named.
     File(ResultFault),

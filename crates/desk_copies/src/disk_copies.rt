@@ -19,7 +19,7 @@ const PART: u64 = 65_536;
 const LONGEST: u64 = 1_099_511_627_776;
 
 /// Why a disk was not copied, or not summed.
-#[derive(Clone, Copy, Debug, PartialEq, Eq)]
+#[derive(Clone, Copy)]
 pub enum CopyFault {
     /// The disk that is read failed, or is too long.
     Source,

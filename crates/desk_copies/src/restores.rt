@@ -30,7 +30,7 @@ use tune_scripts::Console;
 const ARCHIVE_HEAD: &[u8] = b"ABCTUNE1";
 
 /// What was restored.
-#[derive(Clone, Copy, Debug, PartialEq, Eq)]
+#[derive(Clone, Copy)]
 pub(crate) struct Restored {
     /// How much the archive holds now.
     pub(crate) counts: Counts,
@@ -39,7 +39,7 @@ pub(crate) struct Restored {
 }
 
 /// Why a copy was not restored.
-#[derive(Debug, Drop)]
+#[derive(Drop)]
 pub(crate) enum Unrestored {
     /// COPY was not opened.
     Unread(DeskFault),

@@ -11,7 +11,7 @@ use tune_desk::{Desk, DeskFault, Standing};
 const DIGITS: usize = 64;
 
 /// Why a copy does not agree with the sum beside it.
-#[derive(Clone, Copy, Debug, PartialEq, Eq)]
+#[derive(Clone, Copy)]
 pub enum SumFault {
     /// It has another sum.
     Differs,

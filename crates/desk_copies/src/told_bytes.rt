@@ -9,7 +9,7 @@ const MEGABYTE: u64 = 1_000_000;
 const MANY: u64 = 10_000_000;
 
 /// What is done with bytes.
-#[derive(Clone, Copy, Debug, PartialEq, Eq)]
+#[derive(Clone, Copy)]
 pub enum ByteWork {
     /// They are copied.
     Copy,

@@ -11,7 +11,7 @@ use std::alloc::{AllocError, Global};
 use std::marker::Model;
 
 /// Words without accents and capitals, to be looked for in titles. A clause sees their bytes.
-#[derive(Debug, Drop)]
+#[derive(Drop)]
 pub struct FoldedWords {
     words: Vec<String>,
 }

@@ -15,7 +15,7 @@ use itoa::Buffer;
 use std::alloc::{AllocError, Global};
 
 /// In what a tune is like its twin.
-#[derive(Clone, Copy, Debug, PartialEq, Eq)]
+#[derive(Clone, Copy)]
 pub enum Alike {
     /// They have the same text.
     Text,
@@ -36,7 +36,7 @@ impl Alike {
 }
 
 /// A tune that is there twice: the later of the two, which one might delete.
-#[derive(Debug, Drop)]
+#[derive(Drop)]
 pub struct TwinRow {
     /// The number of the later tune.
     pub number: u32,

@@ -20,7 +20,7 @@ use tune_store::Refusal;
 use tune_undo::Part;
 
 /// Why no archive was made of a script.
-#[derive(Debug, Drop)]
+#[derive(Drop)]
 pub(crate) enum Unfilled {
     /// The archive was not made on its disk.
     Archive(OpenFault),
@@ -33,7 +33,7 @@ pub(crate) enum Unfilled {
 }
 
 /// A command that was refused.
-#[derive(Debug, Drop)]
+#[derive(Drop)]
 pub(crate) struct RefusedCommand {
     /// On which line of the script it stands.
     pub(crate) line: u64,
@@ -44,7 +44,7 @@ pub(crate) struct RefusedCommand {
 }
 
 /// What an archive holds that was filled.
-#[derive(Debug, Drop)]
+#[derive(Drop)]
 pub(crate) struct Filled {
     /// How much that is.
     pub(crate) counts: Counts,

@@ -17,7 +17,7 @@ use tune_scripts::Console;
 use tune_store::{Command, Refusal, Reply};
 
 /// Since when an archive is of layout 2.
-#[derive(Clone, Copy, Debug, PartialEq, Eq)]
+#[derive(Clone, Copy)]
 pub(crate) enum LayoutTwo {
     /// It was of it before.
     Already,

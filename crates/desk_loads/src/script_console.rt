@@ -1,5 +1,5 @@
 // The script of a new archive, as a console that keeps the replies.
-ghost use Rattle.std.specs.Prelude.{◌≡◌, ◌+◌, ◌<◌, [], length, Some, true};
+ghost use Rattle.std.specs.Prelude.{◌≡◌, ◌+◌, ◌<◌, length, Some, true};
 ghost use Rattle.tune_scripts.specs.Consoles.{ReadsPiece, ReadsPart, StandsBehind};
 ghost use Rattle.tune_scripts.specs.Consoles.{faults_of_piece, faults_of_part};
 

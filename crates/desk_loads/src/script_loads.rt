@@ -25,7 +25,7 @@ use tune_scripts::Console;
 use tune_undo::{Entry, EntryKind, Part};
 
 /// Why a script was not loaded.
-#[derive(Debug, Drop)]
+#[derive(Drop)]
 pub(crate) enum Unloaded {
     /// Its file was not made, or not named.
     File(ResultFault),

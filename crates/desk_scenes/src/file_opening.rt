@@ -11,7 +11,7 @@ use tune_disk::{Access, Disk};
 use tune_journal::OpenFault;
 
 /// Why FILE was not opened.
-#[derive(Clone, Copy, Debug, PartialEq, Eq)]
+#[derive(Clone, Copy)]
 pub enum Unopened {
     /// The desk gave no disk for it, to read alone.
     Unread(DeskFault),

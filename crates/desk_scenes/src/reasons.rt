@@ -157,7 +157,9 @@ fn say_held<E: Write>(errors: &mut E, what: &str, name: &SetName) {
     let _ = errors.write_all(name.as_slice());
     let _ = errors.write_all(b" has it; `tunes-book set ");
     let _ = errors.write_all(name.as_slice());
-    let _ = errors.write_all(b"` shows where, `cut` takes it out\n");
+    let _ = errors.write_all(
+        b"` shows where, `cut` takes it out of it, and\n`delete` then takes the tune away\n",
+    );
 }
 
 // The words of a refusal that carries nothing to be told.

@@ -3,7 +3,7 @@ use crate::file_opening::Unopened;
 use tune_store::Refusal;
 
 /// Why a question is not answered.
-#[derive(Clone, Copy, Debug, PartialEq, Eq)]
+#[derive(Clone, Copy)]
 pub enum Unanswered {
     /// FILE was not opened.
     Unopened(Unopened),

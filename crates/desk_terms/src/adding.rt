@@ -1,7 +1,7 @@
 // How books are taken in.
 
 /// How books are taken in.
-#[derive(Clone, Copy, Debug, PartialEq, Eq)]
+#[derive(Clone, Copy)]
 pub struct Adding {
     /// Only tunes that are not there yet.
     pub only_new: bool,

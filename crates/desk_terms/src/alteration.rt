@@ -1,7 +1,7 @@
 // Changes of tunes and set lists.
 
 /// What is to be changed in a store of tunes.
-#[derive(Debug, PartialEq, Eq, Drop)]
+#[derive(Drop)]
 pub enum Alteration {
     /// The tunes of these numbers go.
     Delete(Vec<u32>),

@@ -1,7 +1,7 @@
 // What tunes are found by.
 
 /// What a tune is found by.
-#[derive(Debug, PartialEq, Eq, Drop)]
+#[derive(Drop)]
 pub enum Condition {
     /// One of its titles begins so, articles, capitals and accents aside.
     Title(String),

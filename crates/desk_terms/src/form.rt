@@ -1,7 +1,7 @@
 // The forms of a list.
 
 /// How a list is written.
-#[derive(Clone, Copy, Debug, PartialEq, Eq)]
+#[derive(Clone, Copy, PartialEq, Eq)]
 pub enum Form {
     /// A line for each row: its columns, with a space between two of them.
     Rows,

@@ -3,7 +3,7 @@ use crate::condition::Condition;
 use crate::form::Form;
 
 /// What is asked of a store of tunes.
-#[derive(Debug, PartialEq, Eq, Drop)]
+#[derive(Drop)]
 pub enum Question {
     /// The tunes that all of these conditions give, by number, each once, under its first title.
     Find {

@@ -2,7 +2,7 @@
 use crate::form::Form;
 
 /// What is to be undone, of the changes that are not undone yet.
-#[derive(Clone, Copy, Debug, PartialEq, Eq)]
+#[derive(Clone, Copy)]
 pub enum Undoing {
     /// The last one.
     Last,

@@ -28,7 +28,7 @@ use std::io;
 pub const VERSION: &str = "0.1.0";
 
 /// Where a result goes.
-#[derive(Debug, PartialEq, Eq, Drop)]
+#[derive(Drop)]
 pub struct Target {
     /// A path, taken as it stands; `-` is standard output.
     pub out: String,
@@ -37,7 +37,7 @@ pub struct Target {
 }
 
 /// What the program is asked to do.
-#[derive(Debug, PartialEq, Eq, Drop)]
+#[derive(Drop)]
 pub enum Order {
     /// Answer a question, on standard output.
     Tell(Question),
@@ -98,7 +98,7 @@ pub enum Order {
 }
 
 /// The order, and the archive that it is for.
-#[derive(Debug, Drop)]
+#[derive(Drop)]
 pub struct Words {
     /// The path of the archive, where one was given.
     pub file: Option<String>,

@@ -19,7 +19,7 @@ use desk_terms::Condition;
 use std::alloc::{AllocError, Global};
 
 /// What is named before the words of `find`.
-#[derive(Clone, Copy, Debug, PartialEq, Eq)]
+#[derive(Clone, Copy)]
 pub enum SoughtKind {
     /// One of its titles begins so.
     Title,

@@ -8,7 +8,7 @@ use abc_fields::Lines;
 use std::alloc::{AllocError, Global};
 
 /// A line of a book that is in nothing that is kept.
-#[derive(Clone, Copy, Debug)]
+#[derive(Clone, Copy)]
 pub struct DroppedLine<'a> {
     /// Its number in the book, counted from 1.
     pub number: usize,

@@ -16,7 +16,7 @@ use abc_fields::{CarryRule, Lines, is_all_blank};
 use std::alloc::{AllocError, Global};
 
 /// What becomes of a line of a book that is imported.
-#[derive(Clone, Copy, Debug, PartialEq, Eq)]
+#[derive(Clone, Copy, PartialEq, Eq)]
 pub enum Fate {
     /// It is a line of this tune of the book, counted from 1, of which an `X:` line is the first.
     Kept { tune: usize },

@@ -14,7 +14,7 @@ use abc_fields::{BookFault, Lines, TuneFault, is_key_line};
 use std::alloc::{AllocError, Global};
 
 /// A tune of a book.
-#[derive(Clone, Copy, Debug, PartialEq, Eq)]
+#[derive(Clone, Copy)]
 pub struct ToldTune {
     /// The number of its `X:` line in the book, counted from 1.
     pub line: usize,

@@ -16,7 +16,7 @@ use tune_store::{Refusal, Tune, TuneStore};
 use tune_undo::{After, Entry, Part, Sum};
 
 /// How the tune or the set list of a part of an entry stands.
-#[derive(Clone, Copy, Debug, PartialEq, Eq)]
+#[derive(Clone, Copy, PartialEq, Eq)]
 pub enum PartVerdict {
     /// It is what it was before the change.
     Before,
@@ -29,7 +29,7 @@ pub enum PartVerdict {
 }
 
 /// How the tunes and set lists of an entry stand.
-#[derive(Clone, Copy, Debug, PartialEq, Eq)]
+#[derive(Clone, Copy, PartialEq, Eq)]
 pub enum Verdict {
     /// All are what they were: the change did not take place.
     Before,

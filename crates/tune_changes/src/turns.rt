@@ -4,7 +4,7 @@ use tune_sets::{NumberList, SetName};
 
 /// Of a tune or a set list, what it was and what it is to be; none where it was not, or is not to
 /// be.
-#[derive(Debug, Drop)]
+#[derive(Drop)]
 pub enum Turn {
     /// The tune of this number, by its text.
     Tune {
@@ -21,7 +21,7 @@ pub enum Turn {
 }
 
 /// What a tune or a set list is to become; none where it is to go.
-#[derive(Debug, Drop)]
+#[derive(Drop)]
 pub enum Aim {
     /// The tune of this number, by its text.
     Tune {

@@ -1,5 +1,5 @@
 // What a desk was asked.
-ghost use Rattle.std.specs.Prelude.{◌≡◌, ◌++◌, ◌∷◌, [], List, string_bytes};
+ghost use Rattle.std.specs.Prelude.{◌≡◌, ◌++◌, ◌∷◌, [], string_bytes};
 ghost use Rattle.tune_desk.specs.DeskDeeds.{looked, compared, tested, followed, read, listed};
 ghost use Rattle.tune_desk.specs.DeskDeeds.{made, named, named_over, removed, opened, closed};
 ghost use Rattle.tune_desk.specs.DeskDeeds.{grown, created, linked, shared};

@@ -1,5 +1,5 @@
 // The book of old texts that is kept beside an archive.
-ghost use Rattle.std.specs.Prelude.{◌≡◌, ◌++◌, codes, None, false, IfOk, IfErr, string_bytes};
+ghost use Rattle.std.specs.Prelude.{None, false, IfOk, IfErr, string_bytes};
 ghost use Rattle.tune_desk.specs.Inside.Asks.{Asks};
 ghost use Rattle.tune_desk.specs.Inside.Growths.{FindsOld, KnowsOther, KnowsNoArchive};
 ghost use Rattle.tune_desk.specs.Inside.Growths.{KnowsNothing};

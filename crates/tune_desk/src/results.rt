@@ -1,5 +1,5 @@
 // The one rule by which a result is written to a file.
-ghost use Rattle.std.specs.Prelude.{◌≡◌, ℕ, List, Option, Some, IfOk, IfErr, string_bytes};
+ghost use Rattle.std.specs.Prelude.{ℕ, List, Option, Some, IfOk, IfErr, string_bytes};
 ghost use Rattle.tune_desk.specs.Inside.Puts.{WritesTo};
 ghost use Rattle.tune_desk.specs.Refusals.{Refuses};
 ghost use Rattle.tune_desk.specs.Results.{SparesFiles, Writes, places_of};
