@@ -67,7 +67,7 @@ def counted(crates):
             definitions += len(full_lines(read(path), '--'))
         for path in glob.glob(f'crates/{crate}/proofs/**/*.antt', recursive=True):
             proofs += len(full_lines(read(path), '--'))
-        edits += len(glob.glob(f'crates/{crate}/must-fail/*.edit'))
+        edits += len(glob.glob(f'crates/{crate}/must-fail/*.*'))
         for path in glob.glob(f'crates/{crate}/stdout'):
             cases += len(re.findall(r': as written$', read(path), re.M))
     return [code, contracts, clauses, definitions, proofs, edits, cases]

@@ -285,7 +285,7 @@ def known_names(paths):
     for path in paths:
         if path.endswith(('.rt', '.antt')) and '/proofs/' not in path:
             names.update(re.findall(r'\w+', read(path)))
-    for kind in ('must-fail/*.edit', 'must-fail/more/*.md', 'data/*.script'):
+    for kind in ('must-fail/*.*', 'must-fail/more/*.md', 'data/*.script'):
         for path in glob.glob(os.path.join(ROOT, 'crates/*', kind)):
             names.add(os.path.splitext(os.path.basename(path))[0])
     for path in glob.glob(os.path.join(ROOT, 'crates/*/stdout')):

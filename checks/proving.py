@@ -1,4 +1,4 @@
-"""What ./build and checks/more_edits.py share: copies of some crates, and runs of `rt ci` in them.
+"""What ./build and checks/edits.py share: copies of some crates, and runs of `rt ci` in them.
 
 `rt ci` proves the crates of a copy from nothing, as the gate does, and keeps what it proved beside
 the kit, also for the gate. A copy has no must-fail edits but those that are asked for.

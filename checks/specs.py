@@ -235,7 +235,7 @@ def needed_by(words):
 def edits_of(row):
     """How many must-fail edits the crates have whose calls carry the promise of a row."""
     if row[0] == "all":
-        return len(glob.glob("crates/*/must-fail/*.edit"))
+        return len(glob.glob("crates/*/must-fail/*.*"))
     crates = set()
     for call, link, _ in CALL.findall(row[2]):
         path = os.path.normpath(os.path.join("docs", link))
@@ -245,7 +245,7 @@ def edits_of(row):
             meets = re.compile(r"^impl\b.*\b" + owner + r" for ", re.M)
             crates.update(other.split("/")[1] for other in SOURCES
                           if meets.search(read_source(other)))
-    return sum(len(glob.glob(f"crates/{crate}/must-fail/*.edit")) for crate in crates)
+    return sum(len(glob.glob(f"crates/{crate}/must-fail/*.*")) for crate in crates)
 
 
 def rows_of_promises():
