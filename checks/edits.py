@@ -79,15 +79,16 @@ def type_of(heading):
 
 
 def function_at(file, lines):
-    """The name, as the prover prints it, of the last function in the first lines of a file."""
-    names = [re.sub(r'(^|::)(lib|main)$', '', file[len('src/'):-len('.rt')].replace('/', '::'))]
+    """The last function in the first lines of a file, by the end of the name that is printed of it:
+    a member by its type, which may be of another file; any other function by its module."""
     begun = [it for it in enumerate(map(FUNCTION.match, lines)) if it[1]]
-    if begun:
-        at, found = begun[-1]
-        if found[1]:
-            names.append(type_of([it[1] for it in map(MEMBER.match, lines[:at]) if it][-1]))
-        names.append(found[2])
-    return '::'.join(name for name in names if name)
+    if not begun:
+        return ''
+    at, found = begun[-1]
+    if found[1]:
+        return f'{type_of([it[1] for it in map(MEMBER.match, lines[:at]) if it][-1])}::{found[2]}'
+    module = re.sub(r'(^|::)(lib|main)$', '', file[len('src/'):-len('.rt')].replace('/', '::'))
+    return f'{module}::{found[2]}' if module else found[2]
 
 
 class Edit:
@@ -204,18 +205,21 @@ class Tries:
         texts = made_in(crate.folder, group)
         ran = self.rt.checked(crate, texts, ['--jobs', '1', *words], None)
         lines = ran.stdout.rstrip('\n').split('\n')
-        told = dict(re.findall(rf'^fn {crate.name}::(\S+): (.*)$', ran.stdout, re.M))
+        said = re.findall(rf'^fn {crate.name}::(\S+): (.*)$', ran.stdout, re.M)
         wrong = [line for line in lines if re.search(r': error|\berror\[|^rattle: error', line)]
-        told[''] = f'status {ran.returncode}, {(wrong or lines)[-1][:300]}'
+        told = {'': f'status {ran.returncode}, {(wrong or lines)[-1][:300]}'}
         if any(self.rt.unread(line, texts) for line in lines):
-            return {'': told['']}
+            return told
         open_goals = {
             function_at(file, texts[file].split('\n')[:int(line)])
             for file, line in OPEN.findall(ran.stdout) if file in texts}
-        for name in functions:
-            own = [it for it in wrong if f'/proofs/{name.replace("::", "/")}/' in it]
-            if own and name not in open_goals and all(BY_A_NAME.search(it) for it in own):
-                told[name] = f'a proof names what is gone: {own[0][:200]}'
+        for printed, what in said:
+            for name in functions:
+                if f'::{printed}'.endswith(f'::{name}'):
+                    own = [it for it in wrong if f'/proofs/{printed.replace("::", "/")}/' in it]
+                    if own and name not in open_goals and all(map(BY_A_NAME.search, own)):
+                        what = f'a proof names what is gone: {own[0][:200]}'
+                    told[name] = what
         return told
 
 
